@@ -1,5 +1,5 @@
 -- The ends of files, place by place, as they are raised and kept.
-use Rattle.std.proofs.Common.{◌≡◌, ◌≢◌, inl, inr, ℕ, ◌<◌, ◌^◌, max, Bool, true, if◌then◌else◌, Option, Some, None, List, length, get_or, map, refl, sym, ◌∙◌, ap, subst, arith}
+use Rattle.std.proofs.Common.{◌≡◌, ◌≢◌, inl, inr, ℕ, ◌<◌, ◌≤◌, ◌^◌, max, Bool, true, if◌then◌else◌, Option, Some, None, List, length, get_or, map, refl, sym, ◌∙◌, ap, subst, arith}
 use Rattle.std.specs.Prelude.{unwrap_or}
 use Rattle.std.specs.List.{AllByRecursion}
 use Rattle.std.proofs.lemmas.Bool.{cases_Bool, false≢true}
@@ -40,8 +40,9 @@ pub kept_can_count : (a b : BatchWriter) → b.kept ≡ a.kept → KeepsRoom a.e
 kept_can_count a b same room can =
     subst (AllByRecursion (CanCount b)) (sym (ap (λ k. map voted_by k.items) same)) (each_leads (CanCount a) (CanCount b) (λ v one. (room v.write.grain one.0, one.1)) (kept_of a) can)
 
-pub raised_bounds : (a b : BatchWriter) (w : Written) → b.gate_at ≡ a.gate_at → b.kept ≡ a.kept → KeepsRoom a.ends b.ends → ((g : GrainId) → file_end b g ≡ raised_end (file_end a) w g) → write_end w < 2 ^ 63 → IsInBounds a → IsInBounds b
-raised_bounds a b w gate kept room ends fits bounds = record {
+pub raised_bounds : (a b : BatchWriter) (w : Written) → b.slot ≡ a.slot → b.gate_at ≡ a.gate_at → b.kept ≡ a.kept → KeepsRoom a.ends b.ends → ((g : GrainId) → file_end b g ≡ raised_end (file_end a) w g) → write_end w < 2 ^ 63 → IsInBounds a → IsInBounds b
+raised_bounds a b w slot gate kept room ends fits bounds = record {
+  slot = subst (λ (n : ℕ). n ≤ 1) (sym slot) bounds.slot;
   gate = subst (λ (n : ℕ). n < 2 ^ 63) (sym gate) bounds.gate;
   ends = λ g. subst (λ (n : ℕ). n < 2 ^ 63) (sym (ends g)) (raised_one-small (file_end a) w fits bounds.ends g);
   kept = kept_can_count a b kept room bounds.kept;

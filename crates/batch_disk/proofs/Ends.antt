@@ -14,10 +14,10 @@ use Rattle.host_trait.proofs.Names.{same_grain-is, same_grain-refl}
 use Rattle.field_codec.specs.Spelling.{spelling_of_version, spelling_of_values}
 use Rattle.commit_log.specs.declared.records.Written.{Written}
 use Rattle.commit_log.specs.declared.records.CommitRecord.{CommitRecord}
-use Rattle.log_reading.specs.Steps.{live_slot}
+use Rattle.host_trait.specs.declared.channels.FileId.TheVariants.{Grain}
 use Rattle.promise_spec.specs.Records.{Commit}
 use Rattle.promise_spec.specs.Logs.{IsKept, WriteStands, WritesStand}
-use Rattle.batch_disk.specs.Resting.{grain_file, write_end, IsBelow, raised_end, raised_ends, all_writes}
+use Rattle.batch_disk.specs.Resting.{write_end, IsBelow, raised_end, raised_ends, all_writes}
 use Rattle.batch_disk.proofs.Lists.{both_parts}
 
 -- ---- ends
@@ -40,13 +40,13 @@ long_one : (b : Bool) (x y len : ℕ) → x ≤ len → (b ≡ true → y ≤ le
 long_one true x y len low more = omega (arith, low, more refl)
 long_one false x y len low more = low
 
-pub raised_long : (image : Image) (ends : GrainId → ℕ) (ws : List Written) → ((g : GrainId) → ends g ≤ length (image (grain_file g))) → AllByRecursion (λ w. write_end w ≤ length (image (grain_file w.grain))) ws
-    → (g : GrainId) → raised_ends ends ws g ≤ length (image (grain_file g))
-raised_long image ends [] long each g = long g
-raised_long image ends (w ∷ ws) long each g =
-    raised_long image (raised_end ends w) ws
-    (λ h. long_one (same_grain w.grain h) (ends h) (write_end w) (length (image (grain_file h))) (long h)
-    (λ same. subst (λ (k : GrainId). write_end w ≤ length (image (grain_file k))) (same_grain-is w.grain h same) each.0))
+pub raised_long : (live : ℕ) (image : Image) (ends : GrainId → ℕ) (ws : List Written) → ((g : GrainId) → ends g ≤ length (image (Grain live g))) → AllByRecursion (λ w. write_end w ≤ length (image (Grain live w.grain))) ws
+    → (g : GrainId) → raised_ends ends ws g ≤ length (image (Grain live g))
+raised_long live image ends [] long each g = long g
+raised_long live image ends (w ∷ ws) long each g =
+    raised_long live image (raised_end ends w) ws
+    (λ h. long_one (same_grain w.grain h) (ends h) (write_end w) (length (image (Grain live h))) (long h)
+    (λ same. subst (λ (k : GrainId). write_end w ≤ length (image (Grain live k))) (same_grain-is w.grain h same) each.0))
     each.1 g
 
 -- ---- what stands lies in its file
@@ -57,22 +57,22 @@ eight n = refl
 has_bytes : (v : Version) → 8 ≤ length (spelling_of_version v)
 has_bytes v = omega (arith, eight v.unit.0, length-append (to_le_bytes w64 v.unit.0) (spelling_of_values v.state))
 
-pub stands_within : (shape : Shape) (image : Image) (unit : UnitNo) (w : Written) (s : List Value) → WriteStands live_slot shape image unit w s → write_end w ≤ length (image (grain_file w.grain))
-stands_within shape image unit w s st =
-    let file = image (grain_file w.grain) in
+pub stands_within : (live : ℕ) (shape : Shape) (image : Image) (unit : UnitNo) (w : Written) (s : List Value) → WriteStands live shape image unit w s → write_end w ≤ length (image (Grain live w.grain))
+stands_within live shape image unit w s st =
+    let file = image (Grain live w.grain) in
     let size : length (take w.place.len (drop w.place.offset file)) ≡ w.place.len = ap length st.version.here ∙ st.version.version_is.len in
     omega (arith, size, st.version.version_is.len, has_bytes (record { unit = unit; state = s }), length-take w.place.len (drop w.place.offset file), length-drop w.place.offset file)
 
-all_within : (shape : Shape) (image : Image) (unit : UnitNo) (ws : List Written) (ss : List (List Value)) → WritesStand live_slot shape image unit ws ss → AllByRecursion (λ w. write_end w ≤ length (image (grain_file w.grain))) ws
-all_within shape image unit [] [] st = tt
-all_within shape image unit [] (s ∷ ss) st = absurd st
-all_within shape image unit (w ∷ ws) [] st = absurd st
-all_within shape image unit (w ∷ ws) (s ∷ ss) st = (stands_within shape image unit w s st.0, all_within shape image unit ws ss st.1)
+all_within : (live : ℕ) (shape : Shape) (image : Image) (unit : UnitNo) (ws : List Written) (ss : List (List Value)) → WritesStand live shape image unit ws ss → AllByRecursion (λ w. write_end w ≤ length (image (Grain live w.grain))) ws
+all_within live shape image unit [] [] st = tt
+all_within live shape image unit [] (s ∷ ss) st = absurd st
+all_within live shape image unit (w ∷ ws) [] st = absurd st
+all_within live shape image unit (w ∷ ws) (s ∷ ss) st = (stands_within live shape image unit w s st.0, all_within live shape image unit ws ss st.1)
 
-pub kept_within : (shape : Shape) (image : Image) (batch : List Commit) → AllByRecursion (IsKept live_slot shape image) batch → AllByRecursion (λ w. write_end w ≤ length (image (grain_file w.grain))) (all_writes batch)
-kept_within shape image [] kept = tt
-kept_within shape image (c ∷ batch) kept =
-    both_parts (λ (w : Written). write_end w ≤ length (image (grain_file w.grain))) c.logged.writes (all_writes batch) (all_within shape image c.logged.unit c.logged.writes c.states kept.0.whole) (kept_within shape image batch kept.1)
+pub kept_within : (live : ℕ) (shape : Shape) (image : Image) (batch : List Commit) → AllByRecursion (IsKept live shape image) batch → AllByRecursion (λ w. write_end w ≤ length (image (Grain live w.grain))) (all_writes batch)
+kept_within live shape image [] kept = tt
+kept_within live shape image (c ∷ batch) kept =
+    both_parts (λ (w : Written). write_end w ≤ length (image (Grain live w.grain))) c.logged.writes (all_writes batch) (all_within live shape image c.logged.unit c.logged.writes c.states kept.0.whole) (kept_within live shape image batch kept.1)
 
 -- ---- place by place
 

@@ -14,28 +14,28 @@ use Rattle.field_codec.specs.declared.units.Numbers.TheVariants.{Logged}
 use Rattle.commit_log.specs.Bodies.{IsRecordIn}
 use Rattle.commit_log.specs.declared.records.Written.{Written}
 use Rattle.log_reading.specs.Blocks.{header_damage}
-use Rattle.log_reading.specs.Steps.{live_slot, manager}
+use Rattle.host_trait.specs.declared.channels.FileId.TheVariants.{Manager, Grain}
 use Rattle.silo_spec.specs.Silos.{IsSilo}
 use Rattle.promise_spec.specs.Records.{Commit}
 use Rattle.promise_spec.specs.Logs.{magic, WriteStands, WritesStand, IsKept, IsLog, body_of}
-use Rattle.batch_disk.specs.Resting.{grain_file, log_of, BeginsSilo, Voted, StandsIn, PlacesAreNamed, IsAtRest}
+use Rattle.batch_disk.specs.Resting.{log_of, BeginsSilo, Voted, StandsIn, PlacesAreNamed, IsAtRest}
 use Rattle.batch_disk.proofs.Lists.{each_of}
 
-module _ (shape : Shape) (was image : Image) where
+module _ (live : ℕ) (shape : Shape) (was image : Image) where
   -- the bytes at a place are the same in both
   abbrev pub IsSameAt : Written → Type 0
-  IsSameAt w = take w.place.len (drop w.place.offset (image (grain_file w.grain))) ≡ take w.place.len (drop w.place.offset (was (grain_file w.grain)))
+  IsSameAt w = take w.place.len (drop w.place.offset (image (Grain live w.grain))) ≡ take w.place.len (drop w.place.offset (was (Grain live w.grain)))
 
-  pub stands_same : (unit : UnitNo) (w : Written) (s : List Value) → IsSameAt w → WriteStands live_slot shape was unit w s → WriteStands live_slot shape image unit w s
+  pub stands_same : (unit : UnitNo) (w : Written) (s : List Value) → IsSameAt w → WriteStands live shape was unit w s → WriteStands live shape image unit w s
   stands_same unit w s same st = record { near = st.near; fields = st.fields; version = record { version_is = st.version.version_is; here = same ∙ st.version.here } }
 
-  all_same : (unit : UnitNo) (ws : List Written) (ss : List (List Value)) → AllByRecursion IsSameAt ws → WritesStand live_slot shape was unit ws ss → WritesStand live_slot shape image unit ws ss
+  all_same : (unit : UnitNo) (ws : List Written) (ss : List (List Value)) → AllByRecursion IsSameAt ws → WritesStand live shape was unit ws ss → WritesStand live shape image unit ws ss
   all_same unit [] [] same st = tt
   all_same unit [] (s ∷ ss) same st = absurd st
   all_same unit (w ∷ ws) [] same st = absurd st
   all_same unit (w ∷ ws) (s ∷ ss) same st = (stands_same unit w s same.0 st.0, all_same unit ws ss same.1 st.1)
 
-  pub kept_same : (log : List Commit) → AllByRecursion (λ c. AllByRecursion IsSameAt c.logged.writes) log → AllByRecursion (IsKept live_slot shape was) log → AllByRecursion (IsKept live_slot shape image) log
+  pub kept_same : (log : List Commit) → AllByRecursion (λ c. AllByRecursion IsSameAt c.logged.writes) log → AllByRecursion (IsKept live shape was) log → AllByRecursion (IsKept live shape image) log
   kept_same [] same kept = tt
   kept_same (c ∷ log) same kept = (record { fits = kept.0.fits; whole = all_same c.logged.unit c.logged.writes c.states same.0 kept.0.whole }, kept_same log same.1 kept.1)
 
@@ -69,15 +69,15 @@ pub record IsNextBatch (shape : Shape) (voted : List Voted) (batch : List Commit
   pub each : AllByRecursion (IsVoted shape voted) batch
 
 -- what the votes wrote of a unit stands
-pub voted_stand : (shape : Shape) (image : Image) (voted : List Voted) (unit : UnitNo) (ws : List Written) (ss : List (List Value)) → AreVoted voted unit ws ss → AllByRecursion (StandsIn shape image) voted → WritesStand live_slot shape image unit ws ss
-voted_stand shape image voted unit [] [] are each = tt
-voted_stand shape image voted unit [] (s ∷ ss) are each = absurd are
-voted_stand shape image voted unit (w ∷ ws) [] are each = absurd are
-voted_stand shape image voted unit (w ∷ ws) (s ∷ ss) are each = (each_of (StandsIn shape image) voted (record { unit = unit; write = w; state = s }) each are.0, voted_stand shape image voted unit ws ss are.1 each)
+pub voted_stand : (live : ℕ) (shape : Shape) (image : Image) (voted : List Voted) (unit : UnitNo) (ws : List Written) (ss : List (List Value)) → AreVoted voted unit ws ss → AllByRecursion (StandsIn live shape image) voted → WritesStand live shape image unit ws ss
+voted_stand live shape image voted unit [] [] are each = tt
+voted_stand live shape image voted unit [] (s ∷ ss) are each = absurd are
+voted_stand live shape image voted unit (w ∷ ws) [] are each = absurd are
+voted_stand live shape image voted unit (w ∷ ws) (s ∷ ss) are each = (each_of (StandsIn live shape image) voted (record { unit = unit; write = w; state = s }) each are.0, voted_stand live shape image voted unit ws ss are.1 each)
 
-pub batch_stands : (shape : Shape) (image : Image) (voted : List Voted) (batch : List Commit) → AllByRecursion (IsVoted shape voted) batch → AllByRecursion (StandsIn shape image) voted → AllByRecursion (IsKept live_slot shape image) batch
-batch_stands shape image voted [] are each = tt
-batch_stands shape image voted (c ∷ batch) are each = (record { fits = are.0.fits; whole = voted_stand shape image voted c.logged.unit c.logged.writes c.states are.0.whole each }, batch_stands shape image voted batch are.1 each)
+pub batch_stands : (live : ℕ) (shape : Shape) (image : Image) (voted : List Voted) (batch : List Commit) → AllByRecursion (IsVoted shape voted) batch → AllByRecursion (StandsIn live shape image) voted → AllByRecursion (IsKept live shape image) batch
+batch_stands live shape image voted [] are each = tt
+batch_stands live shape image voted (c ∷ batch) are each = (record { fits = are.0.fits; whole = voted_stand live shape image voted c.logged.unit c.logged.writes c.states are.0.whole each }, batch_stands live shape image voted batch are.1 each)
 
 -- a file with a log and a silo's header is a silo's
 pub silo_of : (head : List ℕ) (bodies : List (List ℕ)) (gate : ℕ) (file : List ℕ) → BeginsSilo head → take 15 file ≡ head → LogsUpTo bodies gate file → IsSilo magic file
@@ -107,10 +107,10 @@ silo_begins file silo whole = record {
 }
 
 -- each image's log between two steps
-pub rests_log : (shape : Shape) (head : List ℕ) (batches : List (List Commit)) (gate : ℕ) (ends : GrainId → ℕ) (voted : List Voted) (image : Image) → PlacesAreNamed head batches ends → IsAtRest shape head batches gate ends voted image → IsLog live_slot shape image (log_of batches)
-rests_log shape head batches gate ends voted image named rests = record {
-  silo = silo_of head (map body_of batches) gate (image manager) named.silo rests.header rests.blocks;
-  header = whole_of head (image manager) named.silo rests.header;
+pub rests_log : (live : ℕ) (shape : Shape) (head : List ℕ) (batches : List (List Commit)) (gate : ℕ) (ends : GrainId → ℕ) (voted : List Voted) (image : Image) → PlacesAreNamed live head batches ends → IsAtRest live shape head batches gate ends voted image → IsLog live shape image (log_of batches)
+rests_log live shape head batches gate ends voted image named rests = record {
+  is_live = record { slot = named.slot; silo = silo_of head (map body_of batches) gate (image (Manager live)) named.silo rests.header rests.blocks };
+  header = whole_of head (image (Manager live)) named.silo rests.header;
   batches = batches;
   gate = gate;
   blocks = rests.blocks;

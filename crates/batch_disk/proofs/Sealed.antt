@@ -20,11 +20,10 @@ use Rattle.gate_block.proofs.Logs.{blocks_same, still_closed, one_log}
 use Rattle.commit_log.specs.declared.records.Written.{Written}
 use Rattle.commit_log.specs.declared.gate.Sealing.TheVariants.{InDoubt}
 use Rattle.commit_log.specs.Sealing.{staged, EndsAs, DoubtAs, StaysClosed}
-use Rattle.log_reading.specs.Steps.{live_slot, manager}
 use Rattle.promise_spec.specs.Records.{Commit}
 use Rattle.promise_spec.specs.Crashes.{IsAside}
 use Rattle.promise_spec.specs.Logs.{IsLog, IsKept, body_of}
-use Rattle.batch_disk.specs.Resting.{grain_file, log_of, EachImage, SomeImage, IsBelow, AreBelow, PlacesAreNamed, Voted, StandsIn, IsAtRest, raised_ends, all_writes}
+use Rattle.batch_disk.specs.Resting.{log_of, EachImage, SomeImage, IsBelow, AreBelow, PlacesAreNamed, Voted, StandsIn, IsAtRest, raised_ends, all_writes}
 use Rattle.batch_disk.specs.Moments.{LeavesRest, KeepsLog, IsSeam}
 use Rattle.batch_disk.specs.Seals.{may_open, NoneHas, IsSealInDoubt}
 use Rattle.batch_disk.proofs.Lists.{each_any, each_leads, each_list, both_parts, flat_push, map_push}
@@ -38,10 +37,10 @@ slot_in other (Program s) = other
 slot_in other (Manager s) = s
 slot_in other (Grain s g) = other
 
-aside_manager : (f : FileId) → IsAside live_slot f → f ≢ manager
-aside_manager (Program slot) aside e = absurd cc
-aside_manager (Manager slot) aside e = aside (ap (slot_in slot) e)
-aside_manager (Grain slot g) aside e = absurd cc
+aside_manager : (live : ℕ) (f : FileId) → IsAside live f → f ≢ Manager live
+aside_manager live (Program slot) aside e = absurd cc
+aside_manager live (Manager slot) aside e = aside (ap (slot_in slot) e)
+aside_manager live (Grain slot g) aside e = absurd cc
 
 -- an image with other bytes in one file, where both may be left
 pub with_left : (disk : Disk) (image : Image) (file : FileId) (c : List ℕ) → IsImage disk image → MayLeave (disk file) c → IsImage disk (with_bytes image file c)
@@ -52,47 +51,47 @@ with_left disk image file c is left f = elim (cases_file f file) [
   | inr other ↦ subst (λ (l : List ℕ). MayLeave (disk f) l) (sym (with_bytes-other image file c f other)) (is f)
 ]
 
-module _ (shape : Shape) (head : List ℕ) (batches : List (List Commit)) (gate : ℕ) (ends : GrainId → ℕ) (voted : List Voted) (batch : List Commit) (named : PlacesAreNamed head batches ends) (next : IsNextBatch shape voted batch) where
+module _ (live : ℕ) (shape : Shape) (head : List ℕ) (batches : List (List Commit)) (gate : ℕ) (ends : GrainId → ℕ) (voted : List Voted) (batch : List Commit) (named : PlacesAreNamed live head batches ends) (next : IsNextBatch shape voted batch) where
   -- ---- one image
 
-  module _ (was image : Image) (at : IsAtRest shape head batches gate ends voted was) (others : (f : FileId) → f ≢ manager → image f ≡ was f) (n : ℕ) (torn : Tears gate n (was manager) (image manager)) where
-    grains : (g : GrainId) → image (grain_file g) ≡ was (grain_file g)
-    grains g = others (grain_file g) (λ e. absurd cc)
+  module _ (was image : Image) (at : IsAtRest live shape head batches gate ends voted was) (others : (f : FileId) → f ≢ (Manager live) → image f ≡ was f) (n : ℕ) (torn : Tears gate n (was (Manager live)) (image (Manager live))) where
+    grains : (g : GrainId) → image (Grain live g) ≡ was (Grain live g)
+    grains g = others (Grain live g) (λ e. absurd cc)
 
-    any_same : (w : Written) → IsSameAt shape was image w
+    any_same : (w : Written) → IsSameAt live shape was image w
     any_same w = ap (λ (l : List ℕ). take w.place.len (drop w.place.offset l)) (grains w.grain)
 
-    pub still_head : take 15 (image manager) ≡ head
-    still_head = shorter_front 15 gate (image manager) (was manager) (omega (arith, at.blocks.blocks.at)) torn.before ∙ at.header
+    pub still_head : take 15 (image (Manager live)) ≡ head
+    still_head = shorter_front 15 gate (image (Manager live)) (was (Manager live)) (omega (arith, at.blocks.blocks.at)) torn.before ∙ at.header
 
-    still_kept : AllByRecursion (IsKept live_slot shape image) (log_of batches)
-    still_kept = kept_same shape was image (log_of batches) (each_any (λ (c : Commit). AllByRecursion (IsSameAt shape was image) c.logged.writes) (λ c. each_any (IsSameAt shape was image) any_same c.logged.writes) (log_of batches)) at.whole
+    still_kept : AllByRecursion (IsKept live shape image) (log_of batches)
+    still_kept = kept_same live shape was image (log_of batches) (each_any (λ (c : Commit). AllByRecursion (IsSameAt live shape was image) c.logged.writes) (λ c. each_any (IsSameAt live shape was image) any_same c.logged.writes) (log_of batches)) at.whole
 
-    still_long : (g : GrainId) → ends g ≤ length (image (grain_file g))
+    still_long : (g : GrainId) → ends g ≤ length (image (Grain live g))
     still_long g = subst (λ (l : List ℕ). ends g ≤ length l) (sym (grains g)) (at.long g)
 
-    still_voted : AllByRecursion (StandsIn shape image) voted
-    still_voted = each_leads (StandsIn shape was) (StandsIn shape image) (λ v st. stands_same shape was image v.unit v.write v.state (any_same v.write) st) voted at.stand
+    still_voted : AllByRecursion (StandsIn live shape image) voted
+    still_voted = each_leads (StandsIn live shape was) (StandsIn live shape image) (λ v st. stands_same live shape was image v.unit v.write v.state (any_same v.write) st) voted at.stand
 
-    whole_batch : AllByRecursion (IsKept live_slot shape image) batch
-    whole_batch = batch_stands shape image voted batch next.each still_voted
+    whole_batch : AllByRecursion (IsKept live shape image) batch
+    whole_batch = batch_stands live shape image voted batch next.each still_voted
 
-    pub rests_still : LogsUpTo (map body_of batches) gate (image manager) → IsAtRest shape head batches gate ends voted image
+    pub rests_still : LogsUpTo (map body_of batches) gate (image (Manager live)) → IsAtRest live shape head batches gate ends voted image
     rests_still logs = record { header = still_head; blocks = logs; whole = still_kept; long = still_long; stand = still_voted }
 
-    pub log_still : LogsUpTo (map body_of batches) gate (image manager) → IsLog live_slot shape image (log_of batches)
-    log_still logs = record { silo = silo_of head (map body_of batches) gate (image manager) named.silo still_head logs; header = whole_of head (image manager) named.silo still_head; batches = batches; gate = gate; blocks = logs; sizes = named.sizes; commits = refl; kept = still_kept }
+    pub log_still : LogsUpTo (map body_of batches) gate (image (Manager live)) → IsLog live shape image (log_of batches)
+    log_still logs = record { is_live = record { slot = named.slot; silo = silo_of head (map body_of batches) gate (image (Manager live)) named.silo still_head logs }; header = whole_of head (image (Manager live)) named.silo still_head; batches = batches; gate = gate; blocks = logs; sizes = named.sizes; commits = refl; kept = still_kept }
 
-    with_batch : (to : ℕ) → LogsUpTo (map body_of batches ++ body_of batch ∷ []) to (image manager) → LogsUpTo (map body_of (batches ++ batch ∷ [])) to (image manager)
-    with_batch to logs = subst (λ (bs : List (List ℕ)). LogsUpTo bs to (image manager)) (sym (map_push body_of batches batch)) logs
+    with_batch : (to : ℕ) → LogsUpTo (map body_of batches ++ body_of batch ∷ []) to (image (Manager live)) → LogsUpTo (map body_of (batches ++ batch ∷ [])) to (image (Manager live))
+    with_batch to logs = subst (λ (bs : List (List ℕ)). LogsUpTo bs to (image (Manager live))) (sym (map_push body_of batches batch)) logs
 
-    all_kept : AllByRecursion (IsKept live_slot shape image) (log_of batches ++ batch)
-    all_kept = both_parts (IsKept live_slot shape image) (log_of batches) batch still_kept whole_batch
+    all_kept : AllByRecursion (IsKept live shape image) (log_of batches ++ batch)
+    all_kept = both_parts (IsKept live shape image) (log_of batches) batch still_kept whole_batch
 
-    pub log_more : (to : ℕ) → LogsUpTo (map body_of batches ++ body_of batch ∷ []) to (image manager) → IsLog live_slot shape image (log_of batches ++ batch)
+    pub log_more : (to : ℕ) → LogsUpTo (map body_of batches ++ body_of batch ∷ []) to (image (Manager live)) → IsLog live shape image (log_of batches ++ batch)
     log_more to logs = record {
-      silo = silo_of head (map body_of batches ++ body_of batch ∷ []) to (image manager) named.silo still_head logs;
-      header = whole_of head (image manager) named.silo still_head;
+      is_live = record { slot = named.slot; silo = silo_of head (map body_of batches ++ body_of batch ∷ []) to (image (Manager live)) named.silo still_head logs };
+      header = whole_of head (image (Manager live)) named.silo still_head;
       batches = batches ++ batch ∷ [];
       gate = to;
       blocks = with_batch to logs;
@@ -101,20 +100,21 @@ module _ (shape : Shape) (head : List ℕ) (batches : List (List Commit)) (gate 
       kept = all_kept;
     }
 
-    pub rests_more : (to : ℕ) → LogsUpTo (map body_of batches ++ body_of batch ∷ []) to (image manager) → IsAtRest shape head (batches ++ batch ∷ []) to (raised_ends ends (all_writes batch)) [] image
+    pub rests_more : (to : ℕ) → LogsUpTo (map body_of batches ++ body_of batch ∷ []) to (image (Manager live)) → IsAtRest live shape head (batches ++ batch ∷ []) to (raised_ends ends (all_writes batch)) [] image
     rests_more to logs = record {
       header = still_head;
       blocks = with_batch to logs;
-      whole = subst (AllByRecursion (IsKept live_slot shape image)) (sym (flat_push batches batch)) all_kept;
-      long = raised_long image ends (all_writes batch) still_long (kept_within shape image batch whole_batch);
+      whole = subst (AllByRecursion (IsKept live shape image)) (sym (flat_push batches batch)) all_kept;
+      long = raised_long live image ends (all_writes batch) still_long (kept_within live shape image batch whole_batch);
       stand = tt;
     }
 
   -- what no image decides, once the batch counts
-  pub named_more : PlacesAreNamed head (batches ++ batch ∷ []) (raised_ends ends (all_writes batch))
+  pub named_more : PlacesAreNamed live head (batches ++ batch ∷ []) (raised_ends ends (all_writes batch))
   named_more =
       let to = raised_ends ends (all_writes batch) in
       record {
+        slot = named.slot;
         silo = named.silo;
         sizes = both_parts (λ (b : List Commit). length b ≤ 64) batches (batch ∷ []) named.sizes (next.size, tt);
         below = subst (AreBelow to) (sym (flat_push batches batch)) (both_parts (λ (c : Commit). AllByRecursion (IsBelow to) c.logged.writes) (log_of batches) batch
@@ -125,75 +125,75 @@ module _ (shape : Shape) (head : List ℕ) (batches : List (List Commit)) (gate 
 
   -- ---- moments
 
-  module _ (old : World) (is : EachImage (IsAtRest shape head batches gate ends voted) old.disk) (n : ℕ) where
-    seal_rest : (m : Moment) → ChangesFile manager (Tears gate n) old m → LeavesRest head old m
+  module _ (old : World) (is : EachImage (IsAtRest live shape head batches gate ends voted) old.disk) (n : ℕ) where
+    seal_rest : (m : Moment) → ChangesFile (Manager live) (Tears gate n) old m → LeavesRest live head old m
     seal_rest m changes = record {
       output = changes.output;
-      aside = λ f aside. changes.others f (aside_manager f aside);
+      aside = λ f aside. changes.others f (aside_manager live f aside);
       header = λ image left.
-          let from = image_from manager (Tears gate n) old m changes image left in
+          let from = image_from (Manager live) (Tears gate n) old m changes image left in
           still_head from.from image (is from.from from.possible) from.others n from.changed;
     }
 
     -- at each moment each image's log is as it was, or has the batch whole
-    pub seal_seam : (m : Moment) → ChangesFile manager (Tears gate n) old m → EachLogsOrMore (map body_of batches) (body_of batch) gate manager m.disk → IsSeam shape head (log_of batches) batch old m
+    pub seal_seam : (m : Moment) → ChangesFile (Manager live) (Tears gate n) old m → EachLogsOrMore (map body_of batches) (body_of batch) gate (Manager live) m.disk → IsSeam live shape head (log_of batches) batch old m
     seal_seam m changes logs = record {
       rest = seal_rest m changes;
       logs = λ image left.
-          let from = image_from manager (Tears gate n) old m changes image left in
+          let from = image_from (Manager live) (Tears gate n) old m changes image left in
           let at = is from.from from.possible in
-          elim (logs (image manager) (left manager)) [
+          elim (logs (image (Manager live)) (left (Manager live))) [
             | inl as_it_was ↦ inl (log_still from.from image at from.others n from.changed as_it_was)
             | inr more ↦ inr (log_more from.from image at from.others n from.changed (gate + length (block_of (body_of batch))) more)
           ];
     }
 
     -- and where none has it, as it was
-    pub seal_still : (m : Moment) → ChangesFile manager (Tears gate n) old m → EachLogs (map body_of batches) gate manager m.disk → KeepsLog shape head (log_of batches) old m
+    pub seal_still : (m : Moment) → ChangesFile (Manager live) (Tears gate n) old m → EachLogs (map body_of batches) gate (Manager live) m.disk → KeepsLog live shape head (log_of batches) old m
     seal_still m changes logs = record {
       rest = seal_rest m changes;
       logs = λ image left.
-          let from = image_from manager (Tears gate n) old m changes image left in
-          log_still from.from image (is from.from from.possible) from.others n from.changed (logs (image manager) (left manager));
+          let from = image_from (Manager live) (Tears gate n) old m changes image left in
+          log_still from.from image (is from.from from.possible) from.others n from.changed (logs (image (Manager live)) (left (Manager live)));
     }
 
-    pub seal_moments : (new : World) → Passes (ChangesFile manager (Tears gate n) old) old.past new.past → Passes (λ m. EachLogsOrMore (map body_of batches) (body_of batch) gate manager m.disk) old.past new.past
-        → Passes (IsSeam shape head (log_of batches) batch old) old.past new.past
+    pub seal_moments : (new : World) → Passes (ChangesFile (Manager live) (Tears gate n) old) old.past new.past → Passes (λ m. EachLogsOrMore (map body_of batches) (body_of batch) gate (Manager live) m.disk) old.past new.past
+        → Passes (IsSeam live shape head (log_of batches) batch old) old.past new.past
     seal_moments new run logs =
-        weaker (λ m. ChangesFile manager (Tears gate n) old m × EachLogsOrMore (map body_of batches) (body_of batch) gate manager m.disk) (IsSeam shape head (log_of batches) batch old)
-        (λ m both. seal_seam m both.0 both.1) (met (ChangesFile manager (Tears gate n) old) (λ m. EachLogsOrMore (map body_of batches) (body_of batch) gate manager m.disk) run logs)
+        weaker (λ m. ChangesFile (Manager live) (Tears gate n) old m × EachLogsOrMore (map body_of batches) (body_of batch) gate (Manager live) m.disk) (IsSeam live shape head (log_of batches) batch old)
+        (λ m both. seal_seam m both.0 both.1) (met (ChangesFile (Manager live) (Tears gate n) old) (λ m. EachLogsOrMore (map body_of batches) (body_of batch) gate (Manager live) m.disk) run logs)
 
-    pub still_moments : (new : World) → Passes (ChangesFile manager (Tears gate n) old) old.past new.past → Passes (λ m. EachLogs (map body_of batches) gate manager m.disk) old.past new.past
-        → Passes (KeepsLog shape head (log_of batches) old) old.past new.past
+    pub still_moments : (new : World) → Passes (ChangesFile (Manager live) (Tears gate n) old) old.past new.past → Passes (λ m. EachLogs (map body_of batches) gate (Manager live) m.disk) old.past new.past
+        → Passes (KeepsLog live shape head (log_of batches) old) old.past new.past
     still_moments new run logs =
-        weaker (λ m. ChangesFile manager (Tears gate n) old m × EachLogs (map body_of batches) gate manager m.disk) (KeepsLog shape head (log_of batches) old)
-        (λ m both. seal_still m both.0 both.1) (met (ChangesFile manager (Tears gate n) old) (λ m. EachLogs (map body_of batches) gate manager m.disk) run logs)
+        weaker (λ m. ChangesFile (Manager live) (Tears gate n) old m × EachLogs (map body_of batches) gate (Manager live) m.disk) (KeepsLog live shape head (log_of batches) old)
+        (λ m both. seal_still m both.0 both.1) (met (ChangesFile (Manager live) (Tears gate n) old) (λ m. EachLogs (map body_of batches) gate (Manager live) m.disk) run logs)
 
     -- ---- after it
 
-    module _ (new : World) (moments : Passes (ChangesFile manager (Tears gate n) old) old.past new.past) (changes : ChangesFile manager (Tears gate n) old (moment_of new)) where
-      pub rests_sealed : (to : ℕ) → EachLogs (map body_of batches ++ body_of batch ∷ []) to manager new.disk → EachImage (IsAtRest shape head (batches ++ batch ∷ []) to (raised_ends ends (all_writes batch)) []) new.disk
+    module _ (new : World) (moments : Passes (ChangesFile (Manager live) (Tears gate n) old) old.past new.past) (changes : ChangesFile (Manager live) (Tears gate n) old (moment_of new)) where
+      pub rests_sealed : (to : ℕ) → EachLogs (map body_of batches ++ body_of batch ∷ []) to (Manager live) new.disk → EachImage (IsAtRest live shape head (batches ++ batch ∷ []) to (raised_ends ends (all_writes batch)) []) new.disk
       rests_sealed to logs image left =
-          let from = image_from manager (Tears gate n) old (moment_of new) changes image left in
-          rests_more from.from image (is from.from from.possible) from.others n from.changed to (logs (image manager) (left manager))
+          let from = image_from (Manager live) (Tears gate n) old (moment_of new) changes image left in
+          rests_more from.from image (is from.from from.possible) from.others n from.changed to (logs (image (Manager live)) (left (Manager live)))
 
-      pub rests_unsealed : EachLogs (map body_of batches) gate manager new.disk → EachImage (IsAtRest shape head batches gate ends voted) new.disk
+      pub rests_unsealed : EachLogs (map body_of batches) gate (Manager live) new.disk → EachImage (IsAtRest live shape head batches gate ends voted) new.disk
       rests_unsealed logs image left =
-          let from = image_from manager (Tears gate n) old (moment_of new) changes image left in
-          rests_still from.from image (is from.from from.possible) from.others n from.changed (logs (image manager) (left manager))
+          let from = image_from (Manager live) (Tears gate n) old (moment_of new) changes image left in
+          rests_still from.from image (is from.from from.possible) from.others n from.changed (logs (image (Manager live)) (left (Manager live)))
 
       module _ (old_seen : (f : FileId) → MayLeave (old.disk f) (old.disk f).seen) (new_seen : (f : FileId) → MayLeave (new.disk f) (new.disk f).seen) (block : List ℕ) (is_block : block ≡ block_of (body_of batch)) where
         -- the image as it reads, with these bytes in the manager file, has the batch
-        some_has : SomeLogs (map body_of batches ++ body_of batch ∷ []) (gate + length block) manager new.disk → SomeImage (λ image. IsLog live_slot shape image (log_of batches ++ batch)) new.disk
+        some_has : SomeLogs (map body_of batches ++ body_of batch ∷ []) (gate + length block) (Manager live) new.disk → SomeImage (λ image. IsLog live shape image (log_of batches ++ batch)) new.disk
         some_has some =
-            let image : Image = with_bytes (λ f. (new.disk f).seen) manager some.image in
-            let left : IsImage new.disk image = with_left new.disk (λ f. (new.disk f).seen) manager some.image new_seen some.left in
-            let from = image_from manager (Tears gate n) old (moment_of new) changes image left in
+            let image : Image = with_bytes (λ f. (new.disk f).seen) (Manager live) some.image in
+            let left : IsImage new.disk image = with_left new.disk (λ f. (new.disk f).seen) (Manager live) some.image new_seen some.left in
+            let from = image_from (Manager live) (Tears gate n) old (moment_of new) changes image left in
             record {
               image = image;
               left = left;
               holds = log_more from.from image (is from.from from.possible) from.others n from.changed (gate + length block)
-                  (subst (λ (l : List ℕ). LogsUpTo (map body_of batches ++ body_of batch ∷ []) (gate + length block) l) (sym (with_bytes-there (λ f. (new.disk f).seen) manager some.image)) some.logs);
+                  (subst (λ (l : List ℕ). LogsUpTo (map body_of batches ++ body_of batch ∷ []) (gate + length block) l) (sym (with_bytes-there (λ f. (new.disk f).seen) (Manager live) some.image)) some.logs);
             }
 
         -- the gate of an image that has the batch is open
@@ -208,23 +208,23 @@ module _ (shape : Shape) (head : List ℕ) (batches : List (List Commit)) (gate 
         ]
 
         -- which of the two a doubt is
-        which_doubt : ((c : List ℕ) → MayLeave (new.disk manager) c → HasBlocks (map body_of batches) gate c) → gate < length (staged gate block old) → slice_index (staged gate block old) gate ≢ 1
-            → StaysClosed (map body_of batches) gate block old new ⊎ SomeLogs (map body_of batches ++ body_of batch ∷ []) (gate + length block) manager new.disk
-            → ((may_open gate (new.disk manager) ≡ false) × NoneHas shape head (log_of batches) old new)
-            ⊎ ((may_open gate (new.disk manager) ≡ true) × SomeImage (λ image. IsLog live_slot shape image (log_of batches ++ batch)) new.disk)
+        which_doubt : ((c : List ℕ) → MayLeave (new.disk (Manager live)) c → HasBlocks (map body_of batches) gate c) → gate < length (staged live gate block old) → slice_index (staged live gate block old) gate ≢ 1
+            → StaysClosed live (map body_of batches) gate block old new ⊎ SomeLogs (map body_of batches ++ body_of batch ∷ []) (gate + length block) (Manager live) new.disk
+            → ((may_open gate (new.disk (Manager live)) ≡ false) × NoneHas live shape head (log_of batches) old new)
+            ⊎ ((may_open gate (new.disk (Manager live)) ≡ true) × SomeImage (λ image. IsLog live shape image (log_of batches ++ batch)) new.disk)
         which_doubt front long shut (inl closed) =
             inl (
-              subst (λ (f : FileState). may_open gate f ≡ false) (sym closed.lasts) (stays_shut gate (staged gate block old) long shut),
+              subst (λ (f : FileState). may_open gate f ≡ false) (sym closed.lasts) (stays_shut gate (staged live gate block old) long shut),
               record { moments = still_moments new moments closed.moments; logs = (seal_still (moment_of new) changes closed.now).logs },
             )
-        which_doubt front long shut (inr some) = inr (opens gate (new.disk manager) some.image some.left (is_open some.image (front some.image some.left) some.logs), some_has some)
+        which_doubt front long shut (inr some) = inr (opens gate (new.disk (Manager live)) some.image some.left (is_open some.image (front some.image some.left) some.logs), some_has some)
 
-        pub in_doubt : EndsAs InDoubt gate block old new → EachLogsOrMore (map body_of batches) (body_of batch) gate manager new.disk → DoubtAs InDoubt (map body_of batches) (body_of batch) gate block old new
-            → IsSealInDoubt shape head batches batch gate old new
+        pub in_doubt : EndsAs live InDoubt gate block old new → EachLogsOrMore (map body_of batches) (body_of batch) gate (Manager live) new.disk → DoubtAs live InDoubt (map body_of batches) (body_of batch) gate block old new
+            → IsSealInDoubt live shape head batches batch gate old new
         in_doubt ends_as logs which =
-            let file = (old.disk manager).seen in
+            let file = (old.disk (Manager live)).seen in
             let front = (is (λ f. (old.disk f).seen) old_seen).blocks in
-            let whole : List ℕ = staged gate block old in
+            let whole : List ℕ = staged live gate block old in
             let within : gate + 1 ≤ length file = omega (arith, front.blocks.within) in
             let over : Tears (gate + 1) (length block) file whole = Tears-overlaid (gate + 1) block file within in
             let low : gate ≤ gate + 1 = omega arith in
@@ -233,7 +233,7 @@ module _ (shape : Shape) (head : List ℕ) (batches : List (List Commit)) (gate 
             let size : length (take (gate + 1) file) ≡ gate + 1 = omega (arith, length-take (gate + 1) file, within) in
             let rest = drop (gate + 1 + length block) file in
             let behind : drop (gate + 1) whole ≡ block ++ rest = ap (drop (gate + 1)) (append_assoc (take (gate + 1) file) block rest) ∙ drop_at (take (gate + 1) file) (block ++ rest) (gate + 1) size in
-            let fronts : (c : List ℕ) → MayLeave (new.disk manager) c → HasBlocks (map body_of batches) gate c =
+            let fronts : (c : List ℕ) → MayLeave (new.disk (Manager live)) c → HasBlocks (map body_of batches) gate c =
             (λ c left.
             let torn = ends_as c left in
             let there : gate < length c = omega (arith, long, torn.no_shorter) in
@@ -242,13 +242,13 @@ module _ (shape : Shape) (head : List ℕ) (batches : List (List Commit)) (gate 
             record {
               rest = seal_rest (moment_of new) changes;
               logs = (seal_seam (moment_of new) changes logs).logs;
-              front = λ image left. fronts (image manager) (left manager);
+              front = λ image left. fronts (image (Manager live)) (left (Manager live));
               block = λ image left.
-                  let torn = ends_as (image manager) (left manager) in
-                  subst (λ (b : List ℕ). take (length b) (drop (gate + 1) (image manager)) ≡ b) is_block (ap (take (length block)) (torn.after ∙ behind) ∙ take_at block rest (length block) refl);
+                  let torn = ends_as (image (Manager live)) (left (Manager live)) in
+                  subst (λ (b : List ℕ). take (length b) (drop (gate + 1) (image (Manager live))) ≡ b) is_block (ap (take (length block)) (torn.after ∙ behind) ∙ take_at block rest (length block) refl);
               differ = λ one other left right.
-                  let a = ends_as (one manager) (left manager) in
-                  let b = ends_as (other manager) (right manager) in
+                  let a = ends_as (one (Manager live)) (left (Manager live)) in
+                  let b = ends_as (other (Manager live)) (right (Manager live)) in
                   record {
                     long = omega (arith, a.no_shorter, a.no_longer, b.no_shorter, b.no_longer, long);
                     same = λ i apart.
@@ -259,7 +259,7 @@ module _ (shape : Shape) (head : List ℕ) (batches : List (List Commit)) (gate 
                             | inr upto ↦ absurd (let e : i ≡ gate = omega (arith, from, upto) in apart e)
                           ]
                         ] in
-                        Tears-at gate 1 whole (one manager) a i where_is ∙ sym (Tears-at gate 1 whole (other manager) b i where_is);
+                        Tears-at gate 1 whole (one (Manager live)) a i where_is ∙ sym (Tears-at gate 1 whole (other (Manager live)) b i where_is);
                   };
               which = which_doubt fronts closed.0 closed.1 which;
             }

@@ -6,6 +6,7 @@ use Rattle.base_types.specs.Stores.{has_room}
 use Rattle.base_types.specs.declared.calls.GrainId.{GrainId}
 use Rattle.base_types.specs.declared.shapes.Shape.{Shape}
 use Rattle.host_trait.specs.declared.channels.FileId.{FileId}
+use Rattle.host_trait.specs.declared.channels.FileId.TheVariants.{Manager, Grain}
 use Rattle.host_trait.specs.Disk.{FileState, MayLeave, Tears, settled, overlaid}
 use Rattle.host_trait.specs.World.{World, Image, Passes, with_bytes}
 use Rattle.host_trait.specs.Runs.{RunsOnFile}
@@ -22,12 +23,11 @@ use Rattle.commit_log.specs.declared.gate.Sealing.TheVariants.{NotSealed, InDoub
 use Rattle.commit_log.specs.Sealing.{staged, EndsAs, IsNext, LogsAs, DoubtAs}
 use Rattle.commit_log.specs.Spelling.{spelling_of_body, spelling_of_block, RecordsFit}
 use Rattle.core_model.specs.declared.effects.Effect.{Effect}
-use Rattle.log_reading.specs.Steps.{manager}
 use Rattle.promise_spec.specs.Records.{Commit}
 use Rattle.promise_spec.specs.Logs.{body_of}
-use Rattle.batch_disk.specs.Resting.{grain_file, log_of, write_end, PlacesAreNamed, Voted, IsAtRest, raised_ends, all_writes}
+use Rattle.batch_disk.specs.Resting.{log_of, write_end, PlacesAreNamed, Voted, IsAtRest, raised_ends, all_writes}
 use Rattle.batch_disk.specs.Moments.{KeepsLog}
-use Rattle.batch_disk.specs.Writers.{file_end, kept_of, voted_of, CanCount, FitsDisk, KeepsDisk, HasSameEnds}
+use Rattle.batch_disk.specs.Writers.{file_end, kept_of, voted_of, CanCount, FitsSlot, KeepsDisk, HasSameEnds}
 use Rattle.batch_disk.specs.Records.{commits_by, AreRecordsFor, IsPlaceOfOne, MayBeLogged, IsAsWritten}
 use Rattle.batch_disk.specs.Seals.{StandsAfter, SealsAs}
 use Rattle.batch_disk.specs.declared.writer.BatchWriter.{BatchWriter}
@@ -58,32 +58,32 @@ records_can_count a rs can are =
 
 -- ---- on the files as they read
 
-module _ (a b : BatchWriter) (n most : ℕ) (old new : World) (run : RunsOnFile manager (Tears a.gate_at n) most old new) (fits : FitsDisk a old.disk) where
-  grain_same : (g : GrainId) → new.disk (grain_file g) ≡ old.disk (grain_file g)
-  grain_same g = run.now.others (grain_file g) (λ e. absurd cc)
+module _ (live : ℕ) (a b : BatchWriter) (n most : ℕ) (old new : World) (run : RunsOnFile (Manager live) (Tears a.gate_at n) most old new) (fits : FitsSlot live a old.disk) where
+  grain_same : (g : GrainId) → new.disk (Grain live g) ≡ old.disk (Grain live g)
+  grain_same g = run.now.others (Grain live g) (λ e. absurd cc)
 
   -- grain files are as they were
-  long_still : (g : GrainId) → file_end a g ≤ length (new.disk (grain_file g)).seen
+  long_still : (g : GrainId) → file_end a g ≤ length (new.disk (Grain live g)).seen
   long_still g = subst (λ (s : FileState). file_end a g ≤ length s.seen) (sym (grain_same g)) (fits.long g)
 
-  lie_still : (vs : List Voted) → AllByRecursion (LiesIn old.disk) vs → AllByRecursion (LiesIn new.disk) vs
-  lie_still vs all = each_leads (LiesIn old.disk) (LiesIn new.disk) (λ v low. subst (λ (s : FileState). write_end v.write ≤ length s.seen) (sym (grain_same v.write.grain)) low) vs all
+  lie_still : (vs : List Voted) → AllByRecursion (LiesIn live old.disk) vs → AllByRecursion (LiesIn live new.disk) vs
+  lie_still vs all = each_leads (LiesIn live old.disk) (LiesIn live new.disk) (λ v low. subst (λ (s : FileState). write_end v.write ≤ length s.seen) (sym (grain_same v.write.grain)) low) vs all
 
   pub fits_sealed : (to : ℕ) (rs : List CommitRecord) (block : List ℕ) → a.in_doubt ≡ false → block ≡ spelling_of_block rs → AllByRecursion (λ r. AllByRecursion (IsPlaceOfOne (kept_of a)) r.writes) rs
-      → new.disk manager ≡ settled (overlaid (staged a.gate_at block old) a.gate_at (1 ∷ [])) → to ≡ a.gate_at + length block
-      → b.gate_at ≡ to → kept_of b ≡ [] → ((g : GrainId) → file_end b g ≡ raised_ends (file_end a) (flat_map (λ r. r.writes) rs) g) → FitsDisk b new.disk
+      → new.disk (Manager live) ≡ settled (overlaid (staged live a.gate_at block old) a.gate_at (1 ∷ [])) → to ≡ a.gate_at + length block
+      → b.gate_at ≡ to → kept_of b ≡ [] → ((g : GrainId) → file_end b g ≡ raised_ends (file_end a) (flat_map (λ r. r.writes) rs) g) → FitsSlot live b new.disk
   fits_sealed to rs block sure is are there next gate none ends =
-      let before : IsClosedAt a.gate_at (old.disk manager).seen = fits.closed sure in
+      let before : IsClosedAt a.gate_at (old.disk (Manager live)).seen = fits.closed sure in
       let ws : List Written = flat_map (λ (r : CommitRecord). r.writes) rs in
-      let lie : AllByRecursion (λ (v : Voted). write_end v.write ≤ length (new.disk (grain_file v.write.grain)).seen) (kept_of a) = lie_still (kept_of a) fits.kept in
-      let each : AllByRecursion (λ (w : Written). write_end w ≤ length (new.disk (grain_file w.grain)).seen) ws =
-      all_lists (λ (w : Written). write_end w ≤ length (new.disk (grain_file w.grain)).seen) (λ (r : CommitRecord). r.writes) rs
-      (each_leads (λ (r : CommitRecord). AllByRecursion (IsPlaceOfOne (kept_of a)) r.writes) (λ (r : CommitRecord). AllByRecursion (λ (w : Written). write_end w ≤ length (new.disk (grain_file w.grain)).seen) r.writes)
-      (λ r one. of_kept (λ (w : Written). write_end w ≤ length (new.disk (grain_file w.grain)).seen) (kept_of a) lie r.writes one) rs are) in
+      let lie : AllByRecursion (λ (v : Voted). write_end v.write ≤ length (new.disk (Grain live v.write.grain)).seen) (kept_of a) = lie_still (kept_of a) fits.kept in
+      let each : AllByRecursion (λ (w : Written). write_end w ≤ length (new.disk (Grain live w.grain)).seen) ws =
+      all_lists (λ (w : Written). write_end w ≤ length (new.disk (Grain live w.grain)).seen) (λ (r : CommitRecord). r.writes) rs
+      (each_leads (λ (r : CommitRecord). AllByRecursion (IsPlaceOfOne (kept_of a)) r.writes) (λ (r : CommitRecord). AllByRecursion (λ (w : Written). write_end w ≤ length (new.disk (Grain live w.grain)).seen) r.writes)
+      (λ r one. of_kept (λ (w : Written). write_end w ≤ length (new.disk (Grain live w.grain)).seen) (kept_of a) lie r.writes one) rs are) in
       let body = spelling_of_body rs in
-      let file = (old.disk manager).seen in
-      let whole : staged a.gate_at block old ≡ overlaid file (a.gate_at + 1) (block_of body) = ap (λ (l : List ℕ). overlaid file (a.gate_at + 1) l) is in
-      let now : (new.disk manager).seen ≡ overlaid (overlaid file (a.gate_at + 1) (block_of body)) a.gate_at (1 ∷ []) =
+      let file = (old.disk (Manager live)).seen in
+      let whole : staged live a.gate_at block old ≡ overlaid file (a.gate_at + 1) (block_of body) = ap (λ (l : List ℕ). overlaid file (a.gate_at + 1) l) is in
+      let now : (new.disk (Manager live)).seen ≡ overlaid (overlaid file (a.gate_at + 1) (block_of body)) a.gate_at (1 ∷ []) =
       ap (λ (s : FileState). s.seen) there ∙ ap (λ (l : List ℕ). overlaid l a.gate_at (1 ∷ [])) whole in
       let size = Tears-overlaid (a.gate_at + 1) (block_of body) file (omega (arith, before.0)) in
       let within : a.gate_at ≤ length (overlaid file (a.gate_at + 1) (block_of body)) = omega (arith, before.0, size.no_shorter) in
@@ -92,26 +92,26 @@ module _ (a b : BatchWriter) (n most : ℕ) (old new : World) (run : RunsOnFile 
       (Tears-overlaid a.gate_at (1 ∷ []) (overlaid file (a.gate_at + 1) (block_of body)) within) in
       let at : a.gate_at + length (block_of body) ≡ b.gate_at = ap (λ (l : List ℕ). a.gate_at + length l) (sym is) ∙ sym next ∙ sym gate in
       record {
-        long = λ g. subst (λ (e : ℕ). e ≤ length (new.disk (grain_file g)).seen) (sym (ends g)) (raised_long (λ f. (new.disk f).seen) (file_end a) ws long_still each g);
-        kept = subst (AllByRecursion (LiesIn new.disk)) (sym none) tt;
-        closed = λ _. subst (λ (e : ℕ). IsClosedAt e (new.disk manager).seen) at (subst (IsClosedAt (a.gate_at + length (block_of body))) (sym now) shut);
+        long = λ g. subst (λ (e : ℕ). e ≤ length (new.disk (Grain live g)).seen) (sym (ends g)) (raised_long live (λ f. (new.disk f).seen) (file_end a) ws long_still each g);
+        kept = subst (AllByRecursion (LiesIn live new.disk)) (sym none) tt;
+        closed = λ _. subst (λ (e : ℕ). IsClosedAt e (new.disk (Manager live)).seen) at (subst (IsClosedAt (a.gate_at + length (block_of body))) (sym now) shut);
       }
 
-  pub fits_unsealed : (size : ℕ) → a.in_doubt ≡ false → Tears (a.gate_at + 1) size (old.disk manager).seen (new.disk manager).seen → HasSameEnds a b → kept_of b ≡ [] → FitsDisk b new.disk
+  pub fits_unsealed : (size : ℕ) → a.in_doubt ≡ false → Tears (a.gate_at + 1) size (old.disk (Manager live)).seen (new.disk (Manager live)).seen → HasSameEnds a b → kept_of b ≡ [] → FitsSlot live b new.disk
   fits_unsealed size sure torn same none = record {
-    long = λ g. subst (λ (e : ℕ). e ≤ length (new.disk (grain_file g)).seen) (sym (same.ends g)) (long_still g);
-    kept = subst (AllByRecursion (LiesIn new.disk)) (sym none) tt;
-    closed = λ _. subst (λ (e : ℕ). IsClosedAt e (new.disk manager).seen) (sym same.gate) (still_closed a.gate_at size (old.disk manager).seen (new.disk manager).seen (fits.closed sure) torn);
+    long = λ g. subst (λ (e : ℕ). e ≤ length (new.disk (Grain live g)).seen) (sym (same.ends g)) (long_still g);
+    kept = subst (AllByRecursion (LiesIn live new.disk)) (sym none) tt;
+    closed = λ _. subst (λ (e : ℕ). IsClosedAt e (new.disk (Manager live)).seen) (sym same.gate) (still_closed a.gate_at size (old.disk (Manager live)).seen (new.disk (Manager live)).seen (fits.closed sure) torn);
   }
 
-  pub fits_in_doubt : b ≡ record a { in_doubt = true } → FitsDisk b new.disk
-  fits_in_doubt is = subst (λ (w : BatchWriter). FitsDisk w new.disk) (sym is) (record { long = long_still; kept = lie_still (kept_of a) fits.kept; closed = λ sure. absurd (false≢true (sym sure)) })
+  pub fits_in_doubt : b ≡ record a { in_doubt = true } → FitsSlot live b new.disk
+  fits_in_doubt is = subst (λ (w : BatchWriter). FitsSlot live w new.disk) (sym is) (record { long = long_still; kept = lie_still (kept_of a) fits.kept; closed = λ sure. absurd (false≢true (sym sure)) })
 
 -- ---- in each image
 
-module _ (shape : Shape) (head : List ℕ) (batches : List (List Commit)) (batch : ℕ) (es : List Effect) (a : BatchWriter) (rs : List CommitRecord) (block : List ℕ) (fits : RecordsFit rs) (small : length (spelling_of_body rs) < 2 ^ 32) (is : block ≡ spelling_of_block rs)
+module _ (live : ℕ) (shape : Shape) (head : List ℕ) (batches : List (List Commit)) (batch : ℕ) (es : List Effect) (a : BatchWriter) (rs : List CommitRecord) (block : List ℕ) (fits : RecordsFit rs) (small : length (spelling_of_body rs) < 2 ^ 32) (is : block ≡ spelling_of_block rs)
     (are : AreRecordsFor (voted_of batch a) es rs) (logged : AllByRecursion (MayBeLogged shape) es) (true_of : AllByRecursion (IsAsWritten (voted_of batch a)) es)
-    (old new : World) (keeps : KeepsDisk shape head batches a old.disk) (old_seen : (f : FileId) → MayLeave (old.disk f) (old.disk f).seen) where
+    (old new : World) (keeps : KeepsDisk live shape head batches a old.disk) (old_seen : (f : FileId) → MayLeave (old.disk f) (old.disk f).seen) where
   abbrev commits : List Commit
   commits = commits_by es rs
 
@@ -124,54 +124,54 @@ module _ (shape : Shape) (head : List ℕ) (batches : List (List Commit)) (batch
   spelled : block ≡ block_of (body_of commits)
   spelled = is ∙ ap block_of body_is
 
-  each_logs : EachLogs (map body_of batches) a.gate_at manager old.disk
+  each_logs : EachLogs (map body_of batches) a.gate_at (Manager live) old.disk
   each_logs c left =
       let seen : Image = λ f. (old.disk f).seen in
-      subst (λ (l : List ℕ). LogsUpTo (map body_of batches) a.gate_at l) (with_bytes-there seen manager c)
-      (keeps.images (with_bytes seen manager c) (sealed.with_left old.disk seen manager c old_seen left)).blocks
+      subst (λ (l : List ℕ). LogsUpTo (map body_of batches) a.gate_at l) (with_bytes-there seen (Manager live) c)
+      (keeps.images (with_bytes seen (Manager live) c) (sealed.with_left old.disk seen (Manager live) c old_seen left)).blocks
 
-  pub is_next : IsNext (map body_of batches) (body_of commits) a.gate_at block old
+  pub is_next : IsNext live (map body_of batches) (body_of commits) a.gate_at block old
   is_next = record { block_is = spelled; small = subst (λ (l : List ℕ). length l < 2 ^ 32) body_is small; logs = each_logs }
 
-  module _ (run : RunsOnFile manager (Tears a.gate_at (length block + 1)) 2 old new) where
+  module _ (run : RunsOnFile (Manager live) (Tears a.gate_at (length block + 1)) 2 old new) where
     -- the seam
-    pub seals_as : (answer : Sealing) (b : BatchWriter) → Passes (λ m. EachLogsOrMore (map body_of batches) (body_of commits) a.gate_at manager m.disk) old.past new.past
-        → StandsAfter shape head batches commits answer a b old new → SealsAs shape head batches es rs answer a b old new
+    pub seals_as : (answer : Sealing) (b : BatchWriter) → Passes (λ m. EachLogsOrMore (map body_of batches) (body_of commits) a.gate_at (Manager live) m.disk) old.past new.past
+        → StandsAfter live shape head batches commits answer a b old new → SealsAs live shape head batches es rs answer a b old new
     seals_as answer b moments stands = record {
       batch = commits;
       made_of = refl;
       records = records_are (voted_of batch a) es rs are;
-      moments = sealed.seal_moments shape head batches a.gate_at (file_end a) (kept_of a) commits keeps.named next old keeps.images (length block + 1) new run.moments moments;
+      moments = sealed.seal_moments live shape head batches a.gate_at (file_end a) (kept_of a) commits keeps.named next old keeps.images (length block + 1) new run.moments moments;
       stands = stands;
     }
 
-    pub stands_sealed : (to : ℕ) (b : BatchWriter) → EachLogs (map body_of batches ++ body_of commits ∷ []) to manager new.disk → b.gate_at ≡ to → kept_of b ≡ []
-        → ((g : GrainId) → file_end b g ≡ raised_ends (file_end a) (flat_map (λ r. r.writes) rs) g) → KeepsDisk shape head (batches ++ commits ∷ []) b new.disk
+    pub stands_sealed : (to : ℕ) (b : BatchWriter) → EachLogs (map body_of batches ++ body_of commits ∷ []) to (Manager live) new.disk → b.gate_at ≡ to → kept_of b ≡ []
+        → ((g : GrainId) → file_end b g ≡ raised_ends (file_end a) (flat_map (λ r. r.writes) rs) g) → KeepsDisk live shape head (batches ++ commits ∷ []) b new.disk
     stands_sealed to b logs gate none ends =
         let writes : flat_map (λ (r : CommitRecord). r.writes) rs ≡ all_writes commits =
         ap (flat_map (λ (r : CommitRecord). r.writes)) (sym (logged_are (voted_of batch a) es rs are)) ∙ flat_of_map (λ (r : CommitRecord). r.writes) (λ (c : Commit). c.logged) commits in
         let says : (g : GrainId) → raised_ends (file_end a) (all_writes commits) g ≡ file_end b g = λ g. ap (λ (ws : List Written). raised_ends (file_end a) ws g) (sym writes) ∙ sym (ends g) in
         let all : raised_ends (file_end a) (all_writes commits) ≡ file_end b = λ i g. says g i in
         record {
-          named = subst (λ (e : GrainId → ℕ). PlacesAreNamed head (batches ++ commits ∷ []) e) all
-              (sealed.named_more shape head batches a.gate_at (file_end a) (kept_of a) commits keeps.named next);
+          named = subst (λ (e : GrainId → ℕ). PlacesAreNamed live head (batches ++ commits ∷ []) e) all
+              (sealed.named_more live shape head batches a.gate_at (file_end a) (kept_of a) commits keeps.named next);
           images = λ image left.
-              let one = sealed.rests_sealed shape head batches a.gate_at (file_end a) (kept_of a) commits keeps.named next old keeps.images (length block + 1) new run.moments run.now to logs image left in
-              let two = subst (λ (e : GrainId → ℕ). IsAtRest shape head (batches ++ commits ∷ []) to e [] image) all one in
-              let three = subst (λ (n : ℕ). IsAtRest shape head (batches ++ commits ∷ []) n (file_end b) [] image) (sym gate) two in
-              subst (λ (vs : List Voted). IsAtRest shape head (batches ++ commits ∷ []) b.gate_at (file_end b) vs image) (sym none) three;
+              let one = sealed.rests_sealed live shape head batches a.gate_at (file_end a) (kept_of a) commits keeps.named next old keeps.images (length block + 1) new run.moments run.now to logs image left in
+              let two = subst (λ (e : GrainId → ℕ). IsAtRest live shape head (batches ++ commits ∷ []) to e [] image) all one in
+              let three = subst (λ (n : ℕ). IsAtRest live shape head (batches ++ commits ∷ []) n (file_end b) [] image) (sym gate) two in
+              subst (λ (vs : List Voted). IsAtRest live shape head (batches ++ commits ∷ []) b.gate_at (file_end b) vs image) (sym none) three;
         }
 
-    pub stands_unsealed : (b : BatchWriter) → LogsAs NotSealed (map body_of batches) (body_of commits) a.gate_at old new → HasSameEnds a b → kept_of b ≡ []
-        → Passes (KeepsLog shape head (log_of batches) old) old.past new.past × KeepsDisk shape head batches b new.disk
+    pub stands_unsealed : (b : BatchWriter) → LogsAs live NotSealed (map body_of batches) (body_of commits) a.gate_at old new → HasSameEnds a b → kept_of b ≡ []
+        → Passes (KeepsLog live shape head (log_of batches) old) old.past new.past × KeepsDisk live shape head batches b new.disk
     stands_unsealed b logs same none = (
-      sealed.still_moments shape head batches a.gate_at (file_end a) (kept_of a) commits keeps.named next old keeps.images (length block + 1) new run.moments logs.0,
-      keeps_with shape head batches a b [] new.disk same none keeps.named (λ image left.
-          let rests = sealed.rests_unsealed shape head batches a.gate_at (file_end a) (kept_of a) commits keeps.named next old keeps.images (length block + 1) new run.moments run.now logs.1 image left in
+      sealed.still_moments live shape head batches a.gate_at (file_end a) (kept_of a) commits keeps.named next old keeps.images (length block + 1) new run.moments logs.0,
+      keeps_with live shape head batches a b [] new.disk same none keeps.named (λ image left.
+          let rests = sealed.rests_unsealed live shape head batches a.gate_at (file_end a) (kept_of a) commits keeps.named next old keeps.images (length block + 1) new run.moments run.now logs.1 image left in
           record { header = rests.header; blocks = rests.blocks; whole = rests.whole; long = rests.long; stand = tt }),
     )
 
-    pub stands_in_doubt : (b : BatchWriter) → ((f : FileId) → MayLeave (new.disk f) (new.disk f).seen) → EndsAs InDoubt a.gate_at block old new → LogsAs InDoubt (map body_of batches) (body_of commits) a.gate_at old new
-        → DoubtAs InDoubt (map body_of batches) (body_of commits) a.gate_at block old new → StandsAfter shape head batches commits InDoubt a b old new
+    pub stands_in_doubt : (b : BatchWriter) → ((f : FileId) → MayLeave (new.disk f) (new.disk f).seen) → EndsAs live InDoubt a.gate_at block old new → LogsAs live InDoubt (map body_of batches) (body_of commits) a.gate_at old new
+        → DoubtAs live InDoubt (map body_of batches) (body_of commits) a.gate_at block old new → StandsAfter live shape head batches commits InDoubt a b old new
     stands_in_doubt b new_seen ends logs which =
-        sealed.in_doubt shape head batches a.gate_at (file_end a) (kept_of a) commits keeps.named next old keeps.images (length block + 1) new run.moments run.now old_seen new_seen block spelled ends logs which
+        sealed.in_doubt live shape head batches a.gate_at (file_end a) (kept_of a) commits keeps.named next old keeps.images (length block + 1) new run.moments run.now old_seen new_seen block spelled ends logs which

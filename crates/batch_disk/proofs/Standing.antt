@@ -10,6 +10,7 @@ use Rattle.base_types.specs.declared.shapes.Shape.{Shape}
 use Rattle.base_types.specs.declared.stores.Place.{Place}
 use Rattle.base_types.specs.declared.stores.Version.{Version}
 use Rattle.host_trait.specs.declared.channels.FileId.{FileId}
+use Rattle.host_trait.specs.declared.channels.FileId.TheVariants.{Manager, Grain}
 use Rattle.host_trait.specs.Disk.{FileState, MayLeave, Tears, settled, overlaid}
 use Rattle.host_trait.specs.World.{World, Disk, Passes, moment_of}
 use Rattle.host_trait.specs.Runs.{RunsOnFile}
@@ -20,13 +21,12 @@ use Rattle.field_codec.specs.Spelling.{VersionFits, spelling_of_version}
 use Rattle.gate_block.specs.Gates.{IsClosedAt}
 use Rattle.grain_log.specs.Places as places
 use Rattle.grain_log.specs.Places.{spelling_of_versions, places_from}
-use Rattle.log_reading.specs.Steps.{live_slot, manager}
 use Rattle.promise_spec.specs.Records.{Commit}
 use Rattle.promise_spec.specs.Logs.{IsLog}
 use Rattle.cell_model.specs.Units.{Member}
-use Rattle.batch_disk.specs.Resting.{grain_file, log_of, EachImage, write_end, PlacesAreNamed, Voted, StandsIn, NotAmong, IsAtRest, AreOfType, voted_at, voted_from}
+use Rattle.batch_disk.specs.Resting.{log_of, EachImage, write_end, PlacesAreNamed, Voted, StandsIn, NotAmong, IsAtRest, AreOfType, voted_at, voted_from}
 use Rattle.batch_disk.specs.Moments.{KeepsLog}
-use Rattle.batch_disk.specs.Writers.{file_end, kept_of, voted_of, CanCount, IsInBounds, FitsDisk, KeepsDisk, HasSameEnds}
+use Rattle.batch_disk.specs.Writers.{file_end, kept_of, voted_of, CanCount, IsInBounds, FitsSlot, FitsDisk, KeepsDisk, HasSameEnds}
 use Rattle.batch_disk.specs.declared.writer.BatchWriter.{BatchWriter}
 use Rattle.batch_disk.proofs.Lists.{each_leads, both_parts}
 use Rattle.batch_disk.proofs.Ends.{stands_within}
@@ -56,7 +56,7 @@ ends_same a b same = λ i g. sym (same.ends g) i
 
 -- no other end, twice
 pub same_twice : (a b c : BatchWriter) → HasSameEnds a b → HasSameEnds b c → HasSameEnds a c
-same_twice a b c one two = record { gate = two.gate ∙ one.gate; ends = λ g. two.ends g ∙ one.ends g; doubt = two.doubt ∙ one.doubt }
+same_twice a b c one two = record { slot = two.slot ∙ one.slot; gate = two.gate ∙ one.gate; ends = λ g. two.ends g ∙ one.ends g; doubt = two.doubt ∙ one.doubt }
 
 -- ---- in bounds
 
@@ -66,6 +66,7 @@ can_still a b vs room can = each_leads (CanCount a) (CanCount b) (λ v one. (roo
 
 pub bounds_with : (a b : BatchWriter) (vs : List Voted) → HasSameEnds a b → kept_of b ≡ vs → AllByRecursion (CanCount b) vs → IsInBounds a → IsInBounds b
 bounds_with a b vs same kept can bounds = record {
+  slot = subst (λ (n : ℕ). n ≤ 1) (sym same.slot) bounds.slot;
   gate = subst (λ (n : ℕ). n < 2 ^ 63) (sym same.gate) bounds.gate;
   ends = λ g. subst (λ (n : ℕ). n < 2 ^ 63) (sym (same.ends g)) (bounds.ends g);
   kept = subst (AllByRecursion (CanCount b)) (sym kept) can;
@@ -90,51 +91,55 @@ bounds_more a b batch grain at vs same kept room there low bounds =
 -- ---- on the files as they read
 
 -- a place lies in its file
-abbrev pub LiesIn : Disk → Voted → Type 0
-LiesIn disk v = write_end v.write ≤ length (disk (grain_file v.write.grain)).seen
+abbrev pub LiesIn : ℕ → Disk → Voted → Type 0
+LiesIn live disk v = write_end v.write ≤ length (disk (Grain live v.write.grain)).seen
 
-module _ (grain : GrainId) (at size most : ℕ) (old new : World) (run : RunsOnFile (grain_file grain) (Tears at size) most old new) where
+module _ (live : ℕ) (grain : GrainId) (at size most : ℕ) (old new : World) (run : RunsOnFile (Grain live grain) (Tears at size) most old new) where
   -- no grain file gets shorter
-  pub no_shorter : (g : GrainId) → length (old.disk (grain_file g)).seen ≤ length (new.disk (grain_file g)).seen
-  no_shorter g = elim (cases_file (grain_file g) (grain_file grain)) [
+  pub no_shorter : (g : GrainId) → length (old.disk (Grain live g)).seen ≤ length (new.disk (Grain live g)).seen
+  no_shorter g = elim (cases_file (Grain live g) (Grain live grain)) [
     | inl same ↦ subst (λ (f : FileId). length (old.disk f).seen ≤ length (new.disk f).seen) (sym same) run.seen.no_shorter
-    | inr apart ↦ subst (λ (s : FileState). length (old.disk (grain_file g)).seen ≤ length s.seen) (sym (run.now.others (grain_file g) apart)) (omega arith)
+    | inr apart ↦ subst (λ (s : FileState). length (old.disk (Grain live g)).seen ≤ length s.seen) (sym (run.now.others (Grain live g) apart)) (omega arith)
   ]
 
-  lie_still : (vs : List Voted) → AllByRecursion (LiesIn old.disk) vs → AllByRecursion (LiesIn new.disk) vs
-  lie_still vs all = each_leads (LiesIn old.disk) (LiesIn new.disk) (λ v low. omega (arith, low, no_shorter v.write.grain)) vs all
+  lie_still : (vs : List Voted) → AllByRecursion (LiesIn live old.disk) vs → AllByRecursion (LiesIn live new.disk) vs
+  lie_still vs all = each_leads (LiesIn live old.disk) (LiesIn live new.disk) (λ v low. omega (arith, low, no_shorter v.write.grain)) vs all
 
-  pub fits_with : (a b : BatchWriter) (vs : List Voted) → HasSameEnds a b → kept_of b ≡ vs → AllByRecursion (LiesIn new.disk) vs → FitsDisk a old.disk → FitsDisk b new.disk
+  pub fits_with : (a b : BatchWriter) (vs : List Voted) → HasSameEnds a b → kept_of b ≡ vs → AllByRecursion (LiesIn live new.disk) vs → FitsSlot live a old.disk → FitsSlot live b new.disk
   fits_with a b vs same kept lie fits = record {
     long = λ g. omega (arith, same.ends g, fits.long g, no_shorter g);
-    kept = subst (AllByRecursion (LiesIn new.disk)) (sym kept) lie;
+    kept = subst (AllByRecursion (LiesIn live new.disk)) (sym kept) lie;
     closed = λ sure.
-        let before : IsClosedAt a.gate_at (old.disk manager).seen = fits.closed (sym same.doubt ∙ sure) in
-        let file : (new.disk manager).seen ≡ (old.disk manager).seen = ap (λ (s : FileState). s.seen) (run.now.others manager (not_manager grain)) in
-        subst (λ (n : ℕ). IsClosedAt n (new.disk manager).seen) (sym same.gate) (subst (IsClosedAt a.gate_at) (sym file) before);
+        let before : IsClosedAt a.gate_at (old.disk (Manager live)).seen = fits.closed (sym same.doubt ∙ sure) in
+        let file : (new.disk (Manager live)).seen ≡ (old.disk (Manager live)).seen = ap (λ (s : FileState). s.seen) (run.now.others (Manager live) (not_manager live grain)) in
+        subst (λ (n : ℕ). IsClosedAt n (new.disk (Manager live)).seen) (sym same.gate) (subst (IsClosedAt a.gate_at) (sym file) before);
   }
 
-  pub fits_some : (a b : BatchWriter) (batch : ℕ) → HasSameEnds a b → kept_of b ≡ voted_of batch a → FitsDisk a old.disk → FitsDisk b new.disk
-  fits_some a b batch same kept fits = fits_with a b (voted_of batch a) same kept (lie_still (voted_of batch a) (each_voted (LiesIn old.disk) a batch fits.kept)) fits
+  pub fits_some : (a b : BatchWriter) (batch : ℕ) → HasSameEnds a b → kept_of b ≡ voted_of batch a → FitsSlot live a old.disk → FitsSlot live b new.disk
+  fits_some a b batch same kept fits = fits_with a b (voted_of batch a) same kept (lie_still (voted_of batch a) (each_voted (LiesIn live old.disk) a batch fits.kept)) fits
 
-  lie_voted : (from : ℕ) (vs : List Version) → from + length (spelling_of_versions vs) ≤ length (new.disk (grain_file grain)).seen → AllByRecursion (LiesIn new.disk) (voted_from grain from vs)
+  lie_voted : (from : ℕ) (vs : List Version) → from + length (spelling_of_versions vs) ≤ length (new.disk (Grain live grain)).seen → AllByRecursion (LiesIn live new.disk) (voted_from grain from vs)
   lie_voted from [] low = tt
   lie_voted from (v ∷ vs) low =
       let one = length (spelling_of_version v) in
       let all : length (spelling_of_version v ++ spelling_of_versions vs) ≡ one + length (spelling_of_versions vs) = length-append (spelling_of_version v) (spelling_of_versions vs) in
       (omega (arith, low, all), lie_voted (from + one) vs (omega (arith, low, all)))
 
-  pub fits_more : (a b : BatchWriter) (batch : ℕ) (vs : List Version) → HasSameEnds a b → kept_of b ≡ voted_of batch a ++ voted_from grain at vs → at ≤ length (old.disk (grain_file grain)).seen
-      → new.disk (grain_file grain) ≡ settled (overlaid (old.disk (grain_file grain)).seen at (spelling_of_versions vs)) → FitsDisk a old.disk → FitsDisk b new.disk
+  pub fits_more : (a b : BatchWriter) (batch : ℕ) (vs : List Version) → HasSameEnds a b → kept_of b ≡ voted_of batch a ++ voted_from grain at vs → at ≤ length (old.disk (Grain live grain)).seen
+      → new.disk (Grain live grain) ≡ settled (overlaid (old.disk (Grain live grain)).seen at (spelling_of_versions vs)) → FitsSlot live a old.disk → FitsSlot live b new.disk
   fits_more a b batch vs same kept within there fits =
-      let file = (old.disk (grain_file grain)).seen in
+      let file = (old.disk (Grain live grain)).seen in
       let bytes = spelling_of_versions vs in
-      let now : (new.disk (grain_file grain)).seen ≡ overlaid file at bytes = ap (λ (s : FileState). s.seen) there in
+      let now : (new.disk (Grain live grain)).seen ≡ overlaid file at bytes = ap (λ (s : FileState). s.seen) there in
       let size : length (overlaid file at bytes) ≡ length (take at file ++ bytes) + length (drop (at + length bytes) file) = length-append (take at file ++ bytes) (drop (at + length bytes) file) in
       let front : length (take at file ++ bytes) ≡ length (take at file) + length bytes = length-append (take at file) bytes in
-      let long : at + length bytes ≤ length (new.disk (grain_file grain)).seen = omega (arith, ap length now, size, front, length-take at file, within) in
+      let long : at + length bytes ≤ length (new.disk (Grain live grain)).seen = omega (arith, ap length now, size, front, length-take at file, within) in
       fits_with a b (voted_of batch a ++ voted_from grain at vs) same kept
-      (both_parts (LiesIn new.disk) (voted_of batch a) (voted_from grain at vs) (lie_still (voted_of batch a) (each_voted (LiesIn old.disk) a batch fits.kept)) (lie_voted at vs long)) fits
+      (both_parts (LiesIn live new.disk) (voted_of batch a) (voted_from grain at vs) (lie_still (voted_of batch a) (each_voted (LiesIn live old.disk) a batch fits.kept)) (lie_voted at vs long)) fits
+
+-- the files of its own slot fit a writer that has stayed in it
+pub own_fits : (a b : BatchWriter) (disk : Disk) → b.slot ≡ a.slot → FitsSlot a.slot b disk → FitsDisk b disk
+own_fits a b disk same fits = subst (λ (n : ℕ). FitsSlot n b disk) (sym same) fits
 
 -- no call at all is such a run
 pub no_run : (file : FileId) (at size : ℕ) (w : World) → RunsOnFile file (Tears at size) 1 w w
@@ -142,62 +147,62 @@ no_run file at size w = run_more_syncs file (Tears at size) 0 1 w w (omega arith
 
 -- ---- in each image
 
-module _ (shape : Shape) (head : List ℕ) (batches : List (List Commit)) where
+module _ (live : ℕ) (shape : Shape) (head : List ℕ) (batches : List (List Commit)) where
   -- what is kept of one batch stands
-  pub rests_some : (a : BatchWriter) (batch : ℕ) (disk : Disk) → KeepsDisk shape head batches a disk → EachImage (IsAtRest shape head batches a.gate_at (file_end a) (voted_of batch a)) disk
+  pub rests_some : (a : BatchWriter) (batch : ℕ) (disk : Disk) → KeepsDisk live shape head batches a disk → EachImage (IsAtRest live shape head batches a.gate_at (file_end a) (voted_of batch a)) disk
   rests_some a batch disk keeps image left =
       let rests = keeps.images image left in
-      record { header = rests.header; blocks = rests.blocks; whole = rests.whole; long = rests.long; stand = each_voted (StandsIn shape image) a batch rests.stand }
+      record { header = rests.header; blocks = rests.blocks; whole = rests.whole; long = rests.long; stand = each_voted (StandsIn live shape image) a batch rests.stand }
 
   -- a writer with these ends that keeps these versions
-  pub keeps_with : (a b : BatchWriter) (voted : List Voted) (disk : Disk) → HasSameEnds a b → kept_of b ≡ voted → PlacesAreNamed head batches (file_end a)
-      → EachImage (IsAtRest shape head batches a.gate_at (file_end a) voted) disk → KeepsDisk shape head batches b disk
+  pub keeps_with : (a b : BatchWriter) (voted : List Voted) (disk : Disk) → HasSameEnds a b → kept_of b ≡ voted → PlacesAreNamed live head batches (file_end a)
+      → EachImage (IsAtRest live shape head batches a.gate_at (file_end a) voted) disk → KeepsDisk live shape head batches b disk
   keeps_with a b voted disk same kept named rests = record {
-    named = subst (λ (e : GrainId → ℕ). PlacesAreNamed head batches e) (ends_same a b same) named;
+    named = subst (λ (e : GrainId → ℕ). PlacesAreNamed live head batches e) (ends_same a b same) named;
     images = λ image left.
-        let one = subst (λ (n : ℕ). IsAtRest shape head batches n (file_end a) voted image) (sym same.gate) (rests image left) in
-        let two = subst (λ (vs : List Voted). IsAtRest shape head batches b.gate_at (file_end a) vs image) (sym kept) one in
-        subst (λ (e : GrainId → ℕ). IsAtRest shape head batches b.gate_at e (kept_of b) image) (ends_same a b same) two;
+        let one = subst (λ (n : ℕ). IsAtRest live shape head batches n (file_end a) voted image) (sym same.gate) (rests image left) in
+        let two = subst (λ (vs : List Voted). IsAtRest live shape head batches b.gate_at (file_end a) vs image) (sym kept) one in
+        subst (λ (e : GrainId → ℕ). IsAtRest live shape head batches b.gate_at e (kept_of b) image) (ends_same a b same) two;
   }
 
   -- dropping what is kept of others
-  pub keeps_some : (a b : BatchWriter) (batch : ℕ) (disk : Disk) → HasSameEnds a b → kept_of b ≡ voted_of batch a → KeepsDisk shape head batches a disk → KeepsDisk shape head batches b disk
+  pub keeps_some : (a b : BatchWriter) (batch : ℕ) (disk : Disk) → HasSameEnds a b → kept_of b ≡ voted_of batch a → KeepsDisk live shape head batches a disk → KeepsDisk live shape head batches b disk
   keeps_some a b batch disk same kept keeps = keeps_with a b (voted_of batch a) disk same kept keeps.named (rests_some a batch disk keeps)
 
-  module _ (a : BatchWriter) (batch : ℕ) (grain : GrainId) (size : ℕ) (old new : World) (fresh : NotAmong grain (voted_of batch a)) (keeps : KeepsDisk shape head batches a old.disk)
-      (run : RunsOnFile (grain_file grain) (Tears (file_end a grain) size) 1 old new) where
+  module _ (a : BatchWriter) (batch : ℕ) (grain : GrainId) (size : ℕ) (old new : World) (fresh : NotAmong grain (voted_of batch a)) (keeps : KeepsDisk live shape head batches a old.disk)
+      (run : RunsOnFile (Grain live grain) (Tears (file_end a grain) size) 1 old new) where
     -- at each moment of a vote
-    pub vote_keeps_log : Passes (KeepsLog shape head (log_of batches) old) old.past new.past
-    vote_keeps_log = vote_moments shape head batches a.gate_at (file_end a) (voted_of batch a) grain size keeps.named fresh old (rests_some a batch old.disk keeps) new run.moments
+    pub vote_keeps_log : Passes (KeepsLog live shape head (log_of batches) old) old.past new.past
+    vote_keeps_log = vote_moments live shape head batches a.gate_at (file_end a) (voted_of batch a) grain size keeps.named fresh old (rests_some a batch old.disk keeps) new run.moments
 
     -- after a vote of no, or without memory
-    pub keeps_no : (b : BatchWriter) → HasSameEnds a b → kept_of b ≡ voted_of batch a → KeepsDisk shape head batches b new.disk
+    pub keeps_no : (b : BatchWriter) → HasSameEnds a b → kept_of b ≡ voted_of batch a → KeepsDisk live shape head batches b new.disk
     keeps_no b same kept =
         keeps_with a b (voted_of batch a) new.disk same kept keeps.named
-        (vote_rests shape head batches a.gate_at (file_end a) (voted_of batch a) grain size keeps.named fresh old (rests_some a batch old.disk keeps) (moment_of new) run.now)
+        (vote_rests live shape head batches a.gate_at (file_end a) (voted_of batch a) grain size keeps.named fresh old (rests_some a batch old.disk keeps) (moment_of new) run.now)
 
   -- after a vote of yes
-  pub keeps_yes : (a : BatchWriter) (batch : ℕ) (grain : GrainId) (vs : List Version) (old new : World) → NotAmong grain (voted_of batch a) → KeepsDisk shape head batches a old.disk
-      → RunsOnFile (grain_file grain) (Tears (file_end a grain) (length (spelling_of_versions vs))) 1 old new → (b : BatchWriter) → HasSameEnds a b → kept_of b ≡ voted_of batch a ++ voted_from grain (file_end a grain) vs
-      → ((image : List ℕ) → MayLeave (new.disk (grain_file grain)) image → places.VersionsStand image (file_end a grain) vs) → AreOfType shape grain vs → AllByRecursion VersionFits vs
-      → file_end a grain + length (spelling_of_versions vs) < 2 ^ 63 → KeepsDisk shape head batches b new.disk
+  pub keeps_yes : (a : BatchWriter) (batch : ℕ) (grain : GrainId) (vs : List Version) (old new : World) → NotAmong grain (voted_of batch a) → KeepsDisk live shape head batches a old.disk
+      → RunsOnFile (Grain live grain) (Tears (file_end a grain) (length (spelling_of_versions vs))) 1 old new → (b : BatchWriter) → HasSameEnds a b → kept_of b ≡ voted_of batch a ++ voted_from grain (file_end a grain) vs
+      → ((image : List ℕ) → MayLeave (new.disk (Grain live grain)) image → places.VersionsStand image (file_end a grain) vs) → AreOfType shape grain vs → AllByRecursion VersionFits vs
+      → file_end a grain + length (spelling_of_versions vs) < 2 ^ 63 → KeepsDisk live shape head batches b new.disk
   keeps_yes a batch grain vs old new fresh keeps run b same kept stand typed fits low =
       keeps_with a b (voted_of batch a ++ voted_from grain (file_end a grain) vs) new.disk same kept keeps.named
-      (vote_yes shape head batches a.gate_at (file_end a) (voted_of batch a) grain (length (spelling_of_versions vs)) keeps.named fresh old (rests_some a batch old.disk keeps) new vs run.now stand typed fits low)
+      (vote_yes live shape head batches a.gate_at (file_end a) (voted_of batch a) grain (length (spelling_of_versions vs)) keeps.named fresh old (rests_some a batch old.disk keeps) new vs run.now stand typed fits low)
 
   -- ---- what the calls ask of the files holds where the writer keeps the disk
 
-  lie_seen : (disk : Disk) (vs : List Voted) → AllByRecursion (StandsIn shape (λ f. (disk f).seen)) vs → AllByRecursion (LiesIn disk) vs
-  lie_seen disk vs stand = each_leads (StandsIn shape (λ f. (disk f).seen)) (LiesIn disk) (λ v st. stands_within shape (λ f. (disk f).seen) v.unit v.write v.state st) vs stand
+  lie_seen : (disk : Disk) (vs : List Voted) → AllByRecursion (StandsIn live shape (λ f. (disk f).seen)) vs → AllByRecursion (LiesIn live disk) vs
+  lie_seen disk vs stand = each_leads (StandsIn live shape (λ f. (disk f).seen)) (LiesIn live disk) (λ v st. stands_within live shape (λ f. (disk f).seen) v.unit v.write v.state st) vs stand
 
-  pub keeps_fits : (w : BatchWriter) (disk : Disk) → KeepsDisk shape head batches w disk → ((f : FileId) → MayLeave (disk f) (disk f).seen) → FitsDisk w disk
+  pub keeps_fits : (w : BatchWriter) (disk : Disk) → KeepsDisk live shape head batches w disk → ((f : FileId) → MayLeave (disk f) (disk f).seen) → FitsSlot live w disk
   keeps_fits w disk keeps seen =
       let rests = keeps.images (λ f. (disk f).seen) seen in
       record { long = rests.long; kept = lie_seen disk (kept_of w) rests.stand; closed = λ sure. (rests.blocks.blocks.within, rests.blocks.closed) }
 
   -- each image's log
-  pub keeps_log : (w : BatchWriter) (disk : Disk) → KeepsDisk shape head batches w disk → EachImage (λ image. IsLog live_slot shape image (log_of batches)) disk
-  keeps_log w disk keeps image left = rests_log shape head batches w.gate_at (file_end w) (kept_of w) image keeps.named (keeps.images image left)
+  pub keeps_log : (w : BatchWriter) (disk : Disk) → KeepsDisk live shape head batches w disk → EachImage (λ image. IsLog live shape image (log_of batches)) disk
+  keeps_log w disk keeps image left = rests_log live shape head batches w.gate_at (file_end w) (kept_of w) image keeps.named (keeps.images image left)
 
 -- ---- a writer that has gone to a batch, and has room
 
@@ -221,8 +226,8 @@ ready_for batch a m b one kept is ends two still stays room = record {
 }
 
 -- ends that are the same value
-pub same_by : (a b : BatchWriter) → b.gate_at ≡ a.gate_at → b.in_doubt ≡ a.in_doubt → b.ends ≡ a.ends → HasSameEnds a b
-same_by a b gate doubt ends = record { gate = gate; ends = λ g. ap (λ e. unwrap_or (end_in e g) 0) ends; doubt = doubt }
+pub same_by : (a b : BatchWriter) → b.slot ≡ a.slot → b.gate_at ≡ a.gate_at → b.in_doubt ≡ a.in_doubt → b.ends ≡ a.ends → HasSameEnds a b
+same_by a b slot gate doubt ends = record { slot = slot; gate = gate; ends = λ g. ap (λ e. unwrap_or (end_in e g) 0) ends; doubt = doubt }
 
 -- it keeps versions more
 pub record KeepsMore (batch : ℕ) (grain : GrainId) (at : ℕ) (vs : List Version) (a b : BatchWriter) : Type 0 where
@@ -232,9 +237,9 @@ pub record KeepsMore (batch : ℕ) (grain : GrainId) (at : ℕ) (vs : List Versi
   pub room : KeepsRoom a.ends b.ends
 
 pub keeps_more : (batch : ℕ) (grain : GrainId) (at : ℕ) (vs : List Version) (ps : List Place) (a m b : BatchWriter) → IsReadyFor batch a m → ps ≡ places_from at vs → kept_of b ≡ kept_of m ++ voted_at grain ps vs
-    → b.gate_at ≡ m.gate_at → b.in_doubt ≡ m.in_doubt → b.batch ≡ m.batch → b.ends ≡ m.ends → KeepsMore batch grain at vs a b
-keeps_more batch grain at vs ps a m b ready places kept gate doubt stays ends = record {
-  same = same_twice a m b ready.same (same_by m b gate doubt ends);
+    → b.slot ≡ m.slot → b.gate_at ≡ m.gate_at → b.in_doubt ≡ m.in_doubt → b.batch ≡ m.batch → b.ends ≡ m.ends → KeepsMore batch grain at vs a b
+keeps_more batch grain at vs ps a m b ready places kept slot gate doubt stays ends = record {
+  same = same_twice a m b ready.same (same_by m b slot gate doubt ends);
   kept = kept ∙ (λ i. ready.kept i ++ voted_at grain (places i) vs);
   goes_to = stays ∙ ready.goes_to;
   room = subst (λ e. KeepsRoom a.ends e) (sym ends) ready.room;
@@ -246,5 +251,5 @@ places-length at [] = refl
 places-length at (v ∷ vs) = let more = places-length (at + length (spelling_of_version v)) vs in omega (arith, more)
 
 -- where a version goes is the end that it was asked for
-pub run_at : (grain : GrainId) (at from size : ℕ) (old new : World) → at ≡ from → RunsOnFile (grain_file grain) (Tears at size) 1 old new → RunsOnFile (grain_file grain) (Tears from size) 1 old new
-run_at grain at from size old new is run = subst (λ (n : ℕ). RunsOnFile (grain_file grain) (Tears n size) 1 old new) is run
+pub run_at : (live : ℕ) (grain : GrainId) (at from size : ℕ) (old new : World) → at ≡ from → RunsOnFile (Grain live grain) (Tears at size) 1 old new → RunsOnFile (Grain live grain) (Tears from size) 1 old new
+run_at live grain at from size old new is run = subst (λ (n : ℕ). RunsOnFile (Grain live grain) (Tears n size) 1 old new) is run

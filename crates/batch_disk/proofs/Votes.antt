@@ -17,11 +17,10 @@ use Rattle.gate_block.specs.Log.{LogsUpTo}
 use Rattle.grain_log.specs.Places as places
 use Rattle.grain_log.specs.Places.{spelling_of_versions}
 use Rattle.commit_log.specs.declared.records.Written.{Written}
-use Rattle.log_reading.specs.Steps.{live_slot, manager}
 use Rattle.promise_spec.specs.Records.{Commit}
 use Rattle.promise_spec.specs.Crashes.{IsAside}
 use Rattle.promise_spec.specs.Logs.{body_of}
-use Rattle.batch_disk.specs.Resting.{grain_file, log_of, EachImage, IsBelow, AreBelow, PlacesAreNamed, Voted, StandsIn, NotAmong, IsAtRest, voted_from, AreOfType}
+use Rattle.batch_disk.specs.Resting.{log_of, EachImage, IsBelow, AreBelow, PlacesAreNamed, Voted, StandsIn, NotAmong, IsAtRest, voted_from, AreOfType}
 use Rattle.batch_disk.specs.Moments.{KeepsLog}
 use Rattle.batch_disk.proofs.Lists.{each_leads, each_both, both_parts}
 use Rattle.batch_disk.proofs.Keeping.{IsSameAt, stands_same, kept_same, below_same, rests_log}
@@ -32,55 +31,55 @@ grain_in other (Program slot) = other
 grain_in other (Manager slot) = other
 grain_in other (Grain slot grain) = grain
 
-pub not_manager : (grain : GrainId) → manager ≢ grain_file grain
-not_manager grain e = absurd cc
+pub not_manager : (live : ℕ) (grain : GrainId) → Manager live ≢ Grain live grain
+not_manager live grain e = absurd cc
 
-same_in : (g h : GrainId) → grain_file g ≡ grain_file h → g ≡ h
-same_in g h e = ap (grain_in g) e
+same_in : (live : ℕ) (g h : GrainId) → Grain live g ≡ Grain live h → g ≡ h
+same_in live g h e = ap (grain_in g) e
 
-module _ (shape : Shape) (ends : GrainId → ℕ) (grain : GrainId) (size : ℕ) (was image : Image)
-    (others : (f : FileId) → f ≢ grain_file grain → image f ≡ was f) (changed : Tears (ends grain) size (was (grain_file grain)) (image (grain_file grain))) where
+module _ (live : ℕ) (shape : Shape) (ends : GrainId → ℕ) (grain : GrainId) (size : ℕ) (was image : Image)
+    (others : (f : FileId) → f ≢ Grain live grain → image f ≡ was f) (changed : Tears (ends grain) size (was (Grain live grain)) (image (Grain live grain))) where
   -- what lies below the ends is the same
-  same_below : (w : Written) → IsBelow ends w → IsSameAt shape was image w
-  same_below w below = elim (cases_file (grain_file w.grain) (grain_file grain)) [
+  same_below : (w : Written) → IsBelow ends w → IsSameAt live shape was image w
+  same_below w below = elim (cases_file (Grain live w.grain) (Grain live grain)) [
     | inl same ↦
-        below_same (was (grain_file w.grain)) (image (grain_file w.grain)) w.place.offset w.place.len (ends w.grain)
-        (subst (λ (g : GrainId). take (ends g) (image (grain_file g)) ≡ take (ends g) (was (grain_file g))) (sym (same_in w.grain grain same)) changed.before) below
-    | inr apart ↦ ap (λ (l : List ℕ). take w.place.len (drop w.place.offset l)) (others (grain_file w.grain) apart)
+        below_same (was (Grain live w.grain)) (image (Grain live w.grain)) w.place.offset w.place.len (ends w.grain)
+        (subst (λ (g : GrainId). take (ends g) (image (Grain live g)) ≡ take (ends g) (was (Grain live g))) (sym (same_in live w.grain grain same)) changed.before) below
+    | inr apart ↦ ap (λ (l : List ℕ). take w.place.len (drop w.place.offset l)) (others (Grain live w.grain) apart)
   ]
 
   -- and what stands in another grain's file
-  same_apart : (n : Voted) → n.write.grain ≢ grain → StandsIn shape was n → StandsIn shape image n
-  same_apart n apart st = stands_same shape was image n.unit n.write n.state
-      (ap (λ (l : List ℕ). take n.write.place.len (drop n.write.place.offset l)) (others (grain_file n.write.grain) (λ e. apart (same_in n.write.grain grain e)))) st
+  same_apart : (n : Voted) → n.write.grain ≢ grain → StandsIn live shape was n → StandsIn live shape image n
+  same_apart n apart st = stands_same live shape was image n.unit n.write n.state
+      (ap (λ (l : List ℕ). take n.write.place.len (drop n.write.place.offset l)) (others (Grain live n.write.grain) (λ e. apart (same_in live n.write.grain grain e)))) st
 
-  long_still : ((g : GrainId) → ends g ≤ length (was (grain_file g))) → (g : GrainId) → ends g ≤ length (image (grain_file g))
-  long_still long g = elim (cases_file (grain_file g) (grain_file grain)) [
-    | inl same ↦ subst (λ (h : GrainId). ends h ≤ length (image (grain_file h))) (sym (same_in g grain same)) (omega (arith, long grain, changed.no_shorter))
-    | inr apart ↦ subst (λ (l : List ℕ). ends g ≤ length l) (sym (others (grain_file g) apart)) (long g)
+  long_still : ((g : GrainId) → ends g ≤ length (was (Grain live g))) → (g : GrainId) → ends g ≤ length (image (Grain live g))
+  long_still long g = elim (cases_file (Grain live g) (Grain live grain)) [
+    | inl same ↦ subst (λ (h : GrainId). ends h ≤ length (image (Grain live h))) (sym (same_in live g grain same)) (omega (arith, long grain, changed.no_shorter))
+    | inr apart ↦ subst (λ (l : List ℕ). ends g ≤ length l) (sym (others (Grain live g) apart)) (long g)
   ]
 
   -- an image in which only the versions' bytes are torn keeps all that counts
   pub torn_rests : (head : List ℕ) (batches : List (List Commit)) (gate : ℕ) (voted : List Voted) → AreBelow ends (log_of batches) → NotAmong grain voted
-      → IsAtRest shape head batches gate ends voted was → IsAtRest shape head batches gate ends voted image
+      → IsAtRest live shape head batches gate ends voted was → IsAtRest live shape head batches gate ends voted image
   torn_rests head batches gate voted below fresh is =
-      let log : image manager ≡ was manager = others manager (not_manager grain) in
+      let log : image (Manager live) ≡ was (Manager live) = others (Manager live) (not_manager live grain) in
       record {
         header = ap (take 15) log ∙ is.header;
         blocks = subst (λ (l : List ℕ). LogsUpTo (map body_of batches) gate l) (sym log) is.blocks;
-        whole = kept_same shape was image (log_of batches)
-            (each_leads (λ (c : Commit). AllByRecursion (IsBelow ends) c.logged.writes) (λ (c : Commit). AllByRecursion (IsSameAt shape was image) c.logged.writes)
-            (λ c each. each_leads (IsBelow ends) (IsSameAt shape was image) same_below c.logged.writes each) (log_of batches) below) is.whole;
+        whole = kept_same live shape was image (log_of batches)
+            (each_leads (λ (c : Commit). AllByRecursion (IsBelow ends) c.logged.writes) (λ (c : Commit). AllByRecursion (IsSameAt live shape was image) c.logged.writes)
+            (λ c each. each_leads (IsBelow ends) (IsSameAt live shape was image) same_below c.logged.writes each) (log_of batches) below) is.whole;
         long = long_still is.long;
-        stand = each_both (λ (n : Voted). n.write.grain ≢ grain) (StandsIn shape was) (StandsIn shape image) same_apart voted fresh is.stand;
+        stand = each_both (λ (n : Voted). n.write.grain ≢ grain) (StandsIn live shape was) (StandsIn live shape image) same_apart voted fresh is.stand;
       }
 
 -- ---- the versions, once they were written
 
-stand_named : (shape : Shape) (image : Image) (grain : GrainId) (at : ℕ) (vs : List Version) → places.VersionsStand (image (grain_file grain)) at vs → AreOfType shape grain vs → AllByRecursion VersionFits vs
-    → at + length (spelling_of_versions vs) < 2 ^ 63 → AllByRecursion (StandsIn shape image) (voted_from grain at vs)
-stand_named shape image grain at [] stand typed fits low = tt
-stand_named shape image grain at (v ∷ vs) stand typed fits low =
+stand_named : (live : ℕ) (shape : Shape) (image : Image) (grain : GrainId) (at : ℕ) (vs : List Version) → places.VersionsStand (image (Grain live grain)) at vs → AreOfType shape grain vs → AllByRecursion VersionFits vs
+    → at + length (spelling_of_versions vs) < 2 ^ 63 → AllByRecursion (StandsIn live shape image) (voted_from grain at vs)
+stand_named live shape image grain at [] stand typed fits low = tt
+stand_named live shape image grain at (v ∷ vs) stand typed fits low =
     let size = length (spelling_of_version v) in
     let all : length (spelling_of_version v ++ spelling_of_versions vs) ≡ size + length (spelling_of_versions vs) = length-append (spelling_of_version v) (spelling_of_versions vs) in (
       record {
@@ -88,47 +87,47 @@ stand_named shape image grain at (v ∷ vs) stand typed fits low =
         fields = typed.0;
         version = record { version_is = record { fits = fits.0; count = refl; len = refl }; here = stand.0.here };
       },
-      stand_named shape image grain (at + size) vs stand.1 typed.1 fits.1 (omega (arith, low, all)),
+      stand_named live shape image grain (at + size) vs stand.1 typed.1 fits.1 (omega (arith, low, all)),
     )
 
 -- ---- a vote
 
-aside_grain : (grain : GrainId) (f : FileId) → IsAside live_slot f → f ≢ grain_file grain
-aside_grain grain (Program slot) aside e = absurd cc
-aside_grain grain (Manager slot) aside e = absurd cc
-aside_grain grain (Grain slot g) aside e = aside (ap (slot_in slot) e) where
+aside_grain : (live : ℕ) (grain : GrainId) (f : FileId) → IsAside live f → f ≢ Grain live grain
+aside_grain live grain (Program slot) aside e = absurd cc
+aside_grain live grain (Manager slot) aside e = absurd cc
+aside_grain live grain (Grain slot g) aside e = aside (ap (slot_in slot) e) where
   slot_in : ℕ → FileId → ℕ
   slot_in other (Program s) = other
   slot_in other (Manager s) = other
   slot_in other (Grain s g) = s
 
-module _ (shape : Shape) (head : List ℕ) (batches : List (List Commit)) (gate : ℕ) (ends : GrainId → ℕ) (voted : List Voted) (grain : GrainId) (size : ℕ)
-    (named : PlacesAreNamed head batches ends) (fresh : NotAmong grain voted) (old : World) (is : EachImage (IsAtRest shape head batches gate ends voted) old.disk) where
-  pub vote_rests : (m : Moment) → ChangesFile (grain_file grain) (Tears (ends grain) size) old m → EachImage (IsAtRest shape head batches gate ends voted) m.disk
+module _ (live : ℕ) (shape : Shape) (head : List ℕ) (batches : List (List Commit)) (gate : ℕ) (ends : GrainId → ℕ) (voted : List Voted) (grain : GrainId) (size : ℕ)
+    (named : PlacesAreNamed live head batches ends) (fresh : NotAmong grain voted) (old : World) (is : EachImage (IsAtRest live shape head batches gate ends voted) old.disk) where
+  pub vote_rests : (m : Moment) → ChangesFile (Grain live grain) (Tears (ends grain) size) old m → EachImage (IsAtRest live shape head batches gate ends voted) m.disk
   vote_rests m changes image left =
-      each_image (grain_file grain) (Tears (ends grain) size) (IsAtRest shape head batches gate ends voted) (IsAtRest shape head batches gate ends voted) old m changes
-      (λ was now at others torn. torn_rests shape ends grain size was now others torn head batches gate voted named.below fresh at) is image left
+      each_image (Grain live grain) (Tears (ends grain) size) (IsAtRest live shape head batches gate ends voted) (IsAtRest live shape head batches gate ends voted) old m changes
+      (λ was now at others torn. torn_rests live shape ends grain size was now others torn head batches gate voted named.below fresh at) is image left
 
-  pub vote_still : (m : Moment) → ChangesFile (grain_file grain) (Tears (ends grain) size) old m → KeepsLog shape head (log_of batches) old m
+  pub vote_still : (m : Moment) → ChangesFile (Grain live grain) (Tears (ends grain) size) old m → KeepsLog live shape head (log_of batches) old m
   vote_still m changes =
       let each = vote_rests m changes in
       record {
         rest = record {
           output = changes.output;
-          aside = λ f aside. changes.others f (aside_grain grain f aside);
+          aside = λ f aside. changes.others f (aside_grain live grain f aside);
           header = λ image left. (each image left).header;
         };
-        logs = λ image left. rests_log shape head batches gate ends voted image named (each image left);
+        logs = λ image left. rests_log live shape head batches gate ends voted image named (each image left);
       }
 
   -- CASE 1: at each moment no image's log changes
-  pub vote_moments : (new : World) → Passes (ChangesFile (grain_file grain) (Tears (ends grain) size) old) old.past new.past → Passes (KeepsLog shape head (log_of batches) old) old.past new.past
-  vote_moments new run = weaker (ChangesFile (grain_file grain) (Tears (ends grain) size) old) (KeepsLog shape head (log_of batches) old) vote_still run
+  pub vote_moments : (new : World) → Passes (ChangesFile (Grain live grain) (Tears (ends grain) size) old) old.past new.past → Passes (KeepsLog live shape head (log_of batches) old) old.past new.past
+  vote_moments new run = weaker (ChangesFile (Grain live grain) (Tears (ends grain) size) old) (KeepsLog live shape head (log_of batches) old) vote_still run
 
   -- and after Ok the versions stand too
-  pub vote_yes : (new : World) (versions : List Version) → ChangesFile (grain_file grain) (Tears (ends grain) size) old (moment_of new)
-      → ((image : List ℕ) → MayLeave (new.disk (grain_file grain)) image → places.VersionsStand image (ends grain) versions) → AreOfType shape grain versions → AllByRecursion VersionFits versions
-      → ends grain + length (spelling_of_versions versions) < 2 ^ 63 → EachImage (IsAtRest shape head batches gate ends (voted ++ voted_from grain (ends grain) versions)) new.disk
+  pub vote_yes : (new : World) (versions : List Version) → ChangesFile (Grain live grain) (Tears (ends grain) size) old (moment_of new)
+      → ((image : List ℕ) → MayLeave (new.disk (Grain live grain)) image → places.VersionsStand image (ends grain) versions) → AreOfType shape grain versions → AllByRecursion VersionFits versions
+      → ends grain + length (spelling_of_versions versions) < 2 ^ 63 → EachImage (IsAtRest live shape head batches gate ends (voted ++ voted_from grain (ends grain) versions)) new.disk
   vote_yes new versions changes stand typed fits low image left =
       let rests = vote_rests (moment_of new) changes image left in
       record {
@@ -136,6 +135,6 @@ module _ (shape : Shape) (head : List ℕ) (batches : List (List Commit)) (gate 
         blocks = rests.blocks;
         whole = rests.whole;
         long = rests.long;
-        stand = both_parts (StandsIn shape image) voted (voted_from grain (ends grain) versions) rests.stand
-            (stand_named shape image grain (ends grain) versions (stand (image (grain_file grain)) (left (grain_file grain))) typed fits low);
+        stand = both_parts (StandsIn live shape image) voted (voted_from grain (ends grain) versions) rests.stand
+            (stand_named live shape image grain (ends grain) versions (stand (image (Grain live grain)) (left (Grain live grain))) typed fits low);
       }

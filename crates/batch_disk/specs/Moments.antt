@@ -3,24 +3,24 @@ use Rattle.std.specs.Prelude.{◌≡◌, ◌⊎◌, ℕ, List, ◌++◌, take}
 use Rattle.base_types.specs.declared.shapes.Shape.{Shape}
 use Rattle.host_trait.specs.declared.channels.FileId.{FileId}
 use Rattle.host_trait.specs.World.{World, Moment}
-use Rattle.log_reading.specs.Steps.{live_slot, manager}
+use Rattle.host_trait.specs.declared.channels.FileId.TheVariants.{Manager}
 use Rattle.promise_spec.specs.Records.{Commit}
 use Rattle.promise_spec.specs.Logs.{IsLog}
 use Rattle.promise_spec.specs.Crashes.{IsAside}
 use Rattle.batch_disk.specs.Resting.{EachImage}
 
 -- nothing is put out, the files that a run leaves alone are as they were, and each image has this header
-pub record LeavesRest (head : List ℕ) (old : World) (m : Moment) : Type 0 where
+pub record LeavesRest (live : ℕ) (head : List ℕ) (old : World) (m : Moment) : Type 0 where
   pub output : m.output ≡ old.output
-  pub aside : (file : FileId) → IsAside live_slot file → m.disk file ≡ old.disk file
-  pub header : EachImage (λ image. take 15 (image manager) ≡ head) m.disk
+  pub aside : (file : FileId) → IsAside live file → m.disk file ≡ old.disk file
+  pub header : EachImage (λ image. take 15 (image (Manager live)) ≡ head) m.disk
 
 -- and each image's log is this one
-pub record KeepsLog (shape : Shape) (head : List ℕ) (log : List Commit) (old : World) (m : Moment) : Type 0 where
-  pub rest : LeavesRest head old m
-  pub logs : EachImage (λ image. IsLog live_slot shape image log) m.disk
+pub record KeepsLog (live : ℕ) (shape : Shape) (head : List ℕ) (log : List Commit) (old : World) (m : Moment) : Type 0 where
+  pub rest : LeavesRest live head old m
+  pub logs : EachImage (λ image. IsLog live shape image log) m.disk
 
 -- or each image's log is this one, or it and the whole batch
-pub record IsSeam (shape : Shape) (head : List ℕ) (log batch : List Commit) (old : World) (m : Moment) : Type 0 where
-  pub rest : LeavesRest head old m
-  pub logs : EachImage (λ image. IsLog live_slot shape image log ⊎ IsLog live_slot shape image (log ++ batch)) m.disk
+pub record IsSeam (live : ℕ) (shape : Shape) (head : List ℕ) (log batch : List Commit) (old : World) (m : Moment) : Type 0 where
+  pub rest : LeavesRest live head old m
+  pub logs : EachImage (λ image. IsLog live shape image log ⊎ IsLog live shape image (log ++ batch)) m.disk

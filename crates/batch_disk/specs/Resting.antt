@@ -1,4 +1,4 @@
--- What each image has between two steps that write a batch.
+-- What each image has between two steps that write a batch, where this slot is live.
 use Rattle.std.specs.Prelude.{◌≡◌, ◌≢◌, ℕ, ◌+◌, ◌≤◌, max, if◌then◌else◌, List, [], ◌∷◌, length, map, take, drop, slice_index, slice_get, Some, None}
 use Rattle.std.specs.List.{flat_map, AllByRecursion}
 use Rattle.base_types.specs.declared.calls.GrainId.{GrainId}
@@ -7,8 +7,7 @@ use Rattle.base_types.specs.declared.calls.Value.{Value}
 use Rattle.base_types.specs.declared.shapes.Shape.{Shape}
 use Rattle.base_types.specs.declared.stores.Place.{Place}
 use Rattle.base_types.specs.declared.stores.Version.{Version}
-use Rattle.host_trait.specs.declared.channels.FileId.{FileId}
-use Rattle.host_trait.specs.declared.channels.FileId.TheVariants.{Grain}
+use Rattle.host_trait.specs.declared.channels.FileId.TheVariants.{Manager, Grain}
 use Rattle.host_trait.specs.Files.{same_grain}
 use Rattle.host_trait.specs.World.{Disk, Image, IsImage}
 use Rattle.gate_block.specs.Log.{LogsUpTo}
@@ -16,13 +15,8 @@ use Rattle.grain_log.specs.Places.{places_from}
 use Rattle.grain_log.specs.Reads.{fields_of}
 use Rattle.commit_log.specs.declared.records.Written.{Written}
 use Rattle.log_reading.specs.Blocks.{header_damage}
-use Rattle.log_reading.specs.Steps.{live_slot, manager}
 use Rattle.promise_spec.specs.Records.{Commit}
 use Rattle.promise_spec.specs.Logs.{magic, WriteStands, IsKept, body_of}
-
--- the file of a grain's versions
-abbrev pub grain_file : GrainId → FileId
-grain_file grain = Grain live_slot grain
 
 -- the records of these batches, one batch behind the other
 abbrev pub log_of : List (List Commit) → List Commit
@@ -81,8 +75,8 @@ pub record Voted : Type 0 where
   pub state : List Value
 
 -- it stands in the image
-abbrev pub StandsIn : Shape → Image → Voted → Type 0
-StandsIn shape image v = WriteStands live_slot shape image v.unit v.write v.state
+abbrev pub StandsIn : ℕ → Shape → Image → Voted → Type 0
+StandsIn live shape image v = WriteStands live shape image v.unit v.write v.state
 
 -- none of these versions is in the grain's file
 abbrev pub NotAmong : GrainId → List Voted → Type 0
@@ -104,18 +98,19 @@ AreOfType shape grain versions = AllByRecursion (λ v. fields_of (slice_get shap
 
 -- ---- between two steps
 
--- What no image decides: the header is a silo's, a batch has at most 64 records, and all that these batches name ends at most at
--- these ends.
-pub record PlacesAreNamed (head : List ℕ) (batches : List (List Commit)) (ends : GrainId → ℕ) : Type 0 where
+-- What no image decides: the slot is one that may be live, the header is a silo's, a batch has at most 64 records, and all that
+-- these batches name ends at most at these ends.
+pub record PlacesAreNamed (live : ℕ) (head : List ℕ) (batches : List (List Commit)) (ends : GrainId → ℕ) : Type 0 where
+  pub slot : live ≡ 0
   pub silo : BeginsSilo head
   pub sizes : AllByRecursion (λ batch. length batch ≤ 64) batches
   pub below : AreBelow ends (log_of batches)
 
 -- What each image has: this header; the log of these batches up to this closed gate, each record whole; grain files that go
 -- on to these ends at least; and the versions that the votes of the open batch wrote.
-pub record IsAtRest (shape : Shape) (head : List ℕ) (batches : List (List Commit)) (gate : ℕ) (ends : GrainId → ℕ) (voted : List Voted) (image : Image) : Type 0 where
-  pub header : take 15 (image manager) ≡ head
-  pub blocks : LogsUpTo (map body_of batches) gate (image manager)
-  pub whole : AllByRecursion (IsKept live_slot shape image) (log_of batches)
-  pub long : (g : GrainId) → ends g ≤ length (image (grain_file g))
-  pub stand : AllByRecursion (StandsIn shape image) voted
+pub record IsAtRest (live : ℕ) (shape : Shape) (head : List ℕ) (batches : List (List Commit)) (gate : ℕ) (ends : GrainId → ℕ) (voted : List Voted) (image : Image) : Type 0 where
+  pub header : take 15 (image (Manager live)) ≡ head
+  pub blocks : LogsUpTo (map body_of batches) gate (image (Manager live))
+  pub whole : AllByRecursion (IsKept live shape image) (log_of batches)
+  pub long : (g : GrainId) → ends g ≤ length (image (Grain live g))
+  pub stand : AllByRecursion (StandsIn live shape image) voted

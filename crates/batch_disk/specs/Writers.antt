@@ -6,9 +6,9 @@ use Rattle.base_types.specs.declared.calls.GrainId.{GrainId}
 use Rattle.base_types.specs.declared.shapes.Shape.{Shape}
 use Rattle.host_trait.specs.World.{Disk}
 use Rattle.gate_block.specs.Gates.{IsClosedAt}
-use Rattle.log_reading.specs.Steps.{manager}
+use Rattle.host_trait.specs.declared.channels.FileId.TheVariants.{Manager, Grain}
 use Rattle.promise_spec.specs.Records.{Commit}
-use Rattle.batch_disk.specs.Resting.{EachImage, grain_file, write_end, Voted, PlacesAreNamed, IsAtRest}
+use Rattle.batch_disk.specs.Resting.{EachImage, write_end, Voted, PlacesAreNamed, IsAtRest}
 use Rattle.batch_disk.specs.declared.writer.BatchWriter.{BatchWriter}
 use Rattle.batch_disk.specs.declared.writer.KeptVersion.{KeptVersion}
 
@@ -32,27 +32,33 @@ voted_of batch writer = if writer.batch == batch then kept_of writer else []
 abbrev pub CanCount : BatchWriter → Voted → Type 0
 CanCount writer v = (has_room writer.ends v.write.grain ≡ true) × (write_end v.write < 2 ^ 63)
 
--- the next gate and each end are below 2 to the 63, and each version that is kept can count without memory
+-- the slot is one of two, the next gate and each end are below 2 to the 63, and each version that is kept can count without memory
 pub record IsInBounds (writer : BatchWriter) : Type 0 where
+  pub slot : writer.slot ≤ 1
   pub gate : writer.gate_at < 2 ^ 63
   pub ends : (g : GrainId) → file_end writer g < 2 ^ 63
   pub kept : AllByRecursion (CanCount writer) (kept_of writer)
 
--- What its calls need of the files as they read: they go on to their ends at least, the versions that are kept lie in them,
--- and the next gate is closed, unless a batch is in doubt.
-pub record FitsDisk (writer : BatchWriter) (disk : Disk) : Type 0 where
-  pub long : (g : GrainId) → file_end writer g ≤ length (disk (grain_file g)).seen
-  pub kept : AllByRecursion (λ v. write_end v.write ≤ length (disk (grain_file v.write.grain)).seen) (kept_of writer)
-  pub closed : writer.in_doubt ≡ false → IsClosedAt writer.gate_at (disk manager).seen
+-- What the calls of a writer need of this slot's files as they read: they go on to its ends at least, the versions that are kept
+-- lie in them, and the next gate is closed, unless a batch is in doubt.
+pub record FitsSlot (live : ℕ) (writer : BatchWriter) (disk : Disk) : Type 0 where
+  pub long : (g : GrainId) → file_end writer g ≤ length (disk (Grain live g)).seen
+  pub kept : AllByRecursion (λ v. write_end v.write ≤ length (disk (Grain live v.write.grain)).seen) (kept_of writer)
+  pub closed : writer.in_doubt ≡ false → IsClosedAt writer.gate_at (disk (Manager live)).seen
 
--- What the writer keeps of the folder: its gate and its ends are those of this log, in each image, where what the votes wrote
+-- so do the files of the writer's own slot
+abbrev pub FitsDisk : BatchWriter → Disk → Type 0
+FitsDisk writer disk = FitsSlot writer.slot writer disk
+
+-- What the writer keeps of the folder, where this slot is live: its gate and its ends are those of this log, in each image, where what the votes wrote
 -- stands.
-pub record KeepsDisk (shape : Shape) (head : List ℕ) (batches : List (List Commit)) (writer : BatchWriter) (disk : Disk) : Type 0 where
-  pub named : PlacesAreNamed head batches (file_end writer)
-  pub images : EachImage (IsAtRest shape head batches writer.gate_at (file_end writer) (kept_of writer)) disk
+pub record KeepsDisk (live : ℕ) (shape : Shape) (head : List ℕ) (batches : List (List Commit)) (writer : BatchWriter) (disk : Disk) : Type 0 where
+  pub named : PlacesAreNamed live head batches (file_end writer)
+  pub images : EachImage (IsAtRest live shape head batches writer.gate_at (file_end writer) (kept_of writer)) disk
 
--- gate, ends and doubt are as they were
+-- slot, gate, ends and doubt are as they were
 pub record HasSameEnds (old new : BatchWriter) : Type 0 where
+  pub slot : new.slot ≡ old.slot
   pub gate : new.gate_at ≡ old.gate_at
   pub ends : (g : GrainId) → file_end new g ≡ file_end old g
   pub doubt : new.in_doubt ≡ old.in_doubt

@@ -9,12 +9,12 @@ ghost use Rattle.host_trait.specs.Files.{StaysReady};
 ghost use Rattle.host_trait.specs.World.{Passes};
 ghost use Rattle.host_trait.specs.Runs.{RunsOnFile};
 ghost use Rattle.host_trait.specs.declared.channels.Channel.TheVariants.{File};
+ghost use Rattle.host_trait.specs.declared.channels.FileId.TheVariants.{Grain, Manager};
 ghost use Rattle.grain_log.specs.Places.{spelling_of_versions};
 ghost use Rattle.commit_log.specs.Sealing.{SealHasCause};
 ghost use Rattle.core_model.specs.declared.effects.Effect.{Effect as AnEffect};
-ghost use Rattle.log_reading.specs.Steps.{manager};
 ghost use Rattle.promise_spec.specs.Records.{Commit};
-ghost use Rattle.batch_disk.specs.Resting.{grain_file, log_of, write_end, raised_ends, NotAmong, AreOfType, voted_at, voted_from};
+ghost use Rattle.batch_disk.specs.Resting.{log_of, write_end, raised_ends, NotAmong, AreOfType, voted_at, voted_from};
 ghost use Rattle.batch_disk.specs.Moments.{KeepsLog};
 ghost use Rattle.batch_disk.specs.Writers.{file_end, voted_by, kept_of, voted_of, IsInBounds, FitsDisk, KeepsDisk, HasSameEnds};
 ghost use Rattle.batch_disk.specs.Records.{AreRecordsFor, IsSealable, MayBeLogged, IsAsWritten};
@@ -38,12 +38,13 @@ pub(crate) struct KeptVersion {
     pub(crate) state: Snapshot<State>,
 }
 
-/// Where the log and the grains' files go on, and where the votes of one batch wrote.
+/// In which slot the log and the grains' files are, where they go on, and where the votes of one batch wrote.
 ///
 /// Between two calls each image has the log up to the next gate, and what the votes wrote (`KeepsDisk`). The next gate and the
 /// ends move only when a batch is sealed.
 #[derive(Drop)]
 pub struct BatchWriter {
+    slot: u8,
     gate_at: u64,
     ends: Ends,
     // Whose votes are kept: those of another batch are dropped before any of this one.
@@ -53,10 +54,12 @@ pub struct BatchWriter {
 }
 
 impl BatchWriter {
-    /// A writer that goes on at this closed gate and at these ends, each below 2 to the 63. Takes no memory.
-    pub fn new(alloc: Global, gate_at: u64, ends: Ends) -> BatchWriter
+    /// A writer that goes on in this slot, 0 or 1, at this closed gate and at these ends, each below 2 to the 63. Takes no memory.
+    pub fn new(alloc: Global, slot: u8, gate_at: u64, ends: Ends) -> BatchWriter
+        requires slot { slot ≤ 1 }
         requires gate { gate_at < 2 ^ 63 }
         requires ends { (g : AGrain) → unwrap_or (end_in ends g) 0 < 2 ^ 63 }
+        ensures slot { result.slot ≡ slot }
         ensures gate { result.gate_at ≡ gate_at }
         ensures ends { (g : AGrain) → file_end result g ≡ unwrap_or (end_in ends g) 0 }
         ensures kept { kept_of result ≡ [] }
@@ -64,6 +67,7 @@ impl BatchWriter {
         ensures bounds { IsInBounds result }
     {
         BatchWriter {
+            slot,
             gate_at,
             ends,
             batch: 0,
@@ -135,6 +139,7 @@ impl BatchWriter {
         requires { vec_len self.old.kept < vec_capacity self.old.kept }
         ensures items { self.new.kept.items ≡ self.old.kept.items ++ version ∷ [] }
         ensures space { vec_capacity self.old.kept + vec_len self.new.kept ≤ vec_capacity self.new.kept + vec_len self.old.kept + 1 }
+        ensures slot { self.new.slot ≡ self.old.slot }
         ensures gate { self.new.gate_at ≡ self.old.gate_at }
         ensures doubt { self.new.in_doubt ≡ self.old.in_doubt }
         ensures batch { self.new.batch ≡ self.old.batch }
@@ -149,6 +154,7 @@ impl BatchWriter {
         requires space { vec_len self.old.kept + length versions.now ≤ vec_capacity self.old.kept }
         requires each { length places.now ≡ length versions.now }
         ensures kept { kept_of self.new ≡ kept_of self.old ++ voted_at grain places.now versions.now }
+        ensures slot { self.new.slot ≡ self.old.slot }
         ensures gate { self.new.gate_at ≡ self.old.gate_at }
         ensures doubt { self.new.in_doubt ≡ self.old.in_doubt }
         ensures batch { self.new.batch ≡ self.old.batch }
@@ -182,21 +188,21 @@ impl BatchWriter {
 
         // One write and one sync at most, at the file's end; no other file and no output changes.
         ensures run { IsTrue H.tells
-            → RunsOnFile (grain_file grain) (Tears (file_end self.old grain) (length (spelling_of_versions versions.now))) 1 (H.world host.old) (H.world host.new) }
+            → RunsOnFile (Grain self.old.slot grain) (Tears (file_end self.old grain) (length (spelling_of_versions versions.now))) 1 (H.world host.old) (H.world host.new) }
 
         // At each moment each image has the log that it had.
         ensures still { IsTrue H.tells → (shape : Shape) (head : List ℕ) (batches : List (List Commit)) → NotAmong grain (voted_of batch self.old)
-            → KeepsDisk shape head batches self.old (H.world host.old).disk
-            → Passes (KeepsLog shape head (log_of batches) (H.world host.old)) (H.world host.old).past (H.world host.new).past }
+            → KeepsDisk self.old.slot shape head batches self.old (H.world host.old).disk
+            → Passes (KeepsLog self.old.slot shape head (log_of batches) (H.world host.old)) (H.world host.old).past (H.world host.new).past }
 
         // After every answer the log is where the writer keeps it, and what the votes wrote stands.
         ensures keeps { IsTrue H.tells → (shape : Shape) (head : List ℕ) (batches : List (List Commit)) → NotAmong grain (voted_of batch self.old)
-            → AreOfType shape grain versions.now → KeepsDisk shape head batches self.old (H.world host.old).disk
-            → KeepsDisk shape head batches self.new (H.world host.new).disk }
+            → AreOfType shape grain versions.now → KeepsDisk self.old.slot shape head batches self.old (H.world host.old).disk
+            → KeepsDisk self.old.slot shape head batches self.new (H.world host.new).disk }
 
         // A vote of yes: they are on disk, and are kept. No other vote is kept more, and what is kept is this batch's.
-        ensures there { IfOk result (λ yes. IsTrue yes → IsTrue H.tells → (H.world host.new).disk (grain_file grain)
-            ≡ settled (overlaid ((H.world host.old).disk (grain_file grain)).seen (file_end self.old grain) (spelling_of_versions versions.now))) }
+        ensures there { IfOk result (λ yes. IsTrue yes → IsTrue H.tells → (H.world host.new).disk (Grain self.old.slot grain)
+            ≡ settled (overlaid ((H.world host.old).disk (Grain self.old.slot grain)).seen (file_end self.old grain) (spelling_of_versions versions.now))) }
         ensures once { IfOk result (λ yes. IsTrue yes → IsTrue H.tells → (H.world host.new).syncs ≡ (H.world host.old).syncs + 1) }
         ensures voted { IfOk result (λ yes. voted_of batch self.new
             ≡ (if yes then voted_of batch self.old ++ voted_from grain (file_end self.old grain) versions.now else voted_of batch self.old)) }
@@ -206,7 +212,7 @@ impl BatchWriter {
 
         // A vote of no is a fault of the grain's file, and of nothing else.
         ensures yes { IfOk result (λ yes. IsTrue yes → NoneFailed (H.faults host.old) (H.faults host.new)) }
-        ensures no { IfOk result (λ yes. yes ≡ false → FailedOn (File (grain_file grain)) (H.faults host.old) (H.faults host.new)) }
+        ensures no { IfOk result (λ yes. yes ≡ false → FailedOn (File (Grain self.old.slot grain)) (H.faults host.old) (H.faults host.new)) }
         ensures calm { OnErr result (NoneFailed (H.faults host.old) (H.faults host.new)) }
         ensures unwritten { OnErr result (IsTrue H.tells → H.world host.new ≡ H.world host.old) }
 
@@ -216,9 +222,12 @@ impl BatchWriter {
     {
         let alloc = *self.kept.allocator();
         let at = self.file_end(grain);
+        let file = FileId::Grain {
+            slot: self.slot,
+            grain,
+        };
         self.go_to(batch);
         self.make_room(grain, versions.len())?;
-        let file = FileId::Grain { slot: 0, grain };
         match write_versions(alloc, host, file, at, versions) {
             Ok(places) => {
                 let written = versions.as_slice();
@@ -251,6 +260,7 @@ impl BatchWriter {
     fn count_writes(&mut self, writes: &[Written])
         requires bounds { IsInBounds self.old }
         requires can { AllByRecursion (λ w. (has_room self.old.ends w.grain ≡ true) × (write_end w < 2 ^ 63)) writes.now }
+        ensures slot { self.new.slot ≡ self.old.slot }
         ensures gate { self.new.gate_at ≡ self.old.gate_at }
         ensures doubt { self.new.in_doubt ≡ self.old.in_doubt }
         ensures kept { self.new.kept ≡ self.old.kept }
@@ -268,6 +278,7 @@ impl BatchWriter {
     fn count_records(&mut self, records: &[CommitRecord])
         requires bounds { IsInBounds self.old }
         requires can { AllByRecursion (λ r. AllByRecursion (λ w. (has_room self.old.ends w.grain ≡ true) × (write_end w < 2 ^ 63)) r.writes) records.now }
+        ensures slot { self.new.slot ≡ self.old.slot }
         ensures gate { self.new.gate_at ≡ self.old.gate_at }
         ensures doubt { self.new.in_doubt ≡ self.old.in_doubt }
         ensures kept { self.new.kept ≡ self.old.kept }
@@ -291,25 +302,26 @@ impl BatchWriter {
 
         // Two writes and two syncs at most, of the manager file from the gate on; no other file and no output changes.
         ensures run { IsTrue H.tells
-            → RunsOnFile manager (Tears self.old.gate_at (length work.block + 1)) 2 (H.world host.old) (H.world host.new) }
+            → RunsOnFile (Manager self.old.slot) (Tears self.old.gate_at (length work.block + 1)) 2 (H.world host.old) (H.world host.new) }
         ensures twice { IsTrue H.tells → (next : ℕ) → result ≡ Sealing.Sealed next → (H.world host.new).syncs ≡ (H.world host.old).syncs + 2 }
 
         // The seam: at each moment each image has the log that it had, or it with the records of these units, all of them whole.
         ensures seals { IsTrue H.tells → (shape : Shape) (head : List ℕ) (batches : List (List Commit)) (batch : ℕ) (effects : List AnEffect)
             → AreRecordsFor (voted_of batch self.old) effects work.records
             → AllByRecursion (MayBeLogged shape) effects → AllByRecursion (IsAsWritten (voted_of batch self.old)) effects
-            → KeepsDisk shape head batches self.old (H.world host.old).disk
-            → SealsAs shape head batches effects work.records result self.old self.new (H.world host.old) (H.world host.new) }
+            → KeepsDisk self.old.slot shape head batches self.old (H.world host.old).disk
+            → SealsAs self.old.slot shape head batches effects work.records result self.old self.new (H.world host.old) (H.world host.new) }
         ensures after { WriterAfter result work.records self.old self.new }
+        ensures slot { self.new.slot ≡ self.old.slot }
 
         // Not sealed and in doubt are faults of the manager file, and of nothing else.
-        ensures cause { SealHasCause result self.old.gate_at (length work.block) (H.faults host.old) (H.faults host.new) }
+        ensures cause { SealHasCause self.old.slot result self.old.gate_at (length work.block) (H.faults host.old) (H.faults host.new) }
 
         ensures bounds { IsInBounds self.new }
         ensures fits { IsTrue H.tells → FitsDisk self.new (H.world host.new).disk }
         ensures ready { StaysReady (H.is_ready host.old) (H.is_ready host.new) }
     {
-        match seal(host, self.gate_at, work.block.as_slice()) {
+        match seal(host, self.slot, self.gate_at, work.block.as_slice()) {
             Sealing::Sealed { next_gate } => {
                 self.gate_at = next_gate;
                 self.count_records(work.records.as_slice());

@@ -6,11 +6,12 @@ use Rattle.host_trait.specs.declared.channels.FileId.{FileId}
 use Rattle.host_trait.specs.declared.channels.FileId.TheVariants.{Program as ProgramFile, Manager, Grain}
 use Rattle.host_trait.specs.Disk.{FileState, MayLeave}
 use Rattle.host_trait.specs.World.{World, Disk, Moment, Image, IsImage, moment_of, last_of}
-use Rattle.silo_spec.specs.Silos.{program_file, HasProgram}
+use Rattle.silo_spec.specs.Silos.{HasProgram}
+use Rattle.silo_spec.specs.Slots.{IsLive}
 use Rattle.promise_spec.specs.Programs.{Program, shape_in}
 use Rattle.promise_spec.specs.Records.{Commit, new_silo}
 use Rattle.promise_spec.specs.Serial.{IsSerial}
-use Rattle.promise_spec.specs.Logs.{live_slot, IsLog}
+use Rattle.promise_spec.specs.Logs.{magic, IsLog}
 use Rattle.promise_spec.specs.Images.{AreNumbered, IsSoundFolder}
 use Rattle.promise_spec.specs.Moments.{IsImageOf, IsLongest}
 use Rattle.promise_spec.specs.Causes.{RunHasDoubt}
@@ -125,11 +126,14 @@ module _ (p : Program) (n seed : ℕ) (r : Observed) (c : Course) (mid : World) 
   serial folder = opening_serial p then_seen then_course o folder
 
   -- each image has the program, as the program file is left alone
-  has_program : (image : Image) → IsImageOf (moments r c) image → HasProgram p.text (image program_file)
+  has_program : (image : Image) → IsImageOf (moments r c) image → HasProgram p.text (image (ProgramFile c.live))
   unfolding with_program
   has_program image of =
-      (o.folder.whole (with_program o.some image) mixed (o.opened o.some o.possible).silo).program
+      (o.folder.whole (with_program o.some image) mixed c.live live).program
     where
+      live : IsLive magic c.live (with_program o.some image)
+      live = record { slot = (o.opened o.some o.possible).is_live.slot; silo = (o.opened o.some o.possible).is_live.silo }
+
       then_of : IsImageOf (moments then_seen then_course) image
       then_of = to_image image of
 
@@ -143,13 +147,13 @@ module _ (p : Program) (n seed : ℕ) (r : Observed) (c : Course) (mid : World) 
   order_is : order c ≡ c.opening ++ commits_of j.journal
   order_is = ap (λ (l : List Commit). c.opening ++ l) j.commits
 
-  kept_in : (image : Image) → (of : IsImageOf (moments then_seen then_course) image) → KeepsJournal p c.opening r.old.output j.journal of.moment image
+  kept_in : (image : Image) → (of : IsImageOf (moments then_seen then_course) image) → KeepsJournal c.live p c.opening r.old.output j.journal of.moment image
   kept_in image of = (j.kept of.moment of.member image of.left).0
 
-  longest : IsLongest p (moments then_seen then_course) (order c)
+  longest : IsLongest c.live p (moments then_seen then_course) (order c)
   longest =
-      subst (IsLongest p (moments then_seen then_course)) (sym order_is)
-      (journaled.longest p c.opening r.old.output j.journal (moments then_seen then_course) j.last j.left (subst (IsLog live_slot (shape_in p) j.last) order_is j.longest)
+      subst (IsLongest c.live p (moments then_seen then_course)) (sym order_is)
+      (journaled.longest c.live p c.opening r.old.output j.journal (moments then_seen then_course) j.last j.left (subst (IsLog c.live (shape_in p) j.last) order_is j.longest)
       (λ m there image left. (j.kept m there image left).0))
 
   pub ordered : IsOrdered p r c
@@ -179,10 +183,10 @@ module _ (p : Program) (n seed : ℕ) (r : Observed) (c : Course) (mid : World) 
     chain = λ one other of_one of_other.
         (let a = to_image one of_one in
         let b = to_image other of_other in
-        journaled.chained p c.opening r.old.output j.journal a.moment b.moment one other (kept_in one a) (kept_in other b));
+        journaled.chained c.live p c.opening r.old.output j.journal a.moment b.moment one other (kept_in one a) (kept_in other b));
     whole = λ image of.
         (let a = to_image image of in
-        journaled.whole p c.opening r.old.output j.journal a.moment image (kept_in image a) (has_program image of)
+        journaled.whole c.live p c.opening r.old.output j.journal a.moment image (kept_in image a) (has_program image of)
         (subst (AreNumbered 1) order_is (order_numbered p r c is numbered)));
     keeps = λ image of.
         (let k = kept_in image (to_image image of) in
@@ -199,7 +203,7 @@ module _ (p : Program) (n seed : ℕ) (r : Observed) (c : Course) (mid : World) 
   pub sound : IsSoundFolder p r.old → StaySound p r c
   sound folder image of =
       let a = to_image image of in
-      journaled.sound p c.opening r.old.output j.journal a.moment image (kept_in image a) (has_program image of)
+      journaled.sound c.live p c.opening r.old.output j.journal a.moment image (kept_in image a) (has_program image of)
       (subst (IsSerial p.types (new_silo p.types).states) order_is (order_serial p r c is (serial folder)))
       (subst (AreNumbered 1) order_is (order_numbered p r c is numbered))
 
@@ -211,12 +215,12 @@ module _ (p : Program) (n seed : ℕ) (r : Observed) (c : Course) (mid : World) 
 
   -- ---- the exit
 
-  logs : (image : Image) → IsImage r.new.disk image → (log : List Commit) × IsLog live_slot (shape_in p) image log × ((log ≡ order c) ⊎ ((begins : ℕ) × ((core_end p c).manager.doubt ≡ Some begins)))
+  logs : (image : Image) → IsImage r.new.disk image → (log : List Commit) × IsLog c.live (shape_in p) image log × ((log ≡ order c) ⊎ ((begins : ℕ) × ((core_end p c).manager.doubt ≡ Some begins)))
   logs image left =
       let x = s.lasts.leaves.logs image (at_exit image left) in
       (x.log, x.is, elim x.which [ inl whole ↦ inl whole | inr lacks ↦ inr (lacks.begins, lacks.doubt) ])
 
-  doubted : (begins : ℕ) → (core_end p c).manager.doubt ≡ Some begins → ImagesMayDiffer live_slot r c (core_end p c)
+  doubted : (begins : ℕ) → (core_end p c).manager.doubt ≡ Some begins → ImagesMayDiffer c.live r c (core_end p c)
   doubted begins d =
       let left : RunHasDoubt (core_run p c) = doubt_left (core_run p c) begins d in
       record {
@@ -225,14 +229,14 @@ module _ (p : Program) (n seed : ℕ) (r : Observed) (c : Course) (mid : World) 
         told = λ e m doubtful. doubt-told p.types (lines r) (opening_standing p c).states (opening_standing p c).next (core_end p c) (known_of p r c is) e (subst (λ l. Member e l) s.settled m) doubtful;
       }
 
-  doubtful_batch : (one other : Image) (a b : List Commit) → IsImage r.new.disk one → IsImage r.new.disk other → IsLog live_slot (shape_in p) one a → IsLog live_slot (shape_in p) other b → a ≢ b
+  doubtful_batch : (one other : Image) (a b : List Commit) → IsImage r.new.disk one → IsImage r.new.disk other → IsLog c.live (shape_in p) one a → IsLog c.live (shape_in p) other b → a ≢ b
       → (begins : ℕ) × ((core_end p c).manager.doubt ≡ Some begins)
   doubtful_batch one other a b left left_too is_a is_b differ =
       let x = logs one left in
       let y = logs other left_too in
       elim x.2 [
         | inl whole ↦ elim y.2 [
-          | inl whole_too ↦ absurd (differ (one_log (shape_in p) one a x.0 is_a x.1 ∙ whole ∙ sym whole_too ∙ one_log (shape_in p) other y.0 b y.1 is_b))
+          | inl whole_too ↦ absurd (differ (one_log c.live c.live (shape_in p) one a x.0 is_a x.1 ∙ whole ∙ sym whole_too ∙ one_log c.live c.live (shape_in p) other y.0 b y.1 is_b))
           | inr lacks ↦ lacks
         ]
         | inr lacks ↦ lacks
@@ -268,10 +272,10 @@ module _ (p : Program) (n seed : ℕ) (r : Observed) (c : Course) (mid : World) 
   }
 
   -- where no batch is in doubt each image has the whole order
-  pub whole_order : (RunHasDoubt (core_run p c) → ⊥) → (image : Image) → IsImage mid.disk image → IsLog live_slot (shape_in p) image (order c)
+  pub whole_order : (RunHasDoubt (core_run p c) → ⊥) → (image : Image) → IsImage mid.disk image → IsLog c.live (shape_in p) image (order c)
   whole_order sure image left =
       let x = logs image (subst (λ (d : Disk). IsImage d image) (sym s.disk) left) in
       elim x.2 [
-        | inl whole ↦ subst (λ (l : List Commit). IsLog live_slot (shape_in p) image l) whole x.1
+        | inl whole ↦ subst (λ (l : List Commit). IsLog c.live (shape_in p) image l) whole x.1
         | inr lacks ↦ absurd (sure (doubt_left (core_run p c) lacks.0 lacks.1))
       ]

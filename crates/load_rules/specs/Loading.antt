@@ -4,7 +4,7 @@ use Rattle.core_model.specs.CoreState.{Member}
 use Rattle.host_trait.specs.declared.channels.Channel.{Channel}
 use Rattle.host_trait.specs.World.{World, Moment, Image, IsImage}
 use Rattle.promise_spec.specs.Programs.{Program, shape_in}
-use Rattle.promise_spec.specs.Logs.{IsLog, live_slot}
+use Rattle.promise_spec.specs.Logs.{IsLog}
 use Rattle.promise_spec.specs.Causes.{NoneRose, RunHasDoubt, syncs_of, most_syncs_of}
 use Rattle.promise_spec.specs.Endings as ending
 use Rattle.promise_spec.specs.Courses.{Observed, Course, order, lines, core_run, core_end}
@@ -25,7 +25,7 @@ turned_course c turns = record c { late = turns; entries = []; rest = [] }
 pub record HasWhole (p : Program) (c : Course) (mid : World) : Type 0 where
   pub image : Image
   pub left : IsImage mid.disk image
-  pub has : IsLog live_slot (shape_in p) image (order c)
+  pub has : IsLog c.live (shape_in p) image (order c)
 
 -- What was printed behind the turns: nothing, or a first part of the summary, where no batch is in doubt.
 abbrev pub MayPrint : Program → Observed → Course → List Moment → Type 0

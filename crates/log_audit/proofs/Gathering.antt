@@ -7,8 +7,9 @@ use Rattle.gate_block.specs.Log.{first_gate}
 use Rattle.commit_log.specs.declared.records.CommitRecord.{CommitRecord}
 use Rattle.commit_log.specs.declared.records.Written.{Written}
 use Rattle.host_trait.specs.declared.channels.FileId.{FileId}
+use Rattle.host_trait.specs.declared.channels.FileId.TheVariants.{Manager}
 use Rattle.log_reading.specs.Blocks.{header_damage, behind_header, records_in_file}
-use Rattle.log_reading.specs.Steps.{next_in, manager, records_from, with_records}
+use Rattle.log_reading.specs.Steps.{next_in, records_from, with_records}
 use Rattle.log_reading.specs.declared.faults.FolderFault.{FolderFault}
 use Rattle.log_reading.proofs.Following.{Follows, follows_begins, follows_on, follows_ends}
 use Rattle.log_reading.proofs.Errors.{failed}
@@ -64,8 +65,8 @@ module _ (shape : Shape) (file : List ℕ) where
   grains_ended gate kept h end records is = h.are ∙ ap (λ (l : List CommitRecord). grains_added [] (grains_recorded l)) (all_read shape file h.records gate h.follows end records is)
 
   -- a fault of reading the log
-  pub log_fault : {A : Type 0} (e : FolderFault) → ((at : FileId) (place : ℕ) → failed {A = A} e ≡ failed (FolderFault.Damaged at place) → records_in_file shape file ≡ Err place)
-      → ((at : FileId) → failed {A = A} e ≡ failed (FolderFault.Failed at) → at ≡ manager) → IsLogFault shape file e
-  log_fault (FolderFault.Damaged at place) damaged fails = damaged at place refl
-  log_fault (FolderFault.Failed at) damaged fails = fails at refl
-  log_fault FolderFault.Memory damaged fails = tt
+  pub log_fault : {A : Type 0} (slot : ℕ) (e : FolderFault) → ((at : FileId) (place : ℕ) → failed {A = A} e ≡ failed (FolderFault.Damaged at place) → records_in_file shape file ≡ Err place)
+      → ((at : FileId) → failed {A = A} e ≡ failed (FolderFault.Failed at) → at ≡ Manager slot) → IsLogFault slot shape file e
+  log_fault slot (FolderFault.Damaged at place) damaged fails = damaged at place refl
+  log_fault slot (FolderFault.Failed at) damaged fails = fails at refl
+  log_fault slot FolderFault.Memory damaged fails = tt

@@ -1,7 +1,8 @@
 -- Why an opened folder couldn't be read again, as a refusal.
-use Rattle.std.proofs.Common.{◌≡◌, inl, inr, List, [], ◌∷◌, ◌++◌, map, Ok, Err, sym, ◌∙◌, ap, subst}
+use Rattle.std.proofs.Common.{◌≡◌, inl, inr, ℕ, List, [], ◌∷◌, ◌++◌, map, Ok, Err, sym, ◌∙◌, ap, subst}
 use Rattle.std.specs.List.{AllByRecursion}
 use Rattle.base_types.specs.declared.shapes.Shape.{Shape}
+use Rattle.host_trait.specs.declared.channels.FileId.TheVariants.{Manager}
 use Rattle.host_trait.specs.World.{Image}
 use Rattle.commit_log.specs.declared.records.CommitRecord.{CommitRecord}
 use Rattle.commit_log.specs.declared.records.Named.{Named}
@@ -11,10 +12,10 @@ use Rattle.log_reading.proofs.Summing.{named_by-append}
 use Rattle.silo_opening.specs.Opened.{in_folder, ending_of}
 use Rattle.promise_spec.specs.Programs.{Program, shape_in}
 use Rattle.promise_spec.specs.Records.{Commit}
-use Rattle.promise_spec.specs.Logs.{live_slot}
 use Rattle.promise_spec.specs.Openings.{Reading, Reads, named_by, named_by_grain, opened_as}
 use Rattle.promise_spec.specs.Refusals.{IsRefusedBy}
 use Rattle.promise_spec.proofs.Lists.{each_of, in_append}
+use Rattle.promise_spec.proofs.Openings.{reads_is_live}
 use Rattle.promise_spec.proofs.ReadVersions.{IsThere, all_of_order, none_missing}
 use Rattle.log_audit.specs.Unread.{IsVersionFault, IsRereadFault}
 use Rattle.log_audit.proofs.Reported.{HasParts}
@@ -30,24 +31,24 @@ among front some back n there =
     subst (λ (l : List Named). Member n l) (sym (named_by-append front (some ++ back) ∙ ap (λ (l : List Named). named_by front ++ l) (named_by-append some back)))
     (in_append n (named_by front) (named_by some ++ named_by back) (inr (in_append n (named_by some) (named_by back) (inl there))))
 
-pub fault_among : (shape : Shape) (image : Image) (front some back : List CommitRecord) (e : FolderFault) → IsVersionFault shape image some e → IsVersionFault shape image (front ++ (some ++ back)) e
-fault_among shape image front some back (FolderFault.Damaged at place) f = (f.0, among front some back f.0 f.1, f.2)
-fault_among shape image front some back (FolderFault.Failed at) f = (f.0, among front some back f.0 f.1, f.2)
-fault_among shape image front some back FolderFault.Memory f = tt
+pub fault_among : (live : ℕ) (shape : Shape) (image : Image) (front some back : List CommitRecord) (e : FolderFault) → IsVersionFault live shape image some e → IsVersionFault live shape image (front ++ (some ++ back)) e
+fault_among live shape image front some back (FolderFault.Damaged at place) f = (f.0, among front some back f.0 f.1, f.2)
+fault_among live shape image front some back (FolderFault.Failed at) f = (f.0, among front some back f.0 f.1, f.2)
+fault_among live shape image front some back FolderFault.Memory f = tt
 
-module _ (image : Image) (p : Program) (log : List Commit) (parts : HasParts image p log) where
-  all_there : AllByRecursion (IsThere (shape_in p) image) (named_by parts.records)
-  all_there = all_of_order (IsThere (shape_in p) image) (named_by parts.records) (none_missing (shape_in p) image (named_by_grain (named_by parts.records)) parts.whole)
+module _ (image : Image) (live : ℕ) (p : Program) (log : List Commit) (parts : HasParts image live p log) where
+  all_there : AllByRecursion (IsThere live (shape_in p) image) (named_by parts.records)
+  all_there = all_of_order (IsThere live (shape_in p) image) (named_by parts.records) (none_missing live (shape_in p) image (named_by_grain (named_by parts.records)) parts.whole)
 
-  refused_by : (e : FolderFault) → IsRereadFault (shape_in p) image parts.records e → IsRefusedBy image (Reads p log) (ending_of (in_folder e))
-  refused_by (FolderFault.Damaged at place) (inl here) = absurd (let no : Err place ≡ Ok parts.records = sym here ∙ parts.read in cc)
-  refused_by (FolderFault.Damaged at place) (inr f) =
-      let there = each_of (IsThere (shape_in p) image) (named_by parts.records) f.0 all_there f.1 in
+  refused_by : live ≡ 0 → (e : FolderFault) → IsRereadFault live (shape_in p) image parts.records e → IsRefusedBy image (Reads live p log) (ending_of (in_folder e))
+  refused_by first (FolderFault.Damaged at place) (inl here) = absurd (let no : Err place ≡ Ok parts.records = sym here ∙ parts.read in cc)
+  refused_by first (FolderFault.Damaged at place) (inr f) =
+      let there = each_of (IsThere live (shape_in p) image) (named_by parts.records) f.0 all_there f.1 in
       absurd (let no : Err place ≡ Ok there.0 = sym f.2 ∙ there.1 in cc)
-  refused_by (FolderFault.Failed at) (inl here) = inl (inl here)
-  refused_by (FolderFault.Failed at) (inr f) =
+  refused_by first (FolderFault.Failed at) (inl here) = inl (inl (here ∙ ap (λ (slot : ℕ). Manager slot) first))
+  refused_by first (FolderFault.Failed at) (inr f) =
       inr (f.0.written.grain, f.2, record { program = p; records = parts.records; first = parts.program; then_log = parts.read; named = in_map (λ (n : Named). n.written.grain) f.0 (named_by parts.records) f.1 })
-  refused_by FolderFault.Memory f = tt
+  refused_by first FolderFault.Memory f = tt
 
-  pub refused_again : opened_as live_slot image ≡ Reads p log → (e : FolderFault) → IsRereadFault (shape_in p) image parts.records e → IsRefusedBy image (opened_as live_slot image) (ending_of (in_folder e))
-  refused_again reads e f = subst (λ (r : Reading). IsRefusedBy image r (ending_of (in_folder e))) (sym reads) (refused_by e f)
+  pub refused_again : opened_as image ≡ Reads live p log → (e : FolderFault) → IsRereadFault live (shape_in p) image parts.records e → IsRefusedBy image (opened_as image) (ending_of (in_folder e))
+  refused_again reads e f = subst (λ (r : Reading). IsRefusedBy image r (ending_of (in_folder e))) (sym reads) (refused_by (reads_is_live image live p log reads).slot e f)

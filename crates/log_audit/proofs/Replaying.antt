@@ -26,7 +26,6 @@ use Rattle.script_meaning.specs.Play.{Played, found_in, initial_of, play}
 use Rattle.promise_spec.specs.Records.{Commit, States, written, put_state, after_writes, log_start}
 use Rattle.promise_spec.specs.Serial.{IsSerial, Replays, depth_of, played}
 use Rattle.promise_spec.specs.Family.{states_after}
-use Rattle.promise_spec.specs.Logs.{live_slot}
 use Rattle.promise_spec.specs.Openings.{commit_of}
 use Rattle.log_audit.specs.declared.replay.Bad.{Bad}
 use Rattle.log_audit.specs.Replaying.{same_write, agree, as_commits, FailsToReplay, ReplaysTo, FailsFirst, AllReplayTo, IsFirstFailure}
@@ -142,12 +141,12 @@ after_both : (states : States) (a b : List Commit) → states_after states (a ++
 after_both states [] b = refl
 after_both states (c ∷ a) b = after_both (after_writes states c) a b
 
-module _ (types : ProgramTree) (shape : Shape) (image : Image) (start : States) where
+module _ (types : ProgramTree) (live : ℕ) (shape : Shape) (image : Image) (start : States) where
   abbrev commits : List CommitRecord → List Commit
-  commits records = as_commits shape image records
+  commits records = as_commits live shape image records
 
   abbrev commit : CommitRecord → Commit
-  commit r = commit_of live_slot shape image r
+  commit r = commit_of live shape image r
 
   commits_both : (a b : List CommitRecord) → commits (a ++ b) ≡ commits a ++ commits b
   commits_both a b = map-append commit a b
@@ -199,36 +198,36 @@ module _ (types : ProgramTree) (shape : Shape) (image : Image) (start : States) 
 
 -- ---- block by block
 
-module _ (types : ProgramTree) (shape : Shape) (image : Image) (file : List ℕ) (start : States) where
+module _ (types : ProgramTree) (live : ℕ) (shape : Shape) (image : Image) (file : List ℕ) (start : States) where
   -- the records that were read replay, and leave these states
   pub record HasAudited (gate : ℕ) (now : States) : Type 0 where
     pub records : List CommitRecord
     pub follows : FollowsIfClean shape file records gate
-    pub serial : IsSerial types start (as_commits shape image records)
-    pub states : now ≡ states_after start (as_commits shape image records)
+    pub serial : IsSerial types start (as_commits live shape image records)
+    pub states : now ≡ states_after start (as_commits live shape image records)
 
   pub audit_begun : (now : States) → now ≡ start → HasAudited 15 now
   audit_begun now is = record { records = []; follows = follows_begins shape file; serial = tt; states = is }
 
   pub audit_more : (gate : ℕ) (now new : States) (more : List CommitRecord) (behind : ℕ) → HasAudited gate now → next_in shape gate file ≡ Ok (Some (more, behind))
-      → AllReplayTo types now (as_commits shape image more) new None → HasAudited behind new
+      → AllReplayTo types now (as_commits live shape image more) new None → HasAudited behind new
   audit_more gate now new more behind h step to =
-      let seam : as_commits shape image (h.records ++ more) ≡ as_commits shape image h.records ++ as_commits shape image more = map-append (commit_of live_slot shape image) h.records more in
+      let seam : as_commits live shape image (h.records ++ more) ≡ as_commits live shape image h.records ++ as_commits live shape image more = map-append (commit_of live shape image) h.records more in
       record {
         records = h.records ++ more;
         follows = λ clean. follows_on shape file h.records gate (h.follows clean) more behind step;
         serial = subst (λ (l : List Commit). IsSerial types start l) (sym seam)
-            (serial_both types start (as_commits shape image h.records) (as_commits shape image more) h.serial (subst (λ (s : States). IsSerial types s (as_commits shape image more)) h.states to.0));
-        states = to.1 ∙ ap (λ (s : States). states_after s (as_commits shape image more)) h.states
-            ∙ sym (ap (λ (l : List Commit). states_after start l) seam ∙ after_both start (as_commits shape image h.records) (as_commits shape image more));
+            (serial_both types start (as_commits live shape image h.records) (as_commits live shape image more) h.serial (subst (λ (s : States). IsSerial types s (as_commits live shape image more)) h.states to.0));
+        states = to.1 ∙ ap (λ (s : States). states_after s (as_commits live shape image more)) h.states
+            ∙ sym (ap (λ (l : List Commit). states_after start l) seam ∙ after_both start (as_commits live shape image h.records) (as_commits live shape image more));
       }
 
-  pub audit_bad : (gate : ℕ) (now : States) (more : List CommitRecord) (behind : ℕ) (bad : Bad) → HasAudited gate now → next_in shape gate file ≡ Ok (Some (more, behind)) → FailsFirst types now (as_commits shape image more) bad
-      → (records : List CommitRecord) → records_in_file shape file ≡ Ok records → FailsFirst types start (as_commits shape image records) bad
+  pub audit_bad : (gate : ℕ) (now : States) (more : List CommitRecord) (behind : ℕ) (bad : Bad) → HasAudited gate now → next_in shape gate file ≡ Ok (Some (more, behind)) → FailsFirst types now (as_commits live shape image more) bad
+      → (records : List CommitRecord) → records_in_file shape file ≡ Ok records → FailsFirst types start (as_commits live shape image records) bad
   audit_bad gate now more behind bad h step f records is =
       let read : FollowsIfClean shape file (h.records ++ more) behind = (λ clean. follows_on shape file h.records gate (h.follows clean) more behind step) in
       let rest = rest_of shape file (h.records ++ more) records behind read is in
-      let made = commit_of live_slot shape image in
+      let made = commit_of live shape image in
       let done : List Commit = map made h.records in
       let all : map made records ≡ done ++ (f.front ++ (f.here ∷ (f.back ++ map made rest.0))) =
       ap (map made) rest.1 ∙ map-append made (h.records ++ more) rest.0 ∙ ap (λ (l : List Commit). l ++ map made rest.0) (map-append made h.records more ∙ ap (λ (l : List Commit). done ++ l) f.are)
@@ -243,14 +242,14 @@ module _ (types : ProgramTree) (shape : Shape) (image : Image) (file : List ℕ)
       }
 
   pub audit_found : (gate : ℕ) (now new : States) (more : List CommitRecord) (behind : ℕ) (found : Option Bad) → HasAudited gate now → next_in shape gate file ≡ Ok (Some (more, behind)) → is_some found ≡ true
-      → AllReplayTo types now (as_commits shape image more) new found → (records : List CommitRecord) → records_in_file shape file ≡ Ok records → IsFirstFailure types start (as_commits shape image records) found
+      → AllReplayTo types now (as_commits live shape image more) new found → (records : List CommitRecord) → records_in_file shape file ≡ Ok records → IsFirstFailure types start (as_commits live shape image records) found
   audit_found gate now new more behind None h step some to records is = absurd cc
   audit_found gate now new more behind (Some bad) h step some to records is = audit_bad gate now more behind bad h step to records is
 
   pub audit_next : (gate : ℕ) (now new : States) (more : List CommitRecord) (behind : ℕ) (found : Option Bad) → HasAudited gate now → next_in shape gate file ≡ Ok (Some (more, behind)) → is_some found ≡ false
-      → AllReplayTo types now (as_commits shape image more) new found → HasAudited behind new
+      → AllReplayTo types now (as_commits live shape image more) new found → HasAudited behind new
   audit_next gate now new more behind None h step none to = audit_more gate now new more behind h step to
   audit_next gate now new more behind (Some bad) h step none to = absurd cc
 
-  pub audit_done : (gate : ℕ) (now : States) → HasAudited gate now → next_in shape gate file ≡ Ok None → (records : List CommitRecord) → records_in_file shape file ≡ Ok records → IsFirstFailure types start (as_commits shape image records) None
-  audit_done gate now h end records is = subst (λ (l : List CommitRecord). IsSerial types start (as_commits shape image l)) (all_read shape file h.records gate h.follows end records is) h.serial
+  pub audit_done : (gate : ℕ) (now : States) → HasAudited gate now → next_in shape gate file ≡ Ok None → (records : List CommitRecord) → records_in_file shape file ≡ Ok records → IsFirstFailure types start (as_commits live shape image records) None
+  audit_done gate now h end records is = subst (λ (l : List CommitRecord). IsSerial types start (as_commits live shape image l)) (all_read shape file h.records gate h.follows end records is) h.serial

@@ -1,8 +1,9 @@
 -- A report of a folder, opened or not, as its call shows it.
-use Rattle.std.proofs.Common.{◌≡◌, inr, ℕ, Bool, true, false, if◌then◌else◌, List, ◌++◌, map, Option, Some, None, Result, Ok, Err, refl, sym, ◌∙◌, ap, subst}
+use Rattle.std.proofs.Common.{◌≡◌, inr, ℕ, true, List, ◌++◌, map, Option, Some, None, Result, Ok, Err, refl, sym, ◌∙◌, ap, subst}
 use Rattle.std.specs.Prelude.{is_ok}
 use Rattle.host_trait.specs.declared.channels.Channel.{Channel}
 use Rattle.host_trait.specs.declared.channels.FileId.{FileId}
+use Rattle.host_trait.specs.declared.channels.FileId.TheVariants.{Manager, Program as ProgramFile}
 use Rattle.host_trait.specs.Disk.{settled}
 use Rattle.host_trait.specs.Faults.{NoneFailed}
 use Rattle.host_trait.specs.World.{World, Moment, Disk, Image, IsImage, moment_of}
@@ -11,7 +12,7 @@ use Rattle.host_trait.proofs.Moments.{both, weaker}
 use Rattle.host_trait.proofs.Runs.{settled_image}
 use Rattle.commit_log.specs.declared.records.CommitRecord.{CommitRecord}
 use Rattle.log_reading.specs.Steps.{seen_in}
-use Rattle.silo_spec.specs.Silos.{manager, program_file}
+use Rattle.silo_spec.specs.Silos.{manager}
 use Rattle.silo_spec.specs.Moments.{IsAsAtEntry}
 use Rattle.silo_opening.specs.Counts.{OpenFaulted}
 use Rattle.silo_opening.specs.Opened.{Stays, ending_of}
@@ -19,8 +20,7 @@ use Rattle.silo_opening.specs.declared.faults.OpenFault.{OpenFault}
 use Rattle.silo_opening.proofs.Runs.{untouched}
 use Rattle.promise_spec.specs.Programs.{Program, shape_in}
 use Rattle.promise_spec.specs.Records.{Commit}
-use Rattle.promise_spec.specs.Logs.{live_slot}
-use Rattle.promise_spec.specs.Openings.{Reading, NoSilo, Reads, is_silo, program_in_file, records_in_file, named_by, named_by_grain, first_missing, commit_of, with_versions, with_log, with_program, opened_as}
+use Rattle.promise_spec.specs.Openings.{Reads, program_in_file, records_in_file, named_by, named_by_grain, first_missing, commit_of, with_versions, with_log, with_program, live_in, with_slot, opened_as}
 use Rattle.promise_spec.specs.Words.{Manner}
 use Rattle.promise_spec.specs.Refusals.{IsRefusedBy, IsUnopened}
 use Rattle.promise_spec.specs.Reports.{audit_text}
@@ -36,36 +36,37 @@ Counts = Channel → ℕ
 
 -- ---- what a folder was read of
 
--- the records of a folder that reads as this program and log, whose versions are all there
-pub record HasParts (image : Image) (p : Program) (log : List Commit) : Type 0 where
+-- the records of a folder that reads as this live slot, program and log, whose versions are all there
+pub record HasParts (image : Image) (live : ℕ) (p : Program) (log : List Commit) : Type 0 where
   pub records : List CommitRecord
-  pub program : program_in_file (image program_file) ≡ Ok p
-  pub read : records_in_file (shape_in p) (image manager) ≡ Ok records
-  pub whole : first_missing live_slot (shape_in p) image (named_by_grain (named_by records)) ≡ None
-  pub commits : map (commit_of live_slot (shape_in p) image) records ≡ log
+  pub program : program_in_file (image (ProgramFile live)) ≡ Ok p
+  pub read : records_in_file (shape_in p) (image (Manager live)) ≡ Ok records
+  pub whole : first_missing live (shape_in p) image (named_by_grain (named_by records)) ≡ None
+  pub commits : map (commit_of live (shape_in p) image) records ≡ log
 
-module _ (image : Image) (p : Program) (log : List Commit) where
-  versions_by : (q : Program) (records : List CommitRecord) (missing : Option (FileId × ℕ)) → with_versions live_slot q image records missing ≡ Reads p log
-      → (missing ≡ None) × (q ≡ p) × (map (commit_of live_slot (shape_in q) image) records ≡ log)
-  versions_by q records None e = let t = reads_is q p (map (commit_of live_slot (shape_in q) image) records) log e in (refl, t.0, t.1)
-  versions_by q records (Some missing) e = absurd cc
+module _ (image : Image) (live : ℕ) (p : Program) (log : List Commit) where
+  versions_by : (s : ℕ) (q : Program) (records : List CommitRecord) (missing : Option (FileId × ℕ)) → with_versions s q image records missing ≡ Reads live p log
+      → (missing ≡ None) × (s ≡ live) × (q ≡ p) × (map (commit_of s (shape_in q) image) records ≡ log)
+  versions_by s q records None e = let t = reads_is s live q p (map (commit_of s (shape_in q) image) records) log e in (refl, t.0, t.1, t.2)
+  versions_by s q records (Some missing) e = absurd cc
 
-  records_by : (q : Program) → program_in_file (image program_file) ≡ Ok q → (r : Result (List CommitRecord) ℕ) → records_in_file (shape_in q) (image manager) ≡ r → with_log live_slot q image r ≡ Reads p log → HasParts image p log
-  records_by q program (Ok records) read e =
-      let t = versions_by q records (first_missing live_slot (shape_in q) image (named_by_grain (named_by records))) e in
-      subst (λ (x : Program). HasParts image x log) t.1 (record { records = records; program = program; read = read; whole = t.0; commits = t.2 })
-  records_by q program (Err place) read e = absurd cc
+  records_by : (s : ℕ) (q : Program) → program_in_file (image (ProgramFile s)) ≡ Ok q → (r : Result (List CommitRecord) ℕ) → records_in_file (shape_in q) (image (Manager s)) ≡ r → with_log s q image r ≡ Reads live p log → HasParts image live p log
+  records_by s q program (Ok records) read e =
+      let t = versions_by s q records (first_missing s (shape_in q) image (named_by_grain (named_by records))) e in
+      let here : HasParts image s q log = record { records = records; program = program; read = read; whole = t.0; commits = t.3 } in
+      subst (λ (n : ℕ). HasParts image n p log) t.1 (subst (λ (x : Program). HasParts image s x log) t.2 here)
+  records_by s q program (Err place) read e = absurd cc
 
-  program_by : (r : Result Program ℕ) → program_in_file (image program_file) ≡ r → with_program live_slot image r ≡ Reads p log → HasParts image p log
-  program_by (Ok q) program e = records_by q program (records_in_file (shape_in q) (image manager)) refl e
-  program_by (Err place) program e = absurd cc
+  program_by : (s : ℕ) (r : Result Program ℕ) → program_in_file (image (ProgramFile s)) ≡ r → with_program s image r ≡ Reads live p log → HasParts image live p log
+  program_by s (Ok q) program e = records_by s q program (records_in_file (shape_in q) (image (Manager s))) refl e
+  program_by s (Err place) program e = absurd cc
 
-  silo_by : (b : Bool) (reading : Reading) → (if b then reading else NoSilo) ≡ Reads p log → reading ≡ Reads p log
-  silo_by true reading e = e
-  silo_by false reading e = absurd cc
+  slot_by : (o : Option ℕ) → with_slot image o ≡ Reads live p log → HasParts image live p log
+  slot_by None e = absurd cc
+  slot_by (Some s) e = program_by s (program_in_file (image (ProgramFile s))) refl e
 
-  pub parts_of : opened_as live_slot image ≡ Reads p log → HasParts image p log
-  parts_of e = program_by (program_in_file (image program_file)) refl (silo_by (is_silo (image manager)) (with_program live_slot image (program_in_file (image program_file))) e)
+  pub parts_of : opened_as image ≡ Reads live p log → HasParts image live p log
+  parts_of e = slot_by (live_in image) e
 
 -- ---- counts
 
@@ -115,29 +116,30 @@ done_ok (Err ReportFault.Memory) e = absurd cc
 
 -- a folder that wasn't opened
 pub not_opened : {A : Type 0} (manner : Manner) (asked : List (List ℕ)) (old new : World) (before after : Counts) (result : Result A ReportFault) (e : OpenFault) → report_ending result ≡ ending_of e → RunsOnFile manager Stays 1 old new
-    → IsRefusedBy (seen_in old.disk) (opened_as live_slot (seen_in old.disk)) (ending_of e) → OpenFaulted e before after → IsUnopened (reported_as manner asked old new before after result)
+    → IsRefusedBy (seen_in old.disk) (opened_as (seen_in old.disk)) (ending_of e) → OpenFaulted e before after → IsUnopened (reported_as manner asked old new before after result)
 not_opened manner asked old new before after result e is run refused faulted = record {
   untouched = untouched 1 old new run;
   unread = run.input;
   syncs = run.syncs;
-  refused = subst (λ (x : Ending). IsRefusedBy (seen_in old.disk) (opened_as live_slot (seen_in old.disk)) x) (sym is) refused;
+  refused = subst (λ (x : Ending). IsRefusedBy (seen_in old.disk) (opened_as (seen_in old.disk)) x) (sym is) refused;
   failed = subst (λ (x : Ending). HasFailedAs x before after) (sym is) (open_failed before after e faulted);
 }
 
-module _ (old mid : World) (settles : mid.disk manager ≡ settled (old.disk manager).seen) (run : RunsOnFile manager Stays 1 old mid) where
-  early : (m : Moment) → IsAsAtEntry old m → LeavesAsBefore old m
+module _ (live : ℕ) (old mid : World) (settles : mid.disk (Manager live) ≡ settled (old.disk (Manager live)).seen) (run : RunsOnFile manager Stays 1 old mid) where
+  early : (m : Moment) → IsAsAtEntry old m → LeavesAsBefore live old m
   early m entry image is = (entry.images image is, λ other. absurd (other entry.quiet))
 
-  late : (m : Moment) → m.disk ≡ mid.disk → LeavesAsBefore old m
+  late : (m : Moment) → m.disk ≡ mid.disk → LeavesAsBefore live old m
   late m same image is =
       let there : IsImage mid.disk image = subst (λ (d : Disk). IsImage d image) same is in
-      ((untouched 1 old mid run).now.images image there, λ other. settled_image mid.disk manager (old.disk manager).seen (image manager) settles (there manager))
+      ((untouched 1 old mid run).now.images image there, λ other. settled_image mid.disk (Manager live) (old.disk (Manager live)).seen (image (Manager live)) settles (there (Manager live)))
 
   -- a report of one that was
   pub is_reported : {A : Type 0} (text : Program → List Commit → List ℕ) (p : Program) (log : List Commit) (manner : Manner) (asked : List (List ℕ)) (new : World) (before after : Counts) (result : Result A ReportFault)
-      → opened_as live_slot (seen_in old.disk) ≡ Reads p log → PutsPart (text p log) (is_ok result) mid new → MayEnd (report_ending result) → HasFailedAs (report_ending result) before after
+      → opened_as (seen_in old.disk) ≡ Reads live p log → PutsPart (text p log) (is_ok result) mid new → MayEnd (report_ending result) → HasFailedAs (report_ending result) before after
       → IsReported text (reported_as manner asked old new before after result)
   is_reported text p log manner asked new before after result reads part end failed = record {
+    live = live;
     program = p;
     log = log;
     reads = reads;
@@ -158,7 +160,7 @@ module _ (old mid : World) (settles : mid.disk manager ≡ settled (old.disk man
 
   -- an audit of one that was
   pub is_audited : {A : Type 0} (unit : Option ℕ) (p : Program) (log : List Commit) (manner : Manner) (asked : List (List ℕ)) (new : World) (before after : Counts) (result : Result A ReportFault)
-      → opened_as live_slot (seen_in old.disk) ≡ Reads p log → PutsPart (audit_text log unit) (is_ok result) mid new → MayEnd (report_ending result) → HasFailedAs (report_ending result) before after → IsFirstBad p log unit
+      → opened_as (seen_in old.disk) ≡ Reads live p log → PutsPart (audit_text log unit) (is_ok result) mid new → MayEnd (report_ending result) → HasFailedAs (report_ending result) before after → IsFirstBad p log unit
       → IsAudited (reported_as manner asked old new before after result)
   unfolding is_reported
   is_audited unit p log manner asked new before after result reads part end failed first =

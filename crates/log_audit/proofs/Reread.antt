@@ -31,10 +31,10 @@ open_faulted old new (FolderFault.Failed at) f = f
 open_faulted old new FolderFault.Memory f = f
 
 module _ (shape : Shape) (file : List ℕ) where
-  pub folder_ends : (records : List CommitRecord) → records_in_file shape file ≡ Ok records → (e : FolderFault) → IsLogFault shape file e → MayEnd (fault_ending (from_folder e))
-  folder_ends records is (FolderFault.Damaged at place) here = absurd (let no : Err place ≡ Ok records = sym here ∙ is in cc)
-  folder_ends records is (FolderFault.Failed at) here = inr tt
-  folder_ends records is FolderFault.Memory here = inr tt
+  pub folder_ends : (slot : ℕ) (records : List CommitRecord) → records_in_file shape file ≡ Ok records → (e : FolderFault) → IsLogFault slot shape file e → MayEnd (fault_ending (from_folder e))
+  folder_ends slot records is (FolderFault.Damaged at place) here = absurd (let no : Err place ≡ Ok records = sym here ∙ is in cc)
+  folder_ends slot records is (FolderFault.Failed at) here = inr tt
+  folder_ends slot records is FolderFault.Memory here = inr tt
 
   pub block_fault : {A : Type 0} (gate : ℕ) (e : FolderFault) → ((at : FileId) (place : ℕ) → failed {A = A} e ≡ failed (FolderFault.Damaged at place) → next_in shape gate file ≡ Err place) → IsBlockFault shape gate file (from_folder e)
   block_fault gate (FolderFault.Damaged at place) damaged = damaged at place refl

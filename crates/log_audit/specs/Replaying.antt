@@ -12,7 +12,6 @@ use Rattle.script_tree.specs.Programs.{ProgramTree}
 use Rattle.promise_spec.specs.Records.{Commit, States, written, after_writes}
 use Rattle.promise_spec.specs.Serial.{IsSerial, Replays, played}
 use Rattle.promise_spec.specs.Family.{states_after}
-use Rattle.promise_spec.specs.Logs.{live_slot}
 use Rattle.promise_spec.specs.Openings.{commit_of}
 use Rattle.log_audit.specs.declared.replay.Bad.{Bad}
 
@@ -26,8 +25,8 @@ abbrev pub agree : Bool → Outcome → Outcome → ℕ → ℕ → Bool
 agree same gives kept asked answers = same && (same_outcome gives kept && (asked == answers))
 
 -- the records with the states that stand at their places
-abbrev pub as_commits : Shape → Image → List CommitRecord → List Commit
-as_commits shape image records = map (commit_of live_slot shape image) records
+abbrev pub as_commits : ℕ → Shape → Image → List CommitRecord → List Commit
+as_commits live shape image records = map (commit_of live shape image) records
 
 -- The record doesn't replay over these states: its unit and result are told, the result that its call gives, and whether
 -- its call writes other grains or states.

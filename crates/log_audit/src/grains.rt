@@ -1,13 +1,13 @@
 // The grains that a log wrote.
 
-ghost use Rattle.std.specs.Prelude.{◌≡◌, ℕ, [], List, map, IsTrue, Ok, OnOk, IfOk, IfErr};
+ghost use Rattle.std.specs.Prelude.{◌≡◌, ◌≤◌, ℕ, [], List, map, IsTrue, Ok, OnOk, IfOk, IfErr};
 ghost use Rattle.host_trait.specs.Files.{StaysReady};
 ghost use Rattle.host_trait.specs.Faults.{NoneFailed};
 ghost use Rattle.host_trait.specs.Runs.{OnlyAsked};
+ghost use Rattle.host_trait.specs.declared.channels.FileId.TheVariants.{Manager};
 ghost use Rattle.commit_log.specs.declared.records.CommitRecord.{CommitRecord as ARecord};
 ghost use Rattle.log_reading.specs.Blocks.{records_in_file};
 ghost use Rattle.log_reading.specs.Counts.{ReadFaulted};
-ghost use Rattle.log_reading.specs.Steps.{manager};
 ghost use Rattle.log_audit.specs.Unread.{IsLogFault};
 ghost use Rattle.log_audit.specs.Written.{grains_recorded, grains_added};
 
@@ -38,16 +38,18 @@ fn add_grains(grains: &mut BTreeSet<GrainId>, records: &[CommitRecord]) -> Resul
     Ok(())
 }
 
-/// The grains that the log's records wrote, ascending. It reads the log block by block, and keeps them alone.
+/// The grains that the records of a slot's log wrote, ascending. It reads the log block by block, and keeps them alone.
 pub(crate) fn read_grains<H: Host>(
     alloc: Global,
     host: &mut H,
+    slot: u8,
     shape: &Shape,
 ) -> Result<BTreeSet<GrainId>, FolderFault>
-    ensures found { IfOk result (λ grains. IsTrue H.tells → (records : List ARecord) → records_in_file shape.now ((H.world host.old).disk manager).seen ≡ Ok records
+    requires slot { slot ≤ 1 }
+    ensures found { IfOk result (λ grains. IsTrue H.tells → (records : List ARecord) → records_in_file shape.now ((H.world host.old).disk (Manager slot)).seen ≡ Ok records
         → grains.keys ≡ grains_added [] (grains_recorded records)) }
-    ensures unread { IfErr result (λ e. IsTrue H.tells → (records : List ARecord) → records_in_file shape.now ((H.world host.old).disk manager).seen ≡ Ok records
-        → IsLogFault shape.now ((H.world host.old).disk manager).seen e) }
+    ensures unread { IfErr result (λ e. IsTrue H.tells → (records : List ARecord) → records_in_file shape.now ((H.world host.old).disk (Manager slot)).seen ≡ Ok records
+        → IsLogFault slot shape.now ((H.world host.old).disk (Manager slot)).seen e) }
     ensures asked { IsTrue H.tells → OnlyAsked (H.world host.old) (H.world host.new) }
     ensures calm { OnOk result (NoneFailed (H.faults host.old) (H.faults host.new)) }
     ensures fault { IfErr result (λ e. ReadFaulted e (H.faults host.old) (H.faults host.new)) }
@@ -55,7 +57,7 @@ pub(crate) fn read_grains<H: Host>(
 {
     let mut grains = BTreeSet::new(alloc);
     let mut gate_at = 15;
-    while let Some((records, behind)) = next_block(alloc, host, shape, gate_at)? {
+    while let Some((records, behind)) = next_block(alloc, host, slot, shape, gate_at)? {
         add_grains(&mut grains, records.as_slice())?;
         gate_at = behind;
     }

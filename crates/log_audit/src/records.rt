@@ -1,9 +1,10 @@
 ghost use Rattle.std.specs.Prelude.{◌≡◌, ◌+◌, ◌^◌, ◌<◌, ◌≤◌, ℕ, List, IsTrue, Ok, IfOk, IfErr, IfSome, is_ok, length};
 ghost use Rattle.host_trait.specs.Files.{StaysReady};
 ghost use Rattle.host_trait.specs.Runs.{OnlyAsked};
+ghost use Rattle.host_trait.specs.declared.channels.FileId.TheVariants.{Manager};
 ghost use Rattle.commit_log.specs.declared.records.CommitRecord.{CommitRecord as ARecord};
 ghost use Rattle.log_reading.specs.Blocks.{records_in_file};
-ghost use Rattle.log_reading.specs.Steps.{manager, next_in, seen_in};
+ghost use Rattle.log_reading.specs.Steps.{next_in, seen_in};
 ghost use Rattle.script_tree.specs.Programs.{program_tree};
 ghost use Rattle.silo_opening.specs.Opened.{IsOpenedFrom};
 ghost use Rattle.promise_spec.specs.Words.{Manner};
@@ -26,22 +27,24 @@ use script_check::Checked;
 use silo_opening::{Opened, open_silo};
 use std::alloc::Global;
 
-// The records of the block behind a gate and the next gate, none where the gate isn't open.
+// The records of the block behind a gate of a slot's manager file and the next gate, none where the gate isn't open.
 fn next_records<H: Host>(
     alloc: Global,
     host: &mut H,
+    slot: u8,
     shape: &Shape,
     gate_at: u64,
 ) -> Result<Option<(List<CommitRecord>, u64)>, ReportFault>
+    requires slot { slot ≤ 1 }
     requires place { gate_at < 2 ^ 63 }
-    ensures found { IfOk result (λ found. IsTrue H.tells → next_in shape.now gate_at ((H.world host.old).disk manager).seen ≡ Ok found) }
+    ensures found { IfOk result (λ found. IsTrue H.tells → next_in shape.now gate_at ((H.world host.old).disk (Manager slot)).seen ≡ Ok found) }
     ensures further { IfOk result (λ found. IfSome found (λ x. (gate_at + 5 + length x.0 ≤ x.1) × (x.1 < 2 ^ 63))) }
-    ensures unread { IfErr result (λ e. IsTrue H.tells → IsBlockFault shape.now gate_at ((H.world host.old).disk manager).seen e) }
+    ensures unread { IfErr result (λ e. IsTrue H.tells → IsBlockFault shape.now gate_at ((H.world host.old).disk (Manager slot)).seen e) }
     ensures asked { IsTrue H.tells → OnlyAsked (H.world host.old) (H.world host.new) }
     ensures exact { HasFailedAs (report_ending result) (H.faults host.old) (H.faults host.new) }
     ensures ready { StaysReady (H.is_ready host.old) (H.is_ready host.new) }
 {
-    match next_block(alloc, host, shape, gate_at) {
+    match next_block(alloc, host, slot, shape, gate_at) {
         Ok(found) => Ok(found),
         Err(fault) => Err(unread(fault)),
     }
@@ -69,22 +72,24 @@ fn write_records<H: Host>(
     Ok(())
 }
 
-// Writes a line for each record of the log. It reads the log block by block, and keeps one block at a time.
+// Writes a line for each record of a slot's log. It reads the log block by block, and keeps one block at a time.
 fn write_log<H: Host>(
     alloc: Global,
     host: &mut H,
+    slot: u8,
     checked: &Checked,
     shape: &Shape,
 ) -> Result<(), ReportFault>
-    ensures puts { IsTrue H.tells → (records : List ARecord) → records_in_file shape.now ((H.world host.old).disk manager).seen ≡ Ok records
+    requires slot { slot ≤ 1 }
+    ensures puts { IsTrue H.tells → (records : List ARecord) → records_in_file shape.now ((H.world host.old).disk (Manager slot)).seen ≡ Ok records
         → PutsPart (record_lines shape.now (program_tree checked.now) records) (is_ok result) (H.world host.old) (H.world host.new) }
-    ensures ended { IsTrue H.tells → (records : List ARecord) → records_in_file shape.now ((H.world host.old).disk manager).seen ≡ Ok records
+    ensures ended { IsTrue H.tells → (records : List ARecord) → records_in_file shape.now ((H.world host.old).disk (Manager slot)).seen ≡ Ok records
         → MayEnd (report_ending result) }
     ensures exact { HasFailedAs (report_ending result) (H.faults host.old) (H.faults host.new) }
     ensures ready { StaysReady (H.is_ready host.old) (H.is_ready host.new) }
 {
     let mut gate_at = 15;
-    while let Some((records, behind)) = next_records(alloc, host, shape, gate_at)? {
+    while let Some((records, behind)) = next_records(alloc, host, slot, shape, gate_at)? {
         write_records(alloc, host, checked, shape, records.as_slice())?;
         gate_at = behind;
     }
@@ -93,6 +98,7 @@ fn write_log<H: Host>(
 
 // Writes the report of an opened silo.
 fn write_history<H: Host>(alloc: Global, host: &mut H, opened: &Opened) -> Result<(), ReportFault>
+    requires slot { opened.now.slot ≤ 1 }
     ensures puts { IsTrue H.tells → (o : IsOpenedFrom (seen_in (H.world host.old).disk) opened.now)
         → PutsPart (history_text (program_opened (seen_in (H.world host.old).disk) opened.now o) o.log) (is_ok result) (H.world host.old) (H.world host.new) }
     ensures ended { IsTrue H.tells → IsOpenedFrom (seen_in (H.world host.old).disk) opened.now → MayEnd (report_ending result) }
@@ -100,7 +106,7 @@ fn write_history<H: Host>(alloc: Global, host: &mut H, opened: &Opened) -> Resul
     ensures ready { StaysReady (H.is_ready host.old) (H.is_ready host.new) }
 {
     let shape = opened.checked.shape()?;
-    write_log(alloc, host, &opened.checked, &shape)
+    write_log(alloc, host, opened.slot, &opened.checked, &shape)
 }
 
 /// Writes a line for each record of the log, in its order: the call, its origin, and how it ended.

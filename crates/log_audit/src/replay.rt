@@ -1,17 +1,17 @@
-ghost use Rattle.std.specs.Prelude.{◌≡◌, [], ◌∷◌, List as Lists, IsTrue, Ok, OnOk, IfOk, IfErr, length};
+ghost use Rattle.std.specs.Prelude.{◌≡◌, ◌≤◌, [], ◌∷◌, List as Lists, IsTrue, Ok, OnOk, IfOk, IfErr, length};
 ghost use Rattle.std.specs.List.{fold};
 ghost use Rattle.host_trait.specs.Files.{StaysReady};
 ghost use Rattle.host_trait.specs.Faults.{NoneFailed};
 ghost use Rattle.host_trait.specs.Runs.{OnlyAsked};
+ghost use Rattle.host_trait.specs.declared.channels.FileId.TheVariants.{Manager};
 ghost use Rattle.commit_log.specs.declared.records.CommitRecord.{CommitRecord as ARecord};
 ghost use Rattle.core_model.specs.Equality.{same_list};
 ghost use Rattle.log_reading.specs.Blocks.{records_in_file};
 ghost use Rattle.log_reading.specs.Counts.{ReadFaulted};
-ghost use Rattle.log_reading.specs.Steps.{manager, seen_in};
+ghost use Rattle.log_reading.specs.Steps.{seen_in};
 ghost use Rattle.script_tree.specs.Programs.{ProgramTree, program_tree};
 ghost use Rattle.script_meaning.specs.Play.{found_in};
 ghost use Rattle.promise_spec.specs.Records.{written, log_start, put_state};
-ghost use Rattle.promise_spec.specs.Logs.{live_slot};
 ghost use Rattle.promise_spec.specs.Openings.{commit_of};
 ghost use Rattle.promise_spec.specs.Serial.{depth_of};
 ghost use Rattle.log_audit.specs.Unread.{IsVersionFault, IsRereadFault};
@@ -72,15 +72,17 @@ fn depth_of(origin: Origin) -> u16
     }
 }
 
-// The grains that a record wrote, with the states of their versions.
+// The grains that a record wrote, with the states of their versions in a slot's files.
 fn read_writes<H: Host>(
     alloc: Global,
     host: &mut H,
+    slot: u8,
     shape: &Shape,
     entry: &CommitRecord,
 ) -> Result<Vec<(GrainId, State)>, FolderFault>
-    ensures writes { IfOk result (λ kept. IsTrue H.tells → kept.items ≡ written (commit_of live_slot shape.now (seen_in (H.world host.old).disk) entry.now)) }
-    ensures unread { IfErr result (λ e. IsTrue H.tells → IsVersionFault shape.now (seen_in (H.world host.old).disk) (entry.now ∷ []) e) }
+    requires slot { slot ≤ 1 }
+    ensures writes { IfOk result (λ kept. IsTrue H.tells → kept.items ≡ written (commit_of slot shape.now (seen_in (H.world host.old).disk) entry.now)) }
+    ensures unread { IfErr result (λ e. IsTrue H.tells → IsVersionFault slot shape.now (seen_in (H.world host.old).disk) (entry.now ∷ []) e) }
     ensures asked { IsTrue H.tells → OnlyAsked (H.world host.old) (H.world host.new) }
     ensures calm { OnOk result (NoneFailed (H.faults host.old) (H.faults host.new)) }
     ensures fault { IfErr result (λ e. ReadFaulted e (H.faults host.old) (H.faults host.new)) }
@@ -93,7 +95,7 @@ fn read_writes<H: Host>(
             unit: entry.unit,
             written: *one,
         };
-        let version = named_version(alloc, host, shape, named)?;
+        let version = named_version(alloc, host, slot, shape, named)?;
         kept.push((one.grain, version.state))?;
     }
     Ok(kept)
@@ -120,20 +122,22 @@ fn keep(store: &mut Store, writes: Vec<(GrainId, State)>) -> Result<(), AllocErr
 fn replay<H: Host>(
     alloc: Global,
     host: &mut H,
+    slot: u8,
     checked: &Checked,
     shape: &Shape,
     store: &mut Store,
     entry: &CommitRecord,
 ) -> Result<Option<Bad>, FolderFault>
+    requires slot { slot ≤ 1 }
     ensures replays { IfOk result (λ found. IsTrue H.tells → let types = program_tree checked.now in
-        ReplaysTo types (found_in types store.old) (commit_of live_slot shape.now (seen_in (H.world host.old).disk) entry.now) (found_in types store.new) found) }
-    ensures unread { IfErr result (λ e. IsTrue H.tells → IsVersionFault shape.now (seen_in (H.world host.old).disk) (entry.now ∷ []) e) }
+        ReplaysTo types (found_in types store.old) (commit_of slot shape.now (seen_in (H.world host.old).disk) entry.now) (found_in types store.new) found) }
+    ensures unread { IfErr result (λ e. IsTrue H.tells → IsVersionFault slot shape.now (seen_in (H.world host.old).disk) (entry.now ∷ []) e) }
     ensures asked { IsTrue H.tells → OnlyAsked (H.world host.old) (H.world host.new) }
     ensures calm { OnOk result (NoneFailed (H.faults host.old) (H.faults host.new)) }
     ensures fault { IfErr result (λ e. ReadFaulted e (H.faults host.old) (H.faults host.new)) }
     ensures ready { StaysReady (H.is_ready host.old) (H.is_ready host.new) }
 {
-    let kept = read_writes(alloc, host, shape, entry)?;
+    let kept = read_writes(alloc, host, slot, shape, entry)?;
     let depth = depth_of(entry.origin);
     let answers = entry.answers.as_slice();
     let played = play(alloc, checked, &entry.call, depth, store, answers)?;
@@ -155,21 +159,23 @@ fn replay<H: Host>(
 fn replay_block<H: Host>(
     alloc: Global,
     host: &mut H,
+    slot: u8,
     checked: &Checked,
     shape: &Shape,
     store: &mut Store,
     records: &[CommitRecord],
 ) -> Result<Option<Bad>, FolderFault>
+    requires slot { slot ≤ 1 }
     ensures replays { IfOk result (λ found. IsTrue H.tells → let types = program_tree checked.now in
-        AllReplayTo types (found_in types store.old) (as_commits shape.now (seen_in (H.world host.old).disk) records.now) (found_in types store.new) found) }
-    ensures unread { IfErr result (λ e. IsTrue H.tells → IsVersionFault shape.now (seen_in (H.world host.old).disk) records.now e) }
+        AllReplayTo types (found_in types store.old) (as_commits slot shape.now (seen_in (H.world host.old).disk) records.now) (found_in types store.new) found) }
+    ensures unread { IfErr result (λ e. IsTrue H.tells → IsVersionFault slot shape.now (seen_in (H.world host.old).disk) records.now e) }
     ensures asked { IsTrue H.tells → OnlyAsked (H.world host.old) (H.world host.new) }
     ensures calm { OnOk result (NoneFailed (H.faults host.old) (H.faults host.new)) }
     ensures fault { IfErr result (λ e. ReadFaulted e (H.faults host.old) (H.faults host.new)) }
     ensures ready { StaysReady (H.is_ready host.old) (H.is_ready host.new) }
 {
     for entry in records {
-        let found = replay(alloc, host, checked, shape, store, entry)?;
+        let found = replay(alloc, host, slot, checked, shape, store, entry)?;
         if found.is_some() {
             return Ok(found);
         }
@@ -177,19 +183,21 @@ fn replay_block<H: Host>(
     Ok(None)
 }
 
-/// Plays the records of the log, each over the store that those before it left, up to the first that doesn't replay. It reads
+/// Plays the records of a slot's log, each over the store that those before it left, up to the first that doesn't replay. It reads
 /// the log block by block, and keeps the store and one block.
 pub(crate) fn replay_log<H: Host>(
     alloc: Global,
     host: &mut H,
+    slot: u8,
     checked: &Checked,
     shape: &Shape,
 ) -> Result<Option<Bad>, FolderFault>
-    ensures replays { IfOk result (λ found. IsTrue H.tells → (records : Lists ARecord) → records_in_file shape.now ((H.world host.old).disk manager).seen ≡ Ok records
+    requires slot { slot ≤ 1 }
+    ensures replays { IfOk result (λ found. IsTrue H.tells → (records : Lists ARecord) → records_in_file shape.now ((H.world host.old).disk (Manager slot)).seen ≡ Ok records
         → let types = program_tree checked.now in
-        IsFirstFailure types (log_start types).states (as_commits shape.now (seen_in (H.world host.old).disk) records) found) }
-    ensures unread { IfErr result (λ e. IsTrue H.tells → (records : Lists ARecord) → records_in_file shape.now ((H.world host.old).disk manager).seen ≡ Ok records
-        → IsRereadFault shape.now (seen_in (H.world host.old).disk) records e) }
+        IsFirstFailure types (log_start types).states (as_commits slot shape.now (seen_in (H.world host.old).disk) records) found) }
+    ensures unread { IfErr result (λ e. IsTrue H.tells → (records : Lists ARecord) → records_in_file shape.now ((H.world host.old).disk (Manager slot)).seen ≡ Ok records
+        → IsRereadFault slot shape.now (seen_in (H.world host.old).disk) records e) }
     ensures asked { IsTrue H.tells → OnlyAsked (H.world host.old) (H.world host.new) }
     ensures calm { OnOk result (NoneFailed (H.faults host.old) (H.faults host.new)) }
     ensures fault { IfErr result (λ e. ReadFaulted e (H.faults host.old) (H.faults host.new)) }
@@ -197,8 +205,16 @@ pub(crate) fn replay_log<H: Host>(
 {
     let mut store = Store::new(alloc);
     let mut gate_at = 15;
-    while let Some((records, behind)) = next_block(alloc, host, shape, gate_at)? {
-        let found = replay_block(alloc, host, checked, shape, &mut store, records.as_slice())?;
+    while let Some((records, behind)) = next_block(alloc, host, slot, shape, gate_at)? {
+        let found = replay_block(
+            alloc,
+            host,
+            slot,
+            checked,
+            shape,
+            &mut store,
+            records.as_slice(),
+        )?;
         if found.is_some() {
             return Ok(found);
         }

@@ -1,4 +1,4 @@
-ghost use Rattle.std.specs.Prelude.{◌≡◌, ℕ, List, IsTrue, IfOk, is_ok, string_bytes};
+ghost use Rattle.std.specs.Prelude.{◌≡◌, ◌≤◌, ℕ, List, IsTrue, IfOk, is_ok, string_bytes};
 ghost use Rattle.host_trait.specs.Files.{StaysReady};
 ghost use Rattle.log_reading.specs.Steps.{seen_in};
 ghost use Rattle.script_tree.specs.Programs.{program_tree};
@@ -68,6 +68,7 @@ fn write_grains<H: Host>(
 
 // Writes the report of an opened silo.
 fn write_show<H: Host>(alloc: Global, host: &mut H, opened: &Opened) -> Result<(), ReportFault>
+    requires slot { opened.now.slot ≤ 1 }
     ensures puts { IsTrue H.tells → (o : IsOpenedFrom (seen_in (H.world host.old).disk) opened.now)
         → PutsPart (show_text (program_opened (seen_in (H.world host.old).disk) opened.now o) o.log) (is_ok result) (H.world host.old) (H.world host.new) }
     ensures ended { IsTrue H.tells → IsOpenedFrom (seen_in (H.world host.old).disk) opened.now → MayEnd (report_ending result) }
@@ -75,7 +76,7 @@ fn write_show<H: Host>(alloc: Global, host: &mut H, opened: &Opened) -> Result<(
     ensures ready { StaysReady (H.is_ready host.old) (H.is_ready host.new) }
 {
     let shape = opened.checked.shape()?;
-    let grains = match read_grains(alloc, host, &shape) {
+    let grains = match read_grains(alloc, host, opened.slot, &shape) {
         Ok(grains) => grains,
         Err(fault) => return Err(unread(fault)),
     };

@@ -1,5 +1,5 @@
 -- Pieces of a grain's file, and the texts that are cut from them.
-use Rattle.std.proofs.Common.{◌≡◌, ℕ, ◌+◌, ◌-◌, ◌≤◌, ◌<◌, ◌^◌, min, Bool, IsTrue, List, [], ◌∷◌, ◌++◌, Result, Ok, Err, IfOk, length, take, drop, refl, sym, ◌∙◌, ap, subst, arith, length-take, length-drop, drop-drop}
+use Rattle.std.proofs.Common.{◌≡◌, ℕ, ◌+◌, ◌-◌, ◌≤◌, Bool, IsTrue, List, [], ◌∷◌, Result, Ok, Err, IfOk, length, take, drop, refl, sym, ◌∙◌, ap, subst, arith, length-drop, drop-drop}
 use Rattle.std.proofs.lemmas.List.{take-take, take-append-le, drop-take, length-take-le}
 use Rattle.host_trait.specs.World.{Image, Filled}
 use Rattle.host_trait.specs.declared.channels.FileId.TheVariants.{Grain}

@@ -1,5 +1,5 @@
 -- Errors that are handed on, and where a fault of a body is.
-use Rattle.std.proofs.Common.{◌≡◌, ◌+◌, ℕ, Result, Ok, Err, refl, ◌∙◌, ap}
+use Rattle.std.proofs.Common.{◌≡◌, ℕ, Result, Err, ◌∙◌, ap}
 use Rattle.host_trait.specs.declared.channels.FileId.{FileId}
 use Rattle.host_trait.specs.declared.channels.FileId.TheVariants.{Manager}
 use Rattle.field_codec.specs.declared.faults.CodecFault.{CodecFault}

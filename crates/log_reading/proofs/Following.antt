@@ -1,17 +1,16 @@
 -- A log is read block by block: what was read, and what is left from a gate on.
-use Rattle.std.proofs.Common.{◌≡◌, ◌≢◌, ℕ, zero, suc, ◌+◌, ◌<◌, ◌≤◌, Bool, List, [], ◌∷◌, ◌++◌, length, slice_index, Option, Some, None, Result, Ok, Err, refl, sym, ◌∙◌, ap, subst, arith, append_assoc, append-nil}
+use Rattle.std.proofs.Common.{◌≡◌, ℕ, zero, suc, ◌+◌, ◌<◌, ◌≤◌, List, [], ◌++◌, length, slice_index, Option, Some, None, Result, Ok, Err, refl, sym, ◌∙◌, ap, arith, append_assoc, append-nil}
 use Rattle.std.proofs.lemmas.List.{get_or_past}
 use Rattle.base_types.specs.declared.shapes.Shape.{Shape}
 use Rattle.field_codec.specs.declared.faults.CodecFault.{CodecFault}
 use Rattle.field_codec.specs.declared.units.Numbers.TheVariants.{Logged}
-use Rattle.field_codec.specs.Results.{place_of}
 use Rattle.gate_block.specs.Blocks.{BehindGate, shut, bad, whole, found_at}
 use Rattle.gate_block.specs.Log.{then_bodies, then_gate, bodies_from, gate_from, gate_of, first_gate}
 use Rattle.gate_block.proofs.Logs.{closed_shut}
 use Rattle.commit_log.specs.declared.records.CommitRecord.{CommitRecord}
 use Rattle.commit_log.specs.Fields.{body_in}
 use Rattle.log_reading.specs.Blocks.{header_damage, behind_header, and_records, no_more, records_behind, records_in_file}
-use Rattle.log_reading.specs.Steps.{and_gate, next_of, next_in, records_from, with_records, placed}
+use Rattle.log_reading.specs.Steps.{and_gate, next_of, next_in, records_from, with_records}
 
 abbrev Records : Type 0
 Records = List CommitRecord

@@ -1,5 +1,5 @@
 -- What a loop over blocks has read.
-use Rattle.std.proofs.Common.{◌≡◌, ℕ, ◌+◌, Bool, IsTrue, List, [], ◌++◌, length, Option, Some, None, Result, Ok, Err, refl, sym, ◌∙◌, ap, length-append}
+use Rattle.std.proofs.Common.{◌≡◌, ℕ, ◌+◌, Bool, IsTrue, List, [], ◌++◌, length, Some, None, Ok, Err, refl, sym, ◌∙◌, ap, length-append}
 use Rattle.std.specs.List.{AllByRecursion}
 use Rattle.base_types.specs.declared.shapes.Shape.{Shape}
 use Rattle.field_codec.specs.declared.units.Numbers.TheVariants.{Logged}

@@ -1,21 +1,17 @@
 -- The versions read by grains: what they leave, and where reading stops.
-use Rattle.std.proofs.Common.{◌≡◌, inl, inr, ℕ, Bool, true, false, if◌then◌else◌, Option, Some, None, List, [], ◌∷◌, ◌++◌, map, filter, Result, Ok, Err, refl, sym, ◌∙◌, ap, subst}
-use Rattle.std.specs.Prelude.{unwrap_or, zip}
-use Rattle.std.specs.List.{flat_map, fold, AllByRecursion}
+use Rattle.std.proofs.Common.{◌≡◌, inl, inr, ℕ, false, if◌then◌else◌, Option, Some, None, List, [], ◌∷◌, filter, Result, Ok, Err, refl, sym, ◌∙◌, ap, subst}
+use Rattle.std.specs.List.{AllByRecursion}
 use Rattle.std.proofs.lemmas.Bool.{cases_Bool, cond-true, cond-false}
 use Rattle.base_types.specs.declared.calls.GrainId.{GrainId}
-use Rattle.base_types.specs.declared.calls.UnitNo.{UnitNo}
 use Rattle.base_types.specs.declared.calls.Value.{Value}
 use Rattle.base_types.specs.declared.shapes.Shape.{Shape}
 use Rattle.base_types.specs.declared.stores.Version.{Version}
 use Rattle.host_trait.specs.World.{Image}
 use Rattle.host_trait.specs.declared.channels.FileId.{FileId}
 use Rattle.host_trait.specs.declared.channels.FileId.TheVariants.{Grain}
-use Rattle.commit_log.specs.declared.records.CommitRecord.{CommitRecord}
-use Rattle.commit_log.specs.declared.records.Written.{Written}
 use Rattle.commit_log.specs.declared.records.Named.{Named}
 use Rattle.host_trait.specs.Files.{same_grain}
-use Rattle.log_reading.specs.Versions.{is_before, named_by, named_by_grain, version_named, state_of, missing_or, first_missing}
+use Rattle.log_reading.specs.Versions.{is_before, named_by_grain, version_named, state_of, missing_or, first_missing}
 use Rattle.log_reading.specs.Sums.{state_after, StopsAt}
 use Rattle.log_reading.proofs.Orders.{by_grain_at, Climbs, by_grain_climbs, climbs_behind, irreflexive}
 use Rattle.log_reading.proofs.Naming.{none_missing}

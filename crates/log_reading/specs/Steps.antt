@@ -1,5 +1,5 @@
 -- What is read behind a gate, and what is left of a log there.
-use Rattle.std.specs.Prelude.{◌≡◌, ℕ, ◌+◌, List, [], ◌∷◌, ◌++◌, length, Option, Some, None, Result, Ok, Err}
+use Rattle.std.specs.Prelude.{ℕ, ◌+◌, List, ◌++◌, length, Option, Some, None, Result, Ok, Err}
 use Rattle.base_types.specs.declared.shapes.Shape.{Shape}
 pub use Rattle.host_trait.specs.Files.{manager}
 use Rattle.host_trait.specs.World.{Disk, Image}

@@ -18,7 +18,7 @@ use Rattle.commit_log.specs.declared.records.Named.{Named}
 use Rattle.log_reading.specs.declared.log.ReadLog.{ReadLog}
 use Rattle.host_trait.specs.Files.{same_grain}
 use Rattle.log_reading.specs.Blocks.{records_in_file}
-use Rattle.log_reading.specs.Versions.{named_by, named_by_grain, is_before, version_named, state_of, first_missing}
+use Rattle.log_reading.specs.Versions.{named_by, version_named, state_of, first_missing}
 
 -- the number of the next unit after these records
 abbrev pub next_after : ℕ → List CommitRecord → ℕ

@@ -6,7 +6,7 @@ use crate::folder::Folder;
 use crate::printing::add_bytes;
 use crate::records::{add_records, block_of, records_in};
 use base_types::{GrainId, List, Place, Shape, State, Text, TypeShape, UnitNo, Value, Version};
-use commit_log::{MANAGER, seal};
+use commit_log::seal;
 use field_codec::get_state;
 use gate_block::{append_closed, open_gate, read_block};
 use grain_log::{read_version, write_versions};
@@ -14,8 +14,13 @@ use host_trait::FileId;
 use std::alloc::{AllocError, Global};
 use test_cases::add_values;
 
+// The slot of both files.
+const SLOT: u8 = 0;
+
+const MANAGER: FileId = FileId::Manager { slot: SLOT };
+
 const GRAIN: FileId = FileId::Grain {
-    slot: 0,
+    slot: SLOT,
     grain: GrainId { kind: 0, key: 1 },
 };
 
@@ -183,7 +188,7 @@ impl Bench {
             Err(fault) => return write!(out, "{fault}"),
         };
         let block = block_of(self.alloc, &records)?;
-        let sealing = seal(&mut self.folder, gate, block.as_slice());
+        let sealing = seal(&mut self.folder, SLOT, gate, block.as_slice());
         write!(out, "{sealing:?}")
     }
 

@@ -2,7 +2,8 @@
 use Rattle.std.proofs.Common.{◌≡◌, ℕ, List, inl, inr, sym, ◌∙◌, ap, subst}
 use Rattle.std.proofs.lemmas.List.{append_cancel_left}
 use Rattle.host_trait.specs.declared.channels.FileId.{FileId}
-use Rattle.host_trait.specs.Disk.{FileState, MayLeave}
+use Rattle.host_trait.specs.declared.channels.FileId.TheVariants.{Manager}
+use Rattle.host_trait.specs.Disk.{FileState, MayLeave, settled}
 use Rattle.host_trait.specs.World as host
 use Rattle.host_trait.specs.World.{Moment, Image, IsImage, moment_of, last_of}
 use Rattle.host_trait.specs.Runs.{ChangesFile, RunsOnFile}
@@ -13,9 +14,9 @@ use Rattle.silo_spec.specs.Moments.{IsAsAtEntry, IsUntouched}
 use Rattle.log_reading.specs.Steps.{seen_in}
 use Rattle.promise_spec.specs.Programs.{Program, IsChecked}
 use Rattle.promise_spec.specs.Openings.{Reads}
+use Rattle.promise_spec.proofs.Openings.{reads_is_live}
 use Rattle.promise_spec.specs.Courses.{Observed, Course}
 use Rattle.promise_spec.specs.Images.{IsWholeFolder}
-use Rattle.log_reading.specs.Steps.{live_slot}
 use Rattle.promise_laws.specs.Closings.{ReadsMayStay, IsBehind}
 use Rattle.promise_laws.specs.Obligations.{Opens}
 use Rattle.promise_laws.proofs.KeptRuns.{opens_whole}
@@ -49,17 +50,27 @@ untouched old mid run = record {
       | inr other ↦ ap (λ (s : FileState). s.seen) (run.now.others file (λ e. other (sym e)))
     ]
 
-pub behind : (o : Opened) (r : Observed) (c : Course) (mid : host.World) (is : IsOpenedFrom (seen_in r.old.disk) o) → FollowsOpening r c mid is.log → IsBehind live_slot (program_of is) r c mid
+pub behind : (o : Opened) (r : Observed) (c : Course) (mid : host.World) (is : IsOpenedFrom (seen_in r.old.disk) o) → FollowsOpening r c mid o.slot is.log → IsBehind (program_of is) r c mid
 behind o r c mid is follows = record {
-  reads = is.reads ∙ ap (λ l. Reads (program_of is) l) (sym follows.opening);
+  reads = is.reads ∙ (λ i. Reads (slot i) (program_of is) (log i));
   untouched = untouched r.old mid follows.run;
-  settled = follows.settled;
-  others = λ file other. follows.run.now.others file other;
+  settled = subst (λ (s : ℕ). mid.disk (Manager s) ≡ settled (r.old.disk (Manager s)).seen) slot follows.settled;
+  others = λ file other. follows.run.now.others file (λ same. other (same ∙ ap (λ (s : ℕ). Manager s) (sym first)));
   early = follows.early;
   last = subst (λ ms. last_of (moment_of r.old) ms ≡ moment_of mid) (append_cancel_left r.old.past follows.run.clock.more c.early (sym follows.run.clock.past ∙ follows.early)) follows.run.clock.last;
   late = follows.late;
 }
+  where
+    slot : o.slot ≡ c.live
+    slot = sym follows.live
 
-pub opens : (q : Program) (o : Opened) (r : Observed) (c : Course) (mid : host.World) (is : IsOpenedFrom (seen_in r.old.disk) o) → FollowsOpening r c mid is.log → IsChecked q → IsWholeFolder q r.old → ReadsMayStay r.old → ReadsMayStay mid →
+    log : is.log ≡ c.opening
+    log = sym follows.opening
+
+    -- slot 0 alone is live
+    first : c.live ≡ 0
+    first = follows.live ∙ (reads_is_live (seen_in r.old.disk) o.slot (program_of is) is.log is.reads).slot
+
+pub opens : (q : Program) (o : Opened) (r : Observed) (c : Course) (mid : host.World) (is : IsOpenedFrom (seen_in r.old.disk) o) → FollowsOpening r c mid o.slot is.log → IsChecked q → IsWholeFolder q r.old → ReadsMayStay r.old → ReadsMayStay mid →
     Opens (program_of is) r c
 opens q o r c mid is follows checked whole stay stay_mid = opens_whole (program_of is) r c mid (behind o r c mid is follows) q checked whole stay stay_mid

@@ -1,5 +1,6 @@
 -- A run that goes on behind `open_silo`.
-use Rattle.std.specs.Prelude.{◌≡◌, List, ◌++◌}
+use Rattle.std.specs.Prelude.{◌≡◌, ℕ, List, ◌++◌}
+use Rattle.host_trait.specs.declared.channels.FileId.TheVariants.{Manager}
 use Rattle.host_trait.specs.Disk.{settled}
 use Rattle.host_trait.specs.Runs.{RunsOnFile}
 use Rattle.host_trait.specs.World as host
@@ -16,11 +17,12 @@ use Rattle.silo_opening.specs.declared.open.Opened.{Opened}
 abbrev pub program_of : {image : Image} {o : Opened} → IsOpenedFrom image o → Program
 program_of {image} {o} is = record { text = is.text; types = program_tree o.checked }
 
--- The course begins with the log that was opened. Its early moments are those of the opening, which ends in the world `mid` as
--- `open_silo` ensures, and the late ones come behind it.
-pub record FollowsOpening (r : Observed) (c : Course) (mid : host.World) (log : List Commit) : Type 0 where
+-- The course begins with the log that was opened, in the slot that was. Its early moments are those of the opening, which ends in
+-- the world `mid` as `open_silo` ensures, and the late ones come behind it.
+pub record FollowsOpening (r : Observed) (c : Course) (mid : host.World) (slot : ℕ) (log : List Commit) : Type 0 where
+  pub live : c.live ≡ slot
   pub opening : c.opening ≡ log
   pub run : RunsOnFile manager Stays 1 r.old mid
-  pub settled : mid.disk manager ≡ settled (r.old.disk manager).seen
+  pub settled : mid.disk (Manager slot) ≡ settled (r.old.disk (Manager slot)).seen
   pub early : mid.past ≡ r.old.past ++ c.early
   pub late : r.new.past ≡ mid.past ++ c.late

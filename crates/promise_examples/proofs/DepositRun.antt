@@ -184,7 +184,7 @@ module _ (r : Observed) (opened : Moment) (sealing : List Moment) (run : IsDepos
   ordered = record {
     read = run.read;
     opened = λ image left. record { entry = (run.entry image left).0; log = (run.entry image left).1.0 };
-    longest = longest account_program [] r.old.output journal (moments r course) run.some (record { moment = moment_of r.new; member = exit_there opened sealing (moment_of r.new); left = run.possible }) (run.logged run.some run.possible).0
+    longest = longest 0 account_program [] r.old.output journal (moments r course) run.some (record { moment = moment_of r.new; member = exit_there opened sealing (moment_of r.new); left = run.possible }) (run.logged run.some run.possible).0
         (λ m there image left. (known m there image left).0.0);
     serial = serial;
   }
@@ -232,14 +232,14 @@ module _ (r : Observed) (opened : Moment) (sealing : List Moment) (run : IsDepos
     past = run.past;
     quiet = λ m there. only (λ (n : Moment). n.output ≡ r.old.output) opened m run.quiet there;
     before = λ image is. only (λ (n : Moment). IsImage n.disk image → IsImage r.old.disk image) opened is.moment (λ left. (run.entry image left).0) is.member is.left;
-    chain = λ one other a b. chained account_program [] r.old.output journal a.moment b.moment one other (keeps_at one a) (keeps_at other b);
-    whole = λ image is. all_whole account_program [] r.old.output journal is.moment image (keeps_at image is) (known is.moment is.member image is.left).1 numbered;
+    chain = λ one other a b. chained 0 account_program [] r.old.output journal a.moment b.moment one other (keeps_at one a) (keeps_at other b);
+    whole = λ image is. all_whole 0 account_program [] r.old.output journal is.moment image (keeps_at image is) (known is.moment is.member image is.left).1 numbered;
     keeps = λ image is. let k = keeps_at image is in record { log = commits_of (k.said ++ k.unsaid); is = k.log; longer = (commits_of (k.said ++ k.unsaid), refl) };
     alone = alone;
   }
 
   sound_all : StaySound account_program r course
-  sound_all image is = sound account_program [] r.old.output journal is.moment image (keeps_at image is) (known is.moment is.member image is.left).1 serial numbered
+  sound_all image is = sound 0 account_program [] r.old.output journal is.moment image (keeps_at image is) (known is.moment is.member image is.left).1 serial numbered
 
   -- and the files of other grains
   apart : (m : Moment) → Member m (moments r course) → LeavesOthers r m

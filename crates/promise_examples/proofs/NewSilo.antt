@@ -26,9 +26,9 @@ use Rattle.silo_spec.specs.Silos.{manager, program_file, IsSilo, HasProgram}
 use Rattle.request_wire.specs.Names.{TypeNames, names_in}
 use Rattle.request_wire.specs.Request.{shape_of, grain_of, method_of, args_of, passed, call_of}
 use Rattle.request_wire.proofs.Arguments.{json_of-read}
-use Rattle.promise_spec.specs.Programs.{ProgramFault, program_in}
+use Rattle.promise_spec.specs.Programs.{ProgramFault, shape_in, program_in}
 use Rattle.promise_spec.specs.Openings.{with_types, program_in_file}
-use Rattle.promise_spec.specs.Logs.{magic, body_of}
+use Rattle.promise_spec.specs.Logs.{magic, IsLog, body_of}
 use Rattle.promise_spec.specs.Crashes.{IsAside}
 use Rattle.promise_spec.specs.Promise.{IsSoundFolder}
 use Rattle.promise_examples.specs.Examples.{account_text, accounts, account_program, program_bytes, account_1, deposit_of, read_call, first_version, grain_bytes, block_bytes, manager_of, manager_bytes}
@@ -37,6 +37,8 @@ use Rattle.promise_examples.specs.WrittenRun.{new_manager, disk_of, new_disk, pe
 use Rattle.promise_examples.proofs.FirstDeposit.{logged}
 use Rattle.promise_examples.proofs.AccountText.{account_is_checked}
 use Rattle.promise_spec.proofs.Slots.{first_live}
+use Rattle.promise_spec.specs.Images.{IsSound}
+use Rattle.silo_spec.specs.Slots.{IsLive}
 
 -- ---- what images have
 
@@ -211,9 +213,15 @@ new_folder file = (new_disk file).seen
 -- each image has the empty log
 pub sound_world : (w : World) → ((image : Image) → IsImage w.disk image → IsImage new_disk image) → IsSoundFolder account_program w
 sound_world w same = record {
-  chain = λ one other is_one is_other silo. ([], (new_images one (same one is_one)).0, λ other_silo. ([], (new_images other (same other is_other)).0, inl ([], refl)));
-  sound = λ image left silo. let has = new_images image (same image left) in record { log = []; is = has.0; program = has.1; serial = tt; numbered = tt };
+  chain = λ one other is_one is_other live is. ([], log_in one is_one live is, λ too is_too. ([], log_in other is_other too is_too, inl ([], refl)));
+  sound = λ image left live is. subst (λ (slot : ℕ). IsSound slot account_program image) (sym is.slot) (sound_at image left);
 }
+  where
+    sound_at : (image : Image) → IsImage w.disk image → IsSound 0 account_program image
+    sound_at image left = let has = new_images image (same image left) in record { log = []; is = has.0; program = has.1; serial = tt; numbered = tt }
+
+    log_in : (image : Image) → IsImage w.disk image → (live : ℕ) → IsLive magic live image → IsLog live (shape_in account_program) image []
+    log_in image left live is = subst (λ (slot : ℕ). IsLog slot (shape_in account_program) image []) (sym is.slot) (new_images image (same image left)).0
 
 -- ---- the program file
 

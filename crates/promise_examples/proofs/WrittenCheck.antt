@@ -1,5 +1,5 @@
 -- The call of `check` that is written out keeps what is promised of it.
-use Rattle.std.proofs.Common.{◌≡◌, inl, inr, ℕ, true, List, [], ◌∷◌, refl, sym, ap, subst, lit<, lit≤}
+use Rattle.std.proofs.Common.{◌≡◌, inl, inr, true, [], refl, sym, subst, lit<, lit≤}
 use Rattle.std.specs.Fmt.{digits}
 use Rattle.two_silos.specs.Generated.{checked}
 use Rattle.two_silos.specs.Summaries.{summary_of, line_of}
@@ -7,9 +7,7 @@ use Rattle.promise_spec.specs.Words.{Command, Check, Say}
 use Rattle.promise_spec.specs.Checks.{Checks}
 use Rattle.promise_spec.specs.Calls.{Obeys, Serves}
 use Rattle.promise_spec.proofs.Words.{one_command}
-use Rattle.promise_examples.specs.Examples.{account_text}
 use Rattle.promise_examples.specs.HostCalls.{IsHosted}
-use Rattle.promise_examples.specs.WrittenInit.{empty_disk}
 use Rattle.promise_examples.specs.WrittenCheck.{check_words, check_line, check_call, check_steps}
 
 -- the line of no start

@@ -1,5 +1,5 @@
 -- The run that is written out, of a doubt whose gate's write never began, shows what has to be shown, and keeps the promise.
-use Rattle.std.proofs.Common.{◌≡◌, ◌≢◌, inl, inr, ℕ, ◌+◌, ◌≤◌, List, [], ◌∷◌, ◌++◌, length, take, drop, slice_index, refl, sym, ◌∙◌, ap, subst, arith}
+use Rattle.std.proofs.Common.{◌≡◌, ◌≢◌, inl, inr, ℕ, ◌≤◌, List, [], ◌∷◌, ◌++◌, length, take, drop, slice_index, refl, sym, ◌∙◌, ap, subst, arith}
 use Rattle.std.specs.Fmt.{digits}
 use Rattle.std.specs.List.{AllByRecursion}
 use Rattle.serde_json.proofs.OnLiterals.{serde_json_on_literals}
@@ -31,7 +31,7 @@ use Rattle.promise_spec.proofs.OneLog.{one_log}
 use Rattle.promise_laws.specs.Obligations.{SaysIn, Opens, Journals, ExplainsEvents, LeavesAtExit, EndsRightly, Shows}
 use Rattle.promise_laws.proofs.ShownRuns.{shown}
 use Rattle.promise_laws.proofs.ShownPromise.{promised}
-use Rattle.promise_examples.specs.Examples.{account_program, account_1, first_commit, grain_bytes, block_bytes, manager_bytes, locked_entry, doubt_entry, conflict_entries}
+use Rattle.promise_examples.specs.Examples.{account_program, first_commit, grain_bytes, block_bytes, manager_bytes, locked_entry, doubt_entry, conflict_entries}
 use Rattle.promise_examples.specs.DepositRuns.{HasNone, LeavesOthers, IsBetween}
 use Rattle.promise_examples.specs.HostCalls.{IsHosted}
 use Rattle.promise_examples.specs.WrittenRun.{new_manager, new_disk, version_pending, block_pending, staged_disk, opened}

@@ -16,7 +16,6 @@ use Rattle.core_model.specs.declared.events.CoreEvent.TheVariants.{Vote}
 use Rattle.core_model.specs.Events.{applies}
 use Rattle.core_model.specs.Laws.{extended}
 use Rattle.core_model.specs.Legal.{Run, ends}
-use Rattle.log_reading.specs.Steps.{live_slot}
 use Rattle.promise_spec.specs.Causes.{NoneRose, is_no, is_vote, is_vote_of, is_sealed, is_unsealed}
 use Rattle.promise_spec.specs.Cores.{how_many}
 use Rattle.run_books.specs.Beginnings.{Outset}
@@ -84,37 +83,37 @@ pub record TellsNoFile (e : CoreEvent) : Type 0 where
   pub sealed : is_sealed e ≡ false
   pub vote_of : (g : GrainId) → is_vote_of g e ≡ false
 
-grain-is : (x y : GrainId) → Grain live_slot x ≡ Grain live_slot y → x ≡ y
-grain-is x y q = cc
+grain-is : (live : ℕ) (x y : GrainId) → Grain live x ≡ Grain live y → x ≡ y
+grain-is live x y q = cc
 
-grain-apart : (g h : GrainId) → same_grain g h ≡ false → Grain live_slot h ≢ Grain live_slot g
-grain-apart g h apart q = absurd (let t : true ≡ false = sym (same_grain-refl g) ∙ ap (same_grain g) (sym (grain-is h g q)) ∙ apart in cc t)
+grain-apart : (live : ℕ) (g h : GrainId) → same_grain g h ≡ false → Grain live h ≢ Grain live g
+grain-apart live g h apart q = absurd (let t : true ≡ false = sym (same_grain-refl g) ∙ ap (same_grain g) (sym (grain-is live h g q)) ∙ apart in cc t)
 
-pub not-manager : (h : GrainId) → Grain live_slot h ≢ Manager live_slot
-not-manager h q = absurd (cc q)
+pub not-manager : (live : ℕ) (h : GrainId) → Grain live h ≢ Manager live
+not-manager live h q = absurd (cc q)
 
 module _ (o : Outset) (r r' : Run) (old new : Channel → ℕ) (now now' : World) (k : CountsCalls o r old now) where
   -- as many as before, and no grain's file was written
   pub calls-same : (NoneRose o.faults new → NoneRose o.faults old) → how_many is_vote r' ≡ how_many is_vote r → how_many is_sealed r' ≡ how_many is_sealed r → how_many is_unsealed r' ≡ how_many is_unsealed r
-      → ((g : GrainId) → how_many (is_vote_of g) r' ≡ how_many (is_vote_of g) r) → now'.syncs ≡ now.syncs → ((g : GrainId) → KeepsFile (Grain live_slot g) now now') → CountsCalls o r' new now'
+      → ((g : GrainId) → how_many (is_vote_of g) r' ≡ how_many (is_vote_of g) r) → now'.syncs ≡ now.syncs → ((g : GrainId) → KeepsFile (Grain o.live g) now now') → CountsCalls o r' new now'
   calls-same back votes seals unsealed votes_of same files = record {
     each = λ none. same ∙ k.each (back none) ∙ (λ i. o.world.syncs + (sym votes i + 2 * sym seals i));
     most = (let m = k.most in omega (arith, m, votes, seals, unsealed, same));
-    unvoted = λ g none. file-on (Grain live_slot g) o.world now now' (k.unvoted g (sym (votes_of g) ∙ none)) (files g);
+    unvoted = λ g none. file-on (Grain o.live g) o.world now now' (k.unvoted g (sym (votes_of g) ∙ none)) (files g);
   }
 
 -- a vote
 module _ (o : Outset) (r : Run) (n : ℕ) (g : GrainId) (said : Bool) (old new : Channel → ℕ) (now now' : World) (R : List ℕ → List ℕ → Type 0) (k : CountsCalls o r old now) (a : applies (ends r) (Vote n g said) ≡ true)
-    (run : RunsOnFile (Grain live_slot g) R 1 now now') where
+    (run : RunsOnFile (Grain o.live g) R 1 now now') where
   abbrev voted : Run
   voted = extended r (Vote n g said ∷ [])
 
   less : (h : GrainId) → how_many (is_vote_of h) voted ≡ 0 → how_many (is_vote_of h) r ≡ 0
   less h none = (let more : how_many (is_vote_of h) voted ≡ how_many (is_vote_of h) r + one_more (is_vote_of h) r (Vote n g said) = how-more (is_vote_of h) r (Vote n g said) in omega (arith, more, none))
 
-  apart : (h : GrainId) → how_many (is_vote_of h) voted ≡ 0 → (b : Bool) → same_grain g h ≡ b → Grain live_slot h ≢ Grain live_slot g
+  apart : (h : GrainId) → how_many (is_vote_of h) voted ≡ 0 → (b : Bool) → same_grain g h ≡ b → Grain o.live h ≢ Grain o.live g
   apart h none true is = absurd (let more : how_many (is_vote_of h) voted ≡ how_many (is_vote_of h) r + 1 = how-one (is_vote_of h) r (Vote n g said) is a in omega (arith, more, none))
-  apart h none false is = grain-apart g h is
+  apart h none false is = grain-apart o.live g h is
 
   few : now'.syncs ≤ o.world.syncs + (how_many is_vote voted + 2 * (how_many is_sealed voted + how_many is_unsealed voted))
   few =
@@ -129,16 +128,16 @@ module _ (o : Outset) (r : Run) (n : ℕ) (g : GrainId) (said : Bool) (old new :
   calls-vote each = record {
     each = each;
     most = few;
-    unvoted = λ h none. file-on (Grain live_slot h) o.world now now' (k.unvoted h (less h none)) (file-beside (Grain live_slot h) (Grain live_slot g) R 1 now now' (apart h none (same_grain g h) refl) run);
+    unvoted = λ h none. file-on (Grain o.live h) o.world now now' (k.unvoted h (less h none)) (file-beside (Grain o.live h) (Grain o.live g) R 1 now now' (apart h none (same_grain g h) refl) run);
   }
 
 -- a batch that was to be sealed
 pub calls-seal : (o : Outset) (r r' : Run) (old new : Channel → ℕ) (now now' : World) (R : List ℕ → List ℕ → Type 0) → CountsCalls o r old now
     → how_many is_vote r' ≡ how_many is_vote r → how_many is_sealed r' + how_many is_unsealed r' ≡ how_many is_sealed r + how_many is_unsealed r + 1
-    → ((g : GrainId) → how_many (is_vote_of g) r' ≡ how_many (is_vote_of g) r) → RunsOnFile (Manager live_slot) R 2 now now'
+    → ((g : GrainId) → how_many (is_vote_of g) r' ≡ how_many (is_vote_of g) r) → RunsOnFile (Manager o.live) R 2 now now'
     → (NoneRose o.faults new → now'.syncs ≡ o.world.syncs + (how_many is_vote r' + 2 * how_many is_sealed r')) → CountsCalls o r' new now'
 calls-seal o r r' old new now now' R k votes seals votes_of run each = record {
   each = each;
   most = (let m = k.most in let s = run.syncs in omega (arith, m, s, votes, seals));
-  unvoted = λ g none. file-on (Grain live_slot g) o.world now now' (k.unvoted g (sym (votes_of g) ∙ none)) (file-beside (Grain live_slot g) (Manager live_slot) R 2 now now' (not-manager g) run);
+  unvoted = λ g none. file-on (Grain o.live g) o.world now now' (k.unvoted g (sym (votes_of g) ∙ none)) (file-beside (Grain o.live g) (Manager o.live) R 2 now now' (not-manager o.live g) run);
 }

@@ -8,7 +8,6 @@ use Rattle.core_model.specs.CoreState.{Member}
 use Rattle.core_model.specs.declared.events.CoreEvent.{CoreEvent}
 use Rattle.core_model.specs.Laws.{extended}
 use Rattle.core_model.specs.Legal.{Run, ends}
-use Rattle.log_reading.specs.Steps.{live_slot}
 use Rattle.promise_spec.specs.Programs.{shape_in}
 use Rattle.promise_spec.specs.Records.{Commit}
 use Rattle.promise_spec.specs.Logs.{IsLog}
@@ -41,9 +40,9 @@ module _ (o : Outset) (head : List ℕ) (b : Books) (r : Run) (e : CoreEvent) (w
     (above : 0 < r.base) (units : KeepsUnitRule (basis_of o) r) (after : KeepsUnitRule (basis_of o) (extended r (e ∷ [])))
     (booked : AreBooked b (ends r)) (sure : b.doubted ≡ []) (whole : b.rest ≡ []) (proper : AllByRecursion (IsProper (shape_in o.program)) (entries_of b.said))
     (l : LastsSo o head b r writer now) (booked' : AreBooked (grown b more [] (as_settled batch ∷ [])) (ends (extended r (e ∷ []))))
-    (doubts : Doubts o.program (o.opening ++ commits_of (b.said ++ b.unsaid)) (as_settled batch) now now')
-    (some : SomeImage (λ image. IsLog live_slot (shape_in o.program) image ((o.opening ++ commits_of (b.said ++ b.unsaid)) ++ batch)) now'.disk)
-    (rest : Passes (LeavesRest head now) now.past now'.past) (rest_now : LeavesRest head now (moment_of now'))
+    (doubts : Doubts o.live o.program (o.opening ++ commits_of (b.said ++ b.unsaid)) (as_settled batch) now now')
+    (some : SomeImage (λ image. IsLog o.live (shape_in o.program) image ((o.opening ++ commits_of (b.said ++ b.unsaid)) ++ batch)) now'.disk)
+    (rest : Passes (LeavesRest o.live head now) now.past now'.past) (rest_now : LeavesRest o.live head now (moment_of now'))
     (fresh : (x : Entry) (c : Commit) → Member x (entries_of ((b.said ++ b.unsaid) ++ alone more)) → Member c batch → Acknowledges x c → ⊥) where
   abbrev r' : Run
   r' = extended r (e ∷ [])
@@ -72,19 +71,19 @@ module _ (o : Outset) (head : List ℕ) (b : Books) (r : Run) (e : CoreEvent) (w
       ∙ sym (append_assoc o.opening (commits_of (books.said ++ books.unsaid)) (commits_of (as_settled batch ∷ [])))
       ∙ ap (λ (c : List Commit). c ++ commits_of (as_settled batch ∷ [])) log-is
 
-  before : JournalAt o.program o.opening o.world b.said b.unsaid now
+  before : JournalAt o.live o.program o.opening o.world b.said b.unsaid now
   before =
-      uncut o.program o.opening o.world b.said b.unsaid now
-      (subst (λ (t : List ℕ). CutAt o.program o.opening o.world b.said b.unsaid [] t now) whole
-      (subst (λ (d : List Settlement). CutAt o.program o.opening o.world b.said b.unsaid d b.rest now) sure l.journal))
+      uncut o.live o.program o.opening o.world b.said b.unsaid now
+      (subst (λ (t : List ℕ). CutAt o.live o.program o.opening o.world b.said b.unsaid [] t now) whole
+      (subst (λ (d : List Settlement). CutAt o.live o.program o.opening o.world b.said b.unsaid d b.rest now) sure l.journal))
 
-  journal : CutAt o.program o.opening o.world books.said books.unsaid books.doubted books.rest now'
+  journal : CutAt o.live o.program o.opening o.world books.said books.unsaid books.doubted books.rest now'
   journal =
-      let at : DoubtAt o.program o.opening o.world b.said (b.unsaid ++ alone more) (as_settled batch) now' =
-      doubts_on o.program o.opening o.world b.said b.unsaid (alone more) (as_settled batch) now now' (alone-commits more) proper before doubts in
-      subst (λ (t : List ℕ). CutAt o.program o.opening o.world b.said books.unsaid (as_settled batch ∷ []) t now') (sym whole)
-      (doubt_cut o.program o.opening o.world b.said books.unsaid (as_settled batch) now'
-      (subst (λ (u : List Settlement). DoubtAt o.program o.opening o.world b.said (u ++ alone more) (as_settled batch) now') (sym (append-nil b.unsaid)) at))
+      let at : DoubtAt o.live o.program o.opening o.world b.said (b.unsaid ++ alone more) (as_settled batch) now' =
+      doubts_on o.live o.program o.opening o.world b.said b.unsaid (alone more) (as_settled batch) now now' (alone-commits more) proper before doubts in
+      subst (λ (t : List ℕ). CutAt o.live o.program o.opening o.world b.said books.unsaid (as_settled batch ∷ []) t now') (sym whole)
+      (doubt_cut o.live o.program o.opening o.world b.said books.unsaid (as_settled batch) now'
+      (subst (λ (u : List Settlement). DoubtAt o.live o.program o.opening o.world b.said (u ++ alone more) (as_settled batch) now') (sym (append-nil b.unsaid)) at))
 
   no-entry : (x : Entry) (s : Settlement) (fore back : List Settlement) → as_settled batch ∷ [] ≡ fore ++ (s ∷ back) → Member x s.entries → ⊥
   no-entry x s fore back split there =
@@ -106,25 +105,25 @@ module _ (o : Outset) (head : List ℕ) (b : Books) (r : Run) (e : CoreEvent) (w
   second = subst (EndsABatch (ends r') o.opening) longer-is
       (records-end (basis_of o) r' o.opening (commits_of (booked_journal books)) above after (added-by (ends r') (books.said ++ books.unsaid) (as_settled batch ∷ []) booked'.commits booked'.doubted))
 
-  ends-now : AllEnd o.program (ends r') o.opening (moment_of now')
+  ends-now : AllEnd o.live o.program (ends r') o.opening (moment_of now')
   ends-now =
-      sealing_ends o.program (ends r') o.opening log (as_settled batch ∷ []) now (moment_of now')
+      sealing_ends o.live o.program (ends r') o.opening log (as_settled batch ∷ []) now (moment_of now')
       (record { output = doubts.output; log = doubts.log }) first second
 
   -- with what stands of its block
-  pub doubt-lasts : HasOpenBlock (o.opening ++ commits_of (booked_journal books)) (ends r') now'.disk → writer'.in_doubt ≡ true → LastsSo o head books r' writer' now'
+  pub doubt-lasts : HasOpenBlock o.live (o.opening ++ commits_of (booked_journal books)) (ends r') now'.disk → writer'.in_doubt ≡ true → LastsSo o head books r' writer' now'
   doubt-lasts block unsure = record {
     journal = journal;
     backs = backs;
-    batches = both (AllEnd o.program (ends r') o.opening) (moments-stay (basis_of o) o.program r (e ∷ []) o.opening o.world.past now.past above after l.batches)
-        (weaker (IsSealing o.program log (as_settled batch ∷ []) now) (AllEnd o.program (ends r') o.opening) (λ m s. sealing_ends o.program (ends r') o.opening log (as_settled batch ∷ []) now m s first second) doubts.moments);
+    batches = both (AllEnd o.live o.program (ends r') o.opening) (moments-stay o.live (basis_of o) o.program r (e ∷ []) o.opening o.world.past now.past above after l.batches)
+        (weaker (IsSealing o.live o.program log (as_settled batch ∷ []) now) (AllEnd o.live o.program (ends r') o.opening) (λ m s. sealing_ends o.live o.program (ends r') o.opening log (as_settled batch ∷ []) now m s first second) doubts.moments);
     batches_now = ends-now;
-    alone = both (LeavesAside head o.world) l.alone (weaker (LeavesRest head now) (LeavesAside head o.world) (λ m k. aside-later head o.world now m l.alone_now k) rest);
-    alone_now = aside-later head o.world now (moment_of now') l.alone_now rest_now;
+    alone = both (LeavesAside o.live head o.world) l.alone (weaker (LeavesRest o.live head now) (LeavesAside o.live head o.world) (λ m k. aside-later o.live head o.world now m l.alone_now k) rest);
+    alone_now = aside-later o.live head o.world now (moment_of now') l.alone_now rest_now;
     some = λ there. record {
       image = some.image;
       left = some.left;
-      holds = subst (λ (c : List Commit). IsLog live_slot (shape_in o.program) some.image c) (sym (longer-is ∙ ap (λ (c : List Commit). log ++ c) (append-nil batch))) some.holds;
+      holds = subst (λ (c : List Commit). IsLog o.live (shape_in o.program) some.image c) (sym (longer-is ∙ ap (λ (c : List Commit). log ++ c) (append-nil batch))) some.holds;
     };
     block = λ d. block;
     folder = λ q. absurd (let z : true ≡ false = sym unsure ∙ q in cc);

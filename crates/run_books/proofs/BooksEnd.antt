@@ -3,6 +3,7 @@ use Rattle.std.proofs.Common.{◌≡◌, ◌⊎◌, inl, inr, ℕ, List, [], ◌
 use Rattle.std.specs.Prelude.{IsTrue}
 use Rattle.std.proofs.lemmas.Bool.{or_right}
 use Rattle.base_types.specs.declared.entries.Entry.{Entry}
+use Rattle.host_trait.specs.declared.channels.FileId.TheVariants.{Manager}
 use Rattle.host_trait.specs.declared.channels.Channel.{Channel}
 use Rattle.host_trait.specs.World.{World}
 use Rattle.core_model.specs.CoreState.{Member}
@@ -13,7 +14,6 @@ use Rattle.core_model.specs.Laws.{extended}
 use Rattle.core_model.specs.Legal.{Run, ends}
 use Rattle.core_model.specs.Serial.{chosen}
 use Rattle.core_model.specs.Settler.{Step, Votes, Decides, Seals as SealStep, Learns, Writes, Takes, Rests, MakesEvent, settler_step, to_commit}
-use Rattle.log_reading.specs.Steps.{live_slot, manager}
 use Rattle.promise_spec.specs.Programs.{shape_in}
 use Rattle.promise_spec.specs.Records.{Commit, AreRecordsOf}
 use Rattle.promise_spec.specs.Journals.{Settlement, Seals, Doubts, commits_of, entries_of}
@@ -70,7 +70,7 @@ module _ {H : Type 0} (tells : Bool) (world : H → World) (faults : H → Chann
 
   -- ---- a doubt
 
-  module _ (n : ℕ) (makes : MakesEvent (settler_step (ends r)) (event.Doubt n)) (does : SealsUnits tells world faults n (event.Doubt n) (to_commit (ends r) (ends r).manager.batch) before.writer after.writer old new) (c : Counted (event.Doubt n)) where
+  module _ (n : ℕ) (makes : MakesEvent (settler_step (ends r)) (event.Doubt n)) (does : SealsUnits tells world faults o.live n (event.Doubt n) (to_commit (ends r) (ends r).manager.batch) before.writer after.writer old new) (c : Counted (event.Doubt n)) where
     abbrev e : CoreEvent
     e = event.Doubt n
 
@@ -84,7 +84,7 @@ module _ {H : Type 0} (tells : Bool) (world : H → World) (faults : H → Chann
     batch = commits_by (to_commit (ends r) (ends r).manager.batch) does.work.records
 
     abbrev may : Bool
-    may = may_open before.writer.gate_at ((world new).disk manager)
+    may = may_open before.writer.gate_at ((world new).disk (Manager o.live))
 
     m : Moves (ends r) (event.Doubt n) (ends (extended r (event.Doubt n ∷ [])))
     m = moves-run r (event.Doubt n) c.applied
@@ -92,7 +92,7 @@ module _ {H : Type 0} (tells : Bool) (world : H → World) (faults : H → Chann
     unsure : after.doubted ≡ true
     unsure = c.doubted ∙ or_right before.doubted true refl
 
-    adds : AddsBatch tells o r (extended r (event.Doubt n ∷ [])) before after (faults old) (faults new) (world old) (world new) [] (doubted_by (may_open before.writer.gate_at ((world new).disk manager)) (to_commit (ends r) (ends r).manager.batch) does.work.records)
+    adds : AddsBatch tells o r (extended r (event.Doubt n ∷ [])) before after (faults old) (faults new) (world old) (world new) [] (doubted_by (may_open before.writer.gate_at ((world new).disk (Manager o.live))) (to_commit (ends r) (ends r).manager.batch) does.work.records)
     adds = adds-doubt tells world faults o b r before after old new can.above can.units k n c.applied m c.quiet c.written unsure does
 
     books : Books
@@ -117,15 +117,15 @@ module _ {H : Type 0} (tells : Bool) (world : H → World) (faults : H → Chann
     no-doubts = sure tells world faults o b r before after old new can even k e c refl refl
 
     as-doubt : (t : IsTrue tells) (head : List ℕ) (f : KeepsFolder o head b r before.writer (world old).disk) → (x : Sealing) → event.Doubt n ≡ event_of n x
-        → SealsAs (shape_in o.program) head f.batches effects does.work.records x before.writer after.writer (world old) (world new)
-        → DoubtsBatch o.program head f.batches before.writer after.writer (world old) (world new) before.writer.gate_at effects batch
+        → SealsAs o.live (shape_in o.program) head f.batches effects does.work.records x before.writer after.writer (world old) (world new)
+        → DoubtsBatch o.live o.program head f.batches before.writer after.writer (world old) (world new) before.writer.gate_at effects batch
     as-doubt t head f (sealing.Sealed next) q s = absurd (cc q)
     as-doubt t head f sealing.NotSealed q s = absurd (cc q)
     as-doubt t head f sealing.InDoubt q s =
-        subst (DoubtsBatch o.program head f.batches before.writer after.writer (world old) (world new) before.writer.gate_at effects) s.made_of
-        (doubted o.program head f.batches before.writer after.writer (world old) (world new) f.keeps effects does.work.records (does.run t).now.output (does.run t).clock s)
+        subst (DoubtsBatch o.live o.program head f.batches before.writer after.writer (world old) (world new) before.writer.gate_at effects) s.made_of
+        (doubted o.live o.program head f.batches before.writer after.writer (world old) (world new) f.keeps effects does.work.records (does.run t).now.output (does.run t).clock s)
 
-    doubt-of : (t : IsTrue tells) (head : List ℕ) (f : KeepsFolder o head b r before.writer (world old).disk) → DoubtsBatch o.program head f.batches before.writer after.writer (world old) (world new) before.writer.gate_at effects batch
+    doubt-of : (t : IsTrue tells) (head : List ℕ) (f : KeepsFolder o head b r before.writer (world old).disk) → DoubtsBatch o.live o.program head f.batches before.writer after.writer (world old) (world new) before.writer.gate_at effects batch
     doubt-of t head f =
         let fair = (is-fair o r before.writer can.above can.units can.kinds can.accepted can.numbers f.votes).seal n (seals-step n (settler_step (ends r)) makes) in
         as-doubt t head f does.answer does.event (does.seals t (shape_in o.program) head f.batches fair.0 fair.1 f.keeps)
@@ -140,8 +140,8 @@ module _ {H : Type 0} (tells : Bool) (world : H → World) (faults : H → Chann
       log-is : o.opening ++ commits_of (b.said ++ ((b.unsaid ++ []) ++ alone m.more)) ≡ log_of f.batches
       log-is = ap (λ (x : List Commit). o.opening ++ x) (grown-commits b m.more [] [] ∙ append-nil (commits_of (b.said ++ b.unsaid))) ∙ sym f.log
 
-      block-of : DoubtsBatch o.program head f.batches before.writer after.writer (world old) (world new) before.writer.gate_at effects batch → (log : List Commit)
-          → (log ≡ log_of f.batches) ⊎ (log ≡ log_of f.batches ++ batch) → HasOpenBlock log (ends r') (world new).disk
+      block-of : DoubtsBatch o.live o.program head f.batches before.writer after.writer (world old) (world new) before.writer.gate_at effects batch → (log : List Commit)
+          → (log ≡ log_of f.batches) ⊎ (log ≡ log_of f.batches ++ batch) → HasOpenBlock o.live log (ends r') (world new).disk
       block-of d log which = record {
         gate = before.writer.gate_at;
         batch = batch;
@@ -153,21 +153,21 @@ module _ {H : Type 0} (tells : Bool) (world : H → World) (faults : H → Chann
         differ = d.doubt.differ;
       }
 
-      unbegun : DoubtsBatch o.program head f.batches before.writer after.writer (world old) (world new) before.writer.gate_at effects batch → may ≡ false
-          → Seals o.program (log_of f.batches) [] (world old) (world new) → Lasting (doubted_by may effects does.work.records)
+      unbegun : DoubtsBatch o.live o.program head f.batches before.writer after.writer (world old) (world new) before.writer.gate_at effects batch → may ≡ false
+          → Seals o.live o.program (log_of f.batches) [] (world old) (world new) → Lasting (doubted_by may effects does.work.records)
       unbegun d no-open seals =
           let nothing : doubted_by may effects does.work.records ≡ [] = ap (λ (x : Bool). doubted_by x effects does.work.records) no-open in
           subst Lasting (sym nothing)
           (seals-last o head b r e before.writer after.writer (world old) (world new) m.more [] can.above can.units c.units k.booked no-doubts even.rest (k.outside t).output.proper l refl
           (subst (λ (x : List Settlement). AreBooked (grown b m.more [] x) (ends r')) nothing kept.booked)
-          (subst (λ (log : List Commit). Seals o.program log [] (world old) (world new)) f.log seals) d.rest d.doubt.rest
+          (subst (λ (log : List Commit). Seals o.live o.program log [] (world old) (world new)) f.log seals) d.rest d.doubt.rest
           (λ x y said there is. there)
           (λ h. block-of d (o.opening ++ commits_of ((b.said ++ ((b.unsaid ++ []) ++ alone m.more)) ++ []))
           (inl (ap (λ (j : List Settlement). o.opening ++ commits_of j) (append-nil (b.said ++ ((b.unsaid ++ []) ++ alone m.more))) ∙ log-is)))
           (λ q. absurd (let z : true ≡ false = sym writer-unsure ∙ q in cc)))
 
-      begun : DoubtsBatch o.program head f.batches before.writer after.writer (world old) (world new) before.writer.gate_at effects batch → may ≡ true
-          → Doubts o.program (log_of f.batches) (as_settled batch) (world old) (world new) → SomeImage (λ image. IsLog live_slot (shape_in o.program) image (log_of f.batches ++ batch)) (world new).disk
+      begun : DoubtsBatch o.live o.program head f.batches before.writer after.writer (world old) (world new) before.writer.gate_at effects batch → may ≡ true
+          → Doubts o.live o.program (log_of f.batches) (as_settled batch) (world old) (world new) → SomeImage (λ image. IsLog o.live (shape_in o.program) image (log_of f.batches ++ batch)) (world new).disk
           → Lasting (doubted_by may effects does.work.records)
       begun d is-open doubts some =
           let it : doubted_by may effects does.work.records ≡ as_settled batch ∷ [] = ap (λ (x : Bool). doubted_by x effects does.work.records) is-open in
@@ -176,8 +176,8 @@ module _ {H : Type 0} (tells : Bool) (world : H → World) (faults : H → Chann
           grown-front b m.more [] [] ∙ ap (λ (j : List Settlement). j ++ alone m.more) (append-nil (b.said ++ b.unsaid)) in
           subst Lasting (sym it)
           (doubt-lasts o head b r e before.writer after.writer (world old) (world new) m.more batch can.above can.units c.units k.booked no-doubts even.rest (k.outside t).output.proper l booked'
-          (subst (λ (log : List Commit). Doubts o.program log (as_settled batch) (world old) (world new)) f.log doubts)
-          (subst (λ (log : List Commit). SomeImage (λ image. IsLog live_slot (shape_in o.program) image (log ++ batch)) (world new).disk) f.log some) d.rest d.doubt.rest
+          (subst (λ (log : List Commit). Doubts o.live o.program log (as_settled batch) (world old) (world new)) f.log doubts)
+          (subst (λ (log : List Commit). SomeImage (λ image. IsLog o.live (shape_in o.program) image (log ++ batch)) (world new).disk) f.log some) d.rest d.doubt.rest
           (λ x y said there is.
           fresh-doubt (basis_of o) r e batch can.above can.units c.units of_batch of_chosen (committed-stays (basis_of o) r can.above can.units e refl) x y
           (subst (λ (xs : List Entry). Member x xs) booked'.entries (subst (λ (j : List Settlement). Member x (entries_of j)) (sym named) said)) there is)
@@ -199,7 +199,7 @@ module _ {H : Type 0} (tells : Bool) (world : H → World) (faults : H → Chann
     doubt-done : Done (event.Doubt n)
     doubt-done = record { books = grown b m.more [] (doubted_by may effects does.work.records); kept = kept; even_again = again; lasts = λ t head l. lasts t head l }
 
-  pub by-doubt : (n : ℕ) → MakesEvent (settler_step (ends r)) (event.Doubt n) → SealsUnits tells world faults n (event.Doubt n) (to_commit (ends r) (ends r).manager.batch) before.writer after.writer old new ⊎ DoubtsAgain tells world faults before.writer after.writer old new
+  pub by-doubt : (n : ℕ) → MakesEvent (settler_step (ends r)) (event.Doubt n) → SealsUnits tells world faults o.live n (event.Doubt n) (to_commit (ends r) (ends r).manager.batch) before.writer after.writer old new ⊎ DoubtsAgain tells world faults before.writer after.writer old new
       → Counted (event.Doubt n) → Done (event.Doubt n)
   by-doubt n makes (inl does) c = doubt-done n makes does c
   by-doubt n makes (inr does) c = absurd (not-again tells world faults o b r before after old new can.above can.units k n c.applied does)

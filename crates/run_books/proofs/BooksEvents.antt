@@ -5,7 +5,7 @@ use Rattle.std.proofs.lemmas.Bool.{and_right}
 use Rattle.base_types.specs.declared.calls.GrainId.{GrainId}
 use Rattle.host_trait.specs.declared.channels.Channel.{Channel}
 use Rattle.host_trait.specs.declared.channels.Channel.TheVariants.{File}
-use Rattle.host_trait.specs.declared.channels.FileId.TheVariants.{Grain}
+use Rattle.host_trait.specs.declared.channels.FileId.TheVariants.{Grain, Manager}
 use Rattle.host_trait.specs.Faults.{NoneFailed, FailedOn}
 use Rattle.host_trait.specs.Files.{same_grain}
 use Rattle.host_trait.specs.World.{World}
@@ -29,8 +29,6 @@ use Rattle.promise_spec.specs.Causes.{AreFaults, is_no, is_unsealed, is_vote, is
 use Rattle.promise_spec.specs.Cores.{how_many}
 use Rattle.promise_spec.specs.UnitRule.{KeepsUnitRule}
 use Rattle.promise_spec.specs.Journals.{Settlement, commits_of, entries_of}
-use Rattle.log_reading.specs.Steps.{live_slot, manager}
-use Rattle.batch_disk.specs.Resting.{grain_file}
 use Rattle.batch_disk.specs.Records.{commits_by}
 use Rattle.batch_disk.specs.Seals.{WriterAfter, may_open}
 use Rattle.batch_disk.specs.Writers.{voted_of}
@@ -70,11 +68,11 @@ module _ {H : Type 0} (tells : Bool) (world : H → World) (faults : H → Chann
     r' = extended r (e ∷ [])
 
     -- an event that leaves no doubt
-    plain-adds : tells_doubt e ≡ false → after.doubted ≡ before.doubted → after.writer.in_doubt ≡ before.writer.in_doubt
+    plain-adds : tells_doubt e ≡ false → after.doubted ≡ before.doubted → after.writer.in_doubt ≡ before.writer.in_doubt → after.writer.slot ≡ before.writer.slot
         → (batch : List Settlement) (effects : List Effect) → entries_of batch ≡ [] → committed (ends r') ≡ committed (ends r) ++ effects → AreRecordsOf effects (commits_of batch)
-        → AreFaults live_slot r' o.faults (faults new) → NoneFell (faults old) (faults new) → (IsTrue tells → (world new).output ≡ (world old).output)
+        → AreFaults o.live r' o.faults (faults new) → NoneFell (faults old) (faults new) → (IsTrue tells → (world new).output ≡ (world old).output)
         → (IsTrue tells → CountsCalls o r' (faults new) (world new)) → AddsBatch tells o r r' before after (faults old) (faults new) (world old) (world new) batch b.doubted
-    plain-adds sure doubted writer batch effects none commits records counted later output calls = record {
+    plain-adds sure doubted writer slot batch effects none commits records counted later output calls = record {
       effects = effects;
       none = none;
       commits = commits;
@@ -84,6 +82,7 @@ module _ {H : Type 0} (tells : Bool) (world : H → World) (faults : H → Chann
       later = later;
       quiet = quiet;
       doubt = doubted ∙ k.doubt ∙ ap is_some (sym (m.doubt sure));
+      slot = slot;
       unsure = writer ∙ k.unsure ∙ sym doubted;
       written = written;
       output = output;
@@ -98,23 +97,23 @@ module _ {H : Type 0} (tells : Bool) (world : H → World) (faults : H → Chann
         → MakesNoCall tells world faults before.writer after.writer old new → AddsBatch tells o r r' before after (faults old) (faults new) (world old) (world new) [] b.doubted
     adds-none sure doubted votes unsealed vote sealed does =
         let later : NoneFell (faults old) (faults new) = calm-later (faults old) (faults new) (λ c. ap (λ (h : H). faults h c) does.host) in
-        plain-adds sure doubted (ap (λ (w : BatchWriter). w.in_doubt) does.writer) [] [] refl (none-more sealed) tt
-        (faults-same live_slot r r' o.faults (faults old) (faults new) k.faults later (λ g. how-same (is_no g) r e (votes g)) (how-same is_unsealed r e unsealed))
+        plain-adds sure doubted (ap (λ (w : BatchWriter). w.in_doubt) does.writer) (ap (λ (w : BatchWriter). w.slot) does.writer) [] [] refl (none-more sealed) tt
+        (faults-same o.live r r' o.faults (faults old) (faults new) k.faults later (λ g. how-same (is_no g) r e (votes g)) (how-same is_unsealed r e unsealed))
         later (λ t. ap (λ (h : H). (world h).output) does.host)
         (λ t. calls-same o r r' (faults old) (faults new) (world old) (world new) (k.outside t).calls (rose-back o.faults (faults old) (faults new) k.later later)
         (how-same is_vote r e vote) (how-same is_sealed r e sealed) (how-same is_unsealed r e unsealed) (λ g. how-same (is_vote_of g) r e (votes-none g e vote))
-        (ap (λ (h : H). (world h).syncs) does.host) (λ g. file-same (Grain live_slot g) (world old) (world new) (ap world does.host)))
+        (ap (λ (h : H). (world h).syncs) does.host) (λ g. file-same (Grain o.live g) (world old) (world new) (ap world does.host)))
 
   -- a vote
   pub adds-vote : (n : ℕ) (g : GrainId) (said : Bool) → applies (ends r) (event.Vote n g said) ≡ true → Moves (ends r) (event.Vote n g said) (ends (extended r (event.Vote n g said ∷ [])))
       → after.quiet ≡ before.quiet → after.written ≡ before.written → after.doubted ≡ before.doubted
-      → VotesOn tells world faults n g said (versions_to_write (ends r) (ends r).manager.batch g) before.writer after.writer old new
+      → VotesOn tells world faults o.live n g said (versions_to_write (ends r) (ends r).manager.batch g) before.writer after.writer old new
       → AddsBatch tells o r (extended r (event.Vote n g said ∷ [])) before after (faults old) (faults new) (world old) (world new) [] b.doubted
   adds-vote n g true a m quiet written doubted does =
       let e : CoreEvent = event.Vote n g true in
       let later : NoneFell (faults old) (faults new) = calm-later (faults old) (faults new) does.cause in
-      plain-adds e a m quiet written refl doubted does.same.doubt [] [] refl (none-more e a m quiet written refl) tt
-      (faults-same live_slot r (extended r (e ∷ [])) o.faults (faults old) (faults new) k.faults later (λ h. how-same (is_no h) r e (and_right (same_grain g h) false refl)) (how-same is_unsealed r e refl))
+      plain-adds e a m quiet written refl doubted does.same.doubt does.same.slot [] [] refl (none-more e a m quiet written refl) tt
+      (faults-same o.live r (extended r (e ∷ [])) o.faults (faults old) (faults new) k.faults later (λ h. how-same (is_no h) r e (and_right (same_grain g h) false refl)) (how-same is_unsealed r e refl))
       later (λ t. (does.run t).now.output)
       (λ t. calls-vote o r n g true (faults old) (faults new) (world old) (world new) _ (k.outside t).calls a (does.run t) (λ none.
       (does.there t refl).once
@@ -124,18 +123,18 @@ module _ {H : Type 0} (tells : Bool) (world : H → World) (faults : H → Chann
       omega (arith, votes, seals))))
   adds-vote n g false a m quiet written doubted does =
       let e : CoreEvent = event.Vote n g false in
-      let later : NoneFell (faults old) (faults new) = failed-later (File (grain_file g)) (faults old) (faults new) does.cause in
-      plain-adds e a m quiet written refl doubted does.same.doubt [] [] refl (none-more e a m quiet written refl) tt
-      (faults-no live_slot r (extended r (e ∷ [])) o.faults (faults old) (faults new) k.faults later g
+      let later : NoneFell (faults old) (faults new) = failed-later (File (Grain o.live g)) (faults old) (faults new) does.cause in
+      plain-adds e a m quiet written refl doubted does.same.doubt does.same.slot [] [] refl (none-more e a m quiet written refl) tt
+      (faults-no o.live r (extended r (e ∷ [])) o.faults (faults old) (faults new) k.faults later g
       (λ h apart. how-same (is_no h) r e (ap (λ (x : Bool). x && true) apart)) (λ h same. how-one (is_no h) r e (ap (λ (x : Bool). x && true) same) a)
       (how-same is_unsealed r e refl) does.cause.rose)
       later (λ t. (does.run t).now.output)
       (λ t. calls-vote o r n g false (faults old) (faults new) (world old) (world new) _ (k.outside t).calls a (does.run t)
-      (λ none. absurd (none-failed o.faults (faults old) (faults new) (File (grain_file g)) k.later does.cause none)))
+      (λ none. absurd (none-failed o.faults (faults old) (faults new) (File (Grain o.live g)) k.later does.cause none)))
 
   -- ---- seals
 
-  sealed-calm : (n gate size : ℕ) (x : Sealing) → event.Sealed n ≡ event_of n x → SealHasCause x gate size (faults old) (faults new) → NoneFailed (faults old) (faults new)
+  sealed-calm : (n gate size : ℕ) (x : Sealing) → event.Sealed n ≡ event_of n x → SealHasCause o.live x gate size (faults old) (faults new) → NoneFailed (faults old) (faults new)
   sealed-calm n gate size (sealing.Sealed next) q cause = cause.1.1
   sealed-calm n gate size sealing.NotSealed q cause = absurd (cc q)
   sealed-calm n gate size sealing.InDoubt q cause = absurd (cc q)
@@ -150,7 +149,7 @@ module _ {H : Type 0} (tells : Bool) (world : H → World) (faults : H → Chann
   sealed-writer n sealing.NotSealed made v w q is = absurd (cc q)
   sealed-writer n sealing.InDoubt made v w q is = absurd (cc q)
 
-  unsealed-failed : (n gate size : ℕ) (x : Sealing) → event.NotSealed n ≡ event_of n x → SealHasCause x gate size (faults old) (faults new) → FailedOn (File manager) (faults old) (faults new)
+  unsealed-failed : (n gate size : ℕ) (x : Sealing) → event.NotSealed n ≡ event_of n x → SealHasCause o.live x gate size (faults old) (faults new) → FailedOn (File (Manager o.live)) (faults old) (faults new)
   unsealed-failed n gate size (sealing.Sealed next) q cause = absurd (cc q)
   unsealed-failed n gate size sealing.NotSealed q cause = cause
   unsealed-failed n gate size sealing.InDoubt q cause = absurd (cc q)
@@ -160,7 +159,7 @@ module _ {H : Type 0} (tells : Bool) (world : H → World) (faults : H → Chann
   unsealed-writer n sealing.NotSealed made v w q is = is.0.doubt
   unsealed-writer n sealing.InDoubt made v w q is = absurd (cc q)
 
-  doubt-failed : (n gate size : ℕ) (x : Sealing) → event.Doubt n ≡ event_of n x → SealHasCause x gate size (faults old) (faults new) → FailedOn (File manager) (faults old) (faults new)
+  doubt-failed : (n gate size : ℕ) (x : Sealing) → event.Doubt n ≡ event_of n x → SealHasCause o.live x gate size (faults old) (faults new) → FailedOn (File (Manager o.live)) (faults old) (faults new)
   doubt-failed n gate size (sealing.Sealed next) q cause = absurd (cc q)
   doubt-failed n gate size sealing.NotSealed q cause = absurd (cc q)
   doubt-failed n gate size sealing.InDoubt q cause = cause
@@ -173,16 +172,16 @@ module _ {H : Type 0} (tells : Bool) (world : H → World) (faults : H → Chann
   -- a batch on disk
   pub adds-sealed : (n : ℕ) → applies (ends r) (event.Sealed n) ≡ true → Moves (ends r) (event.Sealed n) (ends (extended r (event.Sealed n ∷ [])))
       → after.quiet ≡ before.quiet → after.written ≡ before.written → after.doubted ≡ before.doubted
-      → (does : SealsUnits tells world faults n (event.Sealed n) (to_commit (ends r) (ends r).manager.batch) before.writer after.writer old new)
+      → (does : SealsUnits tells world faults o.live n (event.Sealed n) (to_commit (ends r) (ends r).manager.batch) before.writer after.writer old new)
       → AddsBatch tells o r (extended r (event.Sealed n ∷ [])) before after (faults old) (faults new) (world old) (world new) (made_batch (to_commit (ends r) (ends r).manager.batch) does.work.records) b.doubted
   adds-sealed n a m quiet written doubted does =
       let e : CoreEvent = event.Sealed n in
       let effects : List Effect = to_commit (ends r) (ends r).manager.batch in
       let later : NoneFell (faults old) (faults new) = calm-later (faults old) (faults new) (sealed-calm n before.writer.gate_at (length does.work.block) does.answer does.event does.cause) in
-      plain-adds e a m quiet written refl doubted (sealed-writer n does.answer does.work.records before.writer after.writer does.event does.after_is)
+      plain-adds e a m quiet written refl doubted (sealed-writer n does.answer does.work.records before.writer after.writer does.event does.after_is) does.slot
       (made_batch effects does.work.records) effects refl (sealed-commit (basis_of o) r above units n a)
       (made-records before.writer n effects does.work.records (records_are (voted_of n before.writer) effects does.work.records does.records))
-      (faults-same live_slot r (extended r (e ∷ [])) o.faults (faults old) (faults new) k.faults later (λ g. how-same (is_no g) r e refl) (how-same is_unsealed r e refl))
+      (faults-same o.live r (extended r (e ∷ [])) o.faults (faults old) (faults new) k.faults later (λ g. how-same (is_no g) r e refl) (how-same is_unsealed r e refl))
       later (λ t. (does.run t).now.output)
       (λ t. calls-seal o r (extended r (e ∷ [])) (faults old) (faults new) (world old) (world new) _ (k.outside t).calls (how-same is_vote r e refl)
       (let seals : how_many is_sealed (extended r (e ∷ [])) ≡ how_many is_sealed r + 1 = how-one is_sealed r e refl a in
@@ -195,27 +194,27 @@ module _ {H : Type 0} (tells : Bool) (world : H → World) (faults : H → Chann
       omega (arith, votes, seals))))
 
   -- the calls of one that isn't
-  calls-unsealed : (e : CoreEvent) → applies (ends r) e ≡ true → is_vote e ≡ false → is_sealed e ≡ false → is_unsealed e ≡ true → FailedOn (File manager) (faults old) (faults new)
-      → {R : List ℕ → List ℕ → Type 0} → (IsTrue tells → RunsOnFile manager R 2 (world old) (world new)) → IsTrue tells → CountsCalls o (extended r (e ∷ [])) (faults new) (world new)
+  calls-unsealed : (e : CoreEvent) → applies (ends r) e ≡ true → is_vote e ≡ false → is_sealed e ≡ false → is_unsealed e ≡ true → FailedOn (File (Manager o.live)) (faults old) (faults new)
+      → {R : List ℕ → List ℕ → Type 0} → (IsTrue tells → RunsOnFile (Manager o.live) R 2 (world old) (world new)) → IsTrue tells → CountsCalls o (extended r (e ∷ [])) (faults new) (world new)
   calls-unsealed e a vote sealed unsealed failed {R} run t =
       calls-seal o r (extended r (e ∷ [])) (faults old) (faults new) (world old) (world new) R (k.outside t).calls (how-same is_vote r e vote)
       (let seals : how_many is_sealed (extended r (e ∷ [])) ≡ how_many is_sealed r = how-same is_sealed r e sealed in
       let more : how_many is_unsealed (extended r (e ∷ [])) ≡ how_many is_unsealed r + 1 = how-one is_unsealed r e unsealed a in
       omega (arith, seals, more)) (λ g. how-same (is_vote_of g) r e (votes-none g e vote)) (run t)
-      (λ none. absurd (none-failed o.faults (faults old) (faults new) (File manager) k.later failed none))
+      (λ none. absurd (none-failed o.faults (faults old) (faults new) (File (Manager o.live)) k.later failed none))
 
   -- one that isn't
   pub adds-unsealed : (n : ℕ) → applies (ends r) (event.NotSealed n) ≡ true → Moves (ends r) (event.NotSealed n) (ends (extended r (event.NotSealed n ∷ [])))
       → after.quiet ≡ before.quiet → after.written ≡ before.written → after.doubted ≡ before.doubted
-      → SealsUnits tells world faults n (event.NotSealed n) (to_commit (ends r) (ends r).manager.batch) before.writer after.writer old new
+      → SealsUnits tells world faults o.live n (event.NotSealed n) (to_commit (ends r) (ends r).manager.batch) before.writer after.writer old new
       → AddsBatch tells o r (extended r (event.NotSealed n ∷ [])) before after (faults old) (faults new) (world old) (world new) [] b.doubted
   adds-unsealed n a m quiet written doubted does =
       let e : CoreEvent = event.NotSealed n in
-      let failed : FailedOn (File manager) (faults old) (faults new) = unsealed-failed n before.writer.gate_at (length does.work.block) does.answer does.event does.cause in
-      let later : NoneFell (faults old) (faults new) = failed-later (File manager) (faults old) (faults new) failed in
-      plain-adds e a m quiet written refl doubted (unsealed-writer n does.answer does.work.records before.writer after.writer does.event does.after_is)
+      let failed : FailedOn (File (Manager o.live)) (faults old) (faults new) = unsealed-failed n before.writer.gate_at (length does.work.block) does.answer does.event does.cause in
+      let later : NoneFell (faults old) (faults new) = failed-later (File (Manager o.live)) (faults old) (faults new) failed in
+      plain-adds e a m quiet written refl doubted (unsealed-writer n does.answer does.work.records before.writer after.writer does.event does.after_is) does.slot
       [] [] refl (none-more e a m quiet written refl) tt
-      (faults-unsealed live_slot r (extended r (e ∷ [])) o.faults (faults old) (faults new) k.faults later (λ g. how-same (is_no g) r e refl) (how-one is_unsealed r e refl a) failed.rose)
+      (faults-unsealed o.live r (extended r (e ∷ [])) o.faults (faults old) (faults new) k.faults later (λ g. how-same (is_no g) r e refl) (how-one is_unsealed r e refl a) failed.rose)
       later (λ t. (does.run t).now.output) (calls-unsealed e a refl refl refl failed (λ t. does.run t))
 
   -- ---- a doubt
@@ -228,26 +227,27 @@ module _ {H : Type 0} (tells : Bool) (world : H → World) (faults : H → Chann
   -- a batch in doubt
   pub adds-doubt : (n : ℕ) → applies (ends r) (event.Doubt n) ≡ true → Moves (ends r) (event.Doubt n) (ends (extended r (event.Doubt n ∷ [])))
       → after.quiet ≡ before.quiet → after.written ≡ before.written → after.doubted ≡ true
-      → (does : SealsUnits tells world faults n (event.Doubt n) (to_commit (ends r) (ends r).manager.batch) before.writer after.writer old new)
+      → (does : SealsUnits tells world faults o.live n (event.Doubt n) (to_commit (ends r) (ends r).manager.batch) before.writer after.writer old new)
       → AddsBatch tells o r (extended r (event.Doubt n ∷ [])) before after (faults old) (faults new) (world old) (world new) []
-      (doubted_by (may_open before.writer.gate_at ((world new).disk manager)) (to_commit (ends r) (ends r).manager.batch) does.work.records)
+      (doubted_by (may_open before.writer.gate_at ((world new).disk (Manager o.live))) (to_commit (ends r) (ends r).manager.batch) does.work.records)
   adds-doubt n a m quiet written doubted does =
       let e : CoreEvent = event.Doubt n in
       let effects : List Effect = to_commit (ends r) (ends r).manager.batch in
-      let failed : FailedOn (File manager) (faults old) (faults new) = doubt-failed n before.writer.gate_at (length does.work.block) does.answer does.event does.cause in
-      let later : NoneFell (faults old) (faults new) = failed-later (File manager) (faults old) (faults new) failed in
+      let failed : FailedOn (File (Manager o.live)) (faults old) (faults new) = doubt-failed n before.writer.gate_at (length does.work.block) does.answer does.event does.cause in
+      let later : NoneFell (faults old) (faults new) = failed-later (File (Manager o.live)) (faults old) (faults new) failed in
       let left = m.doubted refl in
       record {
         effects = [];
         none = refl;
         commits = none-more e a m quiet written refl;
         records = tt;
-        doubted = doubted-are (may_open before.writer.gate_at ((world new).disk manager)) (ends (extended r (e ∷ []))) left.0 effects does.work.records left.1 (doubt-chosen (basis_of o) r above units n a)
+        doubted = doubted-are (may_open before.writer.gate_at ((world new).disk (Manager o.live))) (ends (extended r (e ∷ []))) left.0 effects does.work.records left.1 (doubt-chosen (basis_of o) r above units n a)
             (records_are (voted_of n before.writer) effects does.work.records does.records);
-        faults = faults-unsealed live_slot r (extended r (e ∷ [])) o.faults (faults old) (faults new) k.faults later (λ g. how-same (is_no g) r e refl) (how-one is_unsealed r e refl a) failed.rose;
+        faults = faults-unsealed o.live r (extended r (e ∷ [])) o.faults (faults old) (faults new) k.faults later (λ g. how-same (is_no g) r e refl) (how-one is_unsealed r e refl a) failed.rose;
         later = later;
         quiet = quiet;
         doubt = doubted ∙ ap is_some (sym left.1);
+        slot = does.slot;
         unsure = doubt-writer n does.answer does.work.records before.writer after.writer does.event does.after_is ∙ sym doubted;
         written = written;
         output = λ t. (does.run t).now.output;

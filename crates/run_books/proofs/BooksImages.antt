@@ -10,7 +10,7 @@ use Rattle.core_model.specs.Legal.{Run, ends}
 use Rattle.core_model.specs.Serial.{chosen}
 use Rattle.promise_spec.specs.Programs.{Program, shape_in}
 use Rattle.promise_spec.specs.Records.{Commit, AreRecordsOf}
-use Rattle.promise_spec.specs.Logs.{IsLog, live_slot}
+use Rattle.promise_spec.specs.Logs.{IsLog}
 use Rattle.promise_spec.specs.Outputs.{reply_lines}
 use Rattle.promise_spec.specs.Journals.{Settlement, AllSay, JournalAt, DoubtAt, CutAt, Backs, commits_of, entries_of}
 use Rattle.promise_laws.proofs.Journaled.{commits_of-append}
@@ -22,19 +22,19 @@ use Rattle.run_books.specs.Books.{AreInDoubt}
 use Rattle.run_books.specs.Images.{HasOpenBlock}
 use Rattle.run_books.proofs.BooksLists.{alone, alone-commits}
 
-module _ (p : Program) (opening : List Commit) (old : World) (said unsaid : List Settlement) (now : World) where
+module _ (live : ℕ) (p : Program) (opening : List Commit) (old : World) (said unsaid : List Settlement) (now : World) where
   whole-output : now.output ≡ old.output ++ (reply_lines (shape_in p) (entries_of said) ++ []) → now.output ≡ old.output ++ reply_lines (shape_in p) (entries_of said)
   whole-output q = q ∙ ap (λ (l : List ℕ). old.output ++ l) (append-nil (reply_lines (shape_in p) (entries_of said)))
 
   -- a cut without a rest, and with nothing in doubt, is whole
-  pub uncut : CutAt p opening old said unsaid [] [] now → JournalAt p opening old said unsaid now
+  pub uncut : CutAt live p opening old said unsaid [] [] now → JournalAt live p opening old said unsaid now
   uncut c = record {
     output = whole-output c.output;
-    log = λ image left. ⊎_elim (λ x. x) (λ x. subst (λ (l : List Settlement). IsLog live_slot (shape_in p) image (opening ++ commits_of l)) (append-nil (said ++ unsaid)) x) (c.log image left);
-    moments = subst (λ (l : List Settlement). Passes (AllSay p opening old.output said l) old.past now.past) (append-nil (said ++ unsaid)) c.moments;
+    log = λ image left. ⊎_elim (λ x. x) (λ x. subst (λ (l : List Settlement). IsLog live (shape_in p) image (opening ++ commits_of l)) (append-nil (said ++ unsaid)) x) (c.log image left);
+    moments = subst (λ (l : List Settlement). Passes (AllSay live p opening old.output said l) old.past now.past) (append-nil (said ++ unsaid)) c.moments;
   }
 
-  pub uncut-doubt : (batch : Settlement) → CutAt p opening old said unsaid (batch ∷ []) [] now → DoubtAt p opening old said unsaid batch now
+  pub uncut-doubt : (batch : Settlement) → CutAt live p opening old said unsaid (batch ∷ []) [] now → DoubtAt live p opening old said unsaid batch now
   uncut-doubt batch c = record { output = whole-output c.output; log = c.log; moments = c.moments }
 
 -- what entries without records acknowledge stands before them
@@ -63,8 +63,8 @@ doubt-kept r more (batch ∷ []) is =
 doubt-kept r more (batch ∷ (another ∷ rest)) is = absurd is
 
 -- and so does its block
-pub block-kept : (log log' : List Commit) (w w' : CoreState) (disk : Disk) → log' ≡ log → chosen w' ≡ chosen w → HasOpenBlock log w disk → HasOpenBlock log' w' disk
-block-kept log log' w w' disk same chosen-same h = record {
+pub block-kept : (live : ℕ) (log log' : List Commit) (w w' : CoreState) (disk : Disk) → log' ≡ log → chosen w' ≡ chosen w → HasOpenBlock live log w disk → HasOpenBlock live log' w' disk
+block-kept live log log' w w' disk same chosen-same h = record {
   gate = h.gate;
   batch = h.batch;
   batches = h.batches;

@@ -18,7 +18,6 @@ use Rattle.promise_spec.specs.UnitRule.{KeepsUnitRule}
 use Rattle.promise_spec.specs.Journals.{Settlement, commits_of, entries_of}
 use Rattle.settle_loop.specs.Works.{tells_entry}
 use Rattle.settle_loop.specs.declared.settler.Settler.{Settler}
-use Rattle.log_reading.specs.Steps.{live_slot}
 use Rattle.run_books.specs.Beginnings.{Outset, basis_of}
 use Rattle.run_books.specs.Books.{Books, AreInDoubt, IsPutOut}
 use Rattle.run_books.specs.Records.{KeepsBooks, CountsCalls}
@@ -35,10 +34,11 @@ pub record AddsBatch (tells : Bool) (o : Outset) (r r' : Run) (before after : Se
   pub commits : committed (ends r') ≡ committed (ends r) ++ effects
   pub records : AreRecordsOf effects (commits_of batch)
   pub doubted : AreInDoubt (ends r') d
-  pub faults : AreFaults live_slot r' o.faults new
+  pub faults : AreFaults o.live r' o.faults new
   pub later : NoneFell old new
   pub quiet : after.quiet ≡ before.quiet
   pub doubt : after.doubted ≡ is_some (ends r').manager.doubt
+  pub slot : after.writer.slot ≡ before.writer.slot
   pub unsure : after.writer.in_doubt ≡ after.doubted
   pub written : after.written ≡ before.written
   pub output : IsTrue tells → now'.output ≡ now.output
@@ -71,6 +71,7 @@ module _ (tells : Bool) (o : Outset) (b : Books) (r : Run) (e : CoreEvent) (befo
     said = subst (λ (q : Bool). IsPutOut q books (ends r')) (sym adds.quiet) (even-put before.quiet b (ends r) k.said even (ends r') books refl even-before);
     cut = inl even.rest;
     doubt = adds.doubt;
+    slot = adds.slot ∙ k.slot;
     unsure = adds.unsure;
     written = adds.written ∙ k.written ∙ sym (m.emitted entry);
     outside = λ t. record {

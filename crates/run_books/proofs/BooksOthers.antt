@@ -35,7 +35,6 @@ use Rattle.promise_laws.proofs.BatchEnds.{moments-stay, batch-stays-run}
 use Rattle.settler_rules.proofs.Commits.{doubt-stays, others-leave as committed-stays}
 use Rattle.batch_disk.specs.Resting.{SomeImage}
 use Rattle.settle_loop.specs.declared.settler.Settler.{Settler}
-use Rattle.log_reading.specs.Steps.{live_slot}
 use Rattle.run_books.specs.Beginnings.{Outset, basis_of}
 use Rattle.run_books.specs.Books.{Books, booked_journal, AreInDoubt, IsPutOut, IsCutOff}
 use Rattle.run_books.specs.Images.{HasOpenBlock, LastsSo}
@@ -118,16 +117,16 @@ module _ (b : Books) (w w' : CoreState) (more : List Entry) (settled : w'.manage
       inr (entry, ap (λ (l : List Entry). slice_get l (length (entries_of b.said))) settled ∙ get-more w.manager.settled more (length (entries_of b.said)) entry next, front)
 
 -- settlements without records, behind a cut
-cut-more : (p : Program) (opening : List Commit) (old : World) (said unsaid more : List Settlement) (rest : List ℕ) (now : World) → commits_of more ≡ []
-    → CutAt p opening old said unsaid [] rest now → CutAt p opening old said (unsaid ++ more) [] rest now
-cut-more p opening old said unsaid more rest now none c =
+cut-more : (live : ℕ) (p : Program) (opening : List Commit) (old : World) (said unsaid more : List Settlement) (rest : List ℕ) (now : World) → commits_of more ≡ []
+    → CutAt live p opening old said unsaid [] rest now → CutAt live p opening old said (unsaid ++ more) [] rest now
+cut-more live p opening old said unsaid more rest now none c =
     let whole : World = record now { output = old.output ++ reply_lines (shape_in p) (entries_of said) } in
-    let at : JournalAt p opening old said unsaid whole = record {
+    let at : JournalAt live p opening old said unsaid whole = record {
       output = refl;
-      log = λ image left. ⊎_elim (λ x. x) (λ x. subst (λ (l : List Settlement). IsLog live_slot (shape_in p) image (opening ++ commits_of l)) (append-nil (said ++ unsaid)) x) (c.log image left);
-      moments = subst (λ (l : List Settlement). Passes (AllSay p opening old.output said l) old.past now.past) (append-nil (said ++ unsaid)) c.moments;
+      log = λ image left. ⊎_elim (λ x. x) (λ x. subst (λ (l : List Settlement). IsLog live (shape_in p) image (opening ++ commits_of l)) (append-nil (said ++ unsaid)) x) (c.log image left);
+      moments = subst (λ (l : List Settlement). Passes (AllSay live p opening old.output said l) old.past now.past) (append-nil (said ++ unsaid)) c.moments;
     } in
-    let on = whole_cut p opening old said (unsaid ++ more) whole (settles_on p opening old said unsaid more whole none at) in
+    let on = whole_cut live p opening old said (unsaid ++ more) whole (settles_on live p opening old said unsaid more whole none at) in
     record { output = c.output; unended = c.unended; log = on.log; moments = on.moments }
 
 module _ (tells : Bool) (o : Outset) (b : Books) (r : Run) (e : CoreEvent) (settler : Settler) (counts : Channel → ℕ) (now : World)
@@ -171,8 +170,8 @@ module _ (tells : Bool) (o : Outset) (b : Books) (r : Run) (e : CoreEvent) (sett
   kept : KeepsBooks tells o books r' settler counts now
   kept = record {
     faults = record {
-      votes = λ g. subst (λ (n : ℕ). RoseBy n (o.faults (File (Grain live_slot g))) (counts (File (Grain live_slot g)))) (sym (same-no g)) (k.faults.votes g);
-      seals = subst (λ (n : ℕ). RoseBy n (o.faults (File (Manager live_slot))) (counts (File (Manager live_slot)))) (sym same-unsealed) k.faults.seals;
+      votes = λ g. subst (λ (n : ℕ). RoseBy n (o.faults (File (Grain o.live g))) (counts (File (Grain o.live g)))) (sym (same-no g)) (k.faults.votes g);
+      seals = subst (λ (n : ℕ). RoseBy n (o.faults (File (Manager o.live))) (counts (File (Manager o.live)))) (sym same-unsealed) k.faults.seals;
     };
     later = k.later;
     booked = grown-booked b more [] b.doubted (ends r) (ends r') added.1 refl [] k.booked
@@ -180,12 +179,13 @@ module _ (tells : Bool) (o : Outset) (b : Books) (r : Run) (e : CoreEvent) (sett
     said = put-still b (ends r) (ends r') more added.1 leaves.emitted told settler.quiet k.said;
     cut = cut-still b (ends r) (ends r') more added.1 (shape_in o.program) k.cut;
     doubt = k.doubt ∙ ap is_some (sym leaves.doubt);
+    slot = k.slot;
     unsure = k.unsure;
     written = k.written ∙ sym leaves.emitted;
     outside = λ t. record {
       output = (k.outside t).output;
       calls = calls-same o r r' counts counts now now (k.outside t).calls (λ none. none) same-vote same-sealed same-unsealed (λ g. how-same (is_vote_of g) r e (answers.vote_of g)) refl
-          (λ g. file-still (Grain live_slot g) now);
+          (λ g. file-still (Grain o.live g) now);
     };
   }
 
@@ -216,29 +216,29 @@ module _ (tells : Bool) (o : Outset) (b : Books) (r : Run) (e : CoreEvent) (sett
   log-is : o.opening ++ commits_of (booked_journal books) ≡ o.opening ++ commits_of (booked_journal b)
   log-is = ap (λ (l : List Commit). o.opening ++ l) commits-are
 
-  cut-by : (d : List Settlement) → AreInDoubt (ends r) d → CutAt o.program o.opening o.world b.said b.unsaid d b.rest now → CutAt o.program o.opening o.world b.said books.unsaid d b.rest now
+  cut-by : (d : List Settlement) → AreInDoubt (ends r) d → CutAt o.live o.program o.opening o.world b.said b.unsaid d b.rest now → CutAt o.live o.program o.opening o.world b.said books.unsaid d b.rest now
   cut-by [] is c =
-      subst (λ (l : List Settlement). CutAt o.program o.opening o.world b.said (l ++ alone more) [] b.rest now) (sym (append-nil b.unsaid))
-      (cut-more o.program o.opening o.world b.said b.unsaid (alone more) b.rest now (alone-commits more) c)
-  cut-by (batch ∷ []) is c = subst (λ (l : List Settlement). CutAt o.program o.opening o.world b.said l (batch ∷ []) b.rest now) (sym (unsaid-is (none-more batch is))) c
+      subst (λ (l : List Settlement). CutAt o.live o.program o.opening o.world b.said (l ++ alone more) [] b.rest now) (sym (append-nil b.unsaid))
+      (cut-more o.live o.program o.opening o.world b.said b.unsaid (alone more) b.rest now (alone-commits more) c)
+  cut-by (batch ∷ []) is c = subst (λ (l : List Settlement). CutAt o.live o.program o.opening o.world b.said l (batch ∷ []) b.rest now) (sym (unsaid-is (none-more batch is))) c
   cut-by (batch ∷ (another ∷ rest)) is c = absurd is
 
-  block-on : (RunHasDoubt r → HasOpenBlock (o.opening ++ commits_of (booked_journal b)) (ends r) now.disk) → RunHasDoubt r' → HasOpenBlock (o.opening ++ commits_of (booked_journal books)) (ends r') now.disk
+  block-on : (RunHasDoubt r → HasOpenBlock o.live (o.opening ++ commits_of (booked_journal b)) (ends r) now.disk) → RunHasDoubt r' → HasOpenBlock o.live (o.opening ++ commits_of (booked_journal books)) (ends r') now.disk
   block-on has d =
       let there = doubt-ends r' d in
       let before : (ends r).manager.doubt ≡ Some there.0 = sym leaves.doubt ∙ there.1 in
-      block-kept (o.opening ++ commits_of (booked_journal b)) (o.opening ++ commits_of (booked_journal books)) (ends r) (ends r') now.disk log-is
+      block-kept o.live (o.opening ++ commits_of (booked_journal b)) (o.opening ++ commits_of (booked_journal books)) (ends r) (ends r') now.disk log-is
       (doubt-stays r (e ∷ []) there.0 before).chosen (has (doubt_left r there.0 before))
 
   lasts : (head : List ℕ) → LastsSo o head b r settler.writer now → LastsSo o head books r' settler.writer now
   lasts head l = record {
     journal = cut-by b.doubted k.booked.doubted l.journal;
     backs = subst (λ (j : List Settlement). Backs j (commits_of j)) (sym journal-is) (backs-alone (booked_journal b) more l.backs);
-    batches = moments-stay (basis_of o) o.program r (e ∷ []) o.opening o.world.past now.past above after l.batches;
+    batches = moments-stay o.live (basis_of o) o.program r (e ∷ []) o.opening o.world.past now.past above after l.batches;
     batches_now = λ image log left is. batch-stays-run (basis_of o) r (e ∷ []) o.opening log above after (l.batches_now image log left is);
     alone = l.alone;
     alone_now = l.alone_now;
-    some = λ there. subst (λ (log : List Commit). SomeImage (λ image. IsLog live_slot (shape_in o.program) image log) now.disk) (sym log-is) (l.some there);
+    some = λ there. subst (λ (log : List Commit). SomeImage (λ image. IsLog o.live (shape_in o.program) image log) now.disk) (sym log-is) (l.some there);
     block = block-on l.block;
     folder = λ sure. (let f = l.folder sure in record {
       batches = f.batches;

@@ -25,7 +25,6 @@ use Rattle.promise_spec.specs.Causes.{is_no, is_unsealed, is_vote, is_vote_of, i
 use Rattle.promise_spec.specs.UnitRule.{KeepsUnitRule}
 use Rattle.promise_spec.specs.Journals.{commits_of, entries_of}
 use Rattle.promise_laws.proofs.Stepping.{cut-no_feed, cut_is_front}
-use Rattle.log_reading.specs.Steps.{live_slot}
 use Rattle.settler_rules.specs.Entries.{IsEntryInRange}
 use Rattle.settler_rules.proofs.Settled.{entry-proper}
 use Rattle.settler_rules.proofs.Commits.{others-leave as committed-stays}
@@ -54,7 +53,7 @@ module _ {H : Type 0} (tells : Bool) (world : H → World) (faults : H → Chann
   proper x next range = entry-proper (basis_of o) r above units kinds x (member-at (ends r).manager.emitted (ends r).manager.settled x next) range
 
   module _ (a : applies (ends r) Emitted ≡ true) (m : Moves (ends r) Emitted (ends (extended r (Emitted ∷ [])))) (quiet_is : after.quiet ≡ before.quiet) (written : after.written ≡ counted_up before.written)
-      (doubted : after.doubted ≡ before.doubted) (writer : after.writer.in_doubt ≡ before.writer.in_doubt) where
+      (doubted : after.doubted ≡ before.doubted) (writer : after.writer.in_doubt ≡ before.writer.in_doubt) (slot : after.writer.slot ≡ before.writer.slot) where
     abbrev r' : Run
     r' = extended r (Emitted ∷ [])
 
@@ -70,18 +69,19 @@ module _ {H : Type 0} (tells : Bool) (world : H → World) (faults : H → Chann
     kept-by : (c : Books) → AreBooked c (ends r') → IsPutOut after.quiet c (ends r') → c.rest ≡ [] → NoneFell (faults old) (faults new) → (IsTrue tells → ShowsOutside o c r' (faults new) (world new))
         → KeepsBooks tells o c r' after (faults new) (world new)
     kept-by c booked said rest later outside = record {
-      faults = faults-same live_slot r r' o.faults (faults old) (faults new) k.faults later (λ g. how-same (is_no g) r Emitted refl) (how-same is_unsealed r Emitted refl);
+      faults = faults-same o.live r r' o.faults (faults old) (faults new) k.faults later (λ g. how-same (is_no g) r Emitted refl) (how-same is_unsealed r Emitted refl);
       later = fell-both o.faults (faults old) (faults new) k.later later;
       booked = booked;
       said = said;
       cut = inl rest;
       doubt = doubted ∙ k.doubt ∙ ap is_some (sym (m.doubt refl));
+      slot = slot ∙ k.slot;
       unsure = writer ∙ k.unsure ∙ sym doubted;
       written = written ∙ ap counted_up k.written ∙ counted-is (ends r).manager.emitted room ∙ sym emitted;
       outside = outside;
     }
 
-    calls : NoneFell (faults old) (faults new) → (t : IsTrue tells) → (world new).syncs ≡ (world old).syncs → ((g : GrainId) → KeepsFile (Grain live_slot g) (world old) (world new)) → CountsCalls o r' (faults new) (world new)
+    calls : NoneFell (faults old) (faults new) → (t : IsTrue tells) → (world new).syncs ≡ (world old).syncs → ((g : GrainId) → KeepsFile (Grain o.live g) (world old) (world new)) → CountsCalls o r' (faults new) (world new)
     calls later t same files =
         calls-same o r r' (faults old) (faults new) (world old) (world new) (k.outside t).calls (rose-back o.faults (faults old) (faults new) k.later later)
         (how-same is_vote r Emitted refl) (how-same is_sealed r Emitted refl) (how-same is_unsealed r Emitted refl) (λ g. how-same (is_vote_of g) r Emitted refl) same files
@@ -101,7 +101,7 @@ module _ {H : Type 0} (tells : Bool) (world : H → World) (faults : H → Chann
               (subst (λ (q : Bool). IsPutOut q b (ends r')) (sym now_quiet) none) even.rest later
               (λ t. record {
                 output = subst (λ (l : List ℕ). Grew (shape_in o.program) o.world.output l (entries_of b.said) b.rest) (ap (λ (h : H). (world h).output) (sym host)) (k.outside t).output;
-                calls = calls later t (ap (λ (h : H). (world h).syncs) host) (λ g. file-same (Grain live_slot g) (world old) (world new) (ap world host));
+                calls = calls later t (ap (λ (h : H). (world h).syncs) host) (λ g. file-same (Grain o.live g) (world old) (world new) (ap world host));
               }),
           subst (λ (q : Bool). AreEven q b (ends r')) (sym now_quiet) (record { rest = even.rest; told = tt; single = λ loud. absurd (false≢true (sym loud)) }),
         )
@@ -120,7 +120,7 @@ module _ {H : Type 0} (tells : Bool) (world : H → World) (faults : H → Chann
               (subst (λ (q : Bool). IsPutOut q c (ends r')) (sym now_loud) (inl told)) even.rest later
               (λ t. record {
                 output = next-grew b (ends r) x k.booked next even o (world old) (world new) (k.outside t).output (proper x next range) (line t).output;
-                calls = calls later t (line t).syncs (λ g. file-emitted (Grain live_slot g) _ _ (world old) (world new) (line t));
+                calls = calls later t (line t).syncs (λ g. file-emitted (Grain o.live g) _ _ (world old) (world new) (line t));
               }),
           subst (λ (q : Bool). AreEven q c (ends r')) (sym now_loud) (record { rest = even.rest; told = told; single = λ q. (parts b (ends r) x k.booked next even).single }),
         )
@@ -142,18 +142,19 @@ module _ {H : Type 0} (tells : Bool) (world : H → World) (faults : H → Chann
     stays-by c booked said cut grew {m} {text} line =
         let later : NoneFell (faults old) (faults new) = failed-later Output (faults old) (faults new) failed in
         record {
-          faults = faults-same live_slot r r o.faults (faults old) (faults new) k.faults later (λ g. refl) refl;
+          faults = faults-same o.live r r o.faults (faults old) (faults new) k.faults later (λ g. refl) refl;
           later = fell-both o.faults (faults old) (faults new) k.later later;
           booked = booked;
           said = said;
           cut = cut;
           doubt = k.doubt;
+          slot = k.slot;
           unsure = k.unsure;
           written = k.written;
           outside = λ t. record {
             output = grew t;
             calls = calls-same o r r (faults old) (faults new) (world old) (world new) (k.outside t).calls (rose-back o.faults (faults old) (faults new) k.later later) refl refl refl (λ g. refl)
-                (line t).syncs (λ g. file-emitted (Grain live_slot g) m text (world old) (world new) (line t));
+                (line t).syncs (λ g. file-emitted (Grain o.live g) m text (world old) (world new) (line t));
           };
         }
 

@@ -32,15 +32,15 @@ use Rattle.run_books.proofs.BooksGrown.{grown, grown-front, grown-commits}
 use Rattle.run_books.proofs.BooksImages.{uncut, backs-alone}
 
 -- what came later left other files and the header as they were
-pub aside-later : (head : List ℕ) (old now : World) (m : Moment) → LeavesAside head old (moment_of now) → LeavesRest head now m → LeavesAside head old m
-aside-later head old now m a rest = record { aside = λ file is. rest.aside file is ∙ a.aside file is; header = rest.header }
+pub aside-later : (live : ℕ) (head : List ℕ) (old now : World) (m : Moment) → LeavesAside live head old (moment_of now) → LeavesRest live head now m → LeavesAside live head old m
+aside-later live head old now m a rest = record { aside = λ file is. rest.aside file is ∙ a.aside file is; header = rest.header }
 
 module _ (o : Outset) (head : List ℕ) (b : Books) (r : Run) (e : CoreEvent) (writer writer' : BatchWriter) (now now' : World) (more : List Entry) (batch : List Settlement)
     (above : 0 < r.base) (units : KeepsUnitRule (basis_of o) r) (after : KeepsUnitRule (basis_of o) (extended r (e ∷ [])))
     (booked : AreBooked b (ends r)) (sure : b.doubted ≡ []) (whole : b.rest ≡ []) (proper : AllByRecursion (IsProper (shape_in o.program)) (entries_of b.said))
     (l : LastsSo o head b r writer now) (none : entries_of batch ≡ [])
     (booked' : AreBooked (grown b more batch []) (ends (extended r (e ∷ []))))
-    (seals : Seals o.program (o.opening ++ commits_of (b.said ++ b.unsaid)) batch now now') (rest : Passes (LeavesRest head now) now.past now'.past) (rest_now : LeavesRest head now (moment_of now'))
+    (seals : Seals o.live o.program (o.opening ++ commits_of (b.said ++ b.unsaid)) batch now now') (rest : Passes (LeavesRest o.live head now) now.past now'.past) (rest_now : LeavesRest o.live head now (moment_of now'))
     (fresh : (x : Entry) (c : Commit) → Member x (entries_of (b.said ++ b.unsaid)) → Member c (commits_of batch) → Acknowledges x c → ⊥) where
   abbrev r' : Run
   r' = extended r (e ∷ [])
@@ -63,18 +63,18 @@ module _ (o : Outset) (head : List ℕ) (b : Books) (r : Run) (e : CoreEvent) (w
   log-is : o.opening ++ commits_of (books.said ++ books.unsaid) ≡ log ++ commits_of batch
   log-is = ap (λ (c : List Commit). o.opening ++ c) (grown-commits b more batch []) ∙ sym (append_assoc o.opening (commits_of front) (commits_of batch))
 
-  before : JournalAt o.program o.opening o.world b.said b.unsaid now
+  before : JournalAt o.live o.program o.opening o.world b.said b.unsaid now
   before =
-      uncut o.program o.opening o.world b.said b.unsaid now
-      (subst (λ (t : List ℕ). CutAt o.program o.opening o.world b.said b.unsaid [] t now) whole
-      (subst (λ (d : List Settlement). CutAt o.program o.opening o.world b.said b.unsaid d b.rest now) sure l.journal))
+      uncut o.live o.program o.opening o.world b.said b.unsaid now
+      (subst (λ (t : List ℕ). CutAt o.live o.program o.opening o.world b.said b.unsaid [] t now) whole
+      (subst (λ (d : List Settlement). CutAt o.live o.program o.opening o.world b.said b.unsaid d b.rest now) sure l.journal))
 
-  journal : CutAt o.program o.opening o.world books.said books.unsaid [] books.rest now'
+  journal : CutAt o.live o.program o.opening o.world books.said books.unsaid [] books.rest now'
   journal =
-      let sealed : JournalAt o.program o.opening o.world b.said (b.unsaid ++ batch) now' = seals_on o.program o.opening o.world b.said b.unsaid batch now now' proper before seals in
-      let settled : JournalAt o.program o.opening o.world b.said ((b.unsaid ++ batch) ++ alone more) now' =
-      settles_on o.program o.opening o.world b.said (b.unsaid ++ batch) (alone more) now' (alone-commits more) sealed in
-      subst (λ (t : List ℕ). CutAt o.program o.opening o.world b.said books.unsaid [] t now') (sym whole) (whole_cut o.program o.opening o.world b.said books.unsaid now' settled)
+      let sealed : JournalAt o.live o.program o.opening o.world b.said (b.unsaid ++ batch) now' = seals_on o.live o.program o.opening o.world b.said b.unsaid batch now now' proper before seals in
+      let settled : JournalAt o.live o.program o.opening o.world b.said ((b.unsaid ++ batch) ++ alone more) now' =
+      settles_on o.live o.program o.opening o.world b.said (b.unsaid ++ batch) (alone more) now' (alone-commits more) sealed in
+      subst (λ (t : List ℕ). CutAt o.live o.program o.opening o.world b.said books.unsaid [] t now') (sym whole) (whole_cut o.live o.program o.opening o.world b.said books.unsaid now' settled)
 
   backs : Backs (booked_journal books) (commits_of (booked_journal books))
   backs =
@@ -92,24 +92,24 @@ module _ (o : Outset) (head : List ℕ) (b : Books) (r : Run) (e : CoreEvent) (w
   second : EndsABatch (ends r') o.opening (log ++ commits_of batch)
   second = subst (EndsABatch (ends r') o.opening) log-is (records-end (basis_of o) r' o.opening (commits_of (books.said ++ books.unsaid)) above after (inl booked'.commits))
 
-  batches : Passes (AllEnd o.program (ends r') o.opening) o.world.past now'.past
+  batches : Passes (AllEnd o.live o.program (ends r') o.opening) o.world.past now'.past
   batches =
-      both (AllEnd o.program (ends r') o.opening) (moments-stay (basis_of o) o.program r (e ∷ []) o.opening o.world.past now.past above after l.batches)
-      (weaker (IsSealing o.program log batch now) (AllEnd o.program (ends r') o.opening) (λ m s. sealing_ends o.program (ends r') o.opening log batch now m s first second) seals.moments)
+      both (AllEnd o.live o.program (ends r') o.opening) (moments-stay o.live (basis_of o) o.program r (e ∷ []) o.opening o.world.past now.past above after l.batches)
+      (weaker (IsSealing o.live o.program log batch now) (AllEnd o.live o.program (ends r') o.opening) (λ m s. sealing_ends o.live o.program (ends r') o.opening log batch now m s first second) seals.moments)
 
-  alone-moments : Passes (LeavesAside head o.world) o.world.past now'.past
-  alone-moments = both (LeavesAside head o.world) l.alone (weaker (LeavesRest head now) (LeavesAside head o.world) (λ m k. aside-later head o.world now m l.alone_now k) rest)
+  alone-moments : Passes (LeavesAside o.live head o.world) o.world.past now'.past
+  alone-moments = both (LeavesAside o.live head o.world) l.alone (weaker (LeavesRest o.live head now) (LeavesAside o.live head o.world) (λ m k. aside-later o.live head o.world now m l.alone_now k) rest)
 
   -- with what stands of a doubt's block, and of the folder
-  pub seals-last : (RunHasDoubt r' → HasOpenBlock (o.opening ++ commits_of (booked_journal books)) (ends r') now'.disk) → (writer'.in_doubt ≡ false → KeepsFolder o head books r' writer' now'.disk)
+  pub seals-last : (RunHasDoubt r' → HasOpenBlock o.live (o.opening ++ commits_of (booked_journal books)) (ends r') now'.disk) → (writer'.in_doubt ≡ false → KeepsFolder o head books r' writer' now'.disk)
       → LastsSo o head books r' writer' now'
   seals-last block folder = record {
     journal = journal;
     backs = backs;
     batches = batches;
-    batches_now = logged_ends o.program (ends r') o.opening (log ++ commits_of batch) (moment_of now') seals.log second;
+    batches_now = logged_ends o.live o.program (ends r') o.opening (log ++ commits_of batch) (moment_of now') seals.log second;
     alone = alone-moments;
-    alone_now = aside-later head o.world now (moment_of now') l.alone_now rest_now;
+    alone_now = aside-later o.live head o.world now (moment_of now') l.alone_now rest_now;
     some = λ there. absurd (there refl);
     block = block;
     folder = folder;

@@ -8,7 +8,7 @@ use Rattle.base_types.specs.declared.entries.Entry.{Entry}
 use Rattle.base_types.specs.declared.shapes.Shape.{Shape}
 use Rattle.host_trait.specs.declared.channels.Channel.{Channel}
 use Rattle.host_trait.specs.declared.channels.Channel.TheVariants.{File, Output}
-use Rattle.host_trait.specs.declared.channels.FileId.TheVariants.{Grain}
+use Rattle.host_trait.specs.declared.channels.FileId.TheVariants.{Grain, Manager}
 use Rattle.host_trait.specs.Faults.{Rose}
 use Rattle.host_trait.specs.World.{World, Passes, Emitted as IsAppended, IsEmitted}
 use Rattle.host_trait.proofs.Moments.{both, one}
@@ -27,7 +27,6 @@ use Rattle.core_access.specs.Spared.{is_spared, has_room}
 use Rattle.core_access.proofs.OneHolder.{own-run}
 use Rattle.core_access.proofs.Sights.{looks-alone, run-alone}
 use Rattle.promise_laws.proofs.Doubted.{doubt-rose}
-use Rattle.log_reading.specs.Steps.{live_slot, manager}
 use Rattle.promise_spec.specs.Programs.{shape_in}
 use Rattle.promise_spec.specs.Outputs.{IsProper, Grew}
 use Rattle.settler_rules.specs.Entries.{IsEntryInRange}
@@ -94,7 +93,7 @@ module _ {H : Type 0} (tells : Bool) (world : H → World) (faults : H → Chann
   by-write true quiet does c =
       let m = moves-run r event.Emitted c.applied in
       let doubted : after.doubted ≡ before.doubted = c.doubted ∙ or-none before.doubted in
-      let put = put-quiet tells world faults o b r before after old new can.above can.units can.kinds can.room k c.applied m c.quiet c.written doubted (ap (λ w. w.in_doubt) does.writer) quiet does.line even in
+      let put = put-quiet tells world faults o b r before after old new can.above can.units can.kinds can.room k c.applied m c.quiet c.written doubted (ap (λ w. w.in_doubt) does.writer) (ap (λ w. w.slot) does.writer) quiet does.line even in
       let same : world new ≡ world old = ap world does.line in
       record {
         books = b;
@@ -103,7 +102,7 @@ module _ {H : Type 0} (tells : Bool) (world : H → World) (faults : H → Chann
         lasts = λ t head l.
             output-lasts o head b b r (event.Emitted ∷ []) before.writer after.writer (world old) (world new) can.above c.units l refl refl does.writer (ap (λ (w : World). w.disk) same) (m.doubt refl)
             (λ P here p. subst (λ (w : World). Passes P o.world.past w.past) (sym same) p)
-            (subst (λ (w : World). CutAt o.program o.opening o.world b.said b.unsaid b.doubted b.rest w) (sym same) l.journal);
+            (subst (λ (w : World). CutAt o.live o.program o.opening o.world b.said b.unsaid b.doubted b.rest w) (sym same) l.journal);
       }
     where
       or-none : (x : Bool) → (x || false) ≡ x
@@ -113,7 +112,7 @@ module _ {H : Type 0} (tells : Bool) (world : H → World) (faults : H → Chann
       let m = moves-run r event.Emitted c.applied in
       let doubted : after.doubted ≡ before.doubted = c.doubted ∙ or-none before.doubted in
       let even' : AreEven false b (ends r) = subst (λ (q : Bool). AreEven q b (ends r)) loud even in
-      let put = put-loud tells world faults o b r before after old new can.above can.units can.kinds can.room k c.applied m c.quiet c.written doubted (ap (λ w. w.in_doubt) does.writer) loud even' does.entry does.range does.next does.line.0 does.line.1 in
+      let put = put-loud tells world faults o b r before after old new can.above can.units can.kinds can.room k c.applied m c.quiet c.written doubted (ap (λ w. w.in_doubt) does.writer) (ap (λ w. w.slot) does.writer) loud even' does.entry does.range does.next does.line.0 does.line.1 in
       record {
         books = said_next b (ends r) does.entry k.booked does.next even';
         kept = put.0;
@@ -137,7 +136,7 @@ module _ {H : Type 0} (tells : Bool) (world : H → World) (faults : H → Chann
   made s e q m = subst (λ (x : Step). MakesEvent x e) (sym q) m
 
   abbrev pub Todo : CoreEvent → Type 0
-  Todo e = DoesFor tells world faults e before.quiet (shape_in o.program) (ends r) before.writer after.writer old new → Counted e → Done e
+  Todo e = DoesFor tells world faults o.live e before.quiet (shape_in o.program) (ends r) before.writer after.writer old new → Counted e → Done e
 
   -- by a step that is the settler's, where it is one of the open batch
   pub done : (s : Step) (e : CoreEvent) → (is_of_batch s ≡ true → settler_step (ends r) ≡ s) → MakesEvent s e → Todo e
@@ -161,8 +160,9 @@ module _ {H : Type 0} (tells : Bool) (world : H → World) (faults : H → Chann
     makes : MakesEvent (settler_step (ends r)) e
     makes = subst (λ (x : Run). MakesEvent (settler_step (ends x)) e) seen-is put.acts.makes
 
-    does : DoesFor tells world faults e before.quiet (shape_in o.program) (ends r) before.writer after.writer old new
-    does = subst (λ (x : Run). DoesFor tells world faults e before.quiet (shape_in o.program) (ends x) before.writer after.writer old new) seen-is put.acts.does
+    does : DoesFor tells world faults o.live e before.quiet (shape_in o.program) (ends r) before.writer after.writer old new
+    does = subst (λ (live : ℕ). DoesFor tells world faults live e before.quiet (shape_in o.program) (ends r) before.writer after.writer old new) k.slot
+        (subst (λ (x : Run). DoesFor tells world faults before.writer.slot e before.quiet (shape_in o.program) (ends x) before.writer after.writer old new) seen-is put.acts.does)
 
     going : (x : Bool) → x ≡ false → (not x || is_after_halt e) ≡ true
     going true q = absurd (let z : true ≡ false = q in cc)
@@ -235,7 +235,7 @@ module _ {H : Type 0} (tells : Bool) (world : H → World) (faults : H → Chann
         record {
           doubt = doubt;
           written = none-behind (ends r').manager.settled (ends r').manager.emitted written;
-          rose = doubt-rose r' (o.faults (File manager)) (faults new (File manager)) doubt g.0.kept.faults.seals;
+          rose = doubt-rose r' (o.faults (File (Manager o.live))) (faults new (File (Manager o.live))) doubt g.0.kept.faults.seals;
         },
         g.1.rest,
       )
@@ -270,12 +270,12 @@ module _ {H : Type 0} (tells : Bool) (world : H → World) (faults : H → Chann
       let lacks : (applies (ends r) e && has_room e) ≡ false = ap (λ (y : Run). is_spared y e) (sym same ∙ sym (own-run r')) ∙ x.unspared in
       let take : e ≡ event.Take = spared (settler_step (ends r)) e makes (and-not (applies (ends r) e) (has_room e) applied lacks) in
       let does : MakesNoCall tells world faults before.writer after.writer old new =
-      subst (λ (y : CoreEvent). DoesFor tells world faults y before.quiet (shape_in o.program) (state_shown x.acts.seen) before.writer after.writer old new) take x.acts.does in
+      subst (λ (y : CoreEvent). DoesFor tells world faults before.writer.slot y before.quiet (shape_in o.program) (state_shown x.acts.seen) before.writer after.writer old new) take x.acts.does in
       unchanged r' after new same (x.settler ∙ ap (λ w. record before { writer = w }) does.writer) does.host
 
   -- no memory for a vote's versions, in a run
   pub lacks-at : (after : Settler) (new : H) (n : ℕ) (g : GrainId) → settler_step (ends r) ≡ Votes n g
-      → LacksRoom tells world faults n g (versions_to_write (ends r) (ends r).manager.batch g) before.writer after.writer old new → after ≡ record before { writer = after.writer } → WentOn r after new
+      → LacksRoom tells world faults o.live n g (versions_to_write (ends r) (ends r).manager.batch g) before.writer after.writer old new → after ≡ record before { writer = after.writer } → WentOn r after new
   lacks-at after new n g votes lacks settler =
       let later : NoneFell (faults old) (faults new) = calm-later (faults old) (faults new) lacks.calm in
       let doubted : after.doubted ≡ before.doubted = ap (λ (s : Settler). s.doubted) settler in
@@ -283,18 +283,19 @@ module _ {H : Type 0} (tells : Bool) (world : H → World) (faults : H → Chann
         record {
           books = b;
           kept = record {
-            faults = faults-same live_slot r r o.faults (faults old) (faults new) k.faults later (λ g. refl) refl;
+            faults = faults-same o.live r r o.faults (faults old) (faults new) k.faults later (λ g. refl) refl;
             later = fell-both o.faults (faults old) (faults new) k.later later;
             booked = k.booked;
             said = subst (λ (q : Bool). IsPutOut q b (ends r)) (sym quiet) k.said;
             cut = k.cut;
             doubt = doubted ∙ k.doubt;
+            slot = lacks.same.slot ∙ k.slot;
             unsure = lacks.same.doubt ∙ k.unsure ∙ sym doubted;
             written = ap (λ (s : Settler). s.written) settler ∙ k.written;
             outside = λ t. record {
               output = subst (λ (w : World). Grew (shape_in o.program) o.world.output w.output (entries_of b.said) b.rest) (sym (lacks.world_is t)) (k.outside t).output;
               calls = calls-same o r r (faults old) (faults new) (world old) (world new) (k.outside t).calls (rose-back o.faults (faults old) (faults new) k.later later) refl refl refl (λ h. refl)
-                  (ap (λ (w : World). w.syncs) (lacks.world_is t)) (λ h. file-same (Grain live_slot h) (world old) (world new) (lacks.world_is t));
+                  (ap (λ (w : World). w.syncs) (lacks.world_is t)) (λ h. file-same (Grain o.live h) (world old) (world new) (lacks.world_is t));
             };
           };
           lasts = λ t head l. subst (λ (w : World). LastsSo o head b r after.writer w) (sym (lacks.world_is t)) (record {
@@ -312,10 +313,10 @@ module _ {H : Type 0} (tells : Bool) (world : H → World) (faults : H → Chann
                 record {
                   batches = f.batches;
                   log = f.log;
-                  keeps = subst (λ (w : World). KeepsDisk (shape_in o.program) head f.batches after.writer w.disk) (lacks.world_is t)
+                  keeps = subst (λ (w : World). KeepsDisk o.live (shape_in o.program) head f.batches after.writer w.disk) (lacks.world_is t)
                       ((lacks.images t).keeps (shape_in o.program) head f.batches fair.0 fair.1 f.keeps);
                   votes = votes-same r n before.writer after.writer lacks.batch lacks.kept f.votes;
-                  behind = λ none. subst (λ (gate : ℕ). EndsAsBegun o gate ((world old).disk manager)) (sym lacks.same.gate) (f.behind none);
+                  behind = λ none. subst (λ (gate : ℕ). EndsAsBegun o gate ((world old).disk (Manager o.live))) (sym lacks.same.gate) (f.behind none);
                 });
           });
         },
@@ -328,8 +329,9 @@ module _ {H : Type 0} (tells : Bool) (world : H → World) (faults : H → Chann
       let same : r' ≡ r = same-run r r' (own_sight r) x.looked refl in
       let here : run_seen (own_sight r') ≡ r = own-run r' ∙ same in
       let votes : settler_step (ends r) ≡ Votes x.n x.g = sym (ap (λ (y : Run). settler_step (ends y)) here) ∙ x.votes in
-      let lacks : LacksRoom tells world faults x.n x.g (versions_to_write (ends r) (ends r).manager.batch x.g) before.writer after.writer old new =
-      subst (λ (y : Run). LacksRoom tells world faults x.n x.g (versions_to_write (ends y) (ends y).manager.batch x.g) before.writer after.writer old new) here x.lacks in
+      let lacks : LacksRoom tells world faults o.live x.n x.g (versions_to_write (ends r) (ends r).manager.batch x.g) before.writer after.writer old new =
+      subst (λ (live : ℕ). LacksRoom tells world faults live x.n x.g (versions_to_write (ends r) (ends r).manager.batch x.g) before.writer after.writer old new) k.slot
+      (subst (λ (y : Run). LacksRoom tells world faults before.writer.slot x.n x.g (versions_to_write (ends y) (ends y).manager.batch x.g) before.writer after.writer old new) here x.lacks) in
       subst (λ (y : Run). WentOn y after new) (sym same) (lacks-at after new x.n x.g votes lacks x.settler)
 
   -- ---- the output failed
@@ -338,7 +340,7 @@ module _ {H : Type 0} (tells : Bool) (world : H → World) (faults : H → Chann
   none-more = λ i. record r { events = append-nil r.events i }
 
   cut-lasts : (c : Books) (new : H) (x : Entry) (n : ℕ) → c.said ++ c.unsaid ≡ b.said ++ b.unsaid → c.doubted ≡ b.doubted → IsAppended n (reply_line (shape_in o.program) x) (world old) (world new)
-      → (head : List ℕ) (l : LastsSo o head b r before.writer (world old)) → CutAt o.program o.opening o.world c.said c.unsaid c.doubted c.rest (world new) → LastsSo o head c r before.writer (world new)
+      → (head : List ℕ) (l : LastsSo o head b r before.writer (world old)) → CutAt o.live o.program o.opening o.world c.said c.unsaid c.doubted c.rest (world new) → LastsSo o head c r before.writer (world new)
   cut-lasts c new x n front doubted line head l journal =
       subst (λ (y : Run). LastsSo o head c y before.writer (world new)) none-more
       (output-lasts o head b c r [] before.writer before.writer (world old) (world new) can.above (subst (KeepsUnitRule (basis_of o)) (sym none-more) can.units) l front doubted refl line.disk

@@ -19,7 +19,7 @@ use Rattle.core_model.specs.Events.{applies, can, is_allowed, is_after_halt}
 use Rattle.core_model.specs.Laws.{extended}
 use Rattle.core_model.specs.Legal.{Run, ends}
 use Rattle.core_model.specs.Lines.{EntriesAreOnce}
-use Rattle.core_model.specs.Settler.{Step, Votes, Decides, Seals as SealStep, Learns, Writes, Takes, Rests, MakesEvent, settler_step}
+use Rattle.core_model.specs.Settler.{versions_to_write, Step, Votes, Decides, Seals as SealStep, Learns, Writes, Takes, Rests, MakesEvent, settler_step}
 use Rattle.core_laws.proofs.Lined.{once-ends}
 use Rattle.core_laws.proofs.Replied.{reply-tells}
 use Rattle.core_laws.proofs.Stepped.{step-applies}
@@ -35,7 +35,7 @@ use Rattle.worker_rules.proofs.Workers.{work-settles}
 use Rattle.promise_spec.specs.Programs.{shape_in}
 use Rattle.promise_spec.specs.UnitRule.{KeepsUnitRule}
 use Rattle.settle_loop.specs.Works.{tells_entry, tells_doubt, has_applied, counted_up}
-use Rattle.settle_loop.specs.HostSteps.{CutsEntry, DoesFor, MakesNoCall}
+use Rattle.settle_loop.specs.HostSteps.{CutsEntry, DoesFor, LacksRoom, MakesNoCall}
 use Rattle.settle_loop.specs.Turning.{written_after, doubted_after, LooksOn, PutsNext, IsNotTaken, TurnsAs}
 use Rattle.settle_loop.specs.declared.settler.Settler.{Settler}
 use Rattle.settle_loop.specs.declared.settler.Turned.{Turned}
@@ -108,7 +108,7 @@ entry-applies w x next =
 module _ {H : Type 0} (tells : Bool) (world : H → World) (faults : H → Channel → ℕ) (o : Outset) (b : Books) (r : Run) (before after : Settler) (old new : H)
     (can : CanSettle o (shape_in o.program) r) (even : AreEven before.quiet b (ends r)) (k : KeepsBooks tells o b r before (faults old) (world old)) where
   abbrev Does : CoreEvent → Type 0
-  Does e = DoesFor tells world faults e before.quiet (shape_in o.program) (ends r) before.writer after.writer old new
+  Does e = DoesFor tells world faults o.live e before.quiet (shape_in o.program) (ends r) before.writer after.writer old new
 
   -- no host call was made, and no file answers the event
   abbrev pub IsIdleEvent : CoreEvent → Type 0
@@ -233,6 +233,11 @@ module _ {H : Type 0} (tells : Bool) (world : H → World) (faults : H → Chann
   start : Went (run_seen s) before old
   start = (record { books = b; kept = k; lasts = λ told head l. l }, even)
 
+  -- what was done for an event was done in the run's slot
+  in-slot : (e : CoreEvent) (x : Sight) (after : Settler) (new : H) → DoesFor tells world faults before.writer.slot e before.quiet (shape_in o.program) (ends (run_seen x)) before.writer after.writer old new
+      → DoesFor tells world faults o.live e before.quiet (shape_in o.program) (ends (run_seen x)) before.writer after.writer old new
+  in-slot e x after new = subst (λ (live : ℕ). DoesFor tells world faults live e before.quiet (shape_in o.program) (ends (run_seen x)) before.writer after.writer old new) k.slot
+
   -- others come
   works-on : (x y : Sight) → IsBetween x → IsBetween y → (l : Looks may x y) → AllPass leaves_settling l.rest
   works-on x y i j l = works-leave l.rest (looks-before is_work may x y (counts-at x i) l (relies-at y j).alone).1
@@ -302,7 +307,7 @@ module _ {H : Type 0} (tells : Bool) (world : H → World) (faults : H → Chann
         let stays : Stays (ends (run_seen seen)) (ends (run_seen x)) = stays-on seen x looking here look-on in
         let h = put-at tells world faults o up-to.0.books (run_seen x) before after old new (can-at x here) up-to.1 up-to.0.kept (settler_step (ends (run_seen seen))) e
         (λ of. step-stays (ends (run_seen seen)) (ends (run_seen x)) stays.batch of) put.acts.makes p put.told.reply
-        (does-on tells world faults before.quiet (shape_in o.program) (ends (run_seen seen)) (ends (run_seen x)) before.writer after.writer old new stays e put.acts.does)
+        (does-on tells world faults o.live before.quiet (shape_in o.program) (ends (run_seen seen)) (ends (run_seen x)) before.writer after.writer old new stays e (in-slot e seen after new put.acts.does))
         put.counts (subst (KeepsUnitRule (basis_of o)) run-is (relies-at mid behind).units) in
         subst (λ (r : Run). Went r after new) (sym run-is)
         (go-both tells o b (run_seen s) (run_seen x) (extended (run_seen x) (e ∷ [])) before before after (faults old) (faults new) (world old) (world old) (world new) up-to.0 h.0, h.1)
@@ -339,7 +344,7 @@ module _ {H : Type 0} (tells : Bool) (world : H → World) (faults : H → Chann
       let stays : Stays (ends (run_seen seen)) (ends (run_seen t)) = stays-on seen t mid last n.unput in
       let idle = idle-event tells world faults o g.0.books (run_seen t) before after old new (can-at t last) g.1 g.0.kept (settler_step (ends (run_seen seen))) e
       (λ of. step-stays (ends (run_seen seen)) (ends (run_seen t)) stays.batch of) n.acts.makes n.unspared
-      (does-on tells world faults before.quiet (shape_in o.program) (ends (run_seen seen)) (ends (run_seen t)) before.writer after.writer old new stays e n.acts.does) in
+      (does-on tells world faults o.live before.quiet (shape_in o.program) (ends (run_seen seen)) (ends (run_seen t)) before.writer after.writer old new stays e (in-slot e seen after new n.acts.does)) in
       same-as (run_seen t) after new (n.settler ∙ ap (λ w. record before { writer = w }) idle.0.writer) idle.0.host g
 
   -- ---- whatever it answers
@@ -369,7 +374,8 @@ module _ {H : Type 0} (tells : Bool) (world : H → World) (faults : H → Chann
       (g.0, g.1.rest)
   answers after new (Err lack) (inr (inl y)) =
       let g : Went (run_seen t) before old = looked y.looked in
-      let h = lacks-at tells world faults o g.0.books (run_seen t) before old (can-at t (looked-to y.looked)) g.1 g.0.kept after new y.n y.g y.votes y.lacks y.settler in
+      let h = lacks-at tells world faults o g.0.books (run_seen t) before old (can-at t (looked-to y.looked)) g.1 g.0.kept after new y.n y.g y.votes
+      (subst (λ (live : ℕ). LacksRoom tells world faults live y.n y.g (versions_to_write (ends (run_seen t)) (ends (run_seen t)).manager.batch y.g) before.writer after.writer old new) k.slot y.lacks) y.settler in
       (go-both tells o b (run_seen s) (run_seen t) (run_seen t) before before after (faults old) (faults new) (world old) (world old) (world new) g.0 h.0, h.1.rest)
   answers after new (Err lack) (inr (inr (inl y))) = (let g = not-taken after new y.0 y.1 in (g.0, g.1.rest))
   answers after new (Err lack) (inr (inr (inr y))) =

@@ -4,6 +4,7 @@ use Rattle.std.specs.Prelude.{IsTrue, if◌then◌else◌}
 use Rattle.base_types.specs.declared.calls.GrainId.{GrainId}
 use Rattle.base_types.specs.declared.entries.Entry.{Entry}
 use Rattle.base_types.specs.declared.stores.Version.{Version}
+use Rattle.host_trait.specs.declared.channels.FileId.TheVariants.{Manager}
 use Rattle.host_trait.specs.declared.channels.Channel.{Channel}
 use Rattle.host_trait.specs.World.{World, Passes, moment_of}
 use Rattle.host_trait.proofs.Moments.{started}
@@ -35,7 +36,6 @@ use Rattle.commit_log.specs.declared.gate.Sealing.{Sealing}
 use Rattle.commit_log.specs.declared.gate.Sealing.TheVariants as sealing
 use Rattle.commit_log.specs.declared.records.CommitRecord.{CommitRecord}
 use Rattle.commit_log.specs.Sealing.{SealHasCause}
-use Rattle.log_reading.specs.Steps.{manager}
 use Rattle.settle_loop.specs.Works.{event_of, tells_entry, tells_doubt, counted_up}
 use Rattle.settle_loop.specs.HostSteps.{MakesNoCall, VotesOn, SealsUnits, DoesFor, batch_made}
 use Rattle.settle_loop.specs.Journaling.{as_settled, LeavesLogs, JournalsAs}
@@ -91,12 +91,12 @@ module _ {H : Type 0} (tells : Bool) (world : H → World) (faults : H → Chann
   record DiskAfter (e : CoreEvent) (head : List ℕ) (f : KeepsFolder o head b r before.writer (world old).disk) (batch : List Settlement) : Type 0 where
     batches : List (List Commit)
     log : log_of batches ≡ log_of f.batches ++ commits_of batch
-    keeps : KeepsDisk (shape_in o.program) head batches after.writer (world new).disk
+    keeps : KeepsDisk o.live (shape_in o.program) head batches after.writer (world new).disk
     votes : AreOfVotes (extended r (e ∷ [])) after.writer
-    seals : Seals o.program (log_of f.batches) batch (world old) (world new)
-    rest : Passes (LeavesRest head (world old)) (world old).past (world new).past
-    rest_now : LeavesRest head (world old) (moment_of (world new))
-    behind : how_many is_unsealed (extended r (e ∷ [])) ≡ 0 → EndsAsBegun o after.writer.gate_at ((world new).disk manager)
+    seals : Seals o.live o.program (log_of f.batches) batch (world old) (world new)
+    rest : Passes (LeavesRest o.live head (world old)) (world old).past (world new).past
+    rest_now : LeavesRest o.live head (world old) (moment_of (world new))
+    behind : how_many is_unsealed (extended r (e ∷ [])) ≡ 0 → EndsAsBegun o after.writer.gate_at ((world new).disk (Manager o.live))
 
   module _ (e : CoreEvent) (c : IsCounted e) (entry : tells_entry e ≡ false) (late : is_after_doubt e ≡ false) where
     abbrev r' : Run
@@ -128,7 +128,7 @@ module _ {H : Type 0} (tells : Bool) (world : H → World) (faults : H → Chann
           subst (λ (x : List Settlement). LastsSo o head (grown b m.more batch x) r' after.writer (world new)) (sym sure)
           (seals-last o head b r e before.writer after.writer (world old) (world new) m.more batch can.above can.units c.units k.booked sure even.rest (k.outside t).output.proper l adds.none
           (subst (λ (x : List Settlement). AreBooked (grown b m.more batch x) (ends r')) sure kept.booked)
-          (subst (λ (log : List Commit). Seals o.program log batch (world old) (world new)) f.log d.seals) d.rest d.rest_now
+          (subst (λ (log : List Commit). Seals o.live o.program log batch (world old) (world new)) f.log d.seals) d.rest d.rest_now
           (λ x y said there is. fresh x y (subst (λ (xs : List Entry). Member x xs) k.booked.entries said) there is)
           (λ h. absurd (let left = doubt-ends r' h in let z : Some left.0 ≡ None = sym left.1 ∙ (m.doubt plain ∙ none) in cc))
           (λ q. record {
@@ -146,25 +146,25 @@ module _ {H : Type 0} (tells : Bool) (world : H → World) (faults : H → Chann
         kept = books-kept tells o b r e before after (faults old) (faults new) (world old) (world new) batch b.doubted can.above can.units even k m entry adds
 
     -- what the journal law says of it, where it is the settler's step
-    journal-of : MakesEvent (settler_step (ends r)) e → (t : IsTrue tells) (head : List ℕ) (f : KeepsFolder o head b r before.writer (world old).disk) (does : DoesFor tells world faults e before.quiet (shape_in o.program) (ends r) before.writer after.writer old new)
-        → JournalsAs o.program head f.batches before.writer after.writer (world old) (world new) e before.quiet (ends r) (batch_made tells world faults e before.quiet (shape_in o.program) (ends r) before.writer after.writer old new does)
+    journal-of : MakesEvent (settler_step (ends r)) e → (t : IsTrue tells) (head : List ℕ) (f : KeepsFolder o head b r before.writer (world old).disk) (does : DoesFor tells world faults o.live e before.quiet (shape_in o.program) (ends r) before.writer after.writer old new)
+        → JournalsAs o.live o.program head f.batches before.writer after.writer (world old) (world new) e before.quiet (ends r) (batch_made tells world faults o.live e before.quiet (shape_in o.program) (ends r) before.writer after.writer old new does)
     journal-of makes t head f does =
-        journals tells t world faults o.program head f.batches (ends r) before.writer after.writer old new f.keeps
+        journals tells t world faults o.live o.program head f.batches (ends r) before.writer after.writer old new f.keeps
         (is-fair o r before.writer can.above can.units can.kinds can.accepted can.numbers f.votes) before.quiet (settler_step (ends r)) e refl makes does
 
     -- without a host call no log changes
     no-call : (head : List ℕ) (f : KeepsFolder o head b r before.writer (world old).disk) → MakesNoCall tells world faults before.writer after.writer old new
-        → LeavesLogs o.program head f.batches before.writer after.writer (world old) (world new)
+        → LeavesLogs o.live o.program head f.batches before.writer after.writer (world old) (world new)
     no-call head f none =
-        let same : LeavesLogs o.program head f.batches before.writer before.writer (world old) (world old) =
-        leaves o.program head f.batches before.writer before.writer (world old) (world old) f.keeps refl (record { more = []; past = sym (append-nil (world old).past); last = refl })
-        (started (KeepsLog (shape_in o.program) head (log_of f.batches) (world old)) (world old).past) f.keeps in
-        subst (λ (x : BatchWriter). LeavesLogs o.program head f.batches before.writer x (world old) (world new)) (sym none.writer)
-        (subst (λ (h : H). LeavesLogs o.program head f.batches before.writer before.writer (world old) (world h)) (sym none.host) same)
+        let same : LeavesLogs o.live o.program head f.batches before.writer before.writer (world old) (world old) =
+        leaves o.live o.program head f.batches before.writer before.writer (world old) (world old) f.keeps refl (record { more = []; past = sym (append-nil (world old).past); last = refl })
+        (started (KeepsLog o.live (shape_in o.program) head (log_of f.batches) (world old)) (world old).past) f.keeps in
+        subst (λ (x : BatchWriter). LeavesLogs o.live o.program head f.batches before.writer x (world old) (world new)) (sym none.writer)
+        (subst (λ (h : H). LeavesLogs o.live o.program head f.batches before.writer before.writer (world old) (world h)) (sym none.host) same)
 
     -- no log changes
-    leaves-disk : (head : List ℕ) (f : KeepsFolder o head b r before.writer (world old).disk) → LeavesLogs o.program head f.batches before.writer after.writer (world old) (world new) → AreOfVotes (extended r (e ∷ [])) after.writer
-        → (how_many is_unsealed (extended r (e ∷ [])) ≡ 0 → EndsAsBegun o after.writer.gate_at ((world new).disk manager)) → DiskAfter e head f []
+    leaves-disk : (head : List ℕ) (f : KeepsFolder o head b r before.writer (world old).disk) → LeavesLogs o.live o.program head f.batches before.writer after.writer (world old) (world new) → AreOfVotes (extended r (e ∷ [])) after.writer
+        → (how_many is_unsealed (extended r (e ∷ [])) ≡ 0 → EndsAsBegun o after.writer.gate_at ((world new).disk (Manager o.live))) → DiskAfter e head f []
     leaves-disk head f left votes behind = record {
       batches = f.batches;
       log = sym (append-nil (log_of f.batches));
@@ -178,10 +178,10 @@ module _ {H : Type 0} (tells : Bool) (world : H → World) (faults : H → Chann
 
     -- without a host call nothing is left behind the log
     behind-still : (head : List ℕ) (f : KeepsFolder o head b r before.writer (world old).disk) → MakesNoCall tells world faults before.writer after.writer old new
-        → how_many is_unsealed (extended r (e ∷ [])) ≡ 0 → EndsAsBegun o after.writer.gate_at ((world new).disk manager)
+        → how_many is_unsealed (extended r (e ∷ [])) ≡ 0 → EndsAsBegun o after.writer.gate_at ((world new).disk (Manager o.live))
     behind-still head f does none =
-        subst (λ (x : BatchWriter). EndsAsBegun o x.gate_at ((world new).disk manager)) (sym does.writer)
-        (subst (λ (h : H). EndsAsBegun o before.writer.gate_at ((world h).disk manager)) (sym does.host) (f.behind (none-before is_unsealed r (e ∷ []) none)))
+        subst (λ (x : BatchWriter). EndsAsBegun o x.gate_at ((world new).disk (Manager o.live))) (sym does.writer)
+        (subst (λ (h : H). EndsAsBegun o before.writer.gate_at ((world h).disk (Manager o.live))) (sym does.host) (f.behind (none-before is_unsealed r (e ∷ []) none)))
 
     votes-still : AreOfVotes r before.writer → after.writer ≡ before.writer → AreOfVotes r' after.writer
     votes-still votes same = subst (λ (w : BatchWriter). AreOfVotes r' w) (sym same) (λ v there. vote-kept r (e ∷ []) can.above before.writer.batch v.unit v.write.grain v.state (votes v there))
@@ -197,26 +197,26 @@ module _ {H : Type 0} (tells : Bool) (world : H → World) (faults : H → Chann
   or-none false = refl
 
   -- a vote leaves the manager file alone
-  vote-behind : (n : ℕ) (g : GrainId) (said : Bool) (versions : List Version) (t : IsTrue tells) → VotesOn tells world faults n g said versions before.writer after.writer old new
-      → EndsAsBegun o before.writer.gate_at ((world old).disk manager) → EndsAsBegun o after.writer.gate_at ((world new).disk manager)
+  vote-behind : (n : ℕ) (g : GrainId) (said : Bool) (versions : List Version) (t : IsTrue tells) → VotesOn tells world faults o.live n g said versions before.writer after.writer old new
+      → EndsAsBegun o before.writer.gate_at ((world old).disk (Manager o.live)) → EndsAsBegun o after.writer.gate_at ((world new).disk (Manager o.live))
   vote-behind n g said versions t does was =
-      subst (λ (gate : ℕ). EndsAsBegun o gate ((world new).disk manager)) (sym does.same.gate)
-      (subst (EndsAsBegun o before.writer.gate_at) (sym ((does.run t).now.others manager (λ q. cc q))) was)
+      subst (λ (gate : ℕ). EndsAsBegun o gate ((world new).disk (Manager o.live))) (sym does.same.gate)
+      (subst (EndsAsBegun o before.writer.gate_at) (sym ((does.run t).now.others (Manager o.live) (λ q. cc q))) was)
 
   -- and a batch on disk moves its gate behind the block
-  next-gate : (n : ℕ) (x : Sealing) (made : List CommitRecord) (v w : BatchWriter) (size : ℕ) → event.Sealed n ≡ event_of n x → SealHasCause x v.gate_at size (faults old) (faults new) → WriterAfter x made v w → w.gate_at ≡ v.gate_at + size
+  next-gate : (n : ℕ) (x : Sealing) (made : List CommitRecord) (v w : BatchWriter) (size : ℕ) → event.Sealed n ≡ event_of n x → SealHasCause o.live x v.gate_at size (faults old) (faults new) → WriterAfter x made v w → w.gate_at ≡ v.gate_at + size
   next-gate n (sealing.Sealed next) made v w size q cause is = is.0 ∙ cause.0
   next-gate n sealing.NotSealed made v w size q cause is = absurd (cc q)
   next-gate n sealing.InDoubt made v w size q cause is = absurd (cc q)
 
-  seal-behind : (n : ℕ) (t : IsTrue tells) → (does : SealsUnits tells world faults n (event.Sealed n) (to_commit (ends r) (ends r).manager.batch) before.writer after.writer old new)
-      → EndsAsBegun o before.writer.gate_at ((world old).disk manager) → EndsAsBegun o after.writer.gate_at ((world new).disk manager)
+  seal-behind : (n : ℕ) (t : IsTrue tells) → (does : SealsUnits tells world faults o.live n (event.Sealed n) (to_commit (ends r) (ends r).manager.batch) before.writer after.writer old new)
+      → EndsAsBegun o before.writer.gate_at ((world old).disk (Manager o.live)) → EndsAsBegun o after.writer.gate_at ((world new).disk (Manager o.live))
   seal-behind n t does was bytes left =
       let gate : ℕ = before.writer.gate_at in
       let size : ℕ = length does.work.block in
       let next : after.writer.gate_at ≡ gate + size = next-gate n does.answer does.work.records before.writer after.writer size does.event does.cause does.after_is in
       let crash = (does.run t).now.crash bytes left in
-      behind-block gate size after.writer.gate_at crash.0 bytes (o.world.disk manager).seen next crash.2.after (was crash.0 crash.1)
+      behind-block gate size after.writer.gate_at crash.0 bytes (o.world.disk (Manager o.live)).seen next crash.2.after (was crash.0 crash.1)
 
   -- the three events without a host call
   pub by-decide : (n : ℕ) → MakesNoCall tells world faults before.writer after.writer old new → IsCounted (event.Decide n) → StepDone (event.Decide n)
@@ -241,7 +241,7 @@ module _ {H : Type 0} (tells : Bool) (world : H → World) (faults : H → Chann
       (λ t head f. leaves-disk e c refl refl head f (no-call e c refl refl head f does) (votes-still e c refl refl f.votes does.writer) (behind-still e c refl refl head f does)) no-older
 
   -- a vote
-  pub by-vote : (n : ℕ) (g : GrainId) (said : Bool) → MakesEvent (settler_step (ends r)) (event.Vote n g said) → VotesOn tells world faults n g said (versions_to_write (ends r) (ends r).manager.batch g) before.writer after.writer old new → IsCounted (event.Vote n g said) → StepDone (event.Vote n g said)
+  pub by-vote : (n : ℕ) (g : GrainId) (said : Bool) → MakesEvent (settler_step (ends r)) (event.Vote n g said) → VotesOn tells world faults o.live n g said (versions_to_write (ends r) (ends r).manager.batch g) before.writer after.writer old new → IsCounted (event.Vote n g said) → StepDone (event.Vote n g said)
   by-vote n g said makes does c =
       let e : CoreEvent = event.Vote n g said in
       plain-done e c refl refl refl []
@@ -260,7 +260,7 @@ module _ {H : Type 0} (tells : Bool) (world : H → World) (faults : H → Chann
   unsealed-gone n sealing.NotSealed made v w q is = is.1
   unsealed-gone n sealing.InDoubt made v w q is = absurd (cc q)
 
-  pub by-unsealed : (n : ℕ) → MakesEvent (settler_step (ends r)) (event.NotSealed n) → SealsUnits tells world faults n (event.NotSealed n) (to_commit (ends r) (ends r).manager.batch) before.writer after.writer old new → IsCounted (event.NotSealed n) → StepDone (event.NotSealed n)
+  pub by-unsealed : (n : ℕ) → MakesEvent (settler_step (ends r)) (event.NotSealed n) → SealsUnits tells world faults o.live n (event.NotSealed n) (to_commit (ends r) (ends r).manager.batch) before.writer after.writer old new → IsCounted (event.NotSealed n) → StepDone (event.NotSealed n)
   by-unsealed n makes does c =
       let e : CoreEvent = event.NotSealed n in
       plain-done e c refl refl refl []
@@ -269,7 +269,7 @@ module _ {H : Type 0} (tells : Bool) (world : H → World) (faults : H → Chann
       (votes-gone e c refl refl (unsealed-gone n does.answer does.work.records before.writer after.writer does.event does.after_is))
       (λ none. absurd (let one = how-one is_unsealed r e refl c.applied in omega (arith, one, none)))) no-older
 
-  pub by-sealed : (n : ℕ) → MakesEvent (settler_step (ends r)) (event.Sealed n) → SealsUnits tells world faults n (event.Sealed n) (to_commit (ends r) (ends r).manager.batch) before.writer after.writer old new → IsCounted (event.Sealed n) → StepDone (event.Sealed n)
+  pub by-sealed : (n : ℕ) → MakesEvent (settler_step (ends r)) (event.Sealed n) → SealsUnits tells world faults o.live n (event.Sealed n) (to_commit (ends r) (ends r).manager.batch) before.writer after.writer old new → IsCounted (event.Sealed n) → StepDone (event.Sealed n)
   by-sealed n makes does c =
       let e : CoreEvent = event.Sealed n in
       let effects : List Effect = to_commit (ends r) (ends r).manager.batch in

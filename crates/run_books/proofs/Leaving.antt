@@ -4,6 +4,7 @@ use Rattle.std.specs.Prelude.{IsTrue, Result, Ok, Err}
 use Rattle.base_types.specs.declared.calls.GrainId.{GrainId}
 use Rattle.base_types.specs.declared.shapes.Shape.{Shape}
 use Rattle.base_types.specs.declared.stores.Version.{Version}
+use Rattle.host_trait.specs.declared.channels.FileId.TheVariants.{Manager, Grain}
 use Rattle.host_trait.specs.declared.channels.Channel.{Channel}
 use Rattle.host_trait.specs.declared.channels.Channel.TheVariants.{Input, Output, File}
 use Rattle.host_trait.specs.declared.channels.FileId.{FileId}
@@ -14,7 +15,6 @@ use Rattle.host_trait.proofs.Moments.{both, weaker, started}
 use Rattle.commit_log.specs.Sealing.{SealHasCause}
 use Rattle.commit_log.specs.declared.gate.Sealing.{Sealing}
 use Rattle.commit_log.specs.declared.gate.Sealing.TheVariants as sealing
-use Rattle.log_reading.specs.Steps.{manager}
 use Rattle.core_model.specs.CoreState.{CoreState}
 use Rattle.core_model.specs.Laws.{extended}
 use Rattle.core_model.specs.Legal.{Run}
@@ -23,7 +23,6 @@ use Rattle.core_model.specs.declared.effects.Effect.{Effect}
 use Rattle.core_model.specs.declared.events.CoreEvent.{CoreEvent}
 use Rattle.core_model.specs.declared.events.CoreEvent.TheVariants.{Vote, Sealed, NotSealed, Doubt, Emitted}
 use Rattle.core_access.specs.Sights.{Sight}
-use Rattle.batch_disk.specs.Resting.{grain_file}
 use Rattle.batch_disk.specs.declared.writer.BatchWriter.{BatchWriter}
 use Rattle.settle_loop.specs.HostSteps.{HasVoteCause, HasLine, VotesOn, SealsUnits, WritesEntry, DoesFor}
 use Rattle.settle_loop.specs.Turning.{IsBrokenOff, TurnsAs, state_shown}
@@ -115,8 +114,8 @@ module _ {H : Type 0} (hush tells : Bool) (world : H → World) (faults : H → 
       no-output : Output ≡ File f → ⊥
       no-output q = absurd cc
 
-  votes-leave : (n : ℕ) (g : GrainId) (said : Bool) (versions : List Version) (before after : BatchWriter) → VotesOn tells world faults n g said versions before after old new → LeavesHost hush tells world faults old new
-  votes-leave n g said versions before after v = by said v.cause
+  votes-leave : (live n : ℕ) (g : GrainId) (said : Bool) (versions : List Version) (before after : BatchWriter) → VotesOn tells world faults live n g said versions before after old new → LeavesHost hush tells world faults old new
+  votes-leave live n g said versions before after v = by said v.cause
     where
       goes : IsTrue tells → GoesWith (world old) (world new)
       goes t = file-goes _ _ _ (world old) (world new) (v.run t)
@@ -124,12 +123,12 @@ module _ {H : Type 0} (hush tells : Bool) (world : H → World) (faults : H → 
       hushed : hush ≡ true → IsTrue tells → IsHushed (world old) (world new)
       hushed h t = file-hushed _ _ _ (world old) (world new) (v.run t)
 
-      by : (b : Bool) → HasVoteCause g b (faults old) (faults new) → LeavesHost hush tells world faults old new
+      by : (b : Bool) → HasVoteCause live g b (faults old) (faults new) → LeavesHost hush tells world faults old new
       by true calm = leaves-calm calm goes hushed
-      by false failed = leaves-file (grain_file g) failed goes hushed
+      by false failed = leaves-file (Grain live g) failed goes hushed
 
-  seals-leave : (n : ℕ) (e : CoreEvent) (effects : List Effect) (before after : BatchWriter) → SealsUnits tells world faults n e effects before after old new → LeavesHost hush tells world faults old new
-  seals-leave n e effects before after s = by s.answer s.cause
+  seals-leave : (live n : ℕ) (e : CoreEvent) (effects : List Effect) (before after : BatchWriter) → SealsUnits tells world faults live n e effects before after old new → LeavesHost hush tells world faults old new
+  seals-leave live n e effects before after s = by s.answer s.cause
     where
       goes : IsTrue tells → GoesWith (world old) (world new)
       goes t = file-goes _ _ _ (world old) (world new) (s.run t)
@@ -137,10 +136,10 @@ module _ {H : Type 0} (hush tells : Bool) (world : H → World) (faults : H → 
       hushed : hush ≡ true → IsTrue tells → IsHushed (world old) (world new)
       hushed h t = file-hushed _ _ _ (world old) (world new) (s.run t)
 
-      by : (a : Sealing) → SealHasCause a before.gate_at (length s.work.block) (faults old) (faults new) → LeavesHost hush tells world faults old new
+      by : (a : Sealing) → SealHasCause live a before.gate_at (length s.work.block) (faults old) (faults new) → LeavesHost hush tells world faults old new
       by (sealing.Sealed next) c = leaves-calm c.1.1 goes hushed
-      by sealing.NotSealed c = leaves-file manager c goes hushed
-      by sealing.InDoubt c = leaves-file manager c goes hushed
+      by sealing.NotSealed c = leaves-file (Manager live) c goes hushed
+      by sealing.InDoubt c = leaves-file (Manager live) c goes hushed
 
   writes-leave : (quiet : Bool) → quiet ≡ hush → (shape : Shape) (w : CoreState) (before after : BatchWriter) → WritesEntry tells world faults quiet shape w before after old new → LeavesHost hush tells world faults old new
   writes-leave quiet is shape w before after e = by quiet is e.line
@@ -152,14 +151,14 @@ module _ {H : Type 0} (hush tells : Bool) (world : H → World) (faults : H → 
       by true q same = leaves-none same
       by false q line = leaves-calm line.0 (λ t. let out = line.1 t in (out.input, ticks-on (world old) (world new) out.past)) (λ h. absurd (loud (q ∙ h)))
 
-  does-leave : (e : CoreEvent) (quiet : Bool) → quiet ≡ hush → (shape : Shape) (w : CoreState) (before after : BatchWriter) → DoesFor tells world faults e quiet shape w before after old new → LeavesHost hush tells world faults old new
-  does-leave (Vote n g said) quiet is shape w before after d = votes-leave n g said (versions_to_write w w.manager.batch g) before after d
-  does-leave (Sealed n) quiet is shape w before after d = seals-leave n (Sealed n) (to_commit w w.manager.batch) before after d
-  does-leave (NotSealed n) quiet is shape w before after d = seals-leave n (NotSealed n) (to_commit w w.manager.batch) before after d
-  does-leave (Doubt n) quiet is shape w before after (inl d) = seals-leave n (Doubt n) (to_commit w w.manager.batch) before after d
-  does-leave (Doubt n) quiet is shape w before after (inr d) = leaves-none d.none.host
-  does-leave Emitted quiet is shape w before after d = writes-leave quiet is shape w before after d
-  does-leave _ quiet is shape w before after d = leaves-none d.host
+  does-leave : (live : ℕ) (e : CoreEvent) (quiet : Bool) → quiet ≡ hush → (shape : Shape) (w : CoreState) (before after : BatchWriter) → DoesFor tells world faults live e quiet shape w before after old new → LeavesHost hush tells world faults old new
+  does-leave live (Vote n g said) quiet is shape w before after d = votes-leave live n g said (versions_to_write w w.manager.batch g) before after d
+  does-leave live (Sealed n) quiet is shape w before after d = seals-leave live n (Sealed n) (to_commit w w.manager.batch) before after d
+  does-leave live (NotSealed n) quiet is shape w before after d = seals-leave live n (NotSealed n) (to_commit w w.manager.batch) before after d
+  does-leave live (Doubt n) quiet is shape w before after (inl d) = seals-leave live n (Doubt n) (to_commit w w.manager.batch) before after d
+  does-leave live (Doubt n) quiet is shape w before after (inr d) = leaves-none d.none.host
+  does-leave live Emitted quiet is shape w before after d = writes-leave quiet is shape w before after d
+  does-leave live _ quiet is shape w before after d = leaves-none d.host
 
 -- ---- a step
 
@@ -215,12 +214,12 @@ module _ {H : Type 0} (tells : Bool) (world : H → World) (faults : H → Chann
       → TurnsBeside {T = T} tells r r' before after (faults old) (faults new) (world old) (world new) answer
   step-beside answer (Ok Stepped) is u =
       of-leaving tells world faults r r' more before after old new answer on (ap (λ (x : Settler). x.quiet) u.put.counts)
-      (does-leave before.quiet tells world faults old new u.e before.quiet refl shape (state_shown u.put.acts.seen) before.writer after.writer u.put.acts.does)
+      (does-leave before.quiet tells world faults old new before.writer.slot u.e before.quiet refl shape (state_shown u.put.acts.seen) before.writer after.writer u.put.acts.does)
   step-beside answer (Ok Nothing) is u =
       of-leaving tells world faults r r' more before after old new answer on (ap (λ (x : Settler). x.quiet) u.settler) (leaves-none before.quiet tells world faults old new u.host)
   step-beside answer (Ok (Stop cause.InDoubt)) is u =
       of-leaving tells world faults r r' more before after old new answer on (ap (λ (x : Settler). x.quiet) u.put.counts)
-      (does-leave before.quiet tells world faults old new u.e before.quiet refl shape (state_shown u.put.acts.seen) before.writer after.writer u.put.acts.does)
+      (does-leave before.quiet tells world faults old new before.writer.slot u.e before.quiet refl shape (state_shown u.put.acts.seen) before.writer after.writer u.put.acts.does)
   step-beside answer (Ok (Stop cause.WriteFault)) is u = cut-beside answer is u
   step-beside answer (Err lack) is (inl u) =
       of-leaving tells world faults r r' more before after old new answer on (ap (λ (x : Settler). x.quiet) u.settler) (leaves-none before.quiet tells world faults old new u.host)
@@ -229,10 +228,10 @@ module _ {H : Type 0} (tells : Bool) (world : H → World) (faults : H → Chann
       (leaves-calm before.quiet tells world faults old new u.lacks.calm (λ told. still-goes (world old) (world new) (u.lacks.world_is told)) (λ h told. still-hushed (world old) (world new) (u.lacks.world_is told)))
   step-beside answer (Err lack) is (inr (inr (inl u))) =
       of-leaving tells world faults r r' more before after old new answer on (ap (λ (x : Settler). x.quiet) u.1.settler)
-      (does-leave before.quiet tells world faults old new u.0 before.quiet refl shape (state_shown u.1.acts.seen) before.writer after.writer u.1.acts.does)
+      (does-leave before.quiet tells world faults old new before.writer.slot u.0 before.quiet refl shape (state_shown u.1.acts.seen) before.writer after.writer u.1.acts.does)
   step-beside answer (Err lack) is (inr (inr (inr u))) =
       of-leaving tells world faults r r' more before after old new answer on (ap (λ (x : Settler). x.quiet) u.put.counts)
-      (does-leave before.quiet tells world faults old new u.e before.quiet refl shape (state_shown u.put.acts.seen) before.writer after.writer u.put.acts.does)
+      (does-leave before.quiet tells world faults old new before.writer.slot u.e before.quiet refl shape (state_shown u.put.acts.seen) before.writer after.writer u.put.acts.does)
 
 -- ---- a run of steps
 

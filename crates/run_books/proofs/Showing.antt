@@ -10,7 +10,6 @@ use Rattle.core_model.specs.CoreState.{CoreState}
 use Rattle.core_model.specs.declared.effects.Effect.{Effect}
 use Rattle.core_model.specs.Serial.{committed, chosen}
 use Rattle.core_model.specs.Legal.{Run, ends}
-use Rattle.log_reading.specs.Steps.{live_slot, manager}
 use Rattle.promise_spec.specs.Records.{Commit, AreRecordsOf, standing_of}
 use Rattle.promise_spec.specs.Logs.{IsPrefix}
 use Rattle.promise_spec.specs.Programs.{shape_in}
@@ -62,9 +61,9 @@ added-by w front (batch ∷ (other ∷ more)) are d = absurd d
 
 module _ {T : Type 0} (o : Outset) (b : Books) (r : Run) (settler : Settler) (counts : Channel → ℕ) where
   -- a file's fault ends it only with a batch in doubt
-  doubted-by : (result : Result T RunFault) → TurnsEndAs o b r settler counts result → (file : FileId) → turns_ending result ≡ DiskFault file → FileMayEndInDoubt live_slot r file
+  doubted-by : (result : Result T RunFault) → TurnsEndAs o b r settler counts result → (file : FileId) → turns_ending o.live result ≡ DiskFault file → FileMayEndInDoubt o.live r file
   doubted-by (Ok done) e file q = absurd cc
-  doubted-by (Err InDoubt) e file q = (is_file manager file q, e.0.doubt)
+  doubted-by (Err InDoubt) e file q = (is_file (Manager o.live) file q, e.0.doubt)
     where
       is_file : (f g : FileId) → DiskFault f ≡ DiskFault g → g ≡ f
       is_file f g t = cc
@@ -72,14 +71,14 @@ module _ {T : Type 0} (o : Outset) (b : Books) (r : Run) (settler : Settler) (co
   doubted-by (Err Memory) e file q = absurd cc
 
   -- and a doubt ends it
-  ended-by : (result : Result T RunFault) → TurnsEndAs o b r settler counts result → RunHasDoubt r → EndingMayDoubt (turns_ending result)
+  ended-by : (result : Result T RunFault) → TurnsEndAs o b r settler counts result → RunHasDoubt r → EndingMayDoubt (turns_ending o.live result)
   ended-by (Ok done) e d = absurd (e.0.never d)
   ended-by (Err InDoubt) e d = tt
   ended-by (Err WriteFault) e d = tt
   ended-by (Err Memory) e d = tt
 
   -- all that is settled is written, where it ends so
-  written-by : (result : Result T RunFault) → TurnsEndAs o b r settler counts result → IsAllWritten (turns_ending result) ⊎ (IsDiskFault (turns_ending result) × RunHasDoubt r)
+  written-by : (result : Result T RunFault) → TurnsEndAs o b r settler counts result → IsAllWritten (turns_ending o.live result) ⊎ (IsDiskFault (turns_ending o.live result) × RunHasDoubt r)
       → length (ends r).manager.settled ≤ (ends r).manager.emitted
   written-by (Ok done) e which = e.0.run.quiet.written
   written-by (Err InDoubt) e which = e.0.written
@@ -92,9 +91,9 @@ module _ {T : Type 0} (o : Outset) (b : Books) (r : Run) (settler : Settler) (co
 
 -- what its events explain
 pub explains : {T : Type 0} (tells : Bool) (o : Outset) (b : Books) (r : Run) (settler : Settler) (seen : Observed) (c : Course) (result : Result T RunFault)
-    → KeepsRecord tells o b r settler seen.faults_after seen.new → TurnsEndAs o b r settler seen.faults_after result → seen.ending ≡ turns_ending result
+    → KeepsRecord tells o b r settler seen.faults_after seen.new → TurnsEndAs o b r settler seen.faults_after result → seen.ending ≡ turns_ending o.live result
     → (seen.manner.threaded ≡ false → KeepsTurnRule o.program.types (length o.asked) o.width o.picks r)
-    → IsCourseOf o b r seen c → LeavesUnvoted live_slot o.program seen c → ExplainsEvents o.program seen c
+    → IsCourseOf o b r seen c → LeavesUnvoted c.live o.program seen c → ExplainsEvents o.program seen c
 explains {T} tells o b r settler seen c result k e q turns is unvoted =
     let run : r ≡ core_run o.program c = sym is.run in
     let same : basis_of o ≡ basis o.program seen c = (λ i. record { types = o.program.types; lines = sym is.asked i; opening = standing_of o.program.types (sym is.opening i) }) in
@@ -106,9 +105,11 @@ explains {T} tells o b r settler seen c result k e q turns is unvoted =
           (subst (λ (w : ℕ). KeepsTurnRule o.program.types (length o.asked) w seen.manner.picks (core_run o.program c)) (sym is.width)
           (subst (λ (ps : List ℕ). KeepsTurnRule o.program.types (length o.asked) o.width ps (core_run o.program c)) (sym is.picks)
           (subst (KeepsTurnRule o.program.types (length o.asked) o.width o.picks) run (turns one))));
-      faults = subst (λ (f : Channel → ℕ). AreFaults live_slot (core_run o.program c) f seen.faults_after) (sym is.before)
-          (subst (λ (x : Run). AreFaults live_slot x o.faults seen.faults_after) run k.books.faults);
-      doubted = λ file t. subst (λ (x : Run). FileMayEndInDoubt live_slot x file) run (doubted-by o b r settler seen.faults_after result e file (sym q ∙ t));
+      faults = subst (λ (live : ℕ). AreFaults live (core_run o.program c) seen.faults_before seen.faults_after) (sym is.live)
+          (subst (λ (f : Channel → ℕ). AreFaults o.live (core_run o.program c) f seen.faults_after) (sym is.before)
+          (subst (λ (x : Run). AreFaults o.live x o.faults seen.faults_after) run k.books.faults));
+      doubted = λ file t. subst (λ (live : ℕ). FileMayEndInDoubt live (core_run o.program c) file) (sym is.live)
+          (subst (λ (x : Run). FileMayEndInDoubt o.live x file) run (doubted-by o b r settler seen.faults_after result e file (sym q ∙ t)));
       ended = λ d. subst EndingMayDoubt (sym q) (ended-by o b r settler seen.faults_after result e (subst RunHasDoubt is.run d));
       unvoted = unvoted;
     }
@@ -148,7 +149,7 @@ put-told b w (inr q) le =
 -- what was written of what is settled
 pub settled : {T : Type 0} (tells : Bool) (o : Outset) (b : Books) (r : Run) (settler : Settler) (seen : Observed) (c : Course) (result : Result T RunFault)
     → settler.quiet ≡ false → KeepsRecord tells o b r settler seen.faults_after seen.new → TurnsEndAs o b r settler seen.faults_after result
-    → seen.ending ≡ turns_ending result → IsCourseOf o b r seen c → AreSettled o.program seen c
+    → seen.ending ≡ turns_ending o.live result → IsCourseOf o b r seen c → AreSettled o.program seen c
 settled {T} tells o b r settler seen c result loud k e q is =
     let w : CoreState = ends r in
     let end : core_end o.program c ≡ w = ap ends is.run in
@@ -167,7 +168,7 @@ settled {T} tells o b r settler seen c result loud k e q is =
       cut = cut-by k.books.cut;
     }
   where
-    which-by : EndsWritten o.program seen c → IsAllWritten (turns_ending result) ⊎ (IsDiskFault (turns_ending result) × RunHasDoubt r)
+    which-by : EndsWritten o.program seen c → IsAllWritten (turns_ending o.live result) ⊎ (IsDiskFault (turns_ending o.live result) × RunHasDoubt r)
     which-by (inl x) = inl (subst IsAllWritten q x)
     which-by (inr x) = inr (subst IsDiskFault q x.0, subst RunHasDoubt is.run x.1)
 

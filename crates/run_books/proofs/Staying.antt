@@ -103,16 +103,16 @@ step-stays w w' same of = by w.manager.batch refl
 
 -- ---- what was done for it
 
-module _ {H : Type 0} (tells : Bool) (world : H → World) (faults : H → Channel → ℕ) (quiet : Bool) (shape : Shape) (w w' : CoreState) (before after : BatchWriter) (old new : H) (s : Stays w w') where
+module _ {H : Type 0} (tells : Bool) (world : H → World) (faults : H → Channel → ℕ) (live : ℕ) (quiet : Bool) (shape : Shape) (w w' : CoreState) (before after : BatchWriter) (old new : H) (s : Stays w w') where
   abbrev Does : CoreEvent → CoreState → Type 0
-  Does e v = DoesFor tells world faults e quiet shape v before after old new
+  Does e v = DoesFor tells world faults live e quiet shape v before after old new
 
-  seals-on : (n : ℕ) (e : CoreEvent) → SealsUnits tells world faults n e (to_commit w w.manager.batch) before after old new → SealsUnits tells world faults n e (to_commit w' w'.manager.batch) before after old new
-  seals-on n e = subst (λ (es : List Effect). SealsUnits tells world faults n e es before after old new) (sym s.commits)
+  seals-on : (n : ℕ) (e : CoreEvent) → SealsUnits tells world faults live n e (to_commit w w.manager.batch) before after old new → SealsUnits tells world faults live n e (to_commit w' w'.manager.batch) before after old new
+  seals-on n e = subst (λ (es : List Effect). SealsUnits tells world faults live n e es before after old new) (sym s.commits)
 
   -- it was done for the event in the later state
   pub does-on : (e : CoreEvent) → Does e w → Does e w'
-  does-on (event.Vote n g said) d = subst (λ (vs : List Version). VotesOn tells world faults n g said vs before after old new) (sym (s.versions g)) d
+  does-on (event.Vote n g said) d = subst (λ (vs : List Version). VotesOn tells world faults live n g said vs before after old new) (sym (s.versions g)) d
   does-on (event.Sealed n) d = seals-on n (event.Sealed n) d
   does-on (event.NotSealed n) d = seals-on n (event.NotSealed n) d
   does-on (event.Doubt n) (inl d) = inl (seals-on n (event.Doubt n) d)

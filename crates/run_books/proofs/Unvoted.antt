@@ -5,7 +5,6 @@ use Rattle.host_trait.specs.declared.channels.FileId.TheVariants.{Manager, Grain
 use Rattle.host_trait.specs.World.{World, Moment, moment_of}
 use Rattle.host_trait.proofs.Moments.{weaker}
 use Rattle.promise_spec.specs.Programs.{Program}
-use Rattle.promise_spec.specs.Logs.{live_slot}
 use Rattle.promise_spec.specs.Cores.{how_many}
 use Rattle.promise_spec.specs.Causes.{is_vote_of}
 use Rattle.promise_spec.specs.Courses.{Observed, Course, core_run}
@@ -16,11 +15,11 @@ use Rattle.run_books.specs.Records.{KeepsFile}
 use Rattle.run_books.proofs.BooksCalls.{not-manager}
 
 -- where it is so behind the opening, the opening having synced the manager file alone
-pub unvoted_behind : (p : Program) (r : Observed) (c : Course) (mid : World) → IsBehind live_slot p r c mid
-    → ((g : GrainId) → how_many (is_vote_of g) (core_run p c) ≡ 0 → KeepsFile (Grain live_slot g) mid r.new) → LeavesUnvoted live_slot p r c
+pub unvoted_behind : (p : Program) (r : Observed) (c : Course) (mid : World) → IsBehind p r c mid
+    → ((g : GrainId) → how_many (is_vote_of g) (core_run p c) ≡ 0 → KeepsFile (Grain c.live g) mid r.new) → LeavesUnvoted c.live p r c
 unvoted_behind p r c mid b kept g m none there =
     let k = kept g none in
-    let first : mid.disk (Grain live_slot g) ≡ r.old.disk (Grain live_slot g) = b.others (Grain live_slot g) (not-manager g) in
-    gather p r c mid b (λ (x : Moment). x.disk (Grain live_slot g) ≡ r.old.disk (Grain live_slot g)) first
-    (weaker (λ (x : Moment). x.disk (Grain live_slot g) ≡ mid.disk (Grain live_slot g)) (λ (x : Moment). x.disk (Grain live_slot g) ≡ r.old.disk (Grain live_slot g)) (λ x is. is ∙ first) k.moments)
+    let first : mid.disk (Grain c.live g) ≡ r.old.disk (Grain c.live g) = b.others (Grain c.live g) (not-manager c.live g) in
+    gather p r c mid b (λ (x : Moment). x.disk (Grain c.live g) ≡ r.old.disk (Grain c.live g)) first
+    (weaker (λ (x : Moment). x.disk (Grain c.live g) ≡ mid.disk (Grain c.live g)) (λ (x : Moment). x.disk (Grain c.live g) ≡ r.old.disk (Grain c.live g)) (λ x is. is ∙ first) k.moments)
     (k.now_is ∙ first) m there

@@ -27,9 +27,10 @@ pub record CanTurn (r : Run) (settler : Settler) (lines : List Line) : Type 0 wh
   pub sure : settler.doubted ≡ false
   pub written : settler.written ≡ (ends r).units.lines
 
--- What a run's record is told of from outside: the program, all lines that are asked, the log with which the run opened, the
+-- What a run's record is told of from outside: the slot of the run's files, the program, all lines that are asked, the log with which the run opened, the
 -- width and the picks, the counts of faults where the run began, and the world behind the opening.
 pub record Outset : Type 0 where
+  pub live : ℕ
   pub program : Program
   pub asked : List (List ℕ)
   pub opening : List Commit

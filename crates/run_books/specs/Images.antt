@@ -1,5 +1,6 @@
 -- What each image that a crash may leave keeps of a run's books.
 use Rattle.std.specs.Prelude.{◌≡◌, ◌≢◌, ◌⊎◌, ℕ, ◌+◌, false, List, [], ◌++◌, map, take, drop}
+use Rattle.host_trait.specs.declared.channels.FileId.TheVariants.{Manager}
 use Rattle.host_trait.specs.Disk.{FileState, MayLeave}
 use Rattle.host_trait.specs.declared.channels.FileId.{FileId}
 use Rattle.host_trait.specs.World.{World, Disk, Moment, Image, IsImage, Passes, moment_of}
@@ -7,7 +8,6 @@ use Rattle.core_model.specs.CoreState.{CoreState, Member}
 use Rattle.core_model.specs.Serial.{chosen}
 use Rattle.core_model.specs.Legal.{Run, ends}
 use Rattle.gate_block.specs.Log.{HasBlocks}
-use Rattle.log_reading.specs.Steps.{live_slot, manager}
 use Rattle.promise_spec.specs.Programs.{shape_in}
 use Rattle.promise_spec.specs.Records.{Commit, AreRecordsOf}
 use Rattle.promise_spec.specs.Logs.{IsLog, body_of}
@@ -24,50 +24,50 @@ use Rattle.settler_rules.specs.Voting.{IsOfVote}
 use Rattle.run_books.specs.Beginnings.{Outset}
 use Rattle.run_books.specs.Books.{Books, booked_journal}
 
--- the files that a run leaves alone are as they were in this world, and each image has this header
-pub record LeavesAside (head : List ℕ) (old : World) (m : Moment) : Type 0 where
-  pub aside : (file : FileId) → IsAside live_slot file → m.disk file ≡ old.disk file
-  pub header : EachImage (λ image. take 15 (image manager) ≡ head) m.disk
+-- the files that a run in this slot leaves alone are as they were in this world, and each image has this header
+pub record LeavesAside (live : ℕ) (head : List ℕ) (old : World) (m : Moment) : Type 0 where
+  pub aside : (file : FileId) → IsAside live file → m.disk file ≡ old.disk file
+  pub header : EachImage (λ image. take 15 (image (Manager live)) ≡ head) m.disk
 
 -- The block of a batch in doubt, whose records are those of its units to commit: the log is that of the batches before it, or has
 -- it last. In each image those before it end at the gate, and its whole block stands behind that; images differ at most there.
-pub record HasOpenBlock (log : List Commit) (w : CoreState) (disk : Disk) : Type 0 where
+pub record HasOpenBlock (live : ℕ) (log : List Commit) (w : CoreState) (disk : Disk) : Type 0 where
   pub gate : ℕ
   pub batch : List Commit
   pub batches : List (List Commit)
   pub records : AreRecordsOf (chosen w) batch
   pub log_is : (log ≡ log_of batches) ⊎ (log ≡ log_of batches ++ batch)
-  pub front : EachImage (λ image. HasBlocks (map body_of batches) gate (image manager)) disk
-  pub block : EachImage (HasBlock live_slot gate batch) disk
-  pub differ : (one other : Image) → IsImage disk one → IsImage disk other → DifferAt gate (one manager) (other manager)
+  pub front : EachImage (λ image. HasBlocks (map body_of batches) gate (image (Manager live))) disk
+  pub block : EachImage (HasBlock live gate batch) disk
+  pub differ : (one other : Image) → IsImage disk one → IsImage disk other → DifferAt gate (one (Manager live)) (other (Manager live))
 
 -- what a crash may leave of the manager file is behind this gate as the file read where the run began
 abbrev pub EndsAsBegun : Outset → ℕ → FileState → Type 0
-EndsAsBegun o gate file = (bytes : List ℕ) → MayLeave file bytes → drop (gate + 1) bytes ≡ drop (gate + 1) (o.world.disk manager).seen
+EndsAsBegun o gate file = (bytes : List ℕ) → MayLeave file bytes → drop (gate + 1) bytes ≡ drop (gate + 1) (o.world.disk (Manager o.live)).seen
 
 -- The writer keeps the folder's log, which is the opening's and the books', and the versions that it keeps are those of the
 -- core's votes. Where no batch failed to be sealed, nothing was left behind the log.
 pub record KeepsFolder (o : Outset) (head : List ℕ) (b : Books) (r : Run) (writer : BatchWriter) (disk : Disk) : Type 0 where
   pub batches : List (List Commit)
   pub log : log_of batches ≡ o.opening ++ commits_of (b.said ++ b.unsaid)
-  pub keeps : KeepsDisk (shape_in o.program) head batches writer disk
+  pub keeps : KeepsDisk o.live (shape_in o.program) head batches writer disk
   pub votes : (v : Voted) → Member v (kept_of writer) → IsOfVote (ends r) writer.batch v.unit v.write.grain v.state
-  pub behind : how_many is_unsealed r ≡ 0 → EndsAsBegun o writer.gate_at (disk manager)
+  pub behind : how_many is_unsealed r ≡ 0 → EndsAsBegun o writer.gate_at (disk (Manager o.live))
 
 -- an image has the batch in doubt, where one may have it
 abbrev pub SomeHas : Outset → Books → Disk → Type 0
-SomeHas o b disk = b.doubted ≢ [] → SomeImage (λ image. IsLog live_slot (shape_in o.program) image (o.opening ++ commits_of (booked_journal b))) disk
+SomeHas o b disk = b.doubted ≢ [] → SomeImage (λ image. IsLog o.live (shape_in o.program) image (o.opening ++ commits_of (booked_journal b))) disk
 
 -- The journal since the world behind the opening; whole batches, and other files and the header as they were, at each moment and
 -- now; what entries acknowledge stands beside them or before them; the block of a batch in doubt; and, while none is, what the
 -- settler's writer keeps.
 pub record LastsSo (o : Outset) (head : List ℕ) (b : Books) (r : Run) (writer : BatchWriter) (now : World) : Type 0 where
-  pub journal : CutAt o.program o.opening o.world b.said b.unsaid b.doubted b.rest now
+  pub journal : CutAt o.live o.program o.opening o.world b.said b.unsaid b.doubted b.rest now
   pub backs : Backs (booked_journal b) (commits_of (booked_journal b))
-  pub batches : Passes (AllEnd o.program (ends r) o.opening) o.world.past now.past
-  pub batches_now : AllEnd o.program (ends r) o.opening (moment_of now)
-  pub alone : Passes (LeavesAside head o.world) o.world.past now.past
-  pub alone_now : LeavesAside head o.world (moment_of now)
+  pub batches : Passes (AllEnd o.live o.program (ends r) o.opening) o.world.past now.past
+  pub batches_now : AllEnd o.live o.program (ends r) o.opening (moment_of now)
+  pub alone : Passes (LeavesAside o.live head o.world) o.world.past now.past
+  pub alone_now : LeavesAside o.live head o.world (moment_of now)
   pub some : SomeHas o b now.disk
-  pub block : RunHasDoubt r → HasOpenBlock (o.opening ++ commits_of (booked_journal b)) (ends r) now.disk
+  pub block : RunHasDoubt r → HasOpenBlock o.live (o.opening ++ commits_of (booked_journal b)) (ends r) now.disk
   pub folder : writer.in_doubt ≡ false → KeepsFolder o head b r writer now.disk

@@ -5,9 +5,8 @@ use Rattle.host_trait.specs.declared.channels.Channel.{Channel}
 use Rattle.host_trait.specs.declared.channels.Channel.TheVariants.{File, Output}
 use Rattle.host_trait.specs.Faults.{Rose}
 use Rattle.host_trait.specs.declared.channels.FileId.{FileId}
-use Rattle.host_trait.specs.declared.channels.FileId.TheVariants.{Grain}
+use Rattle.host_trait.specs.declared.channels.FileId.TheVariants.{Grain, Manager}
 use Rattle.host_trait.specs.World.{World, Passes}
-use Rattle.log_reading.specs.Steps.{live_slot, manager}
 use Rattle.core_model.specs.Legal.{Run, ends}
 use Rattle.promise_spec.specs.Programs.{shape_in}
 use Rattle.promise_spec.specs.Outputs.{Grew}
@@ -33,7 +32,7 @@ pub record KeepsFile (file : FileId) (old now : World) : Type 0 where
 pub record CountsCalls (o : Outset) (r : Run) (faults : Channel → ℕ) (now : World) : Type 0 where
   pub each : NoneRose o.faults faults → now.syncs ≡ o.world.syncs + (how_many is_vote r + 2 * how_many is_sealed r)
   pub most : now.syncs ≤ o.world.syncs + (how_many is_vote r + 2 * (how_many is_sealed r + how_many is_unsealed r))
-  pub unvoted : (g : GrainId) → how_many (is_vote_of g) r ≡ 0 → KeepsFile (Grain live_slot g) o.world now
+  pub unvoted : (g : GrainId) → how_many (is_vote_of g) r ≡ 0 → KeepsFile (Grain o.live g) o.world now
 
 -- What a host that tells shows over any folder, sound or not: the output grew by the lines of what is written and a rest of a
 -- line, how many syncs were asked, and which files were written.
@@ -42,13 +41,14 @@ pub record ShowsOutside (o : Outset) (b : Books) (r : Run) (faults : Channel →
   pub calls : CountsCalls o r faults now
 
 -- No more faults show in the events than were counted, and no count fell. The books are those of the core's last state. The
--- settler knows of a doubt, as its writer does, and how many entries are written.
+-- settler is in the run's slot, and knows of a doubt, as its writer does, and how many entries are written.
 pub record KeepsBooks (tells : Bool) (o : Outset) (b : Books) (r : Run) (settler : Settler) (counts : Channel → ℕ) (now : World) : Type 0 where
-  pub faults : AreFaults live_slot r o.faults counts
+  pub faults : AreFaults o.live r o.faults counts
   pub later : (c : Channel) → o.faults c ≤ counts c
   pub booked : AreBooked b (ends r)
   pub said : IsPutOut settler.quiet b (ends r)
   pub cut : IsCutOff (shape_in o.program) b (ends r)
+  pub slot : settler.writer.slot ≡ o.live
   pub doubt : settler.doubted ≡ is_some (ends r).manager.doubt
   pub unsure : settler.writer.in_doubt ≡ settler.doubted
   pub written : settler.written ≡ (ends r).manager.emitted
@@ -71,7 +71,7 @@ pub record HasCarriedAll (o : Outset) (r : Run) (settler : Settler) : Type 0 whe
 pub record HasDoubted (o : Outset) (r : Run) (faults : Channel → ℕ) : Type 0 where
   pub doubt : RunHasDoubt r
   pub written : length (ends r).manager.settled ≤ (ends r).manager.emitted
-  pub rose : Rose (o.faults (File manager)) (faults (File manager))
+  pub rose : Rose (o.faults (File (Manager o.live))) (faults (File (Manager o.live)))
 
 -- What the answer says. A line is cut off only where the output failed.
 abbrev pub TurnsEndAs : Outset → Books → Run → Settler → (Channel → ℕ) → {T : Type 0} → Result T RunFault → Type 0

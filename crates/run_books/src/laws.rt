@@ -1,7 +1,6 @@
 ghost use Rattle.std.specs.Prelude.{◌≡◌, ℕ, Bool, true, false, List as AList, Result as AResult, length, take};
-ghost use Rattle.log_reading.specs.Steps.{live_slot, manager};
 ghost use Rattle.core_model.specs.Legal.{Run};
-ghost use Rattle.host_trait.specs.declared.channels.FileId.TheVariants.{Grain};
+ghost use Rattle.host_trait.specs.declared.channels.FileId.TheVariants.{Manager, Grain};
 ghost use Rattle.host_trait.specs.World.{World};
 ghost use Rattle.base_types.specs.declared.calls.GrainId.{GrainId};
 ghost use Rattle.promise_spec.specs.Programs.{Program as AProgram};
@@ -25,16 +24,16 @@ ghost use Rattle.run_books.specs.Closing.{IsCourseOf, turns_ending};
 /// books, what has to last.
 pub fn records_show<T>()
     ensures explains { (tells : Bool) (o : Outset) (b : Books) (r : Run) (settler : ASettler) (seen : Observed) (c : Course) (result : AResult T AFault)
-        → KeepsRecord tells o b r settler seen.faults_after seen.new → TurnsEndAs o b r settler seen.faults_after result → seen.ending ≡ turns_ending result
+        → KeepsRecord tells o b r settler seen.faults_after seen.new → TurnsEndAs o b r settler seen.faults_after result → seen.ending ≡ turns_ending o.live result
         → (seen.manner.threaded ≡ false → KeepsTurnRule o.program.types (length o.asked) o.width o.picks r)
-        → IsCourseOf o b r seen c → LeavesUnvoted live_slot o.program seen c → ExplainsEvents o.program seen c }
-    ensures unvoted { (p : AProgram) (seen : Observed) (c : Course) (mid : World) → IsBehind live_slot p seen c mid
-        → ((g : GrainId) → how_many (is_vote_of g) (core_run p c) ≡ 0 → KeepsFile (Grain live_slot g) mid seen.new) → LeavesUnvoted live_slot p seen c }
+        → IsCourseOf o b r seen c → LeavesUnvoted c.live o.program seen c → ExplainsEvents o.program seen c }
+    ensures unvoted { (p : AProgram) (seen : Observed) (c : Course) (mid : World) → IsBehind p seen c mid
+        → ((g : GrainId) → how_many (is_vote_of g) (core_run p c) ≡ 0 → KeepsFile (Grain c.live g) mid seen.new) → LeavesUnvoted c.live p seen c }
     ensures settled { (tells : Bool) (o : Outset) (b : Books) (r : Run) (settler : ASettler) (seen : Observed) (c : Course) (result : AResult T AFault)
         → settler.quiet ≡ false → KeepsRecord tells o b r settler seen.faults_after seen.new → TurnsEndAs o b r settler seen.faults_after result
-        → seen.ending ≡ turns_ending result → IsCourseOf o b r seen c → AreSettled o.program seen c }
+        → seen.ending ≡ turns_ending o.live result → IsCourseOf o b r seen c → AreSettled o.program seen c }
     ensures lasts { (tells : Bool) (o : Outset) (head : AList ℕ) (b : Books) (r : Run) (settler : ASettler) (seen : Observed) (c : Course)
         → tells ≡ true → KeepsRecord tells o b r settler seen.faults_after seen.new → LastsSo o head b r settler.writer seen.new → IsCourseOf o b r seen c
-        → head ≡ take 15 (seen_at_entry seen manager) → IsBehind live_slot o.program seen c o.world → Opens o.program seen c → ReadsMayStay seen.new
+        → head ≡ take 15 (seen_at_entry seen (Manager c.live)) → IsBehind o.program seen c o.world → Opens o.program seen c → ReadsMayStay seen.new
         → Lasts o.program seen c }
 {}

@@ -29,7 +29,7 @@ module _ {H : Type 0} (tells : Bool) (world : H → World) (faults : H → Chann
     seen = seen;
     looked = looked;
     makes = made.makes;
-    does = subst (λ (x : BatchWriter). DoesFor tells world faults e before.quiet shape (state_shown seen) before.writer x old new) (sym writer) made.does;
+    does = subst (λ (x : BatchWriter). DoesFor tells world faults before.writer.slot e before.quiet shape (state_shown seen) before.writer x old new) (sym writer) made.does;
   }
 
   counted : (r : CoreReply) → after ≡ counting writes doubts r mid

@@ -8,6 +8,7 @@ use Rattle.base_types.specs.declared.shapes.Shape.{Shape}
 use Rattle.base_types.specs.declared.stores.Version.{Version}
 use Rattle.host_trait.specs.declared.channels.Channel.{Channel}
 use Rattle.host_trait.specs.declared.channels.Channel.TheVariants.{File}
+use Rattle.host_trait.specs.declared.channels.FileId.TheVariants.{Grain}
 use Rattle.host_trait.specs.Faults.{NoneFailed, FailedOn}
 use Rattle.host_trait.specs.World.{World}
 use Rattle.commit_log.specs.declared.gate.Sealing.{Sealing}
@@ -18,7 +19,7 @@ use Rattle.core_model.specs.declared.events.CoreEvent.{CoreEvent}
 use Rattle.core_model.specs.declared.events.CoreEvent.TheVariants.{Vote, Decide, Sealed, NotSealed, Doubt, Learn, Emitted, Take}
 use Rattle.core_model.specs.Settler.{Step, Decides, Seals, Learns, Takes, settler_step, MakesEvent, to_commit}
 use Rattle.core_model.specs.declared.questions.SettlerWork.TheVariants as work
-use Rattle.batch_disk.specs.Resting.{grain_file, voted_from}
+use Rattle.batch_disk.specs.Resting.{voted_from}
 use Rattle.batch_disk.specs.Writers.{file_end, voted_of}
 use Rattle.batch_disk.specs.declared.writer.BatchWriter.{BatchWriter}
 use Rattle.settle_loop.specs.Works.{ShowsWork, event_of, tells_doubt, tells_entry}
@@ -28,9 +29,9 @@ use Rattle.settle_loop.specs.declared.cases.Made.{Made}
 use Rattle.settle_loop.specs.declared.settler.Settler.{Settler}
 
 -- the cause of a vote, by its two kinds
-pub vote_cause : (g : GrainId) (kept : Bool) (f0 f1 : Channel → ℕ) → (kept ≡ true → NoneFailed f0 f1) → (kept ≡ false → FailedOn (File (grain_file g)) f0 f1) → HasVoteCause g kept f0 f1
-vote_cause g true f0 f1 calm fault = calm refl
-vote_cause g false f0 f1 calm fault = fault refl
+pub vote_cause : (live : ℕ) (g : GrainId) (kept : Bool) (f0 f1 : Channel → ℕ) → (kept ≡ true → NoneFailed f0 f1) → (kept ≡ false → FailedOn (File (Grain live g)) f0 f1) → HasVoteCause live g kept f0 f1
+vote_cause live g true f0 f1 calm fault = calm refl
+vote_cause live g false f0 f1 calm fault = fault refl
 
 -- and what is kept
 pub vote_kept : (kept : Bool) (n : ℕ) (g : GrainId) (versions : List Version) (before after : BatchWriter)
@@ -41,10 +42,10 @@ vote_kept false n g versions before after is = is
 module _ {H : Type 0} (tells : Bool) (world : H → World) (faults : H → Channel → ℕ) (shape : Shape) (w : CoreState) (before after : Settler) (old new : H) (same : after ≡ with_writer before after) where
   -- a vote
   pub vote_made : (n : ℕ) (g : GrainId) (kept : Bool) (versions : List Version) → ShowsWork w (settler_step w) (work.Vote n g versions)
-      → VotesOn tells world faults n g kept versions before.writer after.writer old new → IsToTell tells world faults shape w before after old new (Vote n g kept) false false
+      → VotesOn tells world faults before.writer.slot n g kept versions before.writer after.writer old new → IsToTell tells world faults shape w before after old new (Vote n g kept) false false
   vote_made n g kept versions shown votes = record {
     makes = subst (λ (s : Step). MakesEvent s (Vote n g kept)) (sym shown.0) (kept, refl);
-    does = subst (λ (vs : List Version). VotesOn tells world faults n g kept vs before.writer after.writer old new) shown.1 votes;
+    does = subst (λ (vs : List Version). VotesOn tells world faults before.writer.slot n g kept vs before.writer after.writer old new) shown.1 votes;
     writes_is = refl;
     doubts_is = refl;
     settler = same;
@@ -52,21 +53,21 @@ module _ {H : Type 0} (tells : Bool) (world : H → World) (faults : H → Chann
 
   -- none, for want of memory
   pub vote_lacks : (n : ℕ) (g : GrainId) (versions : List Version) → ShowsWork w (settler_step w) (work.Vote n g versions)
-      → LacksRoom tells world faults n g versions before.writer after.writer old new → LacksVersions tells world faults shape w before after old new
+      → LacksRoom tells world faults before.writer.slot n g versions before.writer after.writer old new → LacksVersions tells world faults shape w before after old new
   vote_lacks n g versions shown lacks = record {
     n = n;
     g = g;
     votes = shown.0;
-    lacks = subst (λ (vs : List Version). LacksRoom tells world faults n g vs before.writer after.writer old new) shown.1 lacks;
+    lacks = subst (λ (vs : List Version). LacksRoom tells world faults before.writer.slot n g vs before.writer after.writer old new) shown.1 lacks;
     settler = same;
   }
 
   -- what a seal answered
-  seal_does : (n : ℕ) (effects : List Effect) (answer : Sealing) → SealsUnits tells world faults n (event_of n answer) effects before.writer after.writer old new
-      → effects ≡ to_commit w w.manager.batch → DoesFor tells world faults (event_of n answer) before.quiet shape w before.writer after.writer old new
-  seal_does n effects (sealing.Sealed next) seals is = subst (λ (es : List Effect). SealsUnits tells world faults n (Sealed n) es before.writer after.writer old new) is seals
-  seal_does n effects sealing.NotSealed seals is = subst (λ (es : List Effect). SealsUnits tells world faults n (NotSealed n) es before.writer after.writer old new) is seals
-  seal_does n effects sealing.InDoubt seals is = inl (subst (λ (es : List Effect). SealsUnits tells world faults n (Doubt n) es before.writer after.writer old new) is seals)
+  seal_does : (n : ℕ) (effects : List Effect) (answer : Sealing) → SealsUnits tells world faults before.writer.slot n (event_of n answer) effects before.writer after.writer old new
+      → effects ≡ to_commit w w.manager.batch → DoesFor tells world faults before.writer.slot (event_of n answer) before.quiet shape w before.writer after.writer old new
+  seal_does n effects (sealing.Sealed next) seals is = subst (λ (es : List Effect). SealsUnits tells world faults before.writer.slot n (Sealed n) es before.writer after.writer old new) is seals
+  seal_does n effects sealing.NotSealed seals is = subst (λ (es : List Effect). SealsUnits tells world faults before.writer.slot n (NotSealed n) es before.writer after.writer old new) is seals
+  seal_does n effects sealing.InDoubt seals is = inl (subst (λ (es : List Effect). SealsUnits tells world faults before.writer.slot n (Doubt n) es before.writer after.writer old new) is seals)
 
   seal_makes : (n : ℕ) (answer : Sealing) → MakesEvent (Seals n) (event_of n answer)
   seal_makes n (sealing.Sealed next) = inl refl
@@ -80,7 +81,7 @@ module _ {H : Type 0} (tells : Bool) (world : H → World) (faults : H → Chann
 
   -- a seal
   pub seal_made : (n : ℕ) (effects : List Effect) (answer : Sealing) (e : CoreEvent) (doubts : Bool) → e ≡ event_of n answer → doubts ≡ tells_doubt e → ShowsWork w (settler_step w) (work.Seal n effects)
-      → SealsUnits tells world faults n (event_of n answer) effects before.writer after.writer old new → IsToTell tells world faults shape w before after old new e false doubts
+      → SealsUnits tells world faults before.writer.slot n (event_of n answer) effects before.writer after.writer old new → IsToTell tells world faults shape w before after old new e false doubts
   seal_made n effects answer e doubts is doubts_is shown seals = subst (λ (x : CoreEvent). doubts ≡ tells_doubt x → IsToTell tells world faults shape w before after old new x false doubts) (sym is)
       (λ d. record {
         makes = subst (λ (s : Step). MakesEvent s (event_of n answer)) (sym shown.0) (seal_makes n answer);

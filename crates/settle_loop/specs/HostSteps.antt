@@ -1,4 +1,5 @@
--- What the settler does to the host and to what it keeps of the disk, by the event that it makes of it.
+-- What the settler does to the host and to what it keeps of the disk, by the event that it makes of it. The slot of its writer is
+-- the first that each is told.
 use Rattle.std.proofs.Common.{inl, inr}
 use Rattle.std.specs.Prelude.{◌≡◌, ◌⊎◌, ◌+◌, ◌++◌, ℕ, List, [], length, Bool, true, false, Some, slice_get, IsTrue}
 use Rattle.std.specs.List.{AllByRecursion}
@@ -8,6 +9,7 @@ use Rattle.base_types.specs.declared.stores.Version.{Version}
 use Rattle.base_types.specs.declared.entries.Entry.{Entry}
 use Rattle.host_trait.specs.declared.channels.Channel.{Channel}
 use Rattle.host_trait.specs.declared.channels.Channel.TheVariants.{File, Output}
+use Rattle.host_trait.specs.declared.channels.FileId.TheVariants.{Manager, Grain}
 use Rattle.host_trait.specs.Disk.{Tears, settled, overlaid}
 use Rattle.host_trait.specs.Faults.{NoneFailed, FailedOn}
 use Rattle.host_trait.specs.World.{World, Emitted as IsAppended, IsEmitted, Passes}
@@ -22,9 +24,8 @@ use Rattle.core_model.specs.declared.effects.Effect.{Effect}
 use Rattle.core_model.specs.declared.events.CoreEvent.{CoreEvent}
 use Rattle.core_model.specs.declared.events.CoreEvent.TheVariants.{Vote, Sealed, NotSealed, Doubt, Emitted}
 use Rattle.core_model.specs.Settler.{versions_to_write, to_commit}
-use Rattle.log_reading.specs.Steps.{manager}
 use Rattle.promise_spec.specs.Records.{Commit}
-use Rattle.batch_disk.specs.Resting.{grain_file, log_of, NotAmong, AreOfType, voted_from}
+use Rattle.batch_disk.specs.Resting.{log_of, NotAmong, AreOfType, voted_from}
 use Rattle.batch_disk.specs.Moments.{KeepsLog}
 use Rattle.batch_disk.specs.Writers.{file_end, voted_of, KeepsDisk, HasSameEnds}
 use Rattle.batch_disk.specs.Records.{commits_by, AreRecordsFor, IsSealable, MayBeLogged, IsAsWritten}
@@ -35,9 +36,9 @@ use Rattle.settler_rules.specs.Entries.{IsEntryInRange}
 use Rattle.settle_loop.specs.Works.{event_of}
 
 -- a vote of no is the grain's file's fault, and with a vote of yes nothing failed
-abbrev pub HasVoteCause : GrainId → Bool → (Channel → ℕ) → (Channel → ℕ) → Type 0
-HasVoteCause g true old new = NoneFailed old new
-HasVoteCause g false old new = FailedOn (File (grain_file g)) old new
+abbrev pub HasVoteCause : ℕ → GrainId → Bool → (Channel → ℕ) → (Channel → ℕ) → Type 0
+HasVoteCause live g true old new = NoneFailed old new
+HasVoteCause live g false old new = FailedOn (File (Grain live g)) old new
 
 -- what is kept after a vote: with a vote of yes these versions too
 abbrev pub KeepsVotes : Bool → ℕ → GrainId → List Version → BatchWriter → BatchWriter → Type 0
@@ -45,16 +46,16 @@ KeepsVotes true n g versions before after = voted_of n after ≡ voted_of n befo
 KeepsVotes false n g versions before after = voted_of n after ≡ voted_of n before
 
 -- With a vote of yes the versions are on disk, by one sync.
-pub record IsOnDisk (g : GrainId) (at : ℕ) (versions : List Version) (old new : World) : Type 0 where
-  pub file : new.disk (grain_file g) ≡ settled (overlaid (old.disk (grain_file g)).seen at (spelling_of_versions versions))
+pub record IsOnDisk (live : ℕ) (g : GrainId) (at : ℕ) (versions : List Version) (old new : World) : Type 0 where
+  pub file : new.disk (Grain live g) ≡ settled (overlaid (old.disk (Grain live g)).seen at (spelling_of_versions versions))
   pub once : new.syncs ≡ old.syncs + 1
 
 -- What the images keep while a grain's versions are written, and after it: the log that they had, and the places.
-pub record KeepsImages (n : ℕ) (g : GrainId) (versions : List Version) (before after : BatchWriter) (old new : World) : Type 0 where
+pub record KeepsImages (live n : ℕ) (g : GrainId) (versions : List Version) (before after : BatchWriter) (old new : World) : Type 0 where
   pub still : (shape : Shape) (head : List ℕ) (batches : List (List Commit)) → NotAmong g (voted_of n before)
-      → KeepsDisk shape head batches before old.disk → Passes (KeepsLog shape head (log_of batches) old) old.past new.past
+      → KeepsDisk live shape head batches before old.disk → Passes (KeepsLog live shape head (log_of batches) old) old.past new.past
   pub keeps : (shape : Shape) (head : List ℕ) (batches : List (List Commit)) → NotAmong g (voted_of n before)
-      → AreOfType shape g versions → KeepsDisk shape head batches before old.disk → KeepsDisk shape head batches after new.disk
+      → AreOfType shape g versions → KeepsDisk live shape head batches before old.disk → KeepsDisk live shape head batches after new.disk
 
 module _ {H : Type 0} (tells : Bool) (world : H → World) (faults : H → Channel → ℕ) where
   -- no host call was made, and nothing that is kept of the disk changed
@@ -63,40 +64,41 @@ module _ {H : Type 0} (tells : Bool) (world : H → World) (faults : H → Chann
     pub writer : after ≡ before
 
   -- A grain's versions were to be written at its file's end, by one write and one sync, and the vote is what that answered.
-  pub record VotesOn (n : ℕ) (g : GrainId) (said : Bool) (versions : List Version) (before after : BatchWriter) (old new : H) : Type 0 where
-    pub cause : HasVoteCause g said (faults old) (faults new)
-    pub run : IsTrue tells → RunsOnFile (grain_file g) (Tears (file_end before g) (length (spelling_of_versions versions))) 1 (world old) (world new)
-    pub there : IsTrue tells → said ≡ true → IsOnDisk g (file_end before g) versions (world old) (world new)
+  pub record VotesOn (live n : ℕ) (g : GrainId) (said : Bool) (versions : List Version) (before after : BatchWriter) (old new : H) : Type 0 where
+    pub cause : HasVoteCause live g said (faults old) (faults new)
+    pub run : IsTrue tells → RunsOnFile (Grain live g) (Tears (file_end before g) (length (spelling_of_versions versions))) 1 (world old) (world new)
+    pub there : IsTrue tells → said ≡ true → IsOnDisk live g (file_end before g) versions (world old) (world new)
     pub kept : KeepsVotes said n g versions before after
     pub batch : after.batch ≡ n
     pub same : HasSameEnds before after
-    pub images : IsTrue tells → KeepsImages n g versions before after (world old) (world new)
+    pub images : IsTrue tells → KeepsImages live n g versions before after (world old) (world new)
 
   -- There was no memory to write them: the host holds what it held.
-  pub record LacksRoom (n : ℕ) (g : GrainId) (versions : List Version) (before after : BatchWriter) (old new : H) : Type 0 where
+  pub record LacksRoom (live n : ℕ) (g : GrainId) (versions : List Version) (before after : BatchWriter) (old new : H) : Type 0 where
     pub calm : NoneFailed (faults old) (faults new)
     pub world_is : IsTrue tells → world new ≡ world old
     pub kept : voted_of n after ≡ voted_of n before
     pub batch : after.batch ≡ n
     pub same : HasSameEnds before after
-    pub images : IsTrue tells → KeepsImages n g versions before after (world old) (world new)
+    pub images : IsTrue tells → KeepsImages live n g versions before after (world old) (world new)
 
   -- The records of these units were to be sealed, by two writes and two syncs, and the event is what that answered.
-  pub record SealsUnits (n : ℕ) (e : CoreEvent) (effects : List Effect) (before after : BatchWriter) (old new : H) : Type 0 where
+  pub record SealsUnits (live n : ℕ) (e : CoreEvent) (effects : List Effect) (before after : BatchWriter) (old new : H) : Type 0 where
     pub sure : before.in_doubt ≡ false
     pub answer : Sealing
     pub event : e ≡ event_of n answer
     pub work : SealWork
     pub records : AreRecordsFor (voted_of n before) effects work.records
     pub sealable : IsSealable before work
-    pub run : IsTrue tells → RunsOnFile manager (Tears before.gate_at (length work.block + 1)) 2 (world old) (world new)
+    pub run : IsTrue tells → RunsOnFile (Manager live) (Tears before.gate_at (length work.block + 1)) 2 (world old) (world new)
     pub twice : IsTrue tells → (next : ℕ) → answer ≡ sealing.Sealed next → (world new).syncs ≡ (world old).syncs + 2
     pub seals : IsTrue tells → (shape : Shape) (head : List ℕ) (batches : List (List Commit))
         → AllByRecursion (MayBeLogged shape) effects → AllByRecursion (IsAsWritten (voted_of n before)) effects
-        → KeepsDisk shape head batches before (world old).disk
-        → SealsAs shape head batches effects work.records answer before after (world old) (world new)
+        → KeepsDisk live shape head batches before (world old).disk
+        → SealsAs live shape head batches effects work.records answer before after (world old) (world new)
+    pub slot : after.slot ≡ before.slot
     pub after_is : WriterAfter answer work.records before after
-    pub cause : SealHasCause answer before.gate_at (length work.block) (faults old) (faults new)
+    pub cause : SealHasCause live answer before.gate_at (length work.block) (faults old) (faults new)
 
   -- An earlier seal was left in doubt: the same is told without a host call.
   pub record DoubtsAgain (before after : BatchWriter) (old new : H) : Type 0 where
@@ -127,18 +129,18 @@ module _ {H : Type 0} (tells : Bool) (world : H → World) (faults : H → Chann
     pub writer : after ≡ before
 
   -- What was done to the host where the step makes this event: the host calls that belong to it, and no others.
-  abbrev pub DoesFor : CoreEvent → Bool → Shape → CoreState → BatchWriter → BatchWriter → H → H → Type 0
-  DoesFor (Vote n g said) quiet shape w before after old new = VotesOn n g said (versions_to_write w w.manager.batch g) before after old new
-  DoesFor (Sealed n) quiet shape w before after old new = SealsUnits n (Sealed n) (to_commit w w.manager.batch) before after old new
-  DoesFor (NotSealed n) quiet shape w before after old new = SealsUnits n (NotSealed n) (to_commit w w.manager.batch) before after old new
-  DoesFor (Doubt n) quiet shape w before after old new = SealsUnits n (Doubt n) (to_commit w w.manager.batch) before after old new ⊎ DoubtsAgain before after old new
-  DoesFor Emitted quiet shape w before after old new = WritesEntry quiet shape w before after old new
-  DoesFor _ quiet shape w before after old new = MakesNoCall before after old new
+  abbrev pub DoesFor : ℕ → CoreEvent → Bool → Shape → CoreState → BatchWriter → BatchWriter → H → H → Type 0
+  DoesFor live (Vote n g said) quiet shape w before after old new = VotesOn live n g said (versions_to_write w w.manager.batch g) before after old new
+  DoesFor live (Sealed n) quiet shape w before after old new = SealsUnits live n (Sealed n) (to_commit w w.manager.batch) before after old new
+  DoesFor live (NotSealed n) quiet shape w before after old new = SealsUnits live n (NotSealed n) (to_commit w w.manager.batch) before after old new
+  DoesFor live (Doubt n) quiet shape w before after old new = SealsUnits live n (Doubt n) (to_commit w w.manager.batch) before after old new ⊎ DoubtsAgain before after old new
+  DoesFor live Emitted quiet shape w before after old new = WritesEntry quiet shape w before after old new
+  DoesFor live _ quiet shape w before after old new = MakesNoCall before after old new
 
   -- the batch that was to be sealed, as its records were made: none by any other event
-  abbrev pub batch_made : (e : CoreEvent) (quiet : Bool) (shape : Shape) (w : CoreState) (before after : BatchWriter) (old new : H) → DoesFor e quiet shape w before after old new → List Commit
-  batch_made (Sealed n) quiet shape w before after old new does = commits_by (to_commit w w.manager.batch) does.work.records
-  batch_made (NotSealed n) quiet shape w before after old new does = commits_by (to_commit w w.manager.batch) does.work.records
-  batch_made (Doubt n) quiet shape w before after old new (inl does) = commits_by (to_commit w w.manager.batch) does.work.records
-  batch_made (Doubt n) quiet shape w before after old new (inr does) = []
-  batch_made _ quiet shape w before after old new does = []
+  abbrev pub batch_made : (live : ℕ) (e : CoreEvent) (quiet : Bool) (shape : Shape) (w : CoreState) (before after : BatchWriter) (old new : H) → DoesFor live e quiet shape w before after old new → List Commit
+  batch_made live (Sealed n) quiet shape w before after old new does = commits_by (to_commit w w.manager.batch) does.work.records
+  batch_made live (NotSealed n) quiet shape w before after old new does = commits_by (to_commit w w.manager.batch) does.work.records
+  batch_made live (Doubt n) quiet shape w before after old new (inl does) = commits_by (to_commit w w.manager.batch) does.work.records
+  batch_made live (Doubt n) quiet shape w before after old new (inr does) = []
+  batch_made live _ quiet shape w before after old new does = []

@@ -4,6 +4,7 @@ use Rattle.std.specs.List.{AllByRecursion}
 use Rattle.base_types.specs.declared.calls.GrainId.{GrainId}
 use Rattle.base_types.specs.declared.entries.Entry.{Entry}
 use Rattle.base_types.specs.declared.shapes.Shape.{Shape}
+use Rattle.host_trait.specs.declared.channels.FileId.TheVariants.{Manager}
 use Rattle.host_trait.specs.World.{World, Passes, IsEmitted, moment_of}
 use Rattle.request_wire.specs.Reply.{reply_line}
 use Rattle.core_model.specs.CoreState.{CoreState}
@@ -11,11 +12,10 @@ use Rattle.core_model.specs.declared.effects.Effect.{Effect}
 use Rattle.core_model.specs.declared.events.CoreEvent.{CoreEvent}
 use Rattle.core_model.specs.declared.events.CoreEvent.TheVariants.{Sealed, Doubt, Emitted}
 use Rattle.core_model.specs.Settler.{settler_step, Votes, Seals as SealStep, versions_to_write, to_commit}
-use Rattle.log_reading.specs.Steps.{manager}
 use Rattle.promise_spec.specs.Programs.{Program, shape_in}
 use Rattle.promise_spec.specs.Records.{Commit, AreRecordsOf}
 use Rattle.promise_spec.specs.Journals.{Settlement, Seals, Doubts}
-use Rattle.promise_spec.specs.Logs.{IsLog, live_slot}
+use Rattle.promise_spec.specs.Logs.{IsLog}
 use Rattle.batch_disk.specs.Resting.{log_of, NotAmong, AreOfType, SomeImage}
 use Rattle.batch_disk.specs.Moments.{LeavesRest}
 use Rattle.batch_disk.specs.Writers.{voted_of, KeepsDisk}
@@ -34,30 +34,30 @@ pub record IsFair (shape : Shape) (writer : BatchWriter) (w : CoreState) : Type 
 abbrev pub as_settled : List Commit → Settlement
 as_settled batch = record { commits = batch; entries = [] }
 
-module _ (p : Program) (head : List ℕ) (batches : List (List Commit)) (before after : BatchWriter) (old new : World) where
+module _ (live : ℕ) (p : Program) (head : List ℕ) (batches : List (List Commit)) (before after : BatchWriter) (old new : World) where
   -- Nothing is put out and no log changes, at no moment, and the writer keeps the disk.
   pub record LeavesLogs : Type 0 where
-    pub seals : Seals p (log_of batches) [] old new
-    pub rest : Passes (LeavesRest head old) old.past new.past
-    pub rest_now : LeavesRest head old (moment_of new)
-    pub disk : KeepsDisk (shape_in p) head batches after new.disk
+    pub seals : Seals live p (log_of batches) [] old new
+    pub rest : Passes (LeavesRest live head old) old.past new.past
+    pub rest_now : LeavesRest live head old (moment_of new)
+    pub disk : KeepsDisk live (shape_in p) head batches after new.disk
 
   -- The batch of these units is sealed: each image has it behind the logs of before.
   pub record SealsBatch (effects : List Effect) (batch : List Commit) : Type 0 where
     pub records : AreRecordsOf effects batch
-    pub seals : Seals p (log_of batches) (as_settled batch ∷ []) old new
-    pub rest : Passes (LeavesRest head old) old.past new.past
-    pub rest_now : LeavesRest head old (moment_of new)
-    pub disk : KeepsDisk (shape_in p) head (batches ++ batch ∷ []) after new.disk
+    pub seals : Seals live p (log_of batches) (as_settled batch ∷ []) old new
+    pub rest : Passes (LeavesRest live head old) old.past new.past
+    pub rest_now : LeavesRest live head old (moment_of new)
+    pub disk : KeepsDisk live (shape_in p) head (batches ++ batch ∷ []) after new.disk
 
   -- It is in doubt. Where no crash may leave its gate open no image has it; else some has it.
   pub record DoubtsBatch (gate : ℕ) (effects : List Effect) (batch : List Commit) : Type 0 where
     pub records : AreRecordsOf effects batch
-    pub journal : ((may_open gate (new.disk manager) ≡ false) × Seals p (log_of batches) [] old new)
-        ⊎ ((may_open gate (new.disk manager) ≡ true)
-        × (Doubts p (log_of batches) (as_settled batch) old new × SomeImage (λ image. IsLog live_slot (shape_in p) image (log_of batches ++ batch)) new.disk))
-    pub rest : Passes (LeavesRest head old) old.past new.past
-    pub doubt : IsSealInDoubt (shape_in p) head batches batch gate old new
+    pub journal : ((may_open gate (new.disk (Manager live)) ≡ false) × Seals live p (log_of batches) [] old new)
+        ⊎ ((may_open gate (new.disk (Manager live)) ≡ true)
+        × (Doubts live p (log_of batches) (as_settled batch) old new × SomeImage (λ image. IsLog live (shape_in p) image (log_of batches ++ batch)) new.disk))
+    pub rest : Passes (LeavesRest live head old) old.past new.past
+    pub doubt : IsSealInDoubt live (shape_in p) head batches batch gate old new
 
   -- by the event that was made, and the batch whose records were made
   abbrev pub JournalsAs : CoreEvent → Bool → CoreState → List Commit → Type 0

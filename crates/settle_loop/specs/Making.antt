@@ -35,7 +35,7 @@ module _ {H : Type 0} (tells : Bool) (world : H → World) (faults : H → Chann
   -- The step makes this event, and what belongs to it was done.
   pub record IsToTell (e : CoreEvent) (writes doubts : Bool) : Type 0 where
     pub makes : MakesEvent (settler_step w) e
-    pub does : DoesFor tells world faults e before.quiet shape w before.writer after.writer old new
+    pub does : DoesFor tells world faults before.writer.slot e before.quiet shape w before.writer after.writer old new
     pub writes_is : writes ≡ tells_entry e
     pub doubts_is : doubts ≡ tells_doubt e
     pub settler : after ≡ with_writer before after
@@ -45,7 +45,7 @@ module _ {H : Type 0} (tells : Bool) (world : H → World) (faults : H → Chann
     pub n : ℕ
     pub g : GrainId
     pub votes : settler_step w ≡ Votes n g
-    pub lacks : LacksRoom tells world faults n g (versions_to_write w w.manager.batch g) before.writer after.writer old new
+    pub lacks : LacksRoom tells world faults before.writer.slot n g (versions_to_write w w.manager.batch g) before.writer after.writer old new
     pub settler : after ≡ with_writer before after
 
   -- what is made of the host's answers

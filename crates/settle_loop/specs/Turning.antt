@@ -45,7 +45,7 @@ module _ {H : Type 0} (tells : Bool) (world : H → World) (faults : H → Chann
     pub seen : Sight
     pub looked : Looks may_come s seen
     pub makes : MakesEvent (settler_step (state_shown seen)) e
-    pub does : DoesFor tells world faults e before.quiet shape (state_shown seen) before.writer after.writer old new
+    pub does : DoesFor tells world faults before.writer.slot e before.quiet shape (state_shown seen) before.writer after.writer old new
 
   -- A step by which this event was put, and answered so. The settler counts what applied.
   pub record PutsNext (before after : Settler) (s : Sight) (e : CoreEvent) (r : CoreReply) (t : Sight) (old new : H) : Type 0 where
@@ -83,7 +83,7 @@ module _ {H : Type 0} (tells : Bool) (world : H → World) (faults : H → Chann
     pub n : ℕ
     pub g : GrainId
     pub votes : settler_step (state_shown t) ≡ Votes n g
-    pub lacks : LacksRoom tells world faults n g (versions_to_write (state_shown t) (state_shown t).manager.batch g) before.writer after.writer old new
+    pub lacks : LacksRoom tells world faults before.writer.slot n g (versions_to_write (state_shown t) (state_shown t).manager.batch g) before.writer after.writer old new
     pub settler : after ≡ record before { writer = after.writer }
 
   -- The core had no memory for the event, which it has for each one that applies and that ends a host call: so it couldn't

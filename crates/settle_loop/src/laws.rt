@@ -24,9 +24,9 @@ use host_trait::Host;
 pub fn steps_are_journaled<H: Host>()
     ensures { (may : AnEvent → Bool) (p : Program) (head : List ℕ) (batches : List (List Commit)) (before after : ASettler) (s : Sight) (e : AnEvent) (old new : H)
         → IsTrue H.tells → (a : ActsNext H.tells H.world H.faults may (shape_in p) before after s e old new)
-        → IsFair (shape_in p) before.writer (state_shown a.seen) → KeepsDisk (shape_in p) head batches before.writer (H.world old).disk
-        → JournalsAs p head batches before.writer after.writer (H.world old) (H.world new) e before.quiet (state_shown a.seen)
-        (batch_made H.tells H.world H.faults e before.quiet (shape_in p) (state_shown a.seen) before.writer after.writer old new a.does) }
+        → IsFair (shape_in p) before.writer (state_shown a.seen) → KeepsDisk before.writer.slot (shape_in p) head batches before.writer (H.world old).disk
+        → JournalsAs before.writer.slot p head batches before.writer after.writer (H.world old) (H.world new) e before.quiet (state_shown a.seen)
+        (batch_made H.tells H.world H.faults before.writer.slot e before.quiet (shape_in p) (state_shown a.seen) before.writer after.writer old new a.does) }
 {}
 
 /// Where one has a core alone, the event that a step puts is one more of its run; and it applies, unless a stop stands after which

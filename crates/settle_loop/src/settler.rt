@@ -1,4 +1,4 @@
-ghost use Rattle.std.specs.Prelude.{◌≡◌, ◌^◌, ◌<◌, ◌&&◌, ◌||◌, [], false, if◌then◌else◌, IsTrue, IsOk, IfOk, OnErr, unwrap_or};
+ghost use Rattle.std.specs.Prelude.{◌≡◌, ◌^◌, ◌<◌, ◌≤◌, ◌&&◌, ◌||◌, [], false, if◌then◌else◌, IsTrue, IsOk, IfOk, OnErr, unwrap_or};
 ghost use Rattle.base_types.specs.Stores.{end_in};
 ghost use Rattle.base_types.specs.declared.calls.GrainId.{GrainId as AGrain};
 ghost use Rattle.host_trait.specs.Files.{StaysReady};
@@ -52,11 +52,20 @@ pub struct Settler {
 }
 
 impl Settler {
-    /// A settler that goes on at this closed gate and at these ends, each below 2 to the 63. A quiet one writes no replies.
-    pub fn new(alloc: Global, gate_at: u64, ends: Ends, quiet: bool) -> Result<Settler, AllocError>
+    /// A settler that goes on in this slot, 0 or 1, at this closed gate and at these ends, each below 2 to the 63. A quiet one writes
+    /// no replies.
+    pub fn new(
+        alloc: Global,
+        slot: u8,
+        gate_at: u64,
+        ends: Ends,
+        quiet: bool,
+    ) -> Result<Settler, AllocError>
+        requires slot { slot ≤ 1 }
         requires gate { gate_at < 2 ^ 63 }
         requires ends { (g : AGrain) → unwrap_or (end_in ends g) 0 < 2 ^ 63 }
         ensures sure { IsOk result }
+        ensures slot { IfOk result (λ made. made.writer.slot ≡ slot) }
         ensures gate { IfOk result (λ made. made.writer.gate_at ≡ gate_at) }
         ensures ends { IfOk result (λ made. (g : AGrain) → file_end made.writer g ≡ unwrap_or (end_in ends g) 0) }
         ensures kept { IfOk result (λ made. kept_of made.writer ≡ []) }
@@ -68,7 +77,7 @@ impl Settler {
     {
         Ok(Settler {
             alloc,
-            writer: BatchWriter::new(alloc, gate_at, ends),
+            writer: BatchWriter::new(alloc, slot, gate_at, ends),
             quiet,
             written: 0,
             doubted: false,

@@ -16,10 +16,11 @@ impl Gate for OpenGate {
     fn reach(&self, _place: GatePlace) {}
 }
 
-/// A settler, its core and its host.
+/// A settler in a slot, its core and its host.
 #[derive(Drop)]
 pub struct Bench {
     alloc: Global,
+    pub slot: u8,
     shape: Shape,
     core: Core,
     pub host: Recorder,
@@ -27,14 +28,17 @@ pub struct Bench {
     ghost bounds: { IsInBounds settler.writer } by { Prim.hlevel props },
 }
 
-/// One over a new silo, whose accounts are all 0.
-pub fn new_bench(alloc: Global, quiet: bool) -> Result<Bench, AllocError> {
+/// One over a new silo in this slot, 0 or 1, whose accounts are all 0.
+pub fn new_bench(alloc: Global, slot: u8, quiet: bool) -> Result<Bench, AllocError>
+    requires { slot ≤ 1 }
+{
     let shape = new_shape(alloc)?;
     let core = new_core(alloc)?;
-    let host = new_recorder(alloc)?;
-    let settler = Settler::new(alloc, 15, Ends::new(alloc), quiet)?;
+    let host = new_recorder(alloc, slot)?;
+    let settler = Settler::new(alloc, slot, 15, Ends::new(alloc), quiet)?;
     Ok(Bench {
         alloc,
+        slot,
         shape,
         core,
         host,

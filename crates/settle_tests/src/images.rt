@@ -3,8 +3,9 @@ ghost use Rattle.std.specs.Prelude.{◌≤◌};
 ghost use Rattle.host_memory.specs.Shown.{calls_in};
 
 use crate::logs::words;
-use crate::recorder::{MANAGER, bytes_in};
+use crate::recorder::bytes_in;
 use host_memory::MemoryHost;
+use host_trait::FileId;
 use std::alloc::{AllocError, Global};
 
 /// How many images of a crash are looked at.
@@ -28,6 +29,7 @@ fn is_allowed(found: &[u64], allowed: Allowed) -> bool {
 fn words_after(
     alloc: Global,
     host: &MemoryHost,
+    log: FileId,
     after: u64,
     pick: u64,
     behind: usize,
@@ -35,7 +37,7 @@ fn words_after(
     requires { after ≤ calls_in host.now }
 {
     let image = host.crashed(after, pick)?;
-    words(alloc, bytes_in(&image, MANAGER), behind)
+    words(alloc, bytes_in(&image, log), behind)
 }
 
 /// How many of the images that a crash may leave after so many calls, or within the next one, have a log that is allowed, by
@@ -43,6 +45,7 @@ fn words_after(
 pub fn count_allowed(
     alloc: Global,
     host: &MemoryHost,
+    log: FileId,
     after: u64,
     behind: usize,
     allowed: Allowed,
@@ -51,7 +54,7 @@ pub fn count_allowed(
 {
     let mut count = 0u64;
     for pick in 0..PICKS {
-        if let Some(found) = words_after(alloc, host, after, pick, behind)?
+        if let Some(found) = words_after(alloc, host, log, after, pick, behind)?
             && is_allowed(found.as_slice(), allowed)
         {
             count = count.wrapping_add(1);

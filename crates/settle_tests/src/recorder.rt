@@ -7,8 +7,6 @@ use host_memory::{CallKind, MemoryHost};
 use host_trait::{Failed, FileId, Host};
 use std::alloc::{AllocError, Global};
 
-pub const MANAGER: FileId = FileId::Manager { slot: 0 };
-
 // The manager file of a new silo: the open header gate, the name, generation 1, two zeros, and the first gate, closed.
 const NEW_LOG: [u8; 16] = *b"\x01OTXLOG01\0\0\0\0\0\0\0";
 
@@ -20,10 +18,10 @@ pub struct Recorder {
     pub part: Option<u64>,
 }
 
-// One that has a new silo's manager file.
-pub fn new_recorder(alloc: Global) -> Result<Recorder, AllocError> {
+// One that has a new silo's manager file in this slot.
+pub fn new_recorder(alloc: Global, slot: u8) -> Result<Recorder, AllocError> {
     let mut inner = MemoryHost::new(alloc, &[])?;
-    inner.set_file(FileId::Manager { slot: 0 }, &NEW_LOG)?;
+    inner.set_file(FileId::Manager { slot }, &NEW_LOG)?;
     Ok(Recorder {
         inner,
         calls: Vec::new(alloc),

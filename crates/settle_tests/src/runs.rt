@@ -1,7 +1,7 @@
 use crate::bench::{Bench, new_bench};
 use crate::images::{Allowed, PICKS, count_allowed};
 use crate::logs::{COUNT, UNIT, words};
-use crate::recorder::{MANAGER, bytes_in, count};
+use crate::recorder::{bytes_in, count};
 use crate::units::{Add, account};
 use crate::verbs::{Look, Verb, verb_of};
 use host_memory::CallKind;
@@ -18,13 +18,13 @@ pub struct Run {
     pub said: String,
 }
 
-// The manager's file, or an account's.
-fn file_of(number: i64) -> FileId {
+// The manager's file in a slot, or an account's.
+fn file_of(slot: u8, number: i64) -> FileId {
     if number < 0 {
-        return MANAGER;
+        return FileId::Manager { slot };
     }
     FileId::Grain {
-        slot: 0,
+        slot,
         grain: account(short(number)),
     }
 }
@@ -51,11 +51,11 @@ fn add_words(out: &mut String, words: &[u64]) -> Result<(), AllocError> {
 }
 
 impl Run {
-    /// One over a new silo.
+    /// One over a new silo in slot 0.
     pub fn new(alloc: Global) -> Result<Run, AllocError> {
         Ok(Run {
             alloc,
-            bench: new_bench(alloc, false)?,
+            bench: new_bench(alloc, 0, false)?,
             said: String::new(alloc),
         })
     }
@@ -78,7 +78,7 @@ impl Run {
 
     fn obey(&mut self, verb: Verb, numbers: Numbers) -> Result<(), AllocError> {
         match verb {
-            Verb::Open => self.open(numbers.first == 1),
+            Verb::Open => self.open(numbers.first == 1, numbers.second == 1),
             Verb::FailWrite => self.fail_file(CallKind::Write, numbers),
             Verb::FailSync => self.fail_file(CallKind::Sync, numbers),
             Verb::FailRead => self.fail_file(CallKind::Read, numbers),
@@ -94,13 +94,14 @@ impl Run {
         }
     }
 
-    fn open(&mut self, quiet: bool) -> Result<(), AllocError> {
-        self.bench = new_bench(self.alloc, quiet)?;
+    fn open(&mut self, quiet: bool, second: bool) -> Result<(), AllocError> {
+        let slot = if second { 1 } else { 0 };
+        self.bench = new_bench(self.alloc, slot, quiet)?;
         self.said.push_str("opened")
     }
 
     fn fail_file(&mut self, what: CallKind, numbers: Numbers) -> Result<(), AllocError> {
-        let channel = Channel::File(file_of(numbers.first));
+        let channel = Channel::File(file_of(self.bench.slot, numbers.first));
         self.fail(what, channel, numbers.second)
     }
 
@@ -171,8 +172,8 @@ impl Run {
             Look::Output => self.say_output(),
             Look::Counts => self.say_log(COUNT),
             Look::Units => self.say_log(UNIT),
-            Look::File => self.say_file(file_of(numbers.first)),
-            Look::Bytes => self.say_bytes(file_of(numbers.first)),
+            Look::File => self.say_file(file_of(self.bench.slot, numbers.first)),
+            Look::Bytes => self.say_bytes(file_of(self.bench.slot, numbers.first)),
             Look::ImageCounts => self.say_images(numbers, COUNT),
             Look::ImageUnits => self.say_images(numbers, UNIT),
             Look::Spread => self.say_spread(natural(numbers.first)),
@@ -202,7 +203,7 @@ impl Run {
     }
 
     fn say_log(&mut self, behind: usize) -> Result<(), AllocError> {
-        let log = bytes_in(&self.bench.host.inner, MANAGER);
+        let log = bytes_in(&self.bench.host.inner, file_of(self.bench.slot, -1));
         match words(self.alloc, log, behind)? {
             Some(found) => {
                 self.said.push_str("blocks")?;
@@ -230,7 +231,14 @@ impl Run {
         if after > host.calls() {
             return Ok(0);
         }
-        count_allowed(self.alloc, host, after, behind, allowed)
+        count_allowed(
+            self.alloc,
+            host,
+            file_of(self.bench.slot, -1),
+            after,
+            behind,
+            allowed,
+        )
     }
 
     fn say_images(&mut self, numbers: Numbers, behind: usize) -> Result<(), AllocError> {

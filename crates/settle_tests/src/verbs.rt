@@ -1,7 +1,7 @@
 /// The first word of a line.
 #[derive(Clone, Copy)]
 pub enum Verb {
-    /// A new bench; a quiet settler where the number is 1.
+    /// A new bench; a quiet settler where the number is 1, in slot 1 where the second is.
     Open,
     /// The nth call of this kind fails: a file, -1 for the manager's or an account's number, and n.
     FailWrite,

@@ -5,8 +5,8 @@ use Rattle.std.proofs.lemmas.Bool.{lt-ltb}
 use Rattle.base_types.specs.declared.shapes.Shape.{Shape}
 use Rattle.host_trait.specs.declared.channels.Channel.{Channel}
 use Rattle.host_trait.specs.declared.channels.Channel.TheVariants.{File}
+use Rattle.host_trait.specs.declared.channels.FileId.TheVariants.{Manager}
 use Rattle.host_trait.specs.World.{World}
-use Rattle.log_reading.specs.Steps.{manager}
 use Rattle.core_model.specs.CoreState.{CoreState, Batch}
 use Rattle.core_model.specs.Events.{applies}
 use Rattle.core_model.specs.Learning.{next_learn}
@@ -103,7 +103,7 @@ module _ {H E : Type 0} (tells : Bool) (world : H → World) (faults : H → Cha
           record {
             doubt = doubt;
             written = rests-written (ends (run_seen t)) some k.1.1;
-            rose = doubt-rose (run_seen t) (o.faults (File manager)) (faults new (File manager)) doubt k.0.kept.faults.seals;
+            rose = doubt-rose (run_seen t) (o.faults (File (Manager o.live))) (faults new (File (Manager o.live))) doubt k.0.kept.faults.seals;
           },
           k.1.0.rest,
         );

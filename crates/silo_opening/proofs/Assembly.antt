@@ -1,5 +1,5 @@
 -- What a folder reads as, put together from its parts, and what may be refused.
-use Rattle.std.proofs.Common.{◌≡◌, ◌⊎◌, ◌+◌, ◌≤◌, inl, inr, ℕ, Bool, true, false, if◌then◌else◌, Option, Some, None, List, [], ◌∷◌, ◌++◌, length, map, filter, Result, Ok, Err, refl, sym, ◌∙◌, ap, subst, arith}
+use Rattle.std.proofs.Common.{◌≡◌, ◌⊎◌, inl, inr, ℕ, Bool, false, Option, Some, None, List, [], ◌∷◌, ◌++◌, map, filter, Result, Ok, Err, refl, sym, ◌∙◌, ap, subst}
 use Rattle.std.specs.List.{flat_map}
 use Rattle.std.proofs.lemmas.Bool.{cond-false, cond_both}
 use Rattle.base_types.specs.declared.calls.GrainId.{GrainId}
@@ -21,7 +21,7 @@ use Rattle.log_reading.proofs.Standing.{in_order}
 use Rattle.silo_spec.specs.Silos.{manager, program_file}
 use Rattle.promise_spec.specs.Programs.{Program, shape_in}
 use Rattle.promise_spec.specs.Openings.{Reading, NoSilo, DamagedAt, Reads, is_silo, program_in_file, commit_of, with_versions, with_log, with_program, live_in, with_slot, opened_as}
-use Rattle.promise_spec.specs.Refusals.{IsHead, IsNamedIn, IsReadFor, IsReadBefore, MustBeRead, IsRefusedBy}
+use Rattle.promise_spec.specs.Refusals.{IsNamedIn, IsReadBefore, MustBeRead, IsRefusedBy}
 use Rattle.promise_spec.proofs.Openings.{live_read}
 use Rattle.silo_opening.specs.declared.faults.OpenFault.{OpenFault}
 use Rattle.silo_opening.specs.Opened.{in_folder, ending_of}

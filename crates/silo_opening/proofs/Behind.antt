@@ -1,17 +1,16 @@
 -- What making a silo comes to behind calls that changed no file and emitted nothing.
-use Rattle.std.proofs.Common.{◌≡◌, ◌≢◌, ◌⊎◌, inl, inr, ℕ, ◌<◌, ◌≤◌, true, false, List, [], ◌∷◌, length, take, drop, slice_index, refl, sym, ◌∙◌, ap, subst, arith}
+use Rattle.std.proofs.Common.{◌≡◌, ◌≢◌, ◌⊎◌, inl, inr, ℕ, List, [], ◌∷◌, length, take, drop, slice_index, refl, sym, ◌∙◌, ap, subst, arith}
 use Rattle.std.proofs.lemmas.Bool.{cases_Bool, cases_lt, cases_eq, false≢true}
 use Rattle.std.proofs.lemmas.Slice.Eq.{bytes_eq-Decides}
 use Rattle.std.specs.Str.{bytes_eq}
-use Rattle.host_trait.specs.declared.channels.FileId.{FileId}
-use Rattle.host_trait.specs.Disk.{FileState, Tears, settled}
+use Rattle.host_trait.specs.Disk.{Tears, settled}
 use Rattle.host_trait.specs.World.{World, Moment, Disk, Image, IsImage, Passes, moment_of}
 use Rattle.host_trait.specs.Runs.{ComesFrom}
-use Rattle.host_trait.proofs.Moments.{both, weaker, in_turn, later, all_late, weaker_twice, joined, same_moment}
+use Rattle.host_trait.proofs.Moments.{both, weaker, all_late, weaker_twice, joined, same_moment}
 use Rattle.host_trait.proofs.Runs.{settled_image}
-use Rattle.silo_spec.specs.Silos.{manager, IsSilo, IsNewSilo}
+use Rattle.silo_spec.specs.Silos.{manager, IsSilo}
 use Rattle.silo_spec.specs.Moments.{IsAsAtEntry, IsUntouched}
-use Rattle.silo_spec.specs.Making.{IsBeside, StaysBeside, IsEarly, IsUnsynced, FromFirstSync, IsNewAt, CameThisFar}
+use Rattle.silo_spec.specs.Making.{IsBeside, StaysBeside, IsEarly, IsNewAt, CameThisFar}
 use Rattle.silo_opening.proofs.Closing.{cases_settled, own_early, settled_no_silo}
 
 -- a file is a silo's or isn't

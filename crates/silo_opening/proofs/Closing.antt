@@ -77,11 +77,11 @@ pub settled_no_silo : (magic file : List ℕ) (m : Moment) → m.disk manager �
 settled_no_silo magic file m lasts lacks image is silo = lacks (subst (λ (f : List ℕ). IsSilo magic f) (settled_image m.disk manager file (image manager) lasts (is manager)) silo)
 
 -- what was read of a file that was synced lasts
-once_lasts : (old new : World) → SyncsOnce old new → new.disk manager ≡ settled (old.disk manager).seen
+once_lasts : (old new : World) → SyncsOnce 0 old new → new.disk manager ≡ settled (old.disk manager).seen
 once_lasts old new once = ap (λ (d : Disk). d manager) once.more.disk ∙ once.sync.state ∙ ap (λ (d : Disk). settled (d manager).seen) once.asked.disk
 
 -- a file that was synced, and is no silo as it reads
-pub once_first : (magic : List ℕ) (old new : World) → SyncsOnce old new → (IsSilo magic (old.disk manager).seen → ⊥) → FromFirstSync (HasNoSilo magic) old new
+pub once_first : (magic : List ℕ) (old new : World) → SyncsOnce 0 old new → (IsSilo magic (old.disk manager).seen → ⊥) → FromFirstSync (HasNoSilo magic) old new
 once_first magic old new once lacks =
     let lasts : once.after.disk manager ≡ settled (old.disk manager).seen = once.sync.state ∙ ap (λ (d : Disk). settled (d manager).seen) once.asked.disk in
     let there : HasNoSilo magic (moment_of once.after) = settled_no_silo magic (old.disk manager).seen (moment_of once.after) lasts lacks in
@@ -108,7 +108,7 @@ first_weaker P Q old new leads first = record {
 }
 
 -- a file that was synced, and whose gate is closed then
-pub once_closed : (magic : List ℕ) (old mid new : World) → SyncsOnce old mid → IsNamedOtherwise magic (old.disk manager).seen → RunsOnFile manager (Tears 0 1) 1 mid new → FromFirstSync (HasNoSilo magic) old new
+pub once_closed : (magic : List ℕ) (old mid new : World) → SyncsOnce 0 old mid → IsNamedOtherwise magic (old.disk manager).seen → RunsOnFile manager (Tears 0 1) 1 mid new → FromFirstSync (HasNoSilo magic) old new
 once_closed magic old mid new once other run =
     let closing = while_closing magic (old.disk manager).seen mid (once_lasts old mid once) other in
     first_then (HasNoSilo magic) old mid new (once_first magic old mid once (otherwise_no_silo magic (old.disk manager).seen other))

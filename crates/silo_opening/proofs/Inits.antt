@@ -1,17 +1,14 @@
 -- A call of `init`: what it comes to before the folder is touched, and what `create` makes of it.
 use Rattle.std.proofs.Common.{◌≡◌, ◌⊎◌, inl, inr, ℕ, ◌<◌, ◌≤◌, List, [], length, Option, Some, None, Result, Ok, Err, refl, sym, ◌∙◌, ap, subst}
 use Rattle.host_trait.specs.declared.channels.Channel.{Channel}
-use Rattle.host_trait.specs.declared.channels.Channel.TheVariants.{Input, File}
-use Rattle.host_trait.specs.declared.channels.FileId.{FileId}
-use Rattle.host_trait.specs.Faults.{Rose, FailedOn, NoneFailed}
+use Rattle.host_trait.specs.Faults.{NoneFailed}
 use Rattle.host_trait.specs.Disk.{settled}
-use Rattle.host_trait.specs.World.{World, Moment, Image, IsImage, Disk, Passes, moment_of}
+use Rattle.host_trait.specs.World.{World, Image, IsImage, Disk, Passes, moment_of}
 use Rattle.host_trait.proofs.Runs.{settled_image}
-use Rattle.script_tree.specs.Programs.{ProgramTree}
 use Rattle.program_file.specs.declared.faults.ProgramFault.{ProgramFault}
-use Rattle.program_file.specs.Programs.{text_limit, program_in}
+use Rattle.program_file.specs.Programs.{text_limit}
 use Rattle.program_file.specs.Answers.{program_fault_place, IsFaultOf}
-use Rattle.silo_spec.specs.Silos.{manager, program_file, IsSilo, IsNewSilo}
+use Rattle.silo_spec.specs.Silos.{manager, IsSilo, IsNewSilo}
 use Rattle.silo_spec.specs.Moments.{IsUntouched}
 use Rattle.silo_spec.specs.Making.{StaysBeside, CameThisFar}
 use Rattle.promise_spec.specs.Logs.{magic}

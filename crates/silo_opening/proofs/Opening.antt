@@ -1,9 +1,8 @@
 -- The steps of opening: one sync, and what was opened.
-use Rattle.std.proofs.Common.{◌≡◌, inl, inr, ℕ, ◌+◌, ◌≤◌, true, Option, Some, None, List, [], map, length, Ok, Err, refl, sym, ◌∙◌, ap, subst, arith}
+use Rattle.std.proofs.Common.{◌≡◌, inl, inr, ℕ, ◌+◌, true, Option, Some, None, List, map, length, Ok, sym, ◌∙◌, ap, subst, arith}
 use Rattle.std.specs.Prelude.{unwrap_or}
-use Rattle.base_types.specs.declared.calls.GrainId.{GrainId}
 use Rattle.base_types.specs.declared.calls.Value.{Value}
-use Rattle.base_types.specs.Stores.{state_in, end_in}
+use Rattle.base_types.specs.Stores.{end_in}
 use Rattle.host_trait.specs.declared.channels.FileId.{FileId}
 use Rattle.host_trait.specs.declared.channels.FileId.TheVariants.{Manager, Program as ProgramFile, Grain}
 use Rattle.host_trait.specs.Disk.{FileState}
@@ -12,14 +11,13 @@ use Rattle.host_trait.specs.Runs.{RunsOnFile, OnlyAsked}
 use Rattle.host_trait.proofs.Names.{cases_file}
 use Rattle.host_trait.proofs.Runs.{asked_then, none_asked, once_asked}
 use Rattle.commit_log.specs.declared.records.CommitRecord.{CommitRecord}
-use Rattle.log_reading.specs.declared.contents.Contents.{Contents}
 use Rattle.log_reading.specs.Versions.{named_by, named_by_grain}
-use Rattle.log_reading.specs.Sums.{end_after, state_after}
+use Rattle.log_reading.specs.Sums.{end_after}
 use Rattle.log_reading.specs.Steps.{seen_in}
 use Rattle.log_reading.specs.Contents.{HasContents}
-use Rattle.script_tree.specs.Programs.{ProgramTree, program_tree}
+use Rattle.script_tree.specs.Programs.{program_tree}
 use Rattle.promise_spec.specs.Programs.{Program, shape_in}
-use Rattle.promise_spec.specs.Records.{Commit, States, new_silo}
+use Rattle.promise_spec.specs.Records.{new_silo}
 use Rattle.promise_spec.specs.Openings.{is_silo, program_in_file, commit_of, live_in}
 use Rattle.silo_opening.specs.declared.open.Opened.{Opened}
 use Rattle.silo_opening.specs.Steps.{SyncsOnce}

@@ -1,15 +1,14 @@
 -- What a call of `create` comes to: a silo, and how far it came.
-use Rattle.std.proofs.Common.{◌≡◌, ◌⊎◌, inl, inr, ℕ, ◌≤◌, List, [], length, take, slice_index, sym, ◌∙◌, ap, subst, arith, length-take, get_or-take}
+use Rattle.std.proofs.Common.{◌≡◌, ◌⊎◌, inl, inr, ℕ, ◌≤◌, List, length, take, slice_index, sym, ◌∙◌, ap, subst, arith, length-take, get_or-take}
 use Rattle.host_trait.proofs.Runs.{settled_image}
 use Rattle.host_trait.specs.World.{World, Moment, Image, Disk, IsImage, Passes, moment_of}
-use Rattle.gate_block.specs.Log.{first_gate}
 use Rattle.silo_spec.specs.Silos.{manager, program_file, IsSilo, HasProgram, IsNewSilo, new_header}
 use Rattle.promise_spec.specs.Logs.{magic}
 use Rattle.silo_spec.specs.Moments.{IsUntouched}
 use Rattle.silo_spec.specs.Making.{IsMade, IsNewAt, IsUnsynced, FromFirstSync, CameThisFar}
 use Rattle.silo_opening.specs.Steps.{HasNoSilo}
 use Rattle.silo_opening.proofs.Closing.{first_then, first_weaker}
-use Rattle.silo_opening.proofs.Filling.{new_log, new_silo}
+use Rattle.silo_opening.proofs.Filling.{new_silo}
 use Rattle.silo_opening.proofs.Fronts.{first_in, name_in}
 
 module _ (text : List ℕ) (disk : Disk) (made : IsMade magic text disk) (image : Image) (is : IsImage disk image) where

@@ -1,13 +1,13 @@
 -- Runs of calls that leave what a read gives and take outcomes of a crash away.
-use Rattle.std.proofs.Common.{◌≡◌, inl, inr, ℕ, Bool, List, refl, sym, ◌∙◌, ap, subst, arith, map}
+use Rattle.std.proofs.Common.{◌≡◌, inl, inr, ℕ, Bool, List, refl, sym, ◌∙◌, ap, subst, arith}
 use Rattle.host_trait.specs.declared.channels.FileId.{FileId}
-use Rattle.host_trait.specs.Disk.{FileState, MayLeave, settled}
-use Rattle.host_trait.specs.World.{World, Moment, Image, Disk, IsImage, moment_of, Asked, Synced}
+use Rattle.host_trait.specs.Disk.{FileState, MayLeave}
+use Rattle.host_trait.specs.World.{World, Moment, Disk, moment_of, Asked, Synced}
 use Rattle.host_trait.specs.Runs.{ChangesFile, RunsOnFile, OnlyAsked}
 use Rattle.host_trait.proofs.Moments.{both, weaker, same_moment, arrives_then}
 use Rattle.host_trait.proofs.Names.{cases_file}
-use Rattle.host_trait.proofs.Runs.{Change, run_started, run_asked, run_synced, run_more_syncs, asked_keeps, arrives_asked, image_from, settled_image}
-use Rattle.silo_spec.specs.Silos.{manager, IsSilo}
+use Rattle.host_trait.proofs.Runs.{Change, run_started, run_asked, run_synced, run_more_syncs, asked_keeps, arrives_asked, image_from}
+use Rattle.silo_spec.specs.Silos.{manager}
 use Rattle.silo_spec.specs.Moments.{IsAsAtEntry, IsUntouched}
 use Rattle.silo_opening.specs.Opened.{Stays}
 

@@ -1,5 +1,5 @@
 -- What the versions leave, read by grains, is what the log stands for.
-use Rattle.std.proofs.Common.{◌≡◌, ℕ, ◌+◌, ◌≤◌, Bool, true, false, if◌then◌else◌, Option, Some, None, List, [], ◌∷◌, ◌++◌, length, map, refl, sym, ◌∙◌, ap, arith}
+use Rattle.std.proofs.Common.{◌≡◌, ℕ, ◌+◌, Bool, true, false, if◌then◌else◌, Option, Some, None, List, [], ◌∷◌, ◌++◌, length, map, refl, ◌∙◌, ap, arith}
 use Rattle.std.specs.Prelude.{unwrap_or, zip}
 use Rattle.std.specs.List.{fold}
 use Rattle.base_types.specs.declared.calls.GrainId.{GrainId}

@@ -1,5 +1,5 @@
 -- The ends that are kept lie in their files.
-use Rattle.std.proofs.Common.{◌≡◌, inl, inr, ℕ, ◌+◌, ◌-◌, ◌≤◌, ◌<◌, max, Bool, true, false, ltb, if◌then◌else◌, Option, Some, None, List, [], ◌∷◌, length, drop, take, Result, Ok, Err, refl, sym, ◌∙◌, ap, subst, arith, slice_get}
+use Rattle.std.proofs.Common.{◌≡◌, ℕ, ◌+◌, ◌-◌, ◌≤◌, Bool, true, false, ltb, if◌then◌else◌, Option, Some, None, List, [], ◌∷◌, length, drop, take, Result, Ok, Err, refl, sym, ◌∙◌, ap, subst, arith, slice_get}
 use Rattle.std.proofs.lemmas.Bool.{ltb-false}
 use Rattle.std.proofs.lemmas.List.{length-take, length-drop}
 use Rattle.std.proofs.lemmas.Slice.Eq.{bytes_eq-Decides}
@@ -14,7 +14,7 @@ use Rattle.host_trait.specs.Files.{same_grain}
 use Rattle.host_trait.specs.World.{Image}
 use Rattle.field_codec.proofs.Counts.{wide64}
 use Rattle.field_codec.proofs.Readers.{past}
-use Rattle.grain_log.specs.Reads.{fields_of, is_beyond, is_owned, in_file, text_in, version_of, version_at_place, owned_version}
+use Rattle.grain_log.specs.Reads.{fields_of, is_beyond, is_owned, in_file, text_in, version_of, version_at_place}
 use Rattle.commit_log.specs.declared.records.Named.{Named}
 use Rattle.cell_model.proofs.Units.{same_grain-true}
 use Rattle.log_reading.specs.Versions.{version_named, missing_or, first_missing}

@@ -19,6 +19,7 @@ ghost use Rattle.silo_opening.specs.Steps.{ShowsFront, Looks, SyncsFor, ClosesBy
 use crate::faults::CreateFault;
 use host_trait::{Failed, FileId, Host, read_full, write_synced};
 
+// The two files of a new silo, which is made in slot 0.
 const MANAGER: FileId = FileId::Manager { slot: 0 };
 
 const PROGRAM: FileId = FileId::Program { slot: 0 };

@@ -4,15 +4,15 @@ use Rattle.std.proofs.Common.{◌≡◌, ℕ, ◌+◌, ◌≤◌, max, Bool, tru
 use Rattle.std.specs.Prelude.{map, take, drop}
 use Rattle.std.specs.List.{AllByRecursion}
 use Rattle.base_types.specs.declared.calls.GrainId.{GrainId}
+use Rattle.host_trait.specs.declared.channels.FileId.TheVariants.{Manager, Grain}
 use Rattle.host_trait.specs.Files.{same_grain}
 use Rattle.host_trait.specs.Disk.{FileState, MayLeave, settled}
 use Rattle.host_trait.specs.World.{Disk, Image, IsImage}
 use Rattle.host_trait.proofs.Crashes.{settled_only}
-use Rattle.gate_block.specs.Log.{LogsUpTo}
+use Rattle.gate_block.specs.Log.{LogsUpTo, gate_of}
 use Rattle.gate_block.proofs.Logs.{logged}
 use Rattle.commit_log.specs.declared.records.Named.{Named}
 use Rattle.commit_log.specs.declared.records.Written.{Written}
-use Rattle.log_reading.specs.Steps.{live_slot, manager}
 use Rattle.log_reading.specs.Versions.{named_by, named_by_grain}
 use Rattle.log_reading.specs.Sums.{end_after, greater_end}
 use Rattle.core_model.specs.CoreState.{Member}
@@ -22,7 +22,7 @@ use Rattle.promise_spec.specs.Records.{Commit}
 use Rattle.promise_spec.specs.Logs.{IsKept, IsLog, body_of}
 use Rattle.promise_spec.specs.Journals.{AllLog}
 use Rattle.promise_spec.proofs.ReadVersions.{all_in_order, all_of_order}
-use Rattle.batch_disk.specs.Resting.{IsAtRest, StandsIn, IsBelow, AreBelow, grain_file, write_end, raised_end, raised_ends, all_writes}
+use Rattle.batch_disk.specs.Resting.{IsAtRest, StandsIn, IsBelow, AreBelow, write_end, raised_end, raised_ends, all_writes}
 use Rattle.batch_disk.specs.Writers.{file_end, kept_of}
 use Rattle.batch_disk.specs.declared.writer.BatchWriter.{BatchWriter}
 use Rattle.batch_disk.proofs.Ends.{raised_each, raised_long, kept_within}
@@ -98,7 +98,7 @@ from_zero grain = 0
 
 -- ---- the folder
 
-module _ (o : Outset) (x : Opened) (st : Started) (seen : Image) (is : IsOpenedFrom seen x) (start : IsStartOf x st) (opening : o.opening ≡ is.log) where
+module _ (o : Outset) (x : Opened) (st : Started) (seen : Image) (is : IsOpenedFrom seen x) (start : IsStartOf x st) (opening : o.opening ≡ is.log) (slot : o.live ≡ x.slot) where
   abbrev writer : BatchWriter
   writer = st.settler.writer
 
@@ -111,42 +111,43 @@ module _ (o : Outset) (x : Opened) (st : Started) (seen : Image) (is : IsOpenedF
   below = subst (λ (e : GrainId → ℕ). AreBelow e o.opening) (sym ends_are)
       (all_named (IsBelow (raised_ends from_zero (places_read o.opening))) o.opening (raised_each from_zero (places_read o.opening)))
 
-  long : (image : Image) → AllByRecursion (IsKept live_slot (shape_in o.program) image) o.opening → (grain : GrainId) → file_end writer grain ≤ length (image (grain_file grain))
-  long image kept grain = subst (λ (e : GrainId → ℕ). e grain ≤ length (image (grain_file grain))) (sym ends_are)
-      (raised_long image from_zero (places_read o.opening) (λ g. omega arith)
-      (all_read (λ (w : Written). write_end w ≤ length (image (grain_file w.grain))) o.opening (kept_within (shape_in o.program) image o.opening kept)) grain)
+  long : (image : Image) → AllByRecursion (IsKept o.live (shape_in o.program) image) o.opening → (grain : GrainId) → file_end writer grain ≤ length (image (Grain o.live grain))
+  long image kept grain = subst (λ (e : GrainId → ℕ). e grain ≤ length (image (Grain o.live grain))) (sym ends_are)
+      (raised_long o.live image from_zero (places_read o.opening) (λ g. omega arith)
+      (all_read (λ (w : Written). write_end w ≤ length (image (Grain o.live w.grain))) o.opening (kept_within o.live (shape_in o.program) image o.opening kept)) grain)
 
   -- Where nothing is pending in the manager file and each image has the log, the writer keeps the folder so.
-  pub starts_resting : (r : Run) (disk : Disk) → disk manager ≡ settled (seen manager) → (o.world.disk manager).seen ≡ seen manager → IsImage disk seen → AllLog o.program o.opening disk → KeepsFolder o (take 15 (seen manager)) no_books r writer disk
+  pub starts_resting : (r : Run) (disk : Disk) → disk (Manager o.live) ≡ settled (seen (Manager o.live)) → (o.world.disk (Manager o.live)).seen ≡ seen (Manager o.live) → IsImage disk seen → AllLog o.live o.program o.opening disk → KeepsFolder o (take 15 (seen (Manager o.live))) no_books r writer disk
   starts_resting r disk still begun left all = record {
     batches = own.batches;
     log = sym own.commits ∙ sym (append-nil o.opening);
     keeps = record {
       named = record {
-        silo = silo_begins (seen manager) own.silo own.header;
+        slot = own.is_live.slot;
+        silo = silo_begins (seen (Manager o.live)) own.is_live.silo own.header;
         sizes = own.sizes;
         below = subst (AreBelow (file_end writer)) own.commits below;
       };
       images = each;
     };
     votes = λ v there. absurd (subst (Member v) start.kept there);
-    behind = λ none bytes may. ap (drop (writer.gate_at + 1)) (settled_only (seen manager) bytes (subst (λ (f : FileState). MayLeave f bytes) still may) ∙ sym begun);
+    behind = λ none bytes may. ap (drop (writer.gate_at + 1)) (settled_only (seen (Manager o.live)) bytes (subst (λ (f : FileState). MayLeave f bytes) still may) ∙ sym begun);
   }
     where
-      own : IsLog live_slot (shape_in o.program) seen o.opening
+      own : IsLog o.live (shape_in o.program) seen o.opening
       own = all seen left
 
-      same : (image : Image) → IsImage disk image → image manager ≡ seen manager
-      same image image_is = settled_only (seen manager) (image manager) (subst (λ (f : FileState). MayLeave f (image manager)) still (image_is manager))
+      same : (image : Image) → IsImage disk image → image (Manager o.live) ≡ seen (Manager o.live)
+      same image image_is = settled_only (seen (Manager o.live)) (image (Manager o.live)) (subst (λ (f : FileState). MayLeave f (image (Manager o.live))) still (image_is (Manager o.live)))
 
       gate : own.gate ≡ writer.gate_at
-      gate = sym (logged (map body_of own.batches) own.gate (seen manager) own.blocks).1 ∙ is.gate ∙ sym start.gate
+      gate = sym (logged (map body_of own.batches) own.gate (seen (Manager o.live)) own.blocks).1 ∙ ap (λ (n : ℕ). gate_of (seen (Manager n))) slot ∙ is.gate ∙ sym start.gate
 
-      each : (image : Image) → IsImage disk image → IsAtRest (shape_in o.program) (take 15 (seen manager)) own.batches writer.gate_at (file_end writer) (kept_of writer) image
+      each : (image : Image) → IsImage disk image → IsAtRest o.live (shape_in o.program) (take 15 (seen (Manager o.live))) own.batches writer.gate_at (file_end writer) (kept_of writer) image
       each image image_is = record {
         header = ap (take 15) (same image image_is);
-        blocks = subst (λ (n : ℕ). LogsUpTo (map body_of own.batches) n (image manager)) gate (subst (LogsUpTo (map body_of own.batches) own.gate) (sym (same image image_is)) own.blocks);
-        whole = subst (AllByRecursion (IsKept live_slot (shape_in o.program) image)) own.commits (all image image_is).kept;
+        blocks = subst (λ (n : ℕ). LogsUpTo (map body_of own.batches) n (image (Manager o.live))) gate (subst (LogsUpTo (map body_of own.batches) own.gate) (sym (same image image_is)) own.blocks);
+        whole = subst (AllByRecursion (IsKept o.live (shape_in o.program) image)) own.commits (all image image_is).kept;
         long = long image (all image image_is).kept;
-        stand = subst (AllByRecursion (StandsIn (shape_in o.program) image)) (sym start.kept) tt;
+        stand = subst (AllByRecursion (StandsIn o.live (shape_in o.program) image)) (sym start.kept) tt;
       }

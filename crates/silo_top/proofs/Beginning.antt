@@ -11,7 +11,6 @@ use Rattle.core_model.specs.CoreState.{GrainId, Value}
 use Rattle.core_model.specs.declared.events.CoreEvent.{CoreEvent}
 use Rattle.core_model.specs.Legal.{Run, ends}
 use Rattle.core_access.specs.OneHolder.{own_sight}
-use Rattle.log_reading.specs.Steps.{live_slot}
 use Rattle.promise_spec.specs.Cores.{AppliesAt}
 use Rattle.promise_spec.specs.Lines.{ReadsLineAs}
 use Rattle.promise_spec.specs.Causes.{RoseBy}
@@ -67,21 +66,22 @@ module _ (base kinds : ℕ) (opening : GrainId → List Value) where
 
   -- the record holds
   pub starts_kept : (tells : Bool) (o : Outset) (s : Settler) (counts : Channel → ℕ) (now : World) → 0 < base → ((c : Channel) → o.faults c ≤ counts c)
-      → s.written ≡ 0 → s.doubted ≡ false → s.writer.in_doubt ≡ false
+      → s.written ≡ 0 → s.doubted ≡ false → s.writer.in_doubt ≡ false → s.writer.slot ≡ o.live
       → (IsTrue tells → PulledOnly o.world now) → KeepsTurns tells o no_books r s counts now
-  starts_kept tells o s counts now above later written sure sealing outside = record {
+  starts_kept tells o s counts now above later written sure sealing slot outside = record {
     above = above;
     units = λ at e a. absurd (none_applies base kinds opening at e a);
     turns = λ at e a. absurd (none_applies base kinds opening at e a);
     books = record {
       faults = record {
-        votes = λ g. rose_none (o.faults (File (Grain live_slot g))) (counts (File (Grain live_slot g))) (later (File (Grain live_slot g)));
-        seals = rose_none (o.faults (File (Manager live_slot))) (counts (File (Manager live_slot))) (later (File (Manager live_slot)));
+        votes = λ g. rose_none (o.faults (File (Grain o.live g))) (counts (File (Grain o.live g))) (later (File (Grain o.live g)));
+        seals = rose_none (o.faults (File (Manager o.live))) (counts (File (Manager o.live))) (later (File (Manager o.live)));
       };
       later = later;
       booked = record { commits = tt; entries = refl; doubted = tt };
       said = none_put s.quiet;
       cut = inl refl;
+      slot = slot;
       doubt = sure;
       unsure = sealing ∙ sym sure;
       written = written;
@@ -90,7 +90,7 @@ module _ (base kinds : ℕ) (opening : GrainId → List Value) where
         calls = record {
           each = λ none. no_syncs now.syncs o.world.syncs (outside told).syncs;
           most = few_syncs now.syncs o.world.syncs (outside told).syncs;
-          unvoted = λ g none. still_file (Grain live_slot g) o.world now (outside told);
+          unvoted = λ g none. still_file (Grain o.live g) o.world now (outside told);
         };
       };
     };

@@ -2,6 +2,7 @@
 use Rattle.std.proofs.Common.{◌≡◌, ◌≢◌, ◌⊎◌, inl, inr, ℕ, ◌+◌, ◌*◌, ◌≤◌, Bool, true, false, IsTrue, List, [], ◌++◌, length, Result, Ok, Err, refl, sym, ◌∙◌, ap, subst, arith, append_assoc}
 use Rattle.std.specs.Prelude.{take}
 use Rattle.base_types.specs.declared.entries.Entry.{Entry}
+use Rattle.host_trait.specs.declared.channels.FileId.TheVariants.{Manager}
 use Rattle.host_trait.specs.declared.channels.Channel.{Channel}
 use Rattle.host_trait.specs.declared.channels.Channel.TheVariants.{Input, Output}
 use Rattle.host_trait.specs.Faults.{NoneFailed}
@@ -10,8 +11,6 @@ use Rattle.request_wire.specs.Lines.{lines_of}
 use Rattle.core_model.specs.CoreState.{Member}
 use Rattle.core_model.specs.Legal.{Run, ends}
 use Rattle.core_model.specs.declared.events.CoreEvent.{CoreEvent}
-use Rattle.log_reading.specs.Steps.{manager}
-use Rattle.promise_spec.specs.Logs.{live_slot}
 use Rattle.promise_spec.specs.Programs.{Program, shape_in}
 use Rattle.promise_spec.specs.Records.{Commit, standing_of}
 use Rattle.promise_spec.specs.Outputs.{Grew}
@@ -53,57 +52,57 @@ use Rattle.silo_top.proofs.Promised.{behind_promised}
 -- ---- what each answer says
 
 module _ {T : Type 0} (o : Outset) (b : Books) (r : Run) (s : Settler) (after : Channel → ℕ) where
-  risen_by : (result : Result T RunFault) → TurnsEndAs o b r s after result → HasRisen (turns_ending result) o.faults after
+  risen_by : (result : Result T RunFault) → TurnsEndAs o b r s after result → HasRisen (turns_ending o.live result) o.faults after
   risen_by (Ok done) e = tt
   risen_by (Err InDoubt) e = e.0.rose
   risen_by (Err WriteFault) e = e
   risen_by (Err Memory) e = tt
 
-  rest_by : (result : Result T RunFault) → TurnsEndAs o b r s after result → turns_ending result ≢ Unwritten → b.rest ≡ []
+  rest_by : (result : Result T RunFault) → TurnsEndAs o b r s after result → turns_ending o.live result ≢ Unwritten → b.rest ≡ []
   rest_by (Ok done) e other = e.1
   rest_by (Err InDoubt) e other = e.1
   rest_by (Err WriteFault) e other = absurd (other refl)
   rest_by (Err Memory) e other = e
 
-begun_by : {T : Type 0} (result : Result T RunFault) → IsBegun (turns_ending result)
-begun_by (Ok done) = tt
-begun_by (Err InDoubt) = tt
-begun_by (Err WriteFault) = tt
-begun_by (Err Memory) = tt
+begun_by : {T : Type 0} (live : ℕ) (result : Result T RunFault) → IsBegun (turns_ending live result)
+begun_by live (Ok done) = tt
+begun_by live (Err InDoubt) = tt
+begun_by live (Err WriteFault) = tt
+begun_by live (Err Memory) = tt
 
-carried_by : {T : Type 0} (result : Result T RunFault) → IsCarried (turns_ending result)
-carried_by (Ok done) = tt
-carried_by (Err InDoubt) = tt
-carried_by (Err WriteFault) = tt
-carried_by (Err Memory) = tt
+carried_by : {T : Type 0} (live : ℕ) (result : Result T RunFault) → IsCarried (turns_ending live result)
+carried_by live (Ok done) = tt
+carried_by live (Err InDoubt) = tt
+carried_by live (Err WriteFault) = tt
+carried_by live (Err Memory) = tt
 
-long_by : {T : Type 0} (result : Result T RunFault) (size : ℕ) → size ≤ input_limit → HasLength (turns_ending result) size
-long_by (Ok done) size short = short
-long_by (Err InDoubt) size short = short
-long_by (Err WriteFault) size short = short
-long_by (Err Memory) size short = tt
+long_by : {T : Type 0} (live : ℕ) (result : Result T RunFault) (size : ℕ) → size ≤ input_limit → HasLength (turns_ending live result) size
+long_by live (Ok done) size short = short
+long_by live (Err InDoubt) size short = short
+long_by live (Err WriteFault) size short = short
+long_by live (Err Memory) size short = tt
 
-good_by : {T : Type 0} (result : Result T RunFault) → turns_ending result ≢ BadUse
-good_by (Ok done) q = cc q
-good_by (Err InDoubt) q = cc q
-good_by (Err WriteFault) q = cc q
-good_by (Err Memory) q = cc q
+good_by : {T : Type 0} (live : ℕ) (result : Result T RunFault) → turns_ending live result ≢ BadUse
+good_by live (Ok done) q = cc q
+good_by live (Err InDoubt) q = cc q
+good_by live (Err WriteFault) q = cc q
+good_by live (Err Memory) q = cc q
 
-output_by : {T : Type 0} (result : Result T RunFault) (old mid new : ℕ) → mid ≡ old → EmitsAs result mid new → new ≢ old → turns_ending result ≡ Unwritten
-output_by (Ok done) old mid new calm e other = absurd (other (e ∙ calm))
-output_by (Err InDoubt) old mid new calm e other = absurd (other (e ∙ calm))
-output_by (Err WriteFault) old mid new calm e other = refl
-output_by (Err Memory) old mid new calm e other = absurd (other (e ∙ calm))
+output_by : {T : Type 0} (live : ℕ) (result : Result T RunFault) (old mid new : ℕ) → mid ≡ old → EmitsAs result mid new → new ≢ old → turns_ending live result ≡ Unwritten
+output_by live (Ok done) old mid new calm e other = absurd (other (e ∙ calm))
+output_by live (Err InDoubt) old mid new calm e other = absurd (other (e ∙ calm))
+output_by live (Err WriteFault) old mid new calm e other = refl
+output_by live (Err Memory) old mid new calm e other = absurd (other (e ∙ calm))
 
 -- over every host
 pub turns_answer : {T : Type 0} (tells : Bool) (o : Outset) (b : Books) (r r' : Run) (s s' : Settler) (mid after : Channel → ℕ) (now now' : World) (result : Result T RunFault) → NoneFailed o.faults mid
-    → TurnsEndAs o b r' s' after result → TurnsBeside tells r r' s s' mid after now now' result → AnswersRun (turns_ending result) o.faults after
+    → TurnsEndAs o b r' s' after result → TurnsBeside tells r r' s s' mid after now now' result → AnswersRun (turns_ending o.live result) o.faults after
 turns_answer tells o b r r' s s' mid after now now' result calm e beside = record {
-  good = good_by result;
+  good = good_by o.live result;
   risen = risen_by o b r' s' after result e;
   input = λ other. absurd (other (beside.pulled ∙ calm Input));
-  output = output_by result (o.faults Output) (mid Output) (after Output) (calm Output) beside.emitted;
-  exact = λ unbegun. absurd (unbegun (begun_by result));
+  output = output_by o.live result (o.faults Output) (mid Output) (after Output) (calm Output) beside.emitted;
+  exact = λ unbegun. absurd (unbegun (begun_by o.live result));
 }
 
 -- ---- over a host that tells
@@ -118,7 +117,7 @@ pub most_syncs : (new mid old v s u : ℕ) → new ≤ mid + (v + 2 * (s + u)) �
 most_syncs new mid old v s u a b = omega (arith, a, b)
 
 module _ {T : Type 0} (m : Manner) (x : Opened) (old mid now new : World) (before after : Channel → ℕ) (status : Status) (result : Result T RunFault) (is : IsBehindOpening old mid x) (pulled : PulledOnly mid now)
-    (stay_mid : ReadsMayStay mid) (stay_new : ReadsMayStay new) (end : now.input ≡ []) (short : length old.input ≤ input_limit) (ends_as : status_ending status ≡ turns_ending result) where
+    (stay_mid : ReadsMayStay mid) (stay_new : ReadsMayStay new) (end : now.input ≡ []) (short : length old.input ≤ input_limit) (ends_as : status_ending status ≡ turns_ending x.slot result) where
   abbrev pub p : Program
   p = program_of is.opened
 
@@ -126,7 +125,7 @@ module _ {T : Type 0} (m : Manner) (x : Opened) (old mid now new : World) (befor
   log = is.opened.log
 
   abbrev pub out : Outset
-  out = record { program = p; asked = lines_of old.input; opening = log; width = m.width; picks = m.picks; faults = before; world = mid }
+  out = record { live = x.slot; program = p; asked = lines_of old.input; opening = log; width = m.width; picks = m.picks; faults = before; world = mid }
 
   abbrev pub seen : Observed
   seen = observed_run m old new before after status
@@ -143,13 +142,14 @@ module _ {T : Type 0} (m : Manner) (x : Opened) (old mid now new : World) (befor
     later = beside.past told
 
     abbrev pub c : Course
-    c = record { opening = log; added = commits_of (booked_journal b); early = is.run.clock.more; late = pulled.moments.more ++ later.0; events = r'.events; entries = entries_of b.said; rest = b.rest }
+    c = record { live = x.slot; opening = log; added = commits_of (booked_journal b); early = is.run.clock.more; late = pulled.moments.more ++ later.0; events = r'.events; entries = entries_of b.said; rest = b.rest }
 
     run_is : core_run p c ≡ r'
     run_is = ap (λ (es : List CoreEvent). core_from p.types (standing_of p.types log) es) (ap (λ (r : Run). r.events) beside.core) ∙ sym beside.core
 
     course : IsCourseOf out b r' seen c
     course = record {
+      live = refl;
       opening = refl;
       added = refl;
       entries = refl;
@@ -162,8 +162,9 @@ module _ {T : Type 0} (m : Manner) (x : Opened) (old mid now new : World) (befor
       output = sym is.run.now.output;
     }
 
-    pub follows : FollowsOpening seen c mid log
+    pub follows : FollowsOpening seen c mid x.slot log
     follows = record {
+      live = refl;
       opening = refl;
       run = is.run;
       settled = is.settled;
@@ -171,13 +172,13 @@ module _ {T : Type 0} (m : Manner) (x : Opened) (old mid now new : World) (befor
       late = later.1 ∙ ap (λ (l : List Moment). l ++ later.0) pulled.moments.past ∙ append_assoc mid.past pulled.moments.more later.0;
     }
 
-    pub stands : IsBehind live_slot p seen c mid
+    pub stands : IsBehind p seen c mid
     stands = behind x seen c mid is.opened follows
 
     are_settled : AreSettled p seen c
     are_settled = settled true out b r' s' seen c result (beside.quiet ∙ loud) goes.on.record_kept goes.on.ended ends_as course
 
-    is_done : (answer : Result T RunFault) → TurnsEndAs out b r' s' after answer → turns_ending answer ≡ Done → (e : c.entries ≡ (ends r').manager.settled) → IsDone seen c
+    is_done : (answer : Result T RunFault) → TurnsEndAs out b r' s' after answer → turns_ending x.slot answer ≡ Done → (e : c.entries ≡ (ends r').manager.settled) → IsDone seen c
     is_done (Ok done) e q all = record {
       input = beside.input told ∙ end;
       answered = λ n low high. (let k = e.0.run.answered n low high in (k.0, subst (λ (l : List Entry). Member k.0 l) (sym all) k.1, k.2));
@@ -196,9 +197,9 @@ module _ {T : Type 0} (m : Manner) (x : Opened) (old mid now new : World) (befor
       ends = record {
         given = refl;
         risen = subst (λ (e : Ending). HasRisen e before after) (sym ends_as) (risen_by out b r' s' after result goes.on.ended);
-        carried = subst IsCarried (sym ends_as) (carried_by result);
-        long = subst (λ (e : Ending). HasLength e (length old.input)) (sym ends_as) (long_by result (length old.input) short);
-        begun = inr (record { ending = subst IsBegun (sym ends_as) (begun_by result); input = beside.input told ∙ end; short = short });
+        carried = subst IsCarried (sym ends_as) (carried_by x.slot result);
+        long = subst (λ (e : Ending). HasLength e (length old.input)) (sym ends_as) (long_by x.slot result (length old.input) short);
+        begun = inr (record { ending = subst IsBegun (sym ends_as) (begun_by x.slot result); input = beside.input told ∙ end; short = short });
         done = λ q. is_done result goes.on.ended (sym ends_as ∙ q) (are_settled.all (inl (written q)) ∙ ap (λ (r : Run). (ends r).manager.settled) run_is);
         syncs = λ none counts. subst (λ (r : Run). new.syncs ≡ old.syncs + syncs_of r) (sym run_is)
             (all_syncs new.syncs mid.syncs old.syncs (how_many is_vote r') (how_many is_sealed r') ((goes.on.record_kept.books.outside told).calls.each none) is.count);
@@ -211,6 +212,6 @@ module _ {T : Type 0} (m : Manner) (x : Opened) (old mid now new : World) (befor
         written q = subst IsAllWritten (sym q) tt
 
     -- so the run keeps its promise, where it is known what the images keep at the start of the turns
-    pub turns_promised : (Opens p seen c → LastsSo out (take 15 (seen_at_entry seen manager)) no_books r0 s.writer now) → Promises m seen
+    pub turns_promised : (Opens p seen c → LastsSo out (take 15 (seen_at_entry seen (Manager x.slot))) no_books r0 s.writer now) → Promises m seen
     turns_promised start = behind_promised p seen c mid stands is.stays stay_mid m refl answers
-        (λ opens. lasts true out (take 15 (seen_at_entry seen manager)) b r' s' seen c refl goes.on.record_kept (goes.on.lasts told (take 15 (seen_at_entry seen manager)) (start opens)) course refl stands opens stay_new)
+        (λ opens. lasts true out (take 15 (seen_at_entry seen (Manager x.slot))) b r' s' seen c refl goes.on.record_kept (goes.on.lasts told (take 15 (seen_at_entry seen (Manager x.slot))) (start opens)) course refl stands opens stay_new)

@@ -30,8 +30,8 @@ use Rattle.silo_top.proofs.Still.{still_none}
 use Rattle.silo_top.proofs.LoadServed.{load_risen}
 
 -- a load whose turns ended by a fault names it, and nothing of the input or the output failed
-faulted_answers : (fault : RunFault) (old new : Channel → ℕ) → HasRisen (load_ending fault) old new → new Input ≡ old Input → new Output ≡ old Output → AnswersRun (load_ending fault) old new
-faulted_answers fault old new risen pulled calm = record {
+faulted_answers : (live : ℕ) (fault : RunFault) (old new : Channel → ℕ) → HasRisen (load_ending live fault) old new → new Input ≡ old Input → new Output ≡ old Output → AnswersRun (load_ending live fault) old new
+faulted_answers live fault old new risen pulled calm = record {
   good = good fault;
   risen = risen;
   input = λ other. absurd (other pulled);
@@ -39,12 +39,12 @@ faulted_answers fault old new risen pulled calm = record {
   exact = λ unbegun. absurd (unbegun (begun fault));
 }
   where
-    good : (f : RunFault) → load_ending f ≢ BadUse
+    good : (f : RunFault) → load_ending live f ≢ BadUse
     good InDoubt t = cc t
     good WriteFault t = cc t
     good Memory t = cc t
 
-    begun : (f : RunFault) → IsBegun (load_ending f)
+    begun : (f : RunFault) → IsBegun (load_ending live f)
     begun InDoubt = tt
     begun WriteFault = tt
     begun Memory = tt
@@ -53,13 +53,13 @@ faulted_answers fault old new risen pulled calm = record {
 pub turns_faulted : {T : Type 0} (tells : Bool) (m : Manner) (x : Opened) (st : Started) (texts : List (List ℕ)) (lines : List Line) (w1 w2 : World) (f1 f2 : Channel → ℕ) (result : Result T RunFault) (r' : Run) (s' : Settler)
     → IsStartOf x st → st.settler.quiet ≡ true → 0 < m.width → 0 < x.next_unit.0 → AreReadFrom (program_tree x.checked) 0 texts lines
     → CarriesOn tells m (program_tree x.checked) lines (run_of st.core) r' st.settler s' f1 f2 w1 w2 result
-    → TurnsBeside tells (run_of st.core) r' st.settler s' f1 f2 w1 w2 result → (fault : RunFault) → result ≡ Err fault → AnswersRun (load_ending fault) f1 f2
+    → TurnsBeside tells (run_of st.core) r' st.settler s' f1 f2 w1 w2 result → (fault : RunFault) → result ≡ Err fault → AnswersRun (load_ending x.slot fault) f1 f2
 turns_faulted {T} tells m x st texts lines w1 w2 f1 f2 result r' s' start hush wide above are carries beside fault q =
-    let o : Outset = record { program = record { text = []; types = program_tree x.checked }; asked = texts; opening = []; width = m.width; picks = m.picks; faults = f1; world = w1 } in
+    let o : Outset = record { live = x.slot; program = record { text = []; types = program_tree x.checked }; asked = texts; opening = []; width = m.width; picks = m.picks; faults = f1; world = w1 } in
     let goes : CarriedOn {T = T} tells m o no_books (run_of st.core) r' st.settler s' f2 w1 w2 result =
     carries o no_books (start_fresh tells m x st texts lines w1 w1 f1 f1 start (λ told. still_none w1) (λ c. omega arith) wide above are) in
     let ended : TurnsEndAs o goes.on.books r' s' f2 {T = T} (Err fault) = subst (TurnsEndAs o goes.on.books r' s' f2) q goes.on.ended in
-    faulted_answers fault f1 f2 (load_risen T o goes.on.books r' s' f2 fault ended) beside.pulled (beside.calm hush)
+    faulted_answers x.slot fault f1 f2 (load_risen T o goes.on.books r' s' f2 fault ended) beside.pulled (beside.calm hush)
 
 -- where the summary was to be printed
 pub summary_answers : (e : Ending) (old mid new : Channel → ℕ) → MaySaySummary e → HasFailedAs e mid new → mid Input ≡ old Input → mid Output ≡ old Output → AnswersRun e old new

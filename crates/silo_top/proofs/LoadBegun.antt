@@ -9,7 +9,7 @@ use Rattle.script_tree.specs.Programs.{ProgramTree, program_tree}
 use Rattle.silo_spec.specs.Silos.{IsNewSilo}
 use Rattle.promise_spec.specs.Programs.{Program, IsChecked}
 use Rattle.promise_spec.specs.Records.{new_silo, standing_of}
-use Rattle.promise_spec.specs.Logs.{magic, live_slot}
+use Rattle.promise_spec.specs.Logs.{magic}
 use Rattle.promise_spec.specs.Openings.{Reads, opened_as}
 use Rattle.promise_spec.specs.Images.{IsWholeFolder}
 use Rattle.promise_spec.specs.Loads.{bank_text}
@@ -33,27 +33,27 @@ module _ (types : ProgramTree) (reads : program_in bank_text ≡ Ok types) where
   bank_checked = program_checked bank_text types (lit≤ tt) reads
 
   -- a new silo of it reads as it, with no record
-  pub reads_new : (seen : Image) → IsNewSilo magic bank_text seen → opened_as live_slot seen ≡ Reads (bank_of types) []
-  reads_new seen new = log_is_read seen (bank_of types) [] bank_checked new.program (new_log (bank_of types) seen new)
+  pub reads_new : (seen : Image) → IsNewSilo magic bank_text seen → opened_as seen ≡ Reads 0 (bank_of types) []
+  reads_new seen new = log_is_read seen 0 (bank_of types) [] bank_checked new.program (new_log (bank_of types) seen new)
 
   pub bank_whole : (w : World) → IsNewBank w → IsWholeFolder (bank_of types) w
   bank_whole w new = whole_folder (bank_of types) w (new_folder (bank_of types) w (λ image left silo. new image left))
 
   -- what was opened is it
   pub opened_same : (x : Opened) (seen : Image) → IsNewSilo magic bank_text seen → (is : IsOpenedFrom seen x) → (program_of is ≡ bank_of types) × (is.log ≡ [])
-  opened_same x seen new is = reads_is (program_of is) (bank_of types) is.log [] (sym is.reads ∙ reads_new seen new)
+  opened_same x seen new is = (reads_is x.slot 0 (program_of is) (bank_of types) is.log [] (sym is.reads ∙ reads_new seen new)).1
 
 -- ---- with the program that was accepted
 
 -- an opened silo, with another copy of its program
 abbrev pub with_checked : Opened → Tree → Opened
-with_checked x bank = record { checked = bank; count = x.count; store = x.store; ends = x.ends; next_unit = x.next_unit; gate_at = x.gate_at }
+with_checked x bank = record { slot = x.slot; checked = bank; count = x.count; store = x.store; ends = x.ends; next_unit = x.next_unit; gate_at = x.gate_at }
 
 pub same_opened : (x : Opened) (bank : Tree) (seen : Image) → program_tree x.checked ≡ program_tree bank → IsOpenedFrom seen x → IsOpenedFrom seen (with_checked x bank)
 same_opened x bank seen same is = record {
   text = is.text;
   log = is.log;
-  reads = is.reads ∙ ap (λ (t : ProgramTree). Reads (record { text = is.text; types = t }) is.log) same;
+  reads = is.reads ∙ ap (λ (t : ProgramTree). Reads x.slot (record { text = is.text; types = t }) is.log) same;
   count = is.count ∙ ap (λ (t : ProgramTree). (standing_of t is.log).count) same;
   next = is.next ∙ ap (λ (t : ProgramTree). (standing_of t is.log).next) same;
   states = subst (λ (t : ProgramTree). (grain : GrainId) → unwrap_or (state_in x.store grain) ((new_silo t).states grain) ≡ (standing_of t is.log).states grain) same is.states;

@@ -14,7 +14,7 @@ use Rattle.program_file.specs.Programs.{program_in}
 use Rattle.silo_spec.specs.Silos.{manager, IsSilo}
 use Rattle.silo_spec.specs.Moments.{IsUntouched}
 use Rattle.silo_spec.specs.Making.{IsMade, StaysBeside, CameThisFar, FromFirstSync, IsNewAt}
-use Rattle.promise_spec.specs.Logs.{magic, live_slot}
+use Rattle.promise_spec.specs.Logs.{magic}
 use Rattle.promise_spec.specs.Openings.{opened_as}
 use Rattle.promise_spec.specs.Refusals.{IsRefusedBy}
 use Rattle.promise_spec.specs.Words.{Manner}
@@ -120,7 +120,7 @@ made_loads n seed m asked old made new before between after status is none carri
 -- ---- it wasn't opened
 
 pub unopened_carries : (n seed : ℕ) (m : Manner) (asked : List (List ℕ)) (bank : Tree) (old new : World) (before after : Channel → ℕ) (e : OpenFault) (status : Status) → program_in bank_text ≡ Ok (program_tree bank) → status_ending status ≡ ending_of e
-    → RunsOnFile manager Stays 1 old new → IsRefusedBy (seen_in old.disk) (opened_as live_slot (seen_in old.disk)) (ending_of e) → OpenFaulted e before after → CarriesLoad n seed (observed_call m asked old new before after status)
+    → RunsOnFile manager Stays 1 old new → IsRefusedBy (seen_in old.disk) (opened_as (seen_in old.disk)) (ending_of e) → OpenFaulted e before after → CarriesLoad n seed (observed_call m asked old new before after status)
 unopened_carries n seed m asked bank old new before after e status reads is run refused faulted = record {
   program = bank_of (program_tree bank);
   checked = bank_checked (program_tree bank) reads;

@@ -18,9 +18,9 @@ use Rattle.core_model.specs.CoreState.{Member, CoreState}
 use Rattle.core_model.specs.Legal.{Run, ends}
 use Rattle.core_model.specs.declared.events.CoreEvent.{CoreEvent}
 use Rattle.history_core.specs.Cores.{run_of}
-use Rattle.log_reading.specs.Steps.{seen_in, manager}
+use Rattle.log_reading.specs.Steps.{seen_in}
 use Rattle.program_file.specs.Programs.{program_in}
-use Rattle.promise_spec.specs.Logs.{live_slot, IsLog, IsPrefix}
+use Rattle.promise_spec.specs.Logs.{IsLog, IsPrefix}
 use Rattle.promise_spec.specs.Programs.{Program, IsChecked, shape_in}
 use Rattle.promise_spec.specs.Records.{Commit, standing_of}
 use Rattle.promise_spec.specs.Outputs.{reply_lines}
@@ -121,39 +121,39 @@ summary_memory e (inr (inl q)) one other = absurd (other q)
 summary_memory e (inr (inr q)) one other = q
 
 -- the faults of files alone count
-faults_same : (r : Run) (old mid new : Channel → ℕ) → ((file : FileId) → new (File file) ≡ mid (File file)) → AreFaults live_slot r old mid → AreFaults live_slot r old new
-faults_same r old mid new same f = record {
-  votes = λ g. subst (λ (k : ℕ). RoseBy (how_many (is_no g) r) (old (File (Grain live_slot g))) k) (sym (same (Grain live_slot g))) (f.votes g);
-  seals = subst (λ (k : ℕ). RoseBy (how_many is_unsealed r) (old (File (Manager live_slot))) k) (sym (same (Manager live_slot))) f.seals;
+faults_same : (live : ℕ) (r : Run) (old mid new : Channel → ℕ) → ((file : FileId) → new (File file) ≡ mid (File file)) → AreFaults live r old mid → AreFaults live r old new
+faults_same live r old mid new same f = record {
+  votes = λ g. subst (λ (k : ℕ). RoseBy (how_many (is_no g) r) (old (File (Grain live g))) k) (sym (same (Grain live g))) (f.votes g);
+  seals = subst (λ (k : ℕ). RoseBy (how_many is_unsealed r) (old (File (Manager live))) k) (sym (same (Manager live))) f.seals;
 }
 
 -- how a load ends whose turns ended by a fault
-load_begun : (fault : RunFault) → IsBegun (load_ending fault)
-load_begun InDoubt = tt
-load_begun WriteFault = tt
-load_begun Memory = tt
+load_begun : (live : ℕ) (fault : RunFault) → IsBegun (load_ending live fault)
+load_begun live InDoubt = tt
+load_begun live WriteFault = tt
+load_begun live Memory = tt
 
-load_doubt : (fault : RunFault) → EndingMayDoubt (load_ending fault)
-load_doubt InDoubt = tt
-load_doubt WriteFault = tt
-load_doubt Memory = tt
+load_doubt : (live : ℕ) (fault : RunFault) → EndingMayDoubt (load_ending live fault)
+load_doubt live InDoubt = tt
+load_doubt live WriteFault = tt
+load_doubt live Memory = tt
 
-load_undone : (fault : RunFault) → load_ending fault ≢ ending.Done
-load_undone InDoubt t = cc t
-load_undone WriteFault t = cc t
-load_undone Memory t = cc t
+load_undone : (live : ℕ) (fault : RunFault) → load_ending live fault ≢ ending.Done
+load_undone live InDoubt t = cc t
+load_undone live WriteFault t = cc t
+load_undone live Memory t = cc t
 
-load_unwritten : (fault : RunFault) → load_ending fault ≢ ending.WriteFault
-load_unwritten InDoubt t = cc t
-load_unwritten WriteFault t = cc t
-load_unwritten Memory t = cc t
+load_unwritten : (live : ℕ) (fault : RunFault) → load_ending live fault ≢ ending.WriteFault
+load_unwritten live InDoubt t = cc t
+load_unwritten live WriteFault t = cc t
+load_unwritten live Memory t = cc t
 
-load_file : (fault : RunFault) (file : FileId) → load_ending fault ≡ ending.DiskFault file → turns_ending {T = Unit {0}} (Err fault) ≡ ending.DiskFault file
-load_file InDoubt file t = t
-load_file WriteFault file t = absurd (cc t)
-load_file Memory file t = absurd (cc t)
+load_file : (live : ℕ) (fault : RunFault) (file : FileId) → load_ending live fault ≡ ending.DiskFault file → turns_ending {T = Unit {0}} live (Err fault) ≡ ending.DiskFault file
+load_file live InDoubt file t = t
+load_file live WriteFault file t = absurd (cc t)
+load_file live Memory file t = absurd (cc t)
 
-pub load_risen : (T : Type 0) (o : Outset) (b : Books) (r : Run) (s : Settler) (counts : Channel → ℕ) (fault : RunFault) → TurnsEndAs o b r s counts {T = T} (Err fault) → HasRisen (load_ending fault) o.faults counts
+pub load_risen : (T : Type 0) (o : Outset) (b : Books) (r : Run) (s : Settler) (counts : Channel → ℕ) (fault : RunFault) → TurnsEndAs o b r s counts {T = T} (Err fault) → HasRisen (load_ending o.live fault) o.faults counts
 load_risen T o b r s counts InDoubt e = e.0.rose
 load_risen T o b r s counts WriteFault e = tt
 load_risen T o b r s counts Memory e = tt
@@ -177,13 +177,13 @@ module _ {T : Type 0} (n seed : ℕ) (m : Manner) (x : Opened) (st : Started) (o
   text = ap (λ (q : Program). q.text) same.0
 
   abbrev pub out : Outset
-  out = record { program = p; asked = load_texts n seed; opening = log; width = m.width; picks = m.picks; faults = before; world = mid }
+  out = record { live = x.slot; program = p; asked = load_texts n seed; opening = log; width = m.width; picks = m.picks; faults = before; world = mid }
 
   abbrev pub r0 : Run
   r0 = core_from p.types (standing_of p.types log) []
 
   abbrev head : List ℕ
-  head = take 15 (old.disk manager).seen
+  head = take 15 (old.disk (Manager x.slot)).seen
 
   -- ---- the turns begin
 
@@ -197,7 +197,7 @@ module _ {T : Type 0} (n seed : ℕ) (m : Manner) (x : Opened) (st : Started) (o
     base = subst (λ (k : ℕ). 0 < k) is.opened.next above
 
     kept_first : KeepsTurns true out no_books r0 st.settler between mid
-    kept_first = starts_kept r0.base r0.kinds r0.opening true out st.settler between mid base (λ c. let e = none c in omega (arith, e)) start.written start.doubted start.sealing (λ told. still_none mid)
+    kept_first = starts_kept r0.base r0.kinds r0.opening true out st.settler between mid base (λ c. let e = none c in omega (arith, e)) start.written start.doubted start.sealing start.settles (λ told. still_none mid)
 
     first : StartsRun true m out no_books (program_tree x.checked) r0 st.settler lines between mid
     first = record {
@@ -245,16 +245,17 @@ module _ {T : Type 0} (n seed : ℕ) (m : Manner) (x : Opened) (st : Started) (o
     -- ---- the course of the turns
 
     abbrev pub c0 : Course
-    c0 = record { opening = log; added = commits_of (booked_journal b); early = is.run.clock.more; late = later.0; events = r'.events; entries = []; rest = [] }
+    c0 = record { live = x.slot; opening = log; added = commits_of (booked_journal b); early = is.run.clock.more; late = later.0; events = r'.events; entries = []; rest = [] }
 
     abbrev pub seen : Observed
-    seen = record { manner = m; asked = load_texts n seed; old = old; new = new; faults_before = before; faults_after = after; ending = turns_ending result }
+    seen = record { manner = m; asked = load_texts n seed; old = old; new = new; faults_before = before; faults_after = after; ending = turns_ending x.slot result }
 
     pub run_is : core_run p c0 ≡ r'
     run_is = ap (λ (es : List CoreEvent). core_from p.types (standing_of p.types log) es) (ap (λ (r : Run). r.events) beside.core) ∙ sym beside.core
 
     course : IsCourseOf out b r' seen c0
     course = record {
+      live = refl;
       opening = refl;
       added = refl;
       entries = sym (ap entries_of said_none);
@@ -267,10 +268,10 @@ module _ {T : Type 0} (n seed : ℕ) (m : Manner) (x : Opened) (st : Started) (o
       output = sym is.run.now.output;
     }
 
-    follows : FollowsOpening seen c0 mid log
-    follows = record { opening = refl; run = is.run; settled = is.settled; early = is.run.clock.past; late = later.1 }
+    follows : FollowsOpening seen c0 mid x.slot log
+    follows = record { live = refl; opening = refl; run = is.run; settled = is.settled; early = is.run.clock.past; late = later.1 }
 
-    stands : IsBehind live_slot p seen c0 mid
+    stands : IsBehind p seen c0 mid
     stands = behind x seen c0 mid is.opened follows
 
     opens : Opens p seen c0
@@ -278,16 +279,16 @@ module _ {T : Type 0} (n seed : ℕ) (m : Manner) (x : Opened) (st : Started) (o
 
     -- ---- what lasts
 
-    all : AllLog p log mid.disk
-    all = subst (λ (m : Moment). AllLog p log m.disk) stands.last opens.opened
+    all : AllLog x.slot p log mid.disk
+    all = subst (λ (m : Moment). AllLog x.slot p log m.disk) stands.last opens.opened
 
     seen_left : IsImage mid.disk (seen_in old.disk)
     seen_left file = subst (MayLeave (mid.disk file)) ((asked_untouched old mid is.run).seen file) (stay_mid file)
 
     lasting : LastsSo out head b r' s'.writer new
     lasting = goes.on.lasts told head (starts_lasting out head r0.base r0.kinds r0.opening st.settler.writer mid (still_none mid) all base
-        (λ image image_is. ap (take 15) (settled_only (old.disk manager).seen (image manager) (subst (λ (f : FileState). MayLeave f (image manager)) is.settled (image_is manager))))
-        (λ sure. starts_resting out x st (seen_in old.disk) is.opened start refl r0 mid.disk is.settled (ap (λ (f : FileState). f.seen) is.settled) seen_left all))
+        (λ image image_is. ap (take 15) (settled_only (old.disk (Manager x.slot)).seen (image (Manager x.slot)) (subst (λ (f : FileState). MayLeave f (image (Manager x.slot))) is.settled (image_is (Manager x.slot)))))
+        (λ sure. starts_resting out x st (seen_in old.disk) is.opened start refl refl r0 mid.disk is.settled (ap (λ (f : FileState). f.seen) is.settled) seen_left all))
 
     pub lasts_so : Lasts p seen c0
     lasts_so = lasts true out head b r' s' seen c0 refl goes.on.record_kept lasting course refl stands opens stay_new
@@ -304,19 +305,19 @@ module _ {T : Type 0} (n seed : ℕ) (m : Manner) (x : Opened) (st : Started) (o
               image = image;
               left = stay_new;
               has = elim (lasting.journal.log image stay_new) [
-                | inl was ↦ subst (λ (l : List Settlement). IsLog live_slot (shape_in p) image (log ++ commits_of l)) (sym whole) was
+                | inl was ↦ subst (λ (l : List Settlement). IsLog x.slot (shape_in p) image (log ++ commits_of l)) (sym whole) was
                 | inr has ↦ has
               ];
             }
         by (batch ∷ more) q =
-            let some : SomeImage (λ image. IsLog live_slot (shape_in p) image (log ++ commits_of (booked_journal b))) new.disk = lasting.some (λ none. is_some batch more (sym q ∙ none)) in
+            let some : SomeImage (λ image. IsLog x.slot (shape_in p) image (log ++ commits_of (booked_journal b))) new.disk = lasting.some (λ none. is_some batch more (sym q ∙ none)) in
             record { image = some.image; left = some.left; has = some.holds }
           where
             is_some : (y : Settlement) (ys : List Settlement) → y ∷ ys ≡ [] → ⊥
             is_some y ys t = absurd cc
 
     -- the files that no event votes on
-    unvoted_so : (g : GrainId) → how_many (is_vote_of g) (core_run p c0) ≡ 0 → KeepsFile (Grain live_slot g) mid new
+    unvoted_so : (g : GrainId) → how_many (is_vote_of g) (core_run p c0) ≡ 0 → KeepsFile (Grain x.slot g) mid new
     unvoted_so g no_vote = (goes.on.record_kept.books.outside told).calls.unvoted g (subst (λ (y : Run). how_many (is_vote_of g) y ≡ 0) run_is no_vote)
 
     pub explains_so : ExplainsEvents p seen c0
@@ -336,8 +337,9 @@ module _ {T : Type 0} (n seed : ℕ) (m : Manner) (x : Opened) (st : Started) (o
       c = record c0 { late = later.0 ++ behind_turns; entries = (core_end p c0).manager.settled }
 
       -- it stands behind the opening, and the files are as the turns left them
-      still_behind : IsBehind live_slot p r c mid
+      still_behind : IsBehind p r c mid
       still_behind = behind x r c mid is.opened (record {
+        live = refl;
         opening = refl;
         run = is.run;
         settled = is.settled;
@@ -359,15 +361,15 @@ module _ {T : Type 0} (n seed : ℕ) (m : Manner) (x : Opened) (st : Started) (o
           (most_syncs new.syncs mid.syncs old.syncs (how_many is_vote r') (how_many is_sealed r') (how_many is_unsealed r') (goes.on.record_kept.books.outside told).calls.most is.count))
 
       -- what its events explain
-      explains_at : ((file : FileId) → e ≡ ending.DiskFault file → turns_ending result ≡ ending.DiskFault file) → (RunHasDoubt (core_run p c0) → EndingMayDoubt e) → ExplainsEvents p r c
+      explains_at : ((file : FileId) → e ≡ ending.DiskFault file → turns_ending x.slot result ≡ ending.DiskFault file) → (RunHasDoubt (core_run p c0) → EndingMayDoubt e) → ExplainsEvents p r c
       explains_at file doubt = record {
         records = explains_so.records;
         units = explains_so.units;
         turns = explains_so.turns;
-        faults = faults_same (core_run p c0) before after final files explains_so.faults;
+        faults = faults_same x.slot (core_run p c0) before after final files explains_so.faults;
         doubted = λ f t. explains_so.doubted f (file f t);
         ended = doubt;
-        unvoted = unvoted_behind p r c mid still_behind (λ g no_vote. file-on (Grain live_slot g) mid new last (unvoted_so g no_vote) (said_file (Grain live_slot g)));
+        unvoted = unvoted_behind p r c mid still_behind (λ g no_vote. file-on (Grain x.slot g) mid new last (unvoted_so g no_vote) (said_file (Grain x.slot g)));
       }
 
       asked : AskFor p.types (load_texts n seed) (load_calls n seed)
@@ -376,7 +378,7 @@ module _ {T : Type 0} (n seed : ℕ) (m : Manner) (x : Opened) (st : Started) (o
       -- what it has to show, but how it ended
       shows : ExplainsEvents p r c → ((behind_turns ≡ []) × (last.output ≡ old.output)) ⊎ (RunHasDoubt (core_run p c) → ⊥) → Prints (summary_text p r c) r → (e ≢ ending.Done → e ≢ ending.WriteFault → last.output ≡ old.output)
           → IsBegun e → HasRisen e before final → ((e ≡ ending.Done) ⊎ (e ≡ ending.WriteFault) → IsAnswered r c) → (e ≡ ending.WriteFault → RunHasDoubt (core_run p c) → ⊥)
-          → (NoneRose before final → e ≡ ending.Done → last.syncs ≡ old.syncs + syncs_of (core_run p c)) → last.syncs ≡ new.syncs → ShowsLoad p n seed r c new after (turns_ending result) later.0 behind_turns
+          → (NoneRose before final → e ≡ ending.Done → last.syncs ≡ old.syncs + syncs_of (core_run p c)) → last.syncs ≡ new.syncs → ShowsLoad p n seed r c new after (turns_ending x.slot result) later.0 behind_turns
       shows explains_r printed output silent begun risen done undoubted syncs said = record {
         asked = asked;
         lasts = lasts_so;
@@ -400,11 +402,11 @@ module _ {T : Type 0} (n seed : ℕ) (m : Manner) (x : Opened) (st : Started) (o
         most = most_so said;
       }
 
-      carries : ShowsLoad p n seed r c new after (turns_ending result) later.0 behind_turns → CarriesLoad n seed r
-      carries s = record { program = p; checked = checked; text = text; carried = inr (c, kept_load p n seed r c new after (turns_ending result) later.0 behind_turns s) }
+      carries : ShowsLoad p n seed r c new after (turns_ending x.slot result) later.0 behind_turns → CarriesLoad n seed r
+      carries s = record { program = p; checked = checked; text = text; carried = inr (c, kept_load p n seed r c new after (turns_ending x.slot result) later.0 behind_turns s) }
 
     -- the turns ended by a fault
-    pub failed_carries : AskFor (program_tree x.checked) (load_texts n seed) (load_calls n seed) → (fault : RunFault) → result ≡ Err fault → (status : Status) → status_ending status ≡ load_ending fault
+    pub failed_carries : AskFor (program_tree x.checked) (load_texts n seed) (load_calls n seed) → (fault : RunFault) → result ≡ Err fault → (status : Status) → status_ending status ≡ load_ending x.slot fault
         → CarriesLoad n seed (observed_call (m) (load_texts n seed) old new before after status)
     failed_carries asks fault q status ends_as =
         let ended : TurnsEndAs out b r' s' after {T = T} (Err fault) = subst (TurnsEndAs out b r' s' after) q goes.on.ended in
@@ -412,15 +414,15 @@ module _ {T : Type 0} (n seed : ℕ) (m : Manner) (x : Opened) (st : Started) (o
         carries asks new after status [] past refl (λ m there. absurd there) refl (λ file. refl)
         (shows asks new after status [] past refl (λ m there. absurd there) refl (λ file. refl)
         (explains_at asks new after status [] past refl (λ m there. absurd there) refl (λ file. refl)
-        (λ file t. ap turns_ending q ∙ load_file fault file (sym ends_as ∙ t)) (λ d. subst EndingMayDoubt (sym ends_as) (load_doubt fault)))
+        (λ file t. ap (turns_ending x.slot) q ∙ load_file x.slot fault file (sym ends_as ∙ t)) (λ d. subst EndingMayDoubt (sym ends_as) (load_doubt x.slot fault)))
         (inl (refl, same_output))
-        (record { added = []; output = same_output ∙ sym (append-nil old.output); front = (_, refl); whole = λ t. absurd (load_undone fault (sym ends_as ∙ t)); none = inl refl })
+        (record { added = []; output = same_output ∙ sym (append-nil old.output); front = (_, refl); whole = λ t. absurd (load_undone x.slot fault (sym ends_as ∙ t)); none = inl refl })
         (λ one other. same_output)
-        (subst IsBegun (sym ends_as) (load_begun fault))
+        (subst IsBegun (sym ends_as) (load_begun x.slot fault))
         (subst (λ (y : Ending). HasRisen y before after) (sym ends_as) (load_risen T out b r' s' after fault ended))
-        (λ which. elim which [ inl t ↦ absurd (load_undone fault (sym ends_as ∙ t)) | inr t ↦ absurd (load_unwritten fault (sym ends_as ∙ t)) ])
-        (λ t d. load_unwritten fault (sym ends_as ∙ t))
-        (λ calm t. absurd (load_undone fault (sym ends_as ∙ t))) refl)
+        (λ which. elim which [ inl t ↦ absurd (load_undone x.slot fault (sym ends_as ∙ t)) | inr t ↦ absurd (load_unwritten x.slot fault (sym ends_as ∙ t)) ])
+        (λ t d. load_unwritten x.slot fault (sym ends_as ∙ t))
+        (λ calm t. absurd (load_undone x.slot fault (sym ends_as ∙ t))) refl)
 
     -- all lines are carried, and the summary was to be printed
     pub summed_carries : AskFor (program_tree x.checked) (load_texts n seed) (load_calls n seed) → (done : T) → result ≡ Ok done → (status : Status) (last : World) (final : Channel → ℕ) (requests : ℕ) → requests ≡ length (load_texts n seed)

@@ -6,12 +6,12 @@ use Rattle.base_types.specs.Stores.{state_in, end_in}
 use Rattle.base_types.specs.declared.calls.GrainId.{GrainId}
 use Rattle.base_types.specs.declared.calls.Value.{Value}
 use Rattle.std.specs.List.{AllByRecursion}
+use Rattle.host_trait.specs.declared.channels.FileId.TheVariants.{Manager, Grain}
 use Rattle.host_trait.specs.declared.channels.FileId.{FileId}
 use Rattle.host_trait.specs.World.{Image, Disk}
 use Rattle.gate_block.specs.Gates.{IsClosedAt}
-use Rattle.log_reading.specs.Steps.{manager}
-use Rattle.batch_disk.specs.Resting.{Voted, grain_file, write_end}
-use Rattle.batch_disk.specs.Writers.{FitsDisk}
+use Rattle.batch_disk.specs.Resting.{Voted, write_end}
+use Rattle.batch_disk.specs.Writers.{FitsSlot, FitsDisk}
 use Rattle.cell_table.specs.Table.{opening_state, initial_fields, state_or}
 use Rattle.script_tree.specs.Programs.{TypeTree, ProgramTree, program_tree}
 use Rattle.script_check.specs.Shapes.{type_shape, type_shapes}
@@ -63,27 +63,27 @@ start_is image o s is start = start.run ∙ (λ i. record {
 -- ---- the files
 
 -- the settler's ends lie in the files, as they read
-ends_within : (image : Image) (o : Opened) (g : GrainId) (end : Option ℕ) → end_in o.ends g ≡ end → IsOpenedFrom image o → unwrap_or end 0 ≤ length (image (grain_file g))
+ends_within : (image : Image) (o : Opened) (g : GrainId) (end : Option ℕ) → end_in o.ends g ≡ end → IsOpenedFrom image o → unwrap_or end 0 ≤ length (image (Grain o.slot g))
 ends_within image o g None e is = omega arith
 ends_within image o g (Some end) e is = is.within g end e
 
 -- So the settler's first calls find the files as they need them.
 pub fits_at : (image : Image) (o : Opened) (s : Started) (disk : Disk) → IsOpenedFrom image o → IsStartOf o s → ((file : FileId) → (disk file).seen ≡ image file) → FitsDisk s.settler.writer disk
-fits_at image o s disk is start seen = record {
-  long = λ g. subst (λ (n : ℕ). n ≤ length (disk (grain_file g)).seen) (sym (start.ends g))
-      (subst (λ (file : List ℕ). unwrap_or (end_in o.ends g) 0 ≤ length file) (sym (seen (grain_file g))) (ends_within image o g (end_in o.ends g) refl is));
-  kept = subst (λ (vs : List Voted). AllByRecursion (λ (v : Voted). write_end v.write ≤ length (disk (grain_file v.write.grain)).seen) vs) (sym start.kept) tt;
-  closed = λ sure. subst (λ (gate : ℕ). IsClosedAt gate (disk manager).seen) (sym start.gate) (subst (IsClosedAt o.gate_at) (sym (seen manager)) is.closed);
-}
+fits_at image o s disk is start seen = subst (λ (slot : ℕ). FitsSlot slot s.settler.writer disk) (sym start.settles) (record {
+  long = λ g. subst (λ (n : ℕ). n ≤ length (disk (Grain o.slot g)).seen) (sym (start.ends g))
+      (subst (λ (file : List ℕ). unwrap_or (end_in o.ends g) 0 ≤ length file) (sym (seen (Grain o.slot g))) (ends_within image o g (end_in o.ends g) refl is));
+  kept = subst (λ (vs : List Voted). AllByRecursion (λ (v : Voted). write_end v.write ≤ length (disk (Grain o.slot v.write.grain)).seen) vs) (sym start.kept) tt;
+  closed = λ sure. subst (λ (gate : ℕ). IsClosedAt gate (disk (Manager o.slot)).seen) (sym start.gate) (subst (IsClosedAt o.gate_at) (sym (seen (Manager o.slot))) is.closed);
+})
 
 -- the same, of files as they read
 pub fits_within : (o : Opened) (s : Started) (disk : Disk) → LiesWithin (seen_in disk) o → IsStartOf o s → FitsDisk s.settler.writer disk
-fits_within o s disk lies start = record {
-  long = λ g. subst (λ (n : ℕ). n ≤ length (disk (grain_file g)).seen) (sym (start.ends g)) (by g (end_in o.ends g) refl);
-  kept = subst (λ (vs : List Voted). AllByRecursion (λ (v : Voted). write_end v.write ≤ length (disk (grain_file v.write.grain)).seen) vs) (sym start.kept) tt;
-  closed = λ sure. subst (λ (gate : ℕ). IsClosedAt gate (disk manager).seen) (sym start.gate) lies.closed;
-}
+fits_within o s disk lies start = subst (λ (slot : ℕ). FitsSlot slot s.settler.writer disk) (sym start.settles) (record {
+  long = λ g. subst (λ (n : ℕ). n ≤ length (disk (Grain o.slot g)).seen) (sym (start.ends g)) (by g (end_in o.ends g) refl);
+  kept = subst (λ (vs : List Voted). AllByRecursion (λ (v : Voted). write_end v.write ≤ length (disk (Grain o.slot v.write.grain)).seen) vs) (sym start.kept) tt;
+  closed = λ sure. subst (λ (gate : ℕ). IsClosedAt gate (disk (Manager o.slot)).seen) (sym start.gate) lies.closed;
+})
   where
-    by : (g : GrainId) (end : Option ℕ) → end_in o.ends g ≡ end → unwrap_or end 0 ≤ length (disk (grain_file g)).seen
+    by : (g : GrainId) (end : Option ℕ) → end_in o.ends g ≡ end → unwrap_or end 0 ≤ length (disk (Grain o.slot g)).seen
     by g None e = omega arith
     by g (Some end) e = lies.within g end e

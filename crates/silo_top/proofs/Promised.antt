@@ -1,7 +1,6 @@
 -- The promise of a run that opened its folder, sound or not.
 use Rattle.std.proofs.Common.{◌≡◌, inr, subst}
 use Rattle.host_trait.specs.World.{World}
-use Rattle.promise_spec.specs.Logs.{live_slot}
 use Rattle.promise_spec.specs.Images.{IsWholeFolder}
 use Rattle.promise_spec.specs.Programs.{Program, IsChecked}
 use Rattle.promise_spec.specs.Words.{Manner}
@@ -12,7 +11,7 @@ use Rattle.promise_laws.specs.Obligations.{ShowsAnywhere, Opens, Lasts}
 use Rattle.promise_laws.proofs.OpenedRuns.{shown_anywhere, kept_over}
 use Rattle.promise_laws.proofs.KeptRuns.{same_program, opens_whole}
 
-module _ (p : Program) (r : Observed) (c : Course) (mid : World) (b : IsBehind live_slot p r c mid) (stay : ReadsMayStay r.old) (stay_mid : ReadsMayStay mid) where
+module _ (p : Program) (r : Observed) (c : Course) (mid : World) (b : IsBehind p r c mid) (stay : ReadsMayStay r.old) (stay_mid : ReadsMayStay mid) where
   -- over a folder that is whole for a checked program, the program that it reads as is checked
   checked_by : (q : Program) → IsChecked q → IsWholeFolder q r.old → IsChecked p
   checked_by q checked whole = subst IsChecked (same_program p r c mid b q checked whole stay).0 checked

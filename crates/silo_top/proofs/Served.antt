@@ -1,6 +1,7 @@
 -- A run from its opening to its end.
 use Rattle.std.proofs.Common.{◌≡◌, ℕ, ◌<◌, ◌≤◌, true, false, List, [], length, Result, refl, sym, ◌∙◌, ap, subst, arith}
 use Rattle.std.specs.Prelude.{take}
+use Rattle.host_trait.specs.declared.channels.FileId.TheVariants.{Manager}
 use Rattle.host_trait.specs.declared.channels.Channel.{Channel}
 use Rattle.host_trait.specs.Faults.{NoneFailed}
 use Rattle.host_trait.specs.Disk.{FileState, MayLeave}
@@ -11,7 +12,7 @@ use Rattle.request_wire.specs.declared.requests.Line.{Line}
 use Rattle.script_tree.specs.Programs.{program_tree}
 use Rattle.core_model.specs.Legal.{Run}
 use Rattle.history_core.specs.Cores.{run_of}
-use Rattle.log_reading.specs.Steps.{seen_in, manager}
+use Rattle.log_reading.specs.Steps.{seen_in}
 use Rattle.promise_spec.specs.Journals.{AllLog}
 use Rattle.promise_spec.specs.Endings.{input_limit}
 use Rattle.promise_spec.specs.Promise.{Promises}
@@ -41,7 +42,7 @@ use Rattle.silo_top.proofs.Unopened.{asked_untouched}
 use Rattle.silo_top.proofs.OpensWith.{start_is}
 
 module _ {T : Type 0} (m : Manner) (x : Opened) (st : Started) (old mid now new : World) (before between after : Channel → ℕ) (status : Status) (result : Result T RunFault) (is : IsBehindOpening old mid x) (start : IsStartOf x st)
-    (pulled : PulledOnly mid now) (stay_mid : ReadsMayStay mid) (stay_new : ReadsMayStay new) (end : now.input ≡ []) (short : length old.input ≤ input_limit) (ends_as : status_ending status ≡ turns_ending result) where
+    (pulled : PulledOnly mid now) (stay_mid : ReadsMayStay mid) (stay_new : ReadsMayStay new) (end : now.input ≡ []) (short : length old.input ≤ input_limit) (ends_as : status_ending status ≡ turns_ending x.slot result) where
   abbrev outset : Outset
   outset = out m x old mid now new before after status result is pulled stay_mid stay_new end short ends_as
 
@@ -51,7 +52,7 @@ module _ {T : Type 0} (m : Manner) (x : Opened) (st : Started) (old mid now new 
   -- the record that holds where the turns begin
   kept : 0 < x.next_unit.0 → NoneFailed before between → KeepsTurns true outset no_books first st.settler between now
   kept above calm = starts_kept first.base first.kinds first.opening true outset st.settler between now (subst (λ (n : ℕ). 0 < n) is.opened.next above) (λ c. let e = calm c in omega (arith, e))
-      start.written start.doubted start.sealing (λ told. pulled)
+      start.written start.doubted start.sealing start.settles (λ told. pulled)
 
   -- what was read is an image still
   seen_left : IsImage now.disk (seen_in old.disk)
@@ -82,8 +83,8 @@ module _ {T : Type 0} (m : Manner) (x : Opened) (st : Started) (old mid now new 
       let left : TurnsBeside true first r' st.settler s' between after now new result = subst (λ (r : Run). TurnsBeside true r r' st.settler s' between after now new result) same beside in
       let behind = stands m x old mid now new before after status result is pulled stay_mid stay_new end short ends_as r' st.settler s' between went left loud in
       turns_promised m x old mid now new before after status result is pulled stay_mid stay_new end short ends_as r' st.settler s' between went left loud
-      (λ opens. (let all : AllLog outset.program outset.opening mid.disk = subst (λ (m : Moment). AllLog outset.program outset.opening m.disk) behind.last opens.opened in
-      starts_lasting outset (take 15 (old.disk manager).seen) first.base first.kinds first.opening st.settler.writer now pulled all base
-      (λ image image_is. ap (take 15) (settled_only (old.disk manager).seen (image manager) (subst (λ (f : FileState). MayLeave f (image manager)) is.settled (image_is manager))))
-      (λ sure. starts_resting outset x st (seen_in old.disk) is.opened start refl first now.disk (ap (λ (d : Disk). d manager) pulled.disk ∙ is.settled) (ap (λ (f : FileState). f.seen) is.settled) seen_left
-      (subst (AllLog outset.program outset.opening) (sym pulled.disk) all))))
+      (λ opens. (let all : AllLog x.slot outset.program outset.opening mid.disk = subst (λ (m : Moment). AllLog x.slot outset.program outset.opening m.disk) behind.last opens.opened in
+      starts_lasting outset (take 15 (old.disk (Manager x.slot)).seen) first.base first.kinds first.opening st.settler.writer now pulled all base
+      (λ image image_is. ap (take 15) (settled_only (old.disk (Manager x.slot)).seen (image (Manager x.slot)) (subst (λ (f : FileState). MayLeave f (image (Manager x.slot))) is.settled (image_is (Manager x.slot)))))
+      (λ sure. starts_resting outset x st (seen_in old.disk) is.opened start refl refl first now.disk (ap (λ (d : Disk). d (Manager x.slot)) pulled.disk ∙ is.settled) (ap (λ (f : FileState). f.seen) is.settled) seen_left
+      (subst (AllLog x.slot outset.program outset.opening) (sym pulled.disk) all))))

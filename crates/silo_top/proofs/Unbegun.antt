@@ -11,7 +11,7 @@ use Rattle.host_trait.proofs.Crashes.{settled_only}
 use Rattle.host_trait.proofs.Moments.{weaker}
 use Rattle.gate_block.specs.Log.{gate_of}
 use Rattle.core_model.specs.Legal.{ends}
-use Rattle.promise_spec.specs.Logs.{live_slot, IsLog}
+use Rattle.promise_spec.specs.Logs.{IsLog}
 use Rattle.promise_spec.specs.Programs.{Program, shape_in}
 use Rattle.promise_spec.specs.Records.{Commit}
 use Rattle.promise_spec.specs.Words.{Manner}
@@ -51,8 +51,8 @@ pub record EndsUnbegun (e : Ending) (size : ℕ) (before after : Channel → ℕ
   pub later : (c : Channel) → before c ≤ after c
 
 -- a file that is left alone isn't the manager file
-not_manager : (file : FileId) → IsAside live_slot file → file ≢ Manager live_slot
-not_manager file aside e = (subst (λ (f : FileId). IsAside live_slot f) e aside) refl
+not_manager : (live : ℕ) (file : FileId) → IsAside live file → file ≢ Manager live
+not_manager live file aside e = (subst (λ (f : FileId). IsAside live f) e aside) refl
 
 one_sync : (n mid old : ℕ) → n ≡ mid → mid ≡ old + 1 → n ≡ old + (1 + (0 + 2 * 0))
 one_sync n mid old a b = omega (arith, a, b)
@@ -69,12 +69,12 @@ module _ (m : Manner) (o : Opened) (old mid new : World) (before after : Channel
   r = observed_run m old new before after status
 
   abbrev c : Course
-  c = record { opening = is.opened.log; added = []; early = is.run.clock.more; late = pulled.moments.more; events = []; entries = []; rest = [] }
+  c = record { live = o.slot; opening = is.opened.log; added = []; early = is.run.clock.more; late = pulled.moments.more; events = []; entries = []; rest = [] }
 
-  follows : FollowsOpening r c mid is.opened.log
-  follows = record { opening = refl; run = is.run; settled = is.settled; early = is.run.clock.past; late = pulled.moments.past }
+  follows : FollowsOpening r c mid o.slot is.opened.log
+  follows = record { live = refl; opening = refl; run = is.run; settled = is.settled; early = is.run.clock.past; late = pulled.moments.past }
 
-  stands : IsBehind live_slot p r c mid
+  stands : IsBehind p r c mid
   stands = behind o r c mid is.opened follows
 
   no_doubt : RunHasDoubt (core_run p c) → ⊥
@@ -87,12 +87,12 @@ module _ (m : Manner) (o : Opened) (old mid new : World) (before after : Channel
       units = λ at e a. absurd (none_applies (core_run p c).base (core_run p c).kinds (core_run p c).opening at e a);
       turns = λ one at e a. absurd (none_applies (core_run p c).base (core_run p c).kinds (core_run p c).opening at e a);
       faults = record {
-        votes = λ g. rose_none (before (File (Grain live_slot g))) (after (File (Grain live_slot g))) (end.later (File (Grain live_slot g)));
-        seals = rose_none (before (File (Manager live_slot))) (after (File (Manager live_slot))) (end.later (File (Manager live_slot)));
+        votes = λ g. rose_none (before (File (Grain o.slot g))) (after (File (Grain o.slot g))) (end.later (File (Grain o.slot g)));
+        seals = rose_none (before (File (Manager o.slot))) (after (File (Manager o.slot))) (end.later (File (Manager o.slot)));
       };
       doubted = λ file q. absurd (end.no_file file q);
       ended = λ d. absurd (no_doubt d);
-      unvoted = unvoted_behind p r c mid stands (λ g none. still_file (Grain live_slot g) mid new pulled);
+      unvoted = unvoted_behind p r c mid stands (λ g none. still_file (Grain o.slot g) mid new pulled);
     };
     settled = record { entries = ([], refl); all = λ which. refl; told = omega arith; cut = inl refl };
     output = record { output = pulled.output ∙ is.run.now.output ∙ sym (append-nil old.output); unended = tt; proper = tt };
@@ -112,40 +112,40 @@ module _ (m : Manner) (o : Opened) (old mid new : World) (before after : Channel
   -- ---- what lasts
 
   abbrev IsLogOf : List Commit → Image → Type 0
-  IsLogOf l image = IsLog live_slot (shape_in p) image l
+  IsLogOf l image = IsLog o.slot (shape_in p) image l
 
   module _ (opens : Opens p r c) where
-    all_mid : AllLog p c.opening mid.disk
-    all_mid = subst (λ (x : Moment). AllLog p c.opening x.disk) stands.last opens.opened
+    all_mid : AllLog o.slot p c.opening mid.disk
+    all_mid = subst (λ (x : Moment). AllLog o.slot p c.opening x.disk) stands.last opens.opened
 
-    seals : Seals p (c.opening ++ []) [] mid new
+    seals : Seals o.slot p (c.opening ++ []) [] mid new
     seals = record {
-      moments = weaker (λ (x : Moment). x ≡ moment_of mid) (IsSealing p (c.opening ++ []) [] mid) at pulled.moments;
+      moments = weaker (λ (x : Moment). x ≡ moment_of mid) (IsSealing o.slot p (c.opening ++ []) [] mid) at pulled.moments;
       output = pulled.output;
       log = λ image left. subst (λ (l : List Commit). IsLogOf l image) (sym (append-nil (c.opening ++ []) ∙ append-nil c.opening)) (all_mid image (subst (λ (d : Disk). IsImage d image) pulled.disk left));
     }
       where
-        at : (x : Moment) → x ≡ moment_of mid → IsSealing p (c.opening ++ []) [] mid x
+        at : (x : Moment) → x ≡ moment_of mid → IsSealing o.slot p (c.opening ++ []) [] mid x
         at x e = record {
           output = ap (λ (y : Moment). y.output) e;
           log = λ image left. inl (subst (λ (l : List Commit). IsLogOf l image) (sym (append-nil c.opening)) (all_mid image (subst (λ (y : Moment). IsImage y.disk image) e left)));
         }
 
-    cut : CutAt p c.opening mid [] [] [] [] new
-    cut = whole_cut p c.opening mid [] [] new (stays_on p c.opening mid [] [] mid new tt (begins_at p c.opening mid mid refl refl all_mid) seals)
+    cut : CutAt o.slot p c.opening mid [] [] [] [] new
+    cut = whole_cut o.slot p c.opening mid [] [] new (stays_on o.slot p c.opening mid [] [] mid new tt (begins_at o.slot p c.opening mid mid refl refl all_mid) seals)
 
     ends_batch : EndsABatch (core_end p c) c.opening c.opening
     ends_batch = subst (EndsABatch (core_end p c) c.opening) (append-nil c.opening)
         (records-end (basis p r c) (core_run p c) c.opening [] (subst (λ (n : ℕ). 0 < n) is.opened.next above) answers.explains.units (inl tt))
 
-    batch_at : (x : Moment) → x ≡ moment_of mid → AllEnd p (core_end p c) c.opening x
-    batch_at x e = logged_ends p (core_end p c) c.opening c.opening x (subst (λ (y : Moment). AllLog p c.opening y.disk) (sym e) all_mid) ends_batch
+    batch_at : (x : Moment) → x ≡ moment_of mid → AllEnd o.slot p (core_end p c) c.opening x
+    batch_at x e = logged_ends o.slot p (core_end p c) c.opening c.opening x (subst (λ (y : Moment). AllLog o.slot p c.opening y.disk) (sym e) all_mid) ends_batch
 
-    alone_at : (x : Moment) → x ≡ moment_of mid → LeavesAlone live_slot r x
+    alone_at : (x : Moment) → x ≡ moment_of mid → LeavesAlone o.slot r x
     alone_at x e = record {
-      aside = λ file aside. ap (λ (y : Moment). y.disk file) e ∙ stands.others file (not_manager file aside);
-      header = λ image left. ap (λ (l : List ℕ). take 15 l) (settled_only (seen_at_entry r (Manager live_slot)) (image (Manager live_slot))
-          (subst (λ (f : FileState). MayLeave f (image (Manager live_slot))) (ap (λ (y : Moment). y.disk (Manager live_slot)) e ∙ stands.settled) (left (Manager live_slot))));
+      aside = λ file aside. ap (λ (y : Moment). y.disk file) e ∙ stands.others file (not_manager o.slot file aside);
+      header = λ image left. ap (λ (l : List ℕ). take 15 l) (settled_only (seen_at_entry r (Manager o.slot)) (image (Manager o.slot))
+          (subst (λ (f : FileState). MayLeave f (image (Manager o.slot))) (ap (λ (y : Moment). y.disk (Manager o.slot)) e ∙ stands.settled) (left (Manager o.slot))));
     }
 
     now_is : moment_of new ≡ moment_of mid
@@ -155,13 +155,13 @@ module _ (m : Manner) (o : Opened) (old mid new : World) (before after : Channel
     carries = record {
       commits = refl;
       backs = λ e l s front back q es la ack. absurd la;
-      batches = weaker (λ (x : Moment). x ≡ moment_of mid) (AllEnd p (core_end p c) c.opening) batch_at pulled.moments;
+      batches = weaker (λ (x : Moment). x ≡ moment_of mid) (AllEnd o.slot p (core_end p c) c.opening) batch_at pulled.moments;
       batches_now = batch_at (moment_of new) now_is;
-      alone = weaker (λ (x : Moment). x ≡ moment_of mid) (LeavesAlone live_slot r) alone_at pulled.moments;
+      alone = weaker (λ (x : Moment). x ≡ moment_of mid) (LeavesAlone o.slot r) alone_at pulled.moments;
       alone_now = alone_at (moment_of new) now_is;
       block = λ d. absurd (no_doubt d);
-      behind = λ none image left. (ap (λ (l : List ℕ). drop (gate_of (image (Manager live_slot)) + 1) l)
-          (settled_only (seen_at_entry r (Manager live_slot)) (image (Manager live_slot)) (subst (λ (s : FileState). MayLeave s (image (Manager live_slot))) (ap (λ (d : Disk). d (Manager live_slot)) pulled.disk ∙ stands.settled) (left (Manager live_slot)))));
+      behind = λ none image left. (ap (λ (l : List ℕ). drop (gate_of (image (Manager o.slot)) + 1) l)
+          (settled_only (seen_at_entry r (Manager o.slot)) (image (Manager o.slot)) (subst (λ (s : FileState). MayLeave s (image (Manager o.slot))) (ap (λ (d : Disk). d (Manager o.slot)) pulled.disk ∙ stands.settled) (left (Manager o.slot)))));
     }
 
     lasts : Lasts p r c

@@ -2,16 +2,15 @@
 use Rattle.std.proofs.Common.{◌≡◌, ◌≤◌, ◌+◌, inl, inr, ℕ, List, refl, sym, ap, subst, arith}
 use Rattle.host_trait.specs.declared.channels.Channel.{Channel}
 use Rattle.host_trait.specs.declared.channels.FileId.{FileId}
+use Rattle.host_trait.specs.declared.channels.FileId.TheVariants.{Manager}
 use Rattle.host_trait.specs.Disk.{FileState, MayLeave}
 use Rattle.host_trait.specs.World.{World, Moment, Image, IsImage, moment_of}
 use Rattle.host_trait.specs.Runs.{ChangesFile, RunsOnFile}
 use Rattle.host_trait.proofs.Names.{cases_file}
 use Rattle.host_trait.proofs.Moments.{weaker, started}
-use Rattle.silo_spec.specs.Silos.{manager}
 use Rattle.silo_spec.specs.Moments.{IsAsAtEntry, IsUntouched}
 use Rattle.silo_spec.specs.Making.{IsBeside}
 use Rattle.log_reading.specs.Steps.{seen_in}
-use Rattle.promise_spec.specs.Logs.{live_slot}
 use Rattle.promise_spec.specs.Words.{Manner}
 use Rattle.promise_spec.specs.Endings.{Ending, Memory, HasFailedAs}
 use Rattle.promise_spec.specs.Openings.{opened_as}
@@ -31,27 +30,27 @@ use Rattle.silo_top.proofs.Counted.{open_failed}
 -- ---- nothing but asking
 
 -- where no byte changed, no outcome of a crash was added
-unchanged : (old : World) (m : Moment) → ChangesFile manager Stays old m → IsAsAtEntry old m
+unchanged : (old : World) (m : Moment) → ChangesFile (Manager 0) Stays old m → IsAsAtEntry old m
 unchanged old m changes = record { quiet = changes.output; images = images }
   where
     images : (image : Image) → IsImage m.disk image → IsImage old.disk image
-    images image is file = elim (cases_file manager file) [
+    images image is file = elim (cases_file (Manager 0) file) [
       | inl same ↦
-          let crash = changes.crash (image manager) (is manager) in
-          let left : MayLeave (old.disk manager) (image manager) = subst (λ (d : List ℕ). MayLeave (old.disk manager) d) (sym crash.2) crash.1 in
+          let crash = changes.crash (image (Manager 0)) (is (Manager 0)) in
+          let left : MayLeave (old.disk (Manager 0)) (image (Manager 0)) = subst (λ (d : List ℕ). MayLeave (old.disk (Manager 0)) d) (sym crash.2) crash.1 in
           subst (λ (f : FileId). MayLeave (old.disk f) (image f)) same left
       | inr other ↦ subst (λ (s : FileState). MayLeave s (image file)) (changes.others file (λ e. other (sym e))) (is file)
     ]
 
-pub asked_untouched : (old new : World) → RunsOnFile manager Stays 1 old new → IsUntouched old new
+pub asked_untouched : (old new : World) → RunsOnFile (Manager 0) Stays 1 old new → IsUntouched old new
 asked_untouched old new run = record {
-  moments = weaker (ChangesFile manager Stays old) (IsAsAtEntry old) (unchanged old) run.moments;
+  moments = weaker (ChangesFile (Manager 0) Stays old) (IsAsAtEntry old) (unchanged old) run.moments;
   now = unchanged old (moment_of new) run.now;
   seen = seen;
 }
   where
     seen : (file : FileId) → (new.disk file).seen ≡ (old.disk file).seen
-    seen file = elim (cases_file manager file) [
+    seen file = elim (cases_file (Manager 0) file) [
       | inl same ↦ subst (λ (f : FileId). (new.disk f).seen ≡ (old.disk f).seen) same run.seen
       | inr other ↦ ap (λ (s : FileState). s.seen) (run.now.others file (λ e. other (sym e)))
     ]
@@ -61,13 +60,13 @@ pub unopened_promised : (m : Manner) (r : Observed) → r.manner ≡ m → IsUno
 unopened_promised m r is u = record { manner = is; answers = inl u; over_whole = λ p checked whole. inl u }
 
 -- so does one whose opening answered a fault
-pub refused_promised : (m : Manner) (old new : World) (before after : Channel → ℕ) (e : OpenFault) (status : Status) → status_ending status ≡ ending_of e → RunsOnFile manager Stays 1 old new
-    → IsRefusedBy (seen_in old.disk) (opened_as live_slot (seen_in old.disk)) (ending_of e) → OpenFaulted e before after → Promises m (observed_run m old new before after status)
+pub refused_promised : (m : Manner) (old new : World) (before after : Channel → ℕ) (e : OpenFault) (status : Status) → status_ending status ≡ ending_of e → RunsOnFile (Manager 0) Stays 1 old new
+    → IsRefusedBy (seen_in old.disk) (opened_as (seen_in old.disk)) (ending_of e) → OpenFaulted e before after → Promises m (observed_run m old new before after status)
 refused_promised m old new before after e status is run refused faulted = unopened_promised m (observed_run m old new before after status) refl (record {
   untouched = asked_untouched old new run;
   unread = run.input;
   syncs = run.syncs;
-  refused = subst (λ (x : Ending). IsRefusedBy (seen_in old.disk) (opened_as live_slot (seen_in old.disk)) x) (sym is) refused;
+  refused = subst (λ (x : Ending). IsRefusedBy (seen_in old.disk) (opened_as (seen_in old.disk)) x) (sym is) refused;
   failed = subst (λ (x : Ending). HasFailedAs x before after) (sym is) (open_failed before after e faulted);
 })
 
@@ -113,12 +112,12 @@ starved_unmade m asked w counts = record {
 -- ---- any command
 
 -- a folder that wasn't opened, whatever the call was to do
-pub refused_unopened : (m : Manner) (asked : List (List ℕ)) (old new : World) (before after : Channel → ℕ) (e : OpenFault) (status : Status) → status_ending status ≡ ending_of e → RunsOnFile manager Stays 1 old new
-    → IsRefusedBy (seen_in old.disk) (opened_as live_slot (seen_in old.disk)) (ending_of e) → OpenFaulted e before after → IsUnopened (observed_call m asked old new before after status)
+pub refused_unopened : (m : Manner) (asked : List (List ℕ)) (old new : World) (before after : Channel → ℕ) (e : OpenFault) (status : Status) → status_ending status ≡ ending_of e → RunsOnFile (Manager 0) Stays 1 old new
+    → IsRefusedBy (seen_in old.disk) (opened_as (seen_in old.disk)) (ending_of e) → OpenFaulted e before after → IsUnopened (observed_call m asked old new before after status)
 refused_unopened m asked old new before after e status is run refused faulted = record {
   untouched = asked_untouched old new run;
   unread = run.input;
   syncs = run.syncs;
-  refused = subst (λ (x : Ending). IsRefusedBy (seen_in old.disk) (opened_as live_slot (seen_in old.disk)) x) (sym is) refused;
+  refused = subst (λ (x : Ending). IsRefusedBy (seen_in old.disk) (opened_as (seen_in old.disk)) x) (sym is) refused;
   failed = subst (λ (x : Ending). HasFailedAs x before after) (sym is) (open_failed before after e faulted);
 }

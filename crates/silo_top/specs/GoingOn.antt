@@ -50,21 +50,21 @@ lines_over s input = input_lines (program_tree s.checked) input
 abbrev pub KeepsOn : Bool → Started → List ℕ → (Channel → ℕ) → World → (Channel → ℕ) → World → Type 0
 KeepsOn tells s input before old counts now =
     (m : Manner) (settler' : Settler) (after : Channel → ℕ) (new : World) (result : Result Core RunFault) (status : Status)
-    → WasCarried tells s (lines_over s input) counts now m settler' after new result → ReadsMayStay new → length input ≤ input_limit → status_ending status ≡ turns_ending result
+    → WasCarried tells s (lines_over s input) counts now m settler' after new result → ReadsMayStay new → length input ≤ input_limit → status_ending status ≡ turns_ending s.slot result
     → Promises m (shown old new before after status (Run m))
 
 -- over any host, what it answers is right
 abbrev pub AnswersOn : Bool → Started → List ℕ → (Channel → ℕ) → (Channel → ℕ) → World → Type 0
 AnswersOn tells s input before counts now =
     (m : Manner) (settler' : Settler) (after : Channel → ℕ) (new : World) (result : Result Core RunFault)
-    → WasCarried tells s (lines_over s input) counts now m settler' after new result → AnswersRun (turns_ending result) before after
+    → WasCarried tells s (lines_over s input) counts now m settler' after new result → AnswersRun (turns_ending s.slot result) before after
 
 -- ---- a load
 
--- how it ends behind its lines: by the fault that ended them, or by its summary
-abbrev pub LoadCounts : Result Core RunFault → Status → (Channel → ℕ) → (Channel → ℕ) → Type 0
-LoadCounts (Ok core) status after final = HasFailedAs (status_ending status) after final × MaySaySummary (status_ending status)
-LoadCounts (Err fault) status after final = (status_ending status ≡ load_ending fault) × (final ≡ after)
+-- how a load in this slot ends behind its lines: by the fault that ended them, or by its summary
+abbrev pub LoadCounts : ℕ → Result Core RunFault → Status → (Channel → ℕ) → (Channel → ℕ) → Type 0
+LoadCounts live (Ok core) status after final = HasFailedAs (status_ending status) after final × MaySaySummary (status_ending status)
+LoadCounts live (Err fault) status after final = (status_ending status ≡ load_ending live fault) × (final ≡ after)
 
 -- what it says: nothing, or its summary of so many requests
 abbrev pub LoadSays : Result Core RunFault → ℕ → Status → World → World → Type 0
@@ -76,11 +76,11 @@ LoadSays (Err fault) requests status new last = last ≡ new
 abbrev pub LoadsOn : ℕ → ℕ → Bool → Started → List Line → (Channel → ℕ) → World → (Channel → ℕ) → World → Type 0
 LoadsOn n seed tells s lines before old counts now =
     (m : Manner) (settler' : Settler) (after : Channel → ℕ) (new : World) (result : Result Core RunFault) (requests : ℕ) (status : Status) (final : Channel → ℕ) (last : World)
-    → WasCarried tells s lines counts now m settler' after new result → ReadsMayStay new → LoadCounts result status after final → LoadSays result requests status new last
+    → WasCarried tells s lines counts now m settler' after new result → ReadsMayStay new → LoadCounts s.slot result status after final → LoadSays result requests status new last
     → requests ≡ length lines → Loads n seed m (shown old last before final status (Load n seed m))
 
 -- over any host, what it answers is right
 abbrev pub LoadAnswersOn : Bool → Started → List Line → (Channel → ℕ) → (Channel → ℕ) → World → Type 0
 LoadAnswersOn tells s lines before counts now =
     (m : Manner) (settler' : Settler) (after : Channel → ℕ) (new : World) (result : Result Core RunFault) (status : Status) (final : Channel → ℕ)
-    → WasCarried tells s lines counts now m settler' after new result → LoadCounts result status after final → AnswersRun (status_ending status) before final
+    → WasCarried tells s lines counts now m settler' after new result → LoadCounts s.slot result status after final → AnswersRun (status_ending status) before final

@@ -3,7 +3,7 @@ use Rattle.std.specs.Prelude.{◌≡◌, ◌⊎◌, ◌+◌, ◌≤◌, ℕ, Lis
 use Rattle.base_types.specs.Stores.{end_in}
 use Rattle.base_types.specs.declared.calls.GrainId.{GrainId}
 use Rattle.core_model.specs.CoreState.{Member}
-use Rattle.host_trait.specs.declared.channels.FileId.TheVariants.{Grain}
+use Rattle.host_trait.specs.declared.channels.FileId.TheVariants.{Manager, Grain}
 use Rattle.gate_block.specs.Gates.{IsClosedAt}
 use Rattle.silo_opening.specs.declared.faults.CreateFault.{CreateFault}
 use Rattle.silo_opening.specs.declared.open.Opened.{Opened}
@@ -57,11 +57,11 @@ pub record SaysSummary (text : List ℕ) (e : ending.Ending) (old new : World) :
   pub past : new.past ≡ old.past ++ told
   pub left : (m : Moment) → Member m told → m.disk ≡ old.disk
 
--- how a load ends whose turns ended by this fault: a quiet settler's don't end by the output
-abbrev pub load_ending : RunFault → ending.Ending
-load_ending InDoubt = ending.DiskFault manager
-load_ending WriteFault = ending.Memory
-load_ending Memory = ending.Memory
+-- how a load in this slot ends whose turns ended by this fault: a quiet settler's don't end by the output
+abbrev pub load_ending : ℕ → RunFault → ending.Ending
+load_ending live InDoubt = ending.DiskFault (Manager live)
+load_ending live WriteFault = ending.Memory
+load_ending live Memory = ending.Memory
 
 -- how it ends where its silo wasn't made
 abbrev pub creation_ending : CreateFault → ending.Ending
@@ -70,5 +70,5 @@ creation_ending (CreateFault.DiskFault file) = ending.DiskFault file
 
 -- the ends that were opened lie in the files, and the gate is closed there
 pub record LiesWithin (image : Image) (o : Opened) : Type 0 where
-  pub within : (grain : GrainId) (end : ℕ) → end_in o.ends grain ≡ Some end → end ≤ length (image (Grain 0 grain))
-  pub closed : IsClosedAt o.gate_at (image manager)
+  pub within : (grain : GrainId) (end : ℕ) → end_in o.ends grain ≡ Some end → end ≤ length (image (Grain o.slot grain))
+  pub closed : IsClosedAt o.gate_at (image (Manager o.slot))

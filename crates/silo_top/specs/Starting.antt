@@ -10,10 +10,11 @@ use Rattle.batch_disk.specs.Writers.{file_end, kept_of}
 use Rattle.silo_opening.specs.declared.open.Opened.{Opened}
 use Rattle.silo_top.specs.declared.starting.Started.{Started}
 
--- The program is the opened silo's. The core has no events; its units are numbered from the next one on, and its grains are those of
+-- The program and the slot are the opened silo's. The core has no events; its units are numbered from the next one on, and its grains are those of
 -- the store. The settler goes on at the log's gate and at the ends that the log names, and has written no replies.
 pub record IsStartOf (o : Opened) (s : Started) : Type 0 where
   pub checked : s.checked ≡ o.checked
+  pub slot : s.slot ≡ o.slot
   pub run : run_of s.core ≡ record {
     base = o.next_unit.0;
     kinds = length (type_shapes (program_tree o.checked));
@@ -21,6 +22,7 @@ pub record IsStartOf (o : Opened) (s : Started) : Type 0 where
     opening = opening_state (record { types = type_shapes (program_tree o.checked) }) o.store;
     events = [];
   }
+  pub settles : s.settler.writer.slot ≡ o.slot
   pub gate : s.settler.writer.gate_at ≡ o.gate_at
   pub ends : (g : GrainId) → file_end s.settler.writer g ≡ unwrap_or (end_in o.ends g) 0
   pub kept : kept_of s.settler.writer ≡ []

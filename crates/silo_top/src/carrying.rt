@@ -27,27 +27,26 @@ use std::alloc::{AllocError, Global};
 use std::sync::Wait;
 use std::thread::Threads;
 
-/// The file of the log.
-pub(crate) const MANAGER: FileId = FileId::Manager { slot: 0 };
-
-/// The status of a run whose turns ended before each line had its reply.
-fn fault_status(fault: RunFault) -> Status
-    ensures { status_ending result ≡ ending_by_turns fault }
+/// The status of a run in this slot whose turns ended before each line had its reply.
+fn fault_status(slot: u8, fault: RunFault) -> Status
+    ensures { status_ending result ≡ ending_by_turns slot fault }
 {
     match fault {
-        RunFault::InDoubt => Status::DiskFault { file: MANAGER },
+        RunFault::InDoubt => Status::DiskFault {
+            file: FileId::Manager { slot },
+        },
         RunFault::WriteFault => Status::WriteFault,
         RunFault::Memory => Status::Memory,
     }
 }
 
-/// The status of a run whose lines were carried so.
-fn turns_status(ended: Result<Core, RunFault>) -> Status
-    ensures { status_ending result ≡ turns_ending ended }
+/// The status of a run in this slot whose lines were carried so.
+fn turns_status(slot: u8, ended: Result<Core, RunFault>) -> Status
+    ensures { status_ending result ≡ turns_ending slot ended }
 {
     match ended {
         Ok(_core) => Status::Done,
-        Err(fault) => fault_status(fault),
+        Err(fault) => fault_status(slot, fault),
     }
 }
 
@@ -126,12 +125,13 @@ pub(crate) fn run_in_turns<H: Host, G: Gate>(
         Err(status) => return status,
     };
     let Started {
+        slot,
         checked,
         core,
         mut settler,
     } = started;
     let lines = InputLines::new(&checked, input.as_slice());
-    turns_status(carry_in_turns(
+    let ended = carry_in_turns(
         alloc,
         &checked,
         core,
@@ -141,7 +141,8 @@ pub(crate) fn run_in_turns<H: Host, G: Gate>(
         gate,
         width,
         picks,
-    ))
+    );
+    turns_status(slot, ended)
 }
 
 /// Opens the silo, and carries the lines of the input by so many workers.
@@ -162,12 +163,13 @@ pub(crate) fn run_by_workers<R: Threads + Wait + Sync, H: Host, G: Gate + Sync>(
         Err(status) => return status,
     };
     let Started {
+        slot,
         checked,
         core,
         mut settler,
     } = started;
     let lines = InputLines::new(&checked, input.as_slice());
-    turns_status(carry_by_workers(
+    let ended = carry_by_workers(
         rt,
         alloc,
         &checked,
@@ -177,5 +179,6 @@ pub(crate) fn run_by_workers<R: Threads + Wait + Sync, H: Host, G: Gate + Sync>(
         host,
         gate,
         workers,
-    ))
+    );
+    turns_status(slot, ended)
 }

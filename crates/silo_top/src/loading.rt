@@ -14,13 +14,13 @@ ghost use Rattle.silo_top.specs.Loading.{creation_ending, load_ending, SaysSumma
 ghost use Rattle.silo_top.specs.Statuses.{status_ending};
 
 use crate::carriage::{carry_by_workers, carry_in_turns};
-use crate::carrying::{MANAGER, open_status};
+use crate::carrying::open_status;
 use crate::starting::{Started, start};
 use crate::status::Status;
 use bank_load::{bank_text, load_lines, load_summary, total_balance};
 use base_types::List;
 use history_core::Core;
-use host_trait::{Failed, Host};
+use host_trait::{Failed, FileId, Host};
 use interleaver::RunFault;
 use program_file::accept;
 use request_wire::Line;
@@ -49,12 +49,14 @@ fn print_summary<H: Host>(alloc: Global, core: &Core, requests: usize, host: &mu
     }
 }
 
-/// The status of a load whose turns ended so. A quiet settler writes nothing, so that its turns don't end by the output.
-fn load_status(fault: RunFault) -> Status
-    ensures { status_ending result ≡ load_ending fault }
+/// The status of a load in this slot whose turns ended so. A quiet settler writes nothing, so that its turns don't end by the output.
+fn load_status(slot: u8, fault: RunFault) -> Status
+    ensures { status_ending result ≡ load_ending slot fault }
 {
     match fault {
-        RunFault::InDoubt => Status::DiskFault { file: MANAGER },
+        RunFault::InDoubt => Status::DiskFault {
+            file: FileId::Manager { slot },
+        },
         RunFault::WriteFault => Status::Memory,
         RunFault::Memory => Status::Memory,
     }
@@ -73,17 +75,18 @@ fn creation_status(fault: CreateFault) -> Status
 /// Prints the summary of a load whose lines are all carried, or names the fault that ended them.
 fn end_load<H: Host>(
     alloc: Global,
+    slot: u8,
     ended: Result<Core, RunFault>,
     requests: usize,
     host: &mut H,
 ) -> Status
-    ensures counts { LoadCounts ended result (H.faults host.old) (H.faults host.new) }
+    ensures counts { LoadCounts slot ended result (H.faults host.old) (H.faults host.new) }
     ensures says { IsTrue H.tells → LoadSays ended requests result (H.world host.old) (H.world host.new) }
     ensures ready { StaysReady (H.is_ready host.old) (H.is_ready host.new) }
 {
     match ended {
         Ok(core) => print_summary(alloc, &core, requests, host),
-        Err(fault) => load_status(fault),
+        Err(fault) => load_status(slot, fault),
     }
 }
 
@@ -122,6 +125,7 @@ fn begin_load<H: Host>(
     }
     let opened = match open_silo(alloc, host) {
         Ok(opened) => Opened {
+            slot: opened.slot,
             checked: bank,
             count: opened.count,
             store: opened.store,
@@ -163,6 +167,7 @@ pub(crate) fn load_in_turns<H: Host, G: Gate>(
     };
     let requests = lines.len();
     let Started {
+        slot,
         checked,
         core,
         mut settler,
@@ -179,7 +184,7 @@ pub(crate) fn load_in_turns<H: Host, G: Gate>(
         width,
         picks,
     );
-    end_load(alloc, ended, requests, host)
+    end_load(alloc, slot, ended, requests, host)
 }
 
 /// Makes a silo of the bank program, and carries the lines of a load in it by so many workers.
@@ -204,6 +209,7 @@ pub(crate) fn load_by_workers<R: Threads + Wait + Sync, H: Host, G: Gate + Sync>
     };
     let requests = lines.len();
     let Started {
+        slot,
         checked,
         core,
         mut settler,
@@ -220,5 +226,5 @@ pub(crate) fn load_by_workers<R: Threads + Wait + Sync, H: Host, G: Gate + Sync>
         gate,
         workers,
     );
-    end_load(alloc, ended, requests, host)
+    end_load(alloc, slot, ended, requests, host)
 }

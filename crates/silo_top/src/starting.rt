@@ -9,9 +9,10 @@ use settle_loop::Settler;
 use silo_opening::Opened;
 use std::alloc::{AllocError, Global};
 
-/// What carries the lines of a run: the program, a core without events, and a settler at the end of the log.
+/// What carries the lines of a run: the slot of its files, the program, a core without events, and a settler at the end of the log.
 #[derive(Drop)]
 pub(crate) struct Started {
+    pub(crate) slot: u8,
     pub(crate) checked: Checked,
     pub(crate) core: Core,
     pub(crate) settler: Settler,
@@ -19,6 +20,7 @@ pub(crate) struct Started {
 
 /// A core and a settler of an opened silo. A quiet settler writes no replies.
 pub(crate) fn start(alloc: Global, opened: Opened, quiet: bool) -> Result<Started, AllocError>
+    requires slot { opened.slot ≤ 1 }
     requires gate { opened.gate_at < 2 ^ 63 }
     requires above { 0 < opened.next_unit.0 }
     requires few { opened.next_unit.0 ≤ 2 ^ 63 }
@@ -36,8 +38,9 @@ pub(crate) fn start(alloc: Global, opened: Opened, quiet: bool) -> Result<Starte
             next_unit: opened.next_unit,
         },
     );
-    let settler = Settler::new(alloc, opened.gate_at, opened.ends, quiet)?;
+    let settler = Settler::new(alloc, opened.slot, opened.gate_at, opened.ends, quiet)?;
     Ok(Started {
+        slot: opened.slot,
         checked: opened.checked,
         core,
         settler,

@@ -150,7 +150,7 @@ pub fn run_with_workers<R: Threads + Wait + Sync, H: Host, G: Gate + Sync, L: Li
         Ok(shape) => shape,
         Err(AllocError) => return (Some(core), Err(RunFault::Memory)),
     };
-    let blank = match Settler::new(alloc, 0, Ends::new(alloc), true) {
+    let blank = match Settler::new(alloc, 0, 0, Ends::new(alloc), true) {
         Ok(blank) => blank,
         Err(AllocError) => return (Some(core), Err(RunFault::Memory)),
     };

@@ -1,11 +1,14 @@
 use Rattle.std.proofs.Common.{◌≡◌, ℕ, List, Ok, sym, ◌∙◌, ap, subst}
 use Rattle.base_types.specs.declared.shapes.Shape.{Shape}
 use Rattle.host_trait.specs.declared.channels.Channel.{Channel}
+use Rattle.host_trait.specs.Disk.{settled}
 use Rattle.host_trait.specs.World.{Disk, Image}
 use Rattle.host_trait.proofs.Counts.{none_then}
 use Rattle.log_reading.specs.Blocks.{records_in_file}
-use Rattle.log_reading.specs.Steps.{manager, seen_in}
+use Rattle.host_trait.specs.declared.channels.FileId.TheVariants.{Manager}
+use Rattle.log_reading.specs.Steps.{seen_in}
 use Rattle.script_tree.specs.Programs.{program_tree}
+use Rattle.silo_spec.specs.Slots.{IsLive}
 use Rattle.silo_opening.specs.Counts.{OpenFaulted}
 use Rattle.silo_opening.specs.Opened.{ending_of}
 use Rattle.silo_opening.specs.declared.faults.OpenFault.{OpenFault}
@@ -13,9 +16,10 @@ use Rattle.silo_opening.proofs.Opening.{seen_same}
 use Rattle.silo_opening.proofs.Runs.{run_only_asked}
 use Rattle.promise_spec.specs.Programs.{shape_in}
 use Rattle.promise_spec.specs.Records.{Commit, log_start}
-use Rattle.promise_spec.specs.Logs.{live_slot}
+use Rattle.promise_spec.specs.Logs.{magic}
 use Rattle.promise_spec.specs.Openings.{opened_as}
 use Rattle.promise_spec.specs.Refusals.{IsRefusedBy}
+use Rattle.promise_spec.proofs.Openings.{reads_is_live}
 use Rattle.log_audit.specs.Endings.{program_opened}
 use Rattle.log_audit.specs.Replaying.{as_commits, IsFirstFailure}
 use Rattle.log_audit.specs.Unread.{IsRereadFault}
@@ -33,12 +37,13 @@ returns-in-Ok-replay_log-clause-audited g c told =
     let image = seen_in old.disk in
     let o = c.in-Ok.ensures.opened told in
     let p = program_opened image opened o in
-    let same : seen_in mid.disk ≡ image = seen_same old mid (c.open_silo.ensures.run told) in
+    let same : seen_in mid.disk ≡ image = seen_same _ old mid (c.open_silo.ensures.run told) in
     let shape : c.in-Ok-shape.shape ≡ shape_in p = (λ i. record { types = c.in-Ok-shape.ensures i }) in
     let whole = parts image opened o in
-    let read : records_in_file c.in-Ok-shape.shape ((mid.disk manager).seen) ≡ Ok whole.records = (λ i. records_in_file (shape i) (same i manager)) ∙ whole.read in
-    let log : as_commits c.in-Ok-shape.shape (seen_in mid.disk) whole.records ≡ o.log = (λ i. as_commits (shape i) (same i) whole.records) ∙ whole.commits in
+    let read : records_in_file c.in-Ok-shape.shape ((mid.disk (Manager opened.slot)).seen) ≡ Ok whole.records = (λ i. records_in_file (shape i) (same i (Manager opened.slot))) ∙ whole.read in
+    let log : as_commits opened.slot c.in-Ok-shape.shape (seen_in mid.disk) whole.records ≡ o.log = (λ i. as_commits opened.slot (shape i) (same i) whole.records) ∙ whole.commits in
     record {
+      live = opened.slot;
       program = p;
       log = o.log;
       reads = o.reads;
@@ -47,7 +52,14 @@ returns-in-Ok-replay_log-clause-audited g c told =
     }
 
 pub returns-in-Ok-replay_log-clause-settled : goal.returns-in-Ok-replay_log-clause-settled
-returns-in-Ok-replay_log-clause-settled g c told = ap (λ (d : Disk). d manager) (c.replay_log.ensures.asked told).disk ∙ c.in-Ok.ensures.settled told
+returns-in-Ok-replay_log-clause-settled g c told live is =
+    let old = g.H.Host.world c.args.host.now in
+    let new = g.H.Host.world c.replay_log.new.host in
+    let opened = c.in-Ok.opened in
+    let o = c.in-Ok.ensures.opened told in
+    let read : IsLive magic opened.slot (seen_in old.disk) = reads_is_live (seen_in old.disk) opened.slot (program_opened (seen_in old.disk) opened o) o.log o.reads in
+    let here : new.disk (Manager opened.slot) ≡ settled (old.disk (Manager opened.slot)).seen = ap (λ (d : Disk). d (Manager opened.slot)) (c.replay_log.ensures.asked told).disk ∙ c.in-Ok.ensures.settled told in
+    subst (λ (slot : ℕ). new.disk (Manager slot) ≡ settled (old.disk (Manager slot)).seen) (read.slot ∙ sym is.slot) here
 
 pub returns-in-Ok-replay_log-clause-calm : goal.returns-in-Ok-replay_log-clause-calm
 returns-in-Ok-replay_log-clause-calm g c = none_then _ _ _ c.in-Ok.ensures.calm c.in-Ok-replay_log.ensures.calm
@@ -66,14 +78,14 @@ returns-clause-refused g c told =
     let image = seen_in old.disk in
     let o = c.in-Ok.ensures.opened told in
     let p = program_opened image opened o in
-    let same : seen_in mid.disk ≡ image = seen_same old mid (c.open_silo.ensures.run told) in
+    let same : seen_in mid.disk ≡ image = seen_same _ old mid (c.open_silo.ensures.run told) in
     let shape : c.in-Ok-shape.shape ≡ shape_in p = (λ i. record { types = c.in-Ok-shape.ensures i }) in
     let whole = parts image opened o in
-    let read : records_in_file c.in-Ok-shape.shape ((mid.disk manager).seen) ≡ Ok whole.records = (λ i. records_in_file (shape i) (same i manager)) ∙ whole.read in
+    let read : records_in_file c.in-Ok-shape.shape ((mid.disk (Manager opened.slot)).seen) ≡ Ok whole.records = (λ i. records_in_file (shape i) (same i (Manager opened.slot))) ∙ whole.read in
     let fault = c.in-Err-replay_log.fault in
-    let again : IsRereadFault (shape_in p) image whole.records fault = subst (λ (im : Image). IsRereadFault (shape_in p) im whole.records fault) same
-    (subst (λ (s : Shape). IsRereadFault s (seen_in mid.disk) whole.records fault) shape (c.in-Err-replay_log.ensures.unread told whole.records read)) in
-    subst (λ (e : OpenFault). IsRefusedBy image (opened_as live_slot image) (ending_of e)) (sym c.not_read.ensures) (refused_again image p o.log whole o.reads fault again)
+    let again : IsRereadFault opened.slot (shape_in p) image whole.records fault = subst (λ (im : Image). IsRereadFault opened.slot (shape_in p) im whole.records fault) same
+    (subst (λ (s : Shape). IsRereadFault opened.slot s (seen_in mid.disk) whole.records fault) shape (c.in-Err-replay_log.ensures.unread told whole.records read)) in
+    subst (λ (e : OpenFault). IsRefusedBy image (opened_as image) (ending_of e)) (sym c.not_read.ensures) (refused_again image opened.slot p o.log whole o.reads fault again)
 
 pub returns-clause-fault : goal.returns-clause-fault
 returns-clause-fault g c =

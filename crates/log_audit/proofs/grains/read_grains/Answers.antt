@@ -4,7 +4,8 @@ use Rattle.host_trait.specs.World.{Disk}
 use Rattle.host_trait.proofs.Runs.{asked_then}
 use Rattle.host_trait.proofs.Counts.{none_then}
 use Rattle.commit_log.specs.declared.records.CommitRecord.{CommitRecord}
-use Rattle.log_reading.specs.Steps.{manager, next_in}
+use Rattle.host_trait.specs.declared.channels.FileId.TheVariants.{Manager}
+use Rattle.log_reading.specs.Steps.{next_in}
 use Rattle.log_reading.proofs.Following.{follows_breaks}
 use Rattle.log_audit.specs.Written.{grains_recorded, grains_added}
 use Rattle.log_audit.proofs.Gathering.{clean_of, grains_begun, grains_more, grains_ended, log_fault}
@@ -13,7 +14,7 @@ use Rattle.log_audit.proofs.grains.read_grains.Goals as goal
 pub loop-grains-init : goal.loop-grains-init
 loop-grains-init g c = record {
   bound = omega arith;
-  has = λ told. grains_begun c.args.shape.now ((g.H.Host.world c.args.host.now).disk manager).seen _ c.new-grains.ensures.empty;
+  has = λ told. grains_begun c.args.shape.now ((g.H.Host.world c.args.host.now).disk (Manager c.args.slot)).seen _ c.new-grains.ensures.empty;
   asked = search rules;
   calm = λ channel. refl;
   ready = λ file was. was;
@@ -25,12 +26,12 @@ returns-in_err-records-clause-unread g c =
     let inv = c.loop-grains.invariant in
     let shape = c.args.shape.now in
     let gate = c.loop-grains.gate_at in
-    let file = ((g.H.Host.world c.args.host.now).disk manager).seen in
+    let file = ((g.H.Host.world c.args.host.now).disk (Manager c.args.slot)).seen in
     rw (p.1, p.2) λ told records read.
-    log_fault shape file c.in_err-records.field-0.0
+    log_fault shape file c.args.slot c.in_err-records.field-0.0
     (λ at place is.
     let here = c.in_err-records.ensures.damaged at place is told in
-    let there : next_in shape gate file ≡ Err place = subst (λ (d : Disk). next_in shape gate (d manager).seen ≡ Err place) (inv.asked told).disk here in
+    let there : next_in shape gate file ≡ Err place = subst (λ (d : Disk). next_in shape gate (d (Manager c.args.slot)).seen ≡ Err place) (inv.asked told).disk here in
     follows_breaks shape file (inv.has told).records gate ((inv.has told).follows (clean_of shape file records read)) place there)
     (λ at is. c.in_err-records.ensures.failed at is)
 
@@ -47,13 +48,13 @@ loop-grains-preserved g c =
     let gate = c.loop-grains.gate_at in
     let more = c.in-Some.records in
     let behind = c.in-Some.behind in
-    let file = ((g.H.Host.world c.args.host.now).disk manager).seen in
+    let file = ((g.H.Host.world c.args.host.now).disk (Manager c.args.slot)).seen in
     let far : (gate + 5 + length more ≤ behind) × (behind < 2 ^ 63) = search rules in
     record {
       bound = far.1;
       has = λ told.
-          let here : next_in shape gate ((g.H.Host.world c.loop-grains.host).disk manager).seen ≡ Ok (Some (more, behind)) = search rules in
-          let there : next_in shape gate file ≡ Ok (Some (more, behind)) = subst (λ (d : Disk). next_in shape gate (d manager).seen ≡ Ok (Some (more, behind))) (inv.asked told).disk here in
+          let here : next_in shape gate ((g.H.Host.world c.loop-grains.host).disk (Manager c.args.slot)).seen ≡ Ok (Some (more, behind)) = search rules in
+          let there : next_in shape gate file ≡ Ok (Some (more, behind)) = subst (λ (d : Disk). next_in shape gate (d (Manager c.args.slot)).seen ≡ Ok (Some (more, behind))) (inv.asked told).disk here in
           grains_more shape file gate c.loop-grains.grains.keys (inv.has told) more behind _
           (c.in_ok-add_grains.ensures ∙ ap (λ (l : List CommitRecord). grains_added c.loop-grains.grains.keys (grains_recorded l)) c.as_slice.ensures) there;
       asked = λ told. asked_then _ _ _ (inv.asked told) (c.next_block.ensures.asked told);
@@ -66,9 +67,9 @@ returns-clause-found g c told records is =
     let inv = c.loop-grains.invariant in
     let shape = c.args.shape.now in
     let gate = c.loop-grains.gate_at in
-    let file = ((g.H.Host.world c.args.host.now).disk manager).seen in
-    let here : next_in shape gate ((g.H.Host.world c.loop-grains.host).disk manager).seen ≡ Ok None = search rules in
-    let there : next_in shape gate file ≡ Ok None = subst (λ (d : Disk). next_in shape gate (d manager).seen ≡ Ok None) (inv.asked told).disk here in
+    let file = ((g.H.Host.world c.args.host.now).disk (Manager c.args.slot)).seen in
+    let here : next_in shape gate ((g.H.Host.world c.loop-grains.host).disk (Manager c.args.slot)).seen ≡ Ok None = search rules in
+    let there : next_in shape gate file ≡ Ok None = subst (λ (d : Disk). next_in shape gate (d (Manager c.args.slot)).seen ≡ Ok None) (inv.asked told).disk here in
     grains_ended shape file gate c.loop-grains.grains.keys (inv.has told) there records is
 
 pub returns-clause-asked : goal.returns-clause-asked

@@ -2,14 +2,14 @@ use Rattle.std.proofs.Common.{◌-◌, ◌^◌, ◌<◌, IsTrue}
 use Rattle.host_trait.specs.Files.{StaysReady}
 use Rattle.host_trait.specs.Runs.{OnlyAsked}
 use Rattle.host_trait.specs.Faults.{NoneFailed}
-use Rattle.log_reading.specs.Steps.{manager}
+use Rattle.host_trait.specs.declared.channels.FileId.TheVariants.{Manager}
 use Rattle.log_audit.proofs.Gathering.{HasGrains}
 use Rattle.log_audit.proofs.grains.read_grains.Given as goal
 
 abbrev pub invariant-loop-grains : goal.invariant-loop-grains
 invariant-loop-grains g l = record {
   bound : l.gate_at < 2 ^ 63;
-  has : IsTrue g.H.Host.tells → HasGrains l.shape ((g.H.Host.world l.fn.host).disk manager).seen l.gate_at l.grains.keys;
+  has : IsTrue g.H.Host.tells → HasGrains l.shape ((g.H.Host.world l.fn.host).disk (Manager l.slot)).seen l.gate_at l.grains.keys;
   asked : IsTrue g.H.Host.tells → OnlyAsked (g.H.Host.world l.fn.host) (g.H.Host.world l.host);
   calm : NoneFailed (g.H.Host.faults l.fn.host) (g.H.Host.faults l.host);
   ready : StaysReady (g.H.Host.is_ready l.fn.host) (g.H.Host.is_ready l.host);

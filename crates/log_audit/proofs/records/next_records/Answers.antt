@@ -1,5 +1,5 @@
 use Rattle.std.proofs.Common.{sym, subst}
-use Rattle.log_reading.specs.Steps.{manager}
+use Rattle.host_trait.specs.declared.channels.FileId.TheVariants.{Manager}
 use Rattle.promise_spec.specs.Endings.{HasFailedAs}
 use Rattle.log_audit.specs.declared.faults.ReportFault.{ReportFault}
 use Rattle.log_audit.specs.Endings.{fault_ending}
@@ -10,7 +10,7 @@ use Rattle.log_audit.proofs.records.next_records.Goals as goal
 pub returns-in-Err-clause-unread : goal.returns-in-Err-clause-unread
 returns-in-Err-clause-unread g c told =
     let shape = c.args.shape.now in
-    let file = ((g.H.Host.world c.args.host.now).disk manager).seen in
+    let file = ((g.H.Host.world c.args.host.now).disk (Manager c.args.slot)).seen in
     subst (λ (e : ReportFault). IsBlockFault shape c.args.gate_at file e) (sym c.unread.ensures)
     (block_fault shape file c.args.gate_at c.in-Err.fault (λ at place is. c.in-Err.ensures.damaged at place is told))
 

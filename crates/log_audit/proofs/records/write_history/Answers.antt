@@ -3,7 +3,8 @@ use Rattle.std.specs.Prelude.{is_ok}
 use Rattle.std.proofs.lemmas.Result.{err_from_is_err_and}
 use Rattle.base_types.specs.declared.shapes.Shape.{Shape}
 use Rattle.log_reading.specs.Blocks.{records_in_file}
-use Rattle.log_reading.specs.Steps.{manager, seen_in}
+use Rattle.host_trait.specs.declared.channels.FileId.TheVariants.{Manager}
+use Rattle.log_reading.specs.Steps.{seen_in}
 use Rattle.script_tree.specs.Programs.{program_tree}
 use Rattle.promise_spec.specs.Programs.{shape_in}
 use Rattle.log_audit.specs.Lines.{record_lines}
@@ -26,7 +27,7 @@ returns-clause-puts g c told o =
     let program = program_opened image opened o in
     let shape : c.in_ok-shape.shape ≡ shape_in program = (λ i. record { types = c.in_ok-shape.ensures i }) in
     let records = (parts image opened o).records in
-    let read : records_in_file c.in_ok-shape.shape (image manager) ≡ Ok records = subst (λ (s : Shape). records_in_file s (image manager) ≡ Ok records) (sym shape) (parts image opened o).read in
+    let read : records_in_file c.in_ok-shape.shape (image (Manager opened.slot)) ≡ Ok records = subst (λ (s : Shape). records_in_file s (image (Manager opened.slot)) ≡ Ok records) (sym shape) (parts image opened o).read in
     let text : record_lines c.in_ok-shape.shape types records ≡ record_lines (shape_in program) types records = ap (λ (s : Shape). record_lines s types records) shape in
     subst (λ (l : List ℕ). PutsPart l (is_ok c.write_log.result) (g.H.Host.world c.args.host.now) (g.H.Host.world c.write_log.new.host)) (text ∙ sym (history_opened image opened o)) (c.write_log.ensures.puts told records read)
 
@@ -37,5 +38,5 @@ returns-clause-ended g c told o =
     let program = program_opened image opened o in
     let shape : c.in_ok-shape.shape ≡ shape_in program = (λ i. record { types = c.in_ok-shape.ensures i }) in
     let records = (parts image opened o).records in
-    let read : records_in_file c.in_ok-shape.shape (image manager) ≡ Ok records = subst (λ (s : Shape). records_in_file s (image manager) ≡ Ok records) (sym shape) (parts image opened o).read in
+    let read : records_in_file c.in_ok-shape.shape (image (Manager opened.slot)) ≡ Ok records = subst (λ (s : Shape). records_in_file s (image (Manager opened.slot)) ≡ Ok records) (sym shape) (parts image opened o).read in
     c.write_log.ensures.ended told records read

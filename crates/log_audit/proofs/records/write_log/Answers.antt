@@ -3,7 +3,8 @@ use Rattle.std.proofs.lemmas.Result.{err_from_is_err_and}
 use Rattle.host_trait.specs.World.{Disk}
 use Rattle.host_trait.proofs.Counts.{none_then}
 use Rattle.commit_log.specs.declared.records.CommitRecord.{CommitRecord}
-use Rattle.log_reading.specs.Steps.{manager, next_in}
+use Rattle.host_trait.specs.declared.channels.FileId.TheVariants.{Manager}
+use Rattle.log_reading.specs.Steps.{next_in}
 use Rattle.script_tree.specs.Programs.{program_tree}
 use Rattle.log_audit.specs.Lines.{record_lines}
 use Rattle.log_audit.specs.Unread.{IsBlockFault}
@@ -15,7 +16,7 @@ use Rattle.log_audit.proofs.records.write_log.Goals as goal
 pub loop-records-init : goal.loop-records-init
 loop-records-init g c = record {
   bound = omega arith;
-  puts = λ told. copied_none c.args.shape.now (program_tree c.args.checked.now) ((g.H.Host.world c.args.host.now).disk manager).seen (g.H.Host.world c.args.host.now);
+  puts = λ told. copied_none c.args.shape.now (program_tree c.args.checked.now) ((g.H.Host.world c.args.host.now).disk (Manager c.args.slot)).seen (g.H.Host.world c.args.host.now);
   calm = λ channel. refl;
   ready = λ file was. was;
 }
@@ -31,9 +32,9 @@ returns-in_err-records-clause-ended g c =
     let inv = c.loop-records.invariant in
     let shape = c.args.shape.now in
     let gate = c.loop-records.gate_at in
-    let file = ((g.H.Host.world c.args.host.now).disk manager).seen in
+    let file = ((g.H.Host.world c.args.host.now).disk (Manager c.args.slot)).seen in
     rw (p.1, p.2) λ told records is.
-    let here = subst (λ (d : Disk). IsBlockFault shape gate (d manager).seen c.in_err-records.field-0.0) (inv.puts told).puts.disk (c.in_err-records.ensures.unread told) in
+    let here = subst (λ (d : Disk). IsBlockFault shape gate (d (Manager c.args.slot)).seen c.in_err-records.field-0.0) (inv.puts told).puts.disk (c.in_err-records.ensures.unread told) in
     block_ends shape (program_tree c.args.checked.now) file gate (inv.puts told).records (inv.puts told).follows c.in_err-records.field-0.0 here records is
 
 pub returns-in_err-records-clause-exact : goal.returns-in_err-records-clause-exact
@@ -51,8 +52,8 @@ returns-in_err-write_records-clause-puts g c =
     let more = c.in-Some.records in
     let behind = c.in-Some.behind in
     rw p.1 λ told records is.
-    let here : next_in shape gate ((g.H.Host.world c.loop-records.host).disk manager).seen ≡ Ok (Some (more, behind)) = search rules in
-    let there = subst (λ (d : Disk). next_in shape gate (d manager).seen ≡ Ok (Some (more, behind))) (inv.puts told).puts.disk here in
+    let here : next_in shape gate ((g.H.Host.world c.loop-records.host).disk (Manager c.args.slot)).seen ≡ Ok (Some (more, behind)) = search rules in
+    let there = subst (λ (d : Disk). next_in shape gate (d (Manager c.args.slot)).seen ≡ Ok (Some (more, behind))) (inv.puts told).puts.disk here in
     copied_cut shape types _ gate _ _ _ _ (inv.puts told) (c.next_records.ensures.asked told) more behind false there
     (subst (λ (l : List CommitRecord). PutsPart (record_lines shape types l) false (g.H.Host.world c.next_records.new.host) (g.H.Host.world c.write_records.new.host)) c.as_slice.ensures (c.in_err-write_records.ensures.puts told)) records is
 
@@ -73,8 +74,8 @@ loop-records-preserved g c =
     record {
       bound = far.1;
       puts = λ told.
-          let here : next_in shape gate ((g.H.Host.world c.loop-records.host).disk manager).seen ≡ Ok (Some (more, behind)) = search rules in
-          let there = subst (λ (d : Disk). next_in shape gate (d manager).seen ≡ Ok (Some (more, behind))) (inv.puts told).puts.disk here in
+          let here : next_in shape gate ((g.H.Host.world c.loop-records.host).disk (Manager c.args.slot)).seen ≡ Ok (Some (more, behind)) = search rules in
+          let there = subst (λ (d : Disk). next_in shape gate (d (Manager c.args.slot)).seen ≡ Ok (Some (more, behind))) (inv.puts told).puts.disk here in
           copied_more shape types _ gate _ _ _ _ (inv.puts told) (c.next_records.ensures.asked told) more behind there
           (subst (λ (l : List CommitRecord). PutsPart (record_lines shape types l) true (g.H.Host.world c.next_records.new.host) (g.H.Host.world c.write_records.new.host)) c.as_slice.ensures (c.in_ok-write_records.ensures.puts told));
       calm = none_then _ _ _ (none_then _ _ _ inv.calm c.in_ok-records.ensures.exact) c.in_ok-write_records.ensures.exact;
@@ -86,6 +87,6 @@ returns-clause-puts g c told records is =
     let inv = c.loop-records.invariant in
     let shape = c.args.shape.now in
     let gate = c.loop-records.gate_at in
-    let here : next_in shape gate ((g.H.Host.world c.loop-records.host).disk manager).seen ≡ Ok None = search rules in
-    let there = subst (λ (d : Disk). next_in shape gate (d manager).seen ≡ Ok None) (inv.puts told).puts.disk here in
+    let here : next_in shape gate ((g.H.Host.world c.loop-records.host).disk (Manager c.args.slot)).seen ≡ Ok None = search rules in
+    let there = subst (λ (d : Disk). next_in shape gate (d (Manager c.args.slot)).seen ≡ Ok None) (inv.puts told).puts.disk here in
     copied_all _ _ _ gate _ _ _ (inv.puts told) (c.next_records.ensures.asked told) records is there

@@ -6,7 +6,7 @@ use Rattle.host_trait.specs.World.{Disk}
 use Rattle.host_trait.proofs.Runs.{asked_then}
 use Rattle.host_trait.proofs.Counts.{none_then}
 use Rattle.commit_log.specs.declared.records.Written.{Written}
-use Rattle.log_reading.specs.Steps.{seen_in, live_slot}
+use Rattle.log_reading.specs.Steps.{seen_in}
 use Rattle.log_reading.specs.Versions.{version_named}
 use Rattle.log_reading.proofs.Summing.{next_default, no_item}
 use Rattle.log_audit.proofs.Versions.{named_as, states_at, version_more, versions_all, version_fault, in_seam}
@@ -18,7 +18,7 @@ no_write = record { grain = record { kind = 0; key = 0 }; place = record { offse
 
 pub loop-one-init : goal.loop-one-init
 loop-one-init g c = record {
-  writes = λ told. ap (λ (l : List (GrainId × List Value)). l ++ states_at c.args.shape.now (seen_in (g.H.Host.world c.args.host.now).disk) c.args.entry.now.unit c.as_slice-writes.result.now) c.new-kept.ensures.items ∙ ap (λ (l : List Written). states_at c.args.shape.now (seen_in (g.H.Host.world c.args.host.now).disk) c.args.entry.now.unit l) c.as_slice-writes.ensures;
+  writes = λ told. ap (λ (l : List (GrainId × List Value)). l ++ states_at c.args.slot c.args.shape.now (seen_in (g.H.Host.world c.args.host.now).disk) c.args.entry.now.unit c.as_slice-writes.result.now) c.new-kept.ensures.items ∙ ap (λ (l : List Written). states_at c.args.slot c.args.shape.now (seen_in (g.H.Host.world c.args.host.now).disk) c.args.entry.now.unit l) c.as_slice-writes.ensures;
   asked = search rules;
   calm = λ channel. refl;
   ready = λ file was. was;
@@ -35,8 +35,8 @@ returns-in_err-version-clause-unread g c =
     let xs = c.as_slice-writes.result.now in
     let x : Written = get_or xs i no_write in
     rw (p.1, p.2) λ told.
-    version_fault shape image r x (in_seam xs i no_write r.writes c.loop-one-test.true c.as_slice-writes.ensures) c.in_err-version.field-0.0
-    (λ at place is. subst (λ (d : Disk). version_named live_slot shape (seen_in d) (named_as r.unit x) ≡ Err place) (inv.asked told).disk (c.in_err-version.ensures.damaged at place is told))
+    version_fault c.args.slot shape image r x (in_seam xs i no_write r.writes c.loop-one-test.true c.as_slice-writes.ensures) c.in_err-version.field-0.0
+    (λ at place is. subst (λ (d : Disk). version_named c.args.slot shape (seen_in d) (named_as r.unit x) ≡ Err place) (inv.asked told).disk (c.in_err-version.ensures.damaged at place is told))
     (λ at is. c.in_err-version.ensures.failed at is)
 
 pub returns-in_err-version-clause-fault : goal.returns-in_err-version-clause-fault
@@ -63,8 +63,8 @@ loop-one-preserved g c =
     let pushed : c.push.new.self.items ≡ c.loop-one.kept.items ++ ((x.grain, v.state) ∷ []) = search rules in
     record {
       writes = λ told.
-          let found = subst (λ (d : Disk). version_named live_slot shape (seen_in d) (named_as r.unit x) ≡ Ok v) (inv.asked told).disk (c.in_ok-version.ensures.found told) in
-          version_more shape image r.unit x (drop (i + 1) xs) (drop i xs) v _ _ _ (next_default i xs no_write c.loop-one-test.true) pushed found (inv.writes told);
+          let found = subst (λ (d : Disk). version_named c.args.slot shape (seen_in d) (named_as r.unit x) ≡ Ok v) (inv.asked told).disk (c.in_ok-version.ensures.found told) in
+          version_more c.args.slot shape image r.unit x (drop (i + 1) xs) (drop i xs) v _ _ _ (next_default i xs no_write c.loop-one-test.true) pushed found (inv.writes told);
       asked = λ told. asked_then _ _ _ (inv.asked told) (c.named_version.ensures.asked told);
       calm = none_then _ _ _ inv.calm c.in_ok-version.ensures.calm;
       ready = λ file was. c.named_version.ensures.ready file (inv.ready file was);
@@ -72,5 +72,5 @@ loop-one-preserved g c =
 
 pub returns-clause-writes : goal.returns-clause-writes
 returns-clause-writes g c told =
-    versions_all c.args.shape.now (seen_in (g.H.Host.world c.args.host.now).disk) c.args.entry.now.unit (drop c.loop-one.one-index c.as_slice-writes.result.now) _ _
+    versions_all c.args.slot c.args.shape.now (seen_in (g.H.Host.world c.args.host.now).disk) c.args.entry.now.unit (drop c.loop-one.one-index c.as_slice-writes.result.now) _ _
     (no_item c.loop-one.one-index c.as_slice-writes.result.now c.loop-one-test.false) (c.loop-one.invariant.writes told)

@@ -8,7 +8,7 @@ use Rattle.log_audit.proofs.replay.read_writes.Given as goal
 
 abbrev pub invariant-loop-one : goal.invariant-loop-one
 invariant-loop-one g l = record {
-  writes : IsTrue g.H.Host.tells → l.kept.items ++ states_at l.shape (seen_in (g.H.Host.world l.fn.host).disk) l.entry.unit (drop l.one-index l.writes) ≡ states_at l.shape (seen_in (g.H.Host.world l.fn.host).disk) l.entry.unit l.entry.writes;
+  writes : IsTrue g.H.Host.tells → l.kept.items ++ states_at l.slot l.shape (seen_in (g.H.Host.world l.fn.host).disk) l.entry.unit (drop l.one-index l.writes) ≡ states_at l.slot l.shape (seen_in (g.H.Host.world l.fn.host).disk) l.entry.unit l.entry.writes;
   asked : IsTrue g.H.Host.tells → OnlyAsked (g.H.Host.world l.fn.host) (g.H.Host.world l.host);
   calm : NoneFailed (g.H.Host.faults l.fn.host) (g.H.Host.faults l.host);
   ready : StaysReady (g.H.Host.is_ready l.fn.host) (g.H.Host.is_ready l.host);

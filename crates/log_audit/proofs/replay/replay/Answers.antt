@@ -4,7 +4,7 @@ use Rattle.std.specs.List.{fold}
 use Rattle.base_types.specs.declared.calls.GrainId.{GrainId}
 use Rattle.base_types.specs.declared.calls.Value.{Value}
 use Rattle.core_model.specs.Equality.{same_list}
-use Rattle.log_reading.specs.Steps.{seen_in, live_slot}
+use Rattle.log_reading.specs.Steps.{seen_in}
 use Rattle.script_tree.specs.Programs.{program_tree}
 use Rattle.script_meaning.specs.Play.{Played, found_in}
 use Rattle.script_player.specs.Playing.{played_of}
@@ -20,7 +20,7 @@ returns-then-agrees-clause-replays g c told =
     let types = program_tree c.args.checked.now in
     let r = c.args.entry.now in
     let image = seen_in (g.H.Host.world c.args.host.now).disk in
-    let one : Commit = commit_of live_slot c.args.shape.now image r in
+    let one : Commit = commit_of c.args.slot c.args.shape.now image r in
     let states : States = found_in types c.args.store.now in
     let given : Played = played_of c.in_ok-played.played in
     let is : given ≡ played types states r = played_is types c.args.store.now r given _ _ c.in_ok-played.ensures c.depth_of-depth.ensures c.as_slice-answers.ensures in
@@ -36,7 +36,7 @@ returns-clause-replays g c told =
     let types = program_tree c.args.checked.now in
     let r = c.args.entry.now in
     let image = seen_in (g.H.Host.world c.args.host.now).disk in
-    let one : Commit = commit_of live_slot c.args.shape.now image r in
+    let one : Commit = commit_of c.args.slot c.args.shape.now image r in
     let states : States = found_in types c.args.store.now in
     let given : Played = played_of c.in_ok-played.played in
     let is : given ≡ played types states r = played_is types c.args.store.now r given _ _ c.in_ok-played.ensures c.depth_of-depth.ensures c.as_slice-answers.ensures in

@@ -10,7 +10,7 @@ use Rattle.log_audit.proofs.replay.replay_block.Given as goal
 
 abbrev pub invariant-loop-entry : goal.invariant-loop-entry
 invariant-loop-entry g l = record {
-  replays : IsTrue g.H.Host.tells → HasReplayed (program_tree l.checked) l.shape (seen_in (g.H.Host.world l.fn.host).disk) (found_in (program_tree l.checked) l.fn.store) l.records (drop l.entry-index l.records) (found_in (program_tree l.checked) l.store);
+  replays : IsTrue g.H.Host.tells → HasReplayed (program_tree l.checked) l.slot l.shape (seen_in (g.H.Host.world l.fn.host).disk) (found_in (program_tree l.checked) l.fn.store) l.records (drop l.entry-index l.records) (found_in (program_tree l.checked) l.store);
   asked : IsTrue g.H.Host.tells → OnlyAsked (g.H.Host.world l.fn.host) (g.H.Host.world l.host);
   calm : NoneFailed (g.H.Host.faults l.fn.host) (g.H.Host.faults l.host);
   ready : StaysReady (g.H.Host.is_ready l.fn.host) (g.H.Host.is_ready l.host);

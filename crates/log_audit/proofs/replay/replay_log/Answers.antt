@@ -5,7 +5,8 @@ use Rattle.host_trait.specs.World.{Disk}
 use Rattle.host_trait.proofs.Runs.{asked_then}
 use Rattle.host_trait.proofs.Counts.{none_then}
 use Rattle.commit_log.specs.declared.records.CommitRecord.{CommitRecord}
-use Rattle.log_reading.specs.Steps.{manager, next_in, seen_in}
+use Rattle.host_trait.specs.declared.channels.FileId.TheVariants.{Manager}
+use Rattle.log_reading.specs.Steps.{next_in, seen_in}
 use Rattle.log_reading.proofs.Following.{follows_on, follows_breaks}
 use Rattle.script_tree.specs.Programs.{program_tree}
 use Rattle.script_meaning.specs.Play.{found_in}
@@ -22,7 +23,7 @@ loop-store-init g c =
     let types = program_tree c.args.checked.now in
     record {
       bound = omega arith;
-      audited = λ told. audit_begun types c.args.shape.now (seen_in (g.H.Host.world c.args.host.now).disk) ((g.H.Host.world c.args.host.now).disk manager).seen (log_start types).states _ (none_kept types c.new-store.result c.new-store.ensures);
+      audited = λ told. audit_begun types c.args.slot c.args.shape.now (seen_in (g.H.Host.world c.args.host.now).disk) ((g.H.Host.world c.args.host.now).disk (Manager c.args.slot)).seen (log_start types).states _ (none_kept types c.new-store.result c.new-store.ensures);
       asked = search rules;
       calm = λ channel. refl;
       ready = λ file was. was;
@@ -34,12 +35,12 @@ returns-in_err-records-clause-unread g c =
     let inv = c.loop-store.invariant in
     let shape = c.args.shape.now in
     let gate = c.loop-store.gate_at in
-    let file = ((g.H.Host.world c.args.host.now).disk manager).seen in
+    let file = ((g.H.Host.world c.args.host.now).disk (Manager c.args.slot)).seen in
     rw (p.1, p.2) λ told records is.
-    inl (log_fault shape file c.in_err-records.field-0.0
+    inl (log_fault shape file c.args.slot c.in_err-records.field-0.0
     (λ at place fault.
     let here = c.in_err-records.ensures.damaged at place fault told in
-    let there : next_in shape gate file ≡ Err place = subst (λ (d : Disk). next_in shape gate (d manager).seen ≡ Err place) (inv.asked told).disk here in
+    let there : next_in shape gate file ≡ Err place = subst (λ (d : Disk). next_in shape gate (d (Manager c.args.slot)).seen ≡ Err place) (inv.asked told).disk here in
     follows_breaks shape file (inv.audited told).records gate ((inv.audited told).follows (clean_of shape file records is)) place there)
     (λ at fault. c.in_err-records.ensures.failed at fault))
 
@@ -55,18 +56,18 @@ returns-in_err-found-clause-unread g c =
     let more = c.in-Some.records in
     let behind = c.in-Some.behind in
     let image = seen_in (g.H.Host.world c.args.host.now).disk in
-    let file = ((g.H.Host.world c.args.host.now).disk manager).seen in
+    let file = ((g.H.Host.world c.args.host.now).disk (Manager c.args.slot)).seen in
     let e = c.in_err-found.field-0.0 in
     rw (p.1, p.2) λ told records is.
     let h = inv.audited told in
-    let step : next_in shape gate ((g.H.Host.world c.loop-store.host).disk manager).seen ≡ Ok (Some (more, behind)) = search rules in
-    let there = subst (λ (d : Disk). next_in shape gate (d manager).seen ≡ Ok (Some (more, behind))) (inv.asked told).disk step in
+    let step : next_in shape gate ((g.H.Host.world c.loop-store.host).disk (Manager c.args.slot)).seen ≡ Ok (Some (more, behind)) = search rules in
+    let there = subst (λ (d : Disk). next_in shape gate (d (Manager c.args.slot)).seen ≡ Ok (Some (more, behind))) (inv.asked told).disk step in
     let rest = rest_of shape file (h.records ++ more) records behind (λ clean. follows_on shape file h.records gate (h.follows clean) more behind there) is in
     let mid = asked_then _ _ _ (inv.asked told) (c.next_block.ensures.asked told) in
-    let here = subst (λ (d : Disk). IsVersionFault shape (seen_in d) more e) mid.disk
-    (subst (λ (l : List CommitRecord). IsVersionFault shape (seen_in (g.H.Host.world c.next_block.new.host).disk) l e) c.as_slice.ensures (c.in_err-found.ensures.unread told)) in
+    let here = subst (λ (d : Disk). IsVersionFault c.args.slot shape (seen_in d) more e) mid.disk
+    (subst (λ (l : List CommitRecord). IsVersionFault c.args.slot shape (seen_in (g.H.Host.world c.next_block.new.host).disk) l e) c.as_slice.ensures (c.in_err-found.ensures.unread told)) in
     let split : records ≡ h.records ++ (more ++ rest.0) = rest.1 ∙ append_assoc h.records more rest.0 in
-    inr (subst (λ (l : List CommitRecord). IsVersionFault shape image l e) (sym split) (fault_among shape image h.records more rest.0 e here))
+    inr (subst (λ (l : List CommitRecord). IsVersionFault c.args.slot shape image l e) (sym split) (fault_among c.args.slot shape image h.records more rest.0 e here))
 
 pub returns-in_err-found-clause-asked : goal.returns-in_err-found-clause-asked
 returns-in_err-found-clause-asked g c told = asked_then _ _ _ (asked_then _ _ _ (c.loop-store.invariant.asked told) (c.next_block.ensures.asked told)) (c.replay_block.ensures.asked told)
@@ -81,12 +82,12 @@ returns-then-is_some-clause-replays g c told records is =
     let behind = c.in-Some.behind in
     let found = c.in_ok-found.found in
     let some : is_some found ≡ true = sym c.is_some.ensures ∙ c.if-is_some.true in
-    let step : next_in shape gate ((g.H.Host.world c.loop-store.host).disk manager).seen ≡ Ok (Some (more, behind)) = search rules in
-    let there = subst (λ (d : Disk). next_in shape gate (d manager).seen ≡ Ok (Some (more, behind))) (inv.asked told).disk step in
+    let step : next_in shape gate ((g.H.Host.world c.loop-store.host).disk (Manager c.args.slot)).seen ≡ Ok (Some (more, behind)) = search rules in
+    let there = subst (λ (d : Disk). next_in shape gate (d (Manager c.args.slot)).seen ≡ Ok (Some (more, behind))) (inv.asked told).disk step in
     let mid = asked_then _ _ _ (inv.asked told) (c.next_block.ensures.asked told) in
-    let to = subst (λ (d : Disk). AllReplayTo types (found_in types c.loop-store.store) (as_commits shape (seen_in d) more) (found_in types c.replay_block.new.store) found) mid.disk
-    (subst (λ (l : List CommitRecord). AllReplayTo types (found_in types c.loop-store.store) (as_commits shape (seen_in (g.H.Host.world c.next_block.new.host).disk) l) (found_in types c.replay_block.new.store) found) c.as_slice.ensures (c.in_ok-found.ensures.replays told)) in
-    audit_found _ _ _ _ _ gate _ _ more behind found (inv.audited told) there some to records is
+    let to = subst (λ (d : Disk). AllReplayTo types (found_in types c.loop-store.store) (as_commits c.args.slot shape (seen_in d) more) (found_in types c.replay_block.new.store) found) mid.disk
+    (subst (λ (l : List CommitRecord). AllReplayTo types (found_in types c.loop-store.store) (as_commits c.args.slot shape (seen_in (g.H.Host.world c.next_block.new.host).disk) l) (found_in types c.replay_block.new.store) found) c.as_slice.ensures (c.in_ok-found.ensures.replays told)) in
+    audit_found _ _ _ _ _ _ gate _ _ more behind found (inv.audited told) there some to records is
 
 pub returns-then-is_some-clause-asked : goal.returns-then-is_some-clause-asked
 returns-then-is_some-clause-asked g c told = asked_then _ _ _ (asked_then _ _ _ (c.loop-store.invariant.asked told) (c.next_block.ensures.asked told)) (c.replay_block.ensures.asked told)
@@ -105,12 +106,12 @@ loop-store-preserved g c =
     record {
       bound = far.1;
       audited = λ told.
-          let step : next_in shape gate ((g.H.Host.world c.loop-store.host).disk manager).seen ≡ Ok (Some (more, behind)) = search rules in
-          let there = subst (λ (d : Disk). next_in shape gate (d manager).seen ≡ Ok (Some (more, behind))) (inv.asked told).disk step in
+          let step : next_in shape gate ((g.H.Host.world c.loop-store.host).disk (Manager c.args.slot)).seen ≡ Ok (Some (more, behind)) = search rules in
+          let there = subst (λ (d : Disk). next_in shape gate (d (Manager c.args.slot)).seen ≡ Ok (Some (more, behind))) (inv.asked told).disk step in
           let mid = asked_then _ _ _ (inv.asked told) (c.next_block.ensures.asked told) in
-          let to = subst (λ (d : Disk). AllReplayTo types (found_in types c.loop-store.store) (as_commits shape (seen_in d) more) (found_in types c.replay_block.new.store) found) mid.disk
-          (subst (λ (l : List CommitRecord). AllReplayTo types (found_in types c.loop-store.store) (as_commits shape (seen_in (g.H.Host.world c.next_block.new.host).disk) l) (found_in types c.replay_block.new.store) found) c.as_slice.ensures (c.in_ok-found.ensures.replays told)) in
-          audit_next _ _ _ _ _ gate _ _ more behind found (inv.audited told) there none to;
+          let to = subst (λ (d : Disk). AllReplayTo types (found_in types c.loop-store.store) (as_commits c.args.slot shape (seen_in d) more) (found_in types c.replay_block.new.store) found) mid.disk
+          (subst (λ (l : List CommitRecord). AllReplayTo types (found_in types c.loop-store.store) (as_commits c.args.slot shape (seen_in (g.H.Host.world c.next_block.new.host).disk) l) (found_in types c.replay_block.new.store) found) c.as_slice.ensures (c.in_ok-found.ensures.replays told)) in
+          audit_next _ _ _ _ _ _ gate _ _ more behind found (inv.audited told) there none to;
       asked = λ told. asked_then _ _ _ (asked_then _ _ _ (inv.asked told) (c.next_block.ensures.asked told)) (c.replay_block.ensures.asked told);
       calm = none_then _ _ _ (none_then _ _ _ inv.calm c.in_ok-records.ensures.calm) c.in_ok-found.ensures.calm;
       ready = λ at was. c.replay_block.ensures.ready at (c.next_block.ensures.ready at (inv.ready at was));
@@ -121,9 +122,9 @@ returns-clause-replays g c told records is =
     let inv = c.loop-store.invariant in
     let shape = c.args.shape.now in
     let gate = c.loop-store.gate_at in
-    let step : next_in shape gate ((g.H.Host.world c.loop-store.host).disk manager).seen ≡ Ok None = search rules in
-    let there = subst (λ (d : Disk). next_in shape gate (d manager).seen ≡ Ok None) (inv.asked told).disk step in
-    audit_done _ _ _ _ _ gate _ (inv.audited told) there records is
+    let step : next_in shape gate ((g.H.Host.world c.loop-store.host).disk (Manager c.args.slot)).seen ≡ Ok None = search rules in
+    let there = subst (λ (d : Disk). next_in shape gate (d (Manager c.args.slot)).seen ≡ Ok None) (inv.asked told).disk step in
+    audit_done _ _ _ _ _ _ gate _ (inv.audited told) there records is
 
 pub returns-clause-asked : goal.returns-clause-asked
 returns-clause-asked g c told = asked_then _ _ _ (c.loop-store.invariant.asked told) (c.next_block.ensures.asked told)

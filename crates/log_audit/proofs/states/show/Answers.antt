@@ -3,7 +3,6 @@ use Rattle.host_trait.specs.World.{Image}
 use Rattle.log_reading.specs.Steps.{seen_in}
 use Rattle.silo_opening.specs.Opened.{IsOpenedFrom}
 use Rattle.silo_opening.proofs.Opening.{seen_same}
-use Rattle.promise_spec.specs.Logs.{live_slot}
 use Rattle.promise_spec.specs.Openings.{opened_as}
 use Rattle.promise_spec.specs.Endings.{Ending, HasFailedAs}
 use Rattle.promise_spec.specs.Reports.{show_text}
@@ -17,10 +16,10 @@ returns-in-Ok-clause-reports g c told manner asked =
     let mid = g.H.Host.world c.open_silo.new.host in
     let opened = c.in-Ok.opened in
     let run = c.open_silo.ensures.run told in
-    let same : seen_in mid.disk ≡ seen_in old.disk = seen_same old mid run in
+    let same : seen_in mid.disk ≡ seen_in old.disk = seen_same _ old mid run in
     let o : IsOpenedFrom (seen_in mid.disk) opened = subst (λ (image : Image). IsOpenedFrom image opened) (sym same) (c.in-Ok.ensures.opened told) in
-    inr (is_reported old mid (c.in-Ok.ensures.settled told) run show_text (program_opened (seen_in mid.disk) opened o) o.log manner asked (g.H.Host.world c.write_show.new.host) (g.H.Host.faults c.args.host.now) (g.H.Host.faults c.write_show.new.host) c.write_show.result
-    (ap (λ (image : Image). opened_as live_slot image) (sym same) ∙ o.reads) (c.write_show.ensures.puts told o) (c.write_show.ensures.ended told o)
+    inr (is_reported opened.slot old mid (c.in-Ok.ensures.settled told) run show_text (program_opened (seen_in mid.disk) opened o) o.log manner asked (g.H.Host.world c.write_show.new.host) (g.H.Host.faults c.args.host.now) (g.H.Host.faults c.write_show.new.host) c.write_show.result
+    (ap (λ (image : Image). opened_as image) (sym same) ∙ o.reads) (c.write_show.ensures.puts told o) (c.write_show.ensures.ended told o)
     (failed_then _ _ _ _ c.in-Ok.ensures.calm c.write_show.ensures.exact))
 
 pub returns-in-Ok-clause-exact : goal.returns-in-Ok-clause-exact

@@ -1,12 +1,9 @@
 use Rattle.std.specs.Prelude.{unwrap_or}
-use Rattle.std.proofs.Common.{rules, arith, ◌≡◌, ◌<◌, ◌^◌, ℕ, List, Option, Some, None, Ok, Err, sym, ◌∙◌, ap, subst}
-use Rattle.host_trait.specs.declared.channels.FileId.{FileId}
+use Rattle.std.proofs.Common.{arith, ◌≡◌, ◌<◌, ◌^◌, ℕ, List, Option, sym, ◌∙◌, ap, subst}
 use Rattle.host_trait.specs.World.{Image}
 use Rattle.host_trait.proofs.Runs.{asked_then}
-use Rattle.log_reading.specs.declared.faults.FolderFault.{FolderFault}
 use Rattle.commit_log.specs.declared.records.Named.{Named}
 use Rattle.log_reading.specs.Steps.{seen_in}
-use Rattle.log_reading.specs.Blocks.{records_in_file}
 use Rattle.log_reading.specs.Versions.{named_by, named_by_grain, first_missing}
 use Rattle.log_reading.specs.Sums.{state_after, end_after, StopsAt}
 use Rattle.log_reading.proofs.Unread.{read_refused, versions_refused}

@@ -1,4 +1,4 @@
-use Rattle.std.proofs.Common.{◌≡◌, ◌++◌, ◌^◌, ◌<◌, List, drop}
+use Rattle.std.proofs.Common.{◌≡◌, ◌++◌, ◌^◌, ◌<◌, drop}
 use Rattle.std.specs.List.{AllByRecursion}
 use Rattle.log_reading.specs.Versions.{named_by}
 use Rattle.log_reading.specs.Sums.{next_after}

@@ -1,4 +1,4 @@
-use Rattle.std.proofs.Common.{rules, arith, ◌≡◌, ◌+◌, ◌^◌, ◌<◌, ◌≤◌, ◌++◌, ℕ, IsTrue, List, length, Option, Some, None, Ok, Err, refl, sym, ◌∙◌, ap, subst}
+use Rattle.std.proofs.Common.{rules, arith, ◌≡◌, ◌+◌, ◌^◌, ◌<◌, ◌≤◌, ◌++◌, ℕ, List, length, Some, None, Ok, Err, sym, ◌∙◌, ap, subst}
 use Rattle.std.specs.List.{AllByRecursion}
 use Rattle.std.proofs.lemmas.Result.{err_from_is_err_and}
 use Rattle.host_trait.specs.World.{Disk}
@@ -9,7 +9,6 @@ use Rattle.field_codec.specs.declared.units.Numbers.TheVariants.{Logged}
 use Rattle.commit_log.specs.declared.records.CommitRecord.{CommitRecord}
 use Rattle.commit_log.specs.Bodies.{IsRecordIn}
 use Rattle.log_reading.specs.declared.faults.FolderFault.{FolderFault}
-use Rattle.commit_log.specs.declared.records.Named.{Named}
 use Rattle.log_reading.specs.Versions.{named_by}
 use Rattle.log_reading.specs.Steps.{next_in}
 use Rattle.log_reading.specs.Sums.{next_after}

@@ -1,8 +1,5 @@
-use Rattle.std.proofs.Common.{rules, ◌≡◌, ◌+◌, ◌∷◌, ℕ, IsTrue, if◌then◌else◌, List, drop, get_or, Option, Some, Ok, Err, refl, sym, ◌∙◌, ap, subst}
+use Rattle.std.proofs.Common.{rules, ◌≡◌, ◌+◌, ℕ, IsTrue, drop, get_or, Some, Ok, Err, refl, sym, ◌∙◌, ap, subst}
 use Rattle.std.proofs.lemmas.Result.{err_from_is_err_and}
-use Rattle.base_types.specs.declared.calls.GrainId.{GrainId}
-use Rattle.base_types.specs.declared.stores.Version.{Version}
-use Rattle.base_types.specs.Stores.{state_in, end_in}
 use Rattle.host_trait.specs.declared.channels.FileId.{FileId}
 use Rattle.host_trait.specs.declared.channels.FileId.TheVariants.{Grain}
 use Rattle.host_trait.specs.World.{Disk}
@@ -11,9 +8,7 @@ use Rattle.host_trait.proofs.Counts.{none_then}
 use Rattle.log_reading.specs.declared.faults.FolderFault.{FolderFault}
 use Rattle.commit_log.specs.declared.records.Named.{Named}
 use Rattle.log_reading.specs.Steps.{seen_in}
-use Rattle.host_trait.specs.Files.{same_grain}
 use Rattle.log_reading.specs.Versions.{version_named}
-use Rattle.log_reading.specs.Sums.{greater_end}
 use Rattle.log_reading.proofs.Errors.{other_value}
 use Rattle.log_reading.proofs.Cutting.{still_piece}
 use Rattle.log_reading.proofs.Summing.{next_default, no_item}
@@ -36,8 +31,8 @@ loop-one-init g c = record {
   ready = λ file was. was;
 }
 
-pub refill-requires : goal.refill-requires
-refill-requires g c = still_piece _ _ _ _ _ (λ told. ap seen_in (sym (c.loop-one.invariant.asked told).disk)) c.loop-one.invariant.piece
+pub refill-requires-clause-piece : goal.refill-requires-clause-piece
+refill-requires-clause-piece g c = still_piece _ _ _ _ _ (λ told. ap seen_in (sym (c.loop-one.invariant.asked told).disk)) c.loop-one.invariant.piece
 
 pub returns-in_err-refill-clause-damaged : goal.returns-in_err-refill-clause-damaged
 returns-in_err-refill-clause-damaged g c =
@@ -59,8 +54,8 @@ returns-in_err-refill-clause-failed g c =
 pub returns-in_err-refill-clause-asked : goal.returns-in_err-refill-clause-asked
 returns-in_err-refill-clause-asked g c told = asked_then _ _ _ (c.loop-one.invariant.asked told) (c.refill.ensures.asked told)
 
-pub next_version-requires : goal.next_version-requires
-next_version-requires g c =
+pub next_version-requires-clause-piece : goal.next_version-requires-clause-piece
+next_version-requires-clause-piece g c =
     still_piece _ _ _ _ _ (λ told. ap seen_in (sym (c.refill.ensures.asked told).disk)) c.in_ok-refill.ensures.piece
 
 pub returns-in_err-version-clause-damaged : goal.returns-in_err-version-clause-damaged

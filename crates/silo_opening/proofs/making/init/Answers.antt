@@ -1,18 +1,16 @@
 -- Each answer of `init`: what it promises, with the counts.
-use Rattle.std.proofs.Common.{rules, ◌≡◌, ℕ, ◌≤◌, IsTrue, List, [], length, Ok, Err, Vec, sym, ◌∙◌, ap, subst}
+use Rattle.std.proofs.Common.{rules, ◌≡◌, ℕ, ◌≤◌, List, length, sym, ◌∙◌, ap, subst}
 use Rattle.host_trait.specs.declared.channels.Channel.{Channel}
 use Rattle.script_tree.specs.Programs.{program_tree}
 use Rattle.program_file.specs.Programs.{program_in}
 use Rattle.program_file.specs.Answers.{program_fault_place, IsFaultOf}
 use Rattle.promise_spec.specs.Logs.{magic}
-use Rattle.promise_spec.specs.Words.{Manner}
 use Rattle.promise_spec.specs.Commands.{MakesSilo, IsProgramText}
 use Rattle.silo_spec.specs.Silos.{IsNewSilo}
 use Rattle.silo_spec.specs.Making.{CameThisFar}
-use Rattle.silo_opening.specs.declared.faults.CreateFault.{CreateFault}
 use Rattle.silo_opening.specs.declared.making.InitFault.{InitFault}
 use Rattle.silo_opening.specs.Counts.{CreateFaulted, InitFaulted}
-use Rattle.silo_opening.specs.Inits.{in_input, in_program, in_creation, ended_with}
+use Rattle.silo_opening.specs.Inits.{ended_with}
 use Rattle.silo_opening.proofs.Inits.{failed, made_no_fault, same_counts, input_counts, program_counts, creation_counts, input_refused, program_refused, is_made, creation_refused}
 use Rattle.silo_opening.proofs.making.init.Goals as goal
 

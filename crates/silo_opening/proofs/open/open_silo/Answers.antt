@@ -1,6 +1,5 @@
-use Rattle.std.proofs.Common.{rules, ◌≡◌, ℕ, Bool, true, if◌then◌else◌, List, None, Some, Ok, Err, sym, ◌∙◌, ap, subst}
+use Rattle.std.proofs.Common.{rules, ◌≡◌, Bool, true, if◌then◌else◌, None, Some, Ok, sym, ◌∙◌, ap, subst}
 use Rattle.base_types.specs.declared.shapes.Shape.{Shape}
-use Rattle.host_trait.specs.declared.channels.FileId.{FileId}
 use Rattle.host_trait.specs.World.{Image}
 use Rattle.log_reading.specs.Steps.{seen_in}
 use Rattle.log_reading.specs.Contents.{HasContents, IsUnread}
@@ -12,7 +11,7 @@ use Rattle.promise_spec.specs.Refusals.{IsRefusedBy}
 use Rattle.silo_opening.specs.declared.faults.OpenFault.{OpenFault}
 use Rattle.silo_opening.specs.Opened.{ending_of}
 use Rattle.silo_opening.proofs.Runs.{run_only_asked}
-use Rattle.silo_opening.proofs.Assembly.{manager_read, no_silo, log_refused}
+use Rattle.silo_opening.proofs.Assembly.{manager_read, log_refused}
 use Rattle.silo_opening.proofs.Opening.{once_more, is_opened}
 use Rattle.silo_opening.proofs.Refused.{program_refused}
 use Rattle.silo_opening.proofs.open.open_silo.Goals as goal

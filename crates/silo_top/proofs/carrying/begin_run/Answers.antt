@@ -7,6 +7,7 @@ use Rattle.run_lines.specs.Reading.{input_lines}
 use Rattle.history_core.specs.Cores.{run_of}
 use Rattle.promise_spec.specs.Endings.{Ending, input_limit}
 use Rattle.run_books.specs.Closing.{turns_ending}
+use Rattle.silo_top.specs.Answering.{AnswersRun}
 use Rattle.silo_top.specs.Reading.{input_ending}
 use Rattle.silo_top.specs.Serving.{IsBehindOpening}
 use Rattle.silo_top.specs.declared.status.Status.{Status}
@@ -70,7 +71,7 @@ returns-in-Ok-read_input-clause-keeps g c = λ told m settler' after new result 
     (of_opened g.H.Host.tells c.in-Ok.opened c.in-Ok-start.started (λ (k : ProgramTree). input_lines k items) (g.H.Host.faults c.read_input.new.host) (g.H.Host.world c.read_input.new.host) m settler' after new result c.in-Ok-start.ensures.start went) in
     served m c.in-Ok.opened c.in-Ok-start.started (g.H.Host.world c.args.host.now) (g.H.Host.world c.open_silo.new.host) (g.H.Host.world c.read_input.new.host) new (g.H.Host.faults c.args.host.now) (g.H.Host.faults c.read_input.new.host) after status result behind c.in-Ok-start.ensures.start (c.read_input.ensures.only told)
     (λ file. g.met.H.Host.seen_may_stay c.open_silo.new.host file told) stay (c.in-Ok-read_input.ensures.end told)
-    (subst (λ (l : List ℕ). length l ≤ input_limit) (sym whole) within) ends_as (input_lines types items) carried.left settler' c.in-Ok-start.ensures.quiet went.wide c.in-Ok.ensures.bound.1.0 (λ d. c.in-Ok-read_input.ensures.calm d ∙ c.in-Ok.ensures.calm d)
+    (subst (λ (l : List ℕ). length l ≤ input_limit) (sym whole) within) (ends_as ∙ ap (λ (n : ℕ). turns_ending n result) c.in-Ok-start.ensures.start.slot) (input_lines types items) carried.left settler' c.in-Ok-start.ensures.quiet went.wide c.in-Ok.ensures.bound.1.0 (λ d. c.in-Ok-read_input.ensures.calm d ∙ c.in-Ok.ensures.calm d)
     (subst (λ (l : List ℕ). AreReadFrom types 0 (lines_of l) (input_lines types items)) (sym whole) (lines_are_read types 0 (lines_of items)))
     carried.carries carried.beside
 
@@ -79,7 +80,8 @@ returns-in-Ok-read_input-clause-answers_on g c = λ m settler' after new result 
     let types : ProgramTree = program_tree c.in-Ok.opened.checked in
     let items : List ℕ = c.in-Ok-read_input.input.items in
     let carried = of_opened g.H.Host.tells c.in-Ok.opened c.in-Ok-start.started (λ (k : ProgramTree). input_lines k items) (g.H.Host.faults c.read_input.new.host) (g.H.Host.world c.read_input.new.host) m settler' after new result c.in-Ok-start.ensures.start went in
-    answers_behind (turns_ending result) (g.H.Host.faults c.args.host.now) (g.H.Host.faults c.open_silo.new.host) after c.in-Ok.ensures.calm
+    subst (λ (n : ℕ). AnswersRun (turns_ending n result) (g.H.Host.faults c.args.host.now) after) (sym c.in-Ok-start.ensures.start.slot)
+    (answers_behind (turns_ending c.in-Ok.opened.slot result) (g.H.Host.faults c.args.host.now) (g.H.Host.faults c.open_silo.new.host) after c.in-Ok.ensures.calm
     (answered g.H.Host.tells m c.in-Ok.opened c.in-Ok-start.started items (input_lines types items) (g.H.Host.world c.open_silo.new.host) (g.H.Host.world c.read_input.new.host) new (g.H.Host.faults c.open_silo.new.host) (g.H.Host.faults c.read_input.new.host) after result carried.left settler'
     c.in-Ok-start.ensures.start (λ told. c.read_input.ensures.only told) c.in-Ok-read_input.ensures.calm went.wide c.in-Ok.ensures.bound.1.0
-    (lines_are_read types 0 (lines_of items)) carried.carries carried.beside)
+    (lines_are_read types 0 (lines_of items)) carried.carries carried.beside))

@@ -12,19 +12,19 @@ pub returns-in-Err-clause-promises : goal.returns-in-Err-clause-promises
 returns-in-Err-clause-promises g c = λ told. c.in-Err.ensures.promises told (turns_manner c.args.width c.args.picks.now)
 
 pub returns-clause-promises : goal.returns-clause-promises
-returns-clause-promises g c = λ told. c.in-Ok.ensures.keeps told (turns_manner c.args.width c.args.picks.now) c.carry_in_turns.new.settler (g.H.Host.faults c.carry_in_turns.new.host) (g.H.Host.world c.carry_in_turns.new.host) c.carry_in_turns.result c.turns_status.result
+returns-clause-promises g c = λ told. c.in-Ok.ensures.keeps told (turns_manner c.args.width c.args.picks.now) c.carry_in_turns-ended.new.settler (g.H.Host.faults c.carry_in_turns-ended.new.host) (g.H.Host.world c.carry_in_turns-ended.new.host) c.carry_in_turns-ended.result c.turns_status.result
     (record {
       wide = c.requires.wide;
-      carried = subst (λ (ls : List Line). CarriedLines g.H.Host.tells (turns_manner c.args.width c.args.picks.now) (program_tree c.in-Ok.begun.started.checked) ls (run_of c.in-Ok.begun.started.core) c.in-Ok.begun.started.settler c.carry_in_turns.new.settler (g.H.Host.faults c.begin_run.new.host) (g.H.Host.faults c.carry_in_turns.new.host) (g.H.Host.world c.begin_run.new.host) (g.H.Host.world c.carry_in_turns.new.host) c.carry_in_turns.result)
-          (c.new-lines.ensures ∙ ap (input_lines (program_tree c.in-Ok.begun.started.checked)) c.as_slice.ensures.value) c.carry_in_turns.ensures.carried;
+      carried = subst (λ (ls : List Line). CarriedLines g.H.Host.tells (turns_manner c.args.width c.args.picks.now) (program_tree c.in-Ok.begun.started.checked) ls (run_of c.in-Ok.begun.started.core) c.in-Ok.begun.started.settler c.carry_in_turns-ended.new.settler (g.H.Host.faults c.begin_run.new.host) (g.H.Host.faults c.carry_in_turns-ended.new.host) (g.H.Host.world c.begin_run.new.host) (g.H.Host.world c.carry_in_turns-ended.new.host) c.carry_in_turns-ended.result)
+          (c.new-lines.ensures ∙ ap (input_lines (program_tree c.in-Ok.begun.started.checked)) c.as_slice.ensures.value) c.carry_in_turns-ended.ensures.carried;
     })
-    (λ file. g.met.H.Host.seen_may_stay c.carry_in_turns.new.host file told) (omega (arith, ap length c.as_slice.ensures.value, c.as_slice.ensures.len, c.in-Ok.ensures.within)) c.turns_status.ensures
+    (λ file. g.met.H.Host.seen_may_stay c.carry_in_turns-ended.new.host file told) (omega (arith, ap length c.as_slice.ensures.value, c.as_slice.ensures.len, c.in-Ok.ensures.within)) c.turns_status.ensures
 
 pub returns-clause-answers : goal.returns-clause-answers
-returns-clause-answers g c = subst (λ (e : Ending). AnswersRun e (g.H.Host.faults c.args.host.now) (g.H.Host.faults c.carry_in_turns.new.host)) (sym c.turns_status.ensures)
-    (c.in-Ok.ensures.answers_on (turns_manner c.args.width c.args.picks.now) c.carry_in_turns.new.settler (g.H.Host.faults c.carry_in_turns.new.host) (g.H.Host.world c.carry_in_turns.new.host) c.carry_in_turns.result
+returns-clause-answers g c = subst (λ (e : Ending). AnswersRun e (g.H.Host.faults c.args.host.now) (g.H.Host.faults c.carry_in_turns-ended.new.host)) (sym c.turns_status.ensures)
+    (c.in-Ok.ensures.answers_on (turns_manner c.args.width c.args.picks.now) c.carry_in_turns-ended.new.settler (g.H.Host.faults c.carry_in_turns-ended.new.host) (g.H.Host.world c.carry_in_turns-ended.new.host) c.carry_in_turns-ended.result
     (record {
       wide = c.requires.wide;
-      carried = subst (λ (ls : List Line). CarriedLines g.H.Host.tells (turns_manner c.args.width c.args.picks.now) (program_tree c.in-Ok.begun.started.checked) ls (run_of c.in-Ok.begun.started.core) c.in-Ok.begun.started.settler c.carry_in_turns.new.settler (g.H.Host.faults c.begin_run.new.host) (g.H.Host.faults c.carry_in_turns.new.host) (g.H.Host.world c.begin_run.new.host) (g.H.Host.world c.carry_in_turns.new.host) c.carry_in_turns.result)
-          (c.new-lines.ensures ∙ ap (input_lines (program_tree c.in-Ok.begun.started.checked)) c.as_slice.ensures.value) c.carry_in_turns.ensures.carried;
+      carried = subst (λ (ls : List Line). CarriedLines g.H.Host.tells (turns_manner c.args.width c.args.picks.now) (program_tree c.in-Ok.begun.started.checked) ls (run_of c.in-Ok.begun.started.core) c.in-Ok.begun.started.settler c.carry_in_turns-ended.new.settler (g.H.Host.faults c.begin_run.new.host) (g.H.Host.faults c.carry_in_turns-ended.new.host) (g.H.Host.world c.begin_run.new.host) (g.H.Host.world c.carry_in_turns-ended.new.host) c.carry_in_turns-ended.result)
+          (c.new-lines.ensures ∙ ap (input_lines (program_tree c.in-Ok.begun.started.checked)) c.as_slice.ensures.value) c.carry_in_turns-ended.ensures.carried;
     }))

@@ -9,6 +9,7 @@ use Rattle.promise_spec.specs.Logs.{magic}
 use Rattle.promise_spec.specs.Loads.{bank_text, load_calls}
 use Rattle.bank_load.specs.Requests.{load_texts}
 use Rattle.bank_load.proofs.Asked.{load_read}
+use Rattle.silo_top.specs.GoingOn.{LoadCounts}
 use Rattle.silo_top.specs.Loading.{IsMadeFrom, IsNewBank}
 use Rattle.silo_top.specs.Serving.{IsBehindOpening}
 use Rattle.silo_top.specs.Statuses.{status_ending}
@@ -129,7 +130,7 @@ returns-in-Ok-load_lines-clause-keeps g c = λ told m settler' after new result 
     made_loads c.args.transfers c.args.seed m (load_texts c.args.transfers c.args.seed) (g.H.Host.world c.args.host.now) (g.H.Host.world c.create.new.host) last (g.H.Host.faults c.args.host.now) (g.H.Host.faults c.create.new.host) final status made c.in-Ok-create.ensures.calm
     (load_carries c.args.transfers c.args.seed m (with_checked c.in-Ok-open_silo.opened c.in-Ok.bank) c.in-Ok-start.started (g.H.Host.world c.create.new.host) (g.H.Host.world c.open_silo.new.host) new (g.H.Host.faults c.create.new.host) (g.H.Host.faults c.open_silo.new.host) after result behind_bank c.in-Ok-start.ensures.start bank_is new_bank (λ file. g.met.H.Host.seen_may_stay c.open_silo.new.host file told) stay c.in-Ok-start.ensures.quiet
     c.in-Ok-load_lines.lines are went.wide c.in-Ok-open_silo.ensures.bound.1.0 c.in-Ok-open_silo.ensures.calm settler' carried (texts_ask types c.args.transfers c.args.seed read) requests
-    (many ∙ ap length c.in-Ok-load_lines.ensures ∙ numbered_many 0 (load_calls c.args.transfers c.args.seed)) status final last counts says)
+    (many ∙ ap length c.in-Ok-load_lines.ensures ∙ numbered_many 0 (load_calls c.args.transfers c.args.seed)) status final last (subst (λ (n : ℕ). LoadCounts n result status after final) c.in-Ok-start.ensures.start.slot counts) says)
 
 pub returns-in-Ok-load_lines-clause-answers_on : goal.returns-in-Ok-load_lines-clause-answers_on
 returns-in-Ok-load_lines-clause-answers_on g c = λ m settler' after new result status final went counts.
@@ -140,4 +141,4 @@ returns-in-Ok-load_lines-clause-answers_on g c = λ m settler' after new result 
     let carried = of_opened g.H.Host.tells (with_checked c.in-Ok-open_silo.opened c.in-Ok.bank) c.in-Ok-start.started (λ (k : ProgramTree). c.in-Ok-load_lines.lines) (g.H.Host.faults c.open_silo.new.host) (g.H.Host.world c.open_silo.new.host) m settler' after new result c.in-Ok-start.ensures.start went in
     answers_behind (status_ending status) (g.H.Host.faults c.args.host.now) (g.H.Host.faults c.create.new.host) final c.in-Ok-create.ensures.calm
     (answers_behind (status_ending status) (g.H.Host.faults c.create.new.host) (g.H.Host.faults c.open_silo.new.host) final c.in-Ok-open_silo.ensures.calm
-    (load_answers g.H.Host.tells c.args.transfers c.args.seed m (with_checked c.in-Ok-open_silo.opened c.in-Ok.bank) c.in-Ok-start.started (g.H.Host.world c.open_silo.new.host) new (g.H.Host.faults c.open_silo.new.host) after result c.in-Ok-start.ensures.start c.in-Ok-start.ensures.quiet c.in-Ok-load_lines.lines are went.wide c.in-Ok-open_silo.ensures.bound.1.0 settler' carried status final counts))
+    (load_answers g.H.Host.tells c.args.transfers c.args.seed m (with_checked c.in-Ok-open_silo.opened c.in-Ok.bank) c.in-Ok-start.started (g.H.Host.world c.open_silo.new.host) new (g.H.Host.faults c.open_silo.new.host) after result c.in-Ok-start.ensures.start c.in-Ok-start.ensures.quiet c.in-Ok-load_lines.lines are went.wide c.in-Ok-open_silo.ensures.bound.1.0 settler' carried status final (subst (λ (n : ℕ). LoadCounts n result status after final) c.in-Ok-start.ensures.start.slot counts)))

@@ -21,6 +21,7 @@ loop-record-preserved c =
     let rs = c.args.records.now in
     let so_far = c.loop-record.invariant in
     record {
+      slot = c.count_writes.ensures.slot ∙ so_far.slot;
       gate = c.count_writes.ensures.gate ∙ so_far.gate;
       doubt = c.count_writes.ensures.doubt ∙ so_far.doubt;
       kept = c.count_writes.ensures.kept ∙ so_far.kept;

@@ -8,6 +8,7 @@ use Rattle.batch_disk.proofs.writer.BatchWriter.count_records.Given as goal
 
 abbrev pub invariant-loop-record : goal.invariant-loop-record
 invariant-loop-record l = record {
+  slot : l.self.slot ≡ l.fn.self.slot;
   gate : l.self.gate_at ≡ l.fn.self.gate_at;
   doubt : l.self.in_doubt ≡ l.fn.self.in_doubt;
   kept : l.self.kept ≡ l.fn.self.kept;

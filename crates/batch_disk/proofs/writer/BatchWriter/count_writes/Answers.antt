@@ -22,14 +22,15 @@ loop-write-preserved c =
     let d : Written = record { grain = record { kind = 0; key = 0 }; place = record { offset = 0; len = 0 } } in
     let w : Written = get_or ws i d in
     let a = c.loop-write.self in
-    let b : BatchWriter = record { gate_at = a.gate_at; ends = c.raise.new.self; batch = a.batch; kept = a.kept; in_doubt = a.in_doubt } in
+    let b : BatchWriter = record { slot = a.slot; gate_at = a.gate_at; ends = c.raise.new.self; batch = a.batch; kept = a.kept; in_doubt = a.in_doubt } in
     let can : WriteCanCount c.args.self.now w = each_at (WriteCanCount c.args.self.now) ws i d c.requires.can c.loop-write-test.true in
     let ends : (h : GrainId) → file_end b h ≡ raised_end (file_end a) w h = raise_is a.ends c.raise.new.self w c.raise.ensures.raised in
     record {
+      slot = c.loop-write.invariant.slot;
       gate = c.loop-write.invariant.gate;
       doubt = c.loop-write.invariant.doubt;
       kept = c.loop-write.invariant.kept;
       room = λ g there. c.raise.ensures.room g (c.loop-write.invariant.room g there);
-      bounds = raised_bounds a b w refl refl c.raise.ensures.room ends can.1 c.loop-write.invariant.bounds;
+      bounds = raised_bounds a b w refl refl refl c.raise.ensures.room ends can.1 c.loop-write.invariant.bounds;
       ends = λ g. next_raised (file_end a) (file_end b) (λ (h : GrainId). raised_ends (file_end c.args.self.now) ws h) ws i d g c.loop-write-test.true ends (c.loop-write.invariant.ends g);
     }

@@ -7,6 +7,7 @@ use Rattle.batch_disk.proofs.writer.BatchWriter.count_writes.Given as goal
 
 abbrev pub invariant-loop-write : goal.invariant-loop-write
 invariant-loop-write l = record {
+  slot : l.self.slot ≡ l.fn.self.slot;
   gate : l.self.gate_at ≡ l.fn.self.gate_at;
   doubt : l.self.in_doubt ≡ l.fn.self.in_doubt;
   kept : l.self.kept ≡ l.fn.self.kept;

@@ -6,6 +6,7 @@ use Rattle.batch_disk.proofs.writer.BatchWriter.keep.Given as goal
 
 abbrev pub invariant-loop-at : goal.invariant-loop-at
 invariant-loop-at l = record {
+  slot : l.self.slot ≡ l.fn.self.slot;
   gate : l.self.gate_at ≡ l.fn.self.gate_at;
   doubt : l.self.in_doubt ≡ l.fn.self.in_doubt;
   batch : l.self.batch ≡ l.fn.self.batch;

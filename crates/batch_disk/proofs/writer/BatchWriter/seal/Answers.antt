@@ -12,6 +12,7 @@ use Rattle.batch_disk.specs.Writers.{file_end, voted_by, kept_of, HasSameEnds}
 use Rattle.batch_disk.specs.declared.writer.BatchWriter.{BatchWriter}
 use Rattle.batch_disk.specs.Records.{commits_by}
 use Rattle.batch_disk.proofs.Sealing.{WriteCanCount, records_can_count, fits_sealed, fits_unsealed, fits_in_doubt, is_next, seals_as, stands_sealed, stands_unsealed, stands_in_doubt}
+use Rattle.batch_disk.proofs.Standing.{own_fits}
 use Rattle.batch_disk.proofs.writer.BatchWriter.seal.Goals as goal
 
 pub seal-requires-clause-block : goal.seal-requires-clause-block
@@ -31,7 +32,7 @@ returns-in-Sealed-clause-seals g c =
     let is : block ≡ spelling_of_block rs = c.as_slice.ensures ∙ c.requires.work.block in
     let w0 = g.H.Host.world c.args.host.now in
     let w2 = g.H.Host.world c.seal.new.host in
-    let d : BatchWriter = record { gate_at = c.count_records.new.self.gate_at; ends = c.count_records.new.self.ends; batch = c.count_records.new.self.batch; kept = c.clear.new.self; in_doubt = c.count_records.new.self.in_doubt } in
+    let d : BatchWriter = record { slot = c.count_records.new.self.slot; gate_at = c.count_records.new.self.gate_at; ends = c.count_records.new.self.ends; batch = c.count_records.new.self.batch; kept = c.clear.new.self; in_doubt = c.count_records.new.self.in_doubt } in
     let ends : (q : GrainId) → file_end d q ≡ raised_ends (file_end a) (flat_map (λ r. r.writes) rs) q =
     λ q. c.count_records.ensures.ends q ∙ ap (λ (l : List CommitRecord). raised_ends (file_end a) (flat_map (λ r. r.writes) l) q) c.as_slice-in-Sealed.ensures in
     let none : kept_of d ≡ [] = ap (map voted_by) c.clear.ensures.items in
@@ -39,9 +40,9 @@ returns-in-Sealed-clause-seals g c =
     let seen : (f : FileId) → MayLeave (w0.disk f) (w0.disk f).seen = λ f. g.met.H.Host.seen_may_stay c.args.host.now f told in
     let bodies = map body_of batches in
     let body = body_of (commits_by es rs) in
-    let next = is_next shape head batches batch es a rs block c.requires.work.fits c.requires.work.small is are logged true_of w0 w2 keeps seen in
-    seals_as shape head batches batch es a rs block c.requires.work.fits c.requires.work.small is are logged true_of w0 w2 keeps seen (c.seal.ensures.run told) (Sealed c.in-Sealed.next_gate) d (c.seal.ensures.moments told bodies body next)
-    (stands_sealed shape head batches batch es a rs block c.requires.work.fits c.requires.work.small is are logged true_of w0 w2 keeps seen (c.seal.ensures.run told) c.in-Sealed.next_gate d (c.in-Sealed.ensures.logs told bodies body next) c.count_records.ensures.gate none ends)
+    let next = is_next a.slot shape head batches batch es a rs block c.requires.work.fits c.requires.work.small is are logged true_of w0 w2 keeps seen in
+    seals_as a.slot shape head batches batch es a rs block c.requires.work.fits c.requires.work.small is are logged true_of w0 w2 keeps seen (c.seal.ensures.run told) (Sealed c.in-Sealed.next_gate) d (c.seal.ensures.moments told bodies body next)
+    (stands_sealed a.slot shape head batches batch es a rs block c.requires.work.fits c.requires.work.small is are logged true_of w0 w2 keeps seen (c.seal.ensures.run told) c.in-Sealed.next_gate d (c.in-Sealed.ensures.logs told bodies body next) c.count_records.ensures.gate none ends)
 
 pub returns-in-Sealed-clause-after : goal.returns-in-Sealed-clause-after
 returns-in-Sealed-clause-after g c =
@@ -51,7 +52,7 @@ returns-in-Sealed-clause-after g c =
     let is : block ≡ spelling_of_block rs = c.as_slice.ensures ∙ c.requires.work.block in
     let w0 = g.H.Host.world c.args.host.now in
     let w2 = g.H.Host.world c.seal.new.host in
-    let d : BatchWriter = record { gate_at = c.count_records.new.self.gate_at; ends = c.count_records.new.self.ends; batch = c.count_records.new.self.batch; kept = c.clear.new.self; in_doubt = c.count_records.new.self.in_doubt } in
+    let d : BatchWriter = record { slot = c.count_records.new.self.slot; gate_at = c.count_records.new.self.gate_at; ends = c.count_records.new.self.ends; batch = c.count_records.new.self.batch; kept = c.clear.new.self; in_doubt = c.count_records.new.self.in_doubt } in
     let ends : (q : GrainId) → file_end d q ≡ raised_ends (file_end a) (flat_map (λ r. r.writes) rs) q =
     λ q. c.count_records.ensures.ends q ∙ ap (λ (l : List CommitRecord). raised_ends (file_end a) (flat_map (λ r. r.writes) l) q) c.as_slice-in-Sealed.ensures in
     let none : kept_of d ≡ [] = ap (map voted_by) c.clear.ensures.items in
@@ -65,12 +66,12 @@ returns-in-Sealed-clause-fits g c =
     let is : block ≡ spelling_of_block rs = c.as_slice.ensures ∙ c.requires.work.block in
     let w0 = g.H.Host.world c.args.host.now in
     let w2 = g.H.Host.world c.seal.new.host in
-    let d : BatchWriter = record { gate_at = c.count_records.new.self.gate_at; ends = c.count_records.new.self.ends; batch = c.count_records.new.self.batch; kept = c.clear.new.self; in_doubt = c.count_records.new.self.in_doubt } in
+    let d : BatchWriter = record { slot = c.count_records.new.self.slot; gate_at = c.count_records.new.self.gate_at; ends = c.count_records.new.self.ends; batch = c.count_records.new.self.batch; kept = c.clear.new.self; in_doubt = c.count_records.new.self.in_doubt } in
     let ends : (q : GrainId) → file_end d q ≡ raised_ends (file_end a) (flat_map (λ r. r.writes) rs) q =
     λ q. c.count_records.ensures.ends q ∙ ap (λ (l : List CommitRecord). raised_ends (file_end a) (flat_map (λ r. r.writes) l) q) c.as_slice-in-Sealed.ensures in
     let none : kept_of d ≡ [] = ap (map voted_by) c.clear.ensures.items in
-    λ told. fits_sealed a d (length block + 1) 2 w0 w2 (c.seal.ensures.run told) (c.requires.fits told) c.in-Sealed.next_gate rs block c.requires.sure is c.requires.work.kept (c.in-Sealed.ensures.end told).0 c.in-Sealed.ensures.cause.0
-    c.count_records.ensures.gate none ends
+    λ told. own_fits a d w2.disk c.count_records.ensures.slot (fits_sealed a.slot a d (length block + 1) 2 w0 w2 (c.seal.ensures.run told) (c.requires.fits told) c.in-Sealed.next_gate rs block c.requires.sure is c.requires.work.kept (c.in-Sealed.ensures.end told).0 c.in-Sealed.ensures.cause.0
+    c.count_records.ensures.gate none ends)
 
 pub returns-in-NotSealed-clause-seals : goal.returns-in-NotSealed-clause-seals
 returns-in-NotSealed-clause-seals g c =
@@ -80,16 +81,16 @@ returns-in-NotSealed-clause-seals g c =
     let is : block ≡ spelling_of_block rs = c.as_slice.ensures ∙ c.requires.work.block in
     let w0 = g.H.Host.world c.args.host.now in
     let w2 = g.H.Host.world c.seal.new.host in
-    let d : BatchWriter = record { gate_at = a.gate_at; ends = a.ends; batch = a.batch; kept = c.clear-in-NotSealed.new.self; in_doubt = a.in_doubt } in
-    let same : HasSameEnds a d = record { gate = refl; ends = λ q. refl; doubt = refl } in
+    let d : BatchWriter = record { slot = a.slot; gate_at = a.gate_at; ends = a.ends; batch = a.batch; kept = c.clear-in-NotSealed.new.self; in_doubt = a.in_doubt } in
+    let same : HasSameEnds a d = record { slot = refl; gate = refl; ends = λ q. refl; doubt = refl } in
     let none : kept_of d ≡ [] = ap (map voted_by) c.clear-in-NotSealed.ensures.items in
     λ told shape head batches batch es are logged true_of keeps.
     let seen : (f : FileId) → MayLeave (w0.disk f) (w0.disk f).seen = λ f. g.met.H.Host.seen_may_stay c.args.host.now f told in
     let bodies = map body_of batches in
     let body = body_of (commits_by es rs) in
-    let next = is_next shape head batches batch es a rs block c.requires.work.fits c.requires.work.small is are logged true_of w0 w2 keeps seen in
-    seals_as shape head batches batch es a rs block c.requires.work.fits c.requires.work.small is are logged true_of w0 w2 keeps seen (c.seal.ensures.run told) NotSealed d (c.seal.ensures.moments told bodies body next)
-    (stands_unsealed shape head batches batch es a rs block c.requires.work.fits c.requires.work.small is are logged true_of w0 w2 keeps seen (c.seal.ensures.run told) d (c.in-NotSealed.ensures.logs told bodies body next) same none)
+    let next = is_next a.slot shape head batches batch es a rs block c.requires.work.fits c.requires.work.small is are logged true_of w0 w2 keeps seen in
+    seals_as a.slot shape head batches batch es a rs block c.requires.work.fits c.requires.work.small is are logged true_of w0 w2 keeps seen (c.seal.ensures.run told) NotSealed d (c.seal.ensures.moments told bodies body next)
+    (stands_unsealed a.slot shape head batches batch es a rs block c.requires.work.fits c.requires.work.small is are logged true_of w0 w2 keeps seen (c.seal.ensures.run told) d (c.in-NotSealed.ensures.logs told bodies body next) same none)
 
 pub returns-in-NotSealed-clause-fits : goal.returns-in-NotSealed-clause-fits
 returns-in-NotSealed-clause-fits g c =
@@ -99,10 +100,10 @@ returns-in-NotSealed-clause-fits g c =
     let is : block ≡ spelling_of_block rs = c.as_slice.ensures ∙ c.requires.work.block in
     let w0 = g.H.Host.world c.args.host.now in
     let w2 = g.H.Host.world c.seal.new.host in
-    let d : BatchWriter = record { gate_at = a.gate_at; ends = a.ends; batch = a.batch; kept = c.clear-in-NotSealed.new.self; in_doubt = a.in_doubt } in
-    let same : HasSameEnds a d = record { gate = refl; ends = λ q. refl; doubt = refl } in
+    let d : BatchWriter = record { slot = a.slot; gate_at = a.gate_at; ends = a.ends; batch = a.batch; kept = c.clear-in-NotSealed.new.self; in_doubt = a.in_doubt } in
+    let same : HasSameEnds a d = record { slot = refl; gate = refl; ends = λ q. refl; doubt = refl } in
     let none : kept_of d ≡ [] = ap (map voted_by) c.clear-in-NotSealed.ensures.items in
-    λ told. fits_unsealed a d (length block + 1) 2 w0 w2 (c.seal.ensures.run told) (c.requires.fits told) (length block) c.requires.sure (c.in-NotSealed.ensures.end told).seen same none
+    λ told. fits_unsealed a.slot a d (length block + 1) 2 w0 w2 (c.seal.ensures.run told) (c.requires.fits told) (length block) c.requires.sure (c.in-NotSealed.ensures.end told).seen same none
 
 pub returns-clause-seals : goal.returns-clause-seals
 returns-clause-seals g c =
@@ -112,14 +113,14 @@ returns-clause-seals g c =
     let is : block ≡ spelling_of_block rs = c.as_slice.ensures ∙ c.requires.work.block in
     let w0 = g.H.Host.world c.args.host.now in
     let w2 = g.H.Host.world c.seal.new.host in
-    let d : BatchWriter = record { gate_at = a.gate_at; ends = a.ends; batch = a.batch; kept = a.kept; in_doubt = true } in
+    let d : BatchWriter = record { slot = a.slot; gate_at = a.gate_at; ends = a.ends; batch = a.batch; kept = a.kept; in_doubt = true } in
     λ told shape head batches batch es are logged true_of keeps.
     let seen : (f : FileId) → MayLeave (w0.disk f) (w0.disk f).seen = λ f. g.met.H.Host.seen_may_stay c.args.host.now f told in
     let bodies = map body_of batches in
     let body = body_of (commits_by es rs) in
-    let next = is_next shape head batches batch es a rs block c.requires.work.fits c.requires.work.small is are logged true_of w0 w2 keeps seen in
-    seals_as shape head batches batch es a rs block c.requires.work.fits c.requires.work.small is are logged true_of w0 w2 keeps seen (c.seal.ensures.run told) InDoubt d (c.seal.ensures.moments told bodies body next)
-    (stands_in_doubt shape head batches batch es a rs block c.requires.work.fits c.requires.work.small is are logged true_of w0 w2 keeps seen (c.seal.ensures.run told) d (λ f. g.met.H.Host.seen_may_stay c.seal.new.host f told) (c.in-InDoubt.ensures.end told) (c.in-InDoubt.ensures.logs told bodies body next) (c.in-InDoubt.ensures.which told bodies body next))
+    let next = is_next a.slot shape head batches batch es a rs block c.requires.work.fits c.requires.work.small is are logged true_of w0 w2 keeps seen in
+    seals_as a.slot shape head batches batch es a rs block c.requires.work.fits c.requires.work.small is are logged true_of w0 w2 keeps seen (c.seal.ensures.run told) InDoubt d (c.seal.ensures.moments told bodies body next)
+    (stands_in_doubt a.slot shape head batches batch es a rs block c.requires.work.fits c.requires.work.small is are logged true_of w0 w2 keeps seen (c.seal.ensures.run told) d (λ f. g.met.H.Host.seen_may_stay c.seal.new.host f told) (c.in-InDoubt.ensures.end told) (c.in-InDoubt.ensures.logs told bodies body next) (c.in-InDoubt.ensures.which told bodies body next))
 
 pub returns-clause-fits : goal.returns-clause-fits
 returns-clause-fits g c =
@@ -129,5 +130,5 @@ returns-clause-fits g c =
     let is : block ≡ spelling_of_block rs = c.as_slice.ensures ∙ c.requires.work.block in
     let w0 = g.H.Host.world c.args.host.now in
     let w2 = g.H.Host.world c.seal.new.host in
-    let d : BatchWriter = record { gate_at = a.gate_at; ends = a.ends; batch = a.batch; kept = a.kept; in_doubt = true } in
-    λ told. fits_in_doubt a d (length block + 1) 2 w0 w2 (c.seal.ensures.run told) (c.requires.fits told) refl
+    let d : BatchWriter = record { slot = a.slot; gate_at = a.gate_at; ends = a.ends; batch = a.batch; kept = a.kept; in_doubt = true } in
+    λ told. fits_in_doubt a.slot a d (length block + 1) 2 w0 w2 (c.seal.ensures.run told) (c.requires.fits told) refl

@@ -22,7 +22,7 @@ pub returns-in-Sealed-clause-made : goal.returns-in-Sealed-clause-made
 returns-in-Sealed-clause-made g c = λ shape w shown.
     let a = c.args.self.now in
     let b : Settler = record { alloc = a.alloc; writer = c.seal.new.self; quiet = a.quiet; written = a.written; doubted = a.doubted } in
-    let seals : SealsUnits g.H.Host.tells g.H.Host.world g.H.Host.faults c.args.batch (event_of c.args.batch c.seal.result) c.args.effects a.writer b.writer c.args.host.now c.seal.new.host = record {
+    let seals : SealsUnits g.H.Host.tells g.H.Host.world g.H.Host.faults a.writer.slot c.args.batch (event_of c.args.batch c.seal.result) c.args.effects a.writer b.writer c.args.host.now c.seal.new.host = record {
       sure = sym c.in_doubt.ensures ∙ c.if-in_doubt.false;
       answer = c.seal.result;
       event = refl;
@@ -32,6 +32,7 @@ returns-in-Sealed-clause-made g c = λ shape w shown.
       run = c.seal.ensures.run;
       twice = c.seal.ensures.twice;
       seals = λ told shape head batches logged written keeps. c.seal.ensures.seals told shape head batches c.args.batch c.args.effects c.in_ok-made.ensures.records logged written keeps;
+      slot = c.seal.ensures.slot;
       after_is = c.seal.ensures.after;
       cause = c.seal.ensures.cause;
     } in
@@ -41,7 +42,7 @@ pub returns-in-NotSealed-clause-made : goal.returns-in-NotSealed-clause-made
 returns-in-NotSealed-clause-made g c = λ shape w shown.
     let a = c.args.self.now in
     let b : Settler = record { alloc = a.alloc; writer = c.seal.new.self; quiet = a.quiet; written = a.written; doubted = a.doubted } in
-    let seals : SealsUnits g.H.Host.tells g.H.Host.world g.H.Host.faults c.args.batch (event_of c.args.batch c.seal.result) c.args.effects a.writer b.writer c.args.host.now c.seal.new.host = record {
+    let seals : SealsUnits g.H.Host.tells g.H.Host.world g.H.Host.faults a.writer.slot c.args.batch (event_of c.args.batch c.seal.result) c.args.effects a.writer b.writer c.args.host.now c.seal.new.host = record {
       sure = sym c.in_doubt.ensures ∙ c.if-in_doubt.false;
       answer = c.seal.result;
       event = refl;
@@ -51,6 +52,7 @@ returns-in-NotSealed-clause-made g c = λ shape w shown.
       run = c.seal.ensures.run;
       twice = c.seal.ensures.twice;
       seals = λ told shape head batches logged written keeps. c.seal.ensures.seals told shape head batches c.args.batch c.args.effects c.in_ok-made.ensures.records logged written keeps;
+      slot = c.seal.ensures.slot;
       after_is = c.seal.ensures.after;
       cause = c.seal.ensures.cause;
     } in
@@ -60,7 +62,7 @@ pub returns-in-InDoubt-clause-made : goal.returns-in-InDoubt-clause-made
 returns-in-InDoubt-clause-made g c = λ shape w shown.
     let a = c.args.self.now in
     let b : Settler = record { alloc = a.alloc; writer = c.seal.new.self; quiet = a.quiet; written = a.written; doubted = a.doubted } in
-    let seals : SealsUnits g.H.Host.tells g.H.Host.world g.H.Host.faults c.args.batch (event_of c.args.batch c.seal.result) c.args.effects a.writer b.writer c.args.host.now c.seal.new.host = record {
+    let seals : SealsUnits g.H.Host.tells g.H.Host.world g.H.Host.faults a.writer.slot c.args.batch (event_of c.args.batch c.seal.result) c.args.effects a.writer b.writer c.args.host.now c.seal.new.host = record {
       sure = sym c.in_doubt.ensures ∙ c.if-in_doubt.false;
       answer = c.seal.result;
       event = refl;
@@ -70,6 +72,7 @@ returns-in-InDoubt-clause-made g c = λ shape w shown.
       run = c.seal.ensures.run;
       twice = c.seal.ensures.twice;
       seals = λ told shape head batches logged written keeps. c.seal.ensures.seals told shape head batches c.args.batch c.args.effects c.in_ok-made.ensures.records logged written keeps;
+      slot = c.seal.ensures.slot;
       after_is = c.seal.ensures.after;
       cause = c.seal.ensures.cause;
     } in

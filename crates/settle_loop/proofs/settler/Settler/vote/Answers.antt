@@ -12,7 +12,7 @@ returns-clause-made g c = λ shape w shown.
     let kept = c.in_ok-kept.kept in
     vote_made g.H.Host.tells g.H.Host.world g.H.Host.faults shape w a b h0 h1 refl c.args.batch c.args.grain kept c.args.versions shown
     (record {
-      cause = vote_cause c.args.grain kept (g.H.Host.faults h0) (g.H.Host.faults h1) c.in_ok-kept.ensures.yes c.in_ok-kept.ensures.no;
+      cause = vote_cause a.writer.slot c.args.grain kept (g.H.Host.faults h0) (g.H.Host.faults h1) c.in_ok-kept.ensures.yes c.in_ok-kept.ensures.no;
       run = c.write_work.ensures.run;
       there = λ told is. record { file = c.in_ok-kept.ensures.there is told; once = c.in_ok-kept.ensures.once is told };
       kept = vote_kept kept c.args.batch c.args.grain c.args.versions a.writer b.writer c.in_ok-kept.ensures.voted;
