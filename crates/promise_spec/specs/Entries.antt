@@ -69,6 +69,10 @@ standing_of log = after_entries log.base log.entries
 abbrev pub new_log : Program → Log
 new_log p = record { base = new_silo p; entries = [] }
 
+-- what stands for the same, with no entry behind the base
+abbrev pub checkpointed : Log → Log
+checkpointed log = record { base = standing_of log; entries = [] }
+
 -- with these records more
 abbrev pub grown : Log → List Commit → Log
 grown log more = record { base = log.base; entries = log.entries ++ map Recorded more }
