@@ -14,6 +14,7 @@ use Rattle.promise_spec.specs.Entries.{LogEntry, Recorded, records_among, record
 use Rattle.promise_spec.specs.Versions.{IsKept}
 use Rattle.promise_spec.specs.Blocks.{Block, Records, entries_in, body_of, BlockFits, AreKept}
 use Rattle.promise_spec.specs.Logs.{StandsUpTo, IsLogIn}
+use Rattle.promise_spec.proofs.Standings.{records_append, records_back}
 
 -- ---- entries and blocks of records alone
 
@@ -22,14 +23,6 @@ pub recorded_back : (entries : List LogEntry) → map Recorded (records_among en
 recorded_back [] = refl
 recorded_back (Recorded c ∷ entries) = ap (λ (l : List LogEntry). Recorded c ∷ l) (recorded_back entries)
 
-pub records_back : (commits : List Commit) → records_among (map Recorded commits) ≡ commits
-records_back [] = refl
-records_back (c ∷ commits) = ap (λ (l : List Commit). c ∷ l) (records_back commits)
-
-pub records_append : (entries more : List LogEntry) → records_among (entries ++ more) ≡ records_among entries ++ records_among more
-records_append [] more = refl
-records_append (Recorded c ∷ entries) more = ap (λ (l : List Commit). c ∷ l) (records_append entries more)
-
 -- the batch of a block, and the body of a batch
 pub batch_in : Block → List Commit
 batch_in (Records batch) = batch
@@ -37,7 +30,7 @@ batch_in (Records batch) = batch
 abbrev pub batch_body : List Commit → List ℕ
 batch_body batch = body_of (Records batch)
 
-bodies_are : (blocks : List Block) → map body_of blocks ≡ map batch_body (map batch_in blocks)
+pub bodies_are : (blocks : List Block) → map body_of blocks ≡ map batch_body (map batch_in blocks)
 unfolding batch_in
 bodies_are [] = refl
 bodies_are (Records batch ∷ blocks) = ap (λ (l : List (List ℕ)). batch_body batch ∷ l) (bodies_are blocks)
@@ -46,7 +39,7 @@ bodies_again : (batches : List (List Commit)) → map batch_body batches ≡ map
 bodies_again [] = refl
 bodies_again (batch ∷ batches) = ap (λ (l : List (List ℕ)). batch_body batch ∷ l) (bodies_again batches)
 
-sizes_are : (blocks : List Block) → AllByRecursion BlockFits blocks → AllByRecursion (λ (batch : List Commit). length batch ≤ 64) (map batch_in blocks)
+pub sizes_are : (blocks : List Block) → AllByRecursion BlockFits blocks → AllByRecursion (λ (batch : List Commit). length batch ≤ 64) (map batch_in blocks)
 unfolding batch_in
 sizes_are [] all = tt
 sizes_are (Records batch ∷ blocks) all = (all.0, sizes_are blocks all.1)
@@ -55,7 +48,7 @@ sizes_again : (batches : List (List Commit)) → AllByRecursion (λ (batch : Lis
 sizes_again [] all = tt
 sizes_again (batch ∷ batches) all = (all.0, sizes_again batches all.1)
 
-entries_are : (blocks : List Block) → records_among (flat_map entries_in blocks) ≡ flat_map (λ (batch : List Commit). batch) (map batch_in blocks)
+pub entries_are : (blocks : List Block) → records_among (flat_map entries_in blocks) ≡ flat_map (λ (batch : List Commit). batch) (map batch_in blocks)
 unfolding batch_in
 entries_are [] = refl
 entries_are (Records batch ∷ blocks) =
@@ -68,7 +61,7 @@ entries_again [] = refl
 entries_again (batch ∷ batches) = map-append Recorded batch (flat_map (λ (b : List Commit). b) batches) ∙ ap (λ (l : List LogEntry). map Recorded batch ++ l) (entries_again batches)
 
 module _ (live : ℕ) (p : Program) (image : Image) where
-  kept_are : (entries : List LogEntry) → AreKept live image p entries → AllByRecursion (IsKept live (shape_in p) image) (records_among entries)
+  pub kept_are : (entries : List LogEntry) → AreKept live image p entries → AllByRecursion (IsKept live (shape_in p) image) (records_among entries)
   kept_are [] all = tt
   kept_are (Recorded c ∷ entries) all = (all.0, kept_are entries all.1)
 

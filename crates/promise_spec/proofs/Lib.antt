@@ -1,5 +1,7 @@
 pub mod Lists
 pub mod Slots
+pub mod Standings
+pub mod Prefixes
 pub mod Batched
 pub mod OneLog
 pub mod EntryLines
@@ -9,8 +11,6 @@ pub mod ReadVersions
 pub mod Openings
 pub mod Doubts
 pub mod Words
-pub mod Standings
-pub mod Prefixes
 pub mod Opened
 pub mod CountedSyncs
 pub mod WholeFolders

@@ -1,9 +1,10 @@
 -- Prefixes over positions.
-use Rattle.std.proofs.Common.{◌≡◌, ◌⊎◌, inl, inr, ℕ, ◌+◌, ◌-◌, ◌<◌, ◌≤◌, max, List, [], ◌∷◌, ◌++◌, length, take, drop, refl, sym, ap, subst, ◌∙◌, arith, append_assoc, append-nil, length-append, length-take, length-drop}
+use Rattle.std.proofs.Common.{◌≡◌, ◌⊎◌, inl, inr, ℕ, ◌+◌, ◌-◌, ◌<◌, ◌≤◌, max, List, [], ◌∷◌, ◌++◌, length, map, take, drop, refl, sym, ap, subst, ◌∙◌, arith, append_assoc, append-nil, length-append, length-take, length-drop}
 use Rattle.std.proofs.lemmas.Bool.{cases_lt}
-use Rattle.std.proofs.lemmas.List.{take_all, drop_all, take-append-le, drop-append-le, take-append-drop, drop-drop, take-take, drop-take}
+use Rattle.std.proofs.lemmas.List.{map-append, take_all, drop_all, take-append-le, drop-append-le, take-append-drop, drop-drop, take-take, drop-take}
+use Rattle.promise_spec.specs.Records.{Commit}
 use Rattle.promise_spec.specs.Logs.{IsPrefix}
-use Rattle.promise_spec.specs.Entries.{LogEntry, Standing, after_entries, Log, standing_of, checkpointed}
+use Rattle.promise_spec.specs.Entries.{LogEntry, Recorded, Standing, after_entries, Log, standing_of, grown, checkpointed}
 use Rattle.promise_spec.specs.Prefixes.{last_position, from_position, GoesOn, IsPrefixOf}
 use Rattle.promise_spec.proofs.Standings.{in_parts, counted}
 
@@ -177,3 +178,24 @@ then_on a b c known (inr on) (inr more) = elim (cases_lt (last_position a) c.bas
 -- each log is a prefix of itself
 pub of_itself : (a : Log) → IsPrefixOf a a
 of_itself a = over_one_base a a refl ([], sym (append-nil a.entries))
+
+-- a log that grew by a first part of what another grew by
+pub grown_front : (log : Log) (more all : List Commit) → IsPrefix more all → IsPrefixOf (grown log more) (grown log all)
+grown_front log more all front =
+    let entries : log.entries ++ map Recorded all ≡ (log.entries ++ map Recorded more) ++ map Recorded front.0 =
+    ap (λ (l : List Commit). log.entries ++ map Recorded l) front.1
+    ∙ ap (λ (l : List LogEntry). log.entries ++ l) (map-append Recorded more front.0)
+    ∙ sym (append_assoc log.entries (map Recorded more) (map Recorded front.0)) in
+    over_one_base (grown log more) (grown log all) refl (map Recorded front.0, entries)
+
+-- over bases of no entry a prefix has the same base and a first part of the entries
+pub of_no_entry : (a b : Log) → a.base.count ≡ 0 → b.base.count ≡ 0 → IsPrefixOf a b → (a.base ≡ b.base) × IsPrefix a.entries b.entries
+of_no_entry a b none none_too (inl gap) = absurd (omega (arith, gap, none_too))
+of_no_entry a b none none_too (inr on) =
+    let at : ℕ = max a.base.count b.base.count in
+    let one : from_position at a ≡ a = from_base at a (omega (arith, none, none_too)) in
+    let two : from_position at b ≡ b = from_base at b (omega (arith, none, none_too)) in
+    (
+      sym (ap (λ (l : Log). l.base) one) ∙ on.base ∙ ap (λ (l : Log). l.base) two,
+      subst (λ (l : Log). IsPrefix a.entries l.entries) two (subst (λ (l : Log). IsPrefix l.entries (from_position at b).entries) one on.entries),
+    )

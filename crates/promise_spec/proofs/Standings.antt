@@ -3,7 +3,7 @@ use Rattle.std.proofs.Common.{◌≡◌, ◌↔◌, ℕ, ◌+◌, max, List, [],
 use Rattle.std.proofs.lemmas.List.{map-append}
 use Rattle.promise_spec.specs.Programs.{Program}
 use Rattle.promise_spec.specs.Records.{Commit, after_writes}
-use Rattle.promise_spec.specs.Entries.{LogEntry, Recorded, records_among, Standing, after_entry, after_entries, Log, standing_of, grown}
+use Rattle.promise_spec.specs.Entries.{LogEntry, Recorded, records_among, Standing, after_entry, after_entries, Log, records_of, standing_of, grown}
 use Rattle.promise_spec.specs.Serial.{IsSerial, IsSerialFrom}
 
 -- how many entries there are
@@ -51,3 +51,15 @@ serial_from before [] = (λ all. tt, λ all. tt)
 serial_from before (c ∷ more) =
     let rest = serial_from (after_entry before (Recorded c)) more in
     (λ all. (all.0, rest.0 all.1), λ all. (all.0, rest.1 all.1))
+
+-- its records
+pub records_append : (entries more : List LogEntry) → records_among (entries ++ more) ≡ records_among entries ++ records_among more
+records_append [] more = refl
+records_append (Recorded c ∷ entries) more = ap (λ (l : List Commit). c ∷ l) (records_append entries more)
+
+pub records_back : (commits : List Commit) → records_among (map Recorded commits) ≡ commits
+records_back [] = refl
+records_back (c ∷ commits) = ap (λ (l : List Commit). c ∷ l) (records_back commits)
+
+pub grown_records : (log : Log) (more : List Commit) → records_of (grown log more) ≡ records_of log ++ more
+grown_records log more = records_append log.entries (map Recorded more) ∙ ap (λ (l : List Commit). records_of log ++ l) (records_back more)

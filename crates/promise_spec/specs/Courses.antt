@@ -44,8 +44,8 @@ abbrev pub order : Course → Log
 order c = grown c.opening c.added
 
 -- the program in force, which is `p` of all clauses
-abbrev pub program_of : Course → Program
-program_of c = (standing_of c.opening).program
+abbrev pub program_in_force : Course → Program
+program_in_force c = (standing_of c.opening).program
 
 -- the moments that count for crashes
 abbrev pub moments : Observed → Course → List Moment

@@ -3,7 +3,7 @@ use Rattle.std.specs.Prelude.{◌⊎◌}
 use Rattle.silo_spec.specs.Moments.{IsUntouched}
 use Rattle.promise_spec.specs.Programs.{Program}
 use Rattle.promise_spec.specs.Images.{IsSoundFolder}
-use Rattle.promise_spec.specs.Courses.{Observed, Course, program_of}
+use Rattle.promise_spec.specs.Courses.{Observed, Course, program_in_force}
 use Rattle.promise_spec.specs.Orders.{IsOrdered}
 use Rattle.promise_spec.specs.Replies.{AreReplies}
 use Rattle.promise_spec.specs.Crashes.{SurvivesCrashes, StaySound, HoldsReplies}
@@ -20,4 +20,4 @@ pub record KeepsHeadline (p : Program) (r : Observed) (c : Course) : Type 0 wher
 
 -- the call wrote nothing and left each image one of those at entry, or took a course that keeps the headline
 abbrev pub HasHeadline : Observed → Type 0
-HasHeadline r = IsUntouched r.old r.new ⊎ ((c : Course) × KeepsHeadline (program_of c) r c)
+HasHeadline r = IsUntouched r.old r.new ⊎ ((c : Course) × KeepsHeadline (program_in_force c) r c)

@@ -22,7 +22,7 @@ use Rattle.promise_spec.specs.Lines.{IsLineCall}
 use Rattle.promise_spec.specs.Kinds.{kind_of}
 use Rattle.promise_spec.specs.Causes.{NoneRose, RunHasDoubt, syncs_of, most_syncs_of}
 use Rattle.promise_spec.specs.Endings as ending
-use Rattle.promise_spec.specs.Courses.{Observed, Course, order, moments, lines, program_of, core_run, core_end}
+use Rattle.promise_spec.specs.Courses.{Observed, Course, order, moments, lines, program_in_force, core_run, core_end}
 use Rattle.promise_spec.specs.Images.{IsSoundFolder}
 use Rattle.promise_spec.specs.Orders.{IsOrdered}
 use Rattle.promise_spec.specs.Crashes.{SurvivesCrashes, StaySound}
@@ -194,7 +194,7 @@ from_there r made = record r { old = made }
 pub record LoadsFrom (n seed : ℕ) (r : Observed) : Type 0 where
   pub made : World
   pub has : HasMade r made
-  pub carried : IsUnopened (from_there r made) ⊎ ((c : Course) × ((program_of c).text ≡ bank_text) × KeepsLoad (program_of c) n seed (from_there r made) c)
+  pub carried : IsUnopened (from_there r made) ⊎ ((c : Course) × ((program_in_force c).text ≡ bank_text) × KeepsLoad (program_in_force c) n seed (from_there r made) c)
 
 -- What `load` promises, carried in the manner of its words: it makes no silo, or makes one and carries its lines in it.
 pub record Loads (n seed : ℕ) (m : Manner) (r : Observed) : Type 0 where

@@ -20,7 +20,7 @@ use Rattle.promise_spec.specs.Cores.{AppliesAt}
 use Rattle.promise_spec.specs.Causes.{NoneRose, syncs_of, most_syncs_of}
 use Rattle.promise_spec.specs.Endings.{Done, WriteFault, IsMarked, HasRisen, IsCarried, IsBegun, IsCalm, HasLength, CountsSyncs, input_limit}
 use Rattle.promise_spec.specs.Words.{Manner}
-use Rattle.promise_spec.specs.Courses.{Observed, Course, order, lines, seen_at_entry, program_of, core_run, core_end}
+use Rattle.promise_spec.specs.Courses.{Observed, Course, order, lines, seen_at_entry, program_in_force, core_run, core_end}
 use Rattle.promise_spec.specs.Refusals.{IsUnopened}
 use Rattle.promise_spec.specs.Replies.{IsTrueOf, StandInOrder}
 use Rattle.promise_spec.specs.Headline.{KeepsHeadline}
@@ -113,5 +113,5 @@ pub record KeepsAnywhere (p : Program) (r : Observed) (c : Course) : Type 0 wher
 -- that keeps all six clauses, of which that images stay sound alone asks that they were.
 pub record Promises (m : Manner) (r : Observed) : Type 0 where
   pub manner : r.manner ≡ m
-  pub answers : IsUnopened r ⊎ ((c : Course) × KeepsAnywhere (program_of c) r c)
-  pub over_whole : IsWholeFolder r.old → IsUnopened r ⊎ ((c : Course) × Keeps (program_of c) r c)
+  pub answers : IsUnopened r ⊎ ((c : Course) × KeepsAnywhere (program_in_force c) r c)
+  pub over_whole : IsWholeFolder r.old → IsUnopened r ⊎ ((c : Course) × Keeps (program_in_force c) r c)
