@@ -20,10 +20,11 @@ use Rattle.script_meaning.specs.Trails.{Has, states_of}
 use Rattle.script_meaning.proofs.Lists.{pairs_first, pairs_rest}
 use Rattle.script_meaning.proofs.Plays.{play_rests_on_reads_lem, plays_are_orderly_lem}
 use Rattle.promise_spec.specs.Programs.{Program}
-use Rattle.promise_spec.specs.Records.{Commit, States, Standing, put_state, after_writes, new_silo, after_record, after_records, IsRecordOf, AreRecordsOf}
+use Rattle.promise_spec.specs.Records.{Commit, States, put_state, after_writes, IsRecordOf, AreRecordsOf}
+use Rattle.promise_spec.specs.Entries.{LogEntry, Recorded, Standing, after_entry, after_entries, standing_of}
 use Rattle.promise_spec.specs.Serial.{IsSerial, Replays, depth_of, played}
 use Rattle.promise_spec.specs.UnitRule.{played_by, IsPlayOf}
-use Rattle.promise_spec.specs.Courses.{Observed, Course, basis, opening_standing, core_run, core_end}
+use Rattle.promise_spec.specs.Courses.{Observed, Course, basis, core_run, core_end}
 use Rattle.promise_spec.specs.Explained.{IsExplained}
 use Rattle.promise_laws.specs.Legality.{is_play, applied_run}
 use Rattle.promise_laws.proofs.Legal.{is_play-true, ends_alike, legal}

@@ -11,7 +11,8 @@ use Rattle.cell_model.proofs.Units.{filter-member}
 use Rattle.script_tree.specs.Programs.{ProgramTree}
 use Rattle.promise_spec.specs.Programs.{Program}
 use Rattle.promise_spec.specs.Records.{Commit, AreRecordsOf}
-use Rattle.promise_spec.specs.Entries.{LogEntry, Recorded as RecordedAs, Standing, after_entry, after_entries, records_of, standing_of}
+use Rattle.promise_spec.specs.Entries as entry
+use Rattle.promise_spec.specs.Entries.{LogEntry, Standing, after_entry, after_entries, records_of, standing_of}
 use Rattle.promise_spec.specs.Serial.{IsSerial, IsSerialFrom}
 use Rattle.promise_spec.specs.Images.{IsAboveParent, AreNumbered}
 use Rattle.promise_spec.specs.Courses.{Observed, Course, lines, order, program_in_force, core_end}
@@ -22,9 +23,9 @@ use Rattle.promise_laws.proofs.SerialRecords.{explained_serial}
 use Rattle.promise_laws.proofs.TrueReplies.{Known, known_of, Recorded, recorded, chosen_by, unit_of, order-finished, next-grows, below-next, rises-filter, order-rises}
 
 -- records that are serial from where entries, which are serial, lead
-serial_after : (before : Standing) (entries : List LogEntry) (more : List Commit) → IsSerialFrom before entries → IsSerialFrom (after_entries before entries) (map RecordedAs more) → IsSerialFrom before (entries ++ map RecordedAs more)
+serial_after : (before : Standing) (entries : List LogEntry) (more : List Commit) → IsSerialFrom before entries → IsSerialFrom (after_entries before entries) (map entry.Recorded more) → IsSerialFrom before (entries ++ map entry.Recorded more)
 serial_after before [] more first later = later
-serial_after before (RecordedAs c ∷ entries) more first later = (first.0, serial_after (after_entry before (RecordedAs c)) entries more first.1 later)
+serial_after before (entry.Recorded c ∷ entries) more first later = (first.0, serial_after (after_entry before (entry.Recorded c)) entries more first.1 later)
 
 -- the order is serial where the opening log is
 pub order_serial : (p : Program) (r : Observed) (c : Course) → program_in_force c ≡ p → 0 < c.opening.base.next → IsExplained p r c → IsSerialFrom c.opening.base c.opening.entries → IsSerialFrom (order c).base (order c).entries

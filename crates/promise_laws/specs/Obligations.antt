@@ -17,7 +17,7 @@ use Rattle.promise_spec.specs.Images.{IsWholeFolder}
 use Rattle.promise_spec.specs.Causes.{AreFaults, RunHasDoubt, NoneRose, is_unsealed, syncs_of, most_syncs_of}
 use Rattle.promise_spec.specs.Cores.{how_many}
 use Rattle.promise_spec.specs.Endings.{Done, WriteFault, DiskFault, HasRisen, IsCarried, HasLength, CountsSyncs, EndingMayDoubt}
-use Rattle.promise_spec.specs.Courses.{Observed, Course, order, moments, lines, seen_at_entry, basis, core_run, core_end}
+use Rattle.promise_spec.specs.Courses.{Observed, Course, order, moments, lines, seen_at_entry, program_in_force, basis, core_run, core_end}
 use Rattle.promise_spec.specs.Crashes.{LeavesAlone}
 use Rattle.promise_spec.specs.Batches.{EndsABatch}
 use Rattle.promise_spec.specs.Replies.{HasNoRecord}
@@ -92,8 +92,9 @@ pub record EndsRightly (p : Program) (r : Observed) (c : Course) : Type 0 where
   pub syncs : NoneRose r.faults_before r.faults_after → CountsSyncs r.ending → r.new.syncs ≡ r.old.syncs + syncs_of (core_run p c)
   pub most : r.new.syncs ≤ r.old.syncs + most_syncs_of (core_run p c)
 
--- what a run has to show
+-- what a run has to show; the program is that in force
 pub record Shows (p : Program) (r : Observed) (c : Course) : Type 0 where
+  pub in_force : program_in_force c ≡ p
   pub opens : Opens r c
   pub explains : ExplainsEvents p r c
   pub settled : AreSettled p r c
@@ -105,6 +106,7 @@ pub record Shows (p : Program) (r : Observed) (c : Course) : Type 0 where
 
 -- what a run has to show over any folder that reads as a silo, sound or not: nothing of what the images hold
 pub record ShowsAnywhere (p : Program) (r : Observed) (c : Course) : Type 0 where
+  pub in_force : program_in_force c ≡ p
   pub explains : ExplainsEvents p r c
   pub settled : AreSettled p r c
   pub output : Grew (shape_in p) r.old.output r.new.output c.entries c.rest
