@@ -11,7 +11,7 @@ use Rattle.promise_spec.specs.Outputs.{Grew, reply_lines}
 use Rattle.promise_spec.specs.Openings.{Reads, opened_as}
 use Rattle.promise_spec.specs.Endings as ending
 use Rattle.promise_spec.specs.Cores.{core_from}
-use Rattle.promise_spec.specs.Courses.{Observed, Course, seen_at_entry, core_end}
+use Rattle.promise_spec.specs.Courses.{Observed, Course, seen_at_entry, program_in_force, core_end}
 use Rattle.promise_spec.specs.Entries.{standing_of}
 use Rattle.promise_spec.specs.Words.{Manner}
 use Rattle.promise_spec.specs.Promise.{Keeps, KeepsAnywhere, Promises}
@@ -69,16 +69,17 @@ module _ (p : Program) (r : Observed) (c : Course) (k : KeepsAnywhere p r c) whe
       ∙ ap (λ (rest : List ℕ). r.old.output ++ rest) whole
       ∙ append-nil r.old.output
 
-  pub anywhere_opened : HasOpened r
-  anywhere_opened = record {
-    openable = record { live = c.live; log = c.opening; reads = k.reads };
-    carried = k.ended.carried;
-    risen = k.ended.risen;
-    file = λ f is. (k.explained.doubted f is).0;
-    long = k.ended.long;
-    done = has_answered;
-    unbegun = nothing_said;
-  }
+-- a run that keeps this much of the program in force opened its folder
+pub anywhere_opened : (r : Observed) (c : Course) → KeepsAnywhere (program_in_force c) r c → HasOpened r
+anywhere_opened r c k = record {
+  openable = record { live = c.live; log = c.opening; reads = k.reads };
+  carried = k.ended.carried;
+  risen = k.ended.risen;
+  file = λ f is. (k.explained.doubted f is).0;
+  long = k.ended.long;
+  done = has_answered (program_in_force c) r c k;
+  unbegun = nothing_said (program_in_force c) r c k;
+}
 
 -- ---- what it shows
 

@@ -141,7 +141,7 @@ module _ (p : Program) (r s : Observed) (c : Course) (told : List Moment) (told_
       image = k.longest.image;
       left = of_load k.longest.image k.longest.left;
       log = k.longest.log;
-      longest = λ other is. k.longest.longest other (of_run other is);
+      longest = λ other log is. k.longest.longest other log (of_run other is);
     };
     serial = k.serial;
   }
@@ -153,7 +153,7 @@ module _ (p : Program) (r s : Observed) (c : Course) (told : List Moment) (told_
     before = k.before;
     chain = λ one other is_one is_other. k.chain one other (of_run one is_one) (of_run other is_other);
     whole = λ image is. k.whole image (of_run image is);
-    keeps = λ image is. let o = k.keeps image (of_run image is) in record { log = o.log; is = o.is; longer = o.longer };
+    keeps = λ image is. let o = k.keeps image (of_run image is) in record { more = o.more; is = o.is; front = o.front };
     alone = λ m there.
         let h = to_run m there in
         let o = k.alone h.moment h.member in
@@ -186,7 +186,7 @@ module _ (p : Program) (r s : Observed) (c : Course) (told : List Moment) (told_
     nowhere = k.nowhere;
     block = λ doubted.
         let o = k.block doubted in
-        record { gate = o.gate; batch = o.batch; batches = o.batches; records = o.records; log = o.log; front = o.front; block = o.block; differ = o.differ };
+        record { gate = o.gate; batch = o.batch; before = o.before; bodies = o.bodies; records = o.records; log = o.log; front = o.front; block = o.block; differ = o.differ };
     behind = k.behind;
   }
 

@@ -56,8 +56,7 @@ saved a =
     let one : from_position at a ≡ checkpointed a = from_end at a (omega (arith, end)) in
     let two : from_position at (checkpointed a) ≡ checkpointed a = from_base at (checkpointed a) (omega (arith, end)) in
     let three : from_position back a ≡ checkpointed a = from_end back a (omega (arith, end)) in
-    let four : from_position back (checkpointed a) ≡ checkpointed a = from_base back (checkpointed a) (omega (arith, end)) in
-    (
+    let four : from_position back (checkpointed a) ≡ checkpointed a = from_base back (checkpointed a) (omega (arith, end)) in (
       inr (both_are at a (checkpointed a) (checkpointed a) one two),
       inr (both_are back (checkpointed a) a (checkpointed a) four three),
     )
@@ -108,11 +107,11 @@ from_later at later log up = elim (cases_lt (last_position log) at) [
         let k : later - (from_position at log).base.count ≡ later - at = ap (λ (m : ℕ). later - m) begins in
         let sum : n + (later - at) ≡ later - log.base.count = omega (arith, up, behind) in
         let rest : drop (later - (from_position at log).base.count) (drop n log.entries) ≡ drop (later - log.base.count) log.entries =
-            ap (λ (m : ℕ). drop m (drop n log.entries)) k ∙ drop-drop (later - at) n log.entries ∙ ap (λ (m : ℕ). drop m log.entries) sum in
+        ap (λ (m : ℕ). drop m (drop n log.entries)) k ∙ drop-drop (later - at) n log.entries ∙ ap (λ (m : ℕ). drop m log.entries) sum in
         let front : take n log.entries ++ take (later - (from_position at log).base.count) (drop n log.entries) ≡ take (later - log.base.count) log.entries =
-            ap (λ (m : ℕ). take n log.entries ++ take m (drop n log.entries)) k ∙ take_both n (later - at) log.entries ∙ ap (λ (m : ℕ). take m log.entries) sum in
+        ap (λ (m : ℕ). take n log.entries ++ take m (drop n log.entries)) k ∙ take_both n (later - at) log.entries ∙ ap (λ (m : ℕ). take m log.entries) sum in
         let base : after_entries (after_entries log.base (take n log.entries)) (take (later - (from_position at log).base.count) (drop n log.entries)) ≡ after_entries log.base (take (later - log.base.count) log.entries) =
-            sym (in_parts log.base (take n log.entries) (take (later - (from_position at log).base.count) (drop n log.entries))) ∙ ap (λ (l : List LogEntry). after_entries log.base l) front in
+        sym (in_parts log.base (take n log.entries) (take (later - (from_position at log).base.count) (drop n log.entries))) ∙ ap (λ (l : List LogEntry). after_entries log.base l) front in
         λ i. record { base = base i; entries = rest i }
 
 -- one log goes on as the other
@@ -127,19 +126,19 @@ alike_later later x y within on =
     let same : later - y.base.count ≡ n = ap (λ (m : ℕ). later - m) (sym counts) in
     let few : n ≤ length x.entries = omega (arith, within) in
     let front : take (later - y.base.count) y.entries ≡ take n x.entries =
-        ap (λ (m : ℕ). take m y.entries) same ∙ ap (λ (l : List LogEntry). take n l) on.1.1 ∙ take-append-le n x.entries on.1.0 few in
+    ap (λ (m : ℕ). take m y.entries) same ∙ ap (λ (l : List LogEntry). take n l) on.1.1 ∙ take-append-le n x.entries on.1.0 few in
     let back : drop (later - y.base.count) y.entries ≡ drop n x.entries ++ on.1.0 =
-        ap (λ (m : ℕ). drop m y.entries) same ∙ ap (λ (l : List LogEntry). drop n l) on.1.1 ∙ drop-append-le n x.entries on.1.0 few in
+    ap (λ (m : ℕ). drop m y.entries) same ∙ ap (λ (l : List LogEntry). drop n l) on.1.1 ∙ drop-append-le n x.entries on.1.0 few in
     (λ i. after_entries (on.0 i) (sym front i), (on.1.0, back))
 
 -- two logs that go on alike from a position do so from each later one that the first reaches
 pub from_there : (at later : ℕ) (a b : Log) → at ≤ later → later ≤ last_position a → GoesOn at a b → GoesOn later a b
 from_there at later a b up within on =
     let here : Alike (from_position later (from_position at a)) (from_position later (from_position at b)) =
-        alike_later later (from_position at a) (from_position at b) (omega (arith, same_end at a, within)) (on.base, on.entries) in
+    alike_later later (from_position at a) (from_position at b) (omega (arith, same_end at a, within)) (on.base, on.entries) in
     let there : Alike (from_position later a) (from_position later b) =
-        subst (λ (l : Log). Alike l (from_position later b)) (from_later at later a up)
-        (subst (λ (l : Log). Alike (from_position later (from_position at a)) l) (from_later at later b up) here) in
+    subst (λ (l : Log). Alike l (from_position later b)) (from_later at later a up)
+    (subst (λ (l : Log). Alike (from_position later (from_position at a)) l) (from_later at later b up) here) in
     record { base = there.0; entries = there.1 }
 
 -- what the other stands for where the first ends
@@ -194,8 +193,7 @@ of_no_entry a b none none_too (inl gap) = absurd (omega (arith, gap, none_too))
 of_no_entry a b none none_too (inr on) =
     let at : ℕ = max a.base.count b.base.count in
     let one : from_position at a ≡ a = from_base at a (omega (arith, none, none_too)) in
-    let two : from_position at b ≡ b = from_base at b (omega (arith, none, none_too)) in
-    (
+    let two : from_position at b ≡ b = from_base at b (omega (arith, none, none_too)) in (
       sym (ap (λ (l : Log). l.base) one) ∙ on.base ∙ ap (λ (l : Log). l.base) two,
       subst (λ (l : Log). IsPrefix a.entries l.entries) two (subst (λ (l : Log). IsPrefix l.entries (from_position at b).entries) one on.entries),
     )

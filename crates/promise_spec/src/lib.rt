@@ -18,7 +18,7 @@ mod laws;
 
 pub use folders::sound_folders_are_whole;
 pub use laws::{
-    checked_programs_have_plain_names, done_runs_count_syncs, folders_are_read,
-    one_entry, one_log, one_output, programs_are_read, promises_keep_the_headline,
-    grown_logs_go_on, prefixes_are_an_order, standings_are_folds, words_are_read, words_say_one_command,
+    checked_programs_have_plain_names, done_runs_count_syncs, folders_are_read, grown_logs_go_on,
+    one_entry, one_log, one_output, prefixes_are_an_order, programs_are_read,
+    promises_keep_the_headline, standings_are_folds, words_are_read, words_say_one_command,
 };
