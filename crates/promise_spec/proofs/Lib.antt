@@ -2,6 +2,7 @@ pub mod Lists
 pub mod Slots
 pub mod Standings
 pub mod Prefixes
+pub mod Growing
 pub mod Batched
 pub mod OneLog
 pub mod EntryLines

@@ -1,5 +1,9 @@
 ghost use Rattle.std.specs.Prelude.{◌≡◌, ◌⊎◌, ◌↔◌, ◌++◌, ◌+◌, ◌≤◌, max, fold, map, ℕ, Bool, true, false, List, [], ◌∷◌, length, codes, Some, Ok};
+ghost use Rattle.std.specs.List.{AllByRecursion};
+ghost use Rattle.base_types.specs.declared.calls.GrainId.{GrainId};
 ghost use Rattle.base_types.specs.declared.shapes.Shape.{Shape};
+ghost use Rattle.gate_block.specs.Log.{HasBlocks};
+ghost use Rattle.host_trait.specs.declared.channels.FileId.TheVariants.{Manager};
 ghost use Rattle.base_types.specs.declared.entries.Entry.{Entry};
 ghost use Rattle.host_trait.specs.World.{Image};
 ghost use Rattle.host_trait.specs.declared.channels.FileId.{FileId};
@@ -8,10 +12,12 @@ ghost use Rattle.script_tree.specs.Programs.{ProgramTree};
 ghost use Rattle.silo_spec.specs.Slots.{IsLive};
 ghost use Rattle.promise_spec.specs.Programs.{Program, IsChecked, text_limit, shape_in, program_in};
 ghost use Rattle.promise_spec.specs.Records.{Commit, after_writes};
-ghost use Rattle.promise_spec.specs.Entries.{LogEntry, Recorded, records_among, Standing, after_entries, Log, standing_of, grown, checkpointed};
+ghost use Rattle.promise_spec.specs.Entries.{LogEntry, Recorded, records_among, Standing, after_entries, initial_states, new_silo, Log, standing_of, grown, checkpointed};
+ghost use Rattle.promise_spec.specs.Versions.{IsKept};
+ghost use Rattle.promise_spec.specs.Blocks.{Records, body_of};
 ghost use Rattle.promise_spec.specs.Serial.{IsSerial, IsSerialFrom};
 ghost use Rattle.promise_spec.specs.Prefixes.{last_position, from_position, IsPrefixOf};
-ghost use Rattle.promise_spec.specs.Logs.{magic, IsLog, IsPrefix};
+ghost use Rattle.promise_spec.specs.Logs.{magic, StandsUpTo, IsLog, IsPrefix};
 ghost use Rattle.promise_spec.specs.Images.{IsSound, IsWholeFolder};
 ghost use Rattle.promise_spec.specs.Openings.{NoSilo, Reads, live_in, opened_as};
 ghost use Rattle.promise_spec.specs.Words.{GivenOption, Manner, plain_manner, Command, Run, Load, Check, Say};
@@ -74,6 +80,20 @@ pub fn grown_logs_go_on()
     ensures stands { (log : Log) (more : List Commit) → standing_of (grown log more) ≡ after_entries (standing_of log) (map Recorded more) }
     ensures serial { (before : Standing) (more : List Commit)
         → IsSerialFrom before (map Recorded more) ↔ IsSerial before.program.types before.states more }
+{}
+
+/// A batch's block behind a log, where its records are kept under the program in force: the log grew by them.
+pub fn sealed_batches_grow_a_log()
+    ensures { (slot : ℕ) (image : Image) (log : Log) (bodies : List (List ℕ)) (gate : ℕ) → StandsUpTo slot image log bodies gate
+        → (batch : List Commit) (next : ℕ) → length batch ≤ 64 → AllByRecursion (IsKept slot (shape_in (standing_of log).program) image) batch
+        → HasBlocks (bodies ++ body_of (Records batch) ∷ []) next (image (Manager slot))
+        → StandsUpTo slot image (grown log batch) (bodies ++ body_of (Records batch) ∷ []) next }
+{}
+
+/// Where a grain has no state in the store it has its type's initial fields, behind any entries.
+pub fn unheld_grains_are_initial()
+    ensures { (p : Program) (entries : List LogEntry) (grain : GrainId) → (after_entries (new_silo p) entries).held grain ≡ false
+        → (after_entries (new_silo p) entries).states grain ≡ initial_states p grain }
 {}
 
 /// Prefixes over positions: each log is one of itself; over one base they are first parts; a log and what stands for it alone are
