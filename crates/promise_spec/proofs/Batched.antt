@@ -1,5 +1,5 @@
 -- A log behind a new silo, as batches of records.
-use Rattle.std.proofs.Common.{◌≡◌, ◌≢◌, ℕ, ◌≤◌, List, [], ◌∷◌, ◌++◌, length, map, slice_index, None, refl, sym, ap, subst, ◌∙◌}
+use Rattle.std.proofs.Common.{◌≡◌, ℕ, ◌≤◌, List, [], ◌∷◌, ◌++◌, length, map, None, refl, sym, ap, subst, ◌∙◌}
 use Rattle.std.specs.List.{flat_map, AllByRecursion}
 use Rattle.std.proofs.lemmas.List.{map-append}
 use Rattle.base_types.specs.declared.shapes.Shape.{Shape}
@@ -10,10 +10,10 @@ use Rattle.log_reading.specs.Blocks.{header_damage}
 use Rattle.silo_spec.specs.Silos.{HasProgram}
 use Rattle.promise_spec.specs.Programs.{Program, IsChecked, shape_in}
 use Rattle.promise_spec.specs.Records.{Commit}
-use Rattle.promise_spec.specs.Entries.{LogEntry, Recorded, records_among, records_of, Log, new_silo, new_log, grown}
+use Rattle.promise_spec.specs.Entries.{LogEntry, Recorded, records_among, records_of, Log, new_log, grown}
 use Rattle.promise_spec.specs.Versions.{IsKept}
 use Rattle.promise_spec.specs.Blocks.{Block, Records, entries_in, body_of, BlockFits, AreKept}
-use Rattle.promise_spec.specs.Logs.{StandsUpTo, IsLogIn}
+use Rattle.promise_spec.specs.Logs.{IsLogIn}
 use Rattle.promise_spec.proofs.Standings.{records_append, records_back}
 
 -- ---- entries and blocks of records alone

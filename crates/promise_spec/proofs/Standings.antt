@@ -1,7 +1,6 @@
 -- What a log stands for, part by part, and what it stands for once it has grown.
 use Rattle.std.proofs.Common.{◌≡◌, ◌↔◌, ℕ, ◌+◌, max, List, [], ◌∷◌, ◌++◌, length, map, fold, refl, sym, ap, ◌∙◌, arith, append_assoc, append-nil}
 use Rattle.std.proofs.lemmas.List.{map-append}
-use Rattle.promise_spec.specs.Programs.{Program}
 use Rattle.promise_spec.specs.Records.{Commit, after_writes}
 use Rattle.promise_spec.specs.Entries.{LogEntry, Recorded, records_among, Standing, after_entry, after_entries, Log, records_of, standing_of, grown}
 use Rattle.promise_spec.specs.Serial.{IsSerial, IsSerialFrom}

@@ -7,7 +7,7 @@ use Rattle.silo_spec.specs.Silos.{manager, IsSilo, IsNewSilo}
 use Rattle.silo_spec.specs.Moments.{IsUntouched}
 use Rattle.silo_spec.specs.Making.{CameThisFar, IsBeside}
 use Rattle.script_tree.specs.Programs.{ProgramTree}
-use Rattle.promise_spec.specs.Programs.{Program, ProgramFault, text_limit, program_in}
+use Rattle.promise_spec.specs.Programs.{ProgramFault, text_limit, program_in}
 use Rattle.promise_spec.specs.Records.{Commit}
 use Rattle.promise_spec.specs.Entries.{LogEntry, Recorded, Log, after_entries}
 use Rattle.promise_spec.specs.Serial.{IsSerialFrom, Replays}

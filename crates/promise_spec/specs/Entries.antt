@@ -1,5 +1,5 @@
 -- The entries of an order, a log of them, and what it stands for.
-use Rattle.std.specs.Prelude.{ℕ, ◌+◌, max, Bool, false, true, ◌||◌, List, [], ◌∷◌, ◌++◌, map, fold, slice_get}
+use Rattle.std.specs.Prelude.{ℕ, ◌+◌, max, Bool, false, ◌||◌, List, [], ◌∷◌, ◌++◌, map, fold, slice_get}
 use Rattle.base_types.specs.declared.calls.GrainId.{GrainId}
 use Rattle.base_types.specs.declared.calls.Value.{Value}
 use Rattle.script_holding.specs.Holding.{same_grain}

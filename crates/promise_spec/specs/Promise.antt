@@ -8,7 +8,7 @@ use Rattle.core_model.specs.CoreState.{UnitNo, Member}
 use Rattle.core_model.specs.declared.events.CoreEvent.TheVariants.{Begin}
 use Rattle.core_model.specs.Lines.{DifferInLine}
 use Rattle.request_wire.specs.Lines.{lines_of}
-use Rattle.promise_spec.specs.Programs.{Program, IsChecked, shape_in}
+use Rattle.promise_spec.specs.Programs.{Program, shape_in}
 use Rattle.promise_spec.specs.Entries.{records_of, standing_of}
 pub use Rattle.promise_spec.specs.Images.{IsWholeFolder, IsSoundFolder}
 use Rattle.promise_spec.specs.Images.{AreNumbered}
