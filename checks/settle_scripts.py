@@ -93,6 +93,14 @@ def sixty_four_transfers():
     return rows + calls(196, 64) + blocks("counts", 64)
 
 
+def in_slot_one():
+    """All that it writes and syncs is of that slot's files."""
+    rows = [("open 0 1", "opened")] + carried("transfer 1 1 2") + settles(RESTS)
+    rows += [(f"file {file}", "writes 1, syncs 1") for file in (1, 2)]
+    rows += [(f"file {MANAGER}", "writes 2, syncs 2"), ("noted", "writes and syncs 8")]
+    return rows + blocks("units", 1) + output(reply(1, -1))
+
+
 def quiet_settler():
     rows = opened(1) + carried("transfer 1 1 2") + settles(RESTS)
     return rows + output() + calls(8, 1) + blocks("units", 1)
@@ -197,6 +205,7 @@ def failed_gate():
 def scripts():
     """Titles, each with its rows."""
     yield "sixty four transfers make one write and one sync a file", sixty_four_transfers()
+    yield "a settler in slot 1 writes the files of that slot alone", in_slot_one()
     yield "a quiet settler puts out no line", quiet_settler()
     yield "it applies where there is something to do", something_to_do()
     # The batch is taken, two votes, the decision, the seal, two grains learn, and the entry is written; no file is read.

@@ -5,6 +5,7 @@ use Rattle.std.specs.List.{flat_map}
 use mathlib.Core.List.{append_assoc}
 use Rattle.base_types.specs.declared.entries.Entry.{Entry}
 use Rattle.host_trait.specs.declared.channels.FileId.{FileId}
+use Rattle.host_trait.specs.declared.channels.FileId.TheVariants.{Manager}
 use Rattle.host_trait.specs.declared.channels.Channel.{Channel}
 use Rattle.core_model.specs.CoreState.{CoreState}
 use Rattle.core_model.specs.declared.effects.Effect.{Effect}

@@ -1,4 +1,5 @@
 // A settler over a core of accounts and a recorder.
+ghost use Rattle.std.specs.Prelude.{◌≤◌};
 ghost use Rattle.std.proofs.Props.{props};
 ghost use Rattle.batch_disk.specs.Writers.{IsInBounds};
 

@@ -19,7 +19,9 @@ pub struct Recorder {
 }
 
 // One that has a new silo's manager file in this slot.
-pub fn new_recorder(alloc: Global, slot: u8) -> Result<Recorder, AllocError> {
+pub fn new_recorder(alloc: Global, slot: u8) -> Result<Recorder, AllocError>
+    requires { slot ≤ 1 }
+{
     let mut inner = MemoryHost::new(alloc, &[])?;
     inner.set_file(FileId::Manager { slot }, &NEW_LOG)?;
     Ok(Recorder {
