@@ -111,7 +111,7 @@ records_are = (
 )
 
 -- the one batch has both records
-pub both_end : EndsABatch (ends core) [] both_commits
+pub both_end : EndsABatch (ends core) (account_log []) (account_log both_commits)
 unfolding put put_grain
 both_end = record {
   batches = 1;
@@ -132,7 +132,7 @@ unfolding put put_grain
 two_kept = refl
 
 -- so a log doesn't end behind the first
-pub one_ends_none : EndsABatch (ends core) [] (first_commit ∷ []) → ⊥
+pub one_ends_none : EndsABatch (ends core) (account_log []) (account_log (first_commit ∷ [])) → ⊥
 one_ends_none is = not_between (ends core) [] (first_commit ∷ []) 0 is (omega (arith, none_before)) (omega (arith, two_kept))
 
 -- ---- faults

@@ -211,7 +211,7 @@ abbrev pub new_folder : Image
 new_folder file = (new_disk file).seen
 
 -- each image has the empty log
-pub sound_world : (w : World) → ((image : Image) → IsImage w.disk image → IsImage new_disk image) → IsSoundFolder account_program w
+pub sound_world : (w : World) → ((image : Image) → IsImage w.disk image → IsImage new_disk image) → IsSoundFolder w
 sound_world w same = record {
   chain = λ one other is_one is_other live is. ([], log_in one is_one live is, λ too is_too. ([], log_in other is_other too is_too, inl ([], refl)));
   sound = λ image left live is. subst (λ (slot : ℕ). IsSound slot account_program image) (sym is.slot) (sound_at image left);
@@ -220,8 +220,8 @@ sound_world w same = record {
     sound_at : (image : Image) → IsImage w.disk image → IsSound 0 account_program image
     sound_at image left = let has = new_images image (same image left) in record { log = []; is = has.0; program = has.1; serial = tt; numbered = tt }
 
-    log_in : (image : Image) → IsImage w.disk image → (live : ℕ) → IsLive magic live image → IsLog live (shape_in account_program) image []
-    log_in image left live is = subst (λ (slot : ℕ). IsLog slot (shape_in account_program) image []) (sym is.slot) (new_images image (same image left)).0
+    log_in : (image : Image) → IsImage w.disk image → (live : ℕ) → IsLive magic live image → IsLog live image (account_log [])
+    log_in image left live is = subst (λ (slot : ℕ). IsLog slot image []) (sym is.slot) (new_images image (same image left)).0
 
 -- ---- the program file
 

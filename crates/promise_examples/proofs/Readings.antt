@@ -24,8 +24,8 @@ use Rattle.promise_spec.proofs.Slots.{first_silo}
 
 -- what the manager files read as
 pub record Logs : Type 0 where
-  pub deposit : opened_as (folder 1 grain_bytes) ≡ Reads 0 account_program (first_commit ∷ [])
-  pub closed : opened_as (folder 0 grain_bytes) ≡ Reads 0 account_program []
+  pub deposit : opened_as (folder 1 grain_bytes) ≡ Reads 0 (account_log (first_commit ∷ []))
+  pub closed : opened_as (folder 0 grain_bytes) ≡ Reads 0 (account_log [])
   pub torn : opened_as (torn_folder 80) ≡ DamagedAt manager 16
   pub cut : opened_as (torn_folder 16) ≡ DamagedAt manager 16
   pub count : opened_as (log_changed 20 65) ≡ DamagedAt manager 20

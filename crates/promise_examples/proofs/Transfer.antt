@@ -21,7 +21,7 @@ source_spelled = refl
 pub target_spelled : spelling_of_version (balance 2 30) ≡ version_of_target
 target_spelled = refl
 
-pub body_spelled : body_of (moved 70 30 ∷ []) ≡ transfer_body
+pub body_spelled : body_of (Records (moved 70 30 ∷ [])) ≡ transfer_body
 body_spelled = refl
 
 hundred : FitsSigned w64 (pos 100)
@@ -87,7 +87,7 @@ transfer_kept = record {
 }
 
 -- the folder's log is both records
-pub logged : IsLog 0 (shape_in bank_program) bank_folder (paid_in ∷ moved 70 30 ∷ [])
+pub logged : IsLog 0 bank_folder (bank_log (paid_in ∷ moved 70 30 ∷ []))
 logged = record {
   is_live = record { slot = refl; silo = record { long = omega arith; gate = refl; named = refl } };
   header = refl;
@@ -100,14 +100,14 @@ logged = record {
 }
 
 -- it stands for both new balances
-pub source_stands : (standing_of bank (paid_in ∷ moved 70 30 ∷ [])).states (at 0 1) ≡ int 70 ∷ []
+pub source_stands : (standing_of (bank_log (paid_in ∷ moved 70 30 ∷ []))).states (at 0 1) ≡ int 70 ∷ []
 source_stands = refl
 
-pub target_stands : (standing_of bank (paid_in ∷ moved 70 30 ∷ [])).states (at 0 2) ≡ int 30 ∷ []
+pub target_stands : (standing_of (bank_log (paid_in ∷ moved 70 30 ∷ []))).states (at 0 2) ≡ int 30 ∷ []
 target_stands = refl
 
 -- it is serial
-pub serial : IsSerial bank (new_silo bank).states (paid_in ∷ moved 70 30 ∷ [])
+pub serial : IsSerial bank (new_silo bank_program).states (paid_in ∷ moved 70 30 ∷ [])
 unfolding unit play_over
 serial = (record { result = refl; asked = refl; writes = refl }, (record { result = refl; asked = refl; writes = refl }, tt))
 
@@ -120,12 +120,12 @@ second_amount (first ∷ second ∷ found) = amount second.1
 second_amount _ = 0
 
 -- and not where the transfer leaves account 2 another balance, or stands first
-pub not_serial : IsSerial bank (new_silo bank).states (paid_in ∷ moved 70 31 ∷ []) → ⊥
+pub not_serial : IsSerial bank (new_silo bank_program).states (paid_in ∷ moved 70 31 ∷ []) → ⊥
 not_serial s =
     let same : written (moved 70 30) ≡ written (moved 70 31) = sym serial.1.0.writes ∙ s.1.0.writes in
     let left : 30 ≡ 31 = ap second_amount same in
     omega (arith, left)
 
-pub not_first : IsSerial bank (new_silo bank).states (moved 70 30 ∷ paid_in ∷ []) → ⊥
+pub not_first : IsSerial bank (new_silo bank_program).states (moved 70 30 ∷ paid_in ∷ []) → ⊥
 unfolding unit play_over
 not_first s = cc s.0.result

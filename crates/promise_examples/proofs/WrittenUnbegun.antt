@@ -84,7 +84,7 @@ none_has : (m : Moment) → Member m (moments unbegun unbegun_course) → AllHav
 none_has = at_each AllHaveNone opened gate_failing (moment_of unbegun_after) (λ image left. new_images image left) (all_less HasNoneAt AllHaveNone gate_failing (λ m is. is.images) on_way) at_exit.images
 
 -- so each log is empty
-pub no_records : (m : Moment) (image : Image) → Member m (moments unbegun unbegun_course) → IsImage m.disk image → IsLog 0 (shape_in account_program) image []
+pub no_records : (m : Moment) (image : Image) → Member m (moments unbegun unbegun_course) → IsImage m.disk image → IsLog 0 image (account_log [])
 no_records m image there left = (none_has m there image left).0
 
 -- other files and the header are as they were
@@ -99,9 +99,9 @@ alone =
     (all_less HasNoneAt (LeavesAlone 0 unbegun) gate_failing (λ m is. is.alone) on_way) at_exit.alone
 
 -- an empty log ends where a batch does
-whole_batches : (image : Image) (log : List Commit) → HasNone image → IsLog 0 (shape_in account_program) image log → EndsABatch (core_end account_program unbegun_course) [] log
+whole_batches : (image : Image) (log : Log) → HasNone image → IsLog 0 image log → EndsABatch (core_end account_program unbegun_course) (account_log []) log
 whole_batches image log none is =
-    subst (EndsABatch (core_end account_program unbegun_course) []) (one_log 0 0 (shape_in account_program) image [] log none.0 is) (no_batch (core_end account_program unbegun_course) [])
+    subst (EndsABatch (core_end account_program unbegun_course) (account_log [])) (one_log 0 0 image (account_log []) log none.0 is) (no_batch (core_end account_program unbegun_course) (account_log []))
 
 -- ---- the journal: both entries, and no record
 

@@ -24,12 +24,12 @@ pub record IsEmptyRun (p : Program) (r : Observed) (opening : List Commit) : Typ
   pub left : r.new.input ≡ []
   pub output : r.new.output ≡ r.old.output
   pub syncs : r.new.syncs ≡ r.old.syncs + 1
-  pub read : IsLog 0 (shape_in p) (seen_at_entry r) opening
+  pub read : IsLog 0 (seen_at_entry r) opening
   pub synced : r.new.past ≡ r.old.past ++ moment_of r.new ∷ []
   pub entry : (image : Image) → IsImage r.new.disk image → IsImage r.old.disk image
-  pub logs : (image : Image) → IsImage r.new.disk image → IsLog 0 (shape_in p) image opening
+  pub logs : (image : Image) → IsImage r.new.disk image → IsLog 0 image opening
   pub behind : (image : Image) → IsImage r.new.disk image → EndsAsRead 0 r image
-  pub sound : (image : Image) → IsImage r.new.disk image → IsSoundIfSilo p image
+  pub sound : (image : Image) → IsImage r.new.disk image → IsSoundIfSilo image
   pub alone : LeavesAlone 0 r (moment_of r.new)
   pub unwritten : (g : GrainId) → r.new.disk (Grain 0 g) ≡ r.old.disk (Grain 0 g)
   pub some : Image

@@ -258,11 +258,11 @@ pub record AskBoth (lines : List (List ℕ)) : Type 0 where
 
 -- the core's run of these events over an empty log
 abbrev pub account_run : List CoreEvent → Run
-account_run events = core_from accounts (new_silo accounts) events
+account_run events = core_from accounts (new_silo account_program) events
 
 -- what the unit rule is told of it, where these lines are asked
 abbrev pub account_basis : List (List ℕ) → Basis
-account_basis lines = record { types = accounts; lines = lines; opening = new_silo accounts }
+account_basis lines = record { types = accounts; lines = lines; opening = new_silo account_program }
 
 -- the lines 1 and 2 ask for deposits of 5 and 4
 pub record AskDeposits (lines : List (List ℕ)) : Type 0 where

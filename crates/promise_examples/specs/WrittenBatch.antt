@@ -118,7 +118,7 @@ batched = record {
 abbrev pub batch_course : Course
 batch_course = record {
   live = 0;
-  opening = [];
+  opening = account_log [];
   added = both_commits;
   early = opened ∷ [];
   late = batching ++ moment_of batch_after ∷ [];

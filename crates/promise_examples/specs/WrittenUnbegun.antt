@@ -45,7 +45,7 @@ unbegun = record {
 abbrev pub unbegun_course : Course
 unbegun_course = record {
   live = 0;
-  opening = [];
+  opening = account_log [];
   added = [];
   early = opened ∷ [];
   late = gate_failing ++ unbegun_told ∷ [];
