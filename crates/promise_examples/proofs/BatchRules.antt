@@ -15,7 +15,7 @@ use Rattle.promise_spec.specs.Causes.{RunHasDoubt, is_no, is_vote_of, is_unseale
 use Rattle.promise_spec.specs.Batches.{EndsABatch, kept_by}
 use Rattle.promise_spec.specs.UnitRule.{KeepsUnitRule}
 use Rattle.promise_spec.specs.TurnRule.{KeepsTurnRule}
-use Rattle.promise_examples.specs.Examples.{accounts, account_1, unit_no, first_commit, account_run, account_basis, AskDeposits}
+use Rattle.promise_examples.specs.Examples.{account_log, accounts, account_1, unit_no, first_commit, account_run, account_basis, AskDeposits}
 use Rattle.promise_examples.specs.WrittenBatch.{batch_events, both_commits, both_entries}
 use Rattle.promise_examples.proofs.FirstFamily.{none_of, none_counted}
 use Rattle.promise_examples.proofs.WholeBatches.{not_between}

@@ -18,6 +18,7 @@ use Rattle.host_trait.specs.declared.channels.FileId.TheVariants.{Grain}
 use Rattle.host_trait.specs.World.{Moment, Image, IsImage, moment_of}
 use Rattle.silo_spec.specs.Silos.{manager, program_file, HasProgram}
 use Rattle.promise_spec.specs.Programs.{shape_in}
+use Rattle.promise_spec.specs.Entries.{Log}
 use Rattle.promise_spec.specs.Records.{Commit}
 use Rattle.promise_spec.specs.Logs.{IsLog, IsPrefix}
 use Rattle.promise_spec.specs.Moments.{IsImageOf}
@@ -37,7 +38,7 @@ use Rattle.promise_spec.specs.Explained.{ComeOfEvents, AreAdded, AreSettled, IsE
 use Rattle.promise_spec.specs.Journals.{Settlement, KeepsJournal, Backs, commits_of, entries_of}
 use Rattle.promise_spec.specs.Promise.{IsSoundFolder, IsUndisturbed, IsNoLock, HasEnded, Keeps}
 use Rattle.promise_laws.specs.Obligations.{Shows}
-use Rattle.promise_examples.specs.Examples.{accounts, account_program, account_1, unit_no, first_commit, first_entry, deposit_events, account_run}
+use Rattle.promise_examples.specs.Examples.{account_log, accounts, account_program, account_1, unit_no, first_commit, first_entry, deposit_events, account_run}
 use Rattle.promise_examples.specs.DepositRuns.{MayHaveDeposit, LeavesOthers, IsBetween, IsDepositRun, deposit_course}
 use Rattle.promise_spec.proofs.Lists.{none_is}
 use Rattle.promise_spec.proofs.OneLog.{one_log}

@@ -24,6 +24,7 @@ use Rattle.host_trait.specs.declared.channels.FileId.TheVariants.{Manager, Grain
 use Rattle.host_trait.specs.World.{Moment, Image, IsImage, moment_of}
 use Rattle.silo_spec.specs.Silos.{manager, program_file, HasProgram}
 use Rattle.promise_spec.specs.Programs.{shape_in}
+use Rattle.promise_spec.specs.Entries.{Log}
 use Rattle.promise_spec.specs.Records.{Commit, AreRecordsOf}
 use Rattle.promise_spec.specs.Logs.{IsLog, IsPrefix}
 use Rattle.promise_spec.specs.Moments.{IsImageOf}
@@ -43,7 +44,7 @@ use Rattle.promise_spec.specs.Explained.{ComeOfEvents, AreAdded, AreSettled, IsE
 use Rattle.promise_spec.specs.Journals.{Settlement, KeepsJournal, Backs, commits_of, entries_of}
 use Rattle.promise_spec.specs.Promise.{IsSoundFolder, HasEnded, Keeps}
 use Rattle.promise_laws.specs.Obligations.{Shows}
-use Rattle.promise_examples.specs.Examples.{accounts, account_program, account_1, unit_no, first_commit, locked_entry, doubt_entry, conflict_entries, conflict_events, account_run}
+use Rattle.promise_examples.specs.Examples.{account_log, accounts, account_program, account_1, unit_no, first_commit, locked_entry, doubt_entry, conflict_entries, conflict_events, account_run}
 use Rattle.promise_examples.specs.DepositRuns.{HasNone, HasDeposit, MayHaveDeposit, LeavesOthers, IsBetween}
 use Rattle.promise_examples.specs.DoubtRuns.{IsDoubtRun, doubt_course, first_told}
 use Rattle.promise_spec.proofs.Lists.{none_at, some_is, in_append, both_parts}

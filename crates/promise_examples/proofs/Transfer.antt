@@ -12,7 +12,8 @@ use Rattle.script_meaning.specs.Worked.{bank, at, int}
 use Rattle.promise_spec.specs.Programs.{shape_in}
 use Rattle.promise_spec.specs.Records.{written, new_silo, standing_of}
 use Rattle.promise_spec.specs.Serial.{IsSerial}
-use Rattle.promise_spec.specs.Logs.{IsLog, IsKept, body_of}
+use Rattle.promise_spec.specs.Blocks.{Records, body_of}
+use Rattle.promise_spec.specs.Logs.{IsLog, IsKept}
 use Rattle.promise_examples.specs.Transfers.{bank_program, paid_in, moved, balance, version_of_source, version_of_target, transfer_body, bank_folder}
 
 pub source_spelled : spelling_of_version (balance 2 70) ≡ version_of_source
@@ -86,18 +87,18 @@ transfer_kept = record {
   );
 }
 
--- the folder's log is both records
-pub logged : IsLog 0 bank_folder (bank_log (paid_in ∷ moved 70 30 ∷ []))
-logged = record {
-  is_live = record { slot = refl; silo = record { long = omega arith; gate = refl; named = refl } };
-  header = refl;
-  batches = (paid_in ∷ []) ∷ (moved 70 30 ∷ []) ∷ [];
-  gate = 197;
-  blocks = record { blocks = record { small = (lit< tt, (lit< tt, tt)); at = refl; within = omega arith; blocks = refl }; closed = λ e. cc e };
-  sizes = (omega arith, (omega arith, tt));
-  commits = refl;
-  kept = (deposit_kept, (transfer_kept, tt));
-}
+-- the folder's manager file is a silo's, with the blocks of both records, of which each is kept
+pub live : IsLive magic 0 bank_folder
+live = record { slot = refl; silo = record { long = omega arith; gate = refl; named = refl } }
+
+pub header : header_damage (bank_folder manager) ≡ None
+header = refl
+
+pub stand : LogsUpTo (map body_of (Records (paid_in ∷ []) ∷ Records (moved 70 30 ∷ []) ∷ [])) 197 (bank_folder manager)
+stand = record { blocks = record { small = (lit< tt, (lit< tt, tt)); at = refl; within = omega arith; blocks = refl }; closed = λ e. cc e }
+
+pub kept : AreKept 0 bank_folder bank_program (bank_log (paid_in ∷ moved 70 30 ∷ [])).entries
+kept = (deposit_kept, (transfer_kept, tt))
 
 -- it stands for both new balances
 pub source_stands : (standing_of (bank_log (paid_in ∷ moved 70 30 ∷ []))).states (at 0 1) ≡ int 70 ∷ []

@@ -24,8 +24,10 @@ use Rattle.host_trait.proofs.Crashes.{settled_only}
 use Rattle.log_reading.specs.Blocks.{header_damage}
 use Rattle.silo_spec.specs.Silos.{manager, program_file, IsSilo}
 use Rattle.promise_spec.specs.Programs.{shape_in}
+use Rattle.promise_spec.specs.Entries.{Log}
 use Rattle.promise_spec.specs.Records.{Commit}
-use Rattle.promise_spec.specs.Logs.{magic, IsLog, body_of}
+use Rattle.promise_spec.specs.Blocks.{Records, body_of}
+use Rattle.promise_spec.specs.Logs.{magic, IsLog}
 use Rattle.promise_spec.specs.Outputs.{IsProper, Grew, reply_lines}
 use Rattle.promise_spec.specs.Causes.{RoseBy, most_syncs_of}
 use Rattle.promise_spec.specs.Courses.{moments, core_run, core_end}
@@ -42,7 +44,7 @@ use Rattle.promise_spec.proofs.OneLog.{one_log}
 use Rattle.promise_laws.specs.Obligations.{SaysIn, Opens, Journals, ExplainsEvents, LeavesAtExit, EndsRightly, Shows}
 use Rattle.promise_laws.proofs.ShownRuns.{shown}
 use Rattle.promise_laws.proofs.ShownPromise.{promised}
-use Rattle.promise_examples.specs.Examples.{account_program, account_1, program_bytes, unit_no, first_commit, next_commit, first_version, first_entry, manager_of}
+use Rattle.promise_examples.specs.Examples.{account_log, account_program, account_1, program_bytes, unit_no, first_commit, next_commit, first_version, first_entry, manager_of}
 use Rattle.promise_examples.specs.DepositRuns.{HasNone, LeavesOthers, IsBetween}
 use Rattle.promise_examples.specs.HostCalls.{IsHosted}
 use Rattle.promise_examples.specs.WrittenRun.{new_manager, disk_of, new_disk, pending_block, pending_gate, reply_text, opened}

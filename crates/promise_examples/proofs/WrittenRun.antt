@@ -5,7 +5,8 @@ use Rattle.host_trait.specs.Disk.{Overwrote, settled}
 use Rattle.host_trait.specs.World.{Moment}
 use Rattle.host_trait.proofs.Crashes.{settled_only}
 use Rattle.silo_spec.specs.Silos.{manager}
-use Rattle.promise_spec.specs.Logs.{body_of}
+use Rattle.promise_spec.specs.Blocks.{Records, body_of}
+use Rattle.promise_spec.specs.Logs.{}
 use Rattle.promise_spec.specs.Programs.{shape_in}
 use Rattle.promise_spec.specs.Words.{plain_manner}
 use Rattle.promise_spec.specs.Lines.{IsLineCall}

@@ -39,6 +39,7 @@ use Rattle.request_wire.specs.Reply.{reply_line}
 use Rattle.script_tree.specs.Programs.{ProgramTree}
 use Rattle.script_meaning.specs.Play.{IsTransaction}
 use Rattle.promise_spec.specs.Programs.{Program, shape_in}
+use Rattle.promise_spec.specs.Entries.{Log}
 use Rattle.promise_spec.specs.Records.{Commit, Standing, States, after_writes, AreRecordsOf}
 use Rattle.promise_spec.specs.Serial.{IsSerial, played}
 use Rattle.promise_spec.specs.Logs.{magic, IsLog, IsPrefix, body_of}

@@ -15,7 +15,7 @@ use Rattle.promise_spec.specs.Endings.{Done, input_limit}
 use Rattle.promise_spec.specs.Crashes.{LeavesAlone}
 use Rattle.promise_spec.specs.Courses.{Observed, Course, seen_at_entry, lines}
 use Rattle.promise_spec.specs.Exits.{EndsAsRead}
-use Rattle.promise_examples.specs.Examples.{accounts, account_program, account_1, first_commit, first_entry, deposit_call, deposit_events}
+use Rattle.promise_examples.specs.Examples.{account_log, accounts, account_program, account_1, first_commit, first_entry, deposit_call, deposit_events}
 
 -- the image is one of the program, and has an empty log, or the deposit's record
 abbrev pub HasNone : Image → Type 0

@@ -14,7 +14,7 @@ use Rattle.promise_spec.specs.Endings.{DiskFault, input_limit}
 use Rattle.promise_spec.specs.Crashes.{LeavesAlone}
 use Rattle.promise_spec.specs.Courses.{Observed, Course, seen_at_entry, lines}
 use Rattle.promise_spec.specs.Exits.{HasBlock, DifferAt}
-use Rattle.promise_examples.specs.Examples.{account_program, first_commit, locked_entry, conflict_entries, conflict_events, AskDeposits}
+use Rattle.promise_examples.specs.Examples.{account_log, account_program, first_commit, locked_entry, conflict_entries, conflict_events, AskDeposits}
 use Rattle.promise_examples.specs.DepositRuns.{HasNone, HasDeposit, MayHaveDeposit, LeavesOthers, IsBetween}
 
 -- what a run has written when the second line is told

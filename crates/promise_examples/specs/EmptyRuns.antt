@@ -17,7 +17,7 @@ use Rattle.promise_spec.specs.Exits.{EndsAsRead}
 -- The files read as this log at entry. The run synced it, read that the input is empty, and ended. Each image is one of
 -- those at entry, has this log, ends behind it as the file read, and is sound; there is one. It asked for no other sync. No count of faults changed,
 -- nor did another file or the header.
-pub record IsEmptyRun (p : Program) (r : Observed) (opening : List Commit) : Type 0 where
+pub record IsEmptyRun (p : Program) (r : Observed) (opening : Log) : Type 0 where
   pub ending : r.ending ≡ Done
   pub input : r.old.input ≡ []
   pub given : lines r ≡ lines_of r.old.input
@@ -37,6 +37,6 @@ pub record IsEmptyRun (p : Program) (r : Observed) (opening : List Commit) : Typ
   pub faults : (channel : Channel) → r.faults_after channel ≡ r.faults_before channel
 
 -- the course of such a run: nothing was added, and no event came
-abbrev pub empty_course : Observed → List Commit → Course
+abbrev pub empty_course : Observed → Log → Course
 empty_course r opening =
     record { live = 0; opening = opening; added = []; early = moment_of r.new ∷ []; late = []; events = []; entries = []; rest = [] }

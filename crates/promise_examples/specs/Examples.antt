@@ -26,7 +26,8 @@ use Rattle.core_model.specs.declared.events.CoreEvent.{CoreEvent}
 use Rattle.core_model.specs.declared.events.CoreEvent.TheVariants as event
 use Rattle.core_model.specs.Legal.{Run}
 use Rattle.promise_spec.specs.Programs.{Program}
-use Rattle.promise_spec.specs.Records.{Commit, new_silo}
+use Rattle.promise_spec.specs.Records.{Commit}
+use Rattle.promise_spec.specs.Entries.{new_silo, Log, new_log, grown}
 use Rattle.promise_spec.specs.Logs.{magic}
 use Rattle.promise_spec.specs.Lines.{IsLineCall}
 use Rattle.promise_spec.specs.Cores.{core_from}
@@ -255,6 +256,10 @@ vote_entries = voted_entry ∷ dependent_entry ∷ []
 pub record AskBoth (lines : List (List ℕ)) : Type 0 where
   pub first : IsLineCall accounts lines 1 deposit_call
   pub second : IsLineCall accounts lines 2 read_call
+
+-- the log of a silo of accounts with these records
+abbrev pub account_log : List Commit → Log
+account_log records = grown (new_log account_program) records
 
 -- the core's run of these events over an empty log
 abbrev pub account_run : List CoreEvent → Run

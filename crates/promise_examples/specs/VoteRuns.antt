@@ -13,7 +13,7 @@ use Rattle.promise_spec.specs.Endings.{Done, input_limit}
 use Rattle.promise_spec.specs.Crashes.{LeavesAlone}
 use Rattle.promise_spec.specs.Courses.{Observed, Course, seen_at_entry, lines}
 use Rattle.promise_spec.specs.Exits.{EndsAsRead}
-use Rattle.promise_examples.specs.Examples.{account_program, account_1, voted_entry, vote_entries, vote_events, AskBoth}
+use Rattle.promise_examples.specs.Examples.{account_log, account_program, account_1, voted_entry, vote_entries, vote_events, AskBoth}
 use Rattle.promise_examples.specs.DepositRuns.{HasNone, LeavesOthers, IsBetween}
 
 -- The files read as an empty log at entry. The run synced it, failed to write the first line's file, and wrote that
