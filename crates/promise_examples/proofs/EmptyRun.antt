@@ -74,7 +74,7 @@ module _ (p : Program) (r : Observed) (opening : Log) (run : IsEmptyRun p r open
           image = run.some;
           left = record { moment = moment_of r.new; member = inl refl; left = run.possible };
           log = whole run.some run.possible;
-          longest = λ other is log has. first_of_both log (grown opening []) (one_log has.0 0 other log (grown opening []) has.1 (whole other (at_exit other is)));
+          longest = λ other log is has. first_of_both log (grown opening []) (one_log has.0 0 other log (grown opening []) has.1 (whole other (at_exit other is)));
         };
         serial = tt;
       };
