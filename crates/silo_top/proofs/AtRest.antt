@@ -16,7 +16,7 @@ use Rattle.commit_log.specs.declared.records.Written.{Written}
 use Rattle.log_reading.specs.Versions.{named_by, named_by_grain}
 use Rattle.log_reading.specs.Sums.{end_after, greater_end}
 use Rattle.core_model.specs.CoreState.{Member}
-use Rattle.core_model.specs.Legal.{Run, ends}
+use Rattle.core_model.specs.Legal.{Run}
 use Rattle.promise_spec.specs.Programs.{shape_in}
 use Rattle.promise_spec.specs.Records.{Commit}
 use Rattle.promise_spec.specs.Logs.{IsKept, IsLog, body_of}

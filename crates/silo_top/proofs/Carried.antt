@@ -1,6 +1,6 @@
 -- What carrying lines in turns leaves, told in whichever manner.
 use Rattle.std.specs.Prelude.{IfOk, IfSome, Option, None, Some}
-use Rattle.std.proofs.Common.{◌≡◌, inl, inr, ℕ, ◌<◌, ◌≤◌, Bool, true, false, List, [], Result, Ok, Err, subst, arith, refl, sym, ap, ◌∙◌, true≢false}
+use Rattle.std.proofs.Common.{◌≡◌, ℕ, Bool, List, [], Result, Ok, Err, subst, refl, sym, ap, ◌∙◌, true≢false}
 use Rattle.host_trait.specs.declared.channels.Channel.{Channel}
 use Rattle.host_trait.specs.World.{World}
 use Rattle.request_wire.specs.declared.requests.Line.{Line}
@@ -19,7 +19,7 @@ use Rattle.interleaver.specs.Turns.{KeepsTurns, IsFreshRecord, TurnsGoOn}
 use Rattle.interleaver.proofs.Besides.{none-beside}
 use Rattle.interleaver.proofs.Unstopped.{turns-record}
 use Rattle.silo_top.specs.Answering.{turns_manner, workers_manner}
-use Rattle.silo_top.specs.Carrying.{StartsRun, CarriedOn, CarriesOn, CarriedLines}
+use Rattle.silo_top.specs.Carrying.{CarriesOn, CarriedLines}
 
 -- how lines ended to be carried, with the core or without
 abbrev pub with_core : {T : Type 0} → Core → Result T RunFault → Result Core RunFault

@@ -7,7 +7,6 @@ use Rattle.host_trait.specs.World.{World, Emitted}
 use Rattle.two_silos.specs.Generated.{checked}
 use Rattle.two_silos.specs.Summaries.{summary_of, line_of}
 use Rattle.promise_spec.specs.Words.{Manner}
-use Rattle.promise_spec.specs.Endings as ending
 use Rattle.promise_spec.specs.Checks.{Checks}
 use Rattle.silo_top.specs.declared.status.Status.{Status}
 use Rattle.silo_top.proofs.Observing.{observed_call}

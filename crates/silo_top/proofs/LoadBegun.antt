@@ -1,8 +1,8 @@
 -- What a load begins with: a silo of the bank program with an empty log.
-use Rattle.std.proofs.Common.{◌≡◌, List, [], Ok, refl, sym, ap, ◌∙◌, subst, lit≤, unwrap_or}
+use Rattle.std.proofs.Common.{◌≡◌, [], Ok, sym, ap, ◌∙◌, subst, lit≤, unwrap_or}
 use Rattle.base_types.specs.Stores.{state_in}
 use Rattle.base_types.specs.declared.calls.GrainId.{GrainId}
-use Rattle.host_trait.specs.World.{World, Image, IsImage}
+use Rattle.host_trait.specs.World.{World, Image}
 use Rattle.log_reading.specs.Steps.{seen_in}
 use Rattle.program_file.specs.Programs.{program_in}
 use Rattle.script_tree.specs.Programs.{ProgramTree, program_tree}
@@ -41,7 +41,9 @@ module _ (types : ProgramTree) (reads : program_in bank_text ≡ Ok types) where
 
   -- what was opened is it
   pub opened_same : (x : Opened) (seen : Image) → IsNewSilo magic bank_text seen → (is : IsOpenedFrom seen x) → (program_of is ≡ bank_of types) × (is.log ≡ [])
-  opened_same x seen new is = (reads_is x.slot 0 (program_of is) (bank_of types) is.log [] (sym is.reads ∙ reads_new seen new)).1
+  opened_same x seen new is =
+      let same = reads_is x.slot 0 (program_of is) (bank_of types) is.log [] (sym is.reads ∙ reads_new seen new) in
+      (same.1, same.2)
 
 -- ---- with the program that was accepted
 

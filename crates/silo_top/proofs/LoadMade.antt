@@ -1,14 +1,13 @@
 -- The making of a load's silo, and its opening.
-use Rattle.std.proofs.Common.{◌≡◌, ◌≢◌, ◌⊎◌, inl, inr, ℕ, ◌+◌, ◌≤◌, List, Result, Ok, Err, refl, sym, ◌∙◌, ap, subst}
+use Rattle.std.proofs.Common.{◌≡◌, ◌⊎◌, inl, inr, ℕ, ◌+◌, ◌≤◌, List, Result, Ok, Err, refl, sym, subst}
 use Rattle.host_trait.specs.declared.channels.Channel.{Channel}
-use Rattle.host_trait.specs.declared.channels.FileId.{FileId}
 use Rattle.host_trait.specs.Faults.{NoneFailed}
 use Rattle.host_trait.specs.Disk.{FileState, MayLeave, settled}
 use Rattle.host_trait.specs.Runs.{RunsOnFile}
-use Rattle.host_trait.specs.World.{World, Image, IsImage}
+use Rattle.host_trait.specs.World.{World, Image}
 use Rattle.host_trait.proofs.Crashes.{settled_only}
 use Rattle.log_reading.specs.Steps.{seen_in}
-use Rattle.script_tree.specs.Programs.{ProgramTree, program_tree}
+use Rattle.script_tree.specs.Programs.{program_tree}
 use Rattle.script_tree.specs.declared.programs.Program.{Program as Tree}
 use Rattle.program_file.specs.Programs.{program_in}
 use Rattle.silo_spec.specs.Silos.{manager, IsSilo}

@@ -1,5 +1,5 @@
 -- A summary that is printed, or isn't.
-use Rattle.std.proofs.Common.{◌≡◌, ◌≢◌, inl, inr, ℕ, ◌≤◌, List, [], ◌∷◌, ◌++◌, length, take, drop, refl, sym, ◌∙◌, ap, subst, arith, append-nil, take-append-drop, take_all}
+use Rattle.std.proofs.Common.{◌≡◌, ◌≢◌, inl, inr, ℕ, List, [], ◌∷◌, ◌++◌, length, take, drop, refl, sym, ◌∙◌, ap, arith, append-nil, take-append-drop, take_all}
 use Rattle.core_model.specs.CoreState.{Member}
 use Rattle.host_trait.specs.World.{World, Moment, Ticks, Emitted, moment_of}
 use Rattle.promise_spec.specs.Endings as ending

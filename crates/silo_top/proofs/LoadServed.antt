@@ -1,19 +1,18 @@
 -- A load from its opening to its end, over a host that tells.
-use Rattle.std.proofs.Common.{◌≡◌, ◌≢◌, ◌⊎◌, inl, inr, ℕ, ◌+◌, ◌*◌, ◌<◌, ◌≤◌, Bool, true, false, IsTrue, List, [], ◌∷◌, ◌++◌, length, Result, Ok, Err, refl, sym, ◌∙◌, ap, subst, arith, append-nil, append_assoc}
+use Rattle.std.proofs.Common.{◌≡◌, ◌≢◌, ◌⊎◌, inl, inr, ℕ, ◌+◌, ◌<◌, ◌≤◌, Bool, true, IsTrue, List, [], ◌∷◌, ◌++◌, length, Result, Ok, Err, refl, sym, ◌∙◌, ap, subst, arith, append-nil, append_assoc}
 use Rattle.std.specs.Prelude.{take, not}
 use Rattle.std.proofs.lemmas.List.{append_cancel_left}
-use Rattle.base_types.specs.declared.entries.Entry.{Entry}
 use Rattle.base_types.specs.declared.calls.GrainId.{GrainId}
 use Rattle.host_trait.specs.declared.channels.Channel.{Channel}
-use Rattle.host_trait.specs.declared.channels.Channel.TheVariants.{Input, Output, File}
+use Rattle.host_trait.specs.declared.channels.Channel.TheVariants.{Output, File}
 use Rattle.host_trait.specs.declared.channels.FileId.{FileId}
 use Rattle.host_trait.specs.declared.channels.FileId.TheVariants.{Manager, Grain}
-use Rattle.host_trait.specs.Faults.{NoneFailed, FailedOn, Rose}
+use Rattle.host_trait.specs.Faults.{NoneFailed, Rose}
 use Rattle.host_trait.specs.Disk.{FileState, MayLeave}
 use Rattle.host_trait.specs.World.{World, Disk, Moment, Image, IsImage}
 use Rattle.host_trait.proofs.Crashes.{settled_only}
 use Rattle.request_wire.specs.declared.requests.Line.{Line}
-use Rattle.script_tree.specs.Programs.{ProgramTree, program_tree}
+use Rattle.script_tree.specs.Programs.{program_tree}
 use Rattle.core_model.specs.CoreState.{Member, CoreState}
 use Rattle.core_model.specs.Legal.{Run, ends}
 use Rattle.core_model.specs.declared.events.CoreEvent.{CoreEvent}
@@ -29,11 +28,10 @@ use Rattle.promise_spec.specs.Causes.{NoneRose, AreFaults, RoseBy, RunHasDoubt, 
 use Rattle.promise_spec.specs.Commands.{MayCut, Prints}
 use Rattle.promise_spec.specs.Endings as ending
 use Rattle.promise_spec.specs.Endings.{Ending, HasRisen, HasFailedAs, IsBegun, EndingMayDoubt}
-use Rattle.promise_spec.specs.Explained.{FileMayEndInDoubt, IsExplained}
 use Rattle.promise_spec.specs.Promise.{IsAnswered}
 use Rattle.promise_spec.specs.Journals.{Settlement, AllLog, commits_of, entries_of}
-use Rattle.promise_spec.specs.Courses.{Observed, Course, order, seen_at_entry, core_run, core_end}
-use Rattle.promise_spec.specs.Loads.{bank_text, load_calls, summary_text, AskFor, KeepsLoad, total_of}
+use Rattle.promise_spec.specs.Courses.{Observed, Course, core_run, core_end}
+use Rattle.promise_spec.specs.Loads.{bank_text, load_calls, summary_text, AskFor}
 use Rattle.promise_spec.proofs.Lists.{all_of, each_of}
 use Rattle.promise_laws.specs.Closings.{ReadsMayStay, IsBehind}
 use Rattle.promise_laws.specs.Obligations.{ExplainsEvents, Opens, Lasts}

@@ -10,7 +10,6 @@ use Rattle.host_trait.specs.World.{World, Moment, Disk, Image, IsImage, moment_o
 use Rattle.host_trait.proofs.Crashes.{settled_only}
 use Rattle.host_trait.proofs.Moments.{weaker}
 use Rattle.gate_block.specs.Log.{gate_of}
-use Rattle.core_model.specs.Legal.{ends}
 use Rattle.promise_spec.specs.Logs.{IsLog}
 use Rattle.promise_spec.specs.Programs.{Program, shape_in}
 use Rattle.promise_spec.specs.Records.{Commit}

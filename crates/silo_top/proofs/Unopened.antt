@@ -1,5 +1,5 @@
 -- A folder that wasn't opened.
-use Rattle.std.proofs.Common.{◌≡◌, ◌≤◌, ◌+◌, inl, inr, ℕ, List, refl, sym, ap, subst, arith}
+use Rattle.std.proofs.Common.{◌≡◌, inl, inr, ℕ, List, refl, sym, ap, subst, arith}
 use Rattle.host_trait.specs.declared.channels.Channel.{Channel}
 use Rattle.host_trait.specs.declared.channels.FileId.{FileId}
 use Rattle.host_trait.specs.declared.channels.FileId.TheVariants.{Manager}
@@ -12,7 +12,7 @@ use Rattle.silo_spec.specs.Moments.{IsAsAtEntry, IsUntouched}
 use Rattle.silo_spec.specs.Making.{IsBeside}
 use Rattle.log_reading.specs.Steps.{seen_in}
 use Rattle.promise_spec.specs.Words.{Manner}
-use Rattle.promise_spec.specs.Endings.{Ending, Memory, HasFailedAs}
+use Rattle.promise_spec.specs.Endings.{Ending, HasFailedAs}
 use Rattle.promise_spec.specs.Openings.{opened_as}
 use Rattle.promise_spec.specs.Courses.{Observed}
 use Rattle.promise_spec.specs.Commands.{MakesSilo}

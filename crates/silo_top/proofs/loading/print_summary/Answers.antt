@@ -1,4 +1,4 @@
-use Rattle.std.proofs.Common.{rules, ◌≡◌, ◌∙◌, ℕ, List, inl, inr, refl, sym, ap, length}
+use Rattle.std.proofs.Common.{rules, ◌≡◌, ◌∙◌, List, refl, ap, length}
 use Rattle.std.specs.Prelude.{is_ok}
 use Rattle.std.proofs.lemmas.Int.{to_z-of_z}
 use mir.Val.{to_z, of_z, SFits}

@@ -1,4 +1,4 @@
-use Rattle.std.proofs.Common.{◌≡◌, ◌∙◌, inl, inr, ℕ, List, Result, Err, false, refl, ap, subst}
+use Rattle.std.proofs.Common.{◌≡◌, ◌∙◌, inr, ℕ, List, Result, Err, false, refl, ap, subst}
 use Rattle.promise_spec.specs.Words.{Command, Init, Run, Show, History, Audit, Load, Check}
 use Rattle.promise_spec.specs.Calls.{any_option, Understands}
 use Rattle.promise_spec.proofs.Words.{one_command}
