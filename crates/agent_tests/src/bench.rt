@@ -94,7 +94,7 @@ impl Bench {
         requires { IsCarrying (program_tree checked.now) self.old }
         ensures { IfOk result (λ _. IsCarrying (program_tree checked.now) self.new) }
     {
-        match self.agents.find(alloc, checked, &mut self.core, place)? {
+        match self.agents.find(alloc, checked, &mut self.core, 0, place)? {
             Found::At(index) => {
                 self.agents.advance(alloc, checked, &mut self.core, index)?;
                 return Ok(true);

@@ -1,4 +1,5 @@
-ghost use Rattle.std.specs.Prelude.{◌≡◌, ◌<◌, ◌≤◌, ◌+◌, true, reverse, IfOk, OnOk, IsSome};
+ghost use Rattle.std.specs.Prelude.{◌≡◌, ◌<◌, ◌≤◌, ◌+◌, true, reverse, false, IfOk, OnOk, IsSome, MatchOption};
+ghost use Rattle.std.specs.Option.{option_copied};
 ghost use Rattle.std.specs.List.{list_any};
 ghost use Rattle.base_types.specs.declared.calls.Mode.TheVariants.{Update};
 ghost use Rattle.cell_model.specs.declared.locks.Ask.TheVariants.{Free};
@@ -97,6 +98,13 @@ impl CellTable {
             Some(cell) => cell.versions(),
             None => &[],
         }
+    }
+
+    /// The grain's cell, none where it has none.
+    pub fn cell(&self, grain: GrainId) -> Option<&Cell>
+        ensures { MatchOption (option_copied result) (has_cell self.now grain ≡ false) (λ made. made.cell ≡ cell_in self.now grain) }
+    {
+        self.cells.get(&grain)
     }
 
     /// Makes the grain's cell, where it has none, and the room of one more lock of it. Every grain stands for

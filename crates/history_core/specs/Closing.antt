@@ -1,8 +1,8 @@
 -- What becomes of the units of a batch that closes, and what the grains learn of them.
-use Rattle.std.specs.Prelude.{◌≡◌, ⊤, ℕ, List, [], ◌∷◌, ◌++◌, Bool, true, ◌&&◌, not, Option, Some, None, if◌then◌else◌, filter, map, take}
+use Rattle.std.specs.Prelude.{◌≡◌, ⊤, List, [], ◌∷◌, Bool, true, not, Option, Some, None, if◌then◌else◌, filter, map, take}
 use Rattle.core_model.specs.CoreState.{UnitNo, GrainId, Value, Write, put, CoreState}
 use Rattle.core_model.specs.declared.phases.Verdict.{Verdict}
-use Rattle.core_model.specs.Tests.{is_final, is_committed, state_written}
+use Rattle.core_model.specs.Tests.{is_committed, state_written}
 use Rattle.core_model.specs.Learning.{to_learn}
 
 -- the first, or the other where it is missing

@@ -9,7 +9,7 @@ use Rattle.core_model.specs.Tests.{is_answer, is_empty, is_running}
 use Rattle.rw_locks.specs.Locked.{holds_alone}
 use Rattle.cell_table.specs.Table.{cell_in}
 use Rattle.unit_table.specs.Known.{KnownUnit}
-use Rattle.unit_table.specs.Table.{known_in, outcome_known}
+use Rattle.unit_table.specs.Table.{outcome_known}
 use Rattle.history_core.specs.declared.parts.Parts.{Parts}
 
 -- these units are decided, with these outcomes

@@ -4,7 +4,6 @@ use Rattle.cell_model.specs.Units.{Member}
 use Rattle.cell_model.specs.Cells.{Cell}
 use Rattle.cell_model.specs.Locks.{holds_lock}
 use Rattle.core_model.specs.CoreState.{UnitNo, GrainId, Write, Batch, Cells, CoreState}
-use Rattle.core_model.specs.declared.effects.Effect.{Effect}
 use Rattle.core_model.specs.declared.phases.Phase.TheVariants.{Finished}
 use Rattle.core_model.specs.Tests.{waiting, state_written}
 use Rattle.core_model.specs.Answers.{effect_of}

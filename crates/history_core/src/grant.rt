@@ -53,9 +53,12 @@ impl Parts {
         ensures opens { opens_with self.new.cells ≡ opens_with self.old.cells }
     {
         self.cells.make_room(grain)?;
-        let aborted = self.first_aborted(self.cells.versions(grain));
-        let found = self.cells.top_over(grain, aborted)?;
-        if self.cells.is_held_by(unit, grain) {
+        let Some(cell) = self.cells.cell(grain) else {
+            return Err(AllocError);
+        };
+        let aborted = self.first_aborted(cell.versions());
+        let found = cell.top_over(aborted)?;
+        if cell.is_held_by(unit) {
             lock_over(&mut self.cells, unit, grain, mode, aborted);
             return Ok(CoreReply::Granted {
                 state: found.state,

@@ -26,6 +26,10 @@ abbrev pub is_lost_entry : Option Named → Bool
 is_lost_entry None = false
 is_lost_entry (Some named) = named.is_lost
 
+abbrev pub had_bytes_entry : Option Named → Bool
+had_bytes_entry None = false
+had_bytes_entry (Some named) = named.had_bytes
+
 abbrev pub is_name : Option (List ℕ) → Bool
 is_name None = false
 is_name (Some name) = true
@@ -45,6 +49,10 @@ faults_in files file = faults_in_entry (get file_cmp files file)
 -- whether a sync of a file has failed
 abbrev pub is_lost : BTreeMap FileId Named → FileId → Bool
 is_lost files file = is_lost_entry (get file_cmp files file)
+
+-- whether a file was seen to have bytes
+abbrev pub had_bytes_in : BTreeMap FileId Named → FileId → Bool
+had_bytes_in files file = had_bytes_entry (get file_cmp files file)
 
 -- each file that is ready has its own name
 abbrev pub HaveOwnNames : BTreeMap FileId Named → Type 0
@@ -68,6 +76,14 @@ abbrev pub counts_of : ℕ → ℕ → BTreeMap FileId Named → Channel → ℕ
 counts_of input output files Input = input
 counts_of input output files Output = output
 counts_of input output files (File file) = faults_in files file
+
+-- of no file it is known otherwise than before whether a sync of it has failed
+abbrev pub SameLost : BTreeMap FileId Named → BTreeMap FileId Named → Type 0
+SameLost old new = (file : FileId) → is_lost new file ≡ is_lost old file
+
+-- of no file it is known otherwise than before whether it was seen to have bytes
+abbrev pub SameHadBytes : BTreeMap FileId Named → BTreeMap FileId Named → Type 0
+SameHadBytes old new = (file : FileId) → had_bytes_in new file ≡ had_bytes_in old file
 
 -- each file of which a sync has failed is known as such still
 abbrev pub StayLost : BTreeMap FileId Named → BTreeMap FileId Named → Type 0

@@ -1,6 +1,7 @@
 // A process's hold on a folder.
-ghost use Rattle.std.specs.Prelude.{◌≡◌, ◌<◌, IfSome, OnErr, IfOk, IsTrue, Some, is_some, false, None};
+ghost use Rattle.std.specs.Prelude.{◌≡◌, ◌<◌, IfSome, OnOk, OnErr, IfOk, IsTrue, IsOk, Some, is_some, false, None};
 ghost use Rattle.system_calls.specs.System.{HasNoBytes};
+ghost use Rattle.host_files.specs.Clear.{WentWell, WasObeyed};
 
 use system_calls::{Refused, SystemCalls};
 
@@ -36,7 +37,8 @@ impl<T: Drop, L: Drop> Claim<T, L> {
 
     /// The handle of the folder, where it is taken.
     pub fn folder(&self) -> Option<&L>
-        ensures { IfSome result (λ folder. self.now.folder ≡ Some folder.now) }
+        ensures some { IfSome result (λ folder. self.now.folder ≡ Some folder.now) }
+        ensures taken { is_some result ≡ is_some self.now.folder }
     {
         self.folder.as_ref()
     }
@@ -57,6 +59,9 @@ impl<T: Drop, L: Drop> Claim<T, L> {
         ensures kept { IsTrue (is_some self.old.folder) → self.new.folder ≡ self.old.folder }
         ensures absent { IsTrue S.tells → IsTrue self.new.is_missing → HasNoBytes (S.state system.new) }
         ensures state { IsTrue S.tells → S.state system.new ≡ S.state system.old }
+        ensures calm { OnOk result (IsTrue S.tells → WasObeyed (S.answered system.old) (S.answered system.new)) }
+        ensures fine { IsTrue S.tells → WentWell (S.answered system.old) (S.answered system.new) → IsOk result }
+        ensures known { IsTrue S.tells → (S.answered system.new).has_lost_entries ≡ (S.answered system.old).has_lost_entries }
     {
         if self.folder.is_some() {
             return Ok(true);
@@ -64,7 +69,7 @@ impl<T: Drop, L: Drop> Claim<T, L> {
         if self.is_missing {
             return Ok(false);
         }
-        for _ in 0..4 {
+        for turn in 0..4u32 {
             let opened = match system.open_folder(path) {
                 Ok(opened) => opened,
                 Err(Refused::Missing) => {

@@ -1,5 +1,5 @@
 // The system's calls on the files of a folder.
-ghost use Rattle.std.specs.Prelude.{◌≡◌, ◌≢◌, ◌+◌, ◌^◌, ◌<◌, ◌≤◌, ℕ, [], length, IsTrue, IsErr, IsNone, is_some, is_ok, true, false, IfOk, IfErr, IfSome, OnOk, OnErr, string_bytes};
+ghost use Rattle.std.specs.Prelude.{◌≡◌, ◌≢◌, ◌+◌, ◌^◌, ◌<◌, ◌≤◌, ℕ, [], length, IsTrue, IsOk, IsErr, IsNone, IsSome, is_some, is_ok, true, false, IfOk, IfErr, IfSome, OnOk, OnErr, string_bytes};
 ghost use Rattle.std.specs.Option.{ForSome};
 ghost use Rattle.host_trait.specs.Files.{name_of, same_file};
 ghost use Rattle.host_trait.specs.Disk.{Overwrote};
@@ -7,6 +7,7 @@ ghost use Rattle.host_trait.specs.World.{Pulled, Emitted, Filled, Written, Synce
 ghost use Rattle.host_trait.specs.declared.channels.FileId.{FileId};
 ghost use Rattle.system_calls.specs.System.{NoSyncRefused, HasNoBytes};
 ghost use Rattle.host_files.specs.Told.{SameButEntries, SyncsFile};
+ghost use Rattle.host_files.specs.Clear.{WentWell, WasObeyed, IsInPlace};
 ghost use Rattle.host_files.specs.declared.folder.Entries.{Entries};
 
 use crate::claim::Claim;
@@ -53,6 +54,9 @@ pub struct Folder<S: SystemCalls> {
     ghost reached: { IsTrue S.tells → IsTrue is_reached → ForSome claim.folder (λ folder. IsTrue (S.finds folder)) },
     ghost opened: { IsTrue is_reached → IsTrue (is_some claim.folder) },
     ghost written: { IsTrue (is_some writer) → IsTrue (is_some claim.folder) },
+    ghost reads: { IsTrue S.tells → ForSome reader (λ kept. IsTrue (S.is_regular kept.file)) },
+    ghost writes: { IsTrue S.tells → ForSome writer (λ kept. IsTrue (S.is_regular kept.file)) },
+    ghost lost: { IsTrue S.tells → entries ≡ Entries.Lost → IsTrue (S.answered system).has_lost_entries },
     ghost entered: { IsTrue S.tells → entries ≡ Entries.Synced → (file : FileId) → IsTrue ((S.state system).is_entered file) },
     ghost calm: { IsTrue S.tells → entries ≢ Entries.Lost → (S.state system).has_lost ≡ false },
 }
@@ -82,6 +86,7 @@ fn is_one(a: FileId, b: FileId) -> bool
 fn take_kept<T: Handle + Drop>(kept: &mut Option<Kept<T>>, file: FileId) -> Option<T>
     ensures file { IfSome result (λ opened. T.file opened ≡ file) }
     ensures kept { IfSome result (λ opened. IsTrue (is_some kept.old)) }
+    ensures served { IfSome result (λ opened. ForSome kept.old (λ old. old.file ≡ file)) }
     ensures none { is_some kept.new ≡ false }
 {
     match kept.take() {
@@ -109,6 +114,11 @@ fn open_file<S: SystemCalls>(
     ensures found { OnOk result (IsTrue S.tells → IsTrue (S.finds folder.now)) }
     ensures missing { IfErr result (λ error. error ≡ Refused.Missing → IsTrue S.tells → IsTrue (S.finds folder.now)
         → ((S.state system.old).world.disk asked.entry.file).seen ≡ []) }
+    ensures calm { OnOk result (IsTrue S.tells → S.answered system.new ≡ S.answered system.old) }
+    ensures absent { IfErr result (λ error. error ≡ Refused.Missing → IsTrue S.tells → S.answered system.new ≡ S.answered system.old) }
+    ensures refused { IfErr result (λ error. error ≢ Refused.Missing → IsTrue S.tells → IsTrue (S.is_regular asked.entry.file)
+        → (S.answered system.new).refusals ≢ (S.answered system.old).refusals) }
+    ensures known { IsTrue S.tells → (S.answered system.new).has_lost_entries ≡ (S.answered system.old).has_lost_entries }
 {
     match system.open(folder, asked.file, asked.name, Access::Both) {
         Ok(opened) => Ok(opened),
@@ -135,6 +145,9 @@ fn refuse_unreached<S: SystemCalls>(
     requires { IsTrue S.tells → IsTrue is_reached → IsTrue (S.finds folder.now) }
     ensures told { IsTrue S.tells → S.state system.new ≡ S.state system.old }
     ensures found { OnOk result (IsTrue S.tells → IsTrue (S.finds folder.now)) }
+    ensures calm { OnOk result (IsTrue S.tells → S.answered system.new ≡ S.answered system.old) }
+    ensures refused { OnErr result (IsTrue S.tells → (S.answered system.new).refusals ≢ (S.answered system.old).refusals) }
+    ensures known { IsTrue S.tells → (S.answered system.new).has_lost_entries ≡ (S.answered system.old).has_lost_entries }
 {
     if is_reached {
         return Ok(());
@@ -149,7 +162,8 @@ fn refuse_unreached<S: SystemCalls>(
 // A file of which a sync has failed is asked nothing more: the system may have dropped what was pending, and a later sync
 // would succeed all the same.
 fn refuse_lost(is_lost: bool) -> Result<(), Refused>
-    ensures { IsTrue is_lost → IsErr result }
+    ensures lost { IsTrue is_lost → IsErr result }
+    ensures calm { is_lost ≡ false → IsOk result }
 {
     if is_lost {
         return Err(Refused::Failed);
@@ -159,7 +173,8 @@ fn refuse_lost(is_lost: bool) -> Result<(), Refused>
 
 // A file that had bytes is there for good: it is refused where it is missing.
 fn refuse_gone(had_bytes: bool) -> Result<(), Refused>
-    ensures { IsTrue had_bytes → IsErr result }
+    ensures gone { IsTrue had_bytes → IsErr result }
+    ensures calm { had_bytes ≡ false → IsOk result }
 {
     if had_bytes {
         return Err(Refused::Missing);
@@ -191,6 +206,8 @@ impl<S: SystemCalls + Drop> Folder<S> {
         ensures bound { IfOk result (λ count. count ≤ length into.old) }
         ensures ok { IfOk result (λ count. IsTrue S.tells → Pulled count into.new (S.state self.old.system).world (S.state self.new.system).world) }
         ensures err { OnErr result (IsTrue S.tells → S.state self.new.system ≡ S.state self.old.system) }
+        ensures calm { OnOk result (IsTrue S.tells → WasObeyed (S.answered self.old.system) (S.answered self.new.system)) }
+        ensures fine { IsTrue S.tells → WentWell (S.answered self.old.system) (S.answered self.new.system) → IsOk result }
         ensures doubts { IsTrue S.tells → (S.state self.new.system).is_doubtful ≡ (S.state self.old.system).is_doubtful }
     {
         let count = take_input(&mut self.system, into)?;
@@ -201,6 +218,8 @@ impl<S: SystemCalls + Drop> Folder<S> {
     pub fn emit(&mut self, bytes: &[u8]) -> Result<(), Refused>
         ensures ok { OnOk result (IsTrue S.tells → Emitted (length bytes.now) bytes.now (S.state self.old.system).world (S.state self.new.system).world) }
         ensures part { IsTrue S.tells → ((n : ℕ) × Emitted n bytes.now (S.state self.old.system).world (S.state self.new.system).world) }
+        ensures calm { OnOk result (IsTrue S.tells → WasObeyed (S.answered self.old.system) (S.answered self.new.system)) }
+        ensures fine { IsTrue S.tells → WentWell (S.answered self.old.system) (S.answered self.new.system) → IsOk result }
         ensures doubts { IsTrue S.tells → (S.state self.new.system).is_doubtful ≡ (S.state self.old.system).is_doubtful }
     {
         put_out(&mut self.system, bytes)?;
@@ -214,6 +233,13 @@ impl<S: SystemCalls + Drop> Folder<S> {
         ensures file { IfOk result (λ found. IfSome found (λ opened. S.File.file opened ≡ asked.entry.file)) }
         ensures absent { IfOk result (λ found. IsNone found → IsTrue S.tells → ((S.state self.old.system).world.disk asked.entry.file).seen ≡ []) }
         ensures taken { IfOk result (λ found. IfSome found (λ opened. IsTrue (is_some self.new.claim.folder))) }
+        ensures nowhere { IfOk result (λ found. self.new.claim.is_missing ≡ false → IsTrue (is_some self.new.claim.folder)) }
+        ensures gone { IfOk result (λ found. IsNone found → asked.entry.had_bytes ≡ false) }
+        ensures entries { self.new.entries ≡ self.old.entries }
+        ensures known { IsTrue S.tells → (S.answered self.new.system).has_lost_entries ≡ (S.answered self.old.system).has_lost_entries }
+        ensures calm { OnOk result (IsTrue S.tells → WasObeyed (S.answered self.old.system) (S.answered self.new.system)) }
+        ensures fine { IsTrue S.tells → WentWell (S.answered self.old.system) (S.answered self.new.system)
+            → IsInPlace asked.entry.is_lost asked.entry.had_bytes (S.is_regular asked.entry.file) ((S.state self.old.system).world.disk asked.entry.file).seen → IsOk result }
     {
         if !self.claim.take(&mut self.system, self.path.as_str())? {
             refuse_gone(asked.had_bytes)?;
@@ -228,9 +254,9 @@ impl<S: SystemCalls + Drop> Folder<S> {
                 Ok(Some(opened))
             }
             Err(Refused::Missing) => {
-                refuse_gone(asked.had_bytes)?;
                 refuse_unreached(&mut self.system, folder, self.is_reached)?;
                 self.is_reached = true;
+                refuse_gone(asked.had_bytes)?;
                 Ok(None)
             }
             Err(error) => Err(error),
@@ -240,11 +266,20 @@ impl<S: SystemCalls + Drop> Folder<S> {
     // As `find`, and only a regular file is taken. One that had bytes was seen to be regular.
     fn find_regular(&mut self, asked: Asked<'_>) -> Result<Option<S::File>, Refused>
         requires name { asked.name.now ≡ name_of asked.file }
+        requires had { IsTrue S.tells → IsTrue asked.had_bytes → IsTrue (S.is_regular asked.file) }
         requires calm { IsTrue S.tells → (S.state self.old.system).is_doubtful asked.file ≡ false }
         ensures told { IsTrue S.tells → S.state self.new.system ≡ S.state self.old.system }
         ensures file { IfOk result (λ found. IfSome found (λ opened. S.File.file opened ≡ asked.entry.file)) }
         ensures absent { IfOk result (λ found. IsNone found → IsTrue S.tells → ((S.state self.old.system).world.disk asked.entry.file).seen ≡ []) }
         ensures taken { IfOk result (λ found. IfSome found (λ opened. IsTrue (is_some self.new.claim.folder))) }
+        ensures nowhere { IfOk result (λ found. self.new.claim.is_missing ≡ false → IsTrue (is_some self.new.claim.folder)) }
+        ensures gone { IfOk result (λ found. IsNone found → asked.entry.had_bytes ≡ false) }
+        ensures regular { IfOk result (λ found. IfSome found (λ opened. IsTrue S.tells → IsTrue (S.is_regular asked.entry.file))) }
+        ensures entries { self.new.entries ≡ self.old.entries }
+        ensures known { IsTrue S.tells → (S.answered self.new.system).has_lost_entries ≡ (S.answered self.old.system).has_lost_entries }
+        ensures calm { OnOk result (IsTrue S.tells → WasObeyed (S.answered self.old.system) (S.answered self.new.system)) }
+        ensures fine { IsTrue S.tells → WentWell (S.answered self.old.system) (S.answered self.new.system)
+            → IsInPlace asked.entry.is_lost asked.entry.had_bytes (S.is_regular asked.entry.file) ((S.state self.old.system).world.disk asked.entry.file).seen → IsOk result }
     {
         let Some(opened) = self.find(asked)? else {
             return Ok(None);
@@ -259,10 +294,17 @@ impl<S: SystemCalls + Drop> Folder<S> {
     /// 2 to the 63 or more.
     pub fn length(&mut self, asked: Asked<'_>) -> Result<u64, Refused>
         requires name { asked.name.now ≡ name_of asked.file }
+        requires had { IsTrue S.tells → IsTrue asked.had_bytes → IsTrue (S.is_regular asked.file) }
         requires calm { IsTrue S.tells → asked.is_lost ≡ false → (S.state self.old.system).is_doubtful asked.file ≡ false }
         ensures told { IsTrue S.tells → S.state self.new.system ≡ S.state self.old.system }
         ensures len { IfOk result (λ count. IsTrue S.tells → count ≡ length ((S.state self.old.system).world.disk asked.entry.file).seen) }
         ensures bound { IfOk result (λ count. count < 2 ^ 63) }
+        ensures regular { IfOk result (λ count. IsTrue S.tells → 0 < count → IsTrue (S.is_regular asked.entry.file)) }
+        ensures open { OnOk result (IsTrue asked.entry.had_bytes → IsTrue (is_some self.new.reader)) }
+        ensures lost { IsTrue asked.entry.is_lost → IsErr result }
+        ensures calm { OnOk result (IsTrue S.tells → WasObeyed (S.answered self.old.system) (S.answered self.new.system)) }
+        ensures fine { IsTrue S.tells → WentWell (S.answered self.old.system) (S.answered self.new.system)
+            → IsInPlace asked.entry.is_lost asked.entry.had_bytes (S.is_regular asked.entry.file) ((S.state self.old.system).world.disk asked.entry.file).seen → length ((S.state self.old.system).world.disk asked.entry.file).seen < 2 ^ 63 → IsOk result }
     {
         refuse_lost(asked.is_lost)?;
         let opened = match take_kept(&mut self.reader, asked.file) {
@@ -289,10 +331,16 @@ impl<S: SystemCalls + Drop> Folder<S> {
     // The handle that last read the file, or a new one. None where there is no file.
     fn take_reader(&mut self, asked: Asked<'_>) -> Result<Option<S::File>, Refused>
         requires name { asked.name.now ≡ name_of asked.file }
+        requires had { IsTrue S.tells → IsTrue asked.had_bytes → IsTrue (S.is_regular asked.file) }
         requires calm { IsTrue S.tells → (S.state self.old.system).is_doubtful asked.file ≡ false }
         ensures told { IsTrue S.tells → S.state self.new.system ≡ S.state self.old.system }
         ensures file { IfOk result (λ found. IfSome found (λ opened. S.File.file opened ≡ asked.entry.file)) }
         ensures absent { IfOk result (λ found. IsNone found → IsTrue S.tells → ((S.state self.old.system).world.disk asked.entry.file).seen ≡ []) }
+        ensures gone { IfOk result (λ found. IsNone found → asked.entry.had_bytes ≡ false) }
+        ensures regular { IfOk result (λ found. IfSome found (λ opened. IsTrue S.tells → IsTrue (S.is_regular asked.entry.file))) }
+        ensures calm { OnOk result (IsTrue S.tells → WasObeyed (S.answered self.old.system) (S.answered self.new.system)) }
+        ensures fine { IsTrue S.tells → WentWell (S.answered self.old.system) (S.answered self.new.system)
+            → IsInPlace asked.entry.is_lost asked.entry.had_bytes (S.is_regular asked.entry.file) ((S.state self.old.system).world.disk asked.entry.file).seen → IsOk result }
     {
         if let Some(opened) = take_kept(&mut self.reader, asked.file) {
             return Ok(Some(opened));
@@ -304,10 +352,17 @@ impl<S: SystemCalls + Drop> Folder<S> {
     /// Reads from there on, until the slice is full or the file ends. A file that isn't there has no bytes.
     pub fn read_at(&mut self, asked: Asked<'_>, at: u64, into: &mut [u8]) -> Result<usize, Refused>
         requires name { asked.name.now ≡ name_of asked.file }
+        requires had { IsTrue S.tells → IsTrue asked.had_bytes → IsTrue (S.is_regular asked.file) }
         requires calm { IsTrue S.tells → asked.is_lost ≡ false → (S.state self.old.system).is_doubtful asked.file ≡ false }
         ensures told { IsTrue S.tells → S.state self.new.system ≡ S.state self.old.system }
         ensures bytes { IfOk result (λ count. IsTrue S.tells → Filled count at ((S.state self.old.system).world.disk asked.entry.file).seen into.old into.new) }
         ensures bound { IfOk result (λ count. count ≤ length into.old) }
+        ensures regular { IfOk result (λ count. IsTrue S.tells → 0 < count → IsTrue (S.is_regular asked.entry.file)) }
+        ensures open { OnOk result (IsTrue asked.entry.had_bytes → IsTrue (is_some self.new.reader)) }
+        ensures lost { IsTrue asked.entry.is_lost → IsErr result }
+        ensures calm { OnOk result (IsTrue S.tells → WasObeyed (S.answered self.old.system) (S.answered self.new.system)) }
+        ensures fine { IsTrue S.tells → WentWell (S.answered self.old.system) (S.answered self.new.system)
+            → IsInPlace asked.entry.is_lost asked.entry.had_bytes (S.is_regular asked.entry.file) ((S.state self.old.system).world.disk asked.entry.file).seen → IsOk result }
     {
         refuse_lost(asked.is_lost)?;
         let Some(opened) = self.take_reader(asked)? else {
@@ -324,10 +379,18 @@ impl<S: SystemCalls + Drop> Folder<S> {
 
     // Makes a file, whose entry doesn't last until the next sync of the folder's.
     fn make(&mut self, asked: Asked<'_>) -> Result<S::File, Refused>
-        requires { asked.name.now ≡ name_of asked.file }
+        requires name { asked.name.now ≡ name_of asked.file }
+        requires fresh { asked.had_bytes ≡ false }
         ensures told { IsTrue S.tells → SameButEntries (S.state self.old.system) (S.state self.new.system) }
         ensures file { IfOk result (λ opened. S.File.file opened ≡ asked.entry.file) }
         ensures taken { OnOk result (IsTrue (is_some self.new.claim.folder)) }
+        ensures regular { OnOk result (IsTrue S.tells → IsTrue (S.is_regular asked.entry.file)) }
+        ensures claim { self.new.claim ≡ self.old.claim }
+        ensures entries { self.new.entries ≡ Entries.Lost → self.old.entries ≡ Entries.Lost }
+        ensures known { IsTrue S.tells → (S.answered self.new.system).has_lost_entries ≡ (S.answered self.old.system).has_lost_entries }
+        ensures calm { OnOk result (IsTrue S.tells → WasObeyed (S.answered self.old.system) (S.answered self.new.system)) }
+        ensures fine { IsTrue S.tells → WentWell (S.answered self.old.system) (S.answered self.new.system)
+            → IsTrue (is_some self.old.claim.folder) → IsOk result }
     {
         let Some(folder) = self.claim.folder() else {
             return Err(Refused::Missing);
@@ -342,10 +405,17 @@ impl<S: SystemCalls + Drop> Folder<S> {
     // The handle that last wrote the file, or a new one. The file is made where it isn't there.
     fn take_writer(&mut self, asked: Asked<'_>) -> Result<S::File, Refused>
         requires name { asked.name.now ≡ name_of asked.file }
+        requires had { IsTrue S.tells → IsTrue asked.had_bytes → IsTrue (S.is_regular asked.file) }
         requires calm { IsTrue S.tells → (S.state self.old.system).is_doubtful asked.file ≡ false }
         ensures told { IsTrue S.tells → SameButEntries (S.state self.old.system) (S.state self.new.system) }
         ensures file { IfOk result (λ opened. S.File.file opened ≡ asked.entry.file) }
         ensures taken { OnOk result (IsTrue (is_some self.new.claim.folder)) }
+        ensures regular { OnOk result (IsTrue S.tells → IsTrue (S.is_regular asked.entry.file)) }
+        ensures entries { self.new.entries ≡ Entries.Lost → self.old.entries ≡ Entries.Lost }
+        ensures known { IsTrue S.tells → (S.answered self.new.system).has_lost_entries ≡ (S.answered self.old.system).has_lost_entries }
+        ensures calm { OnOk result (IsTrue S.tells → WasObeyed (S.answered self.old.system) (S.answered self.new.system)) }
+        ensures fine { IsTrue S.tells → WentWell (S.answered self.old.system) (S.answered self.new.system)
+            → IsInPlace asked.entry.is_lost asked.entry.had_bytes (S.is_regular asked.entry.file) ((S.state self.old.system).world.disk asked.entry.file).seen → self.new.claim.is_missing ≡ false → IsOk result }
     {
         if let Some(opened) = take_kept(&mut self.writer, asked.file) {
             return Ok(opened);
@@ -360,6 +430,7 @@ impl<S: SystemCalls + Drop> Folder<S> {
     /// Writes from there on, and makes the file where it isn't there. A range that doesn't end below 2 to the 63 is refused.
     pub fn write_at(&mut self, asked: Asked<'_>, at: u64, bytes: &[u8]) -> Result<(), Refused>
         requires name { asked.name.now ≡ name_of asked.file }
+        requires had { IsTrue S.tells → IsTrue asked.had_bytes → IsTrue (S.is_regular asked.file) }
         requires calm { IsTrue S.tells → asked.is_lost ≡ false → (S.state self.old.system).is_doubtful asked.file ≡ false }
         requires place { IsTrue S.tells → at ≤ length ((S.state self.old.system).world.disk asked.file).seen }
         ensures told { IsTrue S.tells → Written asked.entry.file at (length bytes.now) (S.state self.old.system).world (S.state self.new.system).world }
@@ -367,6 +438,12 @@ impl<S: SystemCalls + Drop> Folder<S> {
             → Overwrote at bytes.now ((S.state self.old.system).world.disk asked.entry.file) ((S.state self.new.system).world.disk asked.entry.file)) }
         ensures doubts { IsTrue S.tells → (S.state self.new.system).is_doubtful ≡ (S.state self.old.system).is_doubtful }
         ensures bound { OnOk result (at + length bytes.now < 2 ^ 63) }
+        ensures regular { OnOk result (IsTrue S.tells → IsTrue (S.is_regular asked.entry.file)) }
+        ensures lost { IsTrue asked.entry.is_lost → IsErr result }
+        ensures entries { self.new.entries ≡ Entries.Lost → self.old.entries ≡ Entries.Lost }
+        ensures calm { OnOk result (IsTrue S.tells → WasObeyed (S.answered self.old.system) (S.answered self.new.system)) }
+        ensures fine { IsTrue S.tells → WentWell (S.answered self.old.system) (S.answered self.new.system)
+            → IsInPlace asked.entry.is_lost asked.entry.had_bytes (S.is_regular asked.entry.file) ((S.state self.old.system).world.disk asked.entry.file).seen → self.new.claim.is_missing ≡ false → at + length bytes.now < 2 ^ 63 → IsOk result }
     {
         refuse_lost(asked.is_lost)?;
         let count = bytes.len() as u64;
@@ -389,17 +466,26 @@ impl<S: SystemCalls + Drop> Folder<S> {
             × ((S.state self.new.system).is_doubtful ≡ (S.state self.old.system).is_doubtful) }
         ensures folder { self.new.claim ≡ self.old.claim }
         ensures ok { OnOk result (self.new.entries ≡ Entries.Synced) }
+        ensures calm { OnOk result (IsTrue S.tells → WasObeyed (S.answered self.old.system) (S.answered self.new.system)) }
+        ensures fine { IsTrue S.tells → WentWell (S.answered self.old.system) (S.answered self.new.system)
+            → (S.answered self.old.system).has_lost_entries ≡ false → IsTrue (is_some self.old.claim.folder) → IsOk result }
     {
         match self.entries {
             Entries::Synced => Ok(()),
             Entries::Pending => {
-                self.entries = Entries::Lost;
                 let Some(folder) = self.claim.folder() else {
                     return Err(Refused::Missing);
                 };
-                self.system.sync_folder(folder)?;
-                self.entries = Entries::Synced;
-                Ok(())
+                match self.system.sync_folder(folder) {
+                    Ok(()) => {
+                        self.entries = Entries::Synced;
+                        Ok(())
+                    }
+                    Err(error) => {
+                        self.entries = Entries::Lost;
+                        Err(error)
+                    }
+                }
             }
             Entries::Lost => Err(Refused::Failed),
         }
@@ -409,8 +495,14 @@ impl<S: SystemCalls + Drop> Folder<S> {
     /// of bytes helps only where their file is found.
     pub fn sync(&mut self, asked: Asked<'_>) -> Result<(), Refused>
         requires name { asked.name.now ≡ name_of asked.file }
+        requires had { IsTrue S.tells → IsTrue asked.had_bytes → IsTrue (S.is_regular asked.file) }
         requires calm { IsTrue S.tells → asked.is_lost ≡ false → (S.state self.old.system).is_doubtful asked.file ≡ false }
         ensures told { IsTrue S.tells → SyncsFile asked.entry.file (is_ok result) (S.state self.old.system) (S.state self.new.system) }
+        ensures regular { OnOk result (IsTrue S.tells → IsTrue (S.is_regular asked.entry.file)) }
+        ensures lost { IsTrue asked.entry.is_lost → IsErr result }
+        ensures calm { OnOk result (IsTrue S.tells → WasObeyed (S.answered self.old.system) (S.answered self.new.system)) }
+        ensures fine { IsTrue S.tells → WentWell (S.answered self.old.system) (S.answered self.new.system)
+            → IsInPlace asked.entry.is_lost asked.entry.had_bytes (S.is_regular asked.entry.file) ((S.state self.old.system).world.disk asked.entry.file).seen → self.new.claim.is_missing ≡ false → (S.answered self.old.system).has_lost_entries ≡ false → IsOk result }
     {
         refuse_lost(asked.is_lost)?;
         let opened = self.take_writer(asked)?;

@@ -3,7 +3,7 @@ ghost use Rattle.host_trait.specs.declared.channels.FileId.{FileId};
 ghost use Rattle.host_trait.specs.declared.channels.Channel.{Channel};
 ghost use Rattle.system_calls.specs.System.{NoSyncRefused};
 ghost use Rattle.host_files.specs.Path.{path_of};
-ghost use Rattle.host_files.specs.Table.{is_lost, counts_of};
+ghost use Rattle.host_files.specs.Table.{is_lost, had_bytes_in, counts_of};
 
 use crate::folder::Folder;
 use crate::table::Table;
@@ -21,6 +21,10 @@ use system_calls::SystemCalls;
 /// it, each call on a file fails. Files are looked for in the folder that was taken, also where it is renamed, or another one
 /// comes to stand at its path.
 ///
+/// So a call answers Ok only where the system refused nothing in it (`calm`); and it does so wherever nothing was refused, fewer
+/// than 2 to the 63 calls were interrupted, and none of those things is so, nor is the folder missing where a file has to be made,
+/// nor was a sync of the folder refused before a sync (`fine`).
+///
 /// Where no file may be written, they are read all the same, so that a folder on a medium that may only be read can be asked.
 ///
 /// Each file has one name: `program-S.otx`, `manager-S.otx` or `grain-S-K-Y.otx`, with slot, type and key in decimal. The names
@@ -32,6 +36,7 @@ pub struct FolderHost<S: SystemCalls> {
     table: Table,
     input_faults: u64,
     output_faults: u64,
+    ghost plain: { IsTrue S.tells → (file : FileId) → IsTrue (had_bytes_in table.files file) → IsTrue (S.is_regular file) },
     ghost doubts: { IsTrue S.tells → (file : FileId) → IsTrue ((S.state folder.system).is_doubtful file) → IsTrue (is_lost table.files file) },
 }
 
@@ -77,8 +82,16 @@ impl<S: SystemCalls + Drop> FolderHost<S> {
 }
 
 impl<S: SystemCalls + Drop> Host for FolderHost<S> {
-    ghost use Rattle.std.specs.Prelude.{false};
-    ghost use Rattle.host_files.specs.Table.{is_named, counts_of};
+    ghost use Rattle.std.specs.Prelude.{◌≡◌, ◌≢◌, ◌+◌, ◌^◌, ◌<◌, ◌≤◌, ℕ, false, length, is_ok, is_some, IsTrue, IsOk, IsErr, IfOk, OnOk, OnErr};
+    ghost use Rattle.host_trait.specs.Disk.{Overwrote};
+    ghost use Rattle.host_trait.specs.Files.{HasSlot, MayAsk, StaysReady};
+    ghost use Rattle.host_trait.specs.World.{Asked, Pulled, Emitted, Filled, Written, Synced};
+    ghost use Rattle.host_trait.specs.Faults.{Counted};
+    ghost use Rattle.host_trait.specs.declared.channels.FileId.{FileId};
+    ghost use Rattle.host_trait.specs.declared.channels.Channel.{Channel};
+    ghost use Rattle.host_trait.specs.declared.channels.Channel.TheVariants.{Input, Output, File};
+    ghost use Rattle.host_files.specs.Table.{is_named, is_lost, had_bytes_in, counts_of, SameLost};
+    ghost use Rattle.host_files.specs.Clear.{WentWell, IsInPlace};
 
     ghost tells = { S.tells };
 
@@ -90,7 +103,17 @@ impl<S: SystemCalls + Drop> Host for FolderHost<S> {
 
     ghost seen_may_stay = { λ host file told. S.seen_may_stay host.folder.system file told };
 
-    fn pull(&mut self, into: &mut [u8]) -> Result<usize, Failed> {
+    fn pull(&mut self, into: &mut [u8]) -> Result<usize, Failed>
+        ensures bound { IfOk result (λ n. n ≤ length into.old) }
+        ensures ok { IfOk result (λ n. IsTrue S.tells → Pulled n into.new (S.state self.old.folder.system).world (S.state self.new.folder.system).world) }
+        ensures err { OnErr result (IsTrue S.tells → Asked (S.state self.old.folder.system).world (S.state self.new.folder.system).world) }
+        ensures faults { Counted Input result (counts_of self.old.input_faults self.old.output_faults self.old.table.files)
+            (counts_of self.new.input_faults self.new.output_faults self.new.table.files) }
+        ensures ready { StaysReady (is_named self.old.table.files) (is_named self.new.table.files) }
+        ensures believed { SameLost self.old.table.files self.new.table.files }
+        ensures calm { OnOk result (IsTrue S.tells → (S.answered self.new.folder.system).refusals ≡ (S.answered self.old.folder.system).refusals) }
+        ensures fine { IsTrue S.tells → WentWell (S.answered self.old.folder.system) (S.answered self.new.folder.system) → IsOk result }
+    {
         match self.folder.pull(into) {
             Ok(count) => Ok(count),
             Err(_) => {
@@ -100,7 +123,16 @@ impl<S: SystemCalls + Drop> Host for FolderHost<S> {
         }
     }
 
-    fn emit(&mut self, bytes: &[u8]) -> Result<(), Failed> {
+    fn emit(&mut self, bytes: &[u8]) -> Result<(), Failed>
+        ensures ok { OnOk result (IsTrue S.tells → Emitted (length bytes.now) bytes.now (S.state self.old.folder.system).world (S.state self.new.folder.system).world) }
+        ensures part { IsTrue S.tells → ((n : ℕ) × Emitted n bytes.now (S.state self.old.folder.system).world (S.state self.new.folder.system).world) }
+        ensures faults { Counted Output result (counts_of self.old.input_faults self.old.output_faults self.old.table.files)
+            (counts_of self.new.input_faults self.new.output_faults self.new.table.files) }
+        ensures ready { StaysReady (is_named self.old.table.files) (is_named self.new.table.files) }
+        ensures believed { SameLost self.old.table.files self.new.table.files }
+        ensures calm { OnOk result (IsTrue S.tells → (S.answered self.new.folder.system).refusals ≡ (S.answered self.old.folder.system).refusals) }
+        ensures fine { IsTrue S.tells → WentWell (S.answered self.old.folder.system) (S.answered self.new.folder.system) → IsOk result }
+    {
         match self.folder.emit(bytes) {
             Ok(()) => Ok(()),
             Err(_) => {
@@ -110,32 +142,109 @@ impl<S: SystemCalls + Drop> Host for FolderHost<S> {
         }
     }
 
-    fn length(&mut self, file: FileId) -> Result<u64, Failed> {
+    fn length(&mut self, file: FileId) -> Result<u64, Failed>
+        requires { MayAsk (is_named self.old.table.files) file }
+        ensures told { IsTrue S.tells → Asked (S.state self.old.folder.system).world (S.state self.new.folder.system).world }
+        ensures len { IfOk result (λ n. IsTrue S.tells → n ≡ length ((S.state self.old.folder.system).world.disk file).seen) }
+        ensures bound { IfOk result (λ n. n < 2 ^ 63) }
+        ensures faults { Counted (File file) result (counts_of self.old.input_faults self.old.output_faults self.old.table.files)
+            (counts_of self.new.input_faults self.new.output_faults self.new.table.files) }
+        ensures ready { StaysReady (is_named self.old.table.files) (is_named self.new.table.files) }
+        ensures believed { SameLost self.old.table.files self.new.table.files }
+        ensures calm { OnOk result (IsTrue S.tells → (S.answered self.new.folder.system).refusals ≡ (S.answered self.old.folder.system).refusals) }
+        ensures fine { IsTrue S.tells → WentWell (S.answered self.old.folder.system) (S.answered self.new.folder.system)
+            → IsInPlace (is_lost self.old.table.files file) (had_bytes_in self.old.table.files file) (S.is_regular file) ((S.state self.old.folder.system).world.disk file).seen
+            → length ((S.state self.old.folder.system).world.disk file).seen < 2 ^ 63
+            → IsOk result }
+        ensures lost { IsTrue (is_lost self.old.table.files file) → IsErr result }
+        ensures regular { IfOk result (λ n. IsTrue S.tells → 0 < n → IsTrue (S.is_regular file)) }
+        ensures noted { IfOk result (λ n. 0 < n → IsTrue (had_bytes_in self.new.table.files file)) }
+        ensures open { OnOk result (IsTrue (had_bytes_in self.old.table.files file) → IsTrue (is_some self.new.folder.reader)) }
+    {
         let answer = self.folder.length(self.table.asked(file));
         let has_bytes = answer.unwrap_or(0) > 0;
         let count = self.table.count(file, answer, has_bytes)?;
         Ok(count)
     }
 
-    fn read_at(&mut self, file: FileId, at: u64, into: &mut [u8]) -> Result<usize, Failed> {
+    fn read_at(&mut self, file: FileId, at: u64, into: &mut [u8]) -> Result<usize, Failed>
+        requires { MayAsk (is_named self.old.table.files) file }
+        ensures told { IsTrue S.tells → Asked (S.state self.old.folder.system).world (S.state self.new.folder.system).world }
+        ensures bytes { IfOk result (λ n. IsTrue S.tells → Filled n at ((S.state self.old.folder.system).world.disk file).seen into.old into.new) }
+        ensures bound { IfOk result (λ n. n ≤ length into.old) }
+        ensures faults { Counted (File file) result (counts_of self.old.input_faults self.old.output_faults self.old.table.files)
+            (counts_of self.new.input_faults self.new.output_faults self.new.table.files) }
+        ensures ready { StaysReady (is_named self.old.table.files) (is_named self.new.table.files) }
+        ensures believed { SameLost self.old.table.files self.new.table.files }
+        ensures calm { OnOk result (IsTrue S.tells → (S.answered self.new.folder.system).refusals ≡ (S.answered self.old.folder.system).refusals) }
+        ensures fine { IsTrue S.tells → WentWell (S.answered self.old.folder.system) (S.answered self.new.folder.system)
+            → IsInPlace (is_lost self.old.table.files file) (had_bytes_in self.old.table.files file) (S.is_regular file) ((S.state self.old.folder.system).world.disk file).seen
+            → IsOk result }
+        ensures lost { IsTrue (is_lost self.old.table.files file) → IsErr result }
+        ensures regular { IfOk result (λ n. IsTrue S.tells → 0 < n → IsTrue (S.is_regular file)) }
+        ensures noted { IfOk result (λ n. 0 < n → IsTrue (had_bytes_in self.new.table.files file)) }
+        ensures open { OnOk result (IsTrue (had_bytes_in self.old.table.files file) → IsTrue (is_some self.new.folder.reader)) }
+    {
         let answer = self.folder.read_at(self.table.asked(file), at, into);
         let has_bytes = answer.unwrap_or(0) > 0;
         let count = self.table.count(file, answer, has_bytes)?;
         Ok(count)
     }
 
-    fn write_at(&mut self, file: FileId, at: u64, bytes: &[u8]) -> Result<(), Failed> {
+    fn write_at(&mut self, file: FileId, at: u64, bytes: &[u8]) -> Result<(), Failed>
+        requires file { MayAsk (is_named self.old.table.files) file }
+        requires place { IsTrue S.tells → at ≤ length ((S.state self.old.folder.system).world.disk file).seen }
+        ensures told { IsTrue S.tells → Written file at (length bytes.now) (S.state self.old.folder.system).world (S.state self.new.folder.system).world }
+        ensures ok { OnOk result (IsTrue S.tells → Overwrote at bytes.now ((S.state self.old.folder.system).world.disk file) ((S.state self.new.folder.system).world.disk file)) }
+        ensures bound { OnOk result (at + length bytes.now < 2 ^ 63) }
+        ensures faults { Counted (File file) result (counts_of self.old.input_faults self.old.output_faults self.old.table.files)
+            (counts_of self.new.input_faults self.new.output_faults self.new.table.files) }
+        ensures ready { StaysReady (is_named self.old.table.files) (is_named self.new.table.files) }
+        ensures believed { SameLost self.old.table.files self.new.table.files }
+        ensures calm { OnOk result (IsTrue S.tells → (S.answered self.new.folder.system).refusals ≡ (S.answered self.old.folder.system).refusals) }
+        ensures fine { IsTrue S.tells → WentWell (S.answered self.old.folder.system) (S.answered self.new.folder.system)
+            → IsInPlace (is_lost self.old.table.files file) (had_bytes_in self.old.table.files file) (S.is_regular file) ((S.state self.old.folder.system).world.disk file).seen
+            → self.new.folder.claim.is_missing ≡ false → at + length bytes.now < 2 ^ 63
+            → IsOk result }
+        ensures lost { IsTrue (is_lost self.old.table.files file) → IsErr result }
+        ensures regular { OnOk result (IsTrue S.tells → IsTrue (S.is_regular file)) }
+        ensures noted { OnOk result (0 < length bytes.now → IsTrue (had_bytes_in self.new.table.files file)) }
+    {
         let answer = self.folder.write_at(self.table.asked(file), at, bytes);
         self.table.count(file, answer, !bytes.is_empty())?;
         Ok(())
     }
 
-    fn ready(&mut self, file: FileId) -> Result<(), AllocError> {
+    fn ready(&mut self, file: FileId) -> Result<(), AllocError>
+        requires { HasSlot file }
+        ensures told { IsTrue S.tells → (S.state self.new.folder.system).world ≡ (S.state self.old.folder.system).world }
+        ensures ok { OnOk result (IsTrue (is_named self.new.table.files file)) }
+        ensures faults { (channel : Channel) → counts_of self.new.input_faults self.new.output_faults self.new.table.files channel
+            ≡ counts_of self.old.input_faults self.old.output_faults self.old.table.files channel }
+        ensures ready { StaysReady (is_named self.old.table.files) (is_named self.new.table.files) }
+        ensures believed { SameLost self.old.table.files self.new.table.files }
+    {
         self.table.ready(file)?;
         Ok(())
     }
 
-    fn sync(&mut self, file: FileId) -> Result<(), Failed> {
+    fn sync(&mut self, file: FileId) -> Result<(), Failed>
+        requires { MayAsk (is_named self.old.table.files) file }
+        ensures told { IsTrue S.tells → Synced file (is_ok result) (S.state self.old.folder.system).world (S.state self.new.folder.system).world }
+        ensures count { OnOk result (IsTrue S.tells → (S.state self.new.folder.system).world.syncs ≡ (S.state self.old.folder.system).world.syncs + 1) }
+        ensures faults { Counted (File file) result (counts_of self.old.input_faults self.old.output_faults self.old.table.files)
+            (counts_of self.new.input_faults self.new.output_faults self.new.table.files) }
+        ensures ready { StaysReady (is_named self.old.table.files) (is_named self.new.table.files) }
+        ensures believed { OnOk result (SameLost self.old.table.files self.new.table.files) }
+        ensures others { (other : FileId) → other ≢ file → is_lost self.new.table.files other ≡ is_lost self.old.table.files other }
+        ensures calm { OnOk result (IsTrue S.tells → (S.answered self.new.folder.system).refusals ≡ (S.answered self.old.folder.system).refusals) }
+        ensures fine { IsTrue S.tells → WentWell (S.answered self.old.folder.system) (S.answered self.new.folder.system)
+            → IsInPlace (is_lost self.old.table.files file) (had_bytes_in self.old.table.files file) (S.is_regular file) ((S.state self.old.folder.system).world.disk file).seen
+            → self.new.folder.claim.is_missing ≡ false → (S.answered self.old.folder.system).has_lost_entries ≡ false
+            → IsOk result }
+        ensures lost { IsTrue (is_lost self.old.table.files file) → IsErr result }
+        ensures regular { OnOk result (IsTrue S.tells → IsTrue (S.is_regular file)) }
+    {
         let answer = self.folder.sync(self.table.asked(file));
         self.table.count_sync(file, answer)?;
         Ok(())

@@ -1,8 +1,9 @@
 // Whole reads and writes by calls that move some bytes each.
-ghost use Rattle.std.specs.Prelude.{◌≡◌, ◌+◌, ◌^◌, ◌<◌, ◌≤◌, ℕ, false, length, IsTrue, IfOk, OnOk, OnErr};
+ghost use Rattle.std.specs.Prelude.{◌≡◌, ◌+◌, ◌^◌, ◌<◌, ◌≤◌, ℕ, false, length, IsTrue, IsOk, IfOk, OnOk, OnErr};
 ghost use Rattle.host_trait.specs.Disk.{Overwrote};
 ghost use Rattle.host_trait.specs.World.{Pulled, Emitted, Filled, Written};
 ghost use Rattle.system_calls.specs.System.{SameEntries};
+ghost use Rattle.host_files.specs.Clear.{WentWell, WasObeyed};
 
 use system_calls::{Refused, SystemCalls};
 
@@ -13,14 +14,18 @@ pub fn read_whole<S: SystemCalls>(
     at: u64,
     into: &mut [u8],
 ) -> Result<usize, Refused>
+    requires regular { IsTrue S.tells → IsTrue (S.is_regular (S.File.file opened.now)) }
     requires calm { IsTrue S.tells → (S.state system.old).is_doubtful (S.File.file opened.now) ≡ false }
     ensures told { IsTrue S.tells → S.state system.new ≡ S.state system.old }
     ensures bound { IfOk result (λ count. count ≤ length into.old) }
     ensures bytes { IfOk result (λ count. IsTrue S.tells
         → Filled count at ((S.state system.old).world.disk (S.File.file opened.now)).seen into.old into.new) }
+    ensures calm { OnOk result (IsTrue S.tells → WasObeyed (S.answered system.old) (S.answered system.new)) }
+    ensures fine { IsTrue S.tells → WentWell (S.answered system.old) (S.answered system.new) → IsOk result }
+    ensures known { IsTrue S.tells → (S.answered system.new).has_lost_entries ≡ (S.answered system.old).has_lost_entries }
 {
     let mut count = 0;
-    for _ in 0..u64::MAX {
+    for turn in 0..u64::MAX {
         if count >= into.len() || at > u64::MAX - count as u64 {
             return Ok(count);
         }
@@ -46,6 +51,7 @@ pub fn write_whole<S: SystemCalls>(
     bytes: &[u8],
 ) -> Result<(), Refused>
     requires fits { at + length bytes.now < 2 ^ 63 }
+    requires regular { IsTrue S.tells → IsTrue (S.is_regular (S.File.file opened.now)) }
     requires calm { IsTrue S.tells → (S.state system.old).is_doubtful (S.File.file opened.now) ≡ false }
     requires place { IsTrue S.tells → at ≤ length ((S.state system.old).world.disk (S.File.file opened.now)).seen }
     ensures told { IsTrue S.tells
@@ -53,9 +59,12 @@ pub fn write_whole<S: SystemCalls>(
     ensures ok { OnOk result (IsTrue S.tells
         → Overwrote at bytes.now ((S.state system.old).world.disk (S.File.file opened.now)) ((S.state system.new).world.disk (S.File.file opened.now))) }
     ensures entries { IsTrue S.tells → SameEntries (S.state system.old) (S.state system.new) }
+    ensures calm { OnOk result (IsTrue S.tells → WasObeyed (S.answered system.old) (S.answered system.new)) }
+    ensures fine { IsTrue S.tells → WentWell (S.answered system.old) (S.answered system.new) → IsOk result }
+    ensures known { IsTrue S.tells → (S.answered system.new).has_lost_entries ≡ (S.answered system.old).has_lost_entries }
 {
     let mut done = 0;
-    for _ in 0..u64::MAX {
+    for turn in 0..u64::MAX {
         match system.write_at(opened, at, bytes, done) {
             Ok(more) => {
                 done += more;
@@ -79,8 +88,11 @@ pub fn take_input<S: SystemCalls>(system: &mut S, into: &mut [u8]) -> Result<usi
     ensures ok { IfOk result (λ count. IsTrue S.tells → Pulled count into.new (S.state system.old).world (S.state system.new).world) }
     ensures err { OnErr result (IsTrue S.tells → S.state system.new ≡ S.state system.old) }
     ensures entries { IsTrue S.tells → SameEntries (S.state system.old) (S.state system.new) }
+    ensures calm { OnOk result (IsTrue S.tells → WasObeyed (S.answered system.old) (S.answered system.new)) }
+    ensures fine { IsTrue S.tells → WentWell (S.answered system.old) (S.answered system.new) → IsOk result }
+    ensures known { IsTrue S.tells → (S.answered system.new).has_lost_entries ≡ (S.answered system.old).has_lost_entries }
 {
-    for _ in 0..u64::MAX {
+    for turn in 0..u64::MAX {
         match system.read_input(into) {
             Ok(count) => return Ok(count),
             Err(Refused::Interrupted) => {}
@@ -96,9 +108,12 @@ pub fn put_out<S: SystemCalls>(system: &mut S, bytes: &[u8]) -> Result<(), Refus
         → Emitted (length bytes.now) bytes.now (S.state system.old).world (S.state system.new).world) }
     ensures part { IsTrue S.tells → ((n : ℕ) × Emitted n bytes.now (S.state system.old).world (S.state system.new).world) }
     ensures entries { IsTrue S.tells → SameEntries (S.state system.old) (S.state system.new) }
+    ensures calm { OnOk result (IsTrue S.tells → WasObeyed (S.answered system.old) (S.answered system.new)) }
+    ensures fine { IsTrue S.tells → WentWell (S.answered system.old) (S.answered system.new) → IsOk result }
+    ensures known { IsTrue S.tells → (S.answered system.new).has_lost_entries ≡ (S.answered system.old).has_lost_entries }
 {
     let mut done = 0;
-    for _ in 0..u64::MAX {
+    for turn in 0..u64::MAX {
         if done >= bytes.len() {
             return Ok(());
         }

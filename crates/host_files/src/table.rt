@@ -1,10 +1,10 @@
 // The names of the files that are ready, how often calls on each have failed, and whether a sync of it has.
-ghost use Rattle.std.specs.Prelude.{◌≡◌, ◌≢◌, ◌≤◌, ℕ, Ok, is_ok, IsTrue, IfOk, OnOk, OnErr};
+ghost use Rattle.std.specs.Prelude.{◌≡◌, ◌≢◌, ◌≤◌, ℕ, Ok, is_ok, false, IsTrue, IfOk, OnOk, OnErr};
 ghost use Rattle.host_trait.specs.Files.{HasSlot, MayAsk, StaysReady, name_of};
 ghost use Rattle.host_trait.specs.Faults.{Rose, Counted};
 ghost use Rattle.host_trait.specs.declared.channels.FileId.{FileId};
 ghost use Rattle.host_trait.specs.declared.channels.Channel.TheVariants.{File};
-ghost use Rattle.host_files.specs.Table.{faults_in, is_lost, is_named, counts_of, HaveOwnNames, AreAlwaysNamed, SameNames, StayLost};
+ghost use Rattle.host_files.specs.Table.{faults_in, is_lost, is_named, had_bytes_in, counts_of, HaveOwnNames, AreAlwaysNamed, SameNames, SameLost, SameHadBytes, StayLost};
 
 use host_trait::{Failed, FileId, file_name};
 use std::alloc::{AllocError, Global};
@@ -38,6 +38,7 @@ fn enter(alloc: Global, files: &mut BTreeMap<FileId, Named>, file: FileId) -> Re
     ensures stays { StaysReady (is_named files.old) (is_named files.new) }
     ensures faults { (other : FileId) → faults_in files.new other ≡ faults_in files.old other }
     ensures lost { (other : FileId) → is_lost files.new other ≡ is_lost files.old other }
+    ensures bytes { SameHadBytes files.old files.new }
 {
     if files.contains_key(&file) {
         return Ok(());
@@ -70,6 +71,7 @@ fn raise(files: &mut BTreeMap<FileId, Named>, file: FileId)
     ensures later { faults_in files.old file ≤ faults_in files.new file }
     ensures others { (other : FileId) → other ≢ file → faults_in files.new other ≡ faults_in files.old other }
     ensures lost { (other : FileId) → is_lost files.new other ≡ is_lost files.old other }
+    ensures bytes { SameHadBytes files.old files.new }
     ensures names { SameNames files.old files.new }
 {
     if let Some(named) = files.get_mut(&file) {
@@ -81,7 +83,9 @@ fn raise(files: &mut BTreeMap<FileId, Named>, file: FileId)
 fn lose(files: &mut BTreeMap<FileId, Named>, file: FileId)
     requires { IsTrue (is_named files.old file) }
     ensures lost { IsTrue (is_lost files.new file) }
+    ensures others { (other : FileId) → other ≢ file → is_lost files.new other ≡ is_lost files.old other }
     ensures stay { StayLost files.old files.new }
+    ensures bytes { SameHadBytes files.old files.new }
     ensures faults { (other : FileId) → faults_in files.new other ≡ faults_in files.old other }
     ensures names { SameNames files.old files.new }
 {
@@ -92,6 +96,9 @@ fn lose(files: &mut BTreeMap<FileId, Named>, file: FileId)
 
 // Notes that a file has bytes, so that it is there for good.
 fn note_bytes(files: &mut BTreeMap<FileId, Named>, file: FileId)
+    requires { IsTrue (is_named files.old file) }
+    ensures noted { IsTrue (had_bytes_in files.new file) }
+    ensures others { (other : FileId) → other ≢ file → had_bytes_in files.new other ≡ had_bytes_in files.old other }
     ensures faults { (other : FileId) → faults_in files.new other ≡ faults_in files.old other }
     ensures lost { (other : FileId) → is_lost files.new other ≡ is_lost files.old other }
     ensures names { SameNames files.old files.new }
@@ -106,6 +113,7 @@ fn first_files(alloc: Global) -> Result<BTreeMap<FileId, Named>, AllocError>
     ensures names { IfOk result HaveOwnNames }
     ensures always { IfOk result AreAlwaysNamed }
     ensures faults { IfOk result (λ files. (file : FileId) → faults_in files file ≡ 0) }
+    ensures bytes { IfOk result (λ files. (file : FileId) → had_bytes_in files file ≡ false) }
 {
     let mut files = BTreeMap::new(alloc);
     enter(alloc, &mut files, FileId::Program { slot: 0 })?;
@@ -127,7 +135,8 @@ pub struct Table {
 impl Table {
     /// No grain file, and no faults.
     pub fn new(alloc: Global) -> Result<Table, AllocError>
-        ensures { IfOk result (λ table. (file : FileId) → faults_in table.files file ≡ 0) }
+        ensures faults { IfOk result (λ table. (file : FileId) → faults_in table.files file ≡ 0) }
+        ensures bytes { IfOk result (λ table. (file : FileId) → had_bytes_in table.files file ≡ false) }
     {
         let files = first_files(alloc)?;
         Ok(Table { alloc, files })
@@ -153,7 +162,9 @@ impl Table {
     }
 
     // Whether a file was seen to have bytes.
-    fn had_bytes(&self, file: FileId) -> bool {
+    fn had_bytes(&self, file: FileId) -> bool
+        ensures { result ≡ had_bytes_in self.now.files file }
+    {
         match self.files.get(&file) {
             Some(named) => named.had_bytes,
             None => false,
@@ -166,6 +177,7 @@ impl Table {
         ensures file { result.file ≡ file }
         ensures name { result.name.now ≡ name_of file }
         ensures lost { result.is_lost ≡ is_lost self.now.files file }
+        ensures bytes { result.had_bytes ≡ had_bytes_in self.now.files file }
     {
         Asked {
             file,
@@ -191,6 +203,7 @@ impl Table {
         ensures stays { StaysReady (is_named self.old.files) (is_named self.new.files) }
         ensures faults { (other : FileId) → faults_in self.new.files other ≡ faults_in self.old.files other }
         ensures lost { (other : FileId) → is_lost self.new.files other ≡ is_lost self.old.files other }
+        ensures bytes { SameHadBytes self.old.files self.new.files }
     {
         enter(self.alloc, &mut self.files, file)?;
         Ok(())
@@ -206,6 +219,12 @@ impl Table {
     ) -> Result<T, Failed>
         requires { MayAsk (is_named self.old.files) file }
         ensures ok { IfOk result (λ value. answer ≡ Ok value) }
+        ensures answer { is_ok result ≡ is_ok answer }
+        ensures noted { OnOk result (IsTrue has_bytes → IsTrue (had_bytes_in self.new.files file)) }
+        ensures unnoted { has_bytes ≡ false → SameHadBytes self.old.files self.new.files }
+        ensures failed { OnErr result (SameHadBytes self.old.files self.new.files) }
+        ensures others { (other : FileId) → other ≢ file → had_bytes_in self.new.files other ≡ had_bytes_in self.old.files other }
+        ensures lost { SameLost self.old.files self.new.files }
         ensures faults { (input output : ℕ) → Counted (File file) result
             (counts_of input output self.old.files) (counts_of input output self.new.files) }
         ensures stay { StayLost self.old.files self.new.files }
@@ -232,6 +251,9 @@ impl Table {
         ensures faults { (input output : ℕ) → Counted (File file) result
             (counts_of input output self.old.files) (counts_of input output self.new.files) }
         ensures lost { OnErr result (IsTrue (is_lost self.new.files file)) }
+        ensures calm { OnOk result (SameLost self.old.files self.new.files) }
+        ensures others { (other : FileId) → other ≢ file → is_lost self.new.files other ≡ is_lost self.old.files other }
+        ensures bytes { SameHadBytes self.old.files self.new.files }
         ensures stay { StayLost self.old.files self.new.files }
         ensures stays { StaysReady (is_named self.old.files) (is_named self.new.files) }
     {

@@ -40,6 +40,8 @@ use Rattle.turn_rules.specs.Carried.{movers_of}
 use Rattle.turn_rules.specs.Quiet.{HasRun}
 use Rattle.turn_rules.specs.Turning.{has_room}
 use Rattle.turn_rules.proofs.Lawful.{legal-run}
+use Rattle.turn_rules.proofs.Listed.{empty-append}
+use Rattle.turn_rules.proofs.Resting.{no-step}
 use Rattle.turn_rules.proofs.Turns.{turn-ended}
 use Rattle.settle_loop.specs.Turning.{has_unwritten}
 use Rattle.unit_carrier.specs.Carrying.{units_carried}
@@ -173,6 +175,10 @@ module _ (tells : Bool) (o : Outset) (lines : List Line) (b : Books) (s : TurnSt
         run = run;
         none = no-doubt;
         never = λ d. absurd (true≢false (sym (doubted-now s.run d) ∙ ap is_some no-doubt));
+        unstopped = way-unstopped way;
+        rests = no-step (settler_step (ends s.run))
+            (empty-append (if is_some (ends s.run).manager.doubt then [] else map OfUnit (filter (can_move o.program.types (ends s.run) (got_in s.run)) (units_carried s.agents)))
+            (if has_step (settler_step (ends s.run)) then OfSettler ∷ [] else []) nobody).1;
         written = way.books.written ∙ (let x : (ends s.run).manager.emitted ≡ (ends s.run).units.lines = omega (arith, le, ge, many) in x);
       }
 

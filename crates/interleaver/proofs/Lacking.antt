@@ -53,7 +53,7 @@ module _ (keeps : OthersKeep) (tells : Bool) (o : Outset) (lines : List Line) (b
   })
 
   -- an event was put that is the next
-  lacks-event : (e : CoreEvent) → r' ≡ with_event s.run e → MayCome (basis_of o) s.run e → IsNext o.program.types (length o.asked) o.width o.picks s.run e → is_settling e ≡ false → (e ≡ Halt → ⊥) → Ends r'
+  lacks-event : (e : CoreEvent) → r' ≡ with_event s.run e → MayCome (basis_of o) s.run e → (o.ruled ≡ true → IsNext o.program.types (length o.asked) o.width o.picks s.run e) → is_settling e ≡ false → (e ≡ Halt → ⊥) → Ends r'
   lacks-event e q may is_next other halt =
       let rule : KeepsUnitRule (basis_of o) (with_event s.run e) = unit-grows (basis_of o) s.run e way.turning.unit_rule may in
       let on = keeps tells o b s.run e s.settler s.counts s.world way.turning.first way.turning.unit_rule rule other way.even way.books in
@@ -62,7 +62,7 @@ module _ (keeps : OthersKeep) (tells : Bool) (o : Outset) (lines : List Line) (b
         record_kept = record {
           above = way.turning.first;
           units = rule;
-          turns = turn-grows o.program.types (length o.asked) o.width o.picks s.run e way.turning.turn_rule is_next;
+          turns = λ ruled. turn-grows o.program.types (length o.asked) o.width o.picks s.run e (way.turning.turn_rule ruled) (is_next ruled);
           books = on.0.kept;
         };
         lasts = on.0.lasts;
@@ -70,12 +70,12 @@ module _ (keeps : OthersKeep) (tells : Bool) (o : Outset) (lines : List Line) (b
       })
 
   -- the picked unit's event is the next
-  unit-next : (u : UnitNo) → IsPicked l (OfUnit u) → (e : CoreEvent) → mover_of e ≡ OfUnit u → IsNext o.program.types (length o.asked) o.width o.picks s.run e
-  unit-next u pick e own a =
+  unit-next : o.ruled ≡ true → (u : UnitNo) → IsPicked l (OfUnit u) → (e : CoreEvent) → mover_of e ≡ OfUnit u → IsNext o.program.types (length o.asked) o.width o.picks s.run e
+  unit-next ruled u pick e own a =
       subst (λ (m : Mover). IsTurn (line_can_begin o.width (length o.asked) s.run (ends s.run)) (picked (movers_in o.program.types s.run) (next_pick o.picks s.run)) (ends s.run) e m) (sym own) (
         begins-kept o.width (length o.asked) s.run l.units way.turning.kept ∙ pick.none,
         ap (λ (ms : List Mover). picked ms (next_pick o.picks s.run)) (movers-kept o.program.types s.run l.units way.turning.kept)
-            ∙ ap (λ (n : ℕ). picked (movers_of o.program.types s.run l.units) (get_or o.picks n 0)) (sym way.turning.count) ∙ pick.pick,
+            ∙ ap (λ (n : ℕ). picked (movers_of o.program.types s.run l.units) (get_or o.picks n 0)) (sym (way.turning.count ruled)) ∙ pick.pick,
       )
 
   line-next : has_room l ≡ true → (e : CoreEvent) → mover_of e ≡ OfLine → IsNext o.program.types (length o.asked) o.width o.picks s.run e
@@ -90,7 +90,7 @@ module _ (keeps : OthersKeep) (tells : Bool) (o : Outset) (lines : List Line) (b
       let same : saw (own_sight s.run) p.told.rest ≡ own_sight s.run = looks-alone (own_sight s.run) (saw (own_sight s.run) p.told.rest) (record { rest = p.told.rest; others = p.told.others; sight = refl }) in
       let due : MayCome (basis_of o) s.run e =
       subst (λ (x : Run). MayCome (basis_of o) x e) (ap run_seen same ∙ own-run s.run) (p.due (subst (IsAlone (leaves_unit u)) (sym same) (own-alone (leaves_unit u) s.run)) (basis_of o) refl) in
-      lacks-event e (own-told s.run r' e y p.told) due (unit-next u pick e p.own) (unit-others u e p.own) (unit-no-halt u e p.own)
+      lacks-event e (own-told s.run r' e y p.told) due (λ ruled. unit-next ruled u pick e p.own) (unit-others u e p.own) (unit-no-halt u e p.own)
 
   -- a line's event that had none
   pub line-lacks : (line : Line) → slice_get lines s.begun ≡ Some line → has_room l ≡ true
@@ -111,13 +111,13 @@ module _ (keeps : OthersKeep) (tells : Bool) (o : Outset) (lines : List Line) (b
       by : (what : Result Call BadRequest) → line.what ≡ what → IsEventOf o.program.types line.number what p.e → Ends r'
       by (Ok call) q is =
           lacks-event (Begin (OfLineOrigin line.number) call is.0) (run ∙ ap (with_event s.run) is.1) (λ x. (subst (ReadsLineAs o.program.types o.asked line.number) q this-reads, is.2))
-          (line-next room (Begin (OfLineOrigin line.number) call is.0) refl) refl (λ h. apart call is.0 h)
+          (λ ruled. line-next room (Begin (OfLineOrigin line.number) call is.0) refl) refl (λ h. apart call is.0 h)
         where
           apart : (c : Call) (f : Bool) → Begin (OfLineOrigin line.number) c f ≡ Halt → ⊥
           apart c f t = absurd cc
       by (Err why) q is =
           lacks-event (Bad line.number why) (run ∙ ap (with_event s.run) is) (λ x. subst (ReadsLineAs o.program.types o.asked line.number) q this-reads)
-          (line-next room (Bad line.number why) refl) refl (λ h. apart why h)
+          (λ ruled. line-next room (Bad line.number why) refl) refl (λ h. apart why h)
         where
           apart : (f : BadRequest) → Bad line.number f ≡ Halt → ⊥
           apart f t = absurd cc

@@ -15,3 +15,4 @@ pub mod Rooms
 pub mod Starting
 pub mod Onward
 pub mod Besides
+pub mod Again

@@ -6,7 +6,7 @@ use Rattle.host_trait.specs.World.{World}
 use Rattle.host_trait.proofs.Moments.{started}
 use Rattle.request_wire.specs.declared.requests.Line.{Line}
 use Rattle.std.specs.Prelude.{length}
-use Rattle.promise_spec.specs.TurnRule.{KeepsTurnRule}
+use Rattle.promise_spec.specs.TurnRule.{KeepsTurnRule, picks_used}
 use Rattle.script_tree.specs.Programs.{ProgramTree}
 use Rattle.run_books.specs.declared.faults.RunFault.{RunFault}
 use Rattle.run_books.specs.declared.faults.RunFault.TheVariants.{InDoubt, WriteFault, Memory}
@@ -39,7 +39,7 @@ module _ (tells : Bool) (o : Outset) (types : ProgramTree) (lines : List Line) (
   kept-of : (w : WentOn tells o types lines width picks b s t) → KeepsRecord tells o w.books t.run t.settler t.counts t.world
   kept-of w = record { above = w.under_way.turning.first; units = w.under_way.turning.unit_rule; turns = turns-of w; books = w.under_way.books }
     where
-      turns-of : (w : WentOn tells o types lines width picks b s t) → KeepsTurnRule o.program.types (length o.asked) o.width o.picks t.run
+      turns-of : (w : WentOn tells o types lines width picks b s t) → o.ruled ≡ true → KeepsTurnRule o.program.types (length o.asked) o.width o.picks t.run
       turns-of w = w.under_way.turning.turn_rule
 
   -- all is done
@@ -56,9 +56,9 @@ pub nothing-went : (tells : Bool) (o : Outset) (types : ProgramTree) (lines : Li
 nothing-went tells o types lines width picks b s way = record { books = b; under_way = way; lasts = λ tell head was. was }
 
 -- nothing is done, for want of memory
-pub at-once : {T : Type 0} (tells : Bool) (o : Outset) (b : Books) (r : Run) (settler : Settler) (counts : Channel → ℕ) (now : World) → IsFreshRecord o b r → KeepsRecord tells o b r settler counts now
+pub at-once : {T : Type 0} (tells : Bool) (o : Outset) (b : Books) (used : ℕ) (r : Run) (settler : Settler) (counts : Channel → ℕ) (now : World) → IsFreshRecord o b used r → KeepsRecord tells o b r settler counts now
     → RecordGoesOn {T = T} tells o b r r settler settler counts now now (Err Memory)
-at-once tells o b r settler counts now fresh kept = record { books = b; record_kept = kept; lasts = λ tell head was. was; ended = fresh.rest }
+at-once tells o b used r settler counts now fresh kept = record { books = b; record_kept = kept; lasts = λ tell head was. was; ended = fresh.rest }
 
 -- a turn over lines and picks that are these
 module _ (tells : Bool) (o : Outset) (types : ProgramTree) (lines lines' : List Line) (width : ℕ) (picks picks' : List ℕ) (b : Books) (s t u : TurnStage)
@@ -79,6 +79,10 @@ module _ (tells : Bool) (o : Outset) (types : ProgramTree) (lines lines' : List 
   done-after {T} done q =
       let both = says-of (Ok false) q in
       done-then tells o types lines width picks b s u {T = T} done (went-then tells o types lines width picks b s t u w both.0) both.1
+
+  -- by then so many picks were used
+  pub picks-after : result ≡ Ok false → o.ruled ≡ true → picks_used u.run (length u.run.events) ≡ u.used
+  picks-after q ruled = (let both = says-of (Ok false) q in sym (both.0.under_way.turning.count ruled))
 
   -- or how the run has ended
   pub fault-after : {T : Type 0} (f : RunFault) → result ≡ Err f → RecordGoesOn {T = T} tells o b s.run u.run s.settler u.settler u.counts s.world u.world (Err f)

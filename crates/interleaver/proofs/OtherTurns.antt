@@ -45,12 +45,12 @@ outset-stays o types r r' lines width picks kinds same is = record {
 
 -- the loop where it stands, by its parts
 pub loop-into : (o : Outset) (r r' : Run) (us us' : List UnitNo) (used used' : ℕ) → r' ≡ r → us' ≡ us → used' ≡ used
-    → IsTurning (record { basis = basis_of o; width = o.width; picks = o.picks; run = r; units = us; used = used })
-    → IsTurning (record { basis = basis_of o; width = o.width; picks = o.picks; run = r'; units = us'; used = used' })
+    → IsTurning (record { basis = basis_of o; ruled = o.ruled; width = o.width; picks = o.picks; run = r; units = us; used = used })
+    → IsTurning (record { basis = basis_of o; ruled = o.ruled; width = o.width; picks = o.picks; run = r'; units = us'; used = used' })
 loop-into o r r' us us' used used' q p n t =
-    subst (λ (x : Run). IsTurning (record { basis = basis_of o; width = o.width; picks = o.picks; run = x; units = us'; used = used' })) (sym q)
-    (subst (λ (v : List UnitNo). IsTurning (record { basis = basis_of o; width = o.width; picks = o.picks; run = r; units = v; used = used' })) (sym p)
-    (subst (λ (k : ℕ). IsTurning (record { basis = basis_of o; width = o.width; picks = o.picks; run = r; units = us; used = k })) (sym n) t))
+    subst (λ (x : Run). IsTurning (record { basis = basis_of o; ruled = o.ruled; width = o.width; picks = o.picks; run = x; units = us'; used = used' })) (sym q)
+    (subst (λ (v : List UnitNo). IsTurning (record { basis = basis_of o; ruled = o.ruled; width = o.width; picks = o.picks; run = r; units = v; used = used' })) (sym p)
+    (subst (λ (k : ℕ). IsTurning (record { basis = basis_of o; ruled = o.ruled; width = o.width; picks = o.picks; run = r; units = us; used = k })) (sym n) t))
 
 module _ (tells : Bool) (o : Outset) (lines : List Line) (b : Books) (s s' : TurnStage) (way : IsUnderWay tells o o.program.types lines o.width o.picks b s) where
   abbrev l : TurnLoop
@@ -108,10 +108,10 @@ module _ (tells : Bool) (o : Outset) (lines : List Line) (b : Books) (s s' : Tur
       above (inl q) = subst (λ (x : Run). 0 < x.base) (sym q) way.turning.first
       above (inr x) = subst (λ (x : Run). 0 < x.base) (sym x.2) way.turning.first
 
-      turns : SettlesBy s.run s'.run → KeepsTurnRule o.program.types (length o.asked) o.width o.picks s'.run
-      turns (inl q) = subst (KeepsTurnRule o.program.types (length o.asked) o.width o.picks) (sym q) way.turning.turn_rule
-      turns (inr x) =
-          subst (KeepsTurnRule o.program.types (length o.asked) o.width o.picks) (sym x.2) (turn-settler l way.turning x.0 pick x.1 (settler-applies x.0 x.1)).turn_rule
+      turns : SettlesBy s.run s'.run → o.ruled ≡ true → KeepsTurnRule o.program.types (length o.asked) o.width o.picks s'.run
+      turns (inl q) ruled = subst (KeepsTurnRule o.program.types (length o.asked) o.width o.picks) (sym q) (way.turning.turn_rule ruled)
+      turns (inr x) ruled =
+          subst (KeepsTurnRule o.program.types (length o.asked) o.width o.picks) (sym x.2) ((turn-settler l way.turning x.0 pick x.1 (settler-applies x.0 x.1)).turn_rule ruled)
 
       ends-so : (f : RunFault) → SettledSays {T = T} o on.on.books s'.run s'.settler s'.counts (Err f) → TurnsEndAs o on.on.books s'.run s'.settler s'.counts {T = Bool} (Err f)
       ends-so InDoubt x = x

@@ -81,6 +81,7 @@ module _ (tells : Bool) (o : Outset) (types : ProgramTree) (lines : List Line) (
   turning = record {
     first = way.turning.first;
     unit_rule = way.turning.unit_rule;
+    unstopped = way.turning.unstopped;
     turn_rule = way.turning.turn_rule;
     kept = record {
       kept = kept-same ∙ way.turning.kept.kept;

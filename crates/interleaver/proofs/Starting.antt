@@ -95,10 +95,10 @@ module _ (o : Outset) (r : Run) (first : 0 < r.base) (rule : KeepsUnitRule (basi
     below = λ u m. absurd m;
   }
 
-module _ (tells : Bool) (o : Outset) (types : ProgramTree) (lines : List Line) (width : ℕ) (picks : List ℕ) (b : Books) (r : Run) (settler : Settler) (counts : Channel → ℕ) (now : World) where
+module _ (tells : Bool) (o : Outset) (types : ProgramTree) (lines : List Line) (width : ℕ) (picks : List ℕ) (b : Books) (used : ℕ) (r : Run) (settler : Settler) (counts : Channel → ℕ) (now : World) where
   -- all that holds on the way holds where nobody is carried yet
-  pub start : IsOutset o types r lines width picks → CanTurn r settler lines → IsFreshRecord o b r → KeepsRecord tells o b r settler counts now → IsAcceptedProgram types → HasFewNumbers (ends r)
-      → IsUnderWay tells o types lines width picks b (record { run = r; settler = settler; counts = counts; world = now; agents = []; begun = 0; used = 0 })
+  pub start : IsOutset o types r lines width picks → CanTurn r settler lines → IsFreshRecord o b used r → KeepsRecord tells o b r settler counts now → IsAcceptedProgram types → HasFewNumbers (ends r)
+      → IsUnderWay tells o types lines width picks b (record { run = r; settler = settler; counts = counts; world = now; agents = []; begun = 0; used = used })
   start is can fresh k accepted few = record {
     outset = is;
     numbers = can.numbers;
@@ -108,10 +108,11 @@ module _ (tells : Bool) (o : Outset) (types : ProgramTree) (lines : List Line) (
     turning = record {
       first = k.above;
       unit_rule = k.units;
+      unstopped = can.going.1;
       turn_rule = k.turns;
       kept = kept-none o r k.above k.units can.quiet;
       older = tt;
-      count = sym fresh.picks;
+      count = λ ruled. sym (fresh.picks ruled);
     };
     books = k.books;
     even = even-at-rest tells o b r settler counts now can.quiet.written fresh.rest k.books;

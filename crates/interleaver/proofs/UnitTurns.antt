@@ -199,9 +199,9 @@ module _ (keeps : OthersKeep) (tells : Bool) (o : Outset) (lines : List Line) (b
     where
       into : (us : List UnitNo) → units_carried s'.agents ≡ us → IsTurning (turned l g.e us (s.used + 1)) → IsTurning (loop_at o s'.run s'.agents s'.used)
       into us q t =
-          subst (λ (x : Run). IsTurning (record { basis = basis_of o; width = o.width; picks = o.picks; run = x; units = units_carried s'.agents; used = s'.used })) (sym g.run)
-          (subst (λ (v : List UnitNo). IsTurning (record { basis = basis_of o; width = o.width; picks = o.picks; run = with_event s.run g.e; units = v; used = s'.used })) (sym q)
-          (subst (λ (n : ℕ). IsTurning (record { basis = basis_of o; width = o.width; picks = o.picks; run = with_event s.run g.e; units = us; used = n })) (sym used) t))
+          subst (λ (x : Run). IsTurning (record { basis = basis_of o; ruled = o.ruled; width = o.width; picks = o.picks; run = x; units = units_carried s'.agents; used = s'.used })) (sym g.run)
+          (subst (λ (v : List UnitNo). IsTurning (record { basis = basis_of o; ruled = o.ruled; width = o.width; picks = o.picks; run = with_event s.run g.e; units = v; used = s'.used })) (sym q)
+          (subst (λ (n : ℕ). IsTurning (record { basis = basis_of o; ruled = o.ruled; width = o.width; picks = o.picks; run = with_event s.run g.e; units = us; used = n })) (sym used) t))
 
       by : ((is_begin g.e ≡ false) × (units_carried s'.agents ≡ units_carried s.agents)) ⊎ ((index : ℕ) × (depth : ℕ) × (call : Call) × (g.e ≡ event.Begin (Child u index depth) call false) × (units_carried s'.agents ≡ units_carried s.agents ++ (new_unit (ends s.run) ∷ [])))
           → IsTurning (loop_at o s'.run s'.agents s'.used)

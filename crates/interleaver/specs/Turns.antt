@@ -1,5 +1,5 @@
 -- The record of a run of turns: what holds where it begins, and again where it ends, however it ends.
-use Rattle.std.specs.Prelude.{◌≡◌, ◌<◌, ℕ, Bool, IsTrue, List, [], length, Result}
+use Rattle.std.specs.Prelude.{◌≡◌, ◌<◌, ℕ, Bool, true, IsTrue, List, [], length, Result}
 use Rattle.host_trait.specs.declared.channels.Channel.{Channel}
 use Rattle.host_trait.specs.World.{World}
 use Rattle.core_model.specs.Legal.{Run}
@@ -12,16 +12,17 @@ use Rattle.run_books.specs.Books.{Books}
 use Rattle.run_books.specs.Images.{LastsSo}
 use Rattle.run_books.specs.Records.{KeepsBooks, TurnsEndAs}
 
--- Units are numbered from 1 or later. The events keep the unit rule and the turn rule, and the books are kept.
+-- Units are numbered from 1 or later. The events keep the unit rule, and the turn rule too where the run is of turns alone; and the
+-- books are kept.
 pub record KeepsTurns (tells : Bool) (o : Outset) (b : Books) (r : Run) (settler : Settler) (counts : Channel → ℕ) (now : World) : Type 0 where
   pub above : 0 < r.base
   pub units : KeepsUnitRule (basis_of o) r
-  pub turns : KeepsTurnRule o.program.types (length o.asked) o.width o.picks r
+  pub turns : o.ruled ≡ true → KeepsTurnRule o.program.types (length o.asked) o.width o.picks r
   pub books : KeepsBooks tells o b r settler counts now
 
--- No pick was used yet, all is written, and nothing is in doubt.
-pub record IsFreshRecord (o : Outset) (b : Books) (r : Run) : Type 0 where
-  pub picks : picks_used r (length r.events) ≡ 0
+-- Nothing is in doubt and no line is cut off; and where the run is of turns alone, so many picks were used by now.
+pub record IsFreshRecord (o : Outset) (b : Books) (used : ℕ) (r : Run) : Type 0 where
+  pub picks : o.ruled ≡ true → picks_used r (length r.events) ≡ used
   pub doubted : b.doubted ≡ []
   pub rest : b.rest ≡ []
 

@@ -6,7 +6,7 @@ ghost use Rattle.history_core.specs.Cores.{run_of};
 ghost use Rattle.promise_spec.specs.TurnRule.{is_line};
 ghost use Rattle.txn_agent.specs.declared.agent.Agent.{Agent as AnAgent};
 ghost use Rattle.script_tree.specs.Programs.{ProgramTree};
-ghost use Rattle.unit_carrier.specs.Carrying.{AreCarried, units_carried};
+ghost use Rattle.unit_carrier.specs.Carrying.{AreCarried, AreFreed, units_carried};
 ghost use Rattle.interleaver.specs.Flights.{flown_unless, is_flown, is_open_line};
 ghost use Rattle.interleaver.specs.Looking.{IsLooked, IsNow, NothingSince};
 
@@ -84,14 +84,17 @@ fn looked_now(core: &Core) -> Option<usize>
 /// where all of them were lines' that weren't decided, and nothing was settled since.
 pub(crate) fn drop_unless_doubted(
     agents: &mut Agents,
+    front: &mut usize,
     looked: &mut Option<usize>,
     core: &Core,
     settler: &Settler,
 )
     requires carried { (types : ProgramTree) × AreCarried types none_comes (own_sight (run_of core.now)) agents.old.list.items }
     requires looked { IsLooked looked.old (run_of core.now) (units_carried agents.old.list.items) }
+    requires freed { AreFreed front.old agents.old.list.items }
     ensures flown { agents.new.list.items ≡ flown_unless settler.now.doubted (ends (run_of core.now)) agents.old.list.items }
     ensures looked { IsLooked looked.new (run_of core.now) (units_carried agents.new.list.items) }
+    ensures freed { AreFreed front.new agents.new.list.items }
 {
     if settler.doubted() {
         return;
@@ -104,6 +107,7 @@ pub(crate) fn drop_unless_doubted(
         return;
     }
     drop_settled(agents, core);
+    *front = 0;
     *looked = None;
 }
 

@@ -9,12 +9,14 @@ ghost use Rattle.core_access.specs.Sights.{Looks};
 ghost use Rattle.history_core.specs.Cores.{run_of};
 ghost use Rattle.script_tree.specs.Programs.{ProgramTree, program_tree};
 ghost use Rattle.script_check.specs.Shapes.{type_shapes};
+ghost use Rattle.promise_spec.specs.TurnRule.{picks_used};
 ghost use Rattle.turn_rules.specs.Turning.{has_room};
+ghost use Rattle.txn_agent.specs.declared.agent.Agent.{Agent as AnAgent};
 ghost use Rattle.txn_agent.specs.Linked.{IsLegalRun};
 ghost use Rattle.txn_agent.specs.Stepping.{Acts};
 ghost use Rattle.worker_rules.specs.Stories.{NoneLoads};
 ghost use Rattle.batch_disk.specs.Writers.{IsInBounds, FitsDisk};
-ghost use Rattle.unit_carrier.specs.Carrying.{AreCarried, unit_at, units_carried};
+ghost use Rattle.unit_carrier.specs.Carrying.{AreCarried, AreFreed, unit_at, units_carried};
 ghost use Rattle.unit_carrier.specs.Lines.{PutsLine};
 ghost use Rattle.settle_loop.specs.Turning.{has_unwritten};
 ghost use Rattle.run_books.specs.declared.faults.RunFault.TheVariants.{Memory};
@@ -47,6 +49,8 @@ pub(crate) struct Turns {
     pub(crate) alloc: Global,
     pub(crate) shape: Shape,
     pub(crate) agents: Agents,
+    /// How many of these units, from the first on, are known to be over and to have given back all their locks.
+    pub(crate) front: usize,
     /// How many entries were settled when all units that are carried were lines' that weren't decided, where that is known.
     pub(crate) looked: Option<usize>,
     pub(crate) begun: usize,
@@ -102,6 +106,18 @@ fn reach_step<G: Gate>(gate: &G, unit: UnitNo, went: Went) {
         Went::Began { child } => gate.reach(GatePlace::Begun { unit: child }),
         Went::Stayed => {}
     }
+}
+
+/// Of how many units it is known still that they have given back all their locks, where the one at this index goes on: of none, where
+/// it was among them.
+fn known_before(front: usize, index: usize) -> usize
+    ensures before { result ≤ index }
+    ensures freed { (agents : AList AnAgent) → AreFreed front agents → AreFreed result agents }
+{
+    if index < front {
+        return 0;
+    }
+    front
 }
 
 /// What is known still behind a unit's step.
@@ -169,6 +185,7 @@ impl Turns {
         ensures begins { IfOk result (λ _. BeganOn (program_tree checked.now) line.now (run_of core.old) (run_of core.new) self.old.agents.list.items self.new.agents.list.items) }
         ensures carried { IfOk result (λ _. AreCarried (program_tree checked.now) none_comes (own_sight (run_of core.new)) self.new.agents.list.items) }
         ensures looked { IfOk result (λ _. IsLooked self.new.looked (run_of core.new) (units_carried self.new.agents.list.items)) }
+        ensures freed { IfOk result (λ _. AreFreed self.new.front self.new.agents.list.items) }
         ensures begun { IfOk result (λ _. self.new.begun ≡ self.old.begun + 1) }
         ensures used { self.new.used ≡ self.old.used }
         ensures shape { self.new.shape ≡ self.old.shape }
@@ -178,6 +195,7 @@ impl Turns {
         let began = begin_line(self.alloc, checked, core, &mut self.agents, line)?;
         core.show_few();
         reach_begun(gate, began);
+        self.front = 0;
         self.looked = None;
         self.begun += 1;
         Ok(())
@@ -194,15 +212,18 @@ impl Turns {
         requires within { index < length self.old.agents.list.items }
         requires carried { AreCarried (program_tree checked.now) none_comes (own_sight (run_of core.old)) self.old.agents.list.items }
         requires looked { IsLooked self.old.looked (run_of core.old) (units_carried self.old.agents.list.items) }
+        requires freed { AreFreed self.old.front self.old.agents.list.items }
         ensures acts { Acts none_comes (program_tree checked.now) (unit_at self.old.agents.list.items index) (own_sight (run_of core.old)) (own_sight (run_of core.new)) }
         ensures memory { IfErr result (λ fault. fault ≡ Memory) }
         ensures moves { IfOk result (λ _. MovedOn (program_tree checked.now) index (run_of core.old) (run_of core.new) self.old.agents.list.items self.new.agents.list.items) }
         ensures carried { IfOk result (λ _. AreCarried (program_tree checked.now) none_comes (own_sight (run_of core.new)) self.new.agents.list.items) }
         ensures looked { IfOk result (λ _. IsLooked self.new.looked (run_of core.new) (units_carried self.new.agents.list.items)) }
+        ensures freed { IfOk result (λ _. AreFreed self.new.front self.new.agents.list.items) }
         ensures begun { self.new.begun ≡ self.old.begun }
         ensures used { self.new.used ≡ self.old.used }
         ensures shape { self.new.shape ≡ self.old.shape }
     {
+        self.front = known_before(self.front, index);
         let unit = self.agents.list[index].unit();
         let went = self.agents.advance(self.alloc, checked, core, index)?;
         core.show_few();
@@ -223,6 +244,7 @@ impl Turns {
     ) -> Result<bool, RunFault>
         requires carried { AreCarried (program_tree checked.now) none_comes (own_sight (run_of core.old)) self.old.agents.list.items }
         requires looked { IsLooked self.old.looked (run_of core.old) (units_carried self.old.agents.list.items) }
+        requires freed { AreFreed self.old.front self.old.agents.list.items }
         requires room { self.old.used < 2 ^ 64 - 1 }
         requires shape { self.old.shape.types ≡ type_shapes (program_tree checked.now) }
         requires bounds { IsInBounds settler.old.writer }
@@ -233,6 +255,7 @@ impl Turns {
         ensures beside { TurnsBeside H.tells (run_of core.old) (run_of core.new) settler.old settler.new (H.faults host.old) (H.faults host.new) (H.world host.old) (H.world host.new) result }
         ensures carried { IfOk result (λ _. AreCarried (program_tree checked.now) none_comes (own_sight (run_of core.new)) self.new.agents.list.items) }
         ensures looked { IfOk result (λ _. IsLooked self.new.looked (run_of core.new) (units_carried self.new.agents.list.items)) }
+        ensures freed { IfOk result (λ _. AreFreed self.new.front self.new.agents.list.items) }
         ensures used { IfOk result (λ _. self.new.used ≤ self.old.used + 1) }
         ensures goes { IfOk result (λ more. more ≡ true → self.new.begun + self.new.used ≡ self.old.begun + self.old.used + 1) }
         ensures shape { self.new.shape ≡ self.old.shape }
@@ -240,8 +263,17 @@ impl Turns {
         ensures fits { IsTrue H.tells → FitsDisk settler.new.writer (H.world host.new).disk }
         ensures ready { StaysReady (H.is_ready host.old) (H.is_ready host.new) }
     {
+        self.front = self.agents.freed_front(self.front);
         let pick = pick_at(picks, self.used);
-        match next_mover(self.alloc, checked, core, &mut self.agents, settler, pick)? {
+        match next_mover(
+            self.alloc,
+            checked,
+            core,
+            &mut self.agents,
+            self.front,
+            settler,
+            pick,
+        )? {
             NextMover::Nobody => return Ok(false),
             NextMover::Settler => {
                 settle(&self.shape, core, settler, host, gate)?;
@@ -271,6 +303,7 @@ impl Turns {
     ) -> Result<bool, RunFault>
         requires carried { AreCarried (program_tree checked.now) none_comes (own_sight (run_of core.old)) self.old.agents.list.items }
         requires looked { IsLooked self.old.looked (run_of core.old) (units_carried self.old.agents.list.items) }
+        requires freed { AreFreed self.old.front self.old.agents.list.items }
         requires room { self.old.begun + self.old.used < 2 ^ 64 - 1 }
         requires shape { self.old.shape.types ≡ type_shapes (program_tree checked.now) }
         requires bounds { IsInBounds settler.old.writer }
@@ -281,6 +314,7 @@ impl Turns {
         ensures beside { TurnsBeside H.tells (run_of core.old) (run_of core.new) settler.old settler.new (H.faults host.old) (H.faults host.new) (H.world host.old) (H.world host.new) result }
         ensures carried { IfOk result (λ _. AreCarried (program_tree checked.now) none_comes (own_sight (run_of core.new)) self.new.agents.list.items) }
         ensures looked { IfOk result (λ _. IsLooked self.new.looked (run_of core.new) (units_carried self.new.agents.list.items)) }
+        ensures freed { IfOk result (λ _. AreFreed self.new.front self.new.agents.list.items) }
         ensures used { IfOk result (λ _. self.new.used ≤ self.old.used + 1) }
         ensures goes { IfOk result (λ more. more ≡ true → self.new.begun + self.new.used ≡ self.old.begun + self.old.used + 1) }
         ensures shape { self.new.shape ≡ self.old.shape }
@@ -288,7 +322,13 @@ impl Turns {
         ensures fits { IsTrue H.tells → FitsDisk settler.new.writer (H.world host.new).disk }
         ensures ready { StaysReady (H.is_ready host.old) (H.is_ready host.new) }
     {
-        drop_unless_doubted(&mut self.agents, &mut self.looked, core, settler);
+        drop_unless_doubted(
+            &mut self.agents,
+            &mut self.front,
+            &mut self.looked,
+            core,
+            settler,
+        );
         match self.next_line(settler, lines, width)? {
             Some(line) => {
                 self.begin(checked, core, &line, gate)?;
@@ -306,13 +346,17 @@ impl Turns {
 /// are the units that can move, in number order, children among them, and after them the settler where it has a step. A unit
 /// makes its next event, the settler its next step. After a doubt the settler alone moves. Without a mover the run has ended.
 ///
+/// How many picks calls before this one used is told by `used`, 0 where there was none, and where it answers `Ok` that goes on by those
+/// of this call: so a later call's picks begin where these ended.
+///
 /// It answers `Ok` where each line has its entry, all is written and nobody can move.
 ///
 /// # Errors
 ///
 /// - `InDoubt`: a batch was left in doubt, and all that is settled is written.
 /// - `WriteFault`: the output failed.
-/// - `Memory`: memory ran out. So is told a run that hasn't ended by 2 to the 64 less one turns, in each of which an event applied.
+/// - `Memory`: memory ran out. So is told a run that hasn't ended by 2 to the 64 less one turns, in each of which an event applied; the
+///   picks that were used before count among them.
 ///   What was put into the core and done to the host by then stands.
 pub fn run_turns<H: Host, G: Gate, L: Lines>(
     alloc: Global,
@@ -324,6 +368,7 @@ pub fn run_turns<H: Host, G: Gate, L: Lines>(
     gate: &G,
     width: u32,
     turns: &List<u32>,
+    used: &mut usize,
 ) -> Result<(), RunFault>
     requires legal { IsLegalRun (own_sight (run_of core.old)).first }
     requires loads { NoneLoads (own_sight (run_of core.old)).mine }
@@ -332,9 +377,16 @@ pub fn run_turns<H: Host, G: Gate, L: Lines>(
 
     // The run's record, however it ends.
     ensures record_kept { (o : Outset) (b : Books) → IsOutset o (program_tree checked.now) (run_of core.old) (L.lines lines.old) width turns.now
-        → CanTurn (run_of core.old) settler.old (L.lines lines.old) → IsFreshRecord o b (run_of core.old)
+        → CanTurn (run_of core.old) settler.old (L.lines lines.old) → IsFreshRecord o b used.old (run_of core.old)
         → KeepsTurns H.tells o b (run_of core.old) settler.old (H.faults host.old) (H.world host.old)
         → TurnsGoOn H.tells o b (run_of core.old) (run_of core.new) settler.old settler.new (H.faults host.new) (H.world host.old) (H.world host.new) result }
+
+    // How many picks were used by then, where all is done.
+    ensures used { (o : Outset) (b : Books) → IsOutset o (program_tree checked.now) (run_of core.old) (L.lines lines.old) width turns.now
+        → CanTurn (run_of core.old) settler.old (L.lines lines.old) → IsFreshRecord o b used.old (run_of core.old)
+        → KeepsTurns H.tells o b (run_of core.old) settler.old (H.faults host.old) (H.world host.old)
+        → o.ruled ≡ true → IfOk result (λ _. picks_used (run_of core.new) (length (run_of core.new).events) ≡ used.new) }
+    ensures unused { IfErr result (λ _. used.new ≡ used.old) }
 
     // And what it leaves beside that.
     ensures beside { TurnsBeside H.tells (run_of core.old) (run_of core.new) settler.old settler.new (H.faults host.old) (H.faults host.new) (H.world host.old) (H.world host.new) result }
@@ -350,11 +402,12 @@ pub fn run_turns<H: Host, G: Gate, L: Lines>(
         alloc,
         shape: checked.shape()?,
         agents: Agents::new(alloc),
+        front: 0,
         looked: None,
         begun: 0,
-        used: 0,
+        used: *used,
     };
-    for _turn in 0..usize::MAX {
+    for _turn in *used..usize::MAX {
         if !state.turn(
             checked,
             core,
@@ -365,6 +418,7 @@ pub fn run_turns<H: Host, G: Gate, L: Lines>(
             width,
             turns.as_slice(),
         )? {
+            *used = state.used;
             return Ok(());
         }
     }

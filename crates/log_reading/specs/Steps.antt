@@ -1,7 +1,6 @@
 -- What is read behind a gate, and what is left of a log there.
 use Rattle.std.specs.Prelude.{ℕ, ◌+◌, List, ◌++◌, length, Option, Some, None, Result, Ok, Err}
 use Rattle.base_types.specs.declared.shapes.Shape.{Shape}
-pub use Rattle.host_trait.specs.Files.{manager}
 use Rattle.host_trait.specs.World.{Disk, Image}
 use Rattle.field_codec.specs.declared.faults.CodecFault.{CodecFault}
 use Rattle.field_codec.specs.declared.units.Numbers.TheVariants.{Logged}
@@ -11,10 +10,6 @@ use Rattle.gate_block.specs.Log.{bodies_from, gate_from}
 use Rattle.commit_log.specs.declared.records.CommitRecord.{CommitRecord}
 use Rattle.commit_log.specs.Fields.{body_in}
 use Rattle.log_reading.specs.Blocks.{no_more, records_behind}
-
--- the slot of the live files, in every command
-abbrev pub live_slot : ℕ
-live_slot = 0
 
 -- the files as they read
 abbrev pub seen_in : Disk → Image

@@ -4,3 +4,4 @@ pub mod Named
 pub mod Agreed
 pub mod Linked
 pub mod Stages
+pub mod Yes

@@ -8,7 +8,7 @@ ghost use Rattle.open_batch.specs.Members.{decisions_by, versions_by, to_commit_
 ghost use Rattle.open_batch.specs.Taken.{IsOf, first_batch, with_vote, with_decisions, without_grain, commits_in, view_by};
 ghost use Rattle.unit_table.specs.Table.{verdict_in};
 
-use crate::deciding::decide_members;
+use crate::deciding::{against, decide_members};
 use crate::members::FinishedUnit;
 use crate::planning::{is_same, plan_of};
 use crate::showing::{aborted_of, effects_of, to_commit_of, versions_of};
@@ -147,7 +147,7 @@ impl OpenBatch {
         decide_members(
             prepared,
             sources,
-            &self.votes,
+            against(&self.votes),
             members,
             units,
             &mut self.decisions,

@@ -1,4 +1,7 @@
-ghost use Rattle.std.specs.Prelude.{◌≡◌, ◌<◌, ◌&&◌, Some, not, map, filter, set, length, vec_len, slice_index_or};
+ghost use Rattle.std.specs.Prelude.{◌≡◌, ◌<◌, ◌&&◌, Bool, Some, List as AList, not, map, filter, set, length, vec_len, slice_index_or};
+ghost use Rattle.std.specs.List.{list_all};
+ghost use Rattle.base_types.specs.declared.calls.UnitNo.{UnitNo as AUnit};
+ghost use Rattle.open_batch.specs.declared.members.FinishedUnit.{FinishedUnit as AMember};
 ghost use Rattle.cell_model.specs.declared.outcomes.Prepared.{Prepared};
 ghost use Rattle.core_model.specs.Tests.{is_bad, has_failed, is_vote_on, failed_in, first_of_two};
 ghost use Rattle.open_batch.specs.Members.{unprepared, sources_of, named, with_failed, decisions_by};
@@ -10,6 +13,23 @@ use base_types::{GrainId, List, State, UnitNo};
 use cascade_abort::decide_batch;
 use cell_model::{Decision, Prepared};
 use unit_table::UnitTable;
+
+// The votes as far as a unit's decision hangs on them: none where each of them is a yes.
+pub fn against(votes: &[(GrainId, bool)]) -> &[(GrainId, bool)]
+    ensures { (bad : AUnit → Bool) (members : AList AMember) → decisions_by bad result.now members ≡ decisions_by bad votes.now members }
+{
+    if are_yes(votes) {
+        return &votes[..0];
+    }
+    votes
+}
+
+// Whether each vote is a yes.
+fn are_yes(votes: &[(GrainId, bool)]) -> bool
+    ensures { result ≡ list_all (λ v. v.1) votes.now }
+{
+    votes.iter().all(|vote| vote.1)
+}
 
 // Decides each unit, by the votes and by what is known of its sources now. Takes no memory.
 pub fn decide_members(

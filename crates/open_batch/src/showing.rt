@@ -73,7 +73,7 @@ pub fn to_commit_of(
 ) -> Result<List<Effect>, AllocError>
     ensures { IfOk result (λ made. made ≡ to_commit_by (λ u. is_good (verdict_in units.now u)) members.now) }
 {
-    let mut effects = List::new(alloc);
+    let mut effects = List::from_vec(Vec::with_capacity(alloc, members.len())?);
     for member in members {
         add_kept(&mut effects, member, units)?;
     }

@@ -1,3 +1,4 @@
+pub mod Bases
 pub mod Journaled
 pub mod Stepping
 pub mod SettledLogs

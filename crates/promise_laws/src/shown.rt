@@ -12,8 +12,7 @@ pub fn shown_runs_keep()
     ensures { (p : Program) (r : Observed) (c : Course) → Shows p r c → Keeps p r c }
 {}
 
-/// And it promises so, in the manner of its words, where its files read as a checked program at entry.
+/// And it promises so, in the manner of its words, over whatever folder.
 pub fn shown_runs_promise()
-    ensures { (m : Manner) (p : Program) (r : Observed) (c : Course) → r.manner ≡ m → IsChecked p
-        → HasProgram p.text (seen_at_entry r (ProgramFile c.live)) → Shows p r c → Promises m r }
+    ensures { (m : Manner) (p : Program) (r : Observed) (c : Course) → r.manner ≡ m → Shows p r c → Promises m r }
 {}

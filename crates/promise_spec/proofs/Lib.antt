@@ -1,5 +1,9 @@
 pub mod Lists
 pub mod Slots
+pub mod Standings
+pub mod Prefixes
+pub mod Growing
+pub mod Batched
 pub mod OneLog
 pub mod EntryLines
 pub mod PlainNames
@@ -8,7 +12,6 @@ pub mod ReadVersions
 pub mod Openings
 pub mod Doubts
 pub mod Words
-pub mod Standings
 pub mod Opened
 pub mod CountedSyncs
 pub mod WholeFolders

@@ -40,7 +40,7 @@ IsReadBefore image _ file = IsHead file
 abbrev pub MustBeRead : Image → Reading → FileId → Type 0
 MustBeRead image NoSilo file = file ≡ manager
 MustBeRead image (DamagedAt last place) file = IsReadBefore image last file
-MustBeRead image (Reads live p log) file = IsReadFor live image file
+MustBeRead image (Reads live log) file = IsReadFor live image file
 
 -- A folder that reads so may be refused so: for want of memory always, for a fault of a file that has to be read, as no
 -- silo exactly where it reads as none, and as damaged exactly where and at the place at which it first is.

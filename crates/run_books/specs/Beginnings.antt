@@ -1,10 +1,11 @@
 -- What a run begins with, and what its record is told of from outside.
-use Rattle.std.specs.Prelude.{◌≡◌, ◌+◌, ◌<◌, ℕ, List, [], ◌∷◌, length, slice_get, Some, false, ⊤}
+use Rattle.std.specs.Prelude.{◌≡◌, ◌+◌, ◌<◌, ℕ, List, [], ◌∷◌, length, slice_get, Some, Bool, false, ⊤}
 use Rattle.host_trait.specs.declared.channels.Channel.{Channel}
 use Rattle.host_trait.specs.World.{World}
 use Rattle.request_wire.specs.declared.requests.Line.{Line}
 use Rattle.core_model.specs.Asked.{IsGoing}
 use Rattle.core_model.specs.Legal.{Run, ends}
+use Rattle.core_model.specs.Settler.{settler_step, Rests}
 use Rattle.script_tree.specs.Programs.{ProgramTree}
 use Rattle.promise_spec.specs.Programs.{Program}
 use Rattle.promise_spec.specs.Records.{Commit, standing_of}
@@ -18,22 +19,25 @@ abbrev pub GoUpFrom : ℕ → List Line → Type 0
 GoUpFrom n [] = ⊤
 GoUpFrom n (line ∷ lines) = (line.number ≡ n + 1) × GoUpFrom (n + 1) lines
 
--- So far all is settled and written, no lock is held, nothing is in doubt and no stop stands. The lines go on behind those so
--- far, and the settler has written as many entries as there were lines.
+-- So far all is settled and written, no lock is held, nothing is in doubt and no stop stands, and the settler has nothing to do: so
+-- nobody can move. The lines go on behind those so far, and the settler has written as many entries as there were lines.
 pub record CanTurn (r : Run) (settler : Settler) (lines : List Line) : Type 0 where
   pub quiet : IsQuiet (ends r)
   pub going : IsGoing (ends r)
+  pub rests : settler_step (ends r) ≡ Rests
   pub numbers : GoUpFrom (ends r).units.lines lines
   pub sure : settler.doubted ≡ false
   pub written : settler.written ≡ (ends r).units.lines
 
--- What a run's record is told of from outside: the slot of the run's files, the program, all lines that are asked, the log with which the run opened, the
--- width and the picks, the counts of faults where the run began, and the world behind the opening.
+-- What a run's record is told of from outside: the slot of the run's files, the program, all lines that are asked, the log with
+-- which the run opened, whether the run is of turns alone, as on one thread, the width and the picks, the counts of faults where
+-- the run began, and the world behind the opening.
 pub record Outset : Type 0 where
   pub live : ℕ
   pub program : Program
   pub asked : List (List ℕ)
   pub opening : List Commit
+  pub ruled : Bool
   pub width : ℕ
   pub picks : List ℕ
   pub faults : Channel → ℕ

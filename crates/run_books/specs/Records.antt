@@ -1,5 +1,5 @@
 -- The record of a run: what holds where it begins, and again where it ends, however it ends.
-use Rattle.std.specs.Prelude.{◌≡◌, ◌<◌, ◌≤◌, ◌+◌, ◌*◌, ℕ, Bool, IsTrue, List, [], length, is_some, None, Result, Ok, Err}
+use Rattle.std.specs.Prelude.{◌≡◌, ◌<◌, ◌≤◌, ◌+◌, ◌*◌, ℕ, Bool, false, IsTrue, List, [], length, is_some, None, Result, Ok, Err}
 use Rattle.base_types.specs.declared.calls.GrainId.{GrainId}
 use Rattle.host_trait.specs.declared.channels.Channel.{Channel}
 use Rattle.host_trait.specs.declared.channels.Channel.TheVariants.{File, Output}
@@ -8,6 +8,7 @@ use Rattle.host_trait.specs.declared.channels.FileId.{FileId}
 use Rattle.host_trait.specs.declared.channels.FileId.TheVariants.{Grain, Manager}
 use Rattle.host_trait.specs.World.{World, Passes}
 use Rattle.core_model.specs.Legal.{Run, ends}
+use Rattle.core_model.specs.Settler.{settler_step, Rests}
 use Rattle.promise_spec.specs.Programs.{shape_in}
 use Rattle.promise_spec.specs.Outputs.{Grew}
 use Rattle.promise_spec.specs.Cores.{how_many}
@@ -60,11 +61,14 @@ pub record KeepsRecord (tells : Bool) (o : Outset) (b : Books) (r : Run) (settle
   pub units : KeepsUnitRule (basis_of o) r
   pub books : KeepsBooks tells o b r settler counts now
 
--- All is settled and written, each line has its entry, nothing is or was in doubt, and nobody can move.
+-- All is settled and written, each line has its entry, nothing is or was in doubt, no stop stands, and nobody can move: no unit runs or
+-- has a lock, and the settler has nothing to do.
 pub record HasCarriedAll (o : Outset) (r : Run) (settler : Settler) : Type 0 where
   pub run : HasRun (length o.asked) (ends r)
   pub none : (ends r).manager.doubt ≡ None
   pub never : RunHasDoubt r → ⊥
+  pub unstopped : (ends r).units.halt ≡ false
+  pub rests : settler_step (ends r) ≡ Rests
   pub written : settler.written ≡ (ends r).units.lines
 
 -- A batch is in doubt, all that is settled is written, and the manager file's count of faults rose.

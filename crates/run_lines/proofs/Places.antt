@@ -59,24 +59,17 @@ pieces_are_no_more (piece ∷ []) = by (length piece == 0)
 pieces_are_no_more (piece ∷ next ∷ more) = let h = pieces_are_no_more (next ∷ more) in omega (arith, h)
 
 -- an input has at most one line more than bytes
-lines_are_few : (input : List ℕ) → length (lines_of input) ≤ length input + 1
+pub lines_are_few : (input : List ℕ) → length (lines_of input) ≤ length input + 1
 lines_are_few input =
     let a = pieces_are_no_more (slice_split (λ b. b == 10) input) in
     let b = length-slice_split (λ (b : ℕ). b == 10) input in
     let c = count_by-le-length (λ (b : ℕ). b == 10) input in
     omega (arith, a, b, c)
 
-place_within : {A : Type 0} (xs : List A) (n : ℕ) (y : A) (ys : List A) → drop n xs ≡ y ∷ ys → n < length xs
+pub place_within : {A : Type 0} (xs : List A) (n : ℕ) (y : A) (ys : List A) → drop n xs ≡ y ∷ ys → n < length xs
 place_within [] n y ys q = absurd (apart (sym (drop-nil n) ∙ q))
   where
     apart : [] ≡ y ∷ ys → ⊥
     apart e = cc
 place_within (x ∷ xs) zero y ys q = omega arith
 place_within (x ∷ xs) (suc n) y ys q = let h = place_within xs n y ys q in omega (arith, h)
-
--- so a line's number has room
-pub number_fits : (input : List ℕ) (place : ℕ) (text : List ℕ) (later : List (List ℕ)) → drop place (lines_of input) ≡ text ∷ later → place ≤ length input
-number_fits input place text later q =
-    let a = lines_are_few input in
-    let b = place_within (lines_of input) place text later q in
-    omega (arith, a, b)

@@ -32,4 +32,4 @@ pub checked_sync : IsSync checked.the_row
 checked_sync = view_sync _ _ _ _ _ (declared_sync inside.the_type (program_sync, tt))
 
 pub lines_sync : (ℓ : _) → IsSync (input.the_row ℓ)
-lines_sync ℓ = declared_sync (input.the_type ℓ) (search (sendable, checked_sync), (search sendable, (search sendable, (search sendable, tt))))
+lines_sync ℓ = declared_sync (input.the_type ℓ) (search (sendable, checked_sync), (search sendable, (search sendable, (search sendable, (search sendable, tt)))))

@@ -121,6 +121,16 @@ pub fn body<'a>(post: Post, checked: &'a Checked) -> &'a [Stmt]
     }
 }
 
+/// A parameter with its argument.
+fn parameter(name: &Name, value: &Value) -> Result<Local, AllocError>
+    ensures { IfOk result (λ local. local ≡ record { name = name.now.text; value = value.now }) }
+{
+    Ok(Local {
+        name: name.text.copy()?,
+        value: value.copy()?,
+    })
+}
+
 /// A method's parameters with these arguments.
 fn bind(alloc: Global, params: &[Name], args: &[Value]) -> Result<FrameLocals, AllocError>
     ensures { IfOk result (λ locals. locals.items ≡ bound params.now args.now) }
@@ -128,10 +138,7 @@ fn bind(alloc: Global, params: &[Name], args: &[Value]) -> Result<FrameLocals, A
     let mut locals = FrameLocals::new(alloc);
     let count = params.len().min(args.len());
     for i in 0..count {
-        locals.push(Local {
-            name: params[i].text.copy()?,
-            value: args[i].copy()?,
-        })?;
+        locals.push(parameter(&params[i], &args[i])?)?;
     }
     Ok(locals)
 }

@@ -1,11 +1,12 @@
-ghost use Rattle.std.specs.Prelude.{◌≡◌, ◌≤◌, ◌-◌, ◌+◌, [], IfOk};
+ghost use Rattle.std.specs.Prelude.{◌≡◌, ◌≤◌, ◌-◌, ◌+◌, [], IfOk, slice_get};
 ghost use Rattle.script_tree.specs.Programs.{ProgramTree, program_tree};
 ghost use Rattle.script_values.specs.Reasons.{reason_text};
 ghost use Rattle.script_holding.specs.Holding.{Holding as Has};
 ghost use Rattle.script_meaning.specs.Requests.{stop};
+ghost use Rattle.script_meaning.specs.Calls.{joined};
 ghost use Rattle.script_meaning.specs.Play.{at_start, ends_unit, unit};
 ghost use Rattle.script_machine.specs.Callees.{IsThere, post_of, target_of};
-ghost use Rattle.script_machine.specs.Frames.{begins, goes_on};
+ghost use Rattle.script_machine.specs.Frames.{begins, fields_of, goes_on};
 ghost use Rattle.script_machine.specs.Runs.{back_of, rest_of_run};
 ghost use Rattle.script_machine.specs.Machines.{first_opened, rest_at};
 
@@ -57,6 +58,28 @@ impl Run {
         })
     }
 
+    /// Asks for the lock that the first frame needs, if any. Answers whether the run goes on.
+    fn lock_first(
+        &mut self,
+        alloc: Global,
+        grain: GrainId,
+        kind: MethodKind,
+    ) -> Result<bool, AllocError>
+        ensures { IfOk result (λ ready. (types : ProgramTree) → joined kind grain (fields_of (slice_get types grain.kind)) (goes_on types self.old.top (back_of types self.old)) self.old.has ≡ rest_at types self.new ready) }
+    {
+        match self.lock(alloc, grain, kind) {
+            Ok(Flow::Moved) => Ok(true),
+            Ok(Flow::Paused) => Ok(false),
+            Err(Stop::Fault(text)) => {
+                self.wait = Wait::Over {
+                    outcome: Outcome::Fault(text),
+                };
+                Ok(false)
+            }
+            Err(Stop::Memory) => Err(AllocError),
+        }
+    }
+
     /// A run that is over before it began.
     fn over(alloc: Global, grain: GrainId, reason: Reason) -> Result<Run, AllocError>
         ensures { IfOk result (λ run. (types : ProgramTree) → stop (reason_text reason) at_start ≡ rest_of_run types run) }
@@ -68,12 +91,13 @@ impl Run {
             context: false,
             depth: 0,
         };
+        let text = fault_of(alloc, reason)?;
         Ok(Run {
             top: Frame::new(alloc, post, &[], &[])?,
             below: Vec::new(alloc),
             has: Holding::new(alloc),
             wait: Wait::Over {
-                outcome: Outcome::Fault(fault_of(alloc, reason)?),
+                outcome: Outcome::Fault(text),
             },
         })
     }
@@ -109,17 +133,8 @@ impl Start {
             return Start::over(alloc, checked, callee.grain, Reason::Depth);
         }
         let mut run = Run::first(alloc, callee, kind, context, args, depth)?;
-        match run.lock(alloc, callee.grain, kind) {
-            Ok(Flow::Moved) => Ok(Start { run, ready: true }),
-            Ok(Flow::Paused) => Ok(Start { run, ready: false }),
-            Err(Stop::Fault(text)) => {
-                run.wait = Wait::Over {
-                    outcome: Outcome::Fault(text),
-                };
-                Ok(Start { run, ready: false })
-            }
-            Err(Stop::Memory) => Err(AllocError),
-        }
+        let ready = run.lock_first(alloc, callee.grain, kind)?;
+        Ok(Start { run, ready })
     }
 
     /// The run of a call as a unit whose first frame has this depth.

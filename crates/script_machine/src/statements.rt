@@ -1,20 +1,21 @@
-ghost use Rattle.std.specs.Prelude.{◌≡◌, ◌<◌, ◌+◌, ◌^◌, IfOk, OnOk, slice_get};
-ghost use Rattle.script_tree.specs.Exprs.{expr_tree};
+ghost use Rattle.std.specs.Prelude.{◌≡◌, ◌<◌, ◌+◌, ◌^◌, IfOk, OnOk, Some, slice_get};
+ghost use Rattle.script_tree.specs.Exprs.{call_tree, expr_tree};
 ghost use Rattle.script_tree.specs.Stmts.{stmt_tree};
 ghost use Rattle.script_tree.specs.Programs.{program_tree};
+ghost use Rattle.script_check.specs.Shapes.{fitted};
 ghost use Rattle.script_values.specs.Expressions.{put_local};
-ghost use Rattle.script_meaning.specs.Requests.{with_value};
+ghost use Rattle.script_meaning.specs.Requests.{stop, with_value};
 ghost use Rattle.script_meaning.specs.Calls.{settable};
 ghost use Rattle.script_machine.specs.Frames.{fields_of};
-ghost use Rattle.script_machine.specs.Runs.{Goes, GoesTo, HasOpen, Moves, OpenUnless, Shrinks, ShrinksOn, StandsAt, Tracks, back_of, does_here, next_here, rest_of_run, running, sets_here, size, stays, value_here};
+ghost use Rattle.script_machine.specs.Runs.{GoesTo, HasOpen, Left, Moves, OpenUnless, Shrinks, ShrinksOn, StandsAt, Tracks, back_of, call_in, does_here, next_here, rest_of_run, running, sets_here, size, stays, value_here};
 
 use crate::callees::fields_at;
 use crate::frames::Post;
 use crate::opened::Open;
-use crate::runs::{Flow, Onward, Run, Wait};
+use crate::runs::{Flow, Onward, Run};
 use base_types::Outcome;
 use script_check::{Checked, fitted};
-use script_tree::{Chars, Expr, FieldDecl, MethodKind, Source, Stmt};
+use script_tree::{CallExpr, Chars, Expr, FieldDecl, MethodKind, Source, Stmt};
 use script_values::{Reason, Stop, assign, fault_of, field_number};
 use std::alloc::{AllocError, Global};
 
@@ -72,12 +73,40 @@ impl Run {
     }
 
     /// `return`, once its step is taken.
-    fn answer(&mut self, alloc: Global, checked: &Checked, value: &Expr) -> Result<Flow, Stop>
-        ensures tree { Goes (with_value (value_here (program_tree checked.now) self.old (expr_tree value.now)) self.old.has (λ found. back_of (program_tree checked.now) self.old found self.old.has)) (program_tree checked.now) self.new result }
-        ensures less { IfOk result (Shrinks (size self.old + 4) self.new) }
+    fn answer(&mut self, alloc: Global, checked: &Checked, value: &Expr) -> Result<Onward, Stop>
+        ensures tree { GoesTo (with_value (value_here (program_tree checked.now) self.old (expr_tree value.now)) self.old.has (λ found. back_of (program_tree checked.now) self.old found self.old.has)) (program_tree checked.now) self.new result }
+        ensures moves { IfOk result (Moves self.old.top.post self.old.top.path.items self.new) }
+        ensures less { IfOk result (ShrinksOn (size self.old + 4) self.new) }
     {
         let value = self.value(alloc, checked, value)?;
-        Ok(self.give(checked, value)?)
+        Ok(Onward::Away(self.give(checked, value)?))
+    }
+
+    /// A call at the statement at which the topmost frame stands, once the step is taken.
+    fn call_away(
+        &mut self,
+        alloc: Global,
+        checked: &Checked,
+        stmt: &Stmt,
+        call: &CallExpr,
+    ) -> Result<Onward, Stop>
+        requires here { StandsAt (program_tree checked.now) self.old (stmt_tree stmt.now) }
+        requires call { call_in (stmt_tree stmt.now) ≡ Some (call_tree call.now) }
+        ensures tree { GoesTo (does_here (program_tree checked.now) self.old (stmt_tree stmt.now)) (program_tree checked.now) self.new result }
+        ensures moves { IfOk result (Moves self.old.top.post self.old.top.path.items self.new) }
+        ensures less { IfOk result (ShrinksOn (size self.old + 4) self.new) }
+    {
+        Ok(Onward::Away(self.call(alloc, checked, stmt, call)?))
+    }
+
+    /// `fail`, once its step is taken: why the run stops.
+    fn fail(&self, alloc: Global, text: &Chars) -> Stop
+        ensures { Left (stop (fitted text.now) self.now.has) self.now result }
+    {
+        match fitted(alloc, text) {
+            Ok(text) => Stop::Fault(text),
+            Err(_) => Stop::Memory,
+        }
     }
 
     /// Carries out the statement at which the topmost frame stands, once its step is taken.
@@ -90,19 +119,19 @@ impl Run {
         match stmt {
             Stmt::Let { name, value } => match value {
                 Source::Expr(value) => self.assign(alloc, checked, &name.text, value),
-                Source::Call(call) => Ok(Onward::Away(self.call(alloc, checked, stmt, call)?)),
+                Source::Call(call) => self.call_away(alloc, checked, stmt, call),
             },
             Stmt::Assign { name, value } => match value {
                 Source::Expr(value) => self.assign(alloc, checked, &name.text, value),
-                Source::Call(call) => Ok(Onward::Away(self.call(alloc, checked, stmt, call)?)),
+                Source::Call(call) => self.call_away(alloc, checked, stmt, call),
             },
             Stmt::Set { name, value } => self.set(alloc, checked, &name.text, value),
-            Stmt::Call { call } => Ok(Onward::Away(self.call(alloc, checked, stmt, call)?)),
+            Stmt::Call { call } => self.call_away(alloc, checked, stmt, call),
             Stmt::If { test, .. } => self.choose(alloc, checked, stmt, test),
             Stmt::While { .. } => self.again(alloc, checked, stmt),
-            Stmt::Return { value } => Ok(Onward::Away(self.answer(alloc, checked, value)?)),
-            Stmt::Fail { text } => Err(Stop::Fault(fitted(alloc, text)?)),
-            Stmt::Attempt { call, .. } => Ok(Onward::Away(self.call(alloc, checked, stmt, call)?)),
+            Stmt::Return { value } => self.answer(alloc, checked, value),
+            Stmt::Fail { text } => Err(self.fail(alloc, text)),
+            Stmt::Attempt { call, .. } => self.call_away(alloc, checked, stmt, call),
         }
     }
 
@@ -160,12 +189,7 @@ impl Run {
                 Ok(Flow::Moved)
             }
             Ok(Onward::Away(Flow::Paused)) => Ok(Flow::Paused),
-            Err(Stop::Fault(text)) => {
-                self.wait = Wait::Over {
-                    outcome: Outcome::Fault(text),
-                };
-                Ok(Flow::Paused)
-            }
+            Err(Stop::Fault(text)) => Ok(self.end(Outcome::Fault(text))),
             Err(Stop::Memory) => Err(AllocError),
         }
     }

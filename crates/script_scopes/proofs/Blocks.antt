@@ -62,12 +62,12 @@ unfolding block_fault
 ends setting scope = refl
 
 -- an `attempt` all of whose parts are right
-pub attempt_done : (setting : Setting) (scope under : Scope) (at : ℕ) (name : Name) (call : CallTree) (block other : BlockTree) → under ≡ with_name scope name → local_fault setting scope name ≡ None → call_fault setting scope call ≡ None → block_fault setting under block ≡ None → block_fault setting under other ≡ None → statement_fault setting scope (Try at name call block other) ≡ None
+pub attempt_done : (setting : Setting) (scope under : Scope) (at : ℕ) (name : Name) (call : CallTree) (block other : BlockTree) → under ≡ with_name scope name → (local_fault setting scope name <|> call_fault setting scope call) ≡ None → block_fault setting under block ≡ None → block_fault setting under other ≡ None → statement_fault setting scope (Try at name call block other) ≡ None
 unfolding statement_fault
-attempt_done setting scope under at name call block other u e1 e2 e3 e4 =
+attempt_done setting scope under at name call block other u e e3 e4 =
     let b : block_fault setting (with_name scope name) block ≡ None = ap (λ (l : Scope). block_fault setting l block) (sym u) ∙ e3 in
     let o : block_fault setting (with_name scope name) other ≡ None = ap (λ (l : Scope). block_fault setting l other) (sym u) ∙ e4 in
-    goes_on (local_fault setting scope name <|> call_fault setting scope call <|> block_fault setting (with_name scope name) block) _ (goes_on (local_fault setting scope name <|> call_fault setting scope call) _ (goes_on (local_fault setting scope name) _ e1 ∙ e2) ∙ b) ∙ o
+    goes_on (local_fault setting scope name <|> call_fault setting scope call <|> block_fault setting (with_name scope name) block) _ (goes_on (local_fault setting scope name <|> call_fault setting scope call) _ e ∙ b) ∙ o
 
 -- an `attempt` that the code holds
 pub attempt_tree : (at : ℕ) (name : Name) (call : CallExpr) (then_block other : Items Stmt) → stmt_tree (stmt.Attempt at name call then_block other) ≡ Try at name (call_tree call) (block_tree (stmt_trees then_block.list.items)) (block_tree (stmt_trees other.list.items))

@@ -82,6 +82,8 @@ module _ (tells : Bool) (o : Outset) (b : Books) (r : Run) (settler : Settler) (
         run = record { quiet = all-run.quiet; answered = λ k lo hi. all-run.answered k lo (omega (arith, hi, few)) };
         none = n.sure;
         never = λ d. none-left (doubt-ends r d);
+        unstopped = n.going;
+        rests = n.rests;
         written = books.written ∙ (let x : (ends r).manager.emitted ≡ (ends r).units.lines = omega (arith, le, ge, many) in x);
       }
     where

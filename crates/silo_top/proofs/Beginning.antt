@@ -71,7 +71,7 @@ module _ (base kinds : ℕ) (opening : GrainId → List Value) where
   starts_kept tells o s counts now above later written sure sealing slot outside = record {
     above = above;
     units = λ at e a. absurd (none_applies base kinds opening at e a);
-    turns = λ at e a. absurd (none_applies base kinds opening at e a);
+    turns = λ ruled at e a. absurd (none_applies base kinds opening at e a);
     books = record {
       faults = record {
         votes = λ g. rose_none (o.faults (File (Grain o.live g))) (counts (File (Grain o.live g))) (later (File (Grain o.live g)));
@@ -107,13 +107,14 @@ module _ (base kinds : ℕ) (opening : GrainId → List Value) where
       written = omega arith;
     };
     going = (refl, refl);
+    rests = refl;
     numbers = go_up types 0 texts lines are;
     sure = sure;
     written = written;
   }
 
-  pub starts_fresh : (o : Outset) → IsFreshRecord o no_books r
-  starts_fresh o = record { picks = refl; doubted = refl; rest = refl }
+  pub starts_fresh : (o : Outset) → IsFreshRecord o no_books 0 r
+  starts_fresh o = record { picks = λ ruled. refl; doubted = refl; rest = refl }
 
   -- and what is told from outside is theirs
   pub starts_outset : (o : Outset) (types : ProgramTree) (texts : List (List ℕ)) (lines : List Line) (width : ℕ) (picks : List ℕ) → AreReadFrom types 0 texts lines → kinds ≡ length types

@@ -56,13 +56,13 @@ module _ {T : Type 0} (tells : Bool) (types : ProgramTree) (lines : List Line) (
 
   -- on one thread
   pub turns_carried : (width : ℕ) (picks : List ℕ)
-      → ((o : Outset) (b : Books) → IsOutset o types r lines width picks → CanTurn r s lines → IsFreshRecord o b r → KeepsTurns tells o b r s f w → TurnsGoOn tells o b r r' s s' f' w w' result)
+      → ((o : Outset) (b : Books) → IsOutset o types r lines width picks → CanTurn r s lines → IsFreshRecord o b 0 r → KeepsTurns tells o b r s f w → TurnsGoOn tells o b r r' s s' f' w w' result)
       → CarriesOn tells (turns_manner width picks) types lines r r' s s' f f' w w' (with_core core result)
   turns_carried width picks turns o b st =
       let g = turns o b st.outset st.can st.fresh st.kept in
       record {
         on = record { books = g.books; record_kept = turns-record g.record_kept; lasts = g.lasts; ended = ends_so o g.books r' s' f' core result g.ended };
-        turns = λ one. g.record_kept.turns;
+        turns = λ one. g.record_kept.turns st.ruled;
       }
 
 -- ---- by workers
@@ -70,7 +70,7 @@ module _ {T : Type 0} (tells : Bool) (types : ProgramTree) (lines : List Line) (
 module _ {T : Type 0} (tells : Bool) (types : ProgramTree) (lines : List Line) (r : Run) (s s' : Settler) (f f' : Channel → ℕ) (w w' : World) (core : Core) (result : Result T RunFault) where
   -- what `run_with_workers` says of its record where the core comes back
   abbrev pub RecordKept : Run → Type 0
-  RecordKept r' = (o : Outset) (b : Books) → IsOutset o types r lines 1 [] → CanTurn r s lines → IsFreshRecord o b r → KeepsTurns tells o b r s f w → RecordGoesOn tells o b r r' s s' f' w w' result
+  RecordKept r' = (o : Outset) (b : Books) → IsOutset o types r lines 1 [] → CanTurn r s lines → IsFreshRecord o b 0 r → KeepsTurns tells o b r s f w → RecordGoesOn tells o b r r' s s' f' w w' result
 
   workers_carried : (r' : Run) → RecordKept r' → CarriesOn tells workers_manner types lines r r' s s' f f' w w' (with_core core result)
   workers_carried r' kept o b st =
@@ -119,7 +119,7 @@ module _ (tells : Bool) (types : ProgramTree) (lines : List Line) (r : Run) (s s
 module _ {T : Type 0} (tells : Bool) (types : ProgramTree) (lines : List Line) (r : Run) (s s' : Settler) (f f' : Channel → ℕ) (w w' : World) where
   -- on one thread
   pub turns_all : (core : Core) (result : Result T RunFault) (width : ℕ) (picks : List ℕ)
-      → ((o : Outset) (b : Books) → IsOutset o types r lines width picks → CanTurn r s lines → IsFreshRecord o b r → KeepsTurns tells o b r s f w → TurnsGoOn tells o b r (run_of core) s s' f' w w' result)
+      → ((o : Outset) (b : Books) → IsOutset o types r lines width picks → CanTurn r s lines → IsFreshRecord o b 0 r → KeepsTurns tells o b r s f w → TurnsGoOn tells o b r (run_of core) s s' f' w w' result)
       → TurnsBeside tells r (run_of core) s s' f f' w w' result → (answer : Result Core RunFault) → with_core core result ≡ answer → CarriedLines tells (turns_manner width picks) types lines r s s' f f' w w' answer
   turns_all core result width picks turns beside answer q =
       subst (CarriedLines tells (turns_manner width picks) types lines r s s' f f' w w') q (record {
@@ -131,7 +131,7 @@ module _ {T : Type 0} (tells : Bool) (types : ProgramTree) (lines : List Line) (
 
   -- what `run_with_workers` says of its record and beside it
   abbrev pub WorkersKeep : Option Core → Result T RunFault → Type 0
-  WorkersKeep back result = (o : Outset) (b : Books) → IsOutset o types r lines 1 [] → CanTurn r s lines → IsFreshRecord o b r → KeepsTurns tells o b r s f w
+  WorkersKeep back result = (o : Outset) (b : Books) → IsOutset o types r lines 1 [] → CanTurn r s lines → IsFreshRecord o b 0 r → KeepsTurns tells o b r s f w
       → IfSome back (λ c. RecordGoesOn tells o b r (run_of c) s s' f' w w' result)
 
   -- by workers, where the core came back

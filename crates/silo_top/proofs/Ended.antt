@@ -1,6 +1,6 @@
 -- A run that ended by its turns, by what these leave.
-use Rattle.std.proofs.Common.{◌≡◌, ◌≢◌, inl, inr, ℕ, ◌+◌, ◌*◌, ◌≤◌, Bool, true, false, IsTrue, List, [], ◌++◌, length, Result, Ok, Err, refl, sym, ◌∙◌, ap, subst, arith, append_assoc}
-use Rattle.std.specs.Prelude.{take}
+use Rattle.std.proofs.Common.{◌≡◌, ◌≢◌, ◌⊎◌, inl, inr, ℕ, ◌+◌, ◌*◌, ◌≤◌, Bool, true, false, IsTrue, List, [], ◌++◌, length, Result, Ok, Err, refl, sym, ◌∙◌, ap, subst, arith, append_assoc}
+use Rattle.std.specs.Prelude.{take, not}
 use Rattle.base_types.specs.declared.entries.Entry.{Entry}
 use Rattle.host_trait.specs.declared.channels.FileId.TheVariants.{Manager}
 use Rattle.host_trait.specs.declared.channels.Channel.{Channel}
@@ -125,7 +125,7 @@ module _ {T : Type 0} (m : Manner) (x : Opened) (old mid now new : World) (befor
   log = is.opened.log
 
   abbrev pub out : Outset
-  out = record { live = x.slot; program = p; asked = lines_of old.input; opening = log; width = m.width; picks = m.picks; faults = before; world = mid }
+  out = record { live = x.slot; program = p; asked = lines_of old.input; opening = log; ruled = not m.threaded; width = m.width; picks = m.picks; faults = before; world = mid }
 
   abbrev pub seen : Observed
   seen = observed_run m old new before after status

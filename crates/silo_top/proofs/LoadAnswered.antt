@@ -1,5 +1,6 @@
 -- What a load answers over every host, where its turns ended.
-use Rattle.std.proofs.Common.{◌≡◌, ◌≢◌, inl, inr, ℕ, ◌<◌, Bool, true, List, [], Result, Err, sym, ◌∙◌, subst, arith}
+use Rattle.std.proofs.Common.{◌≡◌, ◌≢◌, inl, inr, ℕ, ◌<◌, Bool, true, IsTrue, List, [], length, Result, Ok, Err, refl, sym, ◌∙◌, ap, subst, arith}
+use Rattle.std.specs.Prelude.{not}
 use Rattle.host_trait.specs.declared.channels.Channel.{Channel}
 use Rattle.host_trait.specs.declared.channels.Channel.TheVariants.{Input, Output}
 use Rattle.host_trait.specs.Faults.{Rose}
@@ -55,7 +56,7 @@ pub turns_faulted : {T : Type 0} (tells : Bool) (m : Manner) (x : Opened) (st : 
     → CarriesOn tells m (program_tree x.checked) lines (run_of st.core) r' st.settler s' f1 f2 w1 w2 result
     → TurnsBeside tells (run_of st.core) r' st.settler s' f1 f2 w1 w2 result → (fault : RunFault) → result ≡ Err fault → AnswersRun (load_ending x.slot fault) f1 f2
 turns_faulted {T} tells m x st texts lines w1 w2 f1 f2 result r' s' start hush wide above are carries beside fault q =
-    let o : Outset = record { live = x.slot; program = record { text = []; types = program_tree x.checked }; asked = texts; opening = []; width = m.width; picks = m.picks; faults = f1; world = w1 } in
+    let o : Outset = record { live = x.slot; program = record { text = []; types = program_tree x.checked }; asked = texts; opening = []; ruled = not m.threaded; width = m.width; picks = m.picks; faults = f1; world = w1 } in
     let goes : CarriedOn {T = T} tells m o no_books (run_of st.core) r' st.settler s' f2 w1 w2 result =
     carries o no_books (start_fresh tells m x st texts lines w1 w1 f1 f1 start (λ told. still_none w1) (λ c. omega arith) wide above are) in
     let ended : TurnsEndAs o goes.on.books r' s' f2 {T = T} (Err fault) = subst (TurnsEndAs o goes.on.books r' s' f2) q goes.on.ended in

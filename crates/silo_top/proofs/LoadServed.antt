@@ -1,6 +1,6 @@
 -- A load from its opening to its end, over a host that tells.
-use Rattle.std.proofs.Common.{◌≡◌, ◌≢◌, ◌⊎◌, inl, inr, ℕ, ◌+◌, ◌<◌, ◌≤◌, Bool, true, IsTrue, List, [], ◌∷◌, ◌++◌, length, Result, Ok, Err, refl, sym, ◌∙◌, ap, subst, arith, append-nil, append_assoc}
-use Rattle.std.specs.Prelude.{take}
+use Rattle.std.proofs.Common.{◌≡◌, ◌≢◌, ◌⊎◌, inl, inr, ℕ, ◌+◌, ◌*◌, ◌<◌, ◌≤◌, Bool, true, false, IsTrue, List, [], ◌∷◌, ◌++◌, length, Result, Ok, Err, refl, sym, ◌∙◌, ap, subst, arith, append-nil, append_assoc}
+use Rattle.std.specs.Prelude.{take, not}
 use Rattle.std.proofs.lemmas.List.{append_cancel_left}
 use Rattle.base_types.specs.declared.calls.GrainId.{GrainId}
 use Rattle.host_trait.specs.declared.channels.Channel.{Channel}
@@ -175,7 +175,7 @@ module _ {T : Type 0} (n seed : ℕ) (m : Manner) (x : Opened) (st : Started) (o
   text = ap (λ (q : Program). q.text) same.0
 
   abbrev pub out : Outset
-  out = record { live = x.slot; program = p; asked = load_texts n seed; opening = log; width = m.width; picks = m.picks; faults = before; world = mid }
+  out = record { live = x.slot; program = p; asked = load_texts n seed; opening = log; ruled = not m.threaded; width = m.width; picks = m.picks; faults = before; world = mid }
 
   abbrev pub r0 : Run
   r0 = core_from p.types (standing_of p.types log) []
@@ -201,6 +201,7 @@ module _ {T : Type 0} (n seed : ℕ) (m : Manner) (x : Opened) (st : Started) (o
     first = record {
       outset = starts_outset r0.base r0.kinds r0.opening out (program_tree x.checked) (load_texts n seed) lines m.width m.picks are refl refl refl refl wide refl;
       can = starts_quiet r0.base r0.kinds r0.opening (program_tree x.checked) (load_texts n seed) lines st.settler are start.doubted start.written;
+      ruled = refl;
       fresh = starts_fresh r0.base r0.kinds r0.opening out;
       kept = kept_first;
     }

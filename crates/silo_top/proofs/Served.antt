@@ -65,6 +65,7 @@ module _ {T : Type 0} (m : Manner) (x : Opened) (st : Started) (old mid now new 
   starts lines wide above calm are = record {
     outset = starts_outset first.base first.kinds first.opening outset (program_tree x.checked) (lines_of old.input) lines m.width m.picks are refl refl refl refl wide refl;
     can = starts_quiet first.base first.kinds first.opening (program_tree x.checked) (lines_of old.input) lines st.settler are start.doubted start.written;
+    ruled = refl;
     fresh = starts_fresh first.base first.kinds first.opening outset;
     kept = kept above calm;
   }

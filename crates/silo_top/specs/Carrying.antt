@@ -1,5 +1,5 @@
 -- How the lines of a run are carried, in whichever manner: what holds where that begins, and what it leaves.
-use Rattle.std.specs.Prelude.{◌≡◌, ℕ, Bool, false, List, length, Result, IfOk}
+use Rattle.std.specs.Prelude.{◌≡◌, ℕ, Bool, false, not, List, length, Result, IfOk}
 use Rattle.host_trait.specs.declared.channels.Channel.{Channel}
 use Rattle.host_trait.specs.World.{World}
 use Rattle.request_wire.specs.declared.requests.Line.{Line}
@@ -17,11 +17,13 @@ use Rattle.run_books.specs.Books.{Books}
 use Rattle.run_books.specs.Records.{RecordGoesOn}
 use Rattle.interleaver.specs.Turns.{KeepsTurns, IsFreshRecord}
 
--- The lines can be carried in this manner: nothing is under way, and the record is kept so far.
+-- The lines can be carried in this manner: nothing is under way, and the record is kept so far. On one thread the whole run is of
+-- turns.
 pub record StartsRun (tells : Bool) (m : Manner) (o : Outset) (b : Books) (types : ProgramTree) (r : Run) (settler : Settler) (lines : List Line) (counts : Channel → ℕ) (now : World) : Type 0 where
   pub outset : IsOutset o types r lines m.width m.picks
   pub can : CanTurn r settler lines
-  pub fresh : IsFreshRecord o b r
+  pub ruled : o.ruled ≡ not m.threaded
+  pub fresh : IsFreshRecord o b 0 r
   pub kept : KeepsTurns tells o b r settler counts now
 
 -- The record went on, however it ended; on one thread the run keeps the turn rule too.

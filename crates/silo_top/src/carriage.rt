@@ -45,8 +45,9 @@ pub(crate) fn carry_in_turns<H: Host, G: Gate, L: Lines + Copy>(
 {
     let mut core = core;
     let mut lines = lines;
+    let mut used = 0;
     match run_turns(
-        alloc, checked, &mut core, settler, &mut lines, host, gate, width, picks,
+        alloc, checked, &mut core, settler, &mut lines, host, gate, width, picks, &mut used,
     ) {
         Ok(()) => return Ok(core),
         Err(fault) => return Err(fault),

@@ -18,12 +18,12 @@ use Rattle.interleaver.proofs.Unstopped.{turns-record}
 -- what turns say of their record goes over to what is equal, without the turn rule
 pub turned : {T : Type 0} {tells : Bool} {types : ProgramTree} {lines : List Line} {r r0 left : Run} {before before0 after : Settler} {counts counts0 counts' : Channel → ℕ} {now now0 now' : World}
     {result : Result T RunFault} → r0 ≡ r → before0 ≡ before → counts0 ≡ counts → now0 ≡ now
-    → ((o : Outset) (b : Books) → IsOutset o types r0 lines 1 [] → CanTurn r0 before0 lines → IsFreshRecord o b r0 → KeepsTurns tells o b r0 before0 counts0 now0
+    → ((o : Outset) (b : Books) → IsOutset o types r0 lines 1 [] → CanTurn r0 before0 lines → IsFreshRecord o b 0 r0 → KeepsTurns tells o b r0 before0 counts0 now0
     → TurnsGoOn {T = T} tells o b r0 left before0 after counts' now0 now' result)
-    → (o : Outset) (b : Books) → IsOutset o types r lines 1 [] → CanTurn r before lines → IsFreshRecord o b r → KeepsTurns tells o b r before counts now
+    → (o : Outset) (b : Books) → IsOutset o types r lines 1 [] → CanTurn r before lines → IsFreshRecord o b 0 r → KeepsTurns tells o b r before counts now
     → RecordGoesOn {T = T} tells o b r left before after counts' now now' result
 turned {T} {tells} {types} {lines} {r} {r0} {left} {before} {before0} {after} {counts} {counts0} {counts'} {now} {now0} {now'} {result} run settler faults world says o b is can fresh kept =
-    let Says : Run → Settler → (Channel → ℕ) → World → Type 0 = λ x s c w. IsOutset o types x lines 1 [] → CanTurn x s lines → IsFreshRecord o b x → KeepsTurns tells o b x s c w
+    let Says : Run → Settler → (Channel → ℕ) → World → Type 0 = λ x s c w. IsOutset o types x lines 1 [] → CanTurn x s lines → IsFreshRecord o b 0 x → KeepsTurns tells o b x s c w
     → TurnsGoOn {T = T} tells o b x left s after counts' w now' result in
     let said : Says r before counts now =
     subst (λ (x : Run). Says x before counts now) run

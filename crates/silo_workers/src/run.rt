@@ -71,7 +71,7 @@ fn carry_in_turns<H: Host, G: Gate, L: Lines + Copy>(
     requires bounds { IsInBounds settler.old.writer }
     requires fits { IsTrue H.tells → FitsDisk settler.old.writer (H.world host.old).disk }
     ensures record_kept { (o : Outset) (b : Books) → IsOutset o (program_tree checked.now) (run_of core.old) (L.lines lines.now) 1 []
-        → CanTurn (run_of core.old) settler.old (L.lines lines.now) → IsFreshRecord o b (run_of core.old)
+        → CanTurn (run_of core.old) settler.old (L.lines lines.now) → IsFreshRecord o b 0 (run_of core.old)
         → KeepsTurns H.tells o b (run_of core.old) settler.old (H.faults host.old) (H.world host.old)
         → TurnsGoOn H.tells o b (run_of core.old) (run_of core.new) settler.old settler.new (H.faults host.new) (H.world host.old) (H.world host.new) result }
     ensures beside { TurnsBeside H.tells (run_of core.old) (run_of core.new) settler.old settler.new (H.faults host.old) (H.faults host.new) (H.world host.old) (H.world host.new) result }
@@ -80,6 +80,7 @@ fn carry_in_turns<H: Host, G: Gate, L: Lines + Copy>(
     ensures ready { StaysReady (H.is_ready host.old) (H.is_ready host.new) }
 {
     let mut lines = *lines;
+    let mut used = 0;
     run_turns(
         alloc,
         checked,
@@ -90,6 +91,7 @@ fn carry_in_turns<H: Host, G: Gate, L: Lines + Copy>(
         gate,
         1,
         &List::new(alloc),
+        &mut used,
     )
 }
 
@@ -128,7 +130,7 @@ pub fn run_with_workers<R: Threads + Wait + Sync, H: Host, G: Gate + Sync, L: Li
 
     // The run's record, however it ends.
     ensures record_kept { (o : Outset) (b : Books) → IsOutset o (program_tree checked.now) (run_of core) (L.lines lines.now) 1 []
-        → CanTurn (run_of core) settler.old (L.lines lines.now) → IsFreshRecord o b (run_of core)
+        → CanTurn (run_of core) settler.old (L.lines lines.now) → IsFreshRecord o b 0 (run_of core)
         → KeepsTurns H.tells o b (run_of core) settler.old (H.faults host.old) (H.world host.old)
         → IfSome result.0 (λ c. RecordGoesOn H.tells o b (run_of core) (run_of c) settler.old settler.new (H.faults host.new) (H.world host.old) (H.world host.new) result.1) }
 

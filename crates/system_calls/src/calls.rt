@@ -1,9 +1,11 @@
-ghost use Rattle.std.specs.Prelude.{◌≡◌, ◌≢◌, ◌+◌, ◌-◌, ◌^◌, ◌<◌, ◌≤◌, ℕ, Bool, false, IsTrue, List, length, is_ok, IfOk, IfErr, OnOk, OnErr, []};
+ghost use Rattle.std.specs.Prelude.{◌≡◌, ◌≢◌, ◌+◌, ◌-◌, ◌^◌, ◌<◌, ◌≤◌, ℕ, Bool, true, false, IsTrue, List, length, is_ok, IfOk, IfErr, OnOk, OnErr, []};
 ghost use Rattle.host_trait.specs.Files.{name_of};
 ghost use Rattle.host_trait.specs.Disk.{MayLeave};
 ghost use Rattle.host_trait.specs.World.{Pulled};
 ghost use Rattle.host_trait.specs.declared.channels.FileId.{FileId};
 ghost use Rattle.system_calls.specs.System.{System, MayBeFound, HasNoBytes, MakesFile, EntersAll, SyncsData, SameEntries, IsReadPart, AppendsPart, MayGoOn, WritesPart, FailsPart};
+ghost use Rattle.system_calls.specs.Answers.{AnswerCounts, DoesOrRefuses, WasRefused, interrupted_once, stood_in_once};
+ghost use Rattle.system_calls.specs.declared.calls.Access.{Access};
 
 use crate::refused::Refused;
 use host_trait::FileId;
@@ -37,7 +39,8 @@ pub enum Access {
 /// A system that tells, says by its state what it holds: what is left of the input, what the output holds, what each file holds
 /// and what a crash may leave of it, which entries of the folder last, and which syncs were refused. A call that isn't said to
 /// change the state leaves it as it was, and so does a read or a write that is interrupted; the others are made again by whoever
-/// makes them.
+/// makes them. Beside the state it says what it has answered: a call that was refused for good changes the number of refusals,
+/// and no other call does.
 ///
 /// A file is named by its name in the folder, and looked for in the folder that the handle is of, wherever that stands by now.
 /// The folder's own name lasts. No two names there are one file, none is a link, and the
@@ -61,6 +64,12 @@ pub trait SystemCalls {
     /// What it holds.
     ghost state: { Self → System };
 
+    /// What it has answered.
+    ghost answered: { Self → AnswerCounts };
+
+    /// Under which files' names nothing stands but a regular file.
+    ghost is_regular: { FileId → Bool };
+
     /// The path of the folder whose files these are.
     ghost leads: { List ℕ };
 
@@ -74,7 +83,12 @@ pub trait SystemCalls {
     fn open_folder(&mut self, path: &str) -> Result<Self::Folder, Refused>
         requires { IsTrue tells → path.now ≡ leads }
         ensures told { IsTrue tells → state self.new ≡ state self.old }
-        ensures missing { IfErr result (λ error. error ≡ Refused.Missing → IsTrue tells → HasNoBytes (state self.old)) };
+        ensures missing { IfErr result (λ error. error ≡ Refused.Missing → IsTrue tells → HasNoBytes (state self.old)) }
+        ensures stands_in { IfOk result (λ opened. IsTrue tells → number_of opened ≤ 2 → answered self.new ≡ stood_in_once (answered self.old)) }
+        ensures plain { IfOk result (λ opened. IsTrue tells → 2 < number_of opened → answered self.new ≡ answered self.old) }
+        ensures absent { IfErr result (λ error. error ≡ Refused.Missing → IsTrue tells → answered self.new ≡ answered self.old) }
+        ensures refused { IfErr result (λ error. error ≢ Refused.Missing → IsTrue tells
+            → WasRefused (answered self.old).has_lost_entries (answered self.old) (answered self.new)) };
 
     /// The number that the system gave to this handle: the least that was free.
     fn number(&self, folder: &Self::Folder) -> u32
@@ -84,14 +98,22 @@ pub trait SystemCalls {
     /// standard stream, a file of the folder may get that of another one, so it isn't asked of such a handle.
     fn lock(&mut self, folder: Self::Folder) -> Result<Self::Locked, Refused>
         requires { IsTrue tells → 2 < number_of folder }
-        ensures told { IsTrue tells → state self.new ≡ state self.old };
+        ensures told { IsTrue tells → state self.new ≡ state self.old }
+        ensures answers { IsTrue tells → DoesOrRefuses result (answered self.old) (answered self.new) };
 
-    /// Whether names are looked for in this folder at all.
+    /// Whether names are looked for in this folder at all. That they aren't is a refusal too.
     fn reaches(&mut self, folder: &Self::Locked) -> Result<bool, Refused>
         ensures told { IsTrue tells → state self.new ≡ state self.old }
-        ensures found { IfOk result (λ reached. IsTrue tells → IsTrue reached → IsTrue (finds folder.now)) };
+        ensures found { IfOk result (λ reached. IsTrue tells → IsTrue reached → IsTrue (finds folder.now)) }
+        ensures calm { IfOk result (λ reached. IsTrue tells → IsTrue reached → answered self.new ≡ answered self.old) }
+        ensures denied { IfOk result (λ reached. IsTrue tells → reached ≡ false
+            → WasRefused (answered self.old).has_lost_entries (answered self.old) (answered self.new)) }
+        ensures refused { OnErr result (IsTrue tells
+            → WasRefused (answered self.old).has_lost_entries (answered self.old) (answered self.new)) };
 
     /// Opens a file. `Missing` says that there is none, which then has no bytes, or that names aren't looked for in the folder.
+    /// This is no refusal, nor is `ReadOnly` where the file was to be written too. To read alone no pipe is opened, since it may
+    /// wait for its other end.
     fn open(
         &mut self,
         folder: &Self::Locked,
@@ -99,8 +121,15 @@ pub trait SystemCalls {
         name: &str,
         access: Access,
     ) -> Result<Self::File, Refused>
-        requires { name.now ≡ name_of file }
+        requires name { name.now ≡ name_of file }
+        requires regular { access ≡ Access.Read → IsTrue tells → IsTrue (is_regular file) }
         ensures told { IsTrue tells → state self.new ≡ state self.old }
+        ensures calm { OnOk result (IsTrue tells → answered self.new ≡ answered self.old) }
+        ensures absent { IfErr result (λ error. error ≡ Refused.Missing → IsTrue tells → answered self.new ≡ answered self.old) }
+        ensures kept { IfErr result (λ error. error ≡ Refused.ReadOnly → access ≡ Access.Both → IsTrue tells
+            → answered self.new ≡ answered self.old) }
+        ensures refused { IfErr result (λ error. error ≢ Refused.Missing → (error ≡ Refused.ReadOnly → access ≡ Access.Read) → IsTrue tells
+            → WasRefused (answered self.old).has_lost_entries (answered self.old) (answered self.new)) }
         ensures file { IfOk result (λ opened. Self.File.file opened ≡ file) }
         ensures found { OnOk result (IsTrue tells → IsTrue (finds folder.now)) }
         ensures missing { IfErr result (λ error. error ≡ Refused.Missing → IsTrue tells → IsTrue (finds folder.now)
@@ -117,19 +146,26 @@ pub trait SystemCalls {
         requires { name.now ≡ name_of file }
         ensures told { IsTrue tells → MakesFile file (state self.old) (state self.new) }
         ensures empty { OnOk result (IsTrue tells → ((state self.old).world.disk file).seen ≡ []) }
+        ensures regular { OnOk result (IsTrue tells → IsTrue (is_regular file)) }
+        ensures answers { IsTrue tells → DoesOrRefuses result (answered self.old) (answered self.new) }
         ensures file { IfOk result (λ opened. Self.File.file opened ≡ file) };
 
     /// What stands under a name.
     fn look(&mut self, folder: &Self::Locked, file: FileId, name: &str) -> Result<Look, Refused>
         requires { name.now ≡ name_of file }
-        ensures told { IsTrue tells → state self.new ≡ state self.old };
+        ensures told { IsTrue tells → state self.new ≡ state self.old }
+        ensures answers { IsTrue tells → DoesOrRefuses result (answered self.old) (answered self.new) }
+        ensures regular { IfOk result (λ look. IsTrue tells → look.is_regular ≡ is_regular file) };
 
     /// What an open file is. Neither this nor a read or a write is asked of a file of which a sync was refused: the system may
     /// have dropped what was pending then, and gives what it will.
     fn look_at(&mut self, opened: &Self::File) -> Result<Look, Refused>
         requires calm { IsTrue tells → (state self.old).is_doubtful (Self.File.file opened.now) ≡ false }
         ensures told { IsTrue tells → state self.new ≡ state self.old }
-        ensures length { IfOk result (λ look. IsTrue tells → look.length ≡ length ((state self.old).world.disk (Self.File.file opened.now)).seen) };
+        ensures answers { IsTrue tells → DoesOrRefuses result (answered self.old) (answered self.new) }
+        ensures regular { IfOk result (λ look. IsTrue tells → look.is_regular ≡ is_regular (Self.File.file opened.now)) }
+        ensures length { IfOk result (λ look. IsTrue tells → IsTrue look.is_regular
+            → look.length ≡ length ((state self.old).world.disk (Self.File.file opened.now)).seen) };
 
     /// Reads some of the bytes from `at` on: those that belong into the slice from its place `from` on, where the ones before have
     /// been read; and answers how many: none only at the end of the file, or where there is no room.
@@ -142,16 +178,22 @@ pub trait SystemCalls {
     ) -> Result<usize, Refused>
         requires from { from ≤ length into.old }
         requires fits { at + from < 2 ^ 64 }
+        requires regular { IsTrue tells → IsTrue (is_regular (Self.File.file opened.now)) }
         requires calm { IsTrue tells → (state self.old).is_doubtful (Self.File.file opened.now) ≡ false }
         ensures told { IsTrue tells → state self.new ≡ state self.old }
         ensures bound { IfOk result (λ n. n ≤ length into.old - from) }
         ensures bytes { IfOk result (λ n. IsTrue tells
             → IsReadPart n from at ((state self.old).world.disk (Self.File.file opened.now)).seen into.old into.new) }
+        ensures moved { OnOk result (IsTrue tells → answered self.new ≡ answered self.old) }
+        ensures paused { IfErr result (λ error. error ≡ Refused.Interrupted → IsTrue tells → answered self.new ≡ interrupted_once (answered self.old)) }
+        ensures refused { IfErr result (λ error. error ≢ Refused.Interrupted → IsTrue tells
+            → WasRefused (answered self.old).has_lost_entries (answered self.old) (answered self.new)) }
         ensures interrupted { IfErr result (λ error. error ≡ Refused.Interrupted → IsTrue tells → into.new ≡ into.old) };
 
     /// Writes some of these bytes, which belong at `at`: those from the place `from` on, of which the ones before have been
     /// written; and answers how many. Until a sync succeeds, a crash may leave any bytes in the whole write's range.
-    /// Where it is refused, but for an interruption, a read may give any bytes there too, unless the write never began.
+    /// Where it is refused, but for an interruption, a read may give any bytes there too, unless the write never began. To write
+    /// none of some bytes is a refusal.
     fn write_at(
         &mut self,
         opened: &Self::File,
@@ -161,6 +203,7 @@ pub trait SystemCalls {
     ) -> Result<usize, Refused>
         requires from { from ≤ length bytes.now }
         requires fits { at + length bytes.now < 2 ^ 63 }
+        requires regular { IsTrue tells → IsTrue (is_regular (Self.File.file opened.now)) }
         requires calm { IsTrue tells → (state self.old).is_doubtful (Self.File.file opened.now) ≡ false }
         requires place { IsTrue tells → MayGoOn from at (length bytes.now) ((state self.old).world.disk (Self.File.file opened.now)) }
         ensures bound { IfOk result (λ n. n ≤ length bytes.now - from) }
@@ -168,35 +211,55 @@ pub trait SystemCalls {
             → WritesPart n from (Self.File.file opened.now) at bytes.now (state self.old) (state self.new)) }
         ensures err { IfErr result (λ error. error ≢ Refused.Interrupted → IsTrue tells
             → FailsPart from (Self.File.file opened.now) at (length bytes.now) (state self.old) (state self.new)) }
+        ensures moved { IfOk result (λ n. IsTrue tells → (n ≡ 0 → length bytes.now ≡ from) → answered self.new ≡ answered self.old) }
+        ensures stuck { IfOk result (λ n. IsTrue tells → n ≡ 0 → from < length bytes.now
+            → WasRefused (answered self.old).has_lost_entries (answered self.old) (answered self.new)) }
+        ensures paused { IfErr result (λ error. error ≡ Refused.Interrupted → IsTrue tells → answered self.new ≡ interrupted_once (answered self.old)) }
+        ensures refused { IfErr result (λ error. error ≢ Refused.Interrupted → IsTrue tells
+            → WasRefused (answered self.old).has_lost_entries (answered self.old) (answered self.new)) }
         ensures interrupted { IfErr result (λ error. error ≡ Refused.Interrupted → IsTrue tells → state self.new ≡ state self.old) };
 
     /// Syncs the folder's entries: after Ok each file that is there is found after a crash. It isn't asked once one was refused:
     /// a later Ok would say nothing.
     fn sync_folder(&mut self, folder: &Self::Locked) -> Result<(), Refused>
         requires { IsTrue tells → (state self.old).has_lost ≡ false }
-        ensures told { IsTrue tells → EntersAll (is_ok result) (state self.old) (state self.new) };
+        ensures told { IsTrue tells → EntersAll (is_ok result) (state self.old) (state self.new) }
+        ensures calm { OnOk result (IsTrue tells → answered self.new ≡ answered self.old) }
+        ensures refused { OnErr result (IsTrue tells → WasRefused true (answered self.old) (answered self.new)) };
 
     /// Syncs a file's bytes and length. After Ok a crash leaves what a read gives; after a refusal what was pending is pending
     /// still. It isn't asked of a file whose entry may be lost, nor of one of which a sync was refused before: a later Ok would say
     /// nothing.
     fn sync_data(&mut self, opened: &Self::File) -> Result<(), Refused>
+        requires regular { IsTrue tells → IsTrue (is_regular (Self.File.file opened.now)) }
         requires entered { IsTrue tells → IsTrue ((state self.old).is_entered (Self.File.file opened.now)) }
         requires calm { IsTrue tells → (state self.old).is_doubtful (Self.File.file opened.now) ≡ false }
-        ensures told { IsTrue tells → SyncsData (Self.File.file opened.now) (is_ok result) (state self.old) (state self.new) };
+        ensures told { IsTrue tells → SyncsData (Self.File.file opened.now) (is_ok result) (state self.old) (state self.new) }
+        ensures answers { IsTrue tells → DoesOrRefuses result (answered self.old) (answered self.new) };
 
     /// Moves the next input bytes into the front of `into` and answers how many. For a slice that isn't empty, 0 means the end.
     fn read_input(&mut self, into: &mut [u8]) -> Result<usize, Refused>
         ensures bound { IfOk result (λ n. n ≤ length into.old) }
         ensures ok { IfOk result (λ n. IsTrue tells → Pulled n into.new (state self.old).world (state self.new).world) }
         ensures entries { IsTrue tells → SameEntries (state self.old) (state self.new) }
+        ensures moved { OnOk result (IsTrue tells → answered self.new ≡ answered self.old) }
+        ensures paused { IfErr result (λ error. error ≡ Refused.Interrupted → IsTrue tells → answered self.new ≡ interrupted_once (answered self.old)) }
+        ensures refused { IfErr result (λ error. error ≢ Refused.Interrupted → IsTrue tells
+            → WasRefused (answered self.old).has_lost_entries (answered self.old) (answered self.new)) }
         ensures err { OnErr result (IsTrue tells → state self.new ≡ state self.old) };
 
     /// Appends some of these bytes to the output: those from the place `from` on, of which the ones before have been put out;
-    /// and answers how many.
+    /// and answers how many. To put out none of some bytes is a refusal.
     fn write_output(&mut self, bytes: &[u8], from: usize) -> Result<usize, Refused>
         requires { from ≤ length bytes.now }
         ensures bound { IfOk result (λ n. n ≤ length bytes.now - from) }
         ensures ok { IfOk result (λ n. IsTrue tells → AppendsPart n from bytes.now (state self.old) (state self.new)) }
+        ensures moved { IfOk result (λ n. IsTrue tells → (n ≡ 0 → length bytes.now ≡ from) → answered self.new ≡ answered self.old) }
+        ensures stuck { IfOk result (λ n. IsTrue tells → n ≡ 0 → from < length bytes.now
+            → WasRefused (answered self.old).has_lost_entries (answered self.old) (answered self.new)) }
+        ensures paused { IfErr result (λ error. error ≡ Refused.Interrupted → IsTrue tells → answered self.new ≡ interrupted_once (answered self.old)) }
+        ensures refused { IfErr result (λ error. error ≢ Refused.Interrupted → IsTrue tells
+            → WasRefused (answered self.old).has_lost_entries (answered self.old) (answered self.new)) }
         ensures err { OnErr result (IsTrue tells → state self.new ≡ state self.old) };
 
     /// What a read gives is among what a crash may leave.

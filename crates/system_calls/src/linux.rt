@@ -93,6 +93,7 @@ impl<'a, R: Read, W: Write> Linux<'a, R, W> {
 impl<'a, R: Read, W: Write> SystemCalls for Linux<'a, R, W> {
     ghost use Rattle.std.specs.Prelude.{false, []};
     ghost use Rattle.host_trait.specs.World.{empty_world, untold};
+    ghost use Rattle.system_calls.specs.Answers.{nothing_answered};
 
     type Folder = File;
 
@@ -103,6 +104,10 @@ impl<'a, R: Read, W: Write> SystemCalls for Linux<'a, R, W> {
     ghost tells = { false };
 
     ghost state = { λ linux. record { world = empty_world; is_entered = λ file. false; is_doubtful = λ file. false; has_lost = false } };
+
+    ghost answered = { λ linux. nothing_answered };
+
+    ghost is_regular = { λ file. false };
 
     ghost leads = { [] };
 

@@ -433,6 +433,7 @@ fn moved(fault: Fault, count: usize) -> usize
 impl<'a> SystemCalls for OnMachine<'a> {
     ghost use Rattle.std.specs.Prelude.{false, []};
     ghost use Rattle.host_trait.specs.World.{empty_world, untold};
+    ghost use Rattle.system_calls.specs.Answers.{nothing_answered};
 
     type Folder = OpenFolder<'a>;
 
@@ -443,6 +444,10 @@ impl<'a> SystemCalls for OnMachine<'a> {
     ghost tells = { false };
 
     ghost state = { λ machine. record { world = empty_world; is_entered = λ file. false; is_doubtful = λ file. false; has_lost = false } };
+
+    ghost answered = { λ machine. nothing_answered };
+
+    ghost is_regular = { λ file. false };
 
     ghost leads = { [] };
 

@@ -9,15 +9,15 @@ use Rattle.host_trait.proofs.Names.{same_file-refl, other_file, cases_file}
 use Rattle.host_trait.proofs.Crashes.{Tears-wider, Tears-overlaid, Tears-at, torn_may_stay}
 use Rattle.system_calls.specs.System.{System, SameEntries, SameBeside, MakesFile, EntersAll, SyncsData, AppendsPart, KeepsTime, MayGoOn, IsLastPending, PendsFrom, WritesPart, TearsFrom, FailsPart}
 use Rattle.system_memory.specs.declared.events.Event.{Event}
-use Rattle.system_memory.specs.Held.{Held, nothing, timed, part_written, disk_with, flag_with, put_out, write_part, sync_file, doubt_file, make_file, enter_all, lose_entries, step, after_all, held_of, system_of, AllStay, BareUnentered}
+use Rattle.system_memory.specs.MemoryState.{MemoryState, nothing, timed, part_written, disk_with, flag_with, put_out, write_part, sync_file, doubt_file, make_file, enter_all, lose_entries, after_event, after_events, held_of, system_of, AllStay, BareUnentered}
 
-pub after_all-push : (h : Held) (events : List Event) (e : Event) → after_all (events ++ e ∷ []) h ≡ step e (after_all events h)
-after_all-push h [] e = refl
-after_all-push h (x ∷ events) e = after_all-push (step x h) events e
+pub after_events-push : (h : MemoryState) (events : List Event) (e : Event) → after_events (events ++ e ∷ []) h ≡ after_event e (after_events events h)
+after_events-push h [] e = refl
+after_events-push h (x ∷ events) e = after_events-push (after_event x h) events e
 
 -- one event more
-pub held_more : (events new : List Event) (e : Event) → new ≡ events ++ e ∷ [] → held_of new ≡ step e (held_of events)
-held_more events new e is = ap held_of is ∙ after_all-push nothing events e
+pub held_more : (events new : List Event) (e : Event) → new ≡ events ++ e ∷ [] → held_of new ≡ after_event e (held_of events)
+held_more events new e is = ap held_of is ∙ after_events-push nothing events e
 
 pub there : (file : FileId) (change : FileState → FileState) (disk : Disk) → disk_with file change disk file ≡ change (disk file)
 there file change disk = ap (λ (b : Bool). if b then change (disk file) else disk file) (same_file-refl file)
@@ -28,7 +28,7 @@ elsewhere file change disk f apart = ap (λ (b : Bool). if b then change (disk f
 flag_elsewhere : (file : FileId) (value : Bool) (flags : FileId → Bool) (f : FileId) → f ≢ file → flag_with file value flags f ≡ flags f
 flag_elsewhere file value flags f apart = ap (λ (b : Bool). if b then value else flags f) (other_file file f (λ e. apart (sym e)))
 
-same : (input : List ℕ) (h : Held) → SameEntries (system_of input h) (system_of input h)
+same : (input : List ℕ) (h : MemoryState) → SameEntries (system_of input h) (system_of input h)
 same input h = record { entered = refl; doubtful = refl; lost = refl }
 
 -- a moment takes the place of the last one
@@ -42,7 +42,7 @@ keeps_time zero old new is = is
 keeps_time (suc from) old new is = λ before was. is ∙ ap (λ (l : List Moment). l ++ moment_of new ∷ []) (front_of old.past before (moment_of old) was)
 
 -- bytes that are put out
-pub appends : (n from : ℕ) (bytes input : List ℕ) (h : Held) → 0 < n → AppendsPart n from bytes (system_of input h) (system_of input (put_out from (take n (drop from bytes)) h))
+pub appends : (n from : ℕ) (bytes input : List ℕ) (h : MemoryState) → 0 < n → AppendsPart n from bytes (system_of input h) (system_of input (put_out from (take n (drop from bytes)) h))
 appends n from bytes input h some = record {
   input = refl;
   output = refl;
@@ -57,7 +57,7 @@ pends_from : (from at size place : ℕ) (bytes : List ℕ) (s : FileState) → P
 pends_from zero at size place bytes s = record { base = refl; ranges = refl; longest = refl }
 pends_from (suc from) at size place bytes s = (refl, refl, refl)
 
-beside : (file : FileId) (at size from place : ℕ) (bytes input : List ℕ) (h : Held) → SameBeside file (system_of input h) (system_of input (write_part file at size from place bytes h))
+beside : (file : FileId) (at size from place : ℕ) (bytes input : List ℕ) (h : MemoryState) → SameBeside file (system_of input h) (system_of input (write_part file at size from place bytes h))
 beside file at size from place bytes input h = record {
   others = λ f apart. elsewhere file (part_written from at size place bytes) h.disk f apart;
   input = refl;
@@ -67,7 +67,7 @@ beside file at size from place bytes input h = record {
 }
 
 -- a part of a write
-pub writes : (n from : ℕ) (file : FileId) (at : ℕ) (bytes input : List ℕ) (h : Held) → (n ≡ 0 → length bytes ≡ 0)
+pub writes : (n from : ℕ) (file : FileId) (at : ℕ) (bytes input : List ℕ) (h : MemoryState) → (n ≡ 0 → length bytes ≡ 0)
     → WritesPart n from file at bytes (system_of input h) (system_of input (write_part file at (length bytes) from (at + from) (take n (drop from bytes)) h))
 writes n from file at bytes input h some =
     let size = length bytes in
@@ -99,7 +99,7 @@ tears_from zero file at size old new same pends seen time = record {
 tears_from (suc from) file at size old new same pends seen time = (pends, seen, time)
 
 -- a part of a write, after which the call is refused
-pub fails : (from : ℕ) (file : FileId) (at size : ℕ) (part input : List ℕ) (h : Held) → MayGoOn from at size (h.disk file) → from + length part ≤ size
+pub fails : (from : ℕ) (file : FileId) (at size : ℕ) (part input : List ℕ) (h : MemoryState) → MayGoOn from at size (h.disk file) → from + length part ≤ size
     → FailsPart from file at size (system_of input h) (system_of input (write_part file at size from (at + from) part h))
 fails from file at size part input h goes fits =
     let change = part_written from at size (at + from) part in
@@ -136,7 +136,7 @@ fails_unbegun from file at size s = record {
   unbegun (suc from) = ((refl, refl, refl), none_tears at size (s.world.disk file).seen, λ before is. is)
 
 -- a sync of a file
-pub syncs_file : (file : FileId) (input : List ℕ) (h : Held) → SyncsData file true (system_of input h) (system_of input (sync_file file h))
+pub syncs_file : (file : FileId) (input : List ℕ) (h : MemoryState) → SyncsData file true (system_of input h) (system_of input (sync_file file h))
 syncs_file file input h = record {
   synced = record {
     state = there file (λ s. settled s.seen) h.disk;
@@ -155,7 +155,7 @@ syncs_file file input h = record {
 }
 
 -- and one that is refused
-pub doubts_file : (file : FileId) (input : List ℕ) (h : Held) → SyncsData file false (system_of input h) (system_of input (doubt_file file h))
+pub doubts_file : (file : FileId) (input : List ℕ) (h : MemoryState) → SyncsData file false (system_of input h) (system_of input (doubt_file file h))
 doubts_file file input h = record {
   synced = record { state = refl; others = λ f apart. refl; input = refl; output = refl; counted = omega arith; once = omega arith; past = inr (refl, refl) };
   count = λ ok. absurd (false≢true ok);
@@ -175,7 +175,7 @@ sync_unbegun file s = record {
   calm = λ ok. absurd (false≢true ok);
 }
 
-pub makes : (file : FileId) (input : List ℕ) (h : Held) → MakesFile file (system_of input h) (system_of input (make_file file h))
+pub makes : (file : FileId) (input : List ℕ) (h : MemoryState) → MakesFile file (system_of input h) (system_of input (make_file file h))
 makes file input h = record { world = refl; others = λ f apart. flag_elsewhere file false h.is_entered f apart; doubtful = refl; lost = refl }
 
 -- what a read gives may stay
@@ -186,7 +186,7 @@ here_stays file change disk here stay f = elim (cases_file f file) [
   | inr apart ↦ subst (λ (s : FileState). MayLeave s s.seen) (sym (elsewhere file change disk f apart)) (stay f)
 ]
 
-bare_stays : (file : FileId) (change : FileState → FileState) (h : Held) → ((s : FileState) → (change s).base ≡ s.base) → BareUnentered h
+bare_stays : (file : FileId) (change : FileState → FileState) (h : MemoryState) → ((s : FileState) → (change s).base ≡ s.base) → BareUnentered h
     → (f : FileId) → h.is_entered f ≡ false → (disk_with file change h.disk f).base ≡ []
 bare_stays file change h same bare f lost = elim (cases_file f file) [
   | inl is ↦
@@ -214,26 +214,26 @@ part_stays (suc from) at size part s goes fits stay =
     let left = goes_stays at size s (overlaid s.seen (at + suc from) part) (goes.pending (omega arith)) stay (part_tears at size (suc from) part s.seen goes.reach fits) in
     record { no_shorter = left.no_shorter; no_longer = left.no_longer; same = left.same }
 
-pub write_stays : (file : FileId) (at size from : ℕ) (part : List ℕ) (h : Held) → MayGoOn from at size (h.disk file) → from + length part ≤ size → AllStay h → AllStay (write_part file at size from (at + from) part h)
+pub write_stays : (file : FileId) (at size from : ℕ) (part : List ℕ) (h : MemoryState) → MayGoOn from at size (h.disk file) → from + length part ≤ size → AllStay h → AllStay (write_part file at size from (at + from) part h)
 write_stays file at size from part h goes fits stay = here_stays file (part_written from at size (at + from) part) h.disk (part_stays from at size part (h.disk file) goes fits (stay file)) stay
 
-pub write_bare : (file : FileId) (at size from : ℕ) (part : List ℕ) (h : Held) → BareUnentered h → BareUnentered (write_part file at size from (at + from) part h)
+pub write_bare : (file : FileId) (at size from : ℕ) (part : List ℕ) (h : MemoryState) → BareUnentered h → BareUnentered (write_part file at size from (at + from) part h)
 write_bare file at size from part h bare = bare_stays file (part_written from at size (at + from) part) h (λ s. refl) bare
 
 settled_stay : (bytes : List ℕ) → MayLeave (settled bytes) bytes
 settled_stay bytes = record { no_shorter = omega arith; no_longer = omega arith; same = λ i low untouched. refl }
 
-pub sync_stays : (file : FileId) (h : Held) → AllStay h → AllStay (sync_file file h)
+pub sync_stays : (file : FileId) (h : MemoryState) → AllStay h → AllStay (sync_file file h)
 sync_stays file h stay = here_stays file (λ s. settled s.seen) h.disk (settled_stay (h.disk file).seen) stay
 
-pub sync_bare : (file : FileId) (h : Held) → IsTrue (h.is_entered file) → BareUnentered h → BareUnentered (sync_file file h)
+pub sync_bare : (file : FileId) (h : MemoryState) → IsTrue (h.is_entered file) → BareUnentered h → BareUnentered (sync_file file h)
 sync_bare file h entered bare f lost = elim (cases_file f file) [
   | inl is ↦ absurd (false≢true (sym (subst (λ (g : FileId). h.is_entered g ≡ false) is lost) ∙ entered))
   | inr apart ↦ ap (λ (s : FileState). s.base) (elsewhere file (λ s. settled s.seen) h.disk f apart) ∙ bare f lost
 ]
 
 -- a file that is made has no bytes
-pub make_bare : (file : FileId) (h : Held) → (h.disk file).seen ≡ [] → AllStay h → BareUnentered h → BareUnentered (make_file file h)
+pub make_bare : (file : FileId) (h : MemoryState) → (h.disk file).seen ≡ [] → AllStay h → BareUnentered h → BareUnentered (make_file file h)
 make_bare file h none stay bare f lost = elim (cases_file f file) [
   | inl is ↦ subst (λ (g : FileId). (h.disk g).base ≡ []) (sym is) (no_bytes (h.disk file).base (omega (arith, (stay file).no_shorter, ap length none)))
   | inr apart ↦ bare f (sym (flag_elsewhere file false h.is_entered f apart) ∙ lost)
@@ -243,14 +243,14 @@ make_bare file h none stay bare f lost = elim (cases_file f file) [
   no_bytes (x ∷ l) low = absurd (omega (arith, low))
 
 -- how often a replay stands at an event
-pub held_next : (events : List Event) (i : ℕ) (e : Event) → i < length events → e ≡ get_or events i e → held_of (take (i + 1) events) ≡ step e (held_of (take i events))
+pub held_next : (events : List Event) (i : ℕ) (e : Event) → i < length events → e ≡ get_or events i e → held_of (take (i + 1) events) ≡ after_event e (held_of (take i events))
 held_next events i e low is =
-    ap held_of (take_more events i e low ∙ ap (λ (x : Event). take i events ++ x ∷ []) (sym is)) ∙ after_all-push nothing (take i events) e
+    ap held_of (take_more events i e low ∙ ap (λ (x : Event). take i events ++ x ∷ []) (sym is)) ∙ after_events-push nothing (take i events) e
 
-pub enters : (input : List ℕ) (h : Held) → EntersAll true (system_of input h) (system_of input (enter_all h))
+pub enters : (input : List ℕ) (h : MemoryState) → EntersAll true (system_of input h) (system_of input (enter_all h))
 enters input h = record { world = refl; entered = λ ok f. refl; calm = λ ok. refl; stays = λ f was. refl; doubtful = refl }
 
-pub loses : (input : List ℕ) (h : Held) → EntersAll false (system_of input h) (system_of input (lose_entries h))
+pub loses : (input : List ℕ) (h : MemoryState) → EntersAll false (system_of input h) (system_of input (lose_entries h))
 loses input h = record { world = refl; entered = λ ok. absurd (false≢true ok); calm = λ ok. absurd (false≢true ok); stays = λ f was. was; doubtful = refl }
 
 pub true≢false : true ≡ false → ⊥

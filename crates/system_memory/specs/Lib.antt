@@ -1,3 +1,3 @@
-pub mod Held
+pub mod MemoryState
 pub mod Shown
 pub mod Laws

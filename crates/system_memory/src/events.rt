@@ -1,6 +1,6 @@
 ghost use Rattle.std.specs.Prelude.{◌≡◌, ◌∷◌, ◌++◌, ◌+◌, ◌-◌, ◌^◌, ◌<◌, ◌≤◌, ℕ, List, [], length, is_ok, true, false, IsTrue, take, drop, IfOk, OnOk, OnErr};
 ghost use Rattle.system_calls.specs.System.{AppendsPart, WritesPart, FailsPart, MayGoOn, SyncsData, MakesFile, EntersAll};
-ghost use Rattle.system_memory.specs.Held.{step, held_of, system_of, IsKept};
+ghost use Rattle.system_memory.specs.MemoryState.{after_event, held_of, system_of, IsKeepable};
 
 use host_trait::FileId;
 use std::alloc::{AllocError, Global};
@@ -47,7 +47,7 @@ fn part_of(alloc: Global, bytes: &[u8], from: usize, count: usize) -> Result<Vec
 
 // One event more, or all as it was.
 fn note(events: &mut Vec<Event>, event: Event) -> Result<(), AllocError>
-    ensures ok { OnOk result (held_of events.new.items ≡ step event (held_of events.old.items)) }
+    ensures ok { OnOk result (held_of events.new.items ≡ after_event event (held_of events.old.items)) }
     ensures err { OnErr result (events.new.items ≡ events.old.items) }
 {
     events.push(event)?;
@@ -67,7 +67,7 @@ pub fn note_emitted(
     requires within { count ≤ length bytes.now - from }
     ensures ok { OnOk result ((input : List ℕ) → AppendsPart count from bytes.now (system_of input (held_of events.old.items)) (system_of input (held_of events.new.items))) }
     ensures err { OnErr result (events.new.items ≡ events.old.items) }
-    ensures kept { IsKept (held_of events.old.items) → IsKept (held_of events.new.items) }
+    ensures kept { IsKeepable (held_of events.old.items) → IsKeepable (held_of events.new.items) }
 {
     let part = part_of(alloc, bytes, from, count)?;
     note(events, Event::Emitted { from, bytes: part })?;
@@ -92,7 +92,7 @@ pub fn note_wrote(
     ensures ok { OnOk result ((input : List ℕ) → WritesPart count from file at bytes.now (system_of input (held_of events.old.items)) (system_of input (held_of events.new.items))) }
     ensures torn { OnOk result ((input : List ℕ) → FailsPart from file at (length bytes.now) (system_of input (held_of events.old.items)) (system_of input (held_of events.new.items))) }
     ensures err { OnErr result (events.new.items ≡ events.old.items) }
-    ensures kept { IsKept (held_of events.old.items) → IsKept (held_of events.new.items) }
+    ensures kept { IsKeepable (held_of events.old.items) → IsKeepable (held_of events.new.items) }
 {
     let size = bytes.len();
     let part = part_of(alloc, bytes, from, count)?;
@@ -116,7 +116,7 @@ pub fn note_synced(events: &mut Vec<Event>, file: FileId) -> Result<(), AllocErr
     requires { IsTrue ((held_of events.old.items).is_entered file) }
     ensures told { (input : List ℕ) → SyncsData file (is_ok result) (system_of input (held_of events.old.items)) (system_of input (held_of events.new.items)) }
     ensures err { OnErr result (events.new.items ≡ events.old.items) }
-    ensures kept { IsKept (held_of events.old.items) → IsKept (held_of events.new.items) }
+    ensures kept { IsKeepable (held_of events.old.items) → IsKeepable (held_of events.new.items) }
 {
     note(events, Event::Synced { file })?;
     Ok(())
@@ -126,7 +126,7 @@ pub fn note_synced(events: &mut Vec<Event>, file: FileId) -> Result<(), AllocErr
 pub fn note_doubted(events: &mut Vec<Event>, file: FileId) -> Result<(), AllocError>
     ensures told { (input : List ℕ) → SyncsData file false (system_of input (held_of events.old.items)) (system_of input (held_of events.new.items)) }
     ensures err { OnErr result (events.new.items ≡ events.old.items) }
-    ensures kept { IsKept (held_of events.old.items) → IsKept (held_of events.new.items) }
+    ensures kept { IsKeepable (held_of events.old.items) → IsKeepable (held_of events.new.items) }
 {
     note(events, Event::Doubted { file })?;
     Ok(())
@@ -137,7 +137,7 @@ pub fn note_made(events: &mut Vec<Event>, file: FileId) -> Result<(), AllocError
     requires { ((held_of events.old.items).disk file).seen ≡ [] }
     ensures told { (input : List ℕ) → MakesFile file (system_of input (held_of events.old.items)) (system_of input (held_of events.new.items)) }
     ensures err { OnErr result (events.new.items ≡ events.old.items) }
-    ensures kept { IsKept (held_of events.old.items) → IsKept (held_of events.new.items) }
+    ensures kept { IsKeepable (held_of events.old.items) → IsKeepable (held_of events.new.items) }
 {
     note(events, Event::Made { file })?;
     Ok(())
@@ -147,7 +147,7 @@ pub fn note_made(events: &mut Vec<Event>, file: FileId) -> Result<(), AllocError
 pub fn note_entered(events: &mut Vec<Event>) -> Result<(), AllocError>
     ensures told { (input : List ℕ) → EntersAll (is_ok result) (system_of input (held_of events.old.items)) (system_of input (held_of events.new.items)) }
     ensures err { OnErr result (events.new.items ≡ events.old.items) }
-    ensures kept { IsKept (held_of events.old.items) → IsKept (held_of events.new.items) }
+    ensures kept { IsKeepable (held_of events.old.items) → IsKeepable (held_of events.new.items) }
 {
     note(events, Event::Entered)?;
     Ok(())
@@ -157,7 +157,7 @@ pub fn note_entered(events: &mut Vec<Event>) -> Result<(), AllocError>
 pub fn note_lost(events: &mut Vec<Event>) -> Result<(), AllocError>
     ensures told { (input : List ℕ) → EntersAll false (system_of input (held_of events.old.items)) (system_of input (held_of events.new.items)) }
     ensures err { OnErr result (events.new.items ≡ events.old.items) }
-    ensures kept { IsKept (held_of events.old.items) → IsKept (held_of events.new.items) }
+    ensures kept { IsKeepable (held_of events.old.items) → IsKeepable (held_of events.new.items) }
 {
     note(events, Event::Lost)?;
     Ok(())

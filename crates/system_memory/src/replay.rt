@@ -1,7 +1,7 @@
 // The bytes of a file, as the events so far made them.
 ghost use Rattle.std.specs.Prelude.{◌≡◌, ℕ, IfOk, OnOk};
 ghost use Rattle.host_trait.specs.Disk.{overlaid};
-ghost use Rattle.system_memory.specs.Held.{Held, held_of, step};
+ghost use Rattle.system_memory.specs.MemoryState.{MemoryState, held_of, after_event};
 
 use crate::events::Event;
 use host_trait::FileId;
@@ -23,7 +23,7 @@ fn overlay(alloc: Global, old: &[u8], at: usize, bytes: &[u8]) -> Result<Vec<u8>
 
 // The bytes of a file after one event more.
 fn replay(alloc: Global, bytes: &[u8], event: &Event, file: FileId) -> Result<Vec<u8>, AllocError>
-    ensures { IfOk result (λ new. (h : Held) → (h.disk file).seen ≡ bytes.now → ((step event.now h).disk file).seen ≡ new.items) }
+    ensures { IfOk result (λ new. (h : MemoryState) → (h.disk file).seen ≡ bytes.now → ((after_event event.now h).disk file).seen ≡ new.items) }
 {
     match event {
         Event::Wrote {

@@ -1,6 +1,6 @@
 // A system in memory, of which one call may fail.
-ghost use Rattle.std.specs.Prelude.{◌≡◌, ◌+◌, ◌-◌, ◌<◌, ◌≤◌, ℕ, length, is_ok, true, IsTrue, IfOk, OnOk};
-ghost use Rattle.system_memory.specs.Held.{held_of, AllStay, BareUnentered};
+ghost use Rattle.std.specs.Prelude.{◌≡◌, ◌+◌, ◌-◌, ◌^◌, ◌<◌, ◌≤◌, ℕ, length, is_ok, true, IsTrue, IfOk, OnOk};
+ghost use Rattle.system_memory.specs.MemoryState.{held_of, AllStay, BareUnentered};
 
 use crate::events::{
     Event, note_doubted, note_emitted, note_entered, note_lost, note_made, note_synced, note_wrote,
@@ -72,6 +72,9 @@ pub struct MemorySystem {
     taken: usize,
     events: Vec<Event>,
     plan: Plan,
+    refusals: u64,
+    interruptions: u64,
+    has_lost_entries: bool,
     ghost in_range: { taken ≤ length input.items },
     ghost stays: { AllStay (held_of events.items) },
     ghost bare: { BareUnentered (held_of events.items) },
@@ -89,12 +92,15 @@ fn moved(fault: Fault, count: usize) -> usize
 }
 
 impl MemorySystem {
-    ghost use Rattle.system_memory.specs.Shown.{state_in};
+    ghost use Rattle.system_memory.specs.Shown.{system_in, system_answers};
     ghost use Rattle.system_calls.specs.System.{NoSyncRefused};
+    ghost use Rattle.system_calls.specs.Answers.{WasRefused, interrupted_once};
+    ghost use Rattle.system_calls.specs.declared.refused.Refused.{Refused};
+    ghost use Rattle.system_memory.specs.declared.system.Fault.{Fault};
 
     /// An empty folder, and this input.
     pub fn new(alloc: Global, input: &[u8]) -> Result<MemorySystem, AllocError>
-        ensures { IfOk result (λ system. NoSyncRefused (state_in system)) }
+        ensures { IfOk result (λ system. NoSyncRefused (system_in system)) }
     {
         let input = input.to_vec(alloc)?;
         let system = MemorySystem {
@@ -107,19 +113,70 @@ impl MemorySystem {
                 failing: 0,
                 fault: Fault::None,
             },
+            refusals: 0,
+            interruptions: 0,
+            has_lost_entries: false,
         };
         Ok(system)
     }
 
     /// The nth call from here on is answered so, and where n is 0 each one.
     pub fn fail(&mut self, nth: u64, fault: Fault)
-        ensures { state_in self.new ≡ state_in self.old }
+        ensures { system_in self.new ≡ system_in self.old }
     {
         self.plan = Plan {
             calls: 0,
             failing: nth,
             fault,
         };
+    }
+
+    // Refuses a call. The number of refusals begins anew behind the last value.
+    fn refuse(&mut self) -> Refused
+        ensures error { result ≡ Refused.Failed }
+        ensures state { system_in self.new ≡ system_in self.old }
+        ensures refused { WasRefused (system_answers self.old).has_lost_entries (system_answers self.old) (system_answers self.new) }
+    {
+        self.refusals = if self.refusals < u64::MAX {
+            self.refusals + 1
+        } else {
+            0
+        };
+        Refused::Failed
+    }
+
+    // Refuses a sync of the folder.
+    fn refuse_entries(&mut self) -> Refused
+        ensures error { result ≡ Refused.Failed }
+        ensures state { system_in self.new ≡ system_in self.old }
+        ensures refused { WasRefused true (system_answers self.old) (system_answers self.new) }
+    {
+        self.has_lost_entries = true;
+        self.refuse()
+    }
+
+    // How a call that moves bytes is answered. None is interrupted once no more can be counted.
+    fn turn(&mut self) -> Fault
+        ensures state { system_in self.new ≡ system_in self.old }
+        ensures answered { system_answers self.new ≡ system_answers self.old }
+        ensures counted { result ≡ Fault.Interrupted → self.new.interruptions < 2 ^ 64 - 1 }
+    {
+        let fault = self.plan.turn();
+        if fault == Fault::Interrupted && self.interruptions == u64::MAX {
+            return Fault::None;
+        }
+        fault
+    }
+
+    // Interrupts a call.
+    fn interrupt(&mut self) -> Refused
+        requires { self.old.interruptions < 2 ^ 64 - 1 }
+        ensures error { result ≡ Refused.Interrupted }
+        ensures state { system_in self.new ≡ system_in self.old }
+        ensures answered { system_answers self.new ≡ interrupted_once (system_answers self.old) }
+    {
+        self.interruptions += 1;
+        Refused::Interrupted
     }
 
     // Whether a file was made.
@@ -136,7 +193,7 @@ impl MemorySystem {
 
     // The bytes of a file.
     fn bytes(&self, file: FileId) -> Result<Vec<u8>, Refused>
-        ensures { IfOk result (λ bytes. bytes.items ≡ ((state_in self.now).world.disk file).seen) }
+        ensures { IfOk result (λ bytes. bytes.items ≡ ((system_in self.now).world.disk file).seen) }
     {
         match bytes_of(self.alloc, &self.events, file) {
             Ok(bytes) => Ok(bytes),
@@ -147,9 +204,9 @@ impl MemorySystem {
 
 impl SystemCalls for MemorySystem {
     ghost use Rattle.std.specs.Prelude.{true, drop, codes};
-    ghost use Rattle.system_memory.specs.Shown.{state_in};
+    ghost use Rattle.system_memory.specs.Shown.{system_in, system_answers};
     ghost use Rattle.system_memory.specs.Laws.{found_stays};
-    ghost use Rattle.system_memory.specs.Held.{held_of};
+    ghost use Rattle.system_memory.specs.MemoryState.{held_of};
 
     type Folder = MemoryFolder;
 
@@ -159,7 +216,11 @@ impl SystemCalls for MemorySystem {
 
     ghost tells = { true };
 
-    ghost state = { state_in };
+    ghost state = { system_in };
+
+    ghost answered = { system_answers };
+
+    ghost is_regular = { λ file. true };
 
     ghost leads = { codes "f/." };
 
@@ -173,7 +234,7 @@ impl SystemCalls for MemorySystem {
 
     fn open_folder(&mut self, _path: &str) -> Result<MemoryFolder, Refused> {
         if self.plan.is_refused() {
-            return Err(Refused::Failed);
+            return Err(self.refuse());
         }
         Ok(MemoryFolder)
     }
@@ -184,14 +245,14 @@ impl SystemCalls for MemorySystem {
 
     fn lock(&mut self, _folder: MemoryFolder) -> Result<MemoryLocked, Refused> {
         if self.plan.is_refused() {
-            return Err(Refused::Failed);
+            return Err(self.refuse());
         }
         Ok(MemoryLocked)
     }
 
     fn reaches(&mut self, _folder: &MemoryLocked) -> Result<bool, Refused> {
         if self.plan.is_refused() {
-            return Err(Refused::Failed);
+            return Err(self.refuse());
         }
         Ok(true)
     }
@@ -204,11 +265,10 @@ impl SystemCalls for MemorySystem {
         _access: Access,
     ) -> Result<MemoryFile, Refused> {
         if self.plan.is_refused() {
-            return Err(Refused::Failed);
+            return Err(self.refuse());
         }
-        let bytes = match self.bytes(file) {
-            Ok(bytes) => bytes,
-            Err(_) => return Err(Refused::Failed),
+        let Ok(bytes) = self.bytes(file) else {
+            return Err(self.refuse());
         };
         if bytes.is_empty() && !self.is_made(file) {
             return Err(Refused::Missing);
@@ -223,23 +283,27 @@ impl SystemCalls for MemorySystem {
         _name: &str,
     ) -> Result<MemoryFile, Refused> {
         if self.plan.is_refused() {
-            return Err(Refused::Failed);
+            return Err(self.refuse());
         }
-        let bytes = self.bytes(file)?;
+        let Ok(bytes) = self.bytes(file) else {
+            return Err(self.refuse());
+        };
         if !bytes.is_empty() || self.is_made(file) {
-            return Err(Refused::Failed);
+            return Err(self.refuse());
         }
         match note_made(&mut self.events, file) {
             Ok(()) => Ok(MemoryFile { file }),
-            Err(_) => Err(Refused::Failed),
+            Err(_) => Err(self.refuse()),
         }
     }
 
     fn look(&mut self, _folder: &MemoryLocked, file: FileId, _name: &str) -> Result<Look, Refused> {
         if self.plan.is_refused() {
-            return Err(Refused::Failed);
+            return Err(self.refuse());
         }
-        let bytes = self.bytes(file)?;
+        let Ok(bytes) = self.bytes(file) else {
+            return Err(self.refuse());
+        };
         Ok(Look {
             is_regular: true,
             length: bytes.len() as u64,
@@ -248,9 +312,11 @@ impl SystemCalls for MemorySystem {
 
     fn look_at(&mut self, opened: &MemoryFile) -> Result<Look, Refused> {
         if self.plan.is_refused() {
-            return Err(Refused::Failed);
+            return Err(self.refuse());
         }
-        let bytes = self.bytes(opened.file)?;
+        let Ok(bytes) = self.bytes(opened.file) else {
+            return Err(self.refuse());
+        };
         Ok(Look {
             is_regular: true,
             length: bytes.len() as u64,
@@ -264,14 +330,14 @@ impl SystemCalls for MemorySystem {
         into: &mut [u8],
         from: usize,
     ) -> Result<usize, Refused> {
-        let fault = self.plan.turn();
+        let fault = self.turn();
         match fault {
-            Fault::Refused => return Err(Refused::Failed),
-            Fault::Interrupted => return Err(Refused::Interrupted),
+            Fault::Refused => return Err(self.refuse()),
+            Fault::Interrupted => return Err(self.interrupt()),
             Fault::None | Fault::Short => {}
         }
         let Ok(bytes) = self.bytes(opened.file) else {
-            return Err(Refused::Failed);
+            return Err(self.refuse());
         };
         let there = at + from as u64;
         let rest = bytes.get(there as usize..).unwrap_or(&[]);
@@ -287,9 +353,9 @@ impl SystemCalls for MemorySystem {
         bytes: &[u8],
         from: usize,
     ) -> Result<usize, Refused> {
-        let fault = self.plan.turn();
+        let fault = self.turn();
         if fault == Fault::Interrupted {
-            return Err(Refused::Interrupted);
+            return Err(self.interrupt());
         }
         let count = moved(fault, bytes.len() - from);
         if count == 0 {
@@ -301,41 +367,41 @@ impl SystemCalls for MemorySystem {
         match note_wrote(alloc, &mut self.events, opened.file, at, bytes, from, count) {
             Ok(()) => {
                 if fault == Fault::Refused {
-                    return Err(Refused::Failed);
+                    return Err(self.refuse());
                 }
                 Ok(count)
             }
-            Err(_) => Err(Refused::Failed),
+            Err(_) => Err(self.refuse()),
         }
     }
 
     fn sync_folder(&mut self, _folder: &MemoryLocked) -> Result<(), Refused> {
         if self.plan.is_refused() {
             let _ = note_lost(&mut self.events);
-            return Err(Refused::Failed);
+            return Err(self.refuse_entries());
         }
         match note_entered(&mut self.events) {
             Ok(()) => Ok(()),
-            Err(_) => Err(Refused::Failed),
+            Err(_) => Err(self.refuse_entries()),
         }
     }
 
     fn sync_data(&mut self, opened: &MemoryFile) -> Result<(), Refused> {
         if self.plan.is_refused() {
             let _ = note_doubted(&mut self.events, opened.file);
-            return Err(Refused::Failed);
+            return Err(self.refuse());
         }
         match note_synced(&mut self.events, opened.file) {
             Ok(()) => Ok(()),
-            Err(_) => Err(Refused::Failed),
+            Err(_) => Err(self.refuse()),
         }
     }
 
     fn read_input(&mut self, into: &mut [u8]) -> Result<usize, Refused> {
-        let fault = self.plan.turn();
+        let fault = self.turn();
         match fault {
-            Fault::Refused => return Err(Refused::Failed),
-            Fault::Interrupted => return Err(Refused::Interrupted),
+            Fault::Refused => return Err(self.refuse()),
+            Fault::Interrupted => return Err(self.interrupt()),
             Fault::None | Fault::Short => {}
         }
         let rest = &self.input[self.taken..];
@@ -346,10 +412,10 @@ impl SystemCalls for MemorySystem {
     }
 
     fn write_output(&mut self, bytes: &[u8], from: usize) -> Result<usize, Refused> {
-        let fault = self.plan.turn();
+        let fault = self.turn();
         match fault {
-            Fault::Refused => return Err(Refused::Failed),
-            Fault::Interrupted => return Err(Refused::Interrupted),
+            Fault::Refused => return Err(self.refuse()),
+            Fault::Interrupted => return Err(self.interrupt()),
             Fault::None | Fault::Short => {}
         }
         let count = moved(fault, bytes.len() - from);
@@ -358,7 +424,7 @@ impl SystemCalls for MemorySystem {
         }
         match note_emitted(self.alloc, &mut self.events, bytes, from, count) {
             Ok(()) => Ok(count),
-            Err(_) => Err(Refused::Failed),
+            Err(_) => Err(self.refuse()),
         }
     }
 }

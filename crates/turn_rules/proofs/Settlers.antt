@@ -15,7 +15,8 @@ use Rattle.promise_spec.specs.Gotten.{Got, got_from}
 use Rattle.promise_spec.specs.UnitRule.{Basis, IsDue}
 use Rattle.core_model.specs.Settler.{MakesEvent, Step, Votes, Decides, Seals, Learns, Writes, Takes, Rests, settler_step}
 use Rattle.promise_spec.specs.TurnRule.{OfSettler, IsTurn, KeepsTurnRule, line_can_begin, movers, mover_of, picked, picks_used}
-use Rattle.turn_rules.specs.Going.{is_begin, is_own}
+use Rattle.turn_rules.specs.Going.{is_begin, is_own, with_event}
+use Rattle.turn_rules.proofs.Growth.{ends-more}
 
 -- ---- no stop
 
@@ -72,6 +73,14 @@ no-halt-step (Learns u g) m = absurd cc
 no-halt-step Writes m = absurd cc
 no-halt-step Takes m = absurd cc
 no-halt-step Rests m = m
+
+-- so no event of a step is one
+pub settlers-go : (s : Step) (e : CoreEvent) → MakesEvent s e → e ≡ Halt → ⊥
+settlers-go s e makes q = no-halt-step s (subst (MakesEvent s) q makes)
+
+-- a run that isn't stopped goes on by an event that is no stop
+pub going-by : (r : Run) (e : CoreEvent) → (e ≡ Halt → ⊥) → (ends r).units.halt ≡ false → (ends (with_event r e)).units.halt ≡ false
+going-by r e other going = ap (λ (w : CoreState). w.units.halt) (ends-more r e) ∙ halt-step (ends r) e (λ a. other) ∙ going
 
 -- no run that keeps the turn rule is stopped
 pub never-halted : (types : ProgramTree) (lines width : ℕ) (picks : List ℕ) (r : Run) → KeepsTurnRule types lines width picks r → (ends r).units.halt ≡ false

@@ -5,7 +5,7 @@ use Rattle.base_types.specs.declared.calls.Origin.TheVariants.{Line, Child}
 use Rattle.core_model.specs.CoreState.{UnitNo, Call, CoreState}
 use Rattle.core_model.specs.declared.effects.Effect.{Effect}
 use Rattle.core_model.specs.declared.events.CoreEvent.{CoreEvent}
-use Rattle.core_model.specs.declared.events.CoreEvent.TheVariants.{Begin}
+use Rattle.core_model.specs.declared.events.CoreEvent.TheVariants.{Begin, Halt}
 use Rattle.core_model.specs.Changes.{new_unit}
 use Rattle.core_model.specs.Events.{applies, can, run}
 use Rattle.core_model.specs.Legal.{Run, IsLegal, begins, ends}
@@ -25,7 +25,7 @@ use Rattle.turn_rules.proofs.Movers.{begins-kept, drop-kept, kept-begun, kept-on
 use Rattle.turn_rules.proofs.Counted.{counted-ends}
 use Rattle.turn_rules.proofs.Growth.{ends-more, turn-grows, unit-grows}
 use Rattle.turn_rules.proofs.Lawful.{legal-run}
-use Rattle.turn_rules.proofs.Settlers.{never-halted, settlers, settlers-due}
+use Rattle.turn_rules.proofs.Settlers.{going-by, settlers, settlers-due, settlers-go}
 use Rattle.turn_rules.proofs.Numbers.{older-filter, older-last}
 use Rattle.turn_rules.proofs.Picks.{used-none, used-one, used-unapplied}
 use Rattle.turn_rules.proofs.Ended.{without-mover}
@@ -40,15 +40,20 @@ module _ (l : TurnLoop) (t : IsTurning l) where
   held : Kept l.run.opening (ends l.run)
   held = kept-ends (λ (e : Effect). true) l.run legal
 
+  -- a mover's event is no stop, where a stop isn't the mover's
+  no_stop : (e : CoreEvent) (m : Mover) → mover_of e ≡ m → (OfSettler ≡ m → ⊥) → e ≡ Halt → ⊥
+  no_stop e m is other q = other (sym (ap mover_of q) ∙ is)
+
   -- an event that doesn't apply
   pub turn-unapplied : (e : CoreEvent) → applies (ends l.run) e ≡ false → IsTurning (turned l e l.units l.used)
   turn-unapplied e a = record {
     first = t.first;
     unit_rule = unit-grows l.basis l.run e t.unit_rule (λ b. not_both b);
-    turn_rule = turn-grows l.basis.types (length l.basis.lines) l.width l.picks l.run e t.turn_rule (λ b. not_both b);
+    unstopped = ap (λ (w : CoreState). w.units.halt) same ∙ t.unstopped;
+    turn_rule = λ ruled. turn-grows l.basis.types (length l.basis.lines) l.width l.picks l.run e (t.turn_rule ruled) (λ b. not_both b);
     kept = same_kept;
     older = t.older;
-    count = used-unapplied l.run e l.used t.count a;
+    count = λ ruled. used-unapplied l.run e l.used (t.count ruled) a;
   }
     where
       not_both : {A : Type 0} → applies (ends l.run) e ≡ true → A
@@ -68,10 +73,11 @@ module _ (l : TurnLoop) (t : IsTurning l) where
   turn-bad e b m can may = record {
     first = t.first;
     unit_rule = unit-grows l.basis l.run e t.unit_rule may;
-    turn_rule = turn-grows l.basis.types (length l.basis.lines) l.width l.picks l.run e t.turn_rule (λ a. no_mover a);
+    unstopped = going-by l.run e (no_stop e OfLine m (λ q. absurd cc)) t.unstopped;
+    turn_rule = λ ruled. turn-grows l.basis.types (length l.basis.lines) l.width l.picks l.run e (t.turn_rule ruled) (λ a. no_mover a);
     kept = kept-on l.run.opening l.run e l.units held b t.kept;
     older = t.older;
-    count = used-none l.run e l.used t.count (ap takes_pick m);
+    count = λ ruled. used-none l.run e l.used (t.count ruled) (ap takes_pick m);
   }
     where
       no_mover : applies (ends l.run) e ≡ true → IsTurn (line_can_begin l.width (length l.basis.lines) l.run (ends l.run)) (picked (movers_in l.basis.types l.run) (next_pick l.picks l.run)) (ends l.run) e (mover_of e)
@@ -83,16 +89,17 @@ module _ (l : TurnLoop) (t : IsTurning l) where
   turn-line n call plain can may a = record {
     first = t.first;
     unit_rule = unit-grows l.basis l.run (Begin (Line n) call plain) t.unit_rule may;
-    turn_rule = turn-grows l.basis.types (length l.basis.lines) l.width l.picks l.run (Begin (Line n) call plain) t.turn_rule (λ b. begins-kept l.width (length l.basis.lines) l.run l.units t.kept ∙ can);
+    unstopped = going-by l.run (Begin (Line n) call plain) (no_stop (Begin (Line n) call plain) OfLine refl (λ q. absurd cc)) t.unstopped;
+    turn_rule = λ ruled. turn-grows l.basis.types (length l.basis.lines) l.width l.picks l.run (Begin (Line n) call plain) (t.turn_rule ruled) (λ b. begins-kept l.width (length l.basis.lines) l.run l.units t.kept ∙ can);
     kept = kept-begun l.run.opening l.run (Line n) call plain l.units held (counted-ends (λ (e : Effect). true) l.run legal).above a t.kept;
     older = older-last l.units (new_unit (ends l.run)) (λ v m. t.kept.below v m) t.older;
-    count = used-none l.run (Begin (Line n) call plain) l.used t.count refl;
+    count = λ ruled. used-none l.run (Begin (Line n) call plain) l.used (t.count ruled) refl;
   }
 
   -- the mover that was picked, among those that are looked at
-  chosen : (m : Mover) → picked (movers_of l.basis.types l.run l.units) (get_or l.picks l.used 0) ≡ Some m → picked (movers_in l.basis.types l.run) (next_pick l.picks l.run) ≡ Some m
-  chosen m pick =
-      ap (λ (ms : List Mover). picked ms (next_pick l.picks l.run)) (movers-kept l.basis.types l.run l.units t.kept) ∙ ap (λ (n : ℕ). picked (movers_of l.basis.types l.run l.units) (get_or l.picks n 0)) (sym t.count) ∙ pick
+  chosen : l.ruled ≡ true → (m : Mover) → picked (movers_of l.basis.types l.run l.units) (get_or l.picks l.used 0) ≡ Some m → picked (movers_in l.basis.types l.run) (next_pick l.picks l.run) ≡ Some m
+  chosen ruled m pick =
+      ap (λ (ms : List Mover). picked ms (next_pick l.picks l.run)) (movers-kept l.basis.types l.run l.units t.kept) ∙ ap (λ (n : ℕ). picked (movers_of l.basis.types l.run l.units) (get_or l.picks n 0)) (sym (t.count ruled)) ∙ pick
 
   -- no line can begin
   none_begins : has_room l ≡ false → line_can_begin l.width (length l.basis.lines) l.run (ends l.run) ≡ false
@@ -110,10 +117,11 @@ module _ (l : TurnLoop) (t : IsTurning l) where
       record {
         first = t.first;
         unit_rule = unit-grows l.basis l.run e t.unit_rule (λ b. settlers-due l.basis (ends l.run) (got_in l.run) (settler_step (ends l.run)) e makes);
-        turn_rule = turn-grows l.basis.types (length l.basis.lines) l.width l.picks l.run e t.turn_rule (at_turn OfSettler e s.0 (none_begins turn.none, chosen OfSettler turn.pick, makes));
+        unstopped = going-by l.run e (settlers-go (settler_step (ends l.run)) e makes) t.unstopped;
+        turn_rule = λ ruled. turn-grows l.basis.types (length l.basis.lines) l.width l.picks l.run e (t.turn_rule ruled) (at_turn OfSettler e s.0 (none_begins turn.none, chosen ruled OfSettler turn.pick, makes));
         kept = kept-on l.run.opening l.run e l.units held s.1 t.kept;
         older = t.older;
-        count = used-one l.run e l.used t.count a (ap takes_pick s.0);
+        count = λ ruled. used-one l.run e l.used (t.count ruled) a (ap takes_pick s.0);
       }
 
   -- an event of the unit whose turn it is
@@ -122,10 +130,11 @@ module _ (l : TurnLoop) (t : IsTurning l) where
   turn-unit u e turn is b may a = record {
     first = t.first;
     unit_rule = unit-grows l.basis l.run e t.unit_rule may;
-    turn_rule = turn-grows l.basis.types (length l.basis.lines) l.width l.picks l.run e t.turn_rule (at_turn (OfUnit u) e is (none_begins turn.none, chosen (OfUnit u) turn.pick));
+    unstopped = going-by l.run e (no_stop e (OfUnit u) is (λ q. absurd cc)) t.unstopped;
+    turn_rule = λ ruled. turn-grows l.basis.types (length l.basis.lines) l.width l.picks l.run e (t.turn_rule ruled) (at_turn (OfUnit u) e is (none_begins turn.none, chosen ruled (OfUnit u) turn.pick));
     kept = kept-on l.run.opening l.run e l.units held b t.kept;
     older = t.older;
-    count = used-one l.run e l.used t.count a (ap takes_pick is);
+    count = λ ruled. used-one l.run e l.used (t.count ruled) a (ap takes_pick is);
   }
 
   -- a child that it begins
@@ -134,10 +143,11 @@ module _ (l : TurnLoop) (t : IsTurning l) where
   turn-child u index depth call turn may a = record {
     first = t.first;
     unit_rule = unit-grows l.basis l.run (Begin (Child u index depth) call false) t.unit_rule may;
-    turn_rule = turn-grows l.basis.types (length l.basis.lines) l.width l.picks l.run (Begin (Child u index depth) call false) t.turn_rule (at_turn (OfUnit u) (Begin (Child u index depth) call false) refl (none_begins turn.none, chosen (OfUnit u) turn.pick));
+    unstopped = going-by l.run (Begin (Child u index depth) call false) (no_stop (Begin (Child u index depth) call false) (OfUnit u) refl (λ q. absurd cc)) t.unstopped;
+    turn_rule = λ ruled. turn-grows l.basis.types (length l.basis.lines) l.width l.picks l.run (Begin (Child u index depth) call false) (t.turn_rule ruled) (at_turn (OfUnit u) (Begin (Child u index depth) call false) refl (none_begins turn.none, chosen ruled (OfUnit u) turn.pick));
     kept = kept-begun l.run.opening l.run (Child u index depth) call false l.units held (counted-ends (λ (e : Effect). true) l.run legal).above a t.kept;
     older = older-last l.units (new_unit (ends l.run)) (λ v m. t.kept.below v m) t.older;
-    count = used-one l.run (Begin (Child u index depth) call false) l.used t.count a refl;
+    count = λ ruled. used-one l.run (Begin (Child u index depth) call false) l.used (t.count ruled) a refl;
   }
 
   -- agents that are no more to be looked at go
@@ -145,6 +155,7 @@ module _ (l : TurnLoop) (t : IsTurning l) where
   turn-dropped stays weak = record {
     first = t.first;
     unit_rule = t.unit_rule;
+    unstopped = t.unstopped;
     turn_rule = t.turn_rule;
     kept = drop-kept l.run l.units stays weak t.kept;
     older = older-filter stays l.units t.older;
@@ -155,19 +166,20 @@ module _ (l : TurnLoop) (t : IsTurning l) where
   pub turn-ended : (ends l.run).manager.doubt ≡ None → movers_of l.basis.types l.run l.units ≡ [] → 0 < l.width → has_room l ≡ false →
       HasRun (length l.basis.lines) (ends l.run)
   turn-ended doubt none some cannot =
-      without-mover l.basis.types (λ (e : Effect). true) l.run l.width (length l.basis.lines) legal doubt (never-halted l.basis.types (length l.basis.lines) l.width l.picks l.run t.turn_rule) (movers-kept l.basis.types l.run l.units t.kept ∙ none) some (begins-kept l.width (length l.basis.lines) l.run l.units t.kept ∙ cannot)
+      without-mover l.basis.types (λ (e : Effect). true) l.run l.width (length l.basis.lines) legal doubt t.unstopped (movers-kept l.basis.types l.run l.units t.kept ∙ none) some (begins-kept l.width (length l.basis.lines) l.run l.units t.kept ∙ cannot)
 
 -- ---- the start
 
 -- a run without events
-pub turning-begins : (around : Basis) (width : ℕ) (picks : List ℕ) (r : Run) → r.events ≡ [] → 0 < r.base → IsTurning (record { basis = around; width = width; picks = picks; run = r; units = []; used = 0 })
-turning-begins around width picks r none first = record {
+pub turning-begins : (around : Basis) (ruled : Bool) (width : ℕ) (picks : List ℕ) (r : Run) → r.events ≡ [] → 0 < r.base → IsTurning (record { basis = around; ruled = ruled; width = width; picks = picks; run = r; units = []; used = 0 })
+turning-begins around ruled width picks r none first = record {
   first = first;
   unit_rule = λ at e a. absurd (nothing at e a.there);
-  turn_rule = λ at e a. absurd (nothing at e a.there);
+  unstopped = ap (λ (l : List CoreEvent). (run (begins r) l).units.halt) none;
+  turn_rule = λ is at e a. absurd (nothing at e a.there);
   kept = record { kept = kept; below = λ u m. absurd m };
   older = tt;
-  count = sym (ap (λ (l : List CoreEvent). count_by (λ e. takes_pick (mover_of e)) (applied_from (begins r) (take (length l) l))) none);
+  count = λ is. sym (ap (λ (l : List CoreEvent). count_by (λ e. takes_pick (mover_of e)) (applied_from (begins r) (take (length l) l))) none);
 }
   where
     nothing : (at : ℕ) (e : CoreEvent) → slice_get r.events at ≡ Some e → ⊥

@@ -1,5 +1,5 @@
 -- What a loop of turns keeps.
-use Rattle.std.specs.Prelude.{◌≡◌, ◌<◌, ℕ, List, [], ◌∷◌, ◌++◌, length, get_or, Bool, false, Some, ⊤}
+use Rattle.std.specs.Prelude.{◌≡◌, ◌<◌, ℕ, List, [], ◌∷◌, ◌++◌, length, get_or, Bool, true, false, Some, ⊤}
 use Rattle.core_model.specs.CoreState.{UnitNo, Member}
 use Rattle.core_model.specs.Changes.{new_unit}
 use Rattle.core_model.specs.declared.events.CoreEvent.{CoreEvent}
@@ -14,25 +14,27 @@ abbrev pub AreOlder : List UnitNo → Type 0
 AreOlder [] = ⊤
 AreOlder (u ∷ us) = ((v : UnitNo) → Member v us → u.0 < v.0) × AreOlder us
 
--- Where a loop of turns stands: what the unit rule is told, the width and the picks, the run so far, the units that are
--- looked at, and how many picks were used.
+-- Where a loop of turns stands: what the unit rule is told, whether the run so far is of turns alone, the width and the picks, the
+-- run so far, the units that are looked at, and how many picks were used.
 pub record TurnLoop : Type 0 where
   pub basis : Basis
+  pub ruled : Bool
   pub width : ℕ
   pub picks : List ℕ
   pub run : Run
   pub units : List UnitNo
   pub used : ℕ
 
--- The run keeps both rules; the units that are looked at are in number order, and leave no mover out; so many picks were
--- used.
+-- The run keeps the unit rule and isn't stopped; the units that are looked at are in number order, and leave no mover out. Where the
+-- run so far is of turns alone, it keeps the turn rule too, and so many picks were used.
 pub record IsTurning (l : TurnLoop) : Type 0 where
   pub first : 0 < l.run.base
   pub unit_rule : KeepsUnitRule l.basis l.run
-  pub turn_rule : KeepsTurnRule l.basis.types (length l.basis.lines) l.width l.picks l.run
+  pub unstopped : (ends l.run).units.halt ≡ false
+  pub turn_rule : l.ruled ≡ true → KeepsTurnRule l.basis.types (length l.basis.lines) l.width l.picks l.run
   pub kept : AreKept l.run l.units
   pub older : AreOlder l.units
-  pub count : l.used ≡ picks_used l.run (length l.run.events)
+  pub count : l.ruled ≡ true → l.used ≡ picks_used l.run (length l.run.events)
 
 -- a line may begin
 abbrev pub has_room : TurnLoop → Bool

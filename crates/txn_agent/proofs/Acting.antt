@@ -35,13 +35,14 @@ use Rattle.txn_agent.specs.declared.work.Carried.{Carried}
 use Rattle.txn_agent.specs.declared.work.Work.{Work}
 use Rattle.txn_agent.specs.declared.agent.Advanced.TheVariants as came
 use Rattle.txn_agent.specs.Working.{IsEffectOf}
+use Rattle.txn_agent.specs.Replies.{is_done}
 use Rattle.txn_agent.specs.Linked.{IfOwn, IsPaused, IsWaiting, IsOver, IsBarred, KnowsPaused, KnowsWaiting}
 use Rattle.txn_agent.specs.Stepping.{Acts, AnswerSays, Puts}
 use Rattle.txn_agent.proofs.Trails.{missing-unit, next-own, unit-wants}
 use Rattle.txn_agent.proofs.Shaped.{going-back}
 use Rattle.txn_agent.proofs.Others.{ends-as, paused-on, waiting-on, over-on, stopped-on, paused-as, sound-event}
 use Rattle.txn_agent.proofs.Beginning.{began-waiting}
-use Rattle.txn_agent.proofs.Ending.{is_began, is_done, is_granted, missed, over-refused, over-finished, over-ended}
+use Rattle.txn_agent.proofs.Ending.{is_began, is_granted, missed, over-refused, over-finished, over-ended}
 use Rattle.txn_agent.proofs.Possible.{due-grant, due-refuse, due-begin, due-finished, due-ended, can-begin, can-finished, can-ended}
 
 -- ---- what is known, as more is seen

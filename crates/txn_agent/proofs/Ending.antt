@@ -34,16 +34,12 @@ use Rattle.turn_rules.proofs.Growth.{ends-more}
 use Rattle.worker_rules.specs.Stories.{is_load}
 use Rattle.txn_agent.specs.declared.work.Carried.{Carried}
 use Rattle.txn_agent.specs.declared.work.Work.{Work}
+use Rattle.txn_agent.specs.Replies.{is_done}
 use Rattle.txn_agent.specs.Linked.{IsPaused, IsOver, IsBarred}
 use Rattle.txn_agent.specs.Stepping.{HasNoEventLeft, all_but}
 use Rattle.txn_agent.proofs.Others.{sound-event}
 
 -- ---- the reply
-
--- the event was done
-abbrev pub is_done : CoreReply → Bool
-is_done reply.Done = true
-is_done _ = false
 
 -- the unit began
 abbrev pub is_began : CoreReply → Bool

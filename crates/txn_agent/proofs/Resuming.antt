@@ -43,7 +43,8 @@ use Rattle.txn_agent.proofs.Trails.{answers-last, exclusive-last, first-answer, 
 use Rattle.txn_agent.proofs.Lowest.{first_grain-none, first_grain-some}
 use Rattle.txn_agent.proofs.Others.{paused-on, over-on, over-as}
 use Rattle.txn_agent.proofs.Locking.{first-linked, again-linked, no-lock-alone}
-use Rattle.txn_agent.proofs.Ending.{is_done, missed, done-applied, over-released, has-ended-over}
+use Rattle.txn_agent.specs.Replies.{is_done}
+use Rattle.txn_agent.proofs.Ending.{missed, done-applied, over-released, has-ended-over}
 use Rattle.txn_agent.proofs.Acting.{waiting-looks, over-there}
 
 -- ---- the machine goes on

@@ -1,3 +1,4 @@
+pub mod Replies
 pub mod Working
 pub mod Linked
 pub mod Stepping

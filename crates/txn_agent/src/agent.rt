@@ -146,6 +146,13 @@ impl Agent {
         }
     }
 
+    // What the unit does from now on.
+    fn go_on(&mut self, doing: Doing)
+        ensures { self.new ≡ record self.old { doing = doing } }
+    {
+        self.doing = doing;
+    }
+
     // Does what `ready` says, also where the script waits for no child. It stands apart since room for what a script is at is cleared
     // wherever this is entered, which costs more than a look at an agent that waits for none.
     #[inline(never)]
@@ -167,7 +174,8 @@ impl Agent {
         ensures knows { IfOk result (λ _. Knows (program_tree checked.now) (A.sight access.new) self.new) }
     {
         let doing = mem::replace(&mut self.doing, Doing::Stopped);
-        self.doing = hear_child(alloc, checked, access, self.carried, doing)?;
+        let doing = hear_child(alloc, checked, access, self.carried, doing)?;
+        self.go_on(doing);
         Ok(())
     }
 
@@ -233,7 +241,7 @@ impl Agent {
     {
         let doing = mem::replace(&mut self.doing, Doing::Stopped);
         let (doing, advanced) = step(alloc, checked, access, self.carried, doing)?;
-        self.doing = doing;
+        self.go_on(doing);
         Ok(advanced)
     }
 }

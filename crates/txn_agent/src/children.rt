@@ -7,11 +7,11 @@ ghost use Rattle.txn_agent.specs.Stepping.{Acts, AnswerSays, Hears, children_of}
 
 use crate::agent::Advanced;
 use crate::looks::known_of;
-use crate::puts::put;
+use crate::puts::put_begin;
 use crate::work::{Carried, Doing, Work};
 use base_types::{Call, Origin, UnitNo};
 use core_access::Access;
-use core_model::{CoreEvent, CoreReply, KnownOutcome};
+use core_model::KnownOutcome;
 use script_check::Checked;
 use script_machine::{Input, Pause};
 use std::alloc::{AllocError, Global};
@@ -65,20 +65,14 @@ pub fn begin_child<A: Access>(
     let index = work.kids;
     let begun = index + 1;
     let asked = call.copy()?;
-    let reply = put(
-        access,
-        CoreEvent::Begin {
-            origin: Origin::Child {
-                parent: carried.unit,
-                index,
-                depth,
-            },
-            call,
-            plain: false,
-        },
-    )?;
-    match reply {
-        CoreReply::Began { unit: child } => {
+    let origin = Origin::Child {
+        parent: carried.unit,
+        index,
+        depth,
+    };
+    let begun_as = put_begin(access, origin, call)?;
+    match begun_as {
+        Some(child) => {
             let mut work = work;
             work.kids = begun;
             return Ok((
@@ -90,7 +84,7 @@ pub fn begin_child<A: Access>(
                 },
             ));
         }
-        _ => {
+        None => {
             let pause = Pause::NeedUnit { call: asked, depth };
             return Ok((Doing::Asks { work, pause }, Advanced::Moved));
         }

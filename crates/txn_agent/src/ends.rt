@@ -13,11 +13,11 @@ ghost use Rattle.txn_agent.specs.Linked.{KnowsPaused, KnowsDoing};
 ghost use Rattle.txn_agent.specs.Stepping.{Acts, AnswerSays, all_but};
 
 use crate::agent::Advanced;
-use crate::puts::put;
+use crate::puts::{put_end, put_finish, put_release};
 use crate::work::{Carried, Doing, Work};
 use base_types::{GrainId, List, Outcome, State, UnitNo};
 use core_access::Access;
-use core_model::{CoreEvent, CoreReply, Effect, Read};
+use core_model::{Effect, Read};
 use script_check::Checked;
 use script_machine::Parts;
 use std::alloc::{AllocError, Global};
@@ -102,17 +102,11 @@ pub fn finish<A: Access>(
     ensures doing { IfOk result (λ made. KnowsDoing (program_tree checked.now) (A.sight access.new) carried made.0) }
 {
     let (effect, held) = effect_of(alloc, carried, work)?;
-    let reply = put(
-        access,
-        CoreEvent::Finish {
-            unit: carried.unit,
-            effect,
-        },
-    )?;
-    match reply {
-        CoreReply::Done => Ok((Doing::Frees { held }, Advanced::Moved)),
-        _ => Ok((Doing::Stopped, Advanced::Moved)),
+    let done = put_finish(access, carried.unit, effect)?;
+    if done {
+        return Ok((Doing::Frees { held }, Advanced::Moved));
     }
+    Ok((Doing::Stopped, Advanced::Moved))
 }
 
 /// Ends a plain run. Then its locks are to be given back, of which it has none.
@@ -135,17 +129,11 @@ pub fn end_plain<A: Access>(
     ensures doing { IfOk result (λ made. KnowsDoing (program_tree checked.now) (A.sight access.new) carried made.0) }
 {
     let (effect, held) = effect_of(alloc, carried, work)?;
-    let reply = put(
-        access,
-        CoreEvent::EndPlain {
-            unit: carried.unit,
-            effect,
-        },
-    )?;
-    match reply {
-        CoreReply::Done => Ok((Doing::Frees { held }, Advanced::Moved)),
-        _ => Ok((Doing::Stopped, Advanced::Moved)),
+    let done = put_end(access, carried.unit, effect)?;
+    if done {
+        return Ok((Doing::Frees { held }, Advanced::Moved));
     }
+    Ok((Doing::Stopped, Advanced::Moved))
 }
 
 /// Whether a grain comes before another.
@@ -216,18 +204,10 @@ pub fn release<A: Access>(
     let Some(grain) = lowest(held.as_slice()) else {
         return Ok((Doing::Frees { held }, Advanced::Ended));
     };
-    let reply = put(
-        access,
-        CoreEvent::Release {
-            unit: carried.unit,
-            grain,
-        },
-    )?;
-    match reply {
-        CoreReply::Done => {
-            let held = leave(held, grain);
-            return Ok((Doing::Frees { held }, Advanced::Moved));
-        }
-        _ => return Ok((Doing::Frees { held }, Advanced::Moved)),
+    let done = put_release(access, carried.unit, grain)?;
+    if done {
+        let held = leave(held, grain);
+        return Ok((Doing::Frees { held }, Advanced::Moved));
     }
+    Ok((Doing::Frees { held }, Advanced::Moved))
 }

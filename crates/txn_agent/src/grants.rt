@@ -10,11 +10,10 @@ ghost use Rattle.txn_agent.specs.Linked.{KnowsPaused, KnowsDoing};
 ghost use Rattle.txn_agent.specs.Stepping.{Acts, AnswerSays};
 
 use crate::agent::Advanced;
-use crate::puts::put;
+use crate::puts::put_grant;
 use crate::work::{Carried, Doing, Work};
 use base_types::{GrainId, Mode};
 use core_access::Access;
-use core_model::{CoreEvent, CoreReply};
 use script_check::Checked;
 use script_machine::{Input, Pause};
 use std::alloc::{AllocError, Global};
@@ -40,16 +39,9 @@ pub fn grant_first<A: Access>(
     ensures told { IfOk result (λ made. AnswerSays A.may_come (program_tree checked.now) carried.unit work.kids (A.sight access.old) (A.sight access.new) made.1) }
     ensures doing { IfOk result (λ made. KnowsDoing (program_tree checked.now) (A.sight access.new) carried made.0) }
 {
-    let reply = put(
-        access,
-        CoreEvent::Grant {
-            unit: carried.unit,
-            grain,
-            mode,
-        },
-    )?;
-    match reply {
-        CoreReply::Granted { state, source } => {
+    let granted = put_grant(access, carried.unit, grain, mode)?;
+    match granted {
+        Some((state, source)) => {
             let locked = work.with_lock(grain, source)?;
             let (work, pause) = locked.resume(alloc, checked, Input::Grain { state })?;
             Ok((
@@ -57,7 +49,7 @@ pub fn grant_first<A: Access>(
                 Advanced::Granted { grain, source },
             ))
         }
-        _ => {
+        None => {
             let pause = Pause::NeedGrain { grain, mode };
             Ok((Doing::Asks { work, pause }, Advanced::Moved))
         }
@@ -85,26 +77,16 @@ pub fn grant_again<A: Access>(
     ensures told { IfOk result (λ made. AnswerSays A.may_come (program_tree checked.now) carried.unit work.kids (A.sight access.old) (A.sight access.new) made.1) }
     ensures doing { IfOk result (λ made. KnowsDoing (program_tree checked.now) (A.sight access.new) carried made.0) }
 {
-    let reply = put(
-        access,
-        CoreEvent::Grant {
-            unit: carried.unit,
-            grain,
-            mode,
-        },
-    )?;
-    match reply {
-        CoreReply::Granted {
-            state: _state,
-            source,
-        } => {
+    let granted = put_grant(access, carried.unit, grain, mode)?;
+    match granted {
+        Some((_state, source)) => {
             let (work, pause) = work.resume(alloc, checked, Input::Held)?;
             Ok((
                 Doing::Asks { work, pause },
                 Advanced::Granted { grain, source },
             ))
         }
-        _ => {
+        None => {
             let pause = Pause::NeedGrain { grain, mode };
             Ok((Doing::Asks { work, pause }, Advanced::Moved))
         }

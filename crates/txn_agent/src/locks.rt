@@ -11,11 +11,11 @@ ghost use Rattle.txn_agent.specs.Stepping.{Acts, AnswerSays};
 use crate::agent::Advanced;
 use crate::grants::{grant_again, grant_first};
 use crate::looks::ask_for;
-use crate::puts::put;
+use crate::puts::put_refuse;
 use crate::work::{Carried, Doing, Work};
 use base_types::{GrainId, Mode};
 use core_access::Access;
-use core_model::{AskAnswer, CoreEvent, CoreReply};
+use core_model::AskAnswer;
 use script_check::Checked;
 use script_machine::Pause;
 use std::alloc::{AllocError, Global};
@@ -39,21 +39,12 @@ fn refuse<A: Access>(
     ensures told { IfOk result (λ made. AnswerSays A.may_come (program_tree checked.now) carried.unit work.kids (A.sight access.old) (A.sight access.new) made.1) }
     ensures doing { IfOk result (λ made. KnowsDoing (program_tree checked.now) (A.sight access.new) carried made.0) }
 {
-    let reply = put(
-        access,
-        CoreEvent::Refuse {
-            unit: carried.unit,
-            grain,
-            mode,
-        },
-    )?;
-    match reply {
-        CoreReply::Done => Ok((Doing::Frees { held: work.held }, Advanced::Moved)),
-        _ => {
-            let pause = Pause::NeedGrain { grain, mode };
-            Ok((Doing::Asks { work, pause }, Advanced::Moved))
-        }
+    let done = put_refuse(access, carried.unit, grain, mode)?;
+    if done {
+        return Ok((Doing::Frees { held: work.held }, Advanced::Moved));
     }
+    let pause = Pause::NeedGrain { grain, mode };
+    Ok((Doing::Asks { work, pause }, Advanced::Moved))
 }
 
 /// Asks for a grain: locks it where it is free, and refuses it where the unit must die or has read what is gone.
@@ -75,7 +66,7 @@ pub fn take_grain<A: Access>(
     ensures told { IfOk result (λ made. AnswerSays A.may_come (program_tree checked.now) carried.unit work.kids (A.sight access.old) (A.sight access.new) made.1) }
     ensures doing { IfOk result (λ made. KnowsDoing (program_tree checked.now) (A.sight access.new) carried made.0) }
 {
-    match ask_for(access, carried.unit, grain, mode)? {
+    match ask_for(access, carried.unit, grain, mode) {
         AskAnswer::Free => {
             if work.machine.is_raise() {
                 return grant_again(alloc, checked, access, carried, work, grain, mode);

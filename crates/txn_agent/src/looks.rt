@@ -9,8 +9,7 @@ use core_access::Access;
 use core_model::{AskAnswer, CoreAnswer, CoreQuestion, KnownOutcome};
 use std::alloc::AllocError;
 
-/// What the core answers to the unit that asks for a lock. It takes no memory.
-pub fn ask_for<A: Access>(
+fn lock_answer<A: Access>(
     access: &mut A,
     unit: UnitNo,
     grain: GrainId,
@@ -26,6 +25,20 @@ pub fn ask_for<A: Access>(
     match access.see(&CoreQuestion::Ask { unit, grain, mode })? {
         CoreAnswer::Ask(answer) => Ok(answer),
         _ => unreachable!(),
+    }
+}
+
+/// What the core answers to the unit that asks for a lock. It takes no memory.
+pub fn ask_for<A: Access>(access: &mut A, unit: UnitNo, grain: GrainId, mode: Mode) -> AskAnswer
+    requires fit { A.is_fit access.old }
+    ensures fit { A.is_fit access.new }
+    ensures aside { A.aside access.new ≡ A.aside access.old }
+    ensures looked { Looks A.may_come (A.sight access.old) (A.sight access.new) }
+    ensures answer { result ≡ ask_answer (ends (run_seen (A.sight access.new))) unit grain mode }
+{
+    match lock_answer(access, unit, grain, mode) {
+        Ok(answer) => answer,
+        Err(_) => unreachable!(),
     }
 }
 

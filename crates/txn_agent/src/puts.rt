@@ -1,14 +1,17 @@
 ghost use Rattle.std.specs.Prelude.{◌≡◌, false, IfOk, IfErr};
+ghost use Rattle.core_model.specs.declared.events.CoreEvent.TheVariants as event;
 ghost use Rattle.core_access.specs.Sights.{Looks, Tells, run_seen};
 ghost use Rattle.core_access.specs.Spared.{is_spared};
+ghost use Rattle.txn_agent.specs.Replies.{Says, began_by, granted_by, is_done};
 
+use base_types::{Call, GrainId, Mode, Origin, State, UnitNo};
 use core_access::Access;
-use core_model::{CoreEvent, CoreReply};
+use core_model::{CoreEvent, CoreReply, Effect};
 use std::alloc::AllocError;
 
 /// Puts an event, and answers the core's reply. Where there is no memory it wasn't put, which is never so of one that applies
 /// and has no need of room.
-pub fn put<A: Access>(access: &mut A, event: CoreEvent) -> Result<CoreReply, AllocError>
+fn put<A: Access>(access: &mut A, event: CoreEvent) -> Result<CoreReply, AllocError>
     requires fit { A.is_fit access.old }
     ensures fit { A.is_fit access.new }
     ensures aside { A.aside access.new ≡ A.aside access.old }
@@ -20,4 +23,167 @@ pub fn put<A: Access>(access: &mut A, event: CoreEvent) -> Result<CoreReply, All
         Ok(reply) => Ok(reply),
         Err(_) => Err(AllocError),
     }
+}
+
+/// Whether the reply says that the event was done.
+fn is_done(reply: CoreReply) -> bool
+    ensures { result ≡ is_done reply }
+{
+    match reply {
+        CoreReply::Done => true,
+        CoreReply::Unapplied => false,
+        CoreReply::Began { .. } => false,
+        CoreReply::Granted { .. } => false,
+        CoreReply::NotGranted(_) => false,
+        CoreReply::Doomed { .. } => false,
+        CoreReply::NotActive => false,
+        CoreReply::NotLoaded => false,
+        CoreReply::Taken { .. } => false,
+        CoreReply::Decided { .. } => false,
+    }
+}
+
+/// The unit that began, by the reply.
+fn began(reply: CoreReply) -> Option<UnitNo>
+    ensures { result ≡ began_by reply }
+{
+    match reply {
+        CoreReply::Began { unit } => Some(unit),
+        CoreReply::Unapplied => None,
+        CoreReply::Done => None,
+        CoreReply::Granted { .. } => None,
+        CoreReply::NotGranted(_) => None,
+        CoreReply::Doomed { .. } => None,
+        CoreReply::NotActive => None,
+        CoreReply::NotLoaded => None,
+        CoreReply::Taken { .. } => None,
+        CoreReply::Decided { .. } => None,
+    }
+}
+
+/// The state that was found under the lock, and the unit whose version it is, by the reply.
+fn granted(reply: CoreReply) -> Option<(State, UnitNo)>
+    ensures { result ≡ granted_by reply }
+{
+    match reply {
+        CoreReply::Granted { state, source } => Some((state, source)),
+        CoreReply::Unapplied => None,
+        CoreReply::Done => None,
+        CoreReply::Began { .. } => None,
+        CoreReply::NotGranted(_) => None,
+        CoreReply::Doomed { .. } => None,
+        CoreReply::NotActive => None,
+        CoreReply::NotLoaded => None,
+        CoreReply::Taken { .. } => None,
+        CoreReply::Decided { .. } => None,
+    }
+}
+
+/// Puts an event, and answers whether it was done.
+fn put_done<A: Access>(access: &mut A, event: CoreEvent) -> Result<bool, AllocError>
+    requires fit { A.is_fit access.old }
+    ensures fit { A.is_fit access.new }
+    ensures aside { A.aside access.new ≡ A.aside access.old }
+    ensures said { IfOk result (λ said. Says A.may_come (A.sight access.old) (event) is_done said (A.sight access.new)) }
+    ensures looked { IfErr result (λ _. Looks A.may_come (A.sight access.old) (A.sight access.new)) }
+{
+    let reply = put(access, event)?;
+    Ok(is_done(reply))
+}
+
+/// Puts the begin of a child, and answers its number.
+pub fn put_begin<A: Access>(
+    access: &mut A,
+    origin: Origin,
+    call: Call,
+) -> Result<Option<UnitNo>, AllocError>
+    requires fit { A.is_fit access.old }
+    ensures fit { A.is_fit access.new }
+    ensures aside { A.aside access.new ≡ A.aside access.old }
+    ensures said { IfOk result (λ said. Says A.may_come (A.sight access.old) (event.Begin origin call false) began_by said (A.sight access.new)) }
+    ensures looked { IfErr result (λ _. Looks A.may_come (A.sight access.old) (A.sight access.new)) }
+{
+    let reply = put(
+        access,
+        CoreEvent::Begin {
+            origin,
+            call,
+            plain: false,
+        },
+    )?;
+    Ok(began(reply))
+}
+
+/// Puts the grant of a lock, and answers what was found under it.
+pub fn put_grant<A: Access>(
+    access: &mut A,
+    unit: UnitNo,
+    grain: GrainId,
+    mode: Mode,
+) -> Result<Option<(State, UnitNo)>, AllocError>
+    requires fit { A.is_fit access.old }
+    ensures fit { A.is_fit access.new }
+    ensures aside { A.aside access.new ≡ A.aside access.old }
+    ensures said { IfOk result (λ said. Says A.may_come (A.sight access.old) (event.Grant unit grain mode) granted_by said (A.sight access.new)) }
+    ensures looked { IfErr result (λ _. Looks A.may_come (A.sight access.old) (A.sight access.new)) }
+{
+    let reply = put(access, CoreEvent::Grant { unit, grain, mode })?;
+    Ok(granted(reply))
+}
+
+/// Puts the refusal of a lock, and answers whether it was done.
+pub fn put_refuse<A: Access>(
+    access: &mut A,
+    unit: UnitNo,
+    grain: GrainId,
+    mode: Mode,
+) -> Result<bool, AllocError>
+    requires fit { A.is_fit access.old }
+    ensures fit { A.is_fit access.new }
+    ensures aside { A.aside access.new ≡ A.aside access.old }
+    ensures said { IfOk result (λ said. Says A.may_come (A.sight access.old) (event.Refuse unit grain mode) is_done said (A.sight access.new)) }
+    ensures looked { IfErr result (λ _. Looks A.may_come (A.sight access.old) (A.sight access.new)) }
+{
+    put_done(access, CoreEvent::Refuse { unit, grain, mode })
+}
+
+/// Puts the end of a transaction, and answers whether it was done.
+pub fn put_finish<A: Access>(
+    access: &mut A,
+    unit: UnitNo,
+    effect: Effect,
+) -> Result<bool, AllocError>
+    requires fit { A.is_fit access.old }
+    ensures fit { A.is_fit access.new }
+    ensures aside { A.aside access.new ≡ A.aside access.old }
+    ensures said { IfOk result (λ said. Says A.may_come (A.sight access.old) (event.Finish unit effect) is_done said (A.sight access.new)) }
+    ensures looked { IfErr result (λ _. Looks A.may_come (A.sight access.old) (A.sight access.new)) }
+{
+    put_done(access, CoreEvent::Finish { unit, effect })
+}
+
+/// Puts the end of a plain run, and answers whether it was done.
+pub fn put_end<A: Access>(access: &mut A, unit: UnitNo, effect: Effect) -> Result<bool, AllocError>
+    requires fit { A.is_fit access.old }
+    ensures fit { A.is_fit access.new }
+    ensures aside { A.aside access.new ≡ A.aside access.old }
+    ensures said { IfOk result (λ said. Says A.may_come (A.sight access.old) (event.EndPlain unit effect) is_done said (A.sight access.new)) }
+    ensures looked { IfErr result (λ _. Looks A.may_come (A.sight access.old) (A.sight access.new)) }
+{
+    put_done(access, CoreEvent::EndPlain { unit, effect })
+}
+
+/// Puts the giving back of a lock, and answers whether it was done.
+pub fn put_release<A: Access>(
+    access: &mut A,
+    unit: UnitNo,
+    grain: GrainId,
+) -> Result<bool, AllocError>
+    requires fit { A.is_fit access.old }
+    ensures fit { A.is_fit access.new }
+    ensures aside { A.aside access.new ≡ A.aside access.old }
+    ensures said { IfOk result (λ said. Says A.may_come (A.sight access.old) (event.Release unit grain) is_done said (A.sight access.new)) }
+    ensures looked { IfErr result (λ _. Looks A.may_come (A.sight access.old) (A.sight access.new)) }
+{
+    put_done(access, CoreEvent::Release { unit, grain })
 }

@@ -140,7 +140,7 @@ pub fn moves_now<A: Access>(
     match doing {
         Doing::Asks { pause, .. } => match pause {
             Pause::NeedGrain { grain, mode } => {
-                let answer = ask_for(access, carried.unit, *grain, *mode)?;
+                let answer = ask_for(access, carried.unit, *grain, *mode);
                 return Ok(!must_wait(answer));
             }
             Pause::NeedUnit { .. } => return Ok(true),

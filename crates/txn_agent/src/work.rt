@@ -1,4 +1,4 @@
-ghost use Rattle.std.specs.Prelude.{◌≡◌, [], ◌∷◌, ◌++◌, IfOk};
+ghost use Rattle.std.specs.Prelude.{◌≡◌, [], ◌∷◌, ◌++◌, IfOk, OnOk};
 ghost use Rattle.script_tree.specs.Programs.{program_tree};
 ghost use Rattle.script_machine.specs.Machines.{Fits};
 ghost use Rattle.txn_agent.specs.Working.{HasResumed};
@@ -27,14 +27,28 @@ pub struct Work {
     pub kids: u32,
 }
 
+// A grain more with its source.
+fn note(
+    held: &mut List<GrainId>,
+    sources: &mut List<UnitNo>,
+    grain: GrainId,
+    source: UnitNo,
+) -> Result<(), AllocError>
+    ensures held { OnOk result (held.new ≡ held.old ++ grain ∷ []) }
+    ensures sources { OnOk result (sources.new ≡ sources.old ++ source ∷ []) }
+{
+    held.push(grain)?;
+    sources.push(source)?;
+    Ok(())
+}
+
 impl Work {
     /// Notes a grain that the unit locked for the first time, and whose version it found there.
     pub fn with_lock(self, grain: GrainId, source: UnitNo) -> Result<Work, AllocError>
         ensures { IfOk result (λ work. work ≡ record self { held = self.held ++ grain ∷ []; sources = self.sources ++ source ∷ [] }) }
     {
         let mut work = self;
-        work.held.push(grain)?;
-        work.sources.push(source)?;
+        note(&mut work.held, &mut work.sources, grain, source)?;
         Ok(work)
     }
 

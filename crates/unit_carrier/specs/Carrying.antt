@@ -1,5 +1,5 @@
 -- The units that a run carries, what is known of them, and who of them moves.
-use Rattle.std.specs.Prelude.{◌≡◌, ◌<◌, ◌≤◌, ℕ, ⊤, Bool, List, [], ◌∷◌, ◌++◌, length, map, filter, slice_get, get_or, Some}
+use Rattle.std.specs.Prelude.{◌≡◌, ◌<◌, ◌≤◌, ℕ, ⊤, Bool, List, [], ◌∷◌, ◌++◌, length, map, filter, slice_get, get_or, take, true, Some}
 use Rattle.std.specs.List.{AllByRecursion}
 use Rattle.base_types.specs.declared.calls.Call.{Call}
 use Rattle.base_types.specs.declared.calls.Origin.{Origin}
@@ -18,7 +18,7 @@ use Rattle.txn_agent.specs.declared.agent.Advanced.TheVariants as advanced
 use Rattle.txn_agent.specs.declared.agent.Agent.{Agent}
 use Rattle.txn_agent.specs.declared.work.Carried.{Carried}
 use Rattle.txn_agent.specs.Linked.{IfOwn, IsLegalRun, IsNew, Knows}
-use Rattle.txn_agent.specs.Stepping.{AnswerSays}
+use Rattle.txn_agent.specs.Stepping.{AnswerSays, has_freed_all}
 use Rattle.unit_carrier.specs.declared.agents.Found.{Found}
 use Rattle.unit_carrier.specs.declared.agents.Found.TheVariants.{At, Few}
 use Rattle.unit_carrier.specs.declared.agents.Went.{Went}
@@ -55,6 +55,10 @@ pub record AreCarried (types : ProgramTree) (may_come : CoreEvent → Bool) (s :
   pub came : AllByRecursion (CameAs s) agents
   pub older : AreOlder (units_carried agents)
   pub below : (u : UnitNo) → Member u (units_carried agents) → u.0 < (ends (run_seen s)).units.next
+
+-- so many of the agents, from the first on, are of units that are over and have given back all their locks
+abbrev pub AreFreed : ℕ → List Agent → Type 0
+AreFreed count agents = AllByRecursion (λ (a : Agent). has_freed_all a.doing ≡ true) (take count agents)
 
 -- those of these units that can move
 abbrev pub moving : ProgramTree → Run → List UnitNo → List UnitNo

@@ -1,10 +1,10 @@
-ghost use Rattle.std.specs.Prelude.{◌≡◌, ◌<◌, [], length, IfOk};
+ghost use Rattle.std.specs.Prelude.{◌≡◌, ◌<◌, ◌≤◌, ℕ, [], length, IfOk};
 ghost use Rattle.core_model.specs.Asked.{IsGoing};
 ghost use Rattle.core_model.specs.Legal.{ends};
 ghost use Rattle.core_access.specs.Sights.{run_seen};
 ghost use Rattle.script_tree.specs.Programs.{program_tree};
 ghost use Rattle.txn_agent.specs.Stepping.{Acts};
-ghost use Rattle.unit_carrier.specs.Carrying.{AreCarried, CarriesOneMore, FindsMover, FindsWithin, StepsOn, as_carried, units_carried, unit_at};
+ghost use Rattle.unit_carrier.specs.Carrying.{AreCarried, AreFreed, CarriesOneMore, FindsMover, FindsWithin, StepsOn, as_carried, units_carried, unit_at};
 
 use crate::moves::can_move_now;
 use base_types::{Call, GrainId, Origin, UnitNo};
@@ -51,26 +51,43 @@ impl Agents {
         }
     }
 
-    /// The mover of this place, counted from 0, among the units that are carried.
+    /// How many of the units, from the first on, are known to be over and to have given back all their locks, where so many are
+    /// known to be. Looks at those behind them alone, as far as the first that isn't so.
+    pub fn freed_front(&self, known: usize) -> usize
+        requires known { AreFreed known self.now.list.items }
+        ensures freed { AreFreed result self.now.list.items }
+    {
+        let mut front = known;
+        while front < self.list.len() && self.list[front].has_freed_all() {
+            front += 1;
+        }
+        front
+    }
+
+    /// The mover of this place, counted from 0, among the units that are carried. The first `front` of them are over and have given back
+    /// all their locks: they aren't looked at.
     pub fn find<A: Access>(
         &mut self,
         alloc: Global,
         checked: &Checked,
         access: &mut A,
+        front: usize,
         place: usize,
     ) -> Result<Found, AllocError>
         requires fit { A.is_fit access.old }
         requires carried { AreCarried (program_tree checked.now) A.may_come (A.sight access.old) self.old.list.items }
+        requires freed { AreFreed front self.old.list.items }
         ensures fit { A.is_fit access.new }
         ensures aside { A.aside access.new ≡ A.aside access.old }
         ensures same { A.sight access.new ≡ A.sight access.old }
         ensures carried { IfOk result (λ _. AreCarried (program_tree checked.now) A.may_come (A.sight access.new) self.new.list.items) }
         ensures units { IfOk result (λ _. as_carried self.new.list.items ≡ as_carried self.old.list.items) }
         ensures within { IfOk result (λ found. FindsWithin found (length self.old.list.items)) }
+        ensures freed { IfOk result (λ _. AreFreed front self.new.list.items) }
         ensures found { IsGoing (ends (run_seen (A.sight access.old))) → IfOk result (λ found. FindsMover (program_tree checked.now) (run_seen (A.sight access.old)) (units_carried self.old.list.items) place found) }
     {
         let mut movers = 0usize;
-        for index in 0..self.list.len() {
+        for index in front..self.list.len() {
             if can_move_now(alloc, checked, access, &mut self.list[index])? {
                 if movers == place {
                     return Ok(Found::At(index));
@@ -114,6 +131,7 @@ impl Agents {
         ensures acts { Acts A.may_come (program_tree checked.now) (unit_at self.old.list.items index) (A.sight access.old) (A.sight access.new) }
         ensures steps { IfOk result (λ went. StepsOn A.may_come (program_tree checked.now) (unit_at self.old.list.items index) (A.sight access.old) (A.sight access.new) (units_carried self.old.list.items) (units_carried self.new.list.items) went) }
         ensures carried { IfOk result (λ _. AreCarried (program_tree checked.now) A.may_come (A.sight access.new) self.new.list.items) }
+        ensures freed { (front : ℕ) → front ≤ index → AreFreed front self.old.list.items → IfOk result (λ _. AreFreed front self.new.list.items) }
     {
         let agent = &mut self.list[index];
         let unit = agent.unit();

@@ -62,6 +62,32 @@ fn each_place_of_an_input_has_its_line_whatever_was_asked_before(
     Ok(())
 }
 
+/// The lines of a short input behind those of others.
+fn lines_behind<'a>(
+    checked: &'a Checked,
+    before: u32,
+    input: &'a [u8],
+) -> Result<InputLines<'a>, Fail> {
+    if input.len() > 1000 || before > 1_000_000 {
+        return Err("too long".into());
+    }
+    Ok(InputLines::new_behind(checked, before, input))
+}
+
+#[test]
+fn lines_are_numbered_behind_those_of_the_inputs_before(rt: HostRuntime) -> Result<(), Fail> {
+    let alloc = rt.alloc();
+    let counter = program_of(alloc, COUNTER)?;
+    let mut lines = lines_behind(&counter, 4096, INPUT.as_bytes())?;
+    let last = found(alloc, &mut lines, 3)?;
+    let first = found(alloc, &mut lines, 0)?;
+    let none = found(alloc, &mut lines, 4)?;
+    assert!(rt; last == (4100, Some(BadRequest::Json)));
+    assert!(rt; first == (4097, None));
+    assert!(rt; none == (0, None));
+    Ok(())
+}
+
 #[test]
 fn a_copy_goes_on_by_itself_and_may_be_shared(rt: HostRuntime) -> Result<(), Fail> {
     let alloc = rt.alloc();

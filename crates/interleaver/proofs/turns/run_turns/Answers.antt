@@ -1,4 +1,4 @@
-use Rattle.std.proofs.Common.{◌≡◌, ◌+◌, ℕ, List, [], Bool, true, Result, Ok, Err, refl, sym, ap, ◌∙◌, subst}
+use Rattle.std.proofs.Common.{◌≡◌, ◌+◌, ℕ, List, [], Bool, true, Result, Ok, Err, refl, sym, ap, ◌∙◌, subst, arith}
 use Rattle.std.proofs.lemmas.Result.{err_from_is_err_and}
 use Rattle.core_access.specs.OneHolder.{none_comes, own_sight}
 use Rattle.history_core.specs.Cores.{run_of}
@@ -12,7 +12,7 @@ use Rattle.run_books.specs.declared.faults.RunFault.TheVariants.{Memory}
 use Rattle.run_books.specs.Beside.{TurnsBeside}
 use Rattle.interleaver.specs.UnderWay.{TurnStage, WentOn, stage_of}
 use Rattle.run_books.proofs.Leaving.{one-after-another, beside-fault, beside-well}
-use Rattle.interleaver.proofs.Onward.{on-after, done-after, fault-after, out-then, nothing-beside, at-once, nothing-went}
+use Rattle.interleaver.proofs.Onward.{on-after, done-after, picks-after, fault-after, out-then, nothing-beside, at-once, nothing-went}
 use Rattle.interleaver.proofs.Starting.{start}
 use Rattle.interleaver.proofs.turns.run_turns.Goals as goal
 
@@ -20,7 +20,7 @@ pub returns-in_err-shape-clause-record_kept : goal.returns-in_err-shape-clause-r
 returns-in_err-shape-clause-record_kept g c = λ o b is can fresh kept.
     let p = err_from_is_err_and c.from_residual.result c.from_residual.ensures.1 in
     let out : c.from_residual.result ≡ Err Memory = p.1 ∙ ap Err p.2 in
-    rw out (at-once g.H.Host.tells o b (run_of c.args.core.now) c.args.settler.now (g.H.Host.faults c.args.host.now) (g.H.Host.world c.args.host.now) fresh kept)
+    rw out (at-once g.H.Host.tells o b c.args.used.now (run_of c.args.core.now) c.args.settler.now (g.H.Host.faults c.args.host.now) (g.H.Host.world c.args.host.now) fresh kept)
 
 pub returns-in_err-shape-clause-beside : goal.returns-in_err-shape-clause-beside
 returns-in_err-shape-clause-beside g c =
@@ -31,18 +31,20 @@ loop-turn-init g c = record {
   carried = subst (λ (l : List Agent). AreCarried (program_tree c.args.checked.now) none_comes (own_sight (run_of c.args.core.now)) l) (sym c.new.ensures)
       (none-carried (program_tree c.args.checked.now) (run_of c.args.core.now) c.requires.legal c.requires.loads);
   looked = tt;
+  freed = tt;
   shape = c.in_ok-shape.ensures;
-  turns = refl;
+  turns = omega arith;
+  unused = refl;
   lines = refl;
   bounds = c.requires.bounds;
   fits = c.requires.fits;
   ready = λ file was. was;
   beside = nothing-beside g.H.Host.tells (run_of c.args.core.now) c.args.settler.now (g.H.Host.faults c.args.host.now) (g.H.Host.world c.args.host.now);
   went = λ o b is can fresh kept.
-      let from : TurnStage = (record { run = run_of c.args.core.now; settler = c.args.settler.now; counts = g.H.Host.faults c.args.host.now; world = g.H.Host.world c.args.host.now; agents = []; begun = 0; used = 0 }) in
+      let from : TurnStage = (record { run = run_of c.args.core.now; settler = c.args.settler.now; counts = g.H.Host.faults c.args.host.now; world = g.H.Host.world c.args.host.now; agents = []; begun = 0; used = c.args.used.now }) in
       subst (λ (l : List Agent). WentOn g.H.Host.tells o (program_tree c.args.checked.now) (g.L.Lines.lines c.args.lines.now) c.args.width c.args.turns.now b from (record from { agents = l })) (sym c.new.ensures)
       (nothing-went g.H.Host.tells o (program_tree c.args.checked.now) (g.L.Lines.lines c.args.lines.now) c.args.width c.args.turns.now b from
-      (start g.H.Host.tells o (program_tree c.args.checked.now) (g.L.Lines.lines c.args.lines.now) c.args.width c.args.turns.now b (run_of c.args.core.now) c.args.settler.now (g.H.Host.faults c.args.host.now) (g.H.Host.world c.args.host.now)
+      (start g.H.Host.tells o (program_tree c.args.checked.now) (g.L.Lines.lines c.args.lines.now) c.args.width c.args.turns.now b c.args.used.now (run_of c.args.core.now) c.args.settler.now (g.H.Host.faults c.args.host.now) (g.H.Host.world c.args.host.now)
       is can fresh kept c.program-program.ensures.checked c.show_few.ensures));
 }
 
@@ -50,11 +52,16 @@ pub returns-in_err-turn-clause-record_kept : goal.returns-in_err-turn-clause-rec
 returns-in_err-turn-clause-record_kept g c = λ o b is can fresh kept.
     let p = err_from_is_err_and c.from_residual-in_err-turn.result c.from_residual-in_err-turn.ensures.1 in
     rw p.1 (fault-after g.H.Host.tells o (program_tree c.args.checked.now) (g.L.Lines.lines c.args.lines.now) (g.L.Lines.lines c.loop-turn.lines) c.args.width c.args.turns.now c.as_slice.result.now b
-    (record { run = run_of c.args.core.now; settler = c.args.settler.now; counts = g.H.Host.faults c.args.host.now; world = g.H.Host.world c.args.host.now; agents = []; begun = 0; used = 0 })
+    (record { run = run_of c.args.core.now; settler = c.args.settler.now; counts = g.H.Host.faults c.args.host.now; world = g.H.Host.world c.args.host.now; agents = []; begun = 0; used = c.args.used.now })
     (stage_of (run_of c.loop-turn.core) c.loop-turn.settler (g.H.Host.faults c.loop-turn.host) (g.H.Host.world c.loop-turn.host) c.loop-turn.state)
     (stage_of (run_of c.turn.new.core) c.turn.new.settler (g.H.Host.faults c.turn.new.host) (g.H.Host.world c.turn.new.host) c.turn.new.self)
     c.loop-turn.invariant.lines c.as_slice.ensures (c.loop-turn.invariant.went o b is can fresh kept) c.turn.result (c.turn.ensures.turns o)
     p.0 (c.in_err-turn.was ∙ ap Err (sym p.2)))
+
+pub returns-in_err-turn-clause-unused : goal.returns-in_err-turn-clause-unused
+returns-in_err-turn-clause-unused g c =
+    let p = err_from_is_err_and c.from_residual-in_err-turn.result c.from_residual-in_err-turn.ensures.1 in
+    rw p.1 c.loop-turn.invariant.unused
 
 pub returns-in_err-turn-clause-beside : goal.returns-in_err-turn-clause-beside
 returns-in_err-turn-clause-beside g c =
@@ -67,11 +74,20 @@ returns-in_err-turn-clause-beside g c =
 pub returns-then-not-branch-clause-record_kept : goal.returns-then-not-branch-clause-record_kept
 returns-then-not-branch-clause-record_kept g c = λ o b is can fresh kept.
     done-after g.H.Host.tells o (program_tree c.args.checked.now) (g.L.Lines.lines c.args.lines.now) (g.L.Lines.lines c.loop-turn.lines) c.args.width c.args.turns.now c.as_slice.result.now b
-    (record { run = run_of c.args.core.now; settler = c.args.settler.now; counts = g.H.Host.faults c.args.host.now; world = g.H.Host.world c.args.host.now; agents = []; begun = 0; used = 0 })
+    (record { run = run_of c.args.core.now; settler = c.args.settler.now; counts = g.H.Host.faults c.args.host.now; world = g.H.Host.world c.args.host.now; agents = []; begun = 0; used = c.args.used.now })
     (stage_of (run_of c.loop-turn.core) c.loop-turn.settler (g.H.Host.faults c.loop-turn.host) (g.H.Host.world c.loop-turn.host) c.loop-turn.state)
     (stage_of (run_of c.turn.new.core) c.turn.new.settler (g.H.Host.faults c.turn.new.host) (g.H.Host.world c.turn.new.host) c.turn.new.self)
     c.loop-turn.invariant.lines c.as_slice.ensures (c.loop-turn.invariant.went o b is can fresh kept) c.turn.result (c.turn.ensures.turns o)
     tt (c.in_ok-turn.was ∙ ap Ok c.if-not-branch.true)
+
+pub returns-then-not-branch-clause-used : goal.returns-then-not-branch-clause-used
+returns-then-not-branch-clause-used g c = λ o b is can fresh kept ruled.
+    picks-after g.H.Host.tells o (program_tree c.args.checked.now) (g.L.Lines.lines c.args.lines.now) (g.L.Lines.lines c.loop-turn.lines) c.args.width c.args.turns.now c.as_slice.result.now b
+    (record { run = run_of c.args.core.now; settler = c.args.settler.now; counts = g.H.Host.faults c.args.host.now; world = g.H.Host.world c.args.host.now; agents = []; begun = 0; used = c.args.used.now })
+    (stage_of (run_of c.loop-turn.core) c.loop-turn.settler (g.H.Host.faults c.loop-turn.host) (g.H.Host.world c.loop-turn.host) c.loop-turn.state)
+    (stage_of (run_of c.turn.new.core) c.turn.new.settler (g.H.Host.faults c.turn.new.host) (g.H.Host.world c.turn.new.host) c.turn.new.self)
+    c.loop-turn.invariant.lines c.as_slice.ensures (c.loop-turn.invariant.went o b is can fresh kept) c.turn.result (c.turn.ensures.turns o)
+    (c.in_ok-turn.was ∙ ap Ok c.if-not-branch.true) ruled
 
 pub returns-then-not-branch-clause-beside : goal.returns-then-not-branch-clause-beside
 returns-then-not-branch-clause-beside g c =
@@ -84,8 +100,10 @@ pub loop-turn-preserved : goal.loop-turn-preserved
 loop-turn-preserved g c = record {
   carried = c.in_ok-turn.ensures.carried;
   looked = c.in_ok-turn.ensures.looked;
+  freed = c.in_ok-turn.ensures.freed;
   shape = ap (λ (x : Shape). x.types) c.turn.ensures.shape ∙ c.loop-turn.invariant.shape;
   turns = c.in_ok-turn.ensures.goes c.if-not-branch.false ∙ ap (λ (n : ℕ). n + 1) c.loop-turn.invariant.turns;
+  unused = c.loop-turn.invariant.unused;
   lines = c.turn.ensures.same ∙ c.loop-turn.invariant.lines;
   bounds = c.turn.ensures.bounds;
   fits = c.turn.ensures.fits;
@@ -96,7 +114,7 @@ loop-turn-preserved g c = record {
       (subst (λ (x : Result Bool RunFault). TurnsBeside g.H.Host.tells (run_of c.loop-turn.core) (run_of c.turn.new.core) c.loop-turn.settler c.turn.new.settler (g.H.Host.faults c.loop-turn.host) (g.H.Host.faults c.turn.new.host) (g.H.Host.world c.loop-turn.host) (g.H.Host.world c.turn.new.host) x) c.in_ok-turn.was c.turn.ensures.beside));
   went = λ o b is can fresh kept.
       on-after g.H.Host.tells o (program_tree c.args.checked.now) (g.L.Lines.lines c.args.lines.now) (g.L.Lines.lines c.loop-turn.lines) c.args.width c.args.turns.now c.as_slice.result.now b
-      (record { run = run_of c.args.core.now; settler = c.args.settler.now; counts = g.H.Host.faults c.args.host.now; world = g.H.Host.world c.args.host.now; agents = []; begun = 0; used = 0 })
+      (record { run = run_of c.args.core.now; settler = c.args.settler.now; counts = g.H.Host.faults c.args.host.now; world = g.H.Host.world c.args.host.now; agents = []; begun = 0; used = c.args.used.now })
       (stage_of (run_of c.loop-turn.core) c.loop-turn.settler (g.H.Host.faults c.loop-turn.host) (g.H.Host.world c.loop-turn.host) c.loop-turn.state)
       (stage_of (run_of c.turn.new.core) c.turn.new.settler (g.H.Host.faults c.turn.new.host) (g.H.Host.world c.turn.new.host) c.turn.new.self)
       c.loop-turn.invariant.lines c.as_slice.ensures (c.loop-turn.invariant.went o b is can fresh kept) c.turn.result (c.turn.ensures.turns o)
@@ -106,9 +124,12 @@ loop-turn-preserved g c = record {
 pub returns-clause-record_kept : goal.returns-clause-record_kept
 returns-clause-record_kept g c = λ o b is can fresh kept.
     out-then g.H.Host.tells o (program_tree c.args.checked.now) (g.L.Lines.lines c.args.lines.now) c.args.width c.args.turns.now b
-    (record { run = run_of c.args.core.now; settler = c.args.settler.now; counts = g.H.Host.faults c.args.host.now; world = g.H.Host.world c.args.host.now; agents = []; begun = 0; used = 0 })
+    (record { run = run_of c.args.core.now; settler = c.args.settler.now; counts = g.H.Host.faults c.args.host.now; world = g.H.Host.world c.args.host.now; agents = []; begun = 0; used = c.args.used.now })
     (stage_of (run_of c.loop-turn.core) c.loop-turn.settler (g.H.Host.faults c.loop-turn.host) (g.H.Host.world c.loop-turn.host) c.loop-turn.state)
     (c.loop-turn.invariant.went o b is can fresh kept)
+
+pub returns-clause-unused : goal.returns-clause-unused
+returns-clause-unused g c = c.loop-turn.invariant.unused
 
 pub returns-clause-beside : goal.returns-clause-beside
 returns-clause-beside g c =

@@ -4,11 +4,12 @@ use Rattle.script_tree.specs.Exprs.{call_tree}
 use Rattle.script_tree.specs.Stmts.{StmtTree, Try, stmt_tree, stmt_trees, block_tree}
 use Rattle.script_tree.specs.declared.statements.Stmt.{Stmt}
 use Rattle.script_tree.specs.declared.chars.Chars.{Chars}
+use Rattle.script_scopes.specs.Found.{◌<|>◌}
 use Rattle.script_scopes.specs.Names.{Scope, local_fault}
 use Rattle.script_scopes.specs.Expressions.{call_fault}
 use Rattle.script_scopes.specs.Settings.{setting_of}
 use Rattle.script_scopes.specs.Statements.{with_name, block_fault, statement_fault, scope_after}
-use Rattle.script_scopes.proofs.Lists.{drop_map, drop_end, taken, pushed}
+use Rattle.script_scopes.proofs.Lists.{drop_map, drop_end, taken}
 use Rattle.script_scopes.proofs.Blocks.{HasChecked, goes_further, fails_here, ends, attempt_done, attempt_tree}
 use Rattle.script_scopes.proofs.statements.+statement.Goals as goal
 
@@ -48,17 +49,16 @@ pub check_statement-returns-in_ok-check_block-in-Attempt-2 : goal.check_statemen
 check_statement-returns-in_ok-check_block-in-Attempt-2 t c =
     let setting = setting_of c.args.setting.now in
     let scope : Scope = map (λ n. n.now) c.args.names.now.items in
-    let under : Scope = map (λ n. n.now) c.push-in-Attempt.new.self.items in
+    let under : Scope = map (λ n. n.now) c.check_tried.new.names.items in
     let name = c.in-Attempt.name in
-    let more : under ≡ with_name scope name = pushed (λ n. n.now) c.push-in-Attempt.new.self.items c.args.names.now.items _ c.in_ok-push-in-Attempt.ensures in
+    let more : under ≡ with_name scope name = c.in_ok-check_tried-in-Attempt.ensures.1 in
     let second : map (λ n. n.now) c.check_block-in-Attempt-2.new.names.items ≡ with_name scope name = c.in_ok-check_block-in-Attempt-2.ensures.1 ∙ c.in_ok-check_block-in-Attempt.ensures.1 ∙ more in
     let then_right : block_fault setting under (block_tree (stmt_trees c.in-Attempt.then.list.items)) ≡ None = ap (λ (l : List Stmt). block_fault setting under (block_tree (stmt_trees l))) (sym c.as_slice-in-Attempt.ensures) ∙ c.in_ok-check_block-in-Attempt.ensures.0 in
     let other_same : block_fault setting under (block_tree (stmt_trees c.in-Attempt.other.list.items)) ≡ block_fault setting under (block_tree (stmt_trees c.as_slice-in-Attempt-2.result.now)) = ap (λ (l : List Stmt). block_fault setting under (block_tree (stmt_trees l))) (sym c.as_slice-in-Attempt-2.ensures) in
     let other_under : block_fault setting under (block_tree (stmt_trees c.as_slice-in-Attempt-2.result.now)) ≡ None = ap (λ (l : Scope). block_fault setting l (block_tree (stmt_trees c.as_slice-in-Attempt-2.result.now))) (sym c.in_ok-check_block-in-Attempt.ensures.1) ∙ c.in_ok-check_block-in-Attempt-2.ensures.0 in
-    let name_right : local_fault setting scope name ≡ None = c.in_ok-check_local-in-Attempt.ensures in
-    let call_right : call_fault setting scope (call_tree c.in-Attempt.call) ≡ None = c.in_ok-check_call-in-Attempt.ensures in
+    let tried : (local_fault setting scope name <|> call_fault setting scope (call_tree c.in-Attempt.call)) ≡ None = c.in_ok-check_tried-in-Attempt.ensures.0 in
     let is : stmt_tree c.args.statement.now ≡ Try c.in-Attempt.at name (call_tree c.in-Attempt.call) (block_tree (stmt_trees c.in-Attempt.then.list.items)) (block_tree (stmt_trees c.in-Attempt.other.list.items)) = ap stmt_tree c.in-Attempt.is ∙ attempt_tree c.in-Attempt.at name c.in-Attempt.call c.in-Attempt.then c.in-Attempt.other in
     let left : map (λ n. n.now) c.truncate.new.self.items ≡ scope = ap (λ (l : List (Bor Chars)). map (λ n. n.now) l) c.truncate.ensures ∙ taken (λ n. n.now) c.check_block-in-Attempt-2.new.names.items c.args.names.now.items (name.text ∷ []) c.len-count.result (omega arith) second in (
-      ap (statement_fault setting scope) is ∙ attempt_done setting scope under c.in-Attempt.at name (call_tree c.in-Attempt.call) (block_tree (stmt_trees c.in-Attempt.then.list.items)) (block_tree (stmt_trees c.in-Attempt.other.list.items)) more name_right call_right then_right (other_same ∙ other_under),
+      ap (statement_fault setting scope) is ∙ attempt_done setting scope under c.in-Attempt.at name (call_tree c.in-Attempt.call) (block_tree (stmt_trees c.in-Attempt.then.list.items)) (block_tree (stmt_trees c.in-Attempt.other.list.items)) more tried then_right (other_same ∙ other_under),
       left ∙ ap (scope_after scope) (sym is),
     )

@@ -1,6 +1,6 @@
 use Rattle.std.proofs.Common.{◌≡◌, true, sym, subst, rules}
 use Rattle.system_calls.specs.System.{EntersAll}
-use Rattle.system_memory.specs.Held.{Held, held_of, system_of, IsKept, enter_all}
+use Rattle.system_memory.specs.MemoryState.{MemoryState, held_of, system_of, IsKeepable, enter_all}
 use Rattle.system_memory.proofs.Parts.{enters, true≢false}
 use Rattle.system_memory.proofs.events.note_entered.Goals as goal
 
@@ -8,10 +8,10 @@ pub returns-clause-told : goal.returns-clause-told
 returns-clause-told c input =
     let old = held_of c.args.events.now.items in
     let held : held_of c.note.new.events.items ≡ enter_all old = search rules in
-    subst (λ (h : Held). EntersAll true (system_of input old) (system_of input h)) (sym held) (enters input old)
+    subst (λ (h : MemoryState). EntersAll true (system_of input old) (system_of input h)) (sym held) (enters input old)
 
 pub returns-clause-kept : goal.returns-clause-kept
 returns-clause-kept c kept =
     let old = held_of c.args.events.now.items in
     let held : held_of c.note.new.events.items ≡ enter_all old = search rules in
-    subst (λ (h : Held). IsKept h) (sym held) ((kept.0, λ f lost. absurd (true≢false lost)))
+    subst (λ (h : MemoryState). IsKeepable h) (sym held) ((kept.0, λ f lost. absurd (true≢false lost)))

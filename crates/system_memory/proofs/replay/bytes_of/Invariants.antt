@@ -1,5 +1,5 @@
 use Rattle.std.proofs.Common.{◌≡◌, take}
-use Rattle.system_memory.specs.Held.{held_of}
+use Rattle.system_memory.specs.MemoryState.{held_of}
 use Rattle.system_memory.proofs.replay.bytes_of.Given as goal
 
 abbrev pub invariant-loop-event : goal.invariant-loop-event

@@ -39,16 +39,16 @@ pub grant_first-requires-clause-first : goal.grant_first-requires-clause-first
 grant_first-requires-clause-first g c = sym (c.is_raise.ensures (program_tree c.args.checked.now)) ∙ c.if-is_raise.false
 
 pub grant_again-requires-clause-free : goal.grant_again-requires-clause-free
-grant_again-requires-clause-free g c = sym c.in_ok-ask_for.ensures.answer ∙ c.in-Free.is
+grant_again-requires-clause-free g c = sym c.ask_for.ensures.answer ∙ c.in-Free.is
 
 pub grant_first-requires-clause-free : goal.grant_first-requires-clause-free
-grant_first-requires-clause-free g c = sym c.in_ok-ask_for.ensures.answer ∙ c.in-Free.is
+grant_first-requires-clause-free g c = sym c.ask_for.ensures.answer ∙ c.in-Free.is
 
 pub refuse-requires-clause-barred : goal.refuse-requires-clause-barred
-refuse-requires-clause-barred g c = ap (λ (a : AskAnswer). is_some (refusal c.args.grain a)) (sym c.in_ok-ask_for.ensures.answer ∙ c.in-MustDie.is)
+refuse-requires-clause-barred g c = ap (λ (a : AskAnswer). is_some (refusal c.args.grain a)) (sym c.ask_for.ensures.answer ∙ c.in-MustDie.is)
 
 pub refuse-requires-in-Doomed-clause-barred : goal.refuse-requires-in-Doomed-clause-barred
-refuse-requires-in-Doomed-clause-barred g c = ap (λ (a : AskAnswer). is_some (refusal c.args.grain a)) (sym c.in_ok-ask_for.ensures.answer ∙ c.in-Doomed.is)
+refuse-requires-in-Doomed-clause-barred g c = ap (λ (a : AskAnswer). is_some (refusal c.args.grain a)) (sym c.ask_for.ensures.answer ∙ c.in-Doomed.is)
 
 pub returns-then-is_raise-clause-acts : goal.returns-then-is_raise-clause-acts
 returns-then-is_raise-clause-acts g c = acts_on g.A.Access.may_come (program_tree c.args.checked.now) c.args.carried.unit (g.A.Access.sight c.args.access.now) (g.A.Access.sight c.ask_for.new.access) (g.A.Access.sight c.grant_again.new.access) c.ask_for.ensures.looked c.grant_again.ensures.acts
@@ -75,16 +75,16 @@ pub returns-in-Doomed-clause-told : goal.returns-in-Doomed-clause-told
 returns-in-Doomed-clause-told g c = told_on g.A.Access.may_come (program_tree c.args.checked.now) c.args.carried.unit (g.A.Access.sight c.args.access.now) (g.A.Access.sight c.ask_for.new.access) (g.A.Access.sight c.refuse-in-Doomed.new.access) c.ask_for.ensures.looked c.args.work.kids c.refuse-in-Doomed.result c.refuse-in-Doomed.ensures.told
 
 pub returns-in-MustWait-clause-told : goal.returns-in-MustWait-clause-told
-returns-in-MustWait-clause-told g c = waits_happened g.A.Access.may_come (program_tree c.args.checked.now) (g.A.Access.sight c.args.access.now) (g.A.Access.sight c.ask_for.new.access) c.args.carried c.args.work c.args.grain c.args.mode c.args.work.kids c.requires.counts c.ask_for.ensures.looked c.requires.paused c.in-MustWait.holder _ c.in-MustWait.is c.in_ok-ask_for.ensures.answer
+returns-in-MustWait-clause-told g c = waits_happened g.A.Access.may_come (program_tree c.args.checked.now) (g.A.Access.sight c.args.access.now) (g.A.Access.sight c.ask_for.new.access) c.args.carried c.args.work c.args.grain c.args.mode c.args.work.kids c.requires.counts c.ask_for.ensures.looked c.requires.paused c.in-MustWait.holder _ c.in-MustWait.is c.ask_for.ensures.answer
 
 pub returns-in-NotActive-clause-told : goal.returns-in-NotActive-clause-told
-returns-in-NotActive-clause-told g c = inactive_happened g.A.Access.may_come (program_tree c.args.checked.now) (g.A.Access.sight c.args.access.now) (g.A.Access.sight c.ask_for.new.access) c.args.carried c.args.work c.args.grain c.args.mode c.args.work.kids c.requires.counts c.ask_for.ensures.looked c.requires.paused _ c.in-NotActive.is c.in_ok-ask_for.ensures.answer
+returns-in-NotActive-clause-told g c = inactive_happened g.A.Access.may_come (program_tree c.args.checked.now) (g.A.Access.sight c.args.access.now) (g.A.Access.sight c.ask_for.new.access) c.args.carried c.args.work c.args.grain c.args.mode c.args.work.kids c.requires.counts c.ask_for.ensures.looked c.requires.paused _ c.in-NotActive.is c.ask_for.ensures.answer
 
 pub returns-in-Held-clause-told : goal.returns-in-Held-clause-told
-returns-in-Held-clause-told g c = held_happened g.A.Access.may_come (program_tree c.args.checked.now) (g.A.Access.sight c.args.access.now) (g.A.Access.sight c.ask_for.new.access) c.args.carried c.args.work c.args.grain c.args.mode c.args.work.kids c.requires.counts c.ask_for.ensures.looked c.requires.paused _ c.in-Held.is c.in_ok-ask_for.ensures.answer
+returns-in-Held-clause-told g c = held_happened g.A.Access.may_come (program_tree c.args.checked.now) (g.A.Access.sight c.args.access.now) (g.A.Access.sight c.ask_for.new.access) c.args.carried c.args.work c.args.grain c.args.mode c.args.work.kids c.requires.counts c.ask_for.ensures.looked c.requires.paused _ c.in-Held.is c.ask_for.ensures.answer
 
 pub returns-in-Absent-clause-told : goal.returns-in-Absent-clause-told
-returns-in-Absent-clause-told g c = absent_happened g.A.Access.may_come (program_tree c.args.checked.now) (g.A.Access.sight c.args.access.now) (g.A.Access.sight c.ask_for.new.access) c.args.carried c.args.work c.args.grain c.args.mode c.args.work.kids c.requires.counts c.ask_for.ensures.looked c.requires.paused _ c.in-Absent.is c.in_ok-ask_for.ensures.answer
+returns-in-Absent-clause-told g c = absent_happened g.A.Access.may_come (program_tree c.args.checked.now) (g.A.Access.sight c.args.access.now) (g.A.Access.sight c.ask_for.new.access) c.args.carried c.args.work c.args.grain c.args.mode c.args.work.kids c.requires.counts c.ask_for.ensures.looked c.requires.paused _ c.in-Absent.is c.ask_for.ensures.answer
 
 pub returns-in-MustWait-clause-doing : goal.returns-in-MustWait-clause-doing
 returns-in-MustWait-clause-doing g c = paused-looks (program_tree c.args.checked.now) (g.A.Access.sight c.args.access.now) c.args.carried c.args.work c.requires.counts g.A.Access.may_come (g.A.Access.sight c.ask_for.new.access) (NeedGrain c.args.grain c.args.mode) c.ask_for.ensures.looked c.requires.paused

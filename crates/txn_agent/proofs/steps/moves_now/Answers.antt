@@ -6,8 +6,8 @@ use Rattle.txn_agent.proofs.steps.moves_now.Goals as goal
 
 pub returns-in-NeedGrain-clause-moves : goal.returns-in-NeedGrain-clause-moves
 returns-in-NeedGrain-clause-moves g c = λ types n k.
-    grain_all g.A.Access.may_come types (g.A.Access.sight c.args.access.now) (g.A.Access.sight c.ask_for.new.access) c.args.carried c.ask_for.ensures.looked n c.args.doing.now k c.in-Asks.work c.in-Asks.pause c.in-NeedGrain.grain c.in-NeedGrain.mode c.in_ok-answer-in-NeedGrain.answer c.must_wait.result
-    c.in-Asks.is c.in-NeedGrain.is c.in_ok-answer-in-NeedGrain.ensures.answer c.must_wait.ensures
+    grain_all g.A.Access.may_come types (g.A.Access.sight c.args.access.now) (g.A.Access.sight c.ask_for-answer.new.access) c.args.carried c.ask_for-answer.ensures.looked n c.args.doing.now k c.in-Asks.work c.in-Asks.pause c.in-NeedGrain.grain c.in-NeedGrain.mode c.ask_for-answer.result c.must_wait.result
+    c.in-Asks.is c.in-NeedGrain.is c.ask_for-answer.ensures.answer c.must_wait.ensures
 
 pub returns-in-NeedUnit-clause-moves : goal.returns-in-NeedUnit-clause-moves
 returns-in-NeedUnit-clause-moves g c = λ types n k.

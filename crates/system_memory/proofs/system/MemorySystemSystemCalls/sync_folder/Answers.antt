@@ -1,8 +1,12 @@
-use Rattle.std.proofs.Common.{drop}
+use Rattle.std.proofs.Common.{false, drop, sym, subst}
+use Rattle.system_calls.specs.System.{System, EntersAll}
+use Rattle.system_memory.specs.Shown.{system_in}
 use Rattle.system_memory.proofs.system.MemorySystemSystemCalls.sync_folder.Goals as goal
 
-pub returns-then-is_refused : goal.returns-then-is_refused
-returns-then-is_refused c = record { told = λ told. c.note_lost.ensures.told (drop c.args.self.now.taken c.args.self.now.input.items) }
+pub returns-then-is_refused-clause-told : goal.returns-then-is_refused-clause-told
+returns-then-is_refused-clause-told c = λ told.
+    subst (λ (s : System). EntersAll false (system_in c.args.self.now) s) (sym c.refuse_entries.ensures.state)
+    (c.note_lost.ensures.told (drop c.args.self.now.taken c.args.self.now.input.items))
 
-pub returns-in-Ok : goal.returns-in-Ok
-returns-in-Ok c = record { told = λ told. c.in-Ok.ensures.told (drop c.args.self.now.taken c.args.self.now.input.items) }
+pub returns-in-Ok-clause-told : goal.returns-in-Ok-clause-told
+returns-in-Ok-clause-told c = λ told. c.in-Ok.ensures.told (drop c.args.self.now.taken c.args.self.now.input.items)

@@ -6,6 +6,7 @@ use Rattle.script_tree.specs.Programs.{program_tree}
 use Rattle.txn_agent.specs.declared.agent.Advanced.{Advanced}
 use Rattle.txn_agent.specs.declared.agent.Advanced.TheVariants as came
 use Rattle.txn_agent.specs.Stepping.{AnswerSays, children_of}
+use Rattle.unit_carrier.proofs.Freed.{freed-set, freed-set-more}
 use Rattle.unit_carrier.proofs.Places.{acts-here, child-carried, child-units, steps-carried, steps-on, units-set}
 use Rattle.unit_carrier.proofs.agents.Agents.advance.Goals as goal
 
@@ -109,3 +110,22 @@ pub returns-in-Ended-clause-carried : goal.returns-in-Ended-clause-carried
 returns-in-Ended-clause-carried g c =
     let q : slice_get c.args.self.now.list.items c.args.index ≡ Some c.index_mut-agent.result.now = slice_get_read c.args.self.now.list.items _ c.args.index c.index_mut-agent.result.now refl c.requires.within c.index_mut-agent.ensures.value in
     steps-carried (program_tree c.args.checked.now) g.A.Access.may_come (g.A.Access.sight c.args.access.now) (g.A.Access.sight c.advance.new.access) c.args.self.now.list.items c.args.index c.index_mut-agent.result.now c.advance.new.self q c.advance.ensures.carried c.advance.ensures.acts c.in_ok-child.ensures.knows c.requires.carried
+
+pub returns-in-Granted-clause-freed : goal.returns-in-Granted-clause-freed
+returns-in-Granted-clause-freed g c = λ front le freed. freed-set c.args.self.now.list.items front c.args.index c.advance.new.self le freed
+
+pub returns-in-Moved-clause-freed : goal.returns-in-Moved-clause-freed
+returns-in-Moved-clause-freed g c = λ front le freed. freed-set c.args.self.now.list.items front c.args.index c.advance.new.self le freed
+
+pub returns-in-Waits-clause-freed : goal.returns-in-Waits-clause-freed
+returns-in-Waits-clause-freed g c = λ front le freed. freed-set c.args.self.now.list.items front c.args.index c.advance.new.self le freed
+
+pub returns-in-WaitsFor-clause-freed : goal.returns-in-WaitsFor-clause-freed
+returns-in-WaitsFor-clause-freed g c = λ front le freed. freed-set c.args.self.now.list.items front c.args.index c.advance.new.self le freed
+
+pub returns-in-Ended-clause-freed : goal.returns-in-Ended-clause-freed
+returns-in-Ended-clause-freed g c = λ front le freed. freed-set c.args.self.now.list.items front c.args.index c.advance.new.self le freed
+
+pub returns-in-Began-clause-freed : goal.returns-in-Began-clause-freed
+returns-in-Began-clause-freed g c = λ front le freed.
+    freed-set-more c.args.self.now.list.items c.carry.new.self.list.items front c.args.index c.advance.new.self c.in_ok-carry-in-Began.ensures.agent c.in_ok-carry-in-Began.ensures.list le c.requires.within freed

@@ -1,14 +1,33 @@
-use Rattle.std.proofs.Common.{◌≡◌, sym, ◌∙◌, subst, arith, Some}
+use Rattle.std.proofs.Common.{◌≡◌, refl, sym, ◌∙◌, subst, arith, Some}
 use Rattle.std.specs.Prelude.{slice_get}
 use Rattle.core_access.specs.Sights.{Sight, run_seen}
 use Rattle.script_tree.specs.Programs.{program_tree}
 use Rattle.txn_agent.specs.declared.agent.Agent.{Agent}
 use Rattle.unit_carrier.specs.Carrying.{AreCarried, units_carried}
 use Rattle.unit_carrier.proofs.Finding.{map-set}
+use Rattle.unit_carrier.proofs.Freed.{freed-none, freed-set}
 use Rattle.unit_carrier.proofs.Places.{agent-here, set-carried}
 use Rattle.unit_carrier.proofs.Movers.{unit-first, units-past, index-within, one-fits, told-first, found-here, one-moves, none-moves, all-counted}
 use Rattle.unit_carrier.proofs.agents.Agents.find.Goals.{then-branch+else-movers-place, else-branch}
 use Rattle.unit_carrier.proofs.agents.Agents.find.Goals as goal
+
+pub loop-index-init : goal.loop-index-init
+loop-index-init g c = record {
+  fit = c.requires.fit;
+  aside = refl;
+  same = refl;
+  carried = c.requires.carried;
+  units = refl;
+  movers = λ going. freed-none (program_tree c.args.checked.now) g.A.Access.may_come (g.A.Access.sight c.args.access.now) c.args.self.now.list.items c.args.front c.requires.carried.holds c.requires.carried.known c.requires.freed;
+  place = omega arith;
+  few = omega arith;
+  freed = c.requires.freed;
+  past = omega arith;
+}
+
+pub returns-then-movers-place-clause-freed : goal.returns-then-movers-place-clause-freed
+returns-then-movers-place-clause-freed g c =
+    freed-set c.loop-index.self.list.items c.args.front c.loop-index.index c.can_move_now.new.agent c.loop-index.invariant.past c.loop-index.invariant.freed
 
 pub returns-then-movers-place-clause-carried : goal.returns-then-movers-place-clause-carried
 returns-then-movers-place-clause-carried g c =
@@ -67,6 +86,8 @@ loop-index-preserved g c =
         | else-branch w ↦ omega (arith, w.movers-is, c.loop-index.invariant.place)
       ];
       few = elim c.if-branch.branch [ then-branch+else-movers-place w ↦ omega (arith, w.movers-is, c.loop-index.invariant.few) | else-branch w ↦ omega (arith, w.movers-is, c.loop-index.invariant.few) ];
+      freed = freed-set c.loop-index.self.list.items c.args.front c.loop-index.index c.can_move_now.new.agent c.loop-index.invariant.past c.loop-index.invariant.freed;
+      past = omega (arith, c.loop-index.invariant.past);
     }
 
 pub returns-clause-found : goal.returns-clause-found

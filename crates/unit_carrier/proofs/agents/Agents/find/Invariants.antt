@@ -3,7 +3,7 @@ use Rattle.core_model.specs.Asked.{IsGoing}
 use Rattle.core_model.specs.Legal.{ends}
 use Rattle.core_access.specs.Sights.{run_seen}
 use Rattle.script_tree.specs.Programs.{program_tree}
-use Rattle.unit_carrier.specs.Carrying.{AreCarried, as_carried, units_carried, moving}
+use Rattle.unit_carrier.specs.Carrying.{AreCarried, AreFreed, as_carried, units_carried, moving}
 use Rattle.unit_carrier.proofs.agents.Agents.find.Given as goal
 
 abbrev pub invariant-loop-index : goal.invariant-loop-index
@@ -16,4 +16,6 @@ invariant-loop-index g l = record {
   movers : IsGoing (ends (run_seen (g.A.Access.sight l.initial.access))) → l.movers ≡ length (moving (program_tree l.checked) (run_seen (g.A.Access.sight l.initial.access)) (take l.index (units_carried l.initial.self.list.items)));
   place : l.movers ≤ l.place;
   few : l.movers ≤ l.index;
+  freed : AreFreed l.front l.self.list.items;
+  past : l.front ≤ l.index;
 }

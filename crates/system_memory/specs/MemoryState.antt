@@ -9,7 +9,7 @@ use Rattle.system_memory.specs.declared.events.Event.{Event}
 use Rattle.system_memory.specs.declared.events.Event.TheVariants.{Emitted, Wrote, Synced, Doubted, Made, Entered, Lost}
 
 -- all that is held but the input
-pub record Held : Type 0 where
+pub record MemoryState : Type 0 where
   pub output : List ℕ
   pub disk : Disk
   pub syncs : ℕ
@@ -19,7 +19,7 @@ pub record Held : Type 0 where
   pub has_lost : Bool
 
 -- an empty folder
-abbrev pub nothing : Held
+abbrev pub nothing : MemoryState
 nothing = record { output = []; disk = λ f. settled []; syncs = 0; past = []; is_entered = λ f. true; is_doubtful = λ f. false; has_lost = false }
 
 -- a part of a call begins a moment, or takes the place of the one that the part before it made
@@ -46,52 +46,52 @@ abbrev pub flag_with : FileId → Bool → (FileId → Bool) → FileId → Bool
 flag_with file value flags f = if same_file file f then value else flags f
 
 -- what one event more makes
-abbrev pub put_out : ℕ → List ℕ → Held → Held
+abbrev pub put_out : ℕ → List ℕ → MemoryState → MemoryState
 put_out from bytes h =
     let output = h.output ++ bytes in
     record { output = output; disk = h.disk; syncs = h.syncs; past = timed from h.past (record { output = output; disk = h.disk }); is_entered = h.is_entered; is_doubtful = h.is_doubtful; has_lost = h.has_lost }
 
-abbrev pub write_part : FileId → ℕ → ℕ → ℕ → ℕ → List ℕ → Held → Held
+abbrev pub write_part : FileId → ℕ → ℕ → ℕ → ℕ → List ℕ → MemoryState → MemoryState
 write_part file at size from place bytes h =
     let disk = disk_with file (part_written from at size place bytes) h.disk in
     record { output = h.output; disk = disk; syncs = h.syncs; past = timed from h.past (record { output = h.output; disk = disk }); is_entered = h.is_entered; is_doubtful = h.is_doubtful; has_lost = h.has_lost }
 
-abbrev pub sync_file : FileId → Held → Held
+abbrev pub sync_file : FileId → MemoryState → MemoryState
 sync_file file h =
     let disk = disk_with file (λ s. settled s.seen) h.disk in
     record { output = h.output; disk = disk; syncs = h.syncs + 1; past = h.past ++ (record { output = h.output; disk = disk }) ∷ []; is_entered = h.is_entered; is_doubtful = h.is_doubtful; has_lost = h.has_lost }
 
-abbrev pub doubt_file : FileId → Held → Held
+abbrev pub doubt_file : FileId → MemoryState → MemoryState
 doubt_file file h = record { output = h.output; disk = h.disk; syncs = h.syncs; past = h.past; is_entered = h.is_entered; is_doubtful = flag_with file true h.is_doubtful; has_lost = h.has_lost }
 
-abbrev pub make_file : FileId → Held → Held
+abbrev pub make_file : FileId → MemoryState → MemoryState
 make_file file h = record { output = h.output; disk = h.disk; syncs = h.syncs; past = h.past; is_entered = flag_with file false h.is_entered; is_doubtful = h.is_doubtful; has_lost = h.has_lost }
 
-abbrev pub enter_all : Held → Held
+abbrev pub enter_all : MemoryState → MemoryState
 enter_all h = record { output = h.output; disk = h.disk; syncs = h.syncs; past = h.past; is_entered = λ f. true; is_doubtful = h.is_doubtful; has_lost = h.has_lost }
 
-abbrev pub lose_entries : Held → Held
+abbrev pub lose_entries : MemoryState → MemoryState
 lose_entries h = record { output = h.output; disk = h.disk; syncs = h.syncs; past = h.past; is_entered = h.is_entered; is_doubtful = h.is_doubtful; has_lost = true }
 
-abbrev pub step : Event → Held → Held
-step (Emitted from bytes) h = put_out from bytes.items h
-step (Wrote file at size from place bytes) h = write_part file at size from place bytes.items h
-step (Synced file) h = sync_file file h
-step (Doubted file) h = doubt_file file h
-step (Made file) h = make_file file h
-step Entered h = enter_all h
-step Lost h = lose_entries h
+abbrev pub after_event : Event → MemoryState → MemoryState
+after_event (Emitted from bytes) h = put_out from bytes.items h
+after_event (Wrote file at size from place bytes) h = write_part file at size from place bytes.items h
+after_event (Synced file) h = sync_file file h
+after_event (Doubted file) h = doubt_file file h
+after_event (Made file) h = make_file file h
+after_event Entered h = enter_all h
+after_event Lost h = lose_entries h
 
 -- what all events make
-abbrev pub after_all : List Event → Held → Held
-after_all [] h = h
-after_all (e ∷ events) h = after_all events (step e h)
+abbrev pub after_events : List Event → MemoryState → MemoryState
+after_events [] h = h
+after_events (e ∷ events) h = after_events events (after_event e h)
 
-abbrev pub held_of : List Event → Held
-held_of events = after_all events nothing
+abbrev pub held_of : List Event → MemoryState
+held_of events = after_events events nothing
 
 -- what a system holds that has this input left
-abbrev pub system_of : List ℕ → Held → System
+abbrev pub system_of : List ℕ → MemoryState → System
 system_of input h = record {
   world = record { input = input; output = h.output; disk = h.disk; syncs = h.syncs; past = h.past };
   is_entered = h.is_entered;
@@ -100,11 +100,11 @@ system_of input h = record {
 }
 
 -- What a read gives may stay, and a file whose entry doesn't last has no bytes that do.
-abbrev pub AllStay : Held → Type 0
+abbrev pub AllStay : MemoryState → Type 0
 AllStay h = (f : FileId) → MayLeave (h.disk f) (h.disk f).seen
 
-abbrev pub BareUnentered : Held → Type 0
+abbrev pub BareUnentered : MemoryState → Type 0
 BareUnentered h = (f : FileId) → h.is_entered f ≡ false → (h.disk f).base ≡ []
 
-abbrev pub IsKept : Held → Type 0
-IsKept h = AllStay h × BareUnentered h
+abbrev pub IsKeepable : MemoryState → Type 0
+IsKeepable h = AllStay h × BareUnentered h

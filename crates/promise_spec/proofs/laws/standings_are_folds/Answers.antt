@@ -1,11 +1,14 @@
-use Rattle.promise_spec.proofs.Standings.{counted, numbered, written, in_parts}
-use Rattle.promise_spec.proofs.laws.standings_are_three_folds.Goals as goal
+use Rattle.promise_spec.proofs.Standings.{counted, numbered, in_force, written, in_parts}
+use Rattle.promise_spec.proofs.laws.standings_are_folds.Goals as goal
 
 pub returns-clause-count : goal.returns-clause-count
 returns-clause-count c = counted
 
 pub returns-clause-next : goal.returns-clause-next
 returns-clause-next c = numbered
+
+pub returns-clause-program : goal.returns-clause-program
+returns-clause-program c = in_force
 
 pub returns-clause-states : goal.returns-clause-states
 returns-clause-states c = written
