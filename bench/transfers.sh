@@ -8,11 +8,15 @@
 # Wanted at width 64: 20,000 transfers in at most 1.25 times the time of the bare syncs; 50,000 a second where syncs cost nothing; at
 # 100,000 at most 1.1 times the time for each that it takes at 2,000.
 # Measured quiet, on a processor of 2.7 GHz with a memory file system: 95,000 to 99,000 a second at 20,000, and 98,000 at 100,000.
-# Measured beside other work, four times as much as the four processors carry: 17 to 24 us of processor time for each transfer at width
-# 64 where syncs cost nothing, at 2,000, at 20,000 and at 100,000. By that a processor of its own would carry 42,000 to 59,000 a second;
-# beside that work it was 12,000 to 19,000. Of the instructions (157,000 a transfer, by callgrind) a seventh clears room, most of it 16
-# KiB in which a line is read, an eighth allocates and frees, a fifteenth walks over the units in flight to the mover, a twelfth looks
-# grains up in trees, and a twentieth each copies and carries the core's events; the rest is spread.
+# Measured beside other work, twice as much as the four processors carry: 14 to 21 us of processor time for each transfer at width 64
+# where syncs cost nothing. bench/peers.py has SQLite beside it.
+# What holds a transfer, by callgrind over 3,064 of them at width 64: 145,000 instructions each, of which
+#   22,000 clear room, 16,000 of them the 16 KiB in which a line is read (callgrind counts each byte; by samples it is 2 % of the time)
+#   20,000 are the core: events 6,200, looks 4,100, and what it asks of grains, units and batches
+#   20,000 are the standard library, without trees, 16,000 look grains up in trees, 15,000 allocate and free, about 60 times, 8,000 copy
+#   14,000 run the script, 10,000 read the line and write the reply, 7,000 are the agents, 6,000 the settler, the log and
+#   the host's calls, 5,000 the choice of who moves
+# By samples a seventh of the time is the system's, half of that to open and close the file of each grain that a batch wrote.
 top=$(cd "$(dirname "${BASH_SOURCE[0]}")/.." && pwd)
 [ -n "${SILO:-}" ] || "$top/silo" </dev/null >/dev/null 2>&1
 exec python3 - "$top" "${SILO:-$top/crates/silo/out/silo}" "$@" <<'END'

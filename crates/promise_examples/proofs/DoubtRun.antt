@@ -24,6 +24,7 @@ use Rattle.host_trait.specs.declared.channels.FileId.TheVariants.{Manager, Grain
 use Rattle.host_trait.specs.World.{Moment, Image, IsImage, moment_of}
 use Rattle.silo_spec.specs.Silos.{manager, program_file, HasProgram}
 use Rattle.promise_spec.specs.Programs.{shape_in}
+use Rattle.promise_spec.specs.Entries.{Log}
 use Rattle.promise_spec.specs.Records.{Commit, AreRecordsOf}
 use Rattle.promise_spec.specs.Logs.{IsLog, IsPrefix}
 use Rattle.promise_spec.specs.Moments.{IsImageOf}
@@ -43,7 +44,7 @@ use Rattle.promise_spec.specs.Explained.{ComeOfEvents, AreAdded, AreSettled, IsE
 use Rattle.promise_spec.specs.Journals.{Settlement, KeepsJournal, Backs, commits_of, entries_of}
 use Rattle.promise_spec.specs.Promise.{IsSoundFolder, HasEnded, Keeps}
 use Rattle.promise_laws.specs.Obligations.{Shows}
-use Rattle.promise_examples.specs.Examples.{accounts, account_program, account_1, unit_no, first_commit, locked_entry, doubt_entry, conflict_entries, conflict_events, account_run}
+use Rattle.promise_examples.specs.Examples.{account_log, accounts, account_program, account_1, unit_no, first_commit, locked_entry, doubt_entry, conflict_entries, conflict_events, account_run}
 use Rattle.promise_examples.specs.DepositRuns.{HasNone, HasDeposit, MayHaveDeposit, LeavesOthers, IsBetween}
 use Rattle.promise_examples.specs.DoubtRuns.{IsDoubtRun, doubt_course, first_told}
 use Rattle.promise_spec.proofs.Lists.{none_at, some_is, in_append, both_parts}
@@ -168,7 +169,7 @@ module _ (r : Observed) (opened : Moment) (told doubting : List Moment) (run : I
   course = doubt_course opened told doubting r
 
   abbrev KeepsAt : Moment → Image → Type 0
-  KeepsAt m image = (k : KeepsJournal 0 account_program [] r.old.output journal m image) × IsPrefix (entries_of k.said) conflict_entries
+  KeepsAt m image = (k : KeepsJournal 0 account_program (account_log []) r.old.output journal m image) × IsPrefix (entries_of k.said) conflict_entries
 
   abbrev Known : Moment → Type 0
   Known m = (image : Image) → IsImage m.disk image → KeepsAt m image × HasProgram account_program.text (image program_file)
@@ -215,7 +216,7 @@ module _ (r : Observed) (opened : Moment) (told doubting : List Moment) (run : I
   known : (m : Moment) → Member m (moments r course) → Known m
   known = at_each Known opened (told ++ doubting) (moment_of r.new) at_opened between at_exit
 
-  keeps_at : (image : Image) (is : IsImageOf (moments r course) image) → KeepsJournal 0 account_program [] r.old.output journal is.moment image
+  keeps_at : (image : Image) (is : IsImageOf (moments r course) image) → KeepsJournal 0 account_program (account_log []) r.old.output journal is.moment image
   keeps_at image is = (known is.moment is.member image is.left).0.0
 
   begun : HasBegun (core_end account_program course) (unit_no 1)
@@ -234,7 +235,7 @@ module _ (r : Observed) (opened : Moment) (told doubting : List Moment) (run : I
   ordered = record {
     read = run.read;
     opened = λ image left. record { entry = (run.entry image left).0; log = (run.entry image left).1.0 };
-    longest = longest 0 account_program [] r.old.output journal (moments r course) run.some (record { moment = moment_of r.new; member = exit_there opened (told ++ doubting) (moment_of r.new); left = run.possible }) run.there.0
+    longest = longest 0 account_program (account_log []) r.old.output journal (moments r course) run.some (record { moment = moment_of r.new; member = exit_there opened (told ++ doubting) (moment_of r.new); left = run.possible }) run.there.0
         (λ m there image left. (known m there image left).0.0);
     serial = serial;
   }
@@ -273,18 +274,18 @@ module _ (r : Observed) (opened : Moment) (told doubting : List Moment) (run : I
       run.exit
 
   -- the one batch is the deposit's, which is in doubt
-  one_batch : EndsABatch (core_end account_program course) [] (first_commit ∷ [])
+  one_batch : EndsABatch (core_end account_program course) (account_log []) (account_log (first_commit ∷ []))
   unfolding put put_grain
   one_batch = record { batches = 1; more = first_commit ∷ []; split = refl; records = (record { unit = refl; origin = refl; call = refl; answers = refl; result = refl; writes = refl }, tt) }
 
-  whole_batches : (image : Image) (log : List Commit) → MayHaveDeposit image → IsLog 0 (shape_in account_program) image log → EndsABatch (core_end account_program course) [] log
+  whole_batches : (image : Image) (log : Log) → MayHaveDeposit image → IsLog 0 image log → EndsABatch (core_end account_program course) (account_log []) log
   whole_batches image log (inl none) is =
-      subst (EndsABatch (core_end account_program course) []) (one_log 0 0 (shape_in account_program) image [] log none.0 is) (no_batch (core_end account_program course) [])
+      subst (EndsABatch (core_end account_program course) (account_log [])) (one_log 0 0 image (account_log []) log none.0 is) (no_batch (core_end account_program course) (account_log []))
   whole_batches image log (inr has) is =
-      subst (EndsABatch (core_end account_program course) []) (one_log 0 0 (shape_in account_program) image (first_commit ∷ []) log has.0 is) one_batch
+      subst (EndsABatch (core_end account_program course) (account_log [])) (one_log 0 0 image (account_log (first_commit ∷ [])) log has.0 is) one_batch
 
   sound_all : StaySound account_program r course
-  sound_all image is = sound 0 account_program [] r.old.output journal is.moment image (keeps_at image is) (known is.moment is.member image is.left).1 serial numbered
+  sound_all image is = sound 0 account_program (account_log []) r.old.output journal is.moment image (keeps_at image is) (known is.moment is.member image is.left).1 serial numbered
 
   -- and the files of other grains
   apart : (m : Moment) → Member m (moments r course) → LeavesOthers r m
@@ -299,8 +300,8 @@ module _ (r : Observed) (opened : Moment) (told doubting : List Moment) (run : I
     past = run.past;
     quiet = λ m there. only (λ (n : Moment). n.output ≡ r.old.output) opened m run.quiet there;
     before = λ image is. only (λ (n : Moment). IsImage n.disk image → IsImage r.old.disk image) opened is.moment (λ left. (run.entry image left).0) is.member is.left;
-    chain = λ one other a b. chained 0 account_program [] r.old.output journal a.moment b.moment one other (keeps_at one a) (keeps_at other b);
-    whole = λ image is. all_whole 0 account_program [] r.old.output journal is.moment image (keeps_at image is) (known is.moment is.member image is.left).1 numbered;
+    chain = λ one other a b. chained 0 account_program (account_log []) r.old.output journal a.moment b.moment one other (keeps_at one a) (keeps_at other b);
+    whole = λ image is. all_whole 0 account_program (account_log []) r.old.output journal is.moment image (keeps_at image is) (known is.moment is.member image is.left).1 numbered;
     keeps = λ image is. let k = keeps_at image is in record { log = commits_of (k.said ++ k.unsaid); is = k.log; longer = (commits_of (k.said ++ k.unsaid), refl) };
     alone = alone;
   }
@@ -353,7 +354,7 @@ module _ (r : Observed) (opened : Moment) (told doubting : List Moment) (run : I
     logs = λ image left. ends_with image (run.exit image left);
     doubt = λ one other a b is_one is_other log_a log_b differ. is_doubt;
     nowhere = λ e there.
-        either_of (λ (d : Entry). d.what ≡ settled.InDoubt → IsNowhere 0 account_program r d.unit → HasNoRecord course d.unit) locked_entry doubt_entry e
+        either_of (λ (d : Entry). d.what ≡ settled.InDoubt → IsNowhere 0 r d.unit → HasNoRecord course d.unit) locked_entry doubt_entry e
         (λ is. absurd (cc is))
         (λ is nowhere. absurd (nowhere run.some (first_commit ∷ []) first_commit run.possible run.there.0 (inl refl) refl)) there;
     block = λ doubt. record {
@@ -454,5 +455,5 @@ module _ (r : Observed) (opened : Moment) (told doubting : List Moment) (run : I
   }
 
   -- and over a sound folder it shows what has to be shown, where some image was there at the return of the opening's sync
-  pub shown : IsSoundFolder account_program r.old → (some : Image) → IsImage opened.disk some → Shows account_program r course
+  pub shown : IsSoundFolder r.old → (some : Image) → IsImage opened.disk some → Shows account_program r course
   shown sound_folder some possible = shows account_program r course kept sound_folder some possible journal refl backs (λ m there image left. (known m there image left).0)

@@ -35,11 +35,11 @@ module _ (p : Program) (r : Observed) (opening : List Commit) (run : IsEmptyRun 
     ]
   ]
 
-  whole : (image : Image) → IsImage r.new.disk image → IsLog 0 (shape_in p) image (opening ++ [])
-  whole image is = subst (λ (l : List Commit). IsLog 0 (shape_in p) image l) (sym (append-nil opening)) (run.logs image is)
+  whole : (image : Image) → IsImage r.new.disk image → IsLog 0 image (opening ++ [])
+  whole image is = subst (λ (l : List Commit). IsLog 0 image l) (sym (append-nil opening)) (run.logs image is)
 
-  moved : (image : Image) → IsLog 0 (shape_in p) image (opening ++ []) → (live : ℕ) → IsLive magic live image → IsLog live (shape_in p) image (opening ++ [])
-  moved image is live is_live = subst (λ (slot : ℕ). IsLog slot (shape_in p) image (opening ++ [])) (sym is_live.slot) is
+  moved : (image : Image) → IsLog 0 image (opening ++ []) → (live : ℕ) → IsLive magic live image → IsLog live image (opening ++ [])
+  moved image is live is_live = subst (λ (slot : ℕ). IsLog slot image (opening ++ [])) (sym is_live.slot) is
 
   same_output : (m : Moment) → Member m (moments r (empty_course r opening)) → m.output ≡ r.old.output
   same_output m there = elim there [
@@ -108,7 +108,7 @@ module _ (p : Program) (r : Observed) (opening : List Commit) (run : IsEmptyRun 
     };
     traced = record {
       family = no_family p.types (lines r) _ _ _;
-      whole = λ image log is log_is. subst (EndsABatch (core_end p (empty_course r opening)) opening) (one_log 0 0 (shape_in p) image opening log (run.logs image (at_exit image is)) log_is) (no_batch (core_end p (empty_course r opening)) opening);
+      whole = λ image log is log_is. subst (EndsABatch (core_end p (empty_course r opening)) opening) (one_log 0 0 image opening log (run.logs image (at_exit image is)) log_is) (no_batch (core_end p (empty_course r opening)) opening);
     };
     settled = record {
       entries = ([], refl);
@@ -131,7 +131,7 @@ module _ (p : Program) (r : Observed) (opening : List Commit) (run : IsEmptyRun 
     };
     exit = record {
       logs = λ image is. record { log = opening ++ []; is = whole image is; which = inl refl };
-      doubt = λ one other a b is_one is_other log_a log_b differ. absurd (differ (one_log 0 0 (shape_in p) one a (opening ++ []) log_a (whole one is_one) ∙ sym (one_log 0 0 (shape_in p) other b (opening ++ []) log_b (whole other is_other))));
+      doubt = λ one other a b is_one is_other log_a log_b differ. absurd (differ (one_log 0 0 one a (opening ++ []) log_a (whole one is_one) ∙ sym (one_log 0 0 other b (opening ++ []) log_b (whole other is_other))));
       nowhere = λ e none. absurd none;
       block = λ doubt. absurd (none_at doubt.at _ doubt.doubt.there);
       behind = λ none. run.behind;

@@ -12,7 +12,7 @@ use Rattle.promise_laws.specs.Obligations.{SaysIn, Opens, Journals, ExplainsEven
 
 module _ (p : Program) (r : Observed) (c : Course) (keeps : Keeps p r c) where
   -- it opened the folder, and some image was there at the return of the opening's last sync
-  opens : IsSoundFolder p r.old → (some : Image) → IsImage (last_of (moment_of r.old) c.early).disk some → Opens p r c
+  opens : IsSoundFolder r.old → (some : Image) → IsImage (last_of (moment_of r.old) c.early).disk some → Opens r c
   opens sound some possible = record {
     folder = whole_folder p r.old sound;
     read = keeps.headline.ordered.read;
@@ -64,7 +64,7 @@ module _ (p : Program) (r : Observed) (c : Course) (keeps : Keeps p r c) where
     most = keeps.ended.most;
   }
 
-  pub shows : IsSoundFolder p r.old → (some : Image) → IsImage (last_of (moment_of r.old) c.early).disk some
+  pub shows : IsSoundFolder r.old → (some : Image) → IsImage (last_of (moment_of r.old) c.early).disk some
       → (journal : List Settlement) → c.added ≡ commits_of journal → Backs journal c.added → ((m : Moment) → Member m (moments r c) → SaysIn p r c journal m) → Shows p r c
   shows sound some possible journal commits backs kept = record {
     opens = opens sound some possible;

@@ -24,8 +24,10 @@ use Rattle.host_trait.proofs.Crashes.{settled_only}
 use Rattle.log_reading.specs.Blocks.{header_damage}
 use Rattle.silo_spec.specs.Silos.{manager, program_file, IsSilo}
 use Rattle.promise_spec.specs.Programs.{shape_in}
+use Rattle.promise_spec.specs.Entries.{Log}
 use Rattle.promise_spec.specs.Records.{Commit}
-use Rattle.promise_spec.specs.Logs.{magic, IsLog, body_of}
+use Rattle.promise_spec.specs.Blocks.{Records, body_of}
+use Rattle.promise_spec.specs.Logs.{magic, IsLog}
 use Rattle.promise_spec.specs.Outputs.{IsProper, Grew, reply_lines}
 use Rattle.promise_spec.specs.Causes.{RoseBy, most_syncs_of}
 use Rattle.promise_spec.specs.Courses.{moments, core_run, core_end}
@@ -42,7 +44,7 @@ use Rattle.promise_spec.proofs.OneLog.{one_log}
 use Rattle.promise_laws.specs.Obligations.{SaysIn, Opens, Journals, ExplainsEvents, LeavesAtExit, EndsRightly, Shows}
 use Rattle.promise_laws.proofs.ShownRuns.{shown}
 use Rattle.promise_laws.proofs.ShownPromise.{promised}
-use Rattle.promise_examples.specs.Examples.{account_program, account_1, program_bytes, unit_no, first_commit, next_commit, first_version, first_entry, manager_of}
+use Rattle.promise_examples.specs.Examples.{account_log, account_program, account_1, program_bytes, unit_no, first_commit, next_commit, first_version, first_entry, manager_of}
 use Rattle.promise_examples.specs.DepositRuns.{HasNone, LeavesOthers, IsBetween}
 use Rattle.promise_examples.specs.HostCalls.{IsHosted}
 use Rattle.promise_examples.specs.WrittenRun.{new_manager, disk_of, new_disk, pending_block, pending_gate, reply_text, opened}
@@ -63,7 +65,7 @@ use Rattle.promise_spec.proofs.Slots.{first_live}
 
 -- ---- the bytes
 
-pub block_spelled : block_of (body_of both_commits) ≡ both_block
+pub block_spelled : block_of (body_of (Records both_commits)) ≡ both_block
 block_spelled = refl
 
 four : FitsSigned w64 (pos 4)
@@ -98,14 +100,14 @@ last_fits = record {
 }
 
 -- the block is whole, and its gate is the last byte's
-both_blocks : LogsUpTo (map body_of (both_commits ∷ [])) 152 (manager_of both_block 1)
+both_blocks : LogsUpTo (map body_of (Records both_commits ∷ [])) 152 (manager_of both_block 1)
 both_blocks = record { blocks = record { small = (lit< tt, tt); at = refl; within = omega arith; blocks = refl }; closed = λ e. cc e }
 
 -- ---- the images
 
 -- the image's log is both records
 abbrev HasBoth : Image → Type 0
-HasBoth image = IsLog 0 (shape_in account_program) image both_commits
+HasBoth image = IsLog 0 image (account_log both_commits)
 
 -- it has both or none
 abbrev MayHaveBoth : Image → Type 0
@@ -118,7 +120,7 @@ module _ (image : Image) where
     header = ap header_damage is;
     batches = both_commits ∷ [];
     gate = 152;
-    blocks = subst (λ (f : List ℕ). LogsUpTo (map body_of (both_commits ∷ [])) 152 f) (sym is) both_blocks;
+    blocks = subst (λ (f : List ℕ). LogsUpTo (map body_of (Records both_commits ∷ [])) 152 f) (sym is) both_blocks;
     sizes = (omega arith, tt);
     commits = refl;
     kept = (
@@ -226,9 +228,9 @@ alone =
     at_each (LeavesAlone 0 batched) opened batching (moment_of batch_after) (at_new batched refl [] (settled [])).alone (all_less IsOnWay (LeavesAlone 0 batched) batching way_alone on_way)
     (alone_of batched refl (reply_text ++ second_text) (settled (manager_of both_block 1)) (settled both_versions) (sealed_front both_block 1))
 
-whole_batches : (image : Image) (log : List Commit) → MayHaveBoth image → IsLog 0 (shape_in account_program) image log → EndsABatch (core_end account_program batch_course) [] log
-whole_batches image log (inl none) is = subst (EndsABatch (core_end account_program batch_course) []) (one_log 0 0 (shape_in account_program) image [] log none.0 is) (no_batch (core_end account_program batch_course) [])
-whole_batches image log (inr has) is = subst (EndsABatch (core_end account_program batch_course) []) (one_log 0 0 (shape_in account_program) image both_commits log has is) both_end
+whole_batches : (image : Image) (log : Log) → MayHaveBoth image → IsLog 0 image log → EndsABatch (core_end account_program batch_course) (account_log []) log
+whole_batches image log (inl none) is = subst (EndsABatch (core_end account_program batch_course) (account_log [])) (one_log 0 0 image (account_log []) log none.0 is) (no_batch (core_end account_program batch_course) (account_log []))
+whole_batches image log (inr has) is = subst (EndsABatch (core_end account_program batch_course) (account_log [])) (one_log 0 0 image (account_log both_commits) log has is) both_end
 
 -- ---- the journal
 
@@ -387,9 +389,9 @@ leaves : LeavesAtExit account_program batched batch_course
 leaves = record {
   logs = λ image left. record { log = both_commits; is = both_images image left; which = inl refl };
   nowhere = λ e there.
-      either_of (λ (d : Entry). d.what ≡ settled_as.InDoubt → IsNowhere 0 account_program batched d.unit → HasNoRecord batch_course d.unit) first_entry second_entry e (λ is. absurd (cc is)) (λ is. absurd (cc is)) there;
+      either_of (λ (d : Entry). d.what ≡ settled_as.InDoubt → IsNowhere 0 batched d.unit → HasNoRecord batch_course d.unit) first_entry second_entry e (λ is. absurd (cc is)) (λ is. absurd (cc is)) there;
   block = λ doubt. absurd (no_doubt doubt);
-  behind = λ none image left. ends_there (map body_of (both_commits ∷ [])) 152 (image manager) (manager_of both_block 1) new_manager (settled_only (manager_of both_block 1) (image manager) (left manager)) both_blocks refl (omega arith);
+  behind = λ none image left. ends_there (map body_of (Records both_commits ∷ [])) 152 (image manager) (manager_of both_block 1) new_manager (settled_only (manager_of both_block 1) (image manager) (left manager)) both_blocks refl (omega arith);
 }
 
 answered : (n : ℕ) → 1 ≤ n → n ≤ 2 → (e : Entry) × Member e both_entries × (e.line ≡ n)

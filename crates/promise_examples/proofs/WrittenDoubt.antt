@@ -145,7 +145,7 @@ is_doubt_run = record {
   others = other_counts;
 }
 
-pub sound_at_entry : IsSoundFolder account_program pair_before
+pub sound_at_entry : IsSoundFolder pair_before
 sound_at_entry = sound_world pair_before (λ image left. left)
 
 pub doubted_keeps : Keeps account_program doubted (doubt_course opened told doubting doubted)

@@ -215,7 +215,7 @@ as_written (Grain zero grain) = either_way (same_grain grain account_1) where
   either_way false = refl
 as_written (Grain (suc slot) grain) = refl
 
-pub sound_after : IsSoundFolder account_program init_after
+pub sound_after : IsSoundFolder init_after
 sound_after = sound_world init_after (λ image left f. subst (λ (file : FileState). MayLeave file (image f)) (as_written f) (left f))
 
 -- ---- the host's calls

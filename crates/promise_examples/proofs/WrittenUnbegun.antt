@@ -14,6 +14,7 @@ use Rattle.core_model.specs.CoreState.{GrainId, Member, put, put_grain}
 use Rattle.gate_block.specs.Log.{HasBlocks}
 use Rattle.silo_spec.specs.Silos.{manager}
 use Rattle.promise_spec.specs.Programs.{shape_in}
+use Rattle.promise_spec.specs.Entries.{Log}
 use Rattle.promise_spec.specs.Records.{Commit, AreRecordsOf}
 use Rattle.promise_spec.specs.Logs.{IsLog}
 use Rattle.promise_spec.specs.Outputs.{Grew, reply_lines}
@@ -31,7 +32,7 @@ use Rattle.promise_spec.proofs.OneLog.{one_log}
 use Rattle.promise_laws.specs.Obligations.{SaysIn, Opens, Journals, ExplainsEvents, LeavesAtExit, EndsRightly, Shows}
 use Rattle.promise_laws.proofs.ShownRuns.{shown}
 use Rattle.promise_laws.proofs.ShownPromise.{promised}
-use Rattle.promise_examples.specs.Examples.{account_program, first_commit, grain_bytes, block_bytes, manager_bytes, locked_entry, doubt_entry, conflict_entries}
+use Rattle.promise_examples.specs.Examples.{account_log, account_program, first_commit, grain_bytes, block_bytes, manager_bytes, locked_entry, doubt_entry, conflict_entries}
 use Rattle.promise_examples.specs.DepositRuns.{HasNone, LeavesOthers, IsBetween}
 use Rattle.promise_examples.specs.HostCalls.{IsHosted}
 use Rattle.promise_examples.specs.WrittenRun.{new_manager, new_disk, version_pending, block_pending, staged_disk, opened}
@@ -84,7 +85,7 @@ none_has : (m : Moment) → Member m (moments unbegun unbegun_course) → AllHav
 none_has = at_each AllHaveNone opened gate_failing (moment_of unbegun_after) (λ image left. new_images image left) (all_less HasNoneAt AllHaveNone gate_failing (λ m is. is.images) on_way) at_exit.images
 
 -- so each log is empty
-pub no_records : (m : Moment) (image : Image) → Member m (moments unbegun unbegun_course) → IsImage m.disk image → IsLog 0 (shape_in account_program) image []
+pub no_records : (m : Moment) (image : Image) → Member m (moments unbegun unbegun_course) → IsImage m.disk image → IsLog 0 image (account_log [])
 no_records m image there left = (none_has m there image left).0
 
 -- other files and the header are as they were
@@ -99,9 +100,9 @@ alone =
     (all_less HasNoneAt (LeavesAlone 0 unbegun) gate_failing (λ m is. is.alone) on_way) at_exit.alone
 
 -- an empty log ends where a batch does
-whole_batches : (image : Image) (log : List Commit) → HasNone image → IsLog 0 (shape_in account_program) image log → EndsABatch (core_end account_program unbegun_course) [] log
+whole_batches : (image : Image) (log : Log) → HasNone image → IsLog 0 image log → EndsABatch (core_end account_program unbegun_course) (account_log []) log
 whole_batches image log none is =
-    subst (EndsABatch (core_end account_program unbegun_course) []) (one_log 0 0 (shape_in account_program) image [] log none.0 is) (no_batch (core_end account_program unbegun_course) [])
+    subst (EndsABatch (core_end account_program unbegun_course) (account_log [])) (one_log 0 0 image (account_log []) log none.0 is) (no_batch (core_end account_program unbegun_course) (account_log []))
 
 -- ---- the journal: both entries, and no record
 

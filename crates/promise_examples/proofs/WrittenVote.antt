@@ -111,7 +111,7 @@ is_vote_run = record {
   others = other_counts;
 }
 
-pub sound_at_entry : IsSoundFolder account_program reading_before
+pub sound_at_entry : IsSoundFolder reading_before
 sound_at_entry = sound_world reading_before (λ image left. left)
 
 pub voted_keeps : Keeps account_program voted (vote_course opened failing vote_told voted)

@@ -95,7 +95,7 @@ module _ (m : Manner) (r : Observed) where
     | inr opened ↦ subst ending.IsCarried is opened.carried
   ]
 
-  pub sound_damaged : (live : ℕ) (p : Program) (f : FileId) (place : ℕ) → Promises m r → IsChecked p → IsSound live p (seen_at_entry r) → r.ending ≡ ending.Damaged f place → ⊥
+  pub sound_damaged : (live : ℕ) (p : Program) (f : FileId) (place : ℕ) → Promises m r → IsChecked p → IsSound live (seen_at_entry r) → r.ending ≡ ending.Damaged f place → ⊥
   sound_damaged live p f place keeps checked sound is =
       another_place f place keeps is (not_two (opened_as (seen_at_entry r)) live p sound.log f place (sound_is_read live p (seen_at_entry r) checked sound))
 
@@ -204,7 +204,7 @@ same_text : (text : Program → List Commit → List ℕ) (p q : Program) (a b :
 same_text text p q a b e f = λ i. text (e i) (f i)
 
 pub another_text : (text : Program → List Commit → List ℕ) (r : Observed) (live : ℕ) (p : Program) (log : List Commit) → Reports text r → r.ending ≡ ending.Done
-    → IsChecked p → HasProgram p.text (seen_at_entry r (file.Program live)) → IsLog live (shape_in p) (seen_at_entry r) log → r.new.output ≢ r.old.output ++ text p log → ⊥
+    → IsChecked p → HasProgram p.text (seen_at_entry r (file.Program live)) → IsLog live (seen_at_entry r) log → r.new.output ≢ r.old.output ++ text p log → ⊥
 another_text text r live p log (inl unopened) done checked program is differ = not_opened r unopened done
 another_text text r live p log (inr reported) done checked program is differ =
     let e = reads_is reported.live live reported.program p reported.log log (sym reported.reads ∙ log_is_read (seen_at_entry r) live p log checked program is) in

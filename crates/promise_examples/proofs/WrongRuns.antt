@@ -39,6 +39,7 @@ use Rattle.request_wire.specs.Reply.{reply_line}
 use Rattle.script_tree.specs.Programs.{ProgramTree}
 use Rattle.script_meaning.specs.Play.{IsTransaction}
 use Rattle.promise_spec.specs.Programs.{Program, shape_in}
+use Rattle.promise_spec.specs.Entries.{Log}
 use Rattle.promise_spec.specs.Records.{Commit, Standing, States, after_writes, AreRecordsOf}
 use Rattle.promise_spec.specs.Serial.{IsSerial, played}
 use Rattle.promise_spec.specs.Logs.{magic, IsLog, IsPrefix, body_of}
@@ -111,7 +112,7 @@ many (batch ∷ batches) records sizes long same =
     let same_count : length (map (λ (c : Commit). c.logged) batch) ≡ length records = sym one ∙ ap (λ (l : List ℕ). from_le_bytes w32 (take 4 l)) body ∙ other in
     omega (arith, same_count, size, few, long)
 
-pub too_many : (live : ℕ) (shape : Shape) (image : Image) (records : List CommitRecord) (gate : ℕ) (log : List Commit) → length records ≡ 65 → LogsUpTo (spelling_of_body records ∷ []) gate (image (file.Manager live)) → IsLog live shape image log → ⊥
+pub too_many : (live : ℕ) (shape : Shape) (image : Image) (records : List CommitRecord) (gate : ℕ) (log : List Commit) → length records ≡ 65 → LogsUpTo (spelling_of_body records ∷ []) gate (image (file.Manager live)) → IsLog live image log → ⊥
 too_many live shape image records gate log long blocks_are is =
     many is.batches records is.sizes long (blocks.one_log (map body_of is.batches) (spelling_of_body records ∷ []) is.gate gate (image (file.Manager live)) is.blocks blocks_are).0
 
@@ -122,23 +123,23 @@ nothing_added types standing (x ∷ added) (inl none) l there = absurd none
 nothing_added types standing (x ∷ added) (inr follow) l there = absurd (cc follow.doubt)
 
 module _ (p : Program) (r : Observed) (c : Course) where
-  pub read_at_entry : (log : List Commit) → Keeps p r c → IsLog c.live (shape_in p) (seen_at_entry r) log → c.opening ≡ log
-  read_at_entry log keeps is = one_log c.live c.live (shape_in p) (seen_at_entry r) c.opening log keeps.headline.ordered.read is
+  pub read_at_entry : (log : Log) → Keeps p r c → IsLog c.live (seen_at_entry r) log → c.opening ≡ log
+  read_at_entry log keeps is = one_log c.live c.live (seen_at_entry r) c.opening log keeps.headline.ordered.read is
 
-  pub opening_is : (image : Image) (log : List Commit) → Keeps p r c → IsImage (last_of (moment_of r.old) c.early).disk image → IsLog c.live (shape_in p) image log → c.opening ≡ log
-  opening_is image log keeps left is = one_log c.live c.live (shape_in p) image c.opening log (keeps.headline.ordered.opened image left).log is
+  pub opening_is : (image : Image) (log : Log) → Keeps p r c → IsImage (last_of (moment_of r.old) c.early).disk image → IsLog c.live image log → c.opening ≡ log
+  opening_is image log keeps left is = one_log c.live c.live image c.opening log (keeps.headline.ordered.opened image left).log is
 
-  pub shorter : (image : Image) (log : List Commit) → Keeps p r c → IsImageOf (moments r c) image → IsLog c.live (shape_in p) image log → (IsPrefix c.opening log → ⊥) → ⊥
+  pub shorter : (image : Image) (log : Log) → Keeps p r c → IsImageOf (moments r c) image → IsLog c.live image log → (IsPrefix c.opening log → ⊥) → ⊥
   shorter image log keeps left is lost =
       let k = keeps.headline.crashes.keeps image left in
-      lost (subst (λ (l : List Commit). IsPrefix c.opening l) (one_log c.live c.live (shape_in p) image k.log log k.is is) k.longer)
+      lost (subst (λ (l : List Commit). IsPrefix c.opening l) (one_log c.live c.live image k.log log k.is is) k.longer)
 
-  pub part_of_batch : (image : Image) (more : List Commit) (n : ℕ) → Keeps p r c → IsImageOf (moments r c) image → IsLog c.live (shape_in p) image (c.opening ++ more)
+  pub part_of_batch : (image : Image) (more : List Commit) (n : ℕ) → Keeps p r c → IsImageOf (moments r c) image → IsLog c.live image (grown c.opening more)
       → length (kept_by (core_end p c) n) < length more → length more < length (kept_by (core_end p c) (n + 1)) → ⊥
   part_of_batch image more n keeps left is above below =
-      not_between (core_end p c) c.opening more n (keeps.traced.whole image (c.opening ++ more) left is) above below
+      not_between (core_end p c) c.opening more n (keeps.traced.whole image (grown c.opening more) left is) above below
 
-  pub one_of_two : (image : Image) (l : Commit) → Keeps p r c → IsImageOf (moments r c) image → IsLog c.live (shape_in p) image (c.opening ++ (l ∷ [])) → 2 ≤ length (kept_by (core_end p c) 1) → ⊥
+  pub one_of_two : (image : Image) (l : Commit) → Keeps p r c → IsImageOf (moments r c) image → IsLog c.live image (grown c.opening (l ∷ [])) → 2 ≤ length (kept_by (core_end p c) 1) → ⊥
   one_of_two image l keeps left is two =
       let none : length (kept_by (core_end p c) 0) ≡ 0 = refl in
       let below : length (l ∷ []) < length (kept_by (core_end p c) (0 + 1)) = omega (arith, two) in
@@ -162,7 +163,7 @@ module _ (p : Program) (r : Observed) (c : Course) where
   pub changed_header : (m : Moment) (image : Image) → Keeps p r c → Member m (moments r c) → IsImage m.disk image → take 15 (image (file.Manager c.live)) ≢ take 15 (seen_at_entry r (file.Manager c.live)) → ⊥
   changed_header m image keeps there left differ = differ ((keeps.headline.crashes.alone m there).header image left)
 
-  pub early_reply : (m : Moment) (image : Image) (more : List ℕ) → Keeps p r c → Member m (moments r c) → IsImage m.disk image → IsLog c.live (shape_in p) image c.opening → m.output ≡ r.old.output ++ more → Member 10 more
+  pub early_reply : (m : Moment) (image : Image) (more : List ℕ) → Keeps p r c → Member m (moments r c) → IsImage m.disk image → IsLog c.live image c.opening → m.output ≡ r.old.output ++ more → Member 10 more
       → ((e : Entry) → Member e c.entries → (l : Commit) × Member l c.added × Acknowledges e l × (Member l c.opening → ⊥)) → ⊥
   early_reply m image more keeps there left is grew feed backed =
       let h = keeps.headline.holds m image there left in
@@ -170,7 +171,7 @@ module _ (p : Program) (r : Observed) (c : Course) where
       let w = written_some (shape_in p) h.written c.entries h.rest more same h.output.unended feed h.front in
       let b = backed w.0 w.2 in
       let has : Member b.0 h.log = h.has w.0 b.0 w.1 b.1 b.2 in
-      b.3 (subst (λ (l : List Commit). Member b.0 l) (one_log c.live c.live (shape_in p) image h.log c.opening h.is is) has)
+      b.3 (subst (λ (l : List Commit). Member b.0 l) (one_log c.live c.live image h.log c.opening h.is is) has)
 
   pub untold : Keeps p r c → length c.entries < (core_end p c).manager.emitted → ⊥
   untold keeps more = let told : (core_end p c).manager.emitted ≤ length c.entries = keeps.settled.told in omega arith
@@ -193,16 +194,16 @@ module _ (p : Program) (r : Observed) (c : Course) where
   pub locked_and_logged : (e : Entry) (l : Commit) (by : UnitNo) (grain : GrainId) → Keeps p r c → Member e c.entries → e.what ≡ settled.Lock by grain → Member l c.added → l.logged.unit ≡ e.unit → ⊥
   locked_and_logged e l by grain keeps there is added same = subst (λ (w : Settled). IsTrueOf p r c e w) is (keeps.headline.replies.true_each e there) l added same
 
-  in_order : (image : Image) (log : List Commit) (l : Commit) → Keeps p r c → IsImage r.new.disk image → IsLog c.live (shape_in p) image log → Member l log → Member l (order c)
+  in_order : (image : Image) (log : Log) (l : Commit) → Keeps p r c → IsImage r.new.disk image → IsLog c.live image log → Member l log → Member l (order c)
   in_order image log l keeps left is there =
       let k = keeps.exit.logs image left in
-      let here : Member l k.log = subst (λ (x : List Commit). Member l x) (one_log c.live c.live (shape_in p) image log k.log is k.is) there in
+      let here : Member l k.log = subst (λ (x : List Commit). Member l x) (one_log c.live c.live image log k.log is k.is) there in
       elim k.which [
         | inl same ↦ subst (λ (x : List Commit). Member l x) same here
         | inr lacks ↦ subst (λ (x : List Commit). Member l x) (sym lacks.split) (in_append l k.log lacks.last (inl here))
       ]
 
-  pub refused_in_doubt : (e : Entry) (l : Commit) (image : Image) (log : List Commit) → Keeps p r c → Member e c.entries → e.what ≡ settled.Disk → IsImage r.new.disk image → IsLog c.live (shape_in p) image log → Member l log
+  pub refused_in_doubt : (e : Entry) (l : Commit) (image : Image) (log : Log) → Keeps p r c → Member e c.entries → e.what ≡ settled.Disk → IsImage r.new.disk image → IsLog c.live image log → Member l log
       → (Member l c.opening → ⊥) → l.logged.unit ≡ e.unit → ⊥
   refused_in_doubt e l image log keeps there is left log_is in_log not_old same =
       let none : HasNoRecord c e.unit = subst (λ (w : Settled). IsTrueOf p r c e w) is (keeps.headline.replies.true_each e there) in
@@ -225,17 +226,17 @@ module _ (p : Program) (r : Observed) (c : Course) where
       → ((states : States) → (played p.types states parent.logged).asked ≡ []) → ⊥
   not_asked l parent index depth keeps added also is asks_none =
       let a = keeps.traced.family.asked l parent index depth added also is in
-      let none = asks_none (states_after (opening_standing p c).states a.front) in
+      let none = asks_none (states_after (standing_of c.opening).states a.front) in
       none_at index _ (sym (ap (λ asked. slice_get asked index) none) ∙ a.asks)
 
   pub another_call : (at n : ℕ) (call other : Call) (plain : Bool) → Keeps p r c → AppliesAt (core_run p c) at (event.Begin (Line n) call plain) → IsLineCall p.types (lines r) n other → call ≢ other → ⊥
   another_call at n call other plain keeps begins_it asks differ = differ (same_call p.types (lines r) n call other (keeps.explained.units at (event.Begin (Line n) call plain) begins_it).0 asks)
 
   pub wrong_total : (e : Entry) (l : Commit) (front back : List Commit) (outcome : Outcome) → Keeps p r c → Member e c.entries → e.what ≡ settled.Done outcome → c.added ≡ front ++ (l ∷ back) → IsEntryOf e l → IsTransaction p.types l.logged.call
-      → (played p.types (states_after (opening_standing p c).states front) l.logged).result ≢ outcome → ⊥
+      → (played p.types (states_after (standing_of c.opening).states front) l.logged).result ≢ outcome → ⊥
   wrong_total e l front back outcome keeps there is split of transaction differ =
       let added : Member l c.added = subst (λ (x : List Commit). Member l x) (sym split) (in_append l front (l ∷ back) (inr (inl refl))) in
-      let replays = serial_at p.types (opening_standing p c).states front l back (subst (λ (x : List Commit). IsSerial p.types (opening_standing p c).states x) split keeps.headline.ordered.serial) in
+      let replays = serial_at p.types (standing_of c.opening).states front l back (subst (λ (x : List Commit). IsSerial p.types (standing_of c.opening).states x) split keeps.headline.ordered.serial) in
       elim (subst (λ (w : Settled). IsTrueOf p r c e w) is (keeps.headline.replies.true_each e there)) [
         | inl reply ↦
             let same : reply.commit ≡ l = keeps.traced.family.one_each reply.commit l e.line reply.added added reply.of.line of.line in
@@ -331,7 +332,7 @@ module _ (p : Program) (r : Observed) (c : Course) where
   -- a run that ends as none does that has begun has no records
   pub unbegun_record : (l : Commit) → Keeps p r c → (ending.IsBegun r.ending → ⊥) → Member l c.added → ⊥
   unbegun_record l keeps never there =
-      nothing_added p.types (opening_standing p c) c.added (subst (λ (events : List CoreEvent). AreAdded (ends (core_from p.types (opening_standing p c) events)) c.added) (no_events p r c keeps never) keeps.explained.records) l there
+      nothing_added p.types (standing_of c.opening) c.added (subst (λ (events : List CoreEvent). AreAdded (ends (core_from p.types (standing_of c.opening) events)) c.added) (no_events p r c keeps never) keeps.explained.records) l there
 
   pub grain_fault : (slot : ℕ) (grain : GrainId) → Keeps p r c → r.ending ≡ ending.DiskFault (file.Grain slot grain) → ⊥
   grain_fault slot grain keeps is = let same : file.Grain slot grain ≡ file.Manager c.live = (keeps.explained.doubted (file.Grain slot grain) is).0 in absurd (cc same)

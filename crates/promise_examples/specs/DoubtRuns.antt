@@ -14,7 +14,7 @@ use Rattle.promise_spec.specs.Endings.{DiskFault, input_limit}
 use Rattle.promise_spec.specs.Crashes.{LeavesAlone}
 use Rattle.promise_spec.specs.Courses.{Observed, Course, seen_at_entry, lines}
 use Rattle.promise_spec.specs.Exits.{HasBlock, DifferAt}
-use Rattle.promise_examples.specs.Examples.{account_program, first_commit, locked_entry, conflict_entries, conflict_events, AskDeposits}
+use Rattle.promise_examples.specs.Examples.{account_log, account_program, first_commit, locked_entry, conflict_entries, conflict_events, AskDeposits}
 use Rattle.promise_examples.specs.DepositRuns.{HasNone, HasDeposit, MayHaveDeposit, LeavesOthers, IsBetween}
 
 -- what a run has written when the second line is told
@@ -33,7 +33,7 @@ pub record IsDoubtRun (r : Observed) (opened : Moment) (told doubting : List Mom
   pub given : lines r ≡ lines_of r.old.input
   pub asks : AskDeposits (lines r)
   pub left : r.new.input ≡ []
-  pub read : IsLog 0 (shape_in account_program) (seen_at_entry r) []
+  pub read : IsLog 0 (seen_at_entry r) (account_log [])
   pub past : r.new.past ≡ r.old.past ++ (opened ∷ (told ++ doubting ++ moment_of r.new ∷ []))
   pub quiet : opened.output ≡ r.old.output
   pub output : r.new.output ≡ r.old.output ++ reply_lines (shape_in account_program) conflict_entries
@@ -58,7 +58,7 @@ pub record IsDoubtRun (r : Observed) (opened : Moment) (told doubting : List Mom
 abbrev pub doubt_course : Moment → List Moment → List Moment → Observed → Course
 doubt_course opened told doubting r = record {
   live = 0;
-  opening = [];
+  opening = account_log [];
   added = first_commit ∷ [];
   early = opened ∷ [];
   late = told ++ doubting ++ moment_of r.new ∷ [];

@@ -1,5 +1,5 @@
 -- What a run answers over every host, where it ended by its turns.
-use Rattle.std.proofs.Common.{◌≡◌, ℕ, ◌<◌, ◌≤◌, Bool, IsTrue, List, [], length, Result, refl, sym, subst, arith}
+use Rattle.std.proofs.Common.{ℕ, ◌<◌, ◌≤◌, Bool, IsTrue, List, [], length, Result, refl, sym, subst, arith}
 use Rattle.std.specs.Prelude.{not}
 use Rattle.host_trait.specs.declared.channels.Channel.{Channel}
 use Rattle.host_trait.specs.Faults.{NoneFailed}

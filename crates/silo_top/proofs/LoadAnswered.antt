@@ -1,5 +1,5 @@
 -- What a load answers over every host, where its turns ended.
-use Rattle.std.proofs.Common.{◌≡◌, ◌≢◌, inl, inr, ℕ, ◌<◌, Bool, true, IsTrue, List, [], length, Result, Ok, Err, refl, sym, ◌∙◌, ap, subst, arith}
+use Rattle.std.proofs.Common.{◌≡◌, ◌≢◌, inl, inr, ℕ, ◌<◌, Bool, true, List, [], Result, Err, sym, ◌∙◌, subst, arith}
 use Rattle.std.specs.Prelude.{not}
 use Rattle.host_trait.specs.declared.channels.Channel.{Channel}
 use Rattle.host_trait.specs.declared.channels.Channel.TheVariants.{Input, Output}

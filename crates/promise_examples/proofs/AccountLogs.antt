@@ -1,0 +1,14 @@
+-- Batches of records in a silo of accounts are its log.
+use Rattle.std.proofs.Common.{◌≡◌, ℕ, List}
+use Rattle.host_trait.specs.World.{Image}
+use Rattle.silo_spec.specs.Silos.{manager, program_file, IsSilo, HasProgram}
+use Rattle.promise_spec.specs.Programs.{shape_in}
+use Rattle.promise_spec.specs.Records.{Commit}
+use Rattle.promise_spec.specs.Logs.{magic, IsLog}
+use Rattle.promise_spec.proofs.Slots.{first_live}
+use Rattle.promise_spec.proofs.Batched.{IsBatched, logged_in}
+use Rattle.promise_examples.specs.Examples.{account_text, account_program, account_log}
+use Rattle.promise_examples.proofs.AccountText.{account_is_checked}
+
+pub account_logged : (image : Image) (commits : List Commit) → IsSilo magic (image manager) → HasProgram account_text (image program_file) → IsBatched 0 (shape_in account_program) image commits → IsLog 0 image (account_log commits)
+account_logged image commits silo text b = record { is_live = first_live image silo; is = logged_in 0 image account_program commits account_is_checked text b }
