@@ -6,7 +6,7 @@ use Rattle.host_trait.specs.declared.channels.Channel.{Channel}
 use Rattle.host_trait.specs.declared.channels.Channel.TheVariants.{Input, Output, File}
 use Rattle.host_trait.specs.Faults.{Rose}
 use Rattle.host_trait.specs.World.{World, Disk, Moment, Image, IsImage, moment_of, last_of}
-use Rattle.promise_spec.specs.Programs.{Program, shape_in}
+use Rattle.promise_spec.specs.Programs.{Program}
 use Rattle.promise_spec.specs.Logs.{IsLog}
 use Rattle.promise_spec.specs.Causes.{NoneRose, RunHasDoubt}
 use Rattle.promise_spec.specs.Endings as ending
@@ -46,7 +46,7 @@ calm_by old new e none begun risen = go e begun risen
 
 module _ (p : Program) (n seed : ℕ) (r : Observed) (c : Course) (mid : World) (counts : Channel → ℕ) (turns_end : Ending) (turns told : List Moment) (s : ShowsLoad p n seed r c mid counts turns_end turns told) where
   -- nothing is printed before all lasts
-  lasting : (m : Moment) (image : Image) → Member m (moments r c) → IsImage m.disk image → m.output ≢ r.old.output → IsLog c.live (shape_in p) image (order c)
+  lasting : (m : Moment) (image : Image) → Member m (moments r c) → IsImage m.disk image → m.output ≢ r.old.output → IsLog c.live image (order c)
   lasting m image there left printed = elim (part_of p n seed r c mid counts turns_end turns told s m there) [
     | inl first ↦ absurd (printed (ap (λ (x : Moment). x.output) first ∙ last_quiet r.old.output (moment_of r.old) c.early refl s.lasts.opens.quiet))
     | inr (inl y) ↦ absurd (printed (s.hushed m y))
@@ -54,7 +54,7 @@ module _ (p : Program) (n seed : ℕ) (r : Observed) (c : Course) (mid : World) 
     | inr (inr (inr y)) ↦ behind (ap (λ (x : Moment). x.disk) y ∙ s.disk) (λ none. y)
   ]
     where
-      behind : m.disk ≡ mid.disk → (told ≡ [] → m ≡ moment_of r.new) → IsLog c.live (shape_in p) image (order c)
+      behind : m.disk ≡ mid.disk → (told ≡ [] → m ≡ moment_of r.new) → IsLog c.live image (order c)
       behind same now = elim s.printed [
         | inl none ↦ absurd (printed (ap (λ (x : Moment). x.output) (now none.0) ∙ none.1))
         | inr sure ↦ whole_order p n seed r c mid counts turns_end turns told s sure image (subst (λ (d : Disk). IsImage d image) same left)

@@ -12,10 +12,10 @@ use Rattle.host_trait.proofs.Moments.{weaker}
 use Rattle.silo_spec.specs.Silos.{manager}
 use Rattle.silo_spec.specs.Moments.{IsAsAtEntry, IsUntouched}
 use Rattle.log_reading.specs.Steps.{seen_in}
-use Rattle.promise_spec.specs.Programs.{Program, IsChecked}
+use Rattle.promise_spec.specs.Entries.{Log, standing_of}
 use Rattle.promise_spec.specs.Openings.{Reads}
 use Rattle.promise_spec.proofs.Openings.{reads_is_live}
-use Rattle.promise_spec.specs.Courses.{Observed, Course}
+use Rattle.promise_spec.specs.Courses.{Observed, Course, program_in_force}
 use Rattle.promise_spec.specs.Images.{IsWholeFolder}
 use Rattle.promise_laws.specs.Closings.{ReadsMayStay, IsBehind}
 use Rattle.promise_laws.specs.Obligations.{Opens}
@@ -50,9 +50,9 @@ untouched old mid run = record {
       | inr other ↦ ap (λ (s : FileState). s.seen) (run.now.others file (λ e. other (sym e)))
     ]
 
-pub behind : (o : Opened) (r : Observed) (c : Course) (mid : host.World) (is : IsOpenedFrom (seen_in r.old.disk) o) → FollowsOpening r c mid o.slot is.log → IsBehind (program_of is) r c mid
+pub behind : (o : Opened) (r : Observed) (c : Course) (mid : host.World) (is : IsOpenedFrom (seen_in r.old.disk) o) → FollowsOpening r c mid o.slot is.log → IsBehind r c mid
 behind o r c mid is follows = record {
-  reads = is.reads ∙ (λ i. Reads (slot i) (program_of is) (log i));
+  reads = is.reads ∙ (λ i. Reads (slot i) (log i));
   untouched = untouched r.old mid follows.run;
   settled = subst (λ (s : ℕ). mid.disk (Manager s) ≡ settled (r.old.disk (Manager s)).seen) slot follows.settled;
   others = λ file other. follows.run.now.others file (λ same. other (same ∙ ap (λ (s : ℕ). Manager s) (sym first)));
@@ -69,8 +69,11 @@ behind o r c mid is follows = record {
 
     -- slot 0 alone is live
     first : c.live ≡ 0
-    first = follows.live ∙ (reads_is_live (seen_in r.old.disk) o.slot (program_of is) is.log is.reads).slot
+    first = follows.live ∙ (reads_is_live (seen_in r.old.disk) o.slot is.log is.reads).slot
 
-pub opens : (q : Program) (o : Opened) (r : Observed) (c : Course) (mid : host.World) (is : IsOpenedFrom (seen_in r.old.disk) o) → FollowsOpening r c mid o.slot is.log → IsChecked q → IsWholeFolder q r.old → ReadsMayStay r.old → ReadsMayStay mid →
-    Opens (program_of is) r c
-opens q o r c mid is follows checked whole stay stay_mid = opens_whole (program_of is) r c mid (behind o r c mid is follows) q checked whole stay stay_mid
+-- the program in force is that of the opened silo
+pub in_force : (o : Opened) (r : Observed) (c : Course) (mid : host.World) (is : IsOpenedFrom (seen_in r.old.disk) o) → FollowsOpening r c mid o.slot is.log → program_in_force c ≡ program_of is
+in_force o r c mid is follows = ap (λ (l : Log). (standing_of l).program) follows.opening ∙ is.program
+
+pub opens : (o : Opened) (r : Observed) (c : Course) (mid : host.World) (is : IsOpenedFrom (seen_in r.old.disk) o) → FollowsOpening r c mid o.slot is.log → IsWholeFolder r.old → ReadsMayStay r.old → ReadsMayStay mid → Opens r c
+opens o r c mid is follows whole stay stay_mid = opens_whole (program_of is) r c mid (behind o r c mid is follows) whole stay stay_mid

@@ -1,4 +1,4 @@
-use Rattle.std.proofs.Common.{◌≡◌, ℕ, List, Ok, sym, ◌∙◌, ap, subst}
+use Rattle.std.proofs.Common.{◌≡◌, ℕ, List, map, Ok, sym, ◌∙◌, ap, subst}
 use Rattle.base_types.specs.declared.shapes.Shape.{Shape}
 use Rattle.host_trait.specs.declared.channels.Channel.{Channel}
 use Rattle.host_trait.specs.Disk.{settled}
@@ -15,17 +15,18 @@ use Rattle.silo_opening.specs.declared.faults.OpenFault.{OpenFault}
 use Rattle.silo_opening.proofs.Opening.{seen_same}
 use Rattle.silo_opening.proofs.Runs.{run_only_asked}
 use Rattle.promise_spec.specs.Programs.{shape_in}
-use Rattle.promise_spec.specs.Records.{Commit, log_start}
+use Rattle.promise_spec.specs.Records.{Commit}
+use Rattle.promise_spec.specs.Entries.{Log, new_log, grown, records_of}
 use Rattle.promise_spec.specs.Logs.{magic}
-use Rattle.promise_spec.specs.Openings.{opened_as}
+use Rattle.promise_spec.specs.Openings.{commit_of, opened_as}
 use Rattle.promise_spec.specs.Refusals.{IsRefusedBy}
 use Rattle.promise_spec.proofs.Openings.{reads_is_live}
-use Rattle.log_audit.specs.Endings.{program_opened}
-use Rattle.log_audit.specs.Replaying.{as_commits, IsFirstFailure}
+use Rattle.promise_spec.proofs.Standings.{records_back}
+use Rattle.log_audit.specs.Replaying.{first_states, as_commits, IsFirstFailure}
 use Rattle.log_audit.specs.Unread.{IsRereadFault}
 use Rattle.log_audit.proofs.Reread.{open_faulted}
 use Rattle.log_audit.proofs.Refused.{refused_again}
-use Rattle.log_audit.proofs.Shown.{parts, count_of}
+use Rattle.log_audit.proofs.Shown.{program_opened, parts}
 use Rattle.log_audit.proofs.audits.audit.Goals as goal
 
 pub returns-in-Ok-replay_log-clause-audited : goal.returns-in-Ok-replay_log-clause-audited
@@ -41,14 +42,17 @@ returns-in-Ok-replay_log-clause-audited g c told =
     let shape : c.in-Ok-shape.shape ≡ shape_in p = (λ i. record { types = c.in-Ok-shape.ensures i }) in
     let whole = parts image opened o in
     let read : records_in_file c.in-Ok-shape.shape ((mid.disk (Manager opened.slot)).seen) ≡ Ok whole.records = (λ i. records_in_file (shape i) (same i (Manager opened.slot))) ∙ whole.read in
-    let log : as_commits opened.slot c.in-Ok-shape.shape (seen_in mid.disk) whole.records ≡ o.log = (λ i. as_commits opened.slot (shape i) (same i) whole.records) ∙ whole.commits in
+    let bad = c.in-Ok-replay_log.first_bad in
+    let commits : List Commit = map (commit_of opened.slot (shape_in p) image) whole.records in
+    let seen : as_commits opened.slot c.in-Ok-shape.shape (seen_in mid.disk) whole.records ≡ commits = (λ i. as_commits opened.slot (shape i) (same i) whole.records) in
+    let first : IsFirstFailure types (first_states types) (records_of (grown (new_log p) commits)) bad =
+    subst (λ (l : List Commit). IsFirstFailure types (first_states types) l bad) (seen ∙ sym (records_back commits)) (c.in-Ok-replay_log.ensures.replays told whole.records read) in
     record {
       live = opened.slot;
-      program = p;
       log = o.log;
       reads = o.reads;
-      count = o.count ∙ count_of types o.log;
-      first = subst (λ (l : List Commit). IsFirstFailure types (log_start types).states l c.in-Ok-replay_log.first_bad) log (c.in-Ok-replay_log.ensures.replays told whole.records read);
+      count = o.count;
+      first = subst (λ (l : Log). IsFirstFailure l.base.program.types l.base.states (records_of l) bad) whole.are first;
     }
 
 pub returns-in-Ok-replay_log-clause-settled : goal.returns-in-Ok-replay_log-clause-settled
@@ -57,7 +61,7 @@ returns-in-Ok-replay_log-clause-settled g c told live is =
     let new = g.H.Host.world c.replay_log.new.host in
     let opened = c.in-Ok.opened in
     let o = c.in-Ok.ensures.opened told in
-    let read : IsLive magic opened.slot (seen_in old.disk) = reads_is_live (seen_in old.disk) opened.slot (program_opened (seen_in old.disk) opened o) o.log o.reads in
+    let read : IsLive magic opened.slot (seen_in old.disk) = reads_is_live (seen_in old.disk) opened.slot o.log o.reads in
     let here : new.disk (Manager opened.slot) ≡ settled (old.disk (Manager opened.slot)).seen = ap (λ (d : Disk). d (Manager opened.slot)) (c.replay_log.ensures.asked told).disk ∙ c.in-Ok.ensures.settled told in
     subst (λ (slot : ℕ). new.disk (Manager slot) ≡ settled (old.disk (Manager slot)).seen) (read.slot ∙ sym is.slot) here
 
