@@ -1,6 +1,6 @@
 -- What a vote and a seal are to the journal of a run.
-use Rattle.std.proofs.Common.{◌≡◌, ◌⊎◌, inl, inr, ℕ, List, [], ◌∷◌, ◌++◌, sym, ◌∙◌, ap, subst, append-nil}
-use Rattle.host_trait.specs.World.{World, Moment, Image, Passes}
+use Rattle.std.proofs.Common.{◌≡◌, ◌⊎◌, inl, inr, ℕ, List, [], ◌∷◌, sym, ◌∙◌, subst, append-nil}
+use Rattle.host_trait.specs.World.{World, Moment, Passes}
 use Rattle.host_trait.proofs.Moments.{weaker}
 use Rattle.promise_spec.specs.Records.{Commit}
 use Rattle.promise_spec.specs.Entries.{Log, grown}

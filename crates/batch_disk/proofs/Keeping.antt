@@ -1,5 +1,5 @@
 -- What stands in an image stands in another that has the same bytes at its places.
-use Rattle.std.proofs.Common.{◌≡◌, ℕ, ◌+◌, ◌<◌, ◌≤◌, ◌==◌, if◌then◌else◌, List, [], ◌∷◌, length, map, take, drop, slice_index, Option, Some, None, refl, sym, ◌∙◌, ap, arith, subst}
+use Rattle.std.proofs.Common.{◌≡◌, ℕ, ◌+◌, ◌<◌, ◌≤◌, List, [], ◌∷◌, length, take, drop, slice_index, None, refl, sym, ◌∙◌, ap, arith, subst}
 use Rattle.std.proofs.lemmas.List.{take-take, drop-take, get_or-take}
 use Rattle.std.specs.Prelude.{⊤}
 use Rattle.std.specs.List.{AllByRecursion}
@@ -138,6 +138,6 @@ stands_up_same live shape was image log bodies gate is whole same blocks places 
 pub rests_log : (live : ℕ) (shape : Shape) (head : List ℕ) (log : Log) (bodies : List (List ℕ)) (gate : ℕ) (ends : GrainId → ℕ) (voted : List Voted) (image : Image) → PlacesAreNamed live shape head log ends
     → IsAtRest live shape head log bodies gate ends voted image → IsLog live image log
 rests_log live shape head log bodies gate ends voted image named rests = record {
-  is_live = record { slot = named.slot; silo = silo_of head bodies gate (image (Manager live)) named.silo rests.header (record { blocks = rests.stands.stand; closed = rests.closed }) };
+  is_live = named.is_live image (silo_of head bodies gate (image (Manager live)) named.silo rests.header (record { blocks = rests.stands.stand; closed = rests.closed }));
   is = record { bodies = bodies; gate = gate; stands = rests.stands; closed = rests.closed };
 }

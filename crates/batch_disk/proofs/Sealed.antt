@@ -92,7 +92,7 @@ module _ (live : ℕ) (shape : Shape) (head : List ℕ) (log : Log) (bodies : Li
 
     pub log_still : LogsUpTo bodies gate (image (Manager live)) → IsLog live image log
     log_still logs = record {
-      is_live = record { slot = named.slot; silo = silo_of head bodies gate (image (Manager live)) named.silo still_head logs };
+      is_live = named.is_live image (silo_of head bodies gate (image (Manager live)) named.silo still_head logs);
       is = record { bodies = bodies; gate = gate; stands = still_stands; closed = logs.closed };
     }
 
@@ -103,7 +103,7 @@ module _ (live : ℕ) (shape : Shape) (head : List ℕ) (log : Log) (bodies : Li
 
     pub log_more : (to : ℕ) → LogsUpTo (bodies ++ body_of (Records batch) ∷ []) to (image (Manager live)) → IsLog live image (grown log batch)
     log_more to logs = record {
-      is_live = record { slot = named.slot; silo = silo_of head (bodies ++ body_of (Records batch) ∷ []) to (image (Manager live)) named.silo still_head logs };
+      is_live = named.is_live image (silo_of head (bodies ++ body_of (Records batch) ∷ []) to (image (Manager live)) named.silo still_head logs);
       is = record { bodies = bodies ++ body_of (Records batch) ∷ []; gate = to; stands = more_stands to logs; closed = logs.closed };
     }
 
@@ -124,7 +124,7 @@ module _ (live : ℕ) (shape : Shape) (head : List ℕ) (log : Log) (bodies : Li
       let program : (standing_of (grown log batch)).program ≡ (standing_of log).program =
       in_force log.base (log.entries ++ map Recorded batch) ∙ sym (in_force log.base log.entries) in
       record {
-        slot = named.slot;
+        is_live = named.is_live;
         silo = named.silo;
         shape_is = named.shape_is ∙ ap shape_in (sym program);
         below = subst (AreBelow to) (sym (grown_records log batch)) (both_parts (λ (c : Commit). AllByRecursion (IsBelow to) c.logged.writes) (records_of log) batch

@@ -1,5 +1,5 @@
 -- What each image has between two steps that write a batch, where this slot is live.
-use Rattle.std.specs.Prelude.{◌≡◌, ◌≢◌, ℕ, ◌+◌, ◌≤◌, max, if◌then◌else◌, List, [], ◌∷◌, length, map, take, drop, slice_index, slice_get, Some, None}
+use Rattle.std.specs.Prelude.{◌≡◌, ◌≢◌, ℕ, ◌+◌, ◌≤◌, max, if◌then◌else◌, List, [], ◌∷◌, length, take, drop, slice_index, slice_get, Some, None}
 use Rattle.std.specs.List.{flat_map, AllByRecursion}
 use Rattle.base_types.specs.declared.calls.GrainId.{GrainId}
 use Rattle.base_types.specs.declared.calls.UnitNo.{UnitNo}
@@ -13,6 +13,8 @@ use Rattle.host_trait.specs.World.{Disk, Image, IsImage}
 use Rattle.grain_log.specs.Places.{places_from}
 use Rattle.grain_log.specs.Reads.{fields_of}
 use Rattle.commit_log.specs.declared.records.Written.{Written}
+use Rattle.silo_spec.specs.Silos.{IsSilo}
+use Rattle.silo_spec.specs.Slots.{IsLive}
 use Rattle.log_reading.specs.Blocks.{header_damage}
 use Rattle.promise_spec.specs.Programs.{shape_in}
 use Rattle.promise_spec.specs.Records.{Commit}
@@ -96,10 +98,10 @@ AreOfType shape grain versions = AllByRecursion (λ v. fields_of (slice_get shap
 
 -- ---- between two steps
 
--- What no image decides: the slot is one that may be live, the header is a silo's, the shape is that of the program in force, and
--- all that the log's records name ends at most at these ends.
+-- What no image decides: the slot is live where its manager file is a silo's, the header is a silo's, the shape is that of the
+-- program in force, and all that the log's records name ends at most at these ends; a base names no places.
 pub record PlacesAreNamed (live : ℕ) (shape : Shape) (head : List ℕ) (log : Log) (ends : GrainId → ℕ) : Type 0 where
-  pub slot : live ≡ 0
+  pub is_live : (image : Image) → IsSilo magic (image (Manager live)) → IsLive magic live image
   pub silo : BeginsSilo head
   pub shape_is : shape ≡ shape_in (standing_of log).program
   pub below : AreBelow ends (records_of log)

@@ -128,7 +128,7 @@ module _ (o : Outset) (x : Opened) (st : Started) (seen : Image) (is : IsOpenedF
     log = sym (grown_none o.opening);
     keeps = record {
       named = record {
-        slot = own.is_live.slot;
+        is_live = λ image silo. record { slot = own.is_live.slot; silo = silo };
         silo = silo_begins (seen (Manager o.live)) own.is_live.silo own.is.stands.header;
         shape_is = ap shape_in (sym in_force);
         below = below;
