@@ -133,7 +133,7 @@ two_kept = refl
 
 -- so a log doesn't end behind the first
 pub one_ends_none : EndsABatch (ends core) (account_log []) (account_log (first_commit ∷ [])) → ⊥
-one_ends_none is = not_between (ends core) [] (first_commit ∷ []) 0 is (omega (arith, none_before)) (omega (arith, two_kept))
+one_ends_none is = not_between (ends core) (account_log []) (first_commit ∷ []) 0 is (omega (arith, none_before)) (omega (arith, two_kept))
 
 -- ---- faults
 

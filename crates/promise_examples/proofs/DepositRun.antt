@@ -19,7 +19,6 @@ use Rattle.host_trait.specs.World.{Moment, Image, IsImage, moment_of}
 use Rattle.silo_spec.specs.Silos.{manager, program_file, HasProgram}
 use Rattle.promise_spec.specs.Programs.{shape_in}
 use Rattle.promise_spec.specs.Entries.{Log}
-use Rattle.promise_spec.specs.Records.{Commit}
 use Rattle.promise_spec.specs.Logs.{IsLog, IsPrefix}
 use Rattle.promise_spec.specs.Moments.{IsImageOf}
 use Rattle.promise_spec.specs.Outputs.{IsProper, Grew, reply_lines}
@@ -42,7 +41,7 @@ use Rattle.promise_examples.specs.Examples.{account_log, accounts, account_progr
 use Rattle.promise_examples.specs.DepositRuns.{MayHaveDeposit, LeavesOthers, IsBetween, IsDepositRun, deposit_course}
 use Rattle.promise_spec.proofs.Lists.{none_is}
 use Rattle.promise_spec.proofs.OneLog.{one_log}
-use Rattle.promise_laws.proofs.Journaled.{chained, longest, holds, whole as all_whole, sound}
+use Rattle.promise_laws.proofs.Journaled.{commits_of-append, chained, longest, holds, whole as all_whole, sound}
 use Rattle.promise_examples.proofs.FirstDeposit.{five}
 use Rattle.promise_examples.proofs.Between.{at_each, exit_there, all_less}
 use Rattle.promise_examples.proofs.WholeBatches.{no_batch}
@@ -228,19 +227,19 @@ module _ (r : Observed) (opened : Moment) (sealing : List Moment) (run : IsDepos
   whole_batches image log (inr has) is =
       subst (EndsABatch (core_end account_program course) (account_log [])) (one_log 0 0 image (account_log (first_commit ∷ [])) log has.0 is) one_batch
 
-  crashes : SurvivesCrashes account_program r course
+  crashes : SurvivesCrashes r course
   crashes = record {
     past = run.past;
     quiet = λ m there. only (λ (n : Moment). n.output ≡ r.old.output) opened m run.quiet there;
     before = λ image is. only (λ (n : Moment). IsImage n.disk image → IsImage r.old.disk image) opened is.moment (λ left. (run.entry image left).0) is.member is.left;
     chain = λ one other a b. chained 0 account_program (account_log []) r.old.output journal a.moment b.moment one other (keeps_at one a) (keeps_at other b);
-    whole = λ image is. all_whole 0 account_program (account_log []) r.old.output journal is.moment image (keeps_at image is) (known is.moment is.member image is.left).1 numbered;
-    keeps = λ image is. let k = keeps_at image is in record { log = commits_of (k.said ++ k.unsaid); is = k.log; longer = (commits_of (k.said ++ k.unsaid), refl) };
+    whole = λ image is. all_whole 0 account_program (account_log []) r.old.output journal is.moment image (keeps_at image is) numbered;
+    keeps = λ image is. let k = keeps_at image is in record { more = commits_of (k.said ++ k.unsaid); is = k.log; front = (commits_of k.later, ap commits_of k.split ∙ commits_of-append (k.said ++ k.unsaid) k.later) };
     alone = alone;
   }
 
-  sound_all : StaySound account_program r course
-  sound_all image is = sound 0 account_program (account_log []) r.old.output journal is.moment image (keeps_at image is) (known is.moment is.member image is.left).1 serial numbered
+  sound_all : StaySound r course
+  sound_all image is = sound 0 account_program (account_log []) r.old.output journal is.moment image (keeps_at image is) serial numbered
 
   -- and the files of other grains
   apart : (m : Moment) → Member m (moments r course) → LeavesOthers r m
@@ -260,7 +259,7 @@ module _ (r : Observed) (opened : Moment) (sealing : List Moment) (run : IsDepos
 
   exit : IsExit account_program r course
   exit = record {
-    logs = λ image left. record { log = first_commit ∷ []; is = (run.logged image left).0; which = inl refl };
+    logs = λ image left. record { log = account_log (first_commit ∷ []); is = (run.logged image left).0; which = inl refl };
     doubt = λ one other a b is_one is_other log_a log_b differ.
         absurd (differ (one_log 0 0 one a (account_log (first_commit ∷ [])) log_a (run.logged one is_one).0 ∙ sym (one_log 0 0 other b (account_log (first_commit ∷ [])) log_b (run.logged other is_other).0)));
     nowhere = λ e there. only (λ (d : Entry). d.what ≡ settled.InDoubt → IsNowhere 0 r d.unit → HasNoRecord course d.unit) first_entry e (λ is. absurd (cc is)) there;
@@ -348,4 +347,4 @@ module _ (r : Observed) (opened : Moment) (sealing : List Moment) (run : IsDepos
 
   -- and over a sound folder it shows what has to be shown, where some image was there at the return of the opening's sync
   pub shown : IsSoundFolder r.old → (some : Image) → IsImage opened.disk some → Shows account_program r course
-  shown sound_folder some possible = shows account_program r course kept sound_folder some possible journal refl backs (λ m there image left. (known m there image left).0)
+  shown sound_folder some possible = shows account_program r course kept refl sound_folder some possible journal refl backs (λ m there image left. (known m there image left).0)

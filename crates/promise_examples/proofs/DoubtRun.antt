@@ -49,7 +49,7 @@ use Rattle.promise_examples.specs.DepositRuns.{HasNone, HasDeposit, MayHaveDepos
 use Rattle.promise_examples.specs.DoubtRuns.{IsDoubtRun, doubt_course, first_told}
 use Rattle.promise_spec.proofs.Lists.{none_at, some_is, in_append, both_parts}
 use Rattle.promise_spec.proofs.OneLog.{one_log}
-use Rattle.promise_laws.proofs.Journaled.{chained, longest, holds, whole as all_whole, sound}
+use Rattle.promise_laws.proofs.Journaled.{commits_of-append, chained, longest, holds, whole as all_whole, sound}
 use Rattle.promise_examples.proofs.Between.{at_each, exit_there, all_less}
 use Rattle.promise_examples.proofs.WholeBatches.{no_batch}
 use Rattle.promise_examples.proofs.Showing.{shows}
@@ -284,8 +284,8 @@ module _ (r : Observed) (opened : Moment) (told doubting : List Moment) (run : I
   whole_batches image log (inr has) is =
       subst (EndsABatch (core_end account_program course) (account_log [])) (one_log 0 0 image (account_log (first_commit ∷ [])) log has.0 is) one_batch
 
-  sound_all : StaySound account_program r course
-  sound_all image is = sound 0 account_program (account_log []) r.old.output journal is.moment image (keeps_at image is) (known is.moment is.member image is.left).1 serial numbered
+  sound_all : StaySound r course
+  sound_all image is = sound 0 account_program (account_log []) r.old.output journal is.moment image (keeps_at image is) serial numbered
 
   -- and the files of other grains
   apart : (m : Moment) → Member m (moments r course) → LeavesOthers r m
@@ -295,14 +295,14 @@ module _ (r : Observed) (opened : Moment) (told doubting : List Moment) (run : I
       (all_less (IsBetween r (first_told r) MayHaveDeposit) (LeavesOthers r) doubting (λ m is. is.apart) run.either))
       run.apart.1
 
-  crashes : SurvivesCrashes account_program r course
+  crashes : SurvivesCrashes r course
   crashes = record {
     past = run.past;
     quiet = λ m there. only (λ (n : Moment). n.output ≡ r.old.output) opened m run.quiet there;
     before = λ image is. only (λ (n : Moment). IsImage n.disk image → IsImage r.old.disk image) opened is.moment (λ left. (run.entry image left).0) is.member is.left;
     chain = λ one other a b. chained 0 account_program (account_log []) r.old.output journal a.moment b.moment one other (keeps_at one a) (keeps_at other b);
-    whole = λ image is. all_whole 0 account_program (account_log []) r.old.output journal is.moment image (keeps_at image is) (known is.moment is.member image is.left).1 numbered;
-    keeps = λ image is. let k = keeps_at image is in record { log = commits_of (k.said ++ k.unsaid); is = k.log; longer = (commits_of (k.said ++ k.unsaid), refl) };
+    whole = λ image is. all_whole 0 account_program (account_log []) r.old.output journal is.moment image (keeps_at image is) numbered;
+    keeps = λ image is. let k = keeps_at image is in record { more = commits_of (k.said ++ k.unsaid); is = k.log; front = (commits_of k.later, ap commits_of k.split ∙ commits_of-append (k.said ++ k.unsaid) k.later) };
     alone = alone;
   }
 
@@ -314,9 +314,9 @@ module _ (r : Observed) (opened : Moment) (told doubting : List Moment) (run : I
   unfolding put put_grain
   doubt_is = refl
 
-  ends_with : (image : Image) → HasNone image ⊎ HasDeposit image → HasLogAtExit account_program course (core_end account_program course) image
-  ends_with image (inl none) = record { log = []; is = none.0; which = inr (record { begins = 0; doubt = doubt_is; last = first_commit ∷ []; split = refl; units = sym doubtful_is }) }
-  ends_with image (inr has) = record { log = first_commit ∷ []; is = has.0; which = inl refl }
+  ends_with : (image : Image) → HasNone image ⊎ HasDeposit image → HasLogAtExit course (core_end account_program course) image
+  ends_with image (inl none) = record { log = account_log []; is = none.0; which = inr (record { begins = 0; doubt = doubt_is; last = first_commit ∷ []; split = refl; units = sym doubtful_is }) }
+  ends_with image (inr has) = record { log = account_log (first_commit ∷ []); is = has.0; which = inl refl }
 
   rose : Rose (r.faults_before (File manager)) (r.faults_after (File manager))
   rose = let one : r.faults_after (File manager) ≡ r.faults_before (File manager) + 1 = run.rose in omega arith
@@ -356,11 +356,12 @@ module _ (r : Observed) (opened : Moment) (told doubting : List Moment) (run : I
     nowhere = λ e there.
         either_of (λ (d : Entry). d.what ≡ settled.InDoubt → IsNowhere 0 r d.unit → HasNoRecord course d.unit) locked_entry doubt_entry e
         (λ is. absurd (cc is))
-        (λ is nowhere. absurd (nowhere run.some (first_commit ∷ []) first_commit run.possible run.there.0 (inl refl) refl)) there;
+        (λ is nowhere. absurd (nowhere run.some (account_log (first_commit ∷ [])) first_commit run.possible run.there.0 (inl refl) refl)) there;
     block = λ doubt. record {
       gate = 15;
       batch = first_commit ∷ [];
-      batches = [];
+      before = account_log [];
+      bodies = [];
       records = chosen_is;
       log = inr refl;
       front = run.front;
@@ -456,4 +457,4 @@ module _ (r : Observed) (opened : Moment) (told doubting : List Moment) (run : I
 
   -- and over a sound folder it shows what has to be shown, where some image was there at the return of the opening's sync
   pub shown : IsSoundFolder r.old → (some : Image) → IsImage opened.disk some → Shows account_program r course
-  shown sound_folder some possible = shows account_program r course kept sound_folder some possible journal refl backs (λ m there image left. (known m there image left).0)
+  shown sound_folder some possible = shows account_program r course kept refl sound_folder some possible journal refl backs (λ m there image left. (known m there image left).0)

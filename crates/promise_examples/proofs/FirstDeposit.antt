@@ -10,10 +10,9 @@ use Rattle.field_codec.specs.Spelling.{spelling_of_version}
 use Rattle.request_wire.specs.Reply.{reply_line}
 use Rattle.script_meaning.specs.Play.{unit, play_over}
 use Rattle.promise_spec.specs.Programs.{shape_in}
-use Rattle.promise_spec.specs.Records.{Commit, new_silo, standing_of}
 use Rattle.promise_spec.specs.Serial.{IsSerial}
 use Rattle.promise_spec.specs.Blocks.{Records, body_of}
-use Rattle.promise_spec.specs.Logs.{IsLog, IsKept}
+use Rattle.promise_spec.specs.Logs.{IsLog}
 use Rattle.base_types.specs.declared.calls.Value.{Value}
 use Rattle.gate_block.specs.Log.{gate_of, LogsUpTo}
 use Rattle.gate_block.proofs.Logs as blocks
@@ -21,7 +20,9 @@ use Rattle.gate_block.specs.Blocks.{block_of, found_at, shut}
 use Rattle.promise_spec.specs.Reports.{show_text, history_text, audit_text}
 use Rattle.promise_examples.specs.Examples.{account_log, accounts, account_program, account_1, deposit, first_commit, next_commit, first_version, grain_bytes, block_bytes, manager_bytes, folder, torn_folder, first_entry}
 use Rattle.promise_examples.proofs.AccountLogs.{account_logged}
-use Rattle.promise_spec.proofs.Batched.{batch_body, IsBatched}
+use Rattle.promise_spec.proofs.Batched.{IsBatched}
+use Rattle.promise_spec.specs.Entries.{new_silo, Log, standing_of}
+use Rattle.promise_spec.specs.Versions.{IsKept}
 
 pub version_spelled : spelling_of_version first_version ≡ grain_bytes
 version_spelled = refl

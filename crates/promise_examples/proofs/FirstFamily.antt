@@ -6,14 +6,15 @@ use Rattle.base_types.specs.declared.calls.UnitNo.{UnitNo}
 use Rattle.core_model.specs.CoreState.{Member, CoreState}
 use Rattle.script_tree.specs.Programs.{ProgramTree}
 use Rattle.script_meaning.specs.Play.{unit, play_over}
-use Rattle.promise_spec.specs.Records.{Commit, States, new_silo}
+use Rattle.promise_spec.specs.Records.{Commit, States}
 use Rattle.promise_spec.specs.Serial.{IsSerial}
 use Rattle.promise_spec.specs.Images.{AreNumbered}
 use Rattle.promise_spec.specs.Lines.{IsLineCall}
 use Rattle.promise_spec.specs.Cores.{HasBegun}
 use Rattle.promise_spec.specs.Family.{AreAnswers, IsUnitOf, IsReached, IsAskedBefore, IsFamily}
-use Rattle.promise_examples.specs.Examples.{accounts, unit_no, first_commit, deposit_call}
+use Rattle.promise_examples.specs.Examples.{accounts, unit_no, first_commit, deposit_call, account_program}
 use Rattle.promise_spec.proofs.Lists.{none_at}
+use Rattle.promise_spec.specs.Entries.{new_silo}
 
 -- the one thing in a list of one
 pub only : {A : Type 0} (P : A → Type 0) (x y : A) → P x → Member y (x ∷ []) → P y

@@ -31,7 +31,7 @@ use Rattle.promise_spec.specs.Openings.{with_types, program_in_file}
 use Rattle.promise_spec.specs.Logs.{magic, HasLog}
 use Rattle.promise_spec.specs.Crashes.{IsAside}
 use Rattle.promise_spec.specs.Promise.{IsSoundFolder}
-use Rattle.promise_examples.specs.Examples.{account_log, account_text, accounts, account_program, program_bytes, account_1, deposit_of, read_call, first_version, grain_bytes, block_bytes, manager_of, manager_bytes}
+use Rattle.promise_examples.specs.Examples.{account_log, account_text, accounts, account_program, program_bytes, account_1, deposit_of, read_call, first_version, grain_bytes, block_bytes, manager_of, manager_bytes, first_commit}
 use Rattle.promise_examples.specs.DepositRuns.{HasNone, HasDeposit}
 use Rattle.promise_examples.specs.WrittenRun.{new_manager, disk_of, new_disk, pending_gate, sealing_disk, sealed_disk}
 use Rattle.promise_examples.proofs.FirstDeposit.{logged_batch, logged}
@@ -44,6 +44,7 @@ use Rattle.promise_spec.proofs.Batched.{batch_body}
 use Rattle.promise_spec.proofs.OneLog.{one_log}
 use Rattle.promise_spec.proofs.Prefixes.{of_itself}
 use Rattle.promise_spec.specs.Prefixes.{IsPrefixOf}
+use Rattle.promise_spec.specs.Entries.{Log}
 
 -- ---- what images have
 
@@ -51,7 +52,7 @@ pub program_spelled : HasProgram account_text program_bytes
 program_spelled = refl
 
 module _ (image : Image) (program_is : image program_file ≡ program_bytes) where
-  has_program : HasProgram account_program.text (image program_file)
+  pub has_program : HasProgram account_program.text (image program_file)
   has_program = subst (λ (file : List ℕ). HasProgram account_text file) (sym program_is) program_spelled
 
   -- a manager file whose first gate is closed

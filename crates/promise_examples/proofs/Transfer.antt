@@ -1,5 +1,5 @@
 -- The bytes of a silo in which a transfer between two accounts was logged.
-use Rattle.std.proofs.Common.{◌≡◌, ℕ, List, [], ◌∷◌, pos, refl, sym, ◌∙◌, ap, arith, lit<}
+use Rattle.std.proofs.Common.{◌≡◌, ℕ, List, [], ◌∷◌, map, pos, None, refl, sym, ◌∙◌, ap, arith, lit<}
 use Rattle.std.specs.Prelude.{FitsSigned}
 use Rattle.std.specs.Int.{w64}
 use Rattle.std.proofs.lemmas.Int.{fits_signed_from_abs}
@@ -9,12 +9,18 @@ use Rattle.base_types.specs.declared.calls.Value.TheVariants.{Int}
 use Rattle.field_codec.specs.Spelling.{spelling_of_version}
 use Rattle.script_meaning.specs.Play.{unit, play_over}
 use Rattle.script_meaning.specs.Worked.{bank, at, int}
+use Rattle.gate_block.specs.Log.{LogsUpTo}
+use Rattle.log_reading.specs.Blocks.{header_damage}
+use Rattle.silo_spec.specs.Silos.{manager}
+use Rattle.silo_spec.specs.Slots.{IsLive}
 use Rattle.promise_spec.specs.Programs.{shape_in}
-use Rattle.promise_spec.specs.Records.{written, new_silo, standing_of}
+use Rattle.promise_spec.specs.Logs.{magic}
+use Rattle.promise_spec.specs.Records.{written}
 use Rattle.promise_spec.specs.Serial.{IsSerial}
-use Rattle.promise_spec.specs.Blocks.{Records, body_of}
-use Rattle.promise_spec.specs.Logs.{IsLog, IsKept}
-use Rattle.promise_examples.specs.Transfers.{bank_program, paid_in, moved, balance, version_of_source, version_of_target, transfer_body, bank_folder}
+use Rattle.promise_spec.specs.Blocks.{Records, body_of, AreKept}
+use Rattle.promise_examples.specs.Transfers.{bank_program, paid_in, moved, balance, version_of_source, version_of_target, transfer_body, bank_folder, bank_log}
+use Rattle.promise_spec.specs.Entries.{new_silo, standing_of}
+use Rattle.promise_spec.specs.Versions.{IsKept}
 
 pub source_spelled : spelling_of_version (balance 2 70) ≡ version_of_source
 source_spelled = refl

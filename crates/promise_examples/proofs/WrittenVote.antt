@@ -122,7 +122,7 @@ pub voted_shows : Shows account_program voted (vote_course opened failing vote_t
 voted_shows = shown voted opened failing vote_told is_vote_run sound_at_entry new_folder (seen_possible new_manager [])
 
 pub voted_promises : Promises reading_manner voted
-voted_promises = promised account_program voted (vote_course opened failing vote_told voted) account_is_checked voted_shows reading_manner refl program_spelled
+voted_promises = promised account_program voted (vote_course opened failing vote_told voted) voted_shows reading_manner refl
 
 -- ---- the host's calls
 

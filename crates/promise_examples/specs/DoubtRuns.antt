@@ -4,11 +4,10 @@ use Rattle.std.specs.List.{AllByRecursion}
 use Rattle.host_trait.specs.declared.channels.Channel.{Channel}
 use Rattle.host_trait.specs.declared.channels.Channel.TheVariants.{File}
 use Rattle.host_trait.specs.World.{Moment, Image, IsImage, moment_of}
-use Rattle.gate_block.specs.Log.{HasBlocks}
 use Rattle.silo_spec.specs.Silos.{manager}
 use Rattle.request_wire.specs.Lines.{lines_of}
 use Rattle.promise_spec.specs.Programs.{shape_in}
-use Rattle.promise_spec.specs.Logs.{IsLog}
+use Rattle.promise_spec.specs.Logs.{IsLog, StandsUpTo}
 use Rattle.promise_spec.specs.Outputs.{reply_lines}
 use Rattle.promise_spec.specs.Endings.{DiskFault, input_limit}
 use Rattle.promise_spec.specs.Crashes.{LeavesAlone}
@@ -41,7 +40,7 @@ pub record IsDoubtRun (r : Observed) (opened : Moment) (told doubting : List Mom
   pub none : AllByRecursion (IsBetween r (first_told r) HasNone) told
   pub either : AllByRecursion (IsBetween r (first_told r) MayHaveDeposit) doubting
   pub exit : (image : Image) → IsImage r.new.disk image → MayHaveDeposit image
-  pub front : (image : Image) → IsImage r.new.disk image → HasBlocks [] 15 (image manager)
+  pub front : (image : Image) → IsImage r.new.disk image → StandsUpTo 0 image (account_log []) [] 15
   pub block : (image : Image) → IsImage r.new.disk image → HasBlock 0 15 (first_commit ∷ []) image
   pub differ : (one other : Image) → IsImage r.new.disk one → IsImage r.new.disk other →
       DifferAt 15 (one manager) (other manager)

@@ -6,13 +6,13 @@ use Rattle.host_trait.specs.declared.channels.FileId.TheVariants.{Grain}
 use Rattle.host_trait.specs.World.{Image, IsImage, moment_of}
 use Rattle.request_wire.specs.Lines.{lines_of}
 use Rattle.promise_spec.specs.Programs.{Program, shape_in}
-use Rattle.promise_spec.specs.Records.{Commit}
 use Rattle.promise_spec.specs.Logs.{IsLog}
 use Rattle.promise_spec.specs.Images.{IsSoundIfSilo}
 use Rattle.promise_spec.specs.Endings.{Done}
 use Rattle.promise_spec.specs.Crashes.{LeavesAlone}
 use Rattle.promise_spec.specs.Courses.{Observed, Course, seen_at_entry, lines}
 use Rattle.promise_spec.specs.Exits.{EndsAsRead}
+use Rattle.promise_spec.specs.Entries.{Log}
 
 -- The files read as this log at entry. The run synced it, read that the input is empty, and ended. Each image is one of
 -- those at entry, has this log, ends behind it as the file read, and is sound; there is one. It asked for no other sync. No count of faults changed,

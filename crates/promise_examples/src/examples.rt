@@ -1,4 +1,4 @@
-ghost use Rattle.std.specs.Prelude.{◌≡◌, ◌≢◌, ℕ, true, List, [], ◌∷◌, ◌++◌, codes, length, None, pos, take, drop, slice_get, Some, Err};
+ghost use Rattle.std.specs.Prelude.{◌≡◌, ◌≢◌, ℕ, true, List, [], ◌∷◌, ◌++◌, codes, length, None, pos, take, drop, map, slice_get, Some, Err};
 ghost use Rattle.base_types.specs.declared.calls.Value.{Value};
 ghost use Rattle.base_types.specs.declared.calls.Value.TheVariants.{Int};
 ghost use Rattle.core_model.specs.CoreState.{Member};
@@ -6,10 +6,9 @@ ghost use Rattle.field_codec.specs.Spelling.{spelling_of_version};
 ghost use Rattle.gate_block.specs.Blocks.{block_of};
 ghost use Rattle.request_wire.specs.Reply.{reply_line};
 ghost use Rattle.promise_spec.specs.Programs.{Program, IsChecked, shape_in, program_in};
-ghost use Rattle.promise_spec.specs.Records.{Commit, new_silo, standing_of};
 ghost use Rattle.promise_spec.specs.Serial.{IsSerial};
-ghost use Rattle.promise_spec.specs.Blocks.{Records, body_of};
-ghost use Rattle.promise_spec.specs.Logs.{magic, IsLog, IsKept};
+ghost use Rattle.promise_spec.specs.Blocks.{Records, body_of, AreKept};
+ghost use Rattle.promise_spec.specs.Logs.{magic, IsLog};
 ghost use Rattle.promise_spec.specs.Courses.{Observed, lines, moments, seen_at_entry, core_end};
 ghost use Rattle.promise_spec.specs.Promise.{Keeps, IsSoundFolder, Promises};
 ghost use Rattle.promise_laws.specs.Obligations.{Shows};
@@ -20,7 +19,7 @@ ghost use Rattle.promise_examples.specs.WrittenRun.{opened, sealing, written_run
 ghost use Rattle.promise_examples.specs.WrittenDoubt.{pair_manner, told, doubting, doubted, doubted_steps};
 ghost use Rattle.promise_examples.specs.WrittenUnbegun.{unbegun, unbegun_course, unbegun_steps};
 ghost use Rattle.promise_examples.specs.WrittenVote.{reading_manner, failing, vote_told, voted, voted_steps};
-ghost use Rattle.promise_examples.specs.WrittenBatch.{both_commits, both_block, batched, batch_course, batched_steps};
+ghost use Rattle.promise_examples.specs.WrittenBatch.{both_commits, both_block, batch_course, batched_steps, batched};
 ghost use Rattle.promise_spec.specs.Batches.{EndsABatch};
 ghost use Rattle.promise_examples.specs.WrittenRefusal.{refused, refused_steps};
 ghost use Rattle.promise_examples.specs.WrittenCheck.{check_words, check_line, check_call, check_steps};
@@ -35,7 +34,7 @@ ghost use Rattle.host_trait.specs.Faults.{Rose};
 ghost use Rattle.promise_examples.specs.EmptyRuns.{IsEmptyRun, empty_course};
 ghost use Rattle.promise_examples.specs.DoubtRuns.{IsDoubtRun, doubt_course};
 ghost use Rattle.script_meaning.specs.Worked.{bank, at, int, call};
-ghost use Rattle.promise_examples.specs.Transfers.{bank_program, paid_in, moved, balance, version_of_source, version_of_target, transfer_body, bank_folder};
+ghost use Rattle.promise_examples.specs.Transfers.{bank_program, paid_in, moved, balance, version_of_source, version_of_target, transfer_body, bank_folder, bank_log};
 ghost use Rattle.promise_spec.specs.Loads.{load_calls, transfers_after, summary_text, bank_text};
 ghost use Rattle.request_wire.specs.Names.{names_in};
 ghost use Rattle.bank_load.specs.Banks.{bank_names};
@@ -44,6 +43,9 @@ ghost use Rattle.promise_examples.specs.DepositRuns.{IsDepositRun, deposit_cours
 ghost use Rattle.host_trait.specs.World.{Moment, Image, IsImage};
 ghost use Rattle.host_trait.specs.declared.channels.FileId.{FileId};
 ghost use Rattle.host_trait.specs.declared.channels.FileId.TheVariants.{Grain};
+ghost use Rattle.gate_block.specs.Log.{LogsUpTo};
+ghost use Rattle.log_reading.specs.Blocks.{header_damage};
+ghost use Rattle.silo_spec.specs.Slots.{IsLive};
 ghost use Rattle.silo_spec.specs.Silos.{manager, program_file, IsSilo, IsNewSilo, IsNewIfSilo};
 ghost use Rattle.promise_examples.specs.Readings.{changed, folder_of, program_folder, log_folder, log_changed, grain_folder, program_with, two_writes, same_account, version_by, two_folder};
 ghost use Rattle.promise_spec.specs.Reports.{show_text, history_text, audit_text};
@@ -52,6 +54,8 @@ ghost use Rattle.core_model.specs.Legal.{ends};
 ghost use Rattle.promise_spec.specs.Lines.{IsLineCall};
 ghost use Rattle.promise_spec.specs.UnitRule.{KeepsUnitRule};
 ghost use Rattle.promise_spec.specs.TurnRule.{KeepsTurnRule};
+ghost use Rattle.promise_spec.specs.Entries.{new_silo, Log, standing_of};
+ghost use Rattle.promise_spec.specs.Versions.{IsKept};
 
 /// The first deposit in its bytes: 19 of the version and 89 of the manager file spell its record. The folder's log is
 /// that record, which stands for 5 in `account/1`; with the block's gate closed the log is empty. The reply is a line.
@@ -74,7 +78,7 @@ pub fn reports_tell_the_first_deposit()
 
 /// A folder whose open block is cut has no log, and one whose grain file is cut within a version doesn't keep the record.
 pub fn torn_folders_have_no_log()
-    ensures block { (log : List Commit) → IsLog 0 (torn_folder 80) log → ⊥ }
+    ensures block { (log : Log) → IsLog 0 (torn_folder 80) log → ⊥ }
     ensures version { (states : List (List Value)) → IsKept 0 (shape_in account_program) (folder 1 (take 10 grain_bytes)) (record { logged = deposit; states = states }) → ⊥ }
 {}
 
@@ -85,13 +89,16 @@ pub fn deposits_are_serial()
 {}
 
 /// A transfer of 30 between two accounts, of which the first had 100: its record is spelled so, and its two versions. The
-/// folder's log is the deposit's record and that, each version stands at its place, and the log stands for 70 and 30. The
+/// folder's blocks are the deposit's record and that, each version stands at its place, and the log stands for 70 and 30. The
 /// two are serial, and not where the second account is left with 31, or where the transfer stands first.
 pub fn transfers_read()
     ensures source { spelling_of_version (balance 2 70) ≡ version_of_source }
     ensures target { spelling_of_version (balance 2 30) ≡ version_of_target }
     ensures body { body_of (Records (moved 70 30 ∷ [])) ≡ transfer_body }
-    ensures log { IsLog 0 bank_folder (bank_log (paid_in ∷ moved 70 30 ∷ [])) }
+    ensures live { IsLive magic 0 bank_folder }
+    ensures header { header_damage (bank_folder manager) ≡ None }
+    ensures stand { LogsUpTo (map body_of (Records (paid_in ∷ []) ∷ Records (moved 70 30 ∷ []) ∷ [])) 197 (bank_folder manager) }
+    ensures kept { AreKept 0 bank_folder bank_program (bank_log (paid_in ∷ moved 70 30 ∷ [])).entries }
     ensures one { (standing_of (bank_log (paid_in ∷ moved 70 30 ∷ []))).states (at 0 1) ≡ int 70 ∷ [] }
     ensures other { (standing_of (bank_log (paid_in ∷ moved 70 30 ∷ []))).states (at 0 2) ≡ int 30 ∷ [] }
     ensures serial { IsSerial bank (new_silo bank_program).states (paid_in ∷ moved 70 30 ∷ []) }
@@ -101,7 +108,7 @@ pub fn transfers_read()
 
 /// The promise can be kept: a run that reads no line keeps all six clauses, over any log.
 pub fn empty_runs_keep()
-    ensures { (p : Program) (r : Observed) (opening : List Commit) → IsEmptyRun p r opening → Keeps p r (empty_course r opening) }
+    ensures { (p : Program) (r : Observed) (opening : Log) → IsEmptyRun p r opening → Keeps p r (empty_course r opening) }
 {}
 
 /// Two runs of the core keep both rules: one deposit at width 1, and two at width 2, of which the second meets the first
