@@ -1,5 +1,5 @@
 -- The balances that a log stands for are those that the core keeps.
-use Rattle.std.proofs.Common.{◌≡◌, inl, inr, ℕ, zero, suc, ◌+◌, ◌<◌, ◌≤◌, ℤ, pos, ◌+ℤ◌, Bool, true, false, List, [], ◌∷◌, ◌++◌, Option, Some, None, length, map, filter, take, drop, get_or, unwrap_or, fold, refl, sym, ap, ◌∙◌, subst, arith, take-append-drop, get_or-drop, length-drop, true≢false}
+use Rattle.std.proofs.Common.{◌≡◌, inl, inr, ℕ, zero, suc, ◌+◌, ◌<◌, pos, ◌+ℤ◌, Bool, true, false, List, [], ◌∷◌, ◌++◌, Option, Some, None, map, filter, take, drop, get_or, unwrap_or, fold, refl, sym, ap, ◌∙◌, subst, arith, take-append-drop, get_or-drop, length-drop, true≢false}
 use Rattle.core_model.specs.CoreState.{UnitNo, GrainId, Value, Write, CoreState, Member, nobody}
 use Rattle.core_model.specs.declared.effects.Effect.{Effect}
 use Rattle.core_model.specs.declared.phases.Verdict.{Verdict}
@@ -7,7 +7,6 @@ use Rattle.core_model.specs.declared.phases.Verdict.TheVariants.{Committed}
 use Rattle.core_model.specs.Effects.{effect_of}
 use Rattle.core_model.specs.Tests.{is_committed, state_written}
 use Rattle.core_model.specs.Serial as model
-use Rattle.core_model.specs.Legal.{Run, IsLegal, ends}
 use Rattle.core_laws.proofs.Ends.{serial-ends}
 use Rattle.core_laws.proofs.Orders.{Member-at}
 use Rattle.history_core.specs.Closing.{or_else, state_after, last_among, last_state}

@@ -1,5 +1,5 @@
 -- What each image of a load keeps: that of its turns, since the files stay while the summary is printed.
-use Rattle.std.proofs.Common.{◌≡◌, ◌≢◌, ◌⊎◌, inl, inr, ℕ, ◌<◌, List, [], ◌∷◌, ◌++◌, Some, refl, sym, ap, ◌∙◌, subst, arith, append_assoc}
+use Rattle.std.proofs.Common.{◌≡◌, ◌≢◌, ◌⊎◌, inl, inr, ℕ, ◌<◌, List, [], ◌∷◌, ◌++◌, Some, refl, sym, ap, ◌∙◌, subst, append_assoc}
 use Rattle.core_model.specs.CoreState.{Member}
 use Rattle.host_trait.specs.declared.channels.Channel.{Channel}
 use Rattle.host_trait.specs.World.{World, Disk, Moment, Image, IsImage, moment_of, last_of}
@@ -23,7 +23,7 @@ use Rattle.promise_spec.proofs.OneLog.{one_log}
 use Rattle.promise_spec.proofs.Standings.{grown_records}
 use Rattle.promise_laws.proofs.Journaled as journaled
 use Rattle.promise_spec.proofs.Doubts.{doubt_left}
-use Rattle.promise_laws.specs.Obligations.{Opens, Journals, LeavesAtExit, ExplainsEvents, Lasts}
+use Rattle.promise_laws.specs.Obligations.{Opens, Journals}
 use Rattle.promise_laws.proofs.Bases.{begins_above}
 use Rattle.promise_laws.proofs.SerialRecords.{explained_serial}
 use Rattle.promise_laws.proofs.OneFamily.{explained_family}
@@ -58,7 +58,7 @@ module _ (p : Program) (n seed : ℕ) (r : Observed) (c : Course) (mid : World) 
   j : Journals p then_seen then_course
   j = s.lasts.journals
 
-  based : 0 < c.opening.base.next
+  pub based : 0 < c.opening.base.next
   based = begins_above c.live (seen_at_entry r) c.opening o.read
 
   pub is : IsExplained p r c
@@ -146,7 +146,7 @@ module _ (p : Program) (n seed : ℕ) (r : Observed) (c : Course) (mid : World) 
       image = longest.image;
       left = of_image longest.image longest.left;
       log = longest.log;
-      longest = λ other of. longest.longest other (to_image other of);
+      longest = λ other log of has. longest.longest other log (to_image other of) has;
     };
     serial = explained_serial p r c based is;
   }

@@ -1,23 +1,22 @@
 -- A load that shows what it has to keeps its promise.
-use Rattle.std.proofs.Common.{◌≡◌, ◌≢◌, ◌⊎◌, inl, inr, ℕ, List, [], ◌∷◌, refl, sym, ap, ◌∙◌, subst, arith}
+use Rattle.std.proofs.Common.{◌≡◌, ◌≢◌, inl, inr, ℕ, List, [], ◌∷◌, refl, ap, ◌∙◌, subst, arith}
 use Rattle.base_types.specs.declared.entries.Entry.{Entry}
 use Rattle.core_model.specs.CoreState.{Member}
 use Rattle.host_trait.specs.declared.channels.Channel.{Channel}
-use Rattle.host_trait.specs.declared.channels.Channel.TheVariants.{Input, Output, File}
+use Rattle.host_trait.specs.declared.channels.Channel.TheVariants.{Output, File}
 use Rattle.host_trait.specs.Faults.{Rose}
 use Rattle.host_trait.specs.World.{World, Disk, Moment, Image, IsImage, moment_of, last_of}
 use Rattle.promise_spec.specs.Programs.{Program}
 use Rattle.promise_spec.specs.Logs.{IsLog}
-use Rattle.promise_spec.specs.Causes.{NoneRose, RunHasDoubt}
+use Rattle.promise_spec.specs.Causes.{NoneRose}
 use Rattle.promise_spec.specs.Endings as ending
 use Rattle.promise_spec.specs.Endings.{Ending, HasRisen, IsBegun, IsCalm}
-use Rattle.promise_spec.specs.Courses.{Observed, Course, order, moments, core_run, core_end}
-use Rattle.promise_spec.specs.Promise.{HasNoChild, IsNoLock, IsUndisturbed}
+use Rattle.promise_spec.specs.Courses.{Observed, Course, order, moments, core_end}
 use Rattle.promise_spec.specs.Loads.{HasLoaded, KeepsLoad}
 use Rattle.promise_laws.proofs.Undisturbed.{calm_undisturbed}
 use Rattle.promise_laws.proofs.Unlocked.{single_unlocked}
 use Rattle.load_rules.specs.Loading.{ShowsLoad}
-use Rattle.load_rules.proofs.LoadImages.{is, part_of, ordered, crashes, sound, records, exit, whole_order}
+use Rattle.load_rules.proofs.LoadImages.{based, is, part_of, ordered, crashes, sound, records, exit, whole_order}
 
 -- the last of some moments that wrote nothing hasn't either
 last_quiet : (output : List ℕ) (before : Moment) (early : List Moment) → before.output ≡ output → ((m : Moment) → Member m early → m.output ≡ output) → (last_of before early).output ≡ output
@@ -72,9 +71,9 @@ module _ (p : Program) (n seed : ℕ) (r : Observed) (c : Course) (mid : World) 
     undoubted = s.undoubted;
     complete = λ none. record {
       calm = calm_by r.faults_before r.faults_after r.ending none s.carried s.risen;
-      undisturbed = λ e m. calm_undisturbed p r c (is p n seed r c mid counts turns_end turns told s) none e (settled_entry e m);
+      undisturbed = λ e m. calm_undisturbed p r c (based p n seed r c mid counts turns_end turns told s) (is p n seed r c mid counts turns_end turns told s) none e (settled_entry e m);
     };
-    alone = λ unthreaded one childless e m. single_unlocked p r c (is p n seed r c mid counts turns_end turns told s) unthreaded one childless e (settled_entry e m);
+    alone = λ unthreaded one childless e m. single_unlocked p r c (based p n seed r c mid counts turns_end turns told s) (is p n seed r c mid counts turns_end turns told s) unthreaded one childless e (settled_entry e m);
     syncs = s.syncs;
     most = s.most;
   }
