@@ -128,11 +128,11 @@ unopened_answers e status before after is faulted = subst (λ (y : Ending). Answ
 pub starved_carries : (n seed : ℕ) (m : Manner) (asked : List (List ℕ)) (x : Opened) (old mid : World) (before after : Channel → ℕ) → program_in bank_text ≡ Ok (program_tree x.checked) → IsBehindOpening old mid x → NoneFailed before after
     → CarriesLoad n seed (observed_call m asked old mid before after Status.Memory)
 starved_carries n seed m asked x old mid before after reads is none = record {
-  carried = inl (record { untouched = asked_untouched old mid is.run; unread = is.run.input; syncs = is.run.syncs; refused = tt; failed = none });
+  carried = inl (record { untouched = asked_untouched x.slot old mid is.run; unread = is.run.input; syncs = is.run.syncs; refused = tt; failed = none });
 }
 
 -- what was opened lies in the files as they read behind the opening
 pub lies_within : (x : Opened) (bank : Tree) (old mid : World) → IsBehindOpening old mid x → LiesWithin (seen_in mid.disk) (with_checked x bank)
 lies_within x bank old mid is =
-    subst (λ (image : Image). LiesWithin image (with_checked x bank)) (λ i file. sym ((asked_untouched old mid is.run).seen file) i)
+    subst (λ (image : Image). LiesWithin image (with_checked x bank)) (λ i file. sym ((asked_untouched x.slot old mid is.run).seen file) i)
     (record { within = is.opened.within; closed = is.opened.closed })

@@ -283,7 +283,7 @@ module _ {T : Type 0} (n seed : ℕ) (m : Manner) (x : Opened) (st : Started) (o
     all = subst (λ (m : Moment). AllLog x.slot log m.disk) stands.last opens.opened
 
     seen_left : IsImage mid.disk (seen_in old.disk)
-    seen_left file = subst (MayLeave (mid.disk file)) ((asked_untouched old mid is.run).seen file) (stay_mid file)
+    seen_left file = subst (MayLeave (mid.disk file)) ((asked_untouched x.slot old mid is.run).seen file) (stay_mid file)
 
     lasting : LastsSo out head b r' s'.writer new
     lasting = goes.on.lasts told head (starts_lasting out head r0.base r0.kinds r0.opening st.settler.writer mid (still_none mid) all base

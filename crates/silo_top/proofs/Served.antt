@@ -57,7 +57,7 @@ module _ {T : Type 0} (m : Manner) (x : Opened) (st : Started) (old mid now new 
   -- what was read is an image still
   seen_left : IsImage now.disk (seen_in old.disk)
   seen_left = subst (λ (d : Disk). IsImage d (seen_in old.disk)) (sym pulled.disk)
-      (λ file. subst (MayLeave (mid.disk file)) ((asked_untouched old mid is.run).seen file) (stay_mid file))
+      (λ file. subst (MayLeave (mid.disk file)) ((asked_untouched x.slot old mid is.run).seen file) (stay_mid file))
 
   -- where the lines begin to be carried
   starts : (lines : List Line) → 0 < m.width → 0 < x.next_unit.0 → NoneFailed before between → AreReadFrom (program_tree x.checked) 0 (lines_of old.input) lines
