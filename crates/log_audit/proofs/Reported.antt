@@ -125,21 +125,21 @@ done_ok (Err ReportFault.Memory) e = absurd cc
 pub not_opened : {A : Type 0} (manner : Manner) (asked : List (List ℕ)) (old new : World) (before after : Counts) (result : Result A ReportFault) (e : OpenFault) → report_ending result ≡ ending_of e → RunsOnFile manager Stays 1 old new
     → IsRefusedBy (seen_in old.disk) (opened_as (seen_in old.disk)) (ending_of e) → OpenFaulted e before after → IsUnopened (reported_as manner asked old new before after result)
 not_opened manner asked old new before after result e is run refused faulted = record {
-  untouched = untouched 1 old new run;
+  untouched = untouched manager 1 old new run;
   unread = run.input;
   syncs = run.syncs;
   refused = subst (λ (x : Ending). IsRefusedBy (seen_in old.disk) (opened_as (seen_in old.disk)) x) (sym is) refused;
   failed = subst (λ (x : Ending). HasFailedAs x before after) (sym is) (open_failed before after e faulted);
 }
 
-module _ (live : ℕ) (old mid : World) (settles : mid.disk (Manager live) ≡ settled (old.disk (Manager live)).seen) (run : RunsOnFile manager Stays 1 old mid) where
+module _ (live : ℕ) (old mid : World) (settles : mid.disk (Manager live) ≡ settled (old.disk (Manager live)).seen) (run : RunsOnFile (Manager live) Stays 1 old mid) where
   early : (m : Moment) → IsAsAtEntry old m → LeavesAsBefore live old m
   early m entry image is = (entry.images image is, λ other. absurd (other entry.quiet))
 
   late : (m : Moment) → m.disk ≡ mid.disk → LeavesAsBefore live old m
   late m same image is =
       let there : IsImage mid.disk image = subst (λ (d : Disk). IsImage d image) same is in
-      ((untouched 1 old mid run).now.images image there, λ other. settled_image mid.disk (Manager live) (old.disk (Manager live)).seen (image (Manager live)) settles (there (Manager live)))
+      ((untouched (Manager live) 1 old mid run).now.images image there, λ other. settled_image mid.disk (Manager live) (old.disk (Manager live)).seen (image (Manager live)) settles (there (Manager live)))
 
   -- a report of one that was
   pub is_reported : {A : Type 0} (text : Log → List ℕ) (log : Log) (manner : Manner) (asked : List (List ℕ)) (new : World) (before after : Counts) (result : Result A ReportFault)
@@ -157,9 +157,9 @@ module _ (live : ℕ) (old mid : World) (settles : mid.disk (Manager live) ≡ s
       none = inr end;
     };
     unread = part.puts.input ∙ run.input;
-    moments = both _ (weaker _ _ early (untouched 1 old mid run).moments) (weaker _ _ late part.puts.moments);
+    moments = both _ (weaker _ _ early (untouched (Manager live) 1 old mid run).moments) (weaker _ _ late part.puts.moments);
     now = late (moment_of new) part.puts.disk;
-    seen = λ file. ap (λ (d : Disk). (d file).seen) part.puts.disk ∙ (untouched 1 old mid run).seen file;
+    seen = λ file. ap (λ (d : Disk). (d file).seen) part.puts.disk ∙ (untouched (Manager live) 1 old mid run).seen file;
     ending = end;
     risen = failed_risen before after (report_ending result) failed;
   }

@@ -6,7 +6,6 @@ use Rattle.host_trait.specs.Runs.{RunsOnFile}
 use Rattle.host_trait.specs.World as host
 use Rattle.host_trait.specs.World.{Image}
 use Rattle.script_tree.specs.Programs.{program_tree}
-use Rattle.silo_spec.specs.Silos.{manager}
 use Rattle.promise_spec.specs.Programs.{Program}
 use Rattle.promise_spec.specs.Entries.{Log}
 use Rattle.promise_spec.specs.Courses.{Observed, Course}
@@ -22,7 +21,7 @@ program_of {image} {o} is = record { text = is.text; types = program_tree o.chec
 pub record FollowsOpening (r : Observed) (c : Course) (mid : host.World) (slot : ℕ) (log : Log) : Type 0 where
   pub live : c.live ≡ slot
   pub opening : c.opening ≡ log
-  pub run : RunsOnFile manager Stays 1 r.old mid
+  pub run : RunsOnFile (Manager slot) Stays 1 r.old mid
   pub settled : mid.disk (Manager slot) ≡ settled (r.old.disk (Manager slot)).seen
   pub early : mid.past ≡ r.old.past ++ c.early
   pub late : r.new.past ≡ mid.past ++ c.late
