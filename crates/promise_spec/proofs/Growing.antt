@@ -11,7 +11,7 @@ use Rattle.gate_block.specs.Log.{HasBlocks}
 use Rattle.script_holding.specs.Holding.{same_grain}
 use Rattle.promise_spec.specs.Programs.{Program, shape_in}
 use Rattle.promise_spec.specs.Records.{Commit, States, written, put_state}
-use Rattle.promise_spec.specs.Entries.{LogEntry, Recorded, Standing, initial_states, is_among, new_silo, after_entry, after_entries, Log, standing_of, grown}
+use Rattle.promise_spec.specs.Entries.{LogEntry, Recorded, records_among, Standing, initial_states, is_among, new_silo, after_entry, after_entries, Log, standing_of, grown}
 use Rattle.promise_spec.specs.Versions.{IsKept}
 use Rattle.promise_spec.specs.Blocks.{Block, Records, entries_in, body_of, BlockFits, AreKept}
 use Rattle.promise_spec.specs.Logs.{StandsUpTo}
@@ -72,12 +72,37 @@ others_stay (w ∷ ws) states grain none =
     let parts = neither (same_grain w.0 grain) (is_among ws grain) none in
     others_stay ws (put_state states w) grain parts.1 ∙ ap (λ (b : Bool). if b then w.1 else states grain) parts.0
 
+or_assoc : (t a b : Bool) → (t || (a || b)) ≡ ((t || a) || b)
+or_assoc true a b = refl
+or_assoc false a b = refl
+
+-- a grain among some writes or others
+among_either : (a b : List (GrainId × List Value)) (grain : GrainId) → is_among (a ++ b) grain ≡ (is_among a grain || is_among b grain)
+among_either [] b grain = refl
+among_either (w ∷ a) b grain =
+    ap (λ (t : Bool). same_grain w.0 grain || t) (among_either a b grain) ∙ or_assoc (same_grain w.0 grain) (is_among a grain) (is_among b grain)
+
+first_last : (a b h : Bool) → ((a || b) || h) ≡ (b || (a || h))
+first_last true true h = refl
+first_last true false h = refl
+first_last false b h = refl
+
+-- the grains that are held are those that some record writes, and those that were held before
+pub held_are : (before : Standing) (entries : List LogEntry) (grain : GrainId)
+    → (after_entries before entries).held grain ≡ (is_among (flat_map written (records_among entries)) grain || before.held grain)
+held_are before [] grain = refl
+held_are before (Recorded c ∷ entries) grain =
+    let later : List (GrainId × List Value) = flat_map written (records_among entries) in
+    held_are (after_entry before (Recorded c)) entries grain
+    ∙ sym (first_last (is_among (written c) grain) (is_among later grain) (before.held grain))
+    ∙ ap (λ (b : Bool). b || before.held grain) (sym (among_either (written c) later grain))
+
 plain_entry : (before : Standing) (entry : LogEntry) → IsPlain before → IsPlain (after_entry before entry)
 plain_entry before (Recorded c) plain grain none =
     let parts = neither (is_among (written c) grain) (before.held grain) none in
     others_stay (written c) before.states grain parts.0 ∙ plain grain parts.1
 
-plain_entries : (before : Standing) (entries : List LogEntry) → IsPlain before → IsPlain (after_entries before entries)
+pub plain_entries : (before : Standing) (entries : List LogEntry) → IsPlain before → IsPlain (after_entries before entries)
 plain_entries before [] plain = plain
 plain_entries before (e ∷ entries) plain = plain_entries (after_entry before e) entries (plain_entry before e plain)
 

@@ -5,6 +5,7 @@ pub mod Prefixes
 pub mod Growing
 pub mod Batched
 pub mod OneLog
+pub mod Chains
 pub mod EntryLines
 pub mod PlainNames
 pub mod ReadBlocks

@@ -187,6 +187,16 @@ grown_front log more all front =
     ∙ sym (append_assoc log.entries (map Recorded more) (map Recorded front.0)) in
     over_one_base (grown log more) (grown log all) refl (map Recorded front.0, entries)
 
+-- and the other way: over one base a prefix is a first part
+pub back_over_one_base : (a b : Log) → a.base ≡ b.base → IsPrefixOf a b → IsPrefix a.entries b.entries
+back_over_one_base a b same (inl gap) = (let count : a.base.count ≡ b.base.count = ap (λ (s : Standing). s.count) same in absurd (omega (arith, gap, count)))
+back_over_one_base a b same (inr on) =
+    let at : ℕ = max a.base.count b.base.count in
+    let count : a.base.count ≡ b.base.count = ap (λ (s : Standing). s.count) same in
+    let one : from_position at a ≡ a = from_base at a (omega (arith, count)) in
+    let two : from_position at b ≡ b = from_base at b (omega (arith, count)) in
+    subst (λ (l : Log). IsPrefix a.entries l.entries) two (subst (λ (l : Log). IsPrefix l.entries (from_position at b).entries) one on.entries)
+
 -- over bases of no entry a prefix has the same base and a first part of the entries
 pub of_no_entry : (a b : Log) → a.base.count ≡ 0 → b.base.count ≡ 0 → IsPrefixOf a b → (a.base ≡ b.base) × IsPrefix a.entries b.entries
 of_no_entry a b none none_too (inl gap) = absurd (omega (arith, gap, none_too))

@@ -25,6 +25,18 @@ pub written : (before : Standing) (entries : List LogEntry) → (after_entries b
 written before [] = refl
 written before (Recorded c ∷ entries) = written (after_entry before (Recorded c)) entries
 
+-- the records that are entries
+pub records_back : (commits : List Commit) → records_among (map Recorded commits) ≡ commits
+records_back [] = refl
+records_back (c ∷ commits) = ap (λ (l : List Commit). c ∷ l) (records_back commits)
+
+-- behind records alone: the program stays in force, and the states are those after their writes
+pub program_stays : (before : Standing) (more : List Commit) → (after_entries before (map Recorded more)).program ≡ before.program
+program_stays before more = in_force before (map Recorded more)
+
+pub states_are : (before : Standing) (more : List Commit) → (after_entries before (map Recorded more)).states ≡ fold after_writes before.states more
+states_are before more = written before (map Recorded more) ∙ ap (fold after_writes before.states) (records_back more)
+
 -- first some, and then the others
 pub in_parts : (before : Standing) (entries more : List LogEntry) → after_entries before (entries ++ more) ≡ after_entries (after_entries before entries) more
 in_parts before [] more = refl
@@ -55,10 +67,6 @@ serial_from before (c ∷ more) =
 pub records_append : (entries more : List LogEntry) → records_among (entries ++ more) ≡ records_among entries ++ records_among more
 records_append [] more = refl
 records_append (Recorded c ∷ entries) more = ap (λ (l : List Commit). c ∷ l) (records_append entries more)
-
-pub records_back : (commits : List Commit) → records_among (map Recorded commits) ≡ commits
-records_back [] = refl
-records_back (c ∷ commits) = ap (λ (l : List Commit). c ∷ l) (records_back commits)
 
 pub grown_records : (log : Log) (more : List Commit) → records_of (grown log more) ≡ records_of log ++ more
 grown_records log more = records_append log.entries (map Recorded more) ∙ ap (λ (l : List Commit). records_of log ++ l) (records_back more)

@@ -1,5 +1,5 @@
-ghost use Rattle.std.specs.Prelude.{◌≡◌, ◌⊎◌, ◌↔◌, ◌++◌, ◌+◌, ◌≤◌, max, fold, map, ℕ, Bool, true, false, List, [], ◌∷◌, length, codes, Some, Ok};
-ghost use Rattle.std.specs.List.{AllByRecursion};
+ghost use Rattle.std.specs.Prelude.{◌≡◌, ◌⊎◌, ◌↔◌, ◌++◌, ◌+◌, ◌≤◌, ◌<◌, ◌||◌, max, fold, map, ℕ, Bool, true, false, List, [], ◌∷◌, length, codes, Some, Ok};
+ghost use Rattle.std.specs.List.{AllByRecursion, flat_map};
 ghost use Rattle.base_types.specs.declared.calls.GrainId.{GrainId};
 ghost use Rattle.base_types.specs.declared.shapes.Shape.{Shape};
 ghost use Rattle.gate_block.specs.Log.{HasBlocks};
@@ -11,14 +11,14 @@ ghost use Rattle.field_codec.specs.Reading.{AreBytes};
 ghost use Rattle.script_tree.specs.Programs.{ProgramTree};
 ghost use Rattle.silo_spec.specs.Slots.{IsLive};
 ghost use Rattle.promise_spec.specs.Programs.{Program, IsChecked, text_limit, shape_in, program_in};
-ghost use Rattle.promise_spec.specs.Records.{Commit, after_writes};
-ghost use Rattle.promise_spec.specs.Entries.{LogEntry, Recorded, records_among, Standing, after_entries, initial_states, new_silo, Log, standing_of, grown, checkpointed};
+ghost use Rattle.promise_spec.specs.Records.{Commit, written, after_writes};
+ghost use Rattle.promise_spec.specs.Entries.{LogEntry, Recorded, records_among, Standing, after_entries, initial_states, new_silo, is_among, Log, records_of, standing_of, grown, checkpointed};
 ghost use Rattle.promise_spec.specs.Versions.{IsKept};
 ghost use Rattle.promise_spec.specs.Blocks.{Records, body_of};
 ghost use Rattle.promise_spec.specs.Serial.{IsSerial, IsSerialFrom};
 ghost use Rattle.promise_spec.specs.Prefixes.{last_position, from_position, IsPrefixOf};
-ghost use Rattle.promise_spec.specs.Logs.{magic, StandsUpTo, IsLog, IsPrefix};
-ghost use Rattle.promise_spec.specs.Images.{IsSound, IsWholeFolder};
+ghost use Rattle.promise_spec.specs.Logs.{magic, StandsUpTo, IsLogIn, IsLog, IsPrefix};
+ghost use Rattle.promise_spec.specs.Images.{IsSound, AreChained, IsWholeFolder};
 ghost use Rattle.promise_spec.specs.Openings.{NoSilo, Reads, live_in, opened_as};
 ghost use Rattle.promise_spec.specs.Words.{GivenOption, Manner, plain_manner, Command, Run, Load, Check, Say};
 ghost use Rattle.request_wire.specs.Reply.{reply_line};
@@ -37,9 +37,18 @@ pub fn promises_keep_the_headline()
 {}
 
 /// An image has at most one log, whichever slots are said to be live: the program, the records and their states are the bytes'. So
-/// where a definition says that an image has a log, it is the log.
+/// where a definition says that an image has a log, it is the log. A slot's files have at most one too, live or not; and the unit that
+/// is next where a log begins has a number above 0.
 pub fn one_log()
-    ensures { (one other : ℕ) (image : Image) (a b : Log) → IsLog one image a → IsLog other image b → a ≡ b }
+    ensures image { (one other : ℕ) (image : Image) (a b : Log) → IsLog one image a → IsLog other image b → a ≡ b }
+    ensures slot { (slot : ℕ) (image : Image) (a b : Log) → IsLogIn slot image a → IsLogIn slot image b → a ≡ b }
+    ensures begins { (live : ℕ) (image : Image) (log : Log) → IsLog live image log → 0 < log.base.next }
+{}
+
+/// Of two images that are a chain the logs have one base, and the entries of one are a first part of the other's.
+pub fn chains_compare()
+    ensures { (one other : ℕ) (x y : Image) (a b : Log) → AreChained x y → IsLog one x a → IsLog other y b
+        → (a.base ≡ b.base) × (IsPrefix a.entries b.entries ⊎ IsPrefix b.entries a.entries) }
 {}
 
 /// The line of an entry determines the entry, where types are known by their names.
@@ -60,23 +69,27 @@ pub fn checked_programs_have_plain_names()
     ensures { (p : Program) → IsChecked p → HavePlainNames (shape_in p).types }
 {}
 
-/// What a log stands for is folds over its entries, each by itself: their count, the number after the greatest unit, the program in
-/// force, and the states after their writes. What stands after some entries and others is what the others leave of what the first do.
+/// What a log stands for is folds over its entries, each by itself: their count, the number after the greatest unit, and the grains
+/// that some record writes, or that were held before. Behind records the program stays in force, and the states are those after their
+/// writes. What stands after some entries and others is what the others leave of what the first do.
 pub fn standings_are_folds()
     ensures count { (before : Standing) (entries : List LogEntry) → (after_entries before entries).count ≡ before.count + length entries }
     ensures next { (before : Standing) (entries : List LogEntry)
         → (after_entries before entries).next ≡ fold (λ (next : ℕ) (c : Commit). max next (c.logged.unit.0 + 1)) before.next (records_among entries) }
-    ensures program { (before : Standing) (entries : List LogEntry) → (after_entries before entries).program ≡ before.program }
-    ensures states { (before : Standing) (entries : List LogEntry)
-        → (after_entries before entries).states ≡ fold after_writes before.states (records_among entries) }
+    ensures held { (before : Standing) (entries : List LogEntry) (grain : GrainId)
+        → (after_entries before entries).held grain ≡ (is_among (flat_map written (records_among entries)) grain || before.held grain) }
+    ensures program { (before : Standing) (more : List Commit) → (after_entries before (map Recorded more)).program ≡ before.program }
+    ensures states { (before : Standing) (more : List Commit)
+        → (after_entries before (map Recorded more)).states ≡ fold after_writes before.states more }
     ensures front { (before : Standing) (entries more : List LogEntry)
         → after_entries before (entries ++ more) ≡ after_entries (after_entries before entries) more }
 {}
 
-/// A log grown by records: in parts, what it stands for, and when what is added is serial.
+/// A log grown by records: in parts, what records it has, what it stands for, and when what is added is serial.
 pub fn grown_logs_go_on()
     ensures none { (log : Log) → grown log [] ≡ log }
     ensures twice { (log : Log) (more later : List Commit) → grown (grown log more) later ≡ grown log (more ++ later) }
+    ensures records { (log : Log) (more : List Commit) → records_of (grown log more) ≡ records_of log ++ more }
     ensures stands { (log : Log) (more : List Commit) → standing_of (grown log more) ≡ after_entries (standing_of log) (map Recorded more) }
     ensures serial { (before : Standing) (more : List Commit)
         → IsSerialFrom before (map Recorded more) ↔ IsSerial before.program.types before.states more }
@@ -90,18 +103,26 @@ pub fn sealed_batches_grow_a_log()
         → StandsUpTo slot image (grown log batch) (bodies ++ body_of (Records batch) ∷ []) next }
 {}
 
-/// Where a grain has no state in the store it has its type's initial fields, behind any entries.
+/// Where a grain has no state in the store it has its type's initial fields, behind any entries: from any base of which this is so,
+/// as of a new silo's.
 pub fn unheld_grains_are_initial()
-    ensures { (p : Program) (entries : List LogEntry) (grain : GrainId) → (after_entries (new_silo p) entries).held grain ≡ false
+    ensures any { (before : Standing) (entries : List LogEntry)
+        → ((grain : GrainId) → before.held grain ≡ false → before.states grain ≡ initial_states before.program grain)
+        → (grain : GrainId) → (after_entries before entries).held grain ≡ false
+        → (after_entries before entries).states grain ≡ initial_states (after_entries before entries).program grain }
+    ensures new { (p : Program) (entries : List LogEntry) (grain : GrainId) → (after_entries (new_silo p) entries).held grain ≡ false
         → (after_entries (new_silo p) entries).states grain ≡ initial_states p grain }
 {}
 
-/// Prefixes over positions: each log is one of itself; over one base they are first parts; a log and what stands for it alone are
+/// Prefixes over positions: each log is one of itself; over one base they are first parts, and where no base has an entry the two have
+/// one; a log and what stands for it alone are
 /// prefixes of each other; two that are so end at one position and stand for the same; and they go on from one to the next, unless
 /// the one between forgot what both ends have.
 pub fn prefixes_are_an_order()
     ensures same { (a : Log) → IsPrefixOf a a }
-    ensures one_base { (a b : Log) → a.base ≡ b.base → IsPrefix a.entries b.entries → IsPrefixOf a b }
+    ensures one_base { (a b : Log) → a.base ≡ b.base → (IsPrefixOf a b ↔ IsPrefix a.entries b.entries) }
+    ensures no_base { (a b : Log) → a.base.count ≡ 0 → b.base.count ≡ 0 → IsPrefixOf a b
+        → (a.base ≡ b.base) × IsPrefix a.entries b.entries }
     ensures saved { (a : Log) → IsPrefixOf a (checkpointed a) × IsPrefixOf (checkpointed a) a }
     ensures shorter { (a b : Log) → IsPrefixOf a b → last_position a ≤ last_position b }
     ensures stands { (a b : Log) → IsPrefixOf a b → b.base.count ≤ last_position a → (from_position (last_position a) b).base ≡ standing_of a }
