@@ -1,7 +1,7 @@
 -- Batches of records in a silo of accounts are its log.
 use Rattle.log_reading.specs.Blocks.{header_damage}
 use Rattle.gate_block.specs.Log.{HasBlocks}
-use Rattle.std.proofs.Common.{◌≡◌, ℕ, List, [], None, refl}
+use Rattle.std.proofs.Common.{◌≡◌, List, [], None, refl}
 use Rattle.host_trait.specs.World.{Image}
 use Rattle.silo_spec.specs.Silos.{manager, program_file, IsSilo, HasProgram}
 use Rattle.promise_spec.specs.Programs.{shape_in}

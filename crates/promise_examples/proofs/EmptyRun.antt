@@ -3,15 +3,15 @@ use Rattle.promise_spec.specs.Prefixes.{IsPrefixOf}
 use Rattle.promise_spec.proofs.Prefixes.{of_itself}
 use Rattle.promise_spec.proofs.Standings.{grown_none}
 use Rattle.promise_spec.specs.Entries.{Log, grown}
-use Rattle.std.proofs.Common.{◌≡◌, inl, inr, ℕ, ◌≤◌, List, [], ◌++◌, length, refl, sym, ◌∙◌, ap, subst, arith}
+use Rattle.std.proofs.Common.{◌≡◌, inl, inr, ℕ, ◌≤◌, List, [], length, refl, sym, ◌∙◌, ap, subst, arith}
 use Rattle.std.proofs.lemmas.List.{append-nil}
 use Rattle.core_model.specs.CoreState.{Member}
 use Rattle.host_trait.specs.World.{Moment, Image, IsImage, moment_of}
 use Rattle.host_trait.specs.declared.channels.Channel.{Channel}
 use Rattle.host_trait.specs.declared.channels.FileId.TheVariants.{Grain}
 use Rattle.request_wire.specs.Lines.{lines_of}
-use Rattle.promise_spec.specs.Programs.{Program, shape_in}
-use Rattle.promise_spec.specs.Logs.{magic, IsLog}
+use Rattle.promise_spec.specs.Programs.{Program}
+use Rattle.promise_spec.specs.Logs.{IsLog}
 use Rattle.promise_spec.specs.Moments.{IsImageOf}
 use Rattle.promise_spec.specs.Causes.{RoseBy}
 use Rattle.promise_spec.specs.Endings.{Done, DiskFault, HasRisen, IsCarried, HasLength, IsCalm}

@@ -6,12 +6,11 @@ use Rattle.serde_json.proofs.OnLiterals.{serde_json_on_literals}
 use Rattle.core_model.specs.CoreState.{Member}
 use Rattle.host_trait.specs.World.{Moment, Image, IsImage}
 use Rattle.script_meaning.specs.Worked.{at, int, call}
-use Rattle.promise_spec.specs.Programs.{Program, shape_in}
+use Rattle.promise_spec.specs.Programs.{Program}
 use Rattle.promise_spec.specs.Logs.{IsLog}
 use Rattle.promise_spec.specs.Causes.{RunHasDoubt, NoneRose, syncs_of}
 use Rattle.promise_spec.specs.Endings as ending
 use Rattle.promise_spec.specs.Courses.{Observed, Course, order, moments, lines, core_run}
-use Rattle.promise_examples.specs.Examples.{account_program}
 use Rattle.promise_examples.specs.DepositRuns.{deposit_course}
 use Rattle.promise_spec.specs.Loads.{load_calls, transfers_after, summary_text, KeepsLoad}
 

@@ -26,7 +26,7 @@ use Rattle.silo_spec.specs.Silos.{manager, program_file, IsSilo, HasProgram}
 use Rattle.request_wire.specs.Names.{TypeNames, names_in}
 use Rattle.request_wire.specs.Request.{shape_of, grain_of, method_of, args_of, passed, call_of}
 use Rattle.request_wire.proofs.Arguments.{json_of-read}
-use Rattle.promise_spec.specs.Programs.{ProgramFault, shape_in, program_in}
+use Rattle.promise_spec.specs.Programs.{ProgramFault, program_in}
 use Rattle.promise_spec.specs.Openings.{with_types, program_in_file}
 use Rattle.promise_spec.specs.Logs.{magic, HasLog}
 use Rattle.promise_spec.specs.Crashes.{IsAside}
@@ -36,9 +36,7 @@ use Rattle.promise_examples.specs.DepositRuns.{HasNone, HasDeposit}
 use Rattle.promise_examples.specs.WrittenRun.{new_manager, disk_of, new_disk, pending_gate, sealing_disk, sealed_disk}
 use Rattle.promise_examples.proofs.FirstDeposit.{logged_batch, logged}
 use Rattle.promise_examples.proofs.AccountText.{account_is_checked}
-use Rattle.promise_spec.proofs.Slots.{first_live}
 use Rattle.promise_spec.specs.Images.{IsSound}
-use Rattle.silo_spec.specs.Slots.{IsLive}
 use Rattle.promise_examples.proofs.AccountLogs.{account_logged}
 use Rattle.promise_spec.proofs.Batched.{batch_body}
 use Rattle.promise_spec.proofs.OneLog.{one_log}

@@ -52,10 +52,9 @@ use Rattle.promise_examples.specs.WrittenRun.{new_manager, disk_of, new_disk, pe
 use Rattle.promise_examples.specs.WrittenDoubt.{pair_before}
 use Rattle.promise_examples.specs.WrittenVote.{reading_manner}
 use Rattle.promise_examples.specs.WrittenBatch.{both_commits, second_entry, both_entries, both_versions, both_block, second_text, versions_pending, both_disk, batching, batch_after, batch_course, batched_steps, batched}
-use Rattle.promise_examples.proofs.FirstDeposit.{five, logged, logged_batch}
+use Rattle.promise_examples.proofs.FirstDeposit.{five, logged_batch}
 use Rattle.promise_examples.proofs.FirstFamily.{only, either_of}
-use Rattle.promise_examples.proofs.AccountText.{account_is_checked}
-use Rattle.promise_examples.proofs.NewSilo.{ends_there, gate_is_silo, shut_has_none, gate_only, has_none, new_images, seen_possible, new_folder, program_spelled, has_program}
+use Rattle.promise_examples.proofs.NewSilo.{ends_there, gate_is_silo, shut_has_none, gate_only, has_none, new_images, seen_possible, new_folder, has_program}
 use Rattle.promise_examples.proofs.SealingDisks.{sealed_front, gate_front, alone_of, apart_of, between_of, at_new, at_block, at_staged}
 use Rattle.promise_examples.proofs.HostSteps.{pulled, ended, wrote_grain, wrote_log, synced_grain, synced_log, emitted}
 use Rattle.promise_examples.proofs.Between.{at_each, exit_there, all_less}

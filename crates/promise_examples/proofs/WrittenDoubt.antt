@@ -30,12 +30,11 @@ use Rattle.promise_examples.specs.DoubtRuns.{IsDoubtRun, doubt_course, first_tol
 use Rattle.promise_examples.specs.HostCalls.{IsHosted}
 use Rattle.promise_examples.specs.WrittenRun.{new_manager, new_disk, version_pending, block_pending, gate_pending, sealing_disk, request_line, opened}
 use Rattle.promise_examples.specs.WrittenDoubt.{pair_manner, second_line, locked_text, doubt_text, told, doubting, pair_before, one_fault, doubted, doubted_steps}
-use Rattle.promise_examples.proofs.NewSilo.{has_deposit, other_bytes, gate_only, new_images, sealing_images, settled_stays, grain_stays, seen_possible, new_folder, sound_world, program_spelled, line_asks, has_program}
+use Rattle.promise_examples.proofs.NewSilo.{has_deposit, other_bytes, gate_only, new_images, sealing_images, settled_stays, grain_stays, seen_possible, new_folder, sound_world, line_asks, has_program}
 use Rattle.promise_examples.proofs.SealingDisks.{at_new, at_block, at_staged, at_sealing}
 use Rattle.promise_examples.proofs.HostSteps.{pulled, ended, wrote_grain, wrote_log, synced_grain, synced_log, unsynced_log, emitted}
 use Rattle.promise_examples.proofs.WrittenRun.{version_wrote, block_wrote, gate_wrote}
 use Rattle.promise_examples.proofs.DoubtRun.{kept, shown}
-use Rattle.promise_examples.proofs.AccountText.{account_is_checked}
 
 -- ---- the lines
 

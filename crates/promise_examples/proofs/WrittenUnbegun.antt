@@ -40,8 +40,7 @@ use Rattle.promise_examples.specs.HostCalls.{IsHosted}
 use Rattle.promise_examples.specs.WrittenRun.{new_manager, new_disk, version_pending, block_pending, staged_disk, opened}
 use Rattle.promise_examples.specs.WrittenDoubt.{pair_manner, locked_text, doubt_text, pair_before, one_fault}
 use Rattle.promise_examples.specs.WrittenUnbegun.{gate_failing, unbegun_after, unbegun, unbegun_course, unbegun_steps}
-use Rattle.promise_examples.proofs.AccountText.{account_is_checked}
-use Rattle.promise_examples.proofs.NewSilo.{new_images, seen_possible, new_folder, program_spelled, has_program}
+use Rattle.promise_examples.proofs.NewSilo.{new_images, seen_possible, new_folder, has_program}
 use Rattle.promise_examples.proofs.SealingDisks.{at_new, at_block, at_staged}
 use Rattle.promise_examples.proofs.HostSteps.{pulled, ended, wrote_grain, wrote_log, unbegun_log, synced_grain, synced_log, emitted}
 use Rattle.promise_examples.proofs.Between.{at_each, exit_there, all_less}

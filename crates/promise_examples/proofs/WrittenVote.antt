@@ -27,11 +27,10 @@ use Rattle.promise_examples.specs.VoteRuns.{IsVoteRun, vote_course}
 use Rattle.promise_examples.specs.HostCalls.{IsHosted}
 use Rattle.promise_examples.specs.WrittenRun.{new_manager, new_disk, request_line, opened}
 use Rattle.promise_examples.specs.WrittenVote.{reading_manner, read_line, voted_text, dependent_text, version_cut, cut_disk, failing, vote_told, reading_before, grain_fault, voted, voted_steps}
-use Rattle.promise_examples.proofs.NewSilo.{empty_images, new_images, settled_stays, seen_possible, new_folder, sound_world, program_spelled, line_asks, read_asks}
+use Rattle.promise_examples.proofs.NewSilo.{empty_images, new_images, settled_stays, seen_possible, new_folder, sound_world, line_asks, read_asks}
 use Rattle.promise_examples.proofs.SealingDisks.{at_new}
 use Rattle.promise_examples.proofs.HostSteps.{account_same, pulled, ended, cut_grain, synced_log, emitted}
 use Rattle.promise_examples.proofs.VoteRun.{kept, shown}
-use Rattle.promise_examples.proofs.AccountText.{account_is_checked}
 
 asks : AskBoth (lines voted)
 unfolding serde_json_on_literals

@@ -60,7 +60,7 @@ untouched old new u sound = as_before old new u.now.images sound
 -- ---- runs, reports, audits and bad use
 
 -- an image at the exit is one of a moment that counts
-exit_of : (r : Observed) (c : Course) (image : Image) → IsImage r.new.disk image → IsImageOf (moments r c) image
+pub exit_of : (r : Observed) (c : Course) (image : Image) → IsImage r.new.disk image → IsImageOf (moments r c) image
 exit_of r c image left = record { moment = moment_of r.new; member = inr (in_append (moment_of r.new) c.late (moment_of r.new ∷ []) (inr (inl refl))); left = left }
 
 -- what survives crashes leaves a sound folder
@@ -422,10 +422,10 @@ obeying_moments (Check n seed) bank r checked text seen obeys sound = check_mome
 -- ---- after a crash
 
 -- a crash leaves one image, of which all is settled
+pub restarted_image : (image : Image) (after : World) → IsRestarted image after → (other : Image) → IsImage after.disk other → other ≡ image
+restarted_image image after restarted other may =
+    let each : (file : FileId) → other file ≡ image file = λ file. settled_only (image file) (other file) (subst (λ (f : FileState). MayLeave f (other file)) (restarted file) (may file)) in
+    λ i file. each file i
+
 pub restarts : (w after : World) (image : Image) → IsSoundFolder w → IsImage w.disk image → IsRestarted image after → IsSoundFolder after
-restarts w after image sound left restarted = as_before w after (λ other may. subst (IsImage w.disk) (sym (same other may)) left) sound
-  where
-    same : (other : Image) → IsImage after.disk other → other ≡ image
-    same other may =
-        let each : (file : FileId) → other file ≡ image file = λ file. settled_only (image file) (other file) (subst (λ (f : FileState). MayLeave f (other file)) (restarted file) (may file)) in
-        λ i file. each file i
+restarts w after image sound left restarted = as_before w after (λ other may. subst (IsImage w.disk) (sym (restarted_image image after restarted other may)) left) sound

@@ -18,8 +18,8 @@ mod laws;
 
 pub use folders::sound_folders_are_whole;
 pub use laws::{
-    chains_compare, checked_programs_have_plain_names, done_runs_count_syncs, folders_are_read, grown_logs_go_on,
-    one_entry, one_log, one_output, prefixes_are_an_order, programs_are_read,
+    chains_compare, checked_programs_have_plain_names, done_runs_count_syncs, folders_are_read,
+    grown_logs_go_on, one_entry, one_log, one_output, prefixes_are_an_order, programs_are_read,
     promises_keep_the_headline, sealed_batches_grow_a_log, standings_are_folds,
     unheld_grains_are_initial, words_are_read, words_say_one_command,
 };
