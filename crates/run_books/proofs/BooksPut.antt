@@ -1,5 +1,5 @@
 -- The books after the settler put an entry out, or was to.
-use Rattle.std.proofs.Common.{◌≡◌, inl, inr, ℕ, zero, suc, ◌+◌, ◌-◌, ◌^◌, ◌<◌, ◌≤◌, List, [], ◌∷◌, ◌++◌, length, take, Bool, true, false, refl, sym, ap, ◌∙◌, subst, arith, append-nil, append_assoc, Some, is_some, slice_get}
+use Rattle.std.proofs.Common.{◌≡◌, inl, inr, ℕ, zero, suc, ◌+◌, ◌-◌, ◌*◌, ◌^◌, ◌<◌, ◌≤◌, List, [], ◌∷◌, ◌++◌, length, take, Bool, true, false, refl, sym, ap, ◌∙◌, subst, arith, append-nil, append_assoc, Some, is_some, slice_get}
 use Rattle.std.specs.Prelude.{IsTrue}
 use Rattle.std.proofs.lemmas.Bool.{false≢true}
 use Rattle.base_types.specs.declared.calls.GrainId.{GrainId}
@@ -37,7 +37,7 @@ use Rattle.run_books.specs.Settling.{AreEven}
 use Rattle.run_books.proofs.BooksCalls.{file-same, file-emitted, calls-same}
 use Rattle.run_books.proofs.BooksCore.{Moves}
 use Rattle.run_books.proofs.BooksCounts.{how-same}
-use Rattle.run_books.proofs.BooksFaults.{NoneFell, calm-later, failed-later, faults-same, fell-both, rose-back}
+use Rattle.run_books.proofs.BooksFaults.{NoneFell, calm-later, failed-later, faults-same, fell-both, rose-back, none-failed}
 use Rattle.run_books.proofs.BooksImages.{doubt-kept}
 use Rattle.run_books.proofs.BooksWritten.{member-at, parts, said_next, next-told, next-booked, next-grew}
 

@@ -1,5 +1,5 @@
 -- The books after the event that a step of the settler puts.
-use Rattle.std.proofs.Common.{◌≡◌, inr, ℕ, ◌+◌, List, [], ◌∷◌, ◌++◌, length, drop, Bool, true, false, ◌||◌, refl, sym, ap, ◌∙◌, subst, append-nil, Some, None, is_some, arith, drop-drop}
+use Rattle.std.proofs.Common.{◌≡◌, inr, ℕ, ◌+◌, List, [], ◌∷◌, ◌++◌, length, drop, Bool, true, false, ◌||◌, refl, sym, ap, ◌∙◌, subst, append-nil, append_assoc, Some, None, is_some, arith, drop-drop}
 use Rattle.std.specs.Prelude.{IsTrue, if◌then◌else◌}
 use Rattle.base_types.specs.declared.calls.GrainId.{GrainId}
 use Rattle.base_types.specs.declared.entries.Entry.{Entry}
@@ -33,6 +33,7 @@ use Rattle.batch_disk.specs.Records.{commits_by}
 use Rattle.batch_disk.specs.Seals.{WriterAfter}
 use Rattle.batch_disk.specs.Writers.{KeepsDisk, kept_of, voted_of}
 use Rattle.batch_disk.specs.declared.writer.BatchWriter.{BatchWriter}
+use Rattle.batch_disk.proofs.Lists.{flat_push}
 use Rattle.batch_disk.proofs.Recorded.{records_are}
 use Rattle.commit_log.specs.declared.gate.Sealing.{Sealing}
 use Rattle.commit_log.specs.declared.gate.Sealing.TheVariants as sealing

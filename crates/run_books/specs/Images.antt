@@ -1,5 +1,5 @@
 -- What each image that a crash may leave keeps of a run's books.
-use Rattle.std.specs.Prelude.{◌≡◌, ◌≢◌, ◌⊎◌, ℕ, ◌+◌, false, List, [], ◌++◌, take, drop}
+use Rattle.std.specs.Prelude.{◌≡◌, ◌≢◌, ◌⊎◌, ℕ, ◌+◌, false, List, [], ◌++◌, map, take, drop}
 use Rattle.host_trait.specs.declared.channels.FileId.TheVariants.{Manager}
 use Rattle.host_trait.specs.Disk.{FileState, MayLeave}
 use Rattle.host_trait.specs.declared.channels.FileId.{FileId}
@@ -7,6 +7,7 @@ use Rattle.host_trait.specs.World.{World, Disk, Moment, Image, IsImage, Passes, 
 use Rattle.core_model.specs.CoreState.{CoreState, Member}
 use Rattle.core_model.specs.Serial.{chosen}
 use Rattle.core_model.specs.Legal.{Run, ends}
+use Rattle.gate_block.specs.Log.{HasBlocks}
 use Rattle.promise_spec.specs.Programs.{shape_in}
 use Rattle.promise_spec.specs.Records.{Commit, AreRecordsOf}
 use Rattle.promise_spec.specs.Entries.{Log, grown}
