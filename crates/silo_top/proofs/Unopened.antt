@@ -57,7 +57,7 @@ asked_untouched live old new run = record {
 
 -- a run that didn't open its folder keeps its promise
 pub unopened_promised : (m : Manner) (r : Observed) → r.manner ≡ m → IsUnopened r → Promises m r
-unopened_promised m r is u = record { manner = is; answers = inl u; over_whole = λ p checked whole. inl u }
+unopened_promised m r is u = record { manner = is; answers = inl u; over_whole = λ whole. inl u }
 
 -- so does one whose opening answered a fault
 pub refused_promised : (m : Manner) (old new : World) (before after : Channel → ℕ) (e : OpenFault) (status : Status) → status_ending status ≡ ending_of e → RunsOnFile (Manager 0) Stays 1 old new
