@@ -12,9 +12,9 @@ use Rattle.promise_spec.specs.Endings.{Done}
 use Rattle.promise_spec.specs.Crashes.{LeavesAlone}
 use Rattle.promise_spec.specs.Courses.{Observed, Course, seen_at_entry, lines}
 use Rattle.promise_spec.specs.Exits.{EndsAsRead}
-use Rattle.promise_spec.specs.Entries.{Log}
+use Rattle.promise_spec.specs.Entries.{Log, standing_of}
 
--- The files read as this log at entry. The run synced it, read that the input is empty, and ended. Each image is one of
+-- The files read as this log at entry, at whose end this program is in force. The run synced it, read that the input is empty, and ended. Each image is one of
 -- those at entry, has this log, ends behind it as the file read, and is sound; there is one. It asked for no other sync. No count of faults changed,
 -- nor did another file or the header.
 pub record IsEmptyRun (p : Program) (r : Observed) (opening : Log) : Type 0 where
@@ -25,6 +25,7 @@ pub record IsEmptyRun (p : Program) (r : Observed) (opening : Log) : Type 0 wher
   pub output : r.new.output ≡ r.old.output
   pub syncs : r.new.syncs ≡ r.old.syncs + 1
   pub read : IsLog 0 (seen_at_entry r) opening
+  pub in_force : (standing_of opening).program ≡ p
   pub synced : r.new.past ≡ r.old.past ++ moment_of r.new ∷ []
   pub entry : (image : Image) → IsImage r.new.disk image → IsImage r.old.disk image
   pub logs : (image : Image) → IsImage r.new.disk image → IsLog 0 image opening

@@ -1,4 +1,4 @@
-ghost use Rattle.std.specs.Prelude.{◌≡◌, ◌≢◌, ◌+◌, ◌-◌, ◌^◌, ◌<◌, ◌≤◌, ◌++◌, ◌∷◌, [], ℕ, Bool, true, false, List, length, Err, map, take};
+ghost use Rattle.std.specs.Prelude.{◌≡◌, ◌≢◌, ◌+◌, ◌-◌, ◌^◌, ◌<◌, ◌≤◌, ◌++◌, ◌∷◌, [], ℕ, Bool, true, false, List, length, Err, take};
 ghost use Rattle.base_types.specs.declared.calls.Call.{Call};
 ghost use Rattle.base_types.specs.declared.calls.GrainId.{GrainId};
 ghost use Rattle.base_types.specs.declared.calls.Origin.TheVariants.{Line, Child};
@@ -6,7 +6,6 @@ ghost use Rattle.base_types.specs.declared.calls.Outcome.{Outcome};
 ghost use Rattle.base_types.specs.declared.calls.UnitNo.{UnitNo};
 ghost use Rattle.base_types.specs.declared.entries.Entry.{Entry};
 ghost use Rattle.base_types.specs.declared.entries.Settled.TheVariants as settled;
-ghost use Rattle.base_types.specs.declared.shapes.Shape.{Shape};
 ghost use Rattle.commit_log.specs.declared.records.CommitRecord.{CommitRecord};
 ghost use Rattle.commit_log.specs.Spelling.{spelling_of_body};
 ghost use Rattle.core_model.specs.declared.effects.Effect.{Effect};

@@ -1,4 +1,4 @@
-ghost use Rattle.std.specs.Prelude.{◌++◌, ◌<◌, ℕ, List};
+ghost use Rattle.std.specs.Prelude.{◌<◌, ℕ, List};
 ghost use Rattle.host_trait.specs.World as host;
 ghost use Rattle.host_trait.specs.World.{Moment, Passes};
 ghost use Rattle.core_model.specs.CoreState.{CoreState};

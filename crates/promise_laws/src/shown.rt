@@ -1,9 +1,7 @@
 ghost use Rattle.std.specs.Prelude.{◌≡◌};
-ghost use Rattle.host_trait.specs.declared.channels.FileId.TheVariants.{Program as ProgramFile};
-ghost use Rattle.silo_spec.specs.Silos.{HasProgram};
-ghost use Rattle.promise_spec.specs.Programs.{Program, IsChecked};
+ghost use Rattle.promise_spec.specs.Programs.{Program};
 ghost use Rattle.promise_spec.specs.Words.{Manner};
-ghost use Rattle.promise_spec.specs.Courses.{Observed, Course, seen_at_entry};
+ghost use Rattle.promise_spec.specs.Courses.{Observed, Course};
 ghost use Rattle.promise_spec.specs.Promise.{Keeps, Promises};
 ghost use Rattle.promise_laws.specs.Obligations.{Shows};
 

@@ -17,7 +17,7 @@ pub record IsImageOf (moments : List Moment) (image : Image) : Type 0 where
 abbrev pub counted_moments : World → List Moment → List Moment → World → List Moment
 counted_moments old early late new = last_of (moment_of old) early ∷ (late ++ moment_of new ∷ [])
 
--- the order of a run: the longest log that an image of these moments has, and one of them in this slot
+-- the order of a run: the longest log that an image of these moments has; some image has it in this slot
 pub record IsLongest (live : ℕ) (moments : List Moment) (order : Log) : Type 0 where
   pub image : Image
   pub left : IsImageOf moments image

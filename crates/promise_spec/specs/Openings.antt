@@ -1,4 +1,4 @@
--- What a folder reads as when it is opened: no silo, damaged at a first place, or a program and a log.
+-- What a folder reads as when it is opened: no silo, damaged at a first place, or a slot and a log.
 use Rattle.std.specs.Prelude.{ℕ, Bool, ◌&&◌, ◌==◌, nat_le, if◌then◌else◌, List, length, map, take, drop, slice_index, bytes_eq, Option, Some, None, Result, Ok, Err}
 use Rattle.base_types.specs.declared.shapes.Shape.{Shape}
 use Rattle.host_trait.specs.declared.channels.FileId.{FileId}

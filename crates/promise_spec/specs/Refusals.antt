@@ -14,7 +14,7 @@ use Rattle.promise_spec.specs.Openings.{Reading, NoSilo, DamagedAt, Reads, progr
 use Rattle.promise_spec.specs.Endings.{Ending, Memory, DiskFault, NotASilo, Damaged, HasFailedAs}
 use Rattle.promise_spec.specs.Courses.{Observed, seen_at_entry}
 
--- the file is the manager file, or the program's
+-- the file is the manager file, or the program's, of slot 0
 abbrev pub IsHead : FileId → Type 0
 IsHead file = (file ≡ manager) ⊎ (file ≡ program_file)
 
