@@ -140,6 +140,7 @@ module _ (p : Program) (n seed : ℕ) (r : Observed) (c : Course) (mid : World) 
 
   pub ordered : IsOrdered p r c
   ordered = record {
+    in_force = s.in_force;
     read = o.read;
     opened = λ image possible. record { entry = at_entry then_seen then_course o image possible; log = o.opened image possible };
     longest = record {

@@ -182,6 +182,7 @@ module _ (r : Observed) (opened : Moment) (sealing : List Moment) (run : IsDepos
 
   ordered : IsOrdered account_program r course
   ordered = record {
+    in_force = refl;
     read = run.read;
     opened = λ image left. record { entry = (run.entry image left).0; log = (run.entry image left).1.0 };
     longest = longest 0 account_program (account_log []) r.old.output journal (moments r course) run.some (record { moment = moment_of r.new; member = exit_there opened sealing (moment_of r.new); left = run.possible }) (run.logged run.some run.possible).0

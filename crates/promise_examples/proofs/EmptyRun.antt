@@ -68,6 +68,7 @@ module _ (p : Program) (r : Observed) (opening : Log) (run : IsEmptyRun p r open
   kept = record {
     headline = record {
       ordered = record {
+        in_force = run.in_force;
         read = run.read;
         opened = λ image is. record { entry = run.entry image is; log = run.logs image is };
         longest = record {

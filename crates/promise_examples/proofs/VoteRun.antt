@@ -220,6 +220,7 @@ module _ (r : Observed) (opened : Moment) (failing told : List Moment) (run : Is
 
   ordered : IsOrdered account_program r course
   ordered = record {
+    in_force = refl;
     read = run.read;
     opened = λ image left. record { entry = (run.entry image left).0; log = (run.entry image left).1.0 };
     longest = longest 0 account_program (account_log []) r.old.output journal (moments r course) run.some (record { moment = moment_of r.new; member = exit_there opened (failing ++ told) (moment_of r.new); left = run.possible }) (run.exit run.some run.possible).0

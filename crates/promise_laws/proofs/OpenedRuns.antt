@@ -90,6 +90,7 @@ module _ (p : Program) (r : Observed) (c : Course) (a : ShowsAnywhere p r c) whe
       let based = reads_above c.live (seen_at_entry r) c.opening reads in
       let is = explained p r c based a.explains in
       record {
+        in_force = a.in_force;
         reads = reads;
         output = a.output;
         whole = a.whole;

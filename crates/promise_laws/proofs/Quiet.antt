@@ -135,6 +135,7 @@ module _ (p : Program) (r s : Observed) (c : Course) (told : List Moment) (told_
 
   ordered : IsOrdered p r c → IsOrdered p (alike r s) (quiet_course r c told)
   ordered k = record {
+    in_force = k.in_force;
     read = k.read;
     opened = λ image is. let o = k.opened image is in record { entry = o.entry; log = o.log };
     longest = record {

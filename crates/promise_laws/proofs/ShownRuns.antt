@@ -149,6 +149,7 @@ module _ (p : Program) (r : Observed) (c : Course) (s : Shows p r c) where
   -- the records are the core's, behind the opening log
   ordered : IsOrdered p r c
   ordered = record {
+    in_force = s.in_force;
     read = o.read;
     opened = λ image possible. record { entry = at_entry r c o image possible; log = o.opened image possible };
     longest =

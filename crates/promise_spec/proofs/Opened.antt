@@ -31,6 +31,7 @@ module _ (p : Program) (r : Observed) (c : Course) where
   -- what it keeps over any folder that reads as its log
   pub kept_anywhere : Keeps p r c → opened_as (seen_at_entry r) ≡ Reads c.live c.opening → KeepsAnywhere p r c
   kept_anywhere keeps reads = record {
+    in_force = keeps.headline.ordered.in_force;
     reads = reads;
     output = keeps.headline.replies.output;
     whole = keeps.headline.replies.whole;

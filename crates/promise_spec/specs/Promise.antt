@@ -91,11 +91,12 @@ pub record Keeps (p : Program) (r : Observed) (c : Course) : Type 0 where
   pub exit : IsExit p r c
   pub ended : HasEnded p r c
 
--- What holds over any folder that opens, sound or not. The files read as this log. What was written is entries, each of another
+-- What holds over any folder that opens, sound or not. The files read as this log, at whose end the program is in force. What was written is entries, each of another
 -- line, and a rest that is empty unless writing failed; entries of logged units stand in the order of their records. They are
 -- those that the core's events settle and explain, and the run ends as the third of these says. Where the opening log's units are
 -- numbered, the entries are true and the records a family.
 pub record KeepsAnywhere (p : Program) (r : Observed) (c : Course) : Type 0 where
+  pub in_force : program_in_force c ≡ p
   pub reads : opened_as (seen_at_entry r) ≡ Reads c.live c.opening
   pub output : Grew (shape_in p) r.old.output r.new.output c.entries c.rest
   pub whole : r.ending ≢ WriteFault → c.rest ≡ []
