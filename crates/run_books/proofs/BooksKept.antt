@@ -24,7 +24,7 @@ use Rattle.run_books.specs.Records.{KeepsBooks, CountsCalls}
 use Rattle.run_books.specs.Settling.{AreEven}
 use Rattle.run_books.proofs.BooksCore.{Moves}
 use Rattle.run_books.proofs.BooksFaults.{NoneFell, fell-both}
-use Rattle.run_books.proofs.BooksGrown.{even-put, grown, grown-booked, grown-even}
+use Rattle.run_books.proofs.BooksGrown.{even-put, grown_books, grown-booked, grown-even}
 
 -- What an event that puts nothing out adds: a batch's records, and a batch in doubt; and what it leaves of counts, of the settler
 -- and of the host.
@@ -52,7 +52,7 @@ module _ (tells : Bool) (o : Outset) (b : Books) (r : Run) (e : CoreEvent) (befo
   r' = extended r (e ∷ [])
 
   abbrev pub books : Books
-  books = grown b m.more batch d
+  books = grown_books b m.more batch d
 
   told : (ends r).manager.emitted ≤ length (ends r).manager.settled
   told = (once-ends (λ (x : Effect). true) r (legal-run (basis_of o) r above units)).written

@@ -311,10 +311,11 @@ module _ {H : Type 0} (tells : Bool) (world : H → World) (faults : H → Chann
                 let f = l.folder (sym lacks.same.doubt ∙ q) in
                 let fair = (is-fair o r before.writer can.above can.units can.kinds can.accepted can.numbers f.votes).vote n g votes in
                 record {
-                  batches = f.batches;
+                  stood = f.stood;
+                  bodies = f.bodies;
                   log = f.log;
-                  keeps = subst (λ (w : World). KeepsDisk o.live (shape_in o.program) head f.batches after.writer w.disk) (lacks.world_is t)
-                      ((lacks.images t).keeps (shape_in o.program) head f.batches fair.0 fair.1 f.keeps);
+                  keeps = subst (λ (w : World). KeepsDisk o.live (shape_in o.program) head f.stood f.bodies after.writer w.disk) (lacks.world_is t)
+                      ((lacks.images t).keeps (shape_in o.program) head f.stood f.bodies fair.0 fair.1 f.keeps);
                   votes = votes-same r n before.writer after.writer lacks.batch lacks.kept f.votes;
                   behind = λ none. subst (λ (gate : ℕ). EndsAsBegun o gate ((world old).disk (Manager o.live))) (sym lacks.same.gate) (f.behind none);
                 });

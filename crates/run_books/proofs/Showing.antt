@@ -11,7 +11,8 @@ use Rattle.core_model.specs.CoreState.{CoreState}
 use Rattle.core_model.specs.declared.effects.Effect.{Effect}
 use Rattle.core_model.specs.Serial.{committed, chosen}
 use Rattle.core_model.specs.Legal.{Run, ends}
-use Rattle.promise_spec.specs.Records.{Commit, AreRecordsOf, standing_of}
+use Rattle.promise_spec.specs.Entries.{standing_of}
+use Rattle.promise_spec.specs.Records.{Commit, AreRecordsOf}
 use Rattle.promise_spec.specs.Logs.{IsPrefix}
 use Rattle.promise_spec.specs.Programs.{shape_in}
 use Rattle.promise_spec.specs.Journals.{Settlement, commits_of, entries_of}
@@ -97,7 +98,7 @@ pub explains : {T : Type 0} (tells : Bool) (o : Outset) (b : Books) (r : Run) (s
     → IsCourseOf o b r seen c → LeavesUnvoted c.live o.program seen c → ExplainsEvents o.program seen c
 explains {T} tells o b r settler seen c result k e q turns is unvoted =
     let run : r ≡ core_run o.program c = sym is.run in
-    let same : basis_of o ≡ basis o.program seen c = (λ i. record { types = o.program.types; lines = sym is.asked i; opening = standing_of o.program.types (sym is.opening i) }) in
+    let same : basis_of o ≡ basis o.program seen c = (λ i. record { types = o.program.types; lines = sym is.asked i; opening = standing_of (sym is.opening i) }) in
     record {
       records = subst (AreAdded (core_end o.program c)) (sym is.added)
           (subst (λ (x : Run). AreAdded (ends x) (commits_of (booked_journal b))) run (added-by (ends r) (b.said ++ b.unsaid) b.doubted k.books.booked.commits k.books.booked.doubted));

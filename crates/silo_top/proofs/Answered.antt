@@ -18,6 +18,7 @@ use Rattle.run_books.specs.Beside.{TurnsBeside}
 use Rattle.run_books.specs.Closing.{turns_ending}
 use Rattle.silo_opening.specs.declared.open.Opened.{Opened}
 use Rattle.silo_top.specs.declared.starting.Started.{Started}
+use Rattle.promise_spec.specs.Entries.{new_log}
 use Rattle.promise_spec.specs.Words.{Manner}
 use Rattle.silo_top.specs.Answering.{AnswersRun}
 use Rattle.silo_top.specs.Carrying.{StartsRun, CarriedOn, CarriesOn}
@@ -31,11 +32,11 @@ use Rattle.silo_top.proofs.OpensWith.{many_types}
 -- a core without events, and a settler that has written nothing: lines can be carried, whatever log the outset is told of
 pub start_fresh : (tells : Bool) (m : Manner) (x : Opened) (st : Started) (texts : List (List ℕ)) (lines : List Line) (w0 w1 : World) (f0 f1 : Channel → ℕ)
     → IsStartOf x st → (IsTrue tells → PulledOnly w0 w1) → ((c : Channel) → f0 c ≤ f1 c) → 0 < m.width → 0 < x.next_unit.0 → AreReadFrom (program_tree x.checked) 0 texts lines
-    → StartsRun tells m (record { live = x.slot; program = record { text = []; types = program_tree x.checked }; asked = texts; opening = []; ruled = not m.threaded; width = m.width; picks = m.picks; faults = f0; world = w0 }) no_books (program_tree x.checked)
+    → StartsRun tells m (record { live = x.slot; program = record { text = []; types = program_tree x.checked }; asked = texts; opening = new_log (record { text = []; types = program_tree x.checked }); ruled = not m.threaded; width = m.width; picks = m.picks; faults = f0; world = w0 }) no_books (program_tree x.checked)
     (run_of st.core) st.settler lines f1 w1
 start_fresh tells m x st texts lines w0 w1 f0 f1 start still later wide above are =
     let types : ProgramTree = program_tree x.checked in
-    let o : Outset = record { live = x.slot; program = record { text = []; types = types }; asked = texts; opening = []; ruled = not m.threaded; width = m.width; picks = m.picks; faults = f0; world = w0 } in
+    let o : Outset = record { live = x.slot; program = record { text = []; types = types }; asked = texts; opening = new_log (record { text = []; types = types }); ruled = not m.threaded; width = m.width; picks = m.picks; faults = f0; world = w0 } in
     let base : ℕ = x.next_unit.0 in
     let kinds : ℕ = length (type_shapes types) in
     let opening = opening_state (record { types = type_shapes types }) x.store in
@@ -52,7 +53,7 @@ pub answered : {T : Type 0} (tells : Bool) (m : Manner) (x : Opened) (st : Start
     → CarriesOn tells m (program_tree x.checked) lines (run_of st.core) r' st.settler s' f1 f2 w1 w2 result
     → TurnsBeside tells (run_of st.core) r' st.settler s' f1 f2 w1 w2 result → AnswersRun (turns_ending x.slot result) f0 f2
 answered {T} tells m x st input lines w0 w1 w2 f0 f1 f2 result r' s' start pulled calm wide above are carries beside =
-    let o : Outset = record { live = x.slot; program = record { text = []; types = program_tree x.checked }; asked = lines_of input; opening = []; ruled = not m.threaded; width = m.width; picks = m.picks; faults = f0; world = w0 } in
+    let o : Outset = record { live = x.slot; program = record { text = []; types = program_tree x.checked }; asked = lines_of input; opening = new_log (record { text = []; types = program_tree x.checked }); ruled = not m.threaded; width = m.width; picks = m.picks; faults = f0; world = w0 } in
     let goes : CarriedOn {T = T} tells m o no_books (run_of st.core) r' st.settler s' f2 w1 w2 result =
     carries o no_books (start_fresh tells m x st (lines_of input) lines w0 w1 f0 f1 start pulled (λ c. let e = calm c in omega (arith, e)) wide above are) in
     turns_answer tells o goes.on.books (run_of st.core) r' st.settler s' f1 f2 w1 w2 result calm goes.on.ended beside

@@ -12,7 +12,7 @@ use Rattle.core_model.specs.CoreState.{Member}
 use Rattle.core_model.specs.Legal.{Run, ends}
 use Rattle.core_model.specs.declared.events.CoreEvent.{CoreEvent}
 use Rattle.promise_spec.specs.Programs.{Program, shape_in}
-use Rattle.promise_spec.specs.Records.{Commit, standing_of}
+use Rattle.promise_spec.specs.Entries.{Log, standing_of}
 use Rattle.promise_spec.specs.Outputs.{Grew}
 use Rattle.promise_spec.specs.Cores.{core_from, how_many}
 use Rattle.promise_spec.specs.Causes.{is_vote, is_vote_of, is_sealed, is_unsealed, syncs_of, most_syncs_of}
@@ -121,7 +121,7 @@ module _ {T : Type 0} (m : Manner) (x : Opened) (old mid now new : World) (befor
   abbrev pub p : Program
   p = program_of is.opened
 
-  abbrev pub log : List Commit
+  abbrev pub log : Log
   log = is.opened.log
 
   abbrev pub out : Outset
@@ -131,7 +131,7 @@ module _ {T : Type 0} (m : Manner) (x : Opened) (old mid now new : World) (befor
   seen = observed_run m old new before after status
 
   abbrev pub r0 : Run
-  r0 = core_from p.types (standing_of p.types log) []
+  r0 = core_from p.types (standing_of log) []
 
   -- the turns went on from the start, and what the images keep held there, where the folder is sound
   module _ (r' : Run) (s s' : Settler) (mid_faults : Channel → ℕ) (goes : CarriedOn true m out no_books r0 r' s s' after now new result) (beside : TurnsBeside true r0 r' s s' mid_faults after now new result) (loud : s.quiet ≡ false) where
@@ -145,7 +145,7 @@ module _ {T : Type 0} (m : Manner) (x : Opened) (old mid now new : World) (befor
     c = record { live = x.slot; opening = log; added = commits_of (booked_journal b); early = is.run.clock.more; late = pulled.moments.more ++ later.0; events = r'.events; entries = entries_of b.said; rest = b.rest }
 
     run_is : core_run p c ≡ r'
-    run_is = ap (λ (es : List CoreEvent). core_from p.types (standing_of p.types log) es) (ap (λ (r : Run). r.events) beside.core) ∙ sym beside.core
+    run_is = ap (λ (es : List CoreEvent). core_from p.types (standing_of log) es) (ap (λ (r : Run). r.events) beside.core) ∙ sym beside.core
 
     course : IsCourseOf out b r' seen c
     course = record {
@@ -172,7 +172,7 @@ module _ {T : Type 0} (m : Manner) (x : Opened) (old mid now new : World) (befor
       late = later.1 ∙ ap (λ (l : List Moment). l ++ later.0) pulled.moments.past ∙ append_assoc mid.past pulled.moments.more later.0;
     }
 
-    pub stands : IsBehind p seen c mid
+    pub stands : IsBehind seen c mid
     stands = behind x seen c mid is.opened follows
 
     are_settled : AreSettled p seen c
@@ -189,6 +189,7 @@ module _ {T : Type 0} (m : Manner) (x : Opened) (old mid now new : World) (befor
 
     answers : ShowsAnywhere p seen c
     answers = record {
+      in_force = is.opened.program;
       explains = explains true out b r' s' seen c result goes.on.record_kept goes.on.ended ends_as goes.turns course
           (unvoted_behind p seen c mid stands (λ g none. (goes.on.record_kept.books.outside told).calls.unvoted g (subst (λ (r : Run). how_many (is_vote_of g) r ≡ 0) run_is none)));
       settled = are_settled;
@@ -212,6 +213,6 @@ module _ {T : Type 0} (m : Manner) (x : Opened) (old mid now new : World) (befor
         written q = subst IsAllWritten (sym q) tt
 
     -- so the run keeps its promise, where it is known what the images keep at the start of the turns
-    pub turns_promised : (Opens p seen c → LastsSo out (take 15 (seen_at_entry seen (Manager x.slot))) no_books r0 s.writer now) → Promises m seen
+    pub turns_promised : (Opens seen c → LastsSo out (take 15 (seen_at_entry seen (Manager x.slot))) no_books r0 s.writer now) → Promises m seen
     turns_promised start = behind_promised p seen c mid stands is.stays stay_mid m refl answers
         (λ opens. lasts true out (take 15 (seen_at_entry seen (Manager x.slot))) b r' s' seen c refl goes.on.record_kept (goes.on.lasts told (take 15 (seen_at_entry seen (Manager x.slot))) (start opens)) course refl stands opens stay_new)

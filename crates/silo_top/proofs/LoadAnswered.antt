@@ -9,6 +9,7 @@ use Rattle.request_wire.specs.declared.requests.Line.{Line}
 use Rattle.script_tree.specs.Programs.{program_tree}
 use Rattle.core_model.specs.Legal.{Run}
 use Rattle.history_core.specs.Cores.{run_of}
+use Rattle.promise_spec.specs.Entries.{new_log}
 use Rattle.promise_spec.specs.Endings as ending
 use Rattle.promise_spec.specs.Endings.{Ending, HasRisen, HasFailedAs, IsBegun, BadUse, ReadFault, WriteFault as Unwritten}
 use Rattle.settle_loop.specs.declared.settler.Settler.{Settler}
@@ -56,7 +57,7 @@ pub turns_faulted : {T : Type 0} (tells : Bool) (m : Manner) (x : Opened) (st : 
     → CarriesOn tells m (program_tree x.checked) lines (run_of st.core) r' st.settler s' f1 f2 w1 w2 result
     → TurnsBeside tells (run_of st.core) r' st.settler s' f1 f2 w1 w2 result → (fault : RunFault) → result ≡ Err fault → AnswersRun (load_ending x.slot fault) f1 f2
 turns_faulted {T} tells m x st texts lines w1 w2 f1 f2 result r' s' start hush wide above are carries beside fault q =
-    let o : Outset = record { live = x.slot; program = record { text = []; types = program_tree x.checked }; asked = texts; opening = []; ruled = not m.threaded; width = m.width; picks = m.picks; faults = f1; world = w1 } in
+    let o : Outset = record { live = x.slot; program = record { text = []; types = program_tree x.checked }; asked = texts; opening = new_log (record { text = []; types = program_tree x.checked }); ruled = not m.threaded; width = m.width; picks = m.picks; faults = f1; world = w1 } in
     let goes : CarriedOn {T = T} tells m o no_books (run_of st.core) r' st.settler s' f2 w1 w2 result =
     carries o no_books (start_fresh tells m x st texts lines w1 w1 f1 f1 start (λ told. still_none w1) (λ c. omega arith) wide above are) in
     let ended : TurnsEndAs o goes.on.books r' s' f2 {T = T} (Err fault) = subst (TurnsEndAs o goes.on.books r' s' f2) q goes.on.ended in

@@ -21,7 +21,7 @@ use Rattle.log_reading.specs.Steps.{seen_in}
 use Rattle.program_file.specs.Programs.{program_in}
 use Rattle.promise_spec.specs.Logs.{IsLog, IsPrefix}
 use Rattle.promise_spec.specs.Programs.{Program, IsChecked, shape_in}
-use Rattle.promise_spec.specs.Records.{Commit, standing_of}
+use Rattle.promise_spec.specs.Entries.{Log, standing_of, new_log, grown}
 use Rattle.promise_spec.specs.Outputs.{reply_lines}
 use Rattle.promise_spec.specs.Cores.{core_from, how_many}
 use Rattle.promise_spec.specs.Causes.{NoneRose, AreFaults, RoseBy, RunHasDoubt, is_vote, is_vote_of, is_no, is_unsealed, is_sealed, syncs_of, most_syncs_of}
@@ -31,7 +31,7 @@ use Rattle.promise_spec.specs.Endings.{Ending, HasRisen, HasFailedAs, IsBegun, E
 use Rattle.promise_spec.specs.Promise.{IsAnswered}
 use Rattle.promise_spec.specs.Journals.{Settlement, AllLog, commits_of, entries_of}
 use Rattle.promise_spec.specs.Courses.{Observed, Course, core_run, core_end}
-use Rattle.promise_spec.specs.Loads.{bank_text, load_calls, summary_text, AskFor}
+use Rattle.promise_spec.specs.Loads.{bank_text, load_calls, summary_text, AskFor, KeepsLoad}
 use Rattle.promise_spec.proofs.Lists.{all_of, each_of}
 use Rattle.promise_laws.specs.Closings.{ReadsMayStay, IsBehind}
 use Rattle.promise_laws.specs.Obligations.{ExplainsEvents, Opens, Lasts}
@@ -61,6 +61,7 @@ use Rattle.bank_load.specs.Summaries.{summary_line, total_kept}
 use Rattle.load_rules.specs.Loading.{HasWhole, ShowsLoad}
 use Rattle.load_rules.proofs.LoadKept.{kept_load}
 use Rattle.load_rules.proofs.Balances.{totals_kept}
+use Rattle.promise_laws.proofs.Bases.{reads_above}
 use Rattle.promise_laws.proofs.ShownRuns.{explained}
 use Rattle.silo_top.specs.declared.status.Status.{Status}
 use Rattle.silo_top.specs.Statuses.{status_ending}
@@ -161,11 +162,11 @@ module _ {T : Type 0} (n seed : ℕ) (m : Manner) (x : Opened) (st : Started) (o
   abbrev pub p : Program
   p = program_of is.opened
 
-  abbrev pub log : List Commit
+  abbrev pub log : Log
   log = is.opened.log
 
   -- it opened the bank program, with an empty log
-  pub same : (p ≡ bank_of (program_tree x.checked)) × (log ≡ [])
+  pub same : (p ≡ bank_of (program_tree x.checked)) × (log ≡ new_log (bank_of (program_tree x.checked)))
   same = opened_same (program_tree x.checked) reads x (seen_in old.disk) (bank (seen_in old.disk) is.stays) is.opened
 
   pub checked : IsChecked p
@@ -178,7 +179,7 @@ module _ {T : Type 0} (n seed : ℕ) (m : Manner) (x : Opened) (st : Started) (o
   out = record { live = x.slot; program = p; asked = load_texts n seed; opening = log; ruled = not m.threaded; width = m.width; picks = m.picks; faults = before; world = mid }
 
   abbrev pub r0 : Run
-  r0 = core_from p.types (standing_of p.types log) []
+  r0 = core_from p.types (standing_of log) []
 
   abbrev head : List ℕ
   head = take 15 (old.disk (Manager x.slot)).seen
@@ -250,7 +251,7 @@ module _ {T : Type 0} (n seed : ℕ) (m : Manner) (x : Opened) (st : Started) (o
     seen = record { manner = m; asked = load_texts n seed; old = old; new = new; faults_before = before; faults_after = after; ending = turns_ending x.slot result }
 
     pub run_is : core_run p c0 ≡ r'
-    run_is = ap (λ (es : List CoreEvent). core_from p.types (standing_of p.types log) es) (ap (λ (r : Run). r.events) beside.core) ∙ sym beside.core
+    run_is = ap (λ (es : List CoreEvent). core_from p.types (standing_of log) es) (ap (λ (r : Run). r.events) beside.core) ∙ sym beside.core
 
     course : IsCourseOf out b r' seen c0
     course = record {
@@ -270,33 +271,33 @@ module _ {T : Type 0} (n seed : ℕ) (m : Manner) (x : Opened) (st : Started) (o
     follows : FollowsOpening seen c0 mid x.slot log
     follows = record { live = refl; opening = refl; run = is.run; settled = is.settled; early = is.run.clock.past; late = later.1 }
 
-    stands : IsBehind p seen c0 mid
+    stands : IsBehind seen c0 mid
     stands = behind x seen c0 mid is.opened follows
 
-    opens : Opens p seen c0
-    opens = opens_whole p seen c0 mid stands (bank_of (program_tree x.checked)) (bank_checked (program_tree x.checked) reads) (bank_whole (program_tree x.checked) reads old bank) is.stays stay_mid
+    opens : Opens seen c0
+    opens = opens_whole p seen c0 mid stands (bank_whole (program_tree x.checked) reads old bank) is.stays stay_mid
 
     -- ---- what lasts
 
-    all : AllLog x.slot p log mid.disk
-    all = subst (λ (m : Moment). AllLog x.slot p log m.disk) stands.last opens.opened
+    all : AllLog x.slot log mid.disk
+    all = subst (λ (m : Moment). AllLog x.slot log m.disk) stands.last opens.opened
 
     seen_left : IsImage mid.disk (seen_in old.disk)
-    seen_left file = subst (MayLeave (mid.disk file)) ((asked_untouched old mid is.run).seen file) (stay_mid file)
+    seen_left file = subst (MayLeave (mid.disk file)) ((asked_untouched x.slot old mid is.run).seen file) (stay_mid file)
 
     lasting : LastsSo out head b r' s'.writer new
     lasting = goes.on.lasts told head (starts_lasting out head r0.base r0.kinds r0.opening st.settler.writer mid (still_none mid) all base
         (λ image image_is. ap (take 15) (settled_only (old.disk (Manager x.slot)).seen (image (Manager x.slot)) (subst (λ (f : FileState). MayLeave f (image (Manager x.slot))) is.settled (image_is (Manager x.slot)))))
-        (λ sure. starts_resting out x st (seen_in old.disk) is.opened start refl refl r0 mid.disk is.settled (ap (λ (f : FileState). f.seen) is.settled) seen_left all))
+        (λ sure. starts_resting out x st (seen_in old.disk) is.opened start refl is.opened.program refl r0 mid.disk is.settled (ap (λ (f : FileState). f.seen) is.settled) seen_left all))
 
     pub lasts_so : Lasts p seen c0
     lasts_so = lasts true out head b r' s' seen c0 refl goes.on.record_kept lasting course refl stands opens stay_new
 
     -- an image at the end has the whole order
-    pub has_whole : HasWhole p c0 new
+    pub has_whole : HasWhole c0 new
     has_whole = by b.doubted refl
       where
-        by : (d : List Settlement) → b.doubted ≡ d → HasWhole p c0 new
+        by : (d : List Settlement) → b.doubted ≡ d → HasWhole c0 new
         by [] q =
             let image : Image = λ file. (new.disk file).seen in
             let whole : booked_journal b ≡ b.said ++ b.unsaid = ap (λ (l : List Settlement). (b.said ++ b.unsaid) ++ l) q ∙ append-nil (b.said ++ b.unsaid) in
@@ -304,12 +305,12 @@ module _ {T : Type 0} (n seed : ℕ) (m : Manner) (x : Opened) (st : Started) (o
               image = image;
               left = stay_new;
               has = elim (lasting.journal.log image stay_new) [
-                | inl was ↦ subst (λ (l : List Settlement). IsLog x.slot (shape_in p) image (log ++ commits_of l)) (sym whole) was
+                | inl was ↦ subst (λ (l : List Settlement). IsLog x.slot image (grown log (commits_of l))) (sym whole) was
                 | inr has ↦ has
               ];
             }
         by (batch ∷ more) q =
-            let some : SomeImage (λ image. IsLog x.slot (shape_in p) image (log ++ commits_of (booked_journal b))) new.disk = lasting.some (λ none. is_some batch more (sym q ∙ none)) in
+            let some : SomeImage (λ image. IsLog x.slot image (grown log (commits_of (booked_journal b)))) new.disk = lasting.some (λ none. is_some batch more (sym q ∙ none)) in
             record { image = some.image; left = some.left; has = some.holds }
           where
             is_some : (y : Settlement) (ys : List Settlement) → y ∷ ys ≡ [] → ⊥
@@ -336,7 +337,7 @@ module _ {T : Type 0} (n seed : ℕ) (m : Manner) (x : Opened) (st : Started) (o
       c = record c0 { late = later.0 ++ behind_turns; entries = (core_end p c0).manager.settled }
 
       -- it stands behind the opening, and the files are as the turns left them
-      still_behind : IsBehind p r c mid
+      still_behind : IsBehind r c mid
       still_behind = behind x r c mid is.opened (record {
         live = refl;
         opening = refl;
@@ -375,10 +376,11 @@ module _ {T : Type 0} (n seed : ℕ) (m : Manner) (x : Opened) (st : Started) (o
       asked = asks
 
       -- what it has to show, but how it ended
-      shows : ExplainsEvents p r c → ((behind_turns ≡ []) × (last.output ≡ old.output)) ⊎ (RunHasDoubt (core_run p c) → ⊥) → Prints (summary_text p r c) r → (e ≢ ending.Done → e ≢ ending.WriteFault → last.output ≡ old.output)
+      shows : ExplainsEvents p r c → ((behind_turns ≡ []) × (last.output ≡ old.output)) ⊎ (RunHasDoubt (core_run p c) → ⊥) → Prints (summary_text r c) r → (e ≢ ending.Done → e ≢ ending.WriteFault → last.output ≡ old.output)
           → IsBegun e → HasRisen e before final → ((e ≡ ending.Done) ⊎ (e ≡ ending.WriteFault) → IsAnswered r c) → (e ≡ ending.WriteFault → RunHasDoubt (core_run p c) → ⊥)
           → (NoneRose before final → e ≡ ending.Done → last.syncs ≡ old.syncs + syncs_of (core_run p c)) → last.syncs ≡ new.syncs → ShowsLoad p n seed r c new after (turns_ending x.slot result) later.0 behind_turns
       shows explains_r printed output silent begun risen done undoubted syncs said = record {
+        in_force = is.opened.program;
         asked = asked;
         lasts = lasts_so;
         whole = record { image = has_whole.image; left = has_whole.left; has = has_whole.has };
@@ -402,7 +404,10 @@ module _ {T : Type 0} (n seed : ℕ) (m : Manner) (x : Opened) (st : Started) (o
       }
 
       carries : ShowsLoad p n seed r c new after (turns_ending x.slot result) later.0 behind_turns → CarriesLoad n seed r
-      carries s = record { program = p; checked = checked; text = text; carried = inr (c, kept_load p n seed r c new after (turns_ending x.slot result) later.0 behind_turns s) }
+      carries s = record {
+        carried = inr (c, ap (λ (q : Program). q.text) is.opened.program ∙ text,
+            subst (λ (q : Program). KeepsLoad q n seed r c) (sym is.opened.program) (kept_load p n seed r c new after (turns_ending x.slot result) later.0 behind_turns s));
+      }
 
     -- the turns ended by a fault
     pub failed_carries : AskFor (program_tree x.checked) (load_texts n seed) (load_calls n seed) → (fault : RunFault) → result ≡ Err fault → (status : Status) → status_ending status ≡ load_ending x.slot fault
@@ -432,11 +437,13 @@ module _ {T : Type 0} (n seed : ℕ) (m : Manner) (x : Opened) (st : Started) (o
         let same_files : (file : FileId) → final (File file) ≡ after (File file) = files_same (status_ending status) after final may failed in
         let sure : RunHasDoubt (core_run p c0) → ⊥ = λ d. ended.never (subst RunHasDoubt run_is d) in
         let explains_r = explains_at asks last final status says.told says.past says.disk says.left says.input same_files (λ file t. absurd (summary_no_file (status_ending status) may file t)) (λ d. absurd (sure d)) in
+        let opens_above : 0 < log.base.next = reads_above x.slot (seen_in old.disk) log is.opened.reads in
+        let opening_is : log ≡ new_log p = same.1 ∙ ap new_log (sym same.0) in
         let rr : Observed = observed_call (m) (load_texts n seed) old last before final status in
         let cc0 : Course = record c0 { late = later.0 ++ says.told; entries = (core_end p c0).manager.settled } in
-        let text_is : summary_line (ends r').manager.settled requests (total_kept (ends r') 64) ≡ summary_text p rr cc0 =
+        let text_is : summary_line (ends r').manager.settled requests (total_kept (ends r') 64) ≡ summary_text rr cc0 =
         (λ i. summary_line (ends (run_is' i)).manager.settled (many i) (total_kept (ends (run_is' i)) 64))
-        ∙ ap (λ z. summary_line (core_end p c0).manager.settled (length (load_texts n seed)) z) (sym (totals_kept p rr cc0 (explained p rr cc0 explains_r) checked text same.1 sure)) in
+        ∙ ap (λ z. summary_line (core_end p c0).manager.settled (length (load_texts n seed)) z) (sym (totals_kept p rr cc0 (explained p rr cc0 opens_above explains_r) checked text opening_is sure)) in
         carries asks last final status says.told says.past says.disk says.left says.input same_files
         (shows asks last final status says.told says.past says.disk says.left says.input same_files
         explains_r

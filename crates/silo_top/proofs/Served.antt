@@ -57,7 +57,7 @@ module _ {T : Type 0} (m : Manner) (x : Opened) (st : Started) (old mid now new 
   -- what was read is an image still
   seen_left : IsImage now.disk (seen_in old.disk)
   seen_left = subst (λ (d : Disk). IsImage d (seen_in old.disk)) (sym pulled.disk)
-      (λ file. subst (MayLeave (mid.disk file)) ((asked_untouched old mid is.run).seen file) (stay_mid file))
+      (λ file. subst (MayLeave (mid.disk file)) ((asked_untouched x.slot old mid is.run).seen file) (stay_mid file))
 
   -- where the lines begin to be carried
   starts : (lines : List Line) → 0 < m.width → 0 < x.next_unit.0 → NoneFailed before between → AreReadFrom (program_tree x.checked) 0 (lines_of old.input) lines
@@ -84,8 +84,8 @@ module _ {T : Type 0} (m : Manner) (x : Opened) (st : Started) (old mid now new 
       let left : TurnsBeside true first r' st.settler s' between after now new result = subst (λ (r : Run). TurnsBeside true r r' st.settler s' between after now new result) same beside in
       let behind = stands m x old mid now new before after status result is pulled stay_mid stay_new end short ends_as r' st.settler s' between went left loud in
       turns_promised m x old mid now new before after status result is pulled stay_mid stay_new end short ends_as r' st.settler s' between went left loud
-      (λ opens. (let all : AllLog x.slot outset.program outset.opening mid.disk = subst (λ (m : Moment). AllLog x.slot outset.program outset.opening m.disk) behind.last opens.opened in
+      (λ opens. (let all : AllLog x.slot outset.opening mid.disk = subst (λ (m : Moment). AllLog x.slot outset.opening m.disk) behind.last opens.opened in
       starts_lasting outset (take 15 (old.disk (Manager x.slot)).seen) first.base first.kinds first.opening st.settler.writer now pulled all base
       (λ image image_is. ap (take 15) (settled_only (old.disk (Manager x.slot)).seen (image (Manager x.slot)) (subst (λ (f : FileState). MayLeave f (image (Manager x.slot))) is.settled (image_is (Manager x.slot)))))
-      (λ sure. starts_resting outset x st (seen_in old.disk) is.opened start refl refl first now.disk (ap (λ (d : Disk). d (Manager x.slot)) pulled.disk ∙ is.settled) (ap (λ (f : FileState). f.seen) is.settled) seen_left
-      (subst (AllLog x.slot outset.program outset.opening) (sym pulled.disk) all))))
+      (λ sure. starts_resting outset x st (seen_in old.disk) is.opened start refl is.opened.program refl first now.disk (ap (λ (d : Disk). d (Manager x.slot)) pulled.disk ∙ is.settled) (ap (λ (f : FileState). f.seen) is.settled) seen_left
+      (subst (AllLog x.slot outset.opening) (sym pulled.disk) all))))
