@@ -1,0 +1,132 @@
+use host_memory::{CallKind, MemoryHost};
+use host_trait::Channel;
+use input_windows::{InputWindows, WindowFault};
+use std::test::Fail;
+
+// What a cut gave: each window by how many lines stand before it, how many bytes it has and whether it is the last, and the fault
+// that ended it.
+#[derive(Drop)]
+struct Cut {
+    windows: Vec<(u32, usize, bool)>,
+    fault: Option<WindowFault>,
+}
+
+// The windows of what is left of the host's input, 40 of them at most.
+fn cut(rt: &HostRuntime, host: &mut MemoryHost) -> Result<Cut, Fail> {
+    let mut input = InputWindows::new(rt.alloc());
+    let mut windows = Vec::new(rt.alloc());
+    for _round in 0..40 {
+        match input.next_window(host) {
+            Ok(true) => {
+                let window = (input.lines_before(), input.window().len(), input.is_last());
+                windows.push(window)?;
+            }
+            Ok(false) => {
+                return Ok(Cut {
+                    windows,
+                    fault: None,
+                });
+            }
+            Err(fault) => {
+                return Ok(Cut {
+                    windows,
+                    fault: Some(fault),
+                });
+            }
+        }
+    }
+    Ok(Cut {
+        windows,
+        fault: None,
+    })
+}
+
+// So many lines of these bytes, each with a line feed.
+fn lines(rt: &HostRuntime, count: usize, line: &[u8]) -> Result<Vec<u8>, Fail> {
+    let mut input = Vec::new(rt.alloc());
+    for _line in 0..count {
+        input.extend_from_slice(line)?;
+        input.push(b'\n')?;
+    }
+    Ok(input)
+}
+
+// The cut of an input, pulled a byte at a time and as much as there is, is this one.
+fn is_cut(
+    rt: &HostRuntime,
+    name: &str,
+    input: &[u8],
+    windows: &[(u32, usize, bool)],
+    fault: Option<WindowFault>,
+) -> Result<(), Fail> {
+    for most in [1, usize::MAX] {
+        let mut host = MemoryHost::new(rt.alloc(), input)?;
+        host.pull_at_most(most);
+        let found = cut(rt, &mut host)?;
+        assert_eq!(rt; found.windows.as_slice(), windows, "{name}, by {most}");
+        assert_eq!(rt; found.fault, fault, "{name}, by {most}");
+    }
+    Ok(())
+}
+
+#[test]
+fn windows_have_4096_lines_but_the_last(rt: HostRuntime) -> Result<(), Fail> {
+    let mut input = lines(&rt, 4095, b"x")?;
+    is_cut(&rt, "nothing", b"", &[], None)?;
+    is_cut(&rt, "two lines", b"a\nb", &[(0, 3, true)], None)?;
+    input.push(b'y')?;
+    is_cut(&rt, "4,096, one open", &input, &[(0, 8191, true)], None)?;
+    input.push(b'\n')?;
+    is_cut(&rt, "4,096", &input, &[(0, 8192, false)], None)?;
+    input.push(b'z')?;
+    is_cut(
+        &rt,
+        "4,097, one open",
+        &input,
+        &[(0, 8192, false), (4096, 1, true)],
+        None,
+    )?;
+    Ok(())
+}
+
+#[test]
+fn one_piece_may_have_many_windows(rt: HostRuntime) -> Result<(), Fail> {
+    let input = lines(&rt, 70_000, b"")?;
+    let mut windows = Vec::new(rt.alloc());
+    for before in 0..17 {
+        windows.push((before * 4096, 4096, false))?;
+    }
+    windows.push((69_632, 368, true))?;
+    is_cut(&rt, "70,000 empty lines", &input, &windows, None)?;
+    Ok(())
+}
+
+#[test]
+fn a_line_has_65536_bytes_at_most(rt: HostRuntime) -> Result<(), Fail> {
+    let long = Vec::from_elem(rt.alloc(), b'a', 65_536)?;
+    is_cut(&rt, "65,536 bytes", &long, &[(0, 65_536, true)], None)?;
+    let mut input = lines(&rt, 2, b"x")?;
+    input.extend_from_slice(&long)?;
+    input.push(b'a')?;
+    let third = Some(WindowFault::TooLong { line: 3 });
+    is_cut(&rt, "65,537 bytes", &input, &[], third)?;
+    let mut input = lines(&rt, 4096, b"")?;
+    input.extend_from_slice(&long)?;
+    input.push(b'a')?;
+    let behind = Some(WindowFault::TooLong { line: 4097 });
+    is_cut(&rt, "behind a window", &input, &[(0, 4096, false)], behind)?;
+    Ok(())
+}
+
+#[test]
+fn a_fault_refuses_its_window_alone(rt: HostRuntime) -> Result<(), Fail> {
+    for (count, windows) in [(3, 0), (4096, 1)] {
+        let input = lines(&rt, count, b"x")?;
+        let mut host = MemoryHost::new(rt.alloc(), &input)?;
+        host.fail_on(CallKind::Pull, Channel::Input, 2)?;
+        let found = cut(&rt, &mut host)?;
+        assert_eq!(rt; found.windows.len(), windows, "of {count} lines");
+        assert_eq!(rt; found.fault, Some(WindowFault::Failed), "of {count} lines");
+    }
+    Ok(())
+}
