@@ -1,8 +1,8 @@
 -- Windows that follow one another.
-use Rattle.std.proofs.Common.{◌≡◌, ◌≢◌, ℕ, suc, ◌+◌, ◌-◌, ◌*◌, ◌/◌, ◌%◌, ◌<◌, ◌≤◌, List, [], ◌∷◌, ◌++◌, length, take, drop, refl, sym, ap, subst, ◌∙◌, arith, append-nil, append_assoc, take_all}
+use Rattle.std.proofs.Common.{◌≡◌, ◌≢◌, ℕ, ◌+◌, ◌%◌, ◌<◌, ◌≤◌, List, [], ◌∷◌, ◌++◌, length, take, drop, refl, sym, ap, ◌∙◌, arith, append-nil, append_assoc, take_all}
 use Rattle.std.proofs.Math.ListN.{drop_of_length-le}
 use Rattle.std.proofs.Math.Seq.{take-append_seam, drop-append_seam}
-use Rattle.std.proofs.lemmas.List.{take-append-drop, length-append, length-take, length-drop}
+use Rattle.std.proofs.lemmas.List.{take-append-drop, length-take, length-drop}
 use Rattle.request_wire.specs.Lines.{lines_of}
 use Rattle.input_windows.specs.Lines.{AreWindows, IsFull, IsNext, before_bad, bytes_in, lines_in}
 use Rattle.input_windows.proofs.Cuts.{line_there, lines_on_both_sides}

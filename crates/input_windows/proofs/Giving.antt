@@ -1,21 +1,20 @@
 -- What a window, the end and a refusal leave.
-use Rattle.std.proofs.Common.{◌≡◌, ◌≢◌, ℕ, zero, suc, ◌+◌, ◌-◌, ◌^◌, ◌<◌, ◌≤◌, ◌⊎◌, min, nat_lt, Bool, true, false, IsTrue, List, [], ◌∷◌, ◌++◌, length, take, drop, Some, None, Ok, Err, refl, sym, ap, subst, ◌∙◌, arith, append-nil, append_assoc, take_all}
+use Rattle.std.proofs.Common.{◌≡◌, ℕ, ◌+◌, ◌-◌, ◌<◌, ◌≤◌, min, nat_lt, Bool, true, false, IsTrue, List, [], ◌∷◌, ◌++◌, length, take, drop, None, Ok, Err, refl, sym, ap, subst, ◌∙◌, arith, append-nil, append_assoc}
 use Rattle.std.specs.Prelude.{Result, OnErr, IfErr, IsErrAnd}
-use Rattle.std.proofs.Math.ListN.{drop_of_length-le}
 use Rattle.std.proofs.Math.Seq.{take-add}
 use Rattle.std.proofs.lemmas.List.{take-append-drop, length-append, length-drop}
 use Rattle.std.proofs.lemmas.Bool.Decides.{nat_tests}
 use Rattle.host_trait.specs.World.{World}
 use Rattle.host_trait.specs.declared.channels.Channel.{Channel}
 use Rattle.host_trait.specs.declared.channels.Channel.TheVariants.{Input}
-use Rattle.host_trait.specs.Faults.{NoneFailed, CountsOn, FailedOn, Rose}
+use Rattle.host_trait.specs.Faults.{NoneFailed, Rose}
 use Rattle.request_wire.specs.Lines.{lines_of}
 use Rattle.input_windows.specs.declared.windows.InputWindows.{InputWindows}
 use Rattle.input_windows.specs.declared.windows.WindowFault.{WindowFault}
 use Rattle.input_windows.specs.Lines.{IsNext, IsFull, first_bad}
 use Rattle.input_windows.specs.Pulls.{Took}
-use Rattle.input_windows.specs.Scans.{Stands, Ends, HasBadLine, HasNoEnd}
-use Rattle.input_windows.specs.Windows.{window_in, left_in, before_in, is_last_in, input_behind, HasEnded, EndsBy, GaveWindow, GaveEnd, Gave, Refused, PullFaulted, IsBegun, IsOfPull}
+use Rattle.input_windows.specs.Scans.{Stands, Ends, HasBadLine}
+use Rattle.input_windows.specs.Windows.{window_in, left_in, before_in, is_last_in, input_behind, HasEnded, EndsBy, Gave, Refused, PullFaulted, IsBegun, IsOfPull}
 use Rattle.input_windows.proofs.Cuts.{line_there}
 use Rattle.input_windows.proofs.Following.{full_is_next, last_is_next}
 use Rattle.input_windows.proofs.Places.{rest_is}

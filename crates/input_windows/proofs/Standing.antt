@@ -1,11 +1,10 @@
 -- What has been seen of a window goes on with the next byte.
-use Rattle.std.proofs.Common.{◌≡◌, ◌≢◌, ℕ, zero, suc, get_or, take, drop, drop-cons, ◌+◌, ◌*◌, ◌<◌, ◌≤◌, ◌==◌, min, Bool, true, false, if◌then◌else◌, List, [], ◌∷◌, ◌++◌, length, Some, None, refl, sym, ap, subst, ◌∙◌, arith, append-nil, append_assoc, length-append}
-use Rattle.std.specs.List.{count_by}
+use Rattle.std.proofs.Common.{◌≡◌, ◌≢◌, ℕ, zero, suc, get_or, take, drop, drop-cons, ◌+◌, ◌<◌, ◌≤◌, ◌==◌, min, false, if◌then◌else◌, List, [], ◌∷◌, ◌++◌, length, Some, None, refl, sym, ap, subst, ◌∙◌, arith, append-nil, append_assoc, length-append}
 use Rattle.std.proofs.lemmas.List.{take_more, take-append-drop}
 use Rattle.std.proofs.lemmas.List.Sums.{sum_by-append}
 use Rattle.std.proofs.lemmas.Bool.Decides.{nat_tests}
 use Rattle.request_wire.specs.Lines.{lines_of}
-use Rattle.input_windows.specs.Lines.{feeds, first_bad, IsFull}
+use Rattle.input_windows.specs.Lines.{feeds, first_bad}
 use Rattle.input_windows.specs.Scans.{Stands, Ends, HasBadLine, HasNoEnd}
 use Rattle.input_windows.proofs.Cuts.{IsPlain, plain_behind, line_ended, line_begun, line_alone, line_there, bad_behind, long_is_bad, late_is_bad, line_is_good}
 

@@ -1,5 +1,5 @@
 -- What bytes bring to a window, as far as it has been seen.
-use Rattle.std.specs.Prelude.{◌≡◌, ℕ, ◌+◌, ◌*◌, ◌<◌, ◌≤◌, ◌==◌, false, List, [], ◌∷◌, ◌++◌, length, take, Some, None}
+use Rattle.std.specs.Prelude.{◌≡◌, ℕ, ◌+◌, ◌*◌, ◌<◌, ◌≤◌, ◌==◌, false, List, ◌++◌, length, take, Some, None}
 use Rattle.std.specs.List.{AllByRecursion}
 use Rattle.request_wire.specs.Lines.{lines_of}
 use Rattle.input_windows.specs.Lines.{feeds, first_bad, IsFull}

@@ -1,4 +1,4 @@
-use Rattle.std.proofs.Common.{◌≡◌, ◌+◌, ◌<◌, take, arith, refl}
+use Rattle.std.proofs.Common.{◌≡◌, ◌+◌, ◌<◌, arith}
 use Rattle.input_windows.proofs.Standing.{feed_here, byte_here, window_ends_here, too_many_here, too_long_here}
 use Rattle.input_windows.proofs.scan.scan.Goals.{then-byte-eq10+else-lines-eq-WINDOW_LINES, else-byte-eq10+else-stood-eq-LINE_LIMIT}
 use Rattle.input_windows.proofs.scan.scan.Goals as goal

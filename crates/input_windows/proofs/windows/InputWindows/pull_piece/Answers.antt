@@ -1,4 +1,4 @@
-use Rattle.std.proofs.Common.{◌≡◌, ℕ, List, ◌+◌, ◌-◌, ◌<◌, ◌++◌, [], length, take, drop, refl, sym, ap, ◌∙◌, arith, append-nil, rules, length-drop}
+use Rattle.std.proofs.Common.{◌≡◌, ℕ, List, ◌+◌, ◌-◌, ◌++◌, [], length, take, drop, sym, ap, ◌∙◌, arith, append-nil, rules, length-drop}
 use Rattle.std.specs.Vec.{with_items}
 use Rattle.std.proofs.lemmas.List.{with_items_is, places}
 use Rattle.input_windows.proofs.Giving.{on_fault}
