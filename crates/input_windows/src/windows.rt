@@ -50,8 +50,9 @@ impl From<AllocError> for WindowFault {
     }
 }
 
-/// An input that is cut into windows. It holds what was pulled of the window that was given last and behind it: at most a window and
-/// a piece of 65,536 bytes.
+/// An input that is cut into windows. It holds what was pulled of the window that was given last and behind it: a window of 4,096
+/// lines and a piece of 65,536 bytes at most, so its buffer has never more than 268,505,087 bytes. A buffer that grows takes up to
+/// twice as much memory, and three times while its bytes are moved.
 ///
 /// Each byte is looked at once, and moved once at most after it was pulled. After a refusal all that was pulled stays, and the next
 /// call begins the same window anew.
@@ -71,6 +72,7 @@ pub struct InputWindows {
     ghost order: { start ≤ end },
     ghost within: { end ≤ filled },
     ghost room: { filled ≤ length buffer.items },
+    ghost small: { length buffer.items ≤ 268505087 },
     ghost few: { before + lines < 2 ^ 32 },
     ghost counted: { length (lines_of (take (end - start) (drop start buffer.items))) ≡ lines },
 }
@@ -156,6 +158,7 @@ impl InputWindows {
         requires { IsBegun self.old }
         ensures begun { IsBegun self.new }
         ensures left { left_in self.new ≡ left_in self.old }
+        ensures size { self.new.filled ≡ length (left_in self.old) }
         ensures before { before_in self.new ≡ before_in self.old }
     {
         if self.start == 0 {
@@ -169,7 +172,8 @@ impl InputWindows {
 
     /// Makes room for a piece behind what was pulled.
     fn make_room(&mut self) -> Result<(), AllocError>
-        requires { IsBegun self.old }
+        requires begun { IsBegun self.old }
+        requires few { length (left_in self.old) ≤ 268439551 }
         ensures begun { IsBegun self.new }
         ensures left { left_in self.new ≡ left_in self.old }
         ensures before { before_in self.new ≡ before_in self.old }
@@ -184,7 +188,8 @@ impl InputWindows {
 
     /// Pulls a piece behind what was pulled, and answers how many bytes it has. For 0 the input has ended.
     fn pull_piece<H: Host>(&mut self, host: &mut H) -> Result<usize, WindowFault>
-        requires { IsBegun self.old }
+        requires begun { IsBegun self.old }
+        requires few { length (left_in self.old) ≤ 268439551 }
         ensures begun { IsBegun self.new }
         ensures before { before_in self.new ≡ before_in self.old }
         ensures took { Took H.tells (H.world host.old) (H.world host.new) (left_in self.old) (left_in self.new) }

@@ -101,6 +101,21 @@ returns-in-BadLine-clause-refused g c =
     let few = found.1 in
     (number, λ more. ap (λ (k : ℕ). first_bad k (lines_of (L ++ more))) (sym e) ∙ bad more, omega (arith, e), omega (arith, e, few), refl)
 
+-- ---- a pull
+
+pub pull_piece-requires-clause-few : goal.pull_piece-requires-clause-few
+pull_piece-requires-clause-few g c =
+    let w = c.loop-size.self in
+    let inv = c.loop-size.invariant in
+    let L = left_in w in
+    let seen = c.loop-size.seen in
+    let is = left_in_all w w.start c.deref.result.now seen c.deref.ensures.value refl inv.begun inv.within in
+    let found = c.in-Open.ensures (before_in w) (take seen L) inv.room inv.stands in
+    let bound = (found_open (before_in w) seen c.in-Open.ended c.in-Open.bytes L _ is found.0).bound in
+    let few = found.1 in
+    let short = found.2 in
+    omega (arith, bound, few, short)
+
 -- ---- a pull that failed
 
 pub returns-in_err-pull_piece-clause-took : goal.returns-in_err-pull_piece-clause-took
