@@ -12,7 +12,7 @@ struct Cut {
 }
 
 // The windows of what is left of the host's input, 40 of them at most.
-fn cut(rt: &HostRuntime, host: &mut MemoryHost) -> Result<Cut, Fail> {
+fn cut_all(rt: &HostRuntime, host: &mut MemoryHost) -> Result<Cut, Fail> {
     let mut input = InputWindows::new(rt.alloc());
     let mut windows = Vec::new(rt.alloc());
     for _round in 0..40 {
@@ -61,7 +61,7 @@ fn is_cut(
     for most in [1, usize::MAX] {
         let mut host = MemoryHost::new(rt.alloc(), input)?;
         host.pull_at_most(most);
-        let found = cut(rt, &mut host)?;
+        let found = cut_all(rt, &mut host)?;
         if found.windows.as_slice() != windows || found.fault != fault {
             return Ok(false);
         }
@@ -127,7 +127,7 @@ fn a_fault_refuses_its_window_alone(rt: HostRuntime) -> Result<(), Fail> {
         let input = lines(&rt, count, b"x")?;
         let mut host = MemoryHost::new(rt.alloc(), &input)?;
         host.fail_on(CallKind::Pull, Channel::Input, 2)?;
-        let found = cut(&rt, &mut host)?;
+        let found = cut_all(&rt, &mut host)?;
         assert_eq!(rt; found.windows.len(), windows, "of {count} lines");
         assert_eq!(rt; found.fault, Some(WindowFault::Failed), "of {count} lines");
     }
