@@ -49,6 +49,7 @@ use Rattle.run_books.proofs.BooksInDoubt.{fresh-doubt}
 use Rattle.run_books.proofs.BooksSeals.{seals-last}
 use Rattle.run_books.proofs.BooksDoubting.{doubt-lasts}
 use Rattle.run_books.proofs.BooksStep.{StepDone, IsCounted, sure, writer-sure}
+use Rattle.run_books.specs.Stages.{stage_of}
 
 -- the step that leaves a doubt is that of the seal
 seals-step : (n : ℕ) (s : Step) → MakesEvent s (event.Doubt n) → s ≡ SealStep n
@@ -63,7 +64,7 @@ seals-step n Takes m = absurd (cc m)
 seals-step n Rests m = absurd m
 
 module _ {H : Type 0} (tells : Bool) (world : H → World) (faults : H → Channel → ℕ) (o : Outset) (b : Books) (r : Run) (before after : Settler) (old new : H)
-    (can : CanSettle o (shape_in o.program) r) (even : AreEven before.quiet b (ends r)) (k : KeepsBooks tells o b r before (faults old) (world old)) where
+    (can : CanSettle o (shape_in o.program) r) (even : AreEven before.quiet b (ends r)) (k : KeepsBooks tells o b (stage_of world faults r before old)) where
   abbrev Done : CoreEvent → Type 0
   Done e = StepDone tells world faults o b r before after old new can even k e
 
@@ -100,7 +101,7 @@ module _ {H : Type 0} (tells : Bool) (world : H → World) (faults : H → Chann
     books : Books
     books = grown_books b m.more [] (doubted_by may effects does.work.records)
 
-    kept : KeepsBooks tells o (grown_books b m.more [] (doubted_by may effects does.work.records)) r' after (faults new) (world new)
+    kept : KeepsBooks tells o (grown_books b m.more [] (doubted_by may effects does.work.records)) (stage_of world faults r' after new)
     kept = books-kept tells o b r e before after (faults old) (faults new) (world old) (world new) [] (doubted_by may effects does.work.records) can.above can.units even k m refl adds
 
     again : AreEven after.quiet (grown_books b m.more [] (doubted_by may effects does.work.records)) (ends r')

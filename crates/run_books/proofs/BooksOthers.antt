@@ -1,5 +1,5 @@
 -- The books after an event that isn't the settler's.
-use Rattle.std.proofs.Common.{◌≡◌, ◌⊎◌, ⊎_elim, inl, inr, ℕ, zero, suc, ◌+◌, ◌*◌, ◌<◌, ◌≤◌, List, [], ◌∷◌, ◌++◌, length, take, Bool, true, false, true≢false, refl, sym, ap, ◌∙◌, subst, append-nil, arith, Some, is_some}
+use Rattle.std.proofs.Common.{◌≡◌, ◌⊎◌, ⊎_elim, inl, inr, ℕ, zero, suc, ◌+◌, ◌<◌, ◌≤◌, List, [], ◌∷◌, ◌++◌, length, take, Bool, true, false, true≢false, refl, sym, ap, ◌∙◌, subst, append-nil, arith, Some, is_some}
 use Rattle.std.specs.Prelude.{slice_get}
 use Rattle.base_types.specs.declared.calls.GrainId.{GrainId}
 use Rattle.base_types.specs.declared.entries.Entry.{Entry}
@@ -48,6 +48,7 @@ use Rattle.run_books.proofs.BooksCounts.{how-same, none-before, doubt-ends}
 use Rattle.run_books.proofs.BooksLists.{alone, alone-commits, added-none, take-front}
 use Rattle.run_books.proofs.BooksGrown.{grown_books, grown-front, grown-commits, grown-booked, grown-even}
 use Rattle.run_books.proofs.BooksImages.{backs-alone, doubt-kept, block-kept, vote-kept}
+use Rattle.run_books.specs.Stages.{stage_by}
 
 -- no file answers it
 answers-none : (e : CoreEvent) → is_settling e ≡ false → TellsNoFile e
@@ -132,7 +133,7 @@ cut-more live p opening old said unsaid more rest now none c =
 
 module _ (tells : Bool) (o : Outset) (b : Books) (r : Run) (e : CoreEvent) (settler : Settler) (counts : Channel → ℕ) (now : World)
     (above : 0 < r.base) (units : KeepsUnitRule (basis_of o) r) (after : KeepsUnitRule (basis_of o) (extended r (e ∷ [])))
-    (leaves : LeavesBatches (ends r) (ends (extended r (e ∷ [])))) (answers : TellsNoFile e) (k : KeepsBooks tells o b r settler counts now) where
+    (leaves : LeavesBatches (ends r) (ends (extended r (e ∷ [])))) (answers : TellsNoFile e) (k : KeepsBooks tells o b (stage_by r settler counts now)) where
   abbrev r' : Run
   r' = extended r (e ∷ [])
 
@@ -168,7 +169,7 @@ module _ (tells : Bool) (o : Outset) (b : Books) (r : Run) (e : CoreEvent) (sett
   books-even : AreEven settler.quiet b (ends r) → AreEven settler.quiet books (ends r')
   books-even even = grown-even b more [] b.doubted (ends r) (ends r') added.1 refl settler.quiet leaves.emitted told even
 
-  kept : KeepsBooks tells o books r' settler counts now
+  kept : KeepsBooks tells o books (stage_by r' settler counts now)
   kept = record {
     faults = record {
       votes = λ g. subst (λ (n : ℕ). RoseBy n (o.faults (File (Grain o.live g))) (counts (File (Grain o.live g)))) (sym (same-no g)) (k.faults.votes g);
@@ -251,7 +252,7 @@ module _ (tells : Bool) (o : Outset) (b : Books) (r : Run) (e : CoreEvent) (sett
     });
   }
 
-  abbrev go-on : BooksGoOn tells o b r r' settler settler counts now now
+  abbrev go-on : BooksGoOn tells o b (stage_by r settler counts now) (stage_by r' settler counts now)
   go-on = record { books = books; kept = kept; lasts = λ t head l. lasts head l }
 
   still-even : AreEven settler.quiet b (ends r) → AreEven settler.quiet go-on.books (ends r')
@@ -259,8 +260,8 @@ module _ (tells : Bool) (o : Outset) (b : Books) (r : Run) (e : CoreEvent) (sett
 
 -- an event that isn't the settler's keeps the books, also where a line is cut off
 pub others-still : (tells : Bool) (o : Outset) (b : Books) (r : Run) (e : CoreEvent) (settler : Settler) (counts : Channel → ℕ) (now : World)
-    → 0 < r.base → KeepsUnitRule (basis_of o) r → KeepsUnitRule (basis_of o) (extended r (e ∷ [])) → is_settling e ≡ false → KeepsBooks tells o b r settler counts now
-    → (g : BooksGoOn tells o b r (extended r (e ∷ [])) settler settler counts now now) × (g.books.rest ≡ b.rest)
+    → 0 < r.base → KeepsUnitRule (basis_of o) r → KeepsUnitRule (basis_of o) (extended r (e ∷ [])) → is_settling e ≡ false → KeepsBooks tells o b (stage_by r settler counts now)
+    → (g : BooksGoOn tells o b (stage_by r settler counts now) (stage_by (extended r (e ∷ [])) settler counts now)) × (g.books.rest ≡ b.rest)
 others-still tells o b r e settler counts now above units after other k =
     (go-on tells o b r e settler counts now above units after (others-leave r e other) (answers-none e other) k, refl)
 
@@ -274,8 +275,8 @@ others-keep tells o b r e settler counts now above units after other even k = (
 -- one that no file answers, and that doesn't apply, keeps them too
 pub unapplied-keeps : (tells : Bool) (o : Outset) (b : Books) (r : Run) (e : CoreEvent) (settler : Settler) (counts : Channel → ℕ) (now : World)
     → 0 < r.base → KeepsUnitRule (basis_of o) r → KeepsUnitRule (basis_of o) (extended r (e ∷ [])) → applies (ends r) e ≡ false → TellsNoFile e
-    → AreEven settler.quiet b (ends r) → KeepsBooks tells o b r settler counts now
-    → (g : BooksGoOn tells o b r (extended r (e ∷ [])) settler settler counts now now) × AreEven settler.quiet g.books (ends (extended r (e ∷ [])))
+    → AreEven settler.quiet b (ends r) → KeepsBooks tells o b (stage_by r settler counts now)
+    → (g : BooksGoOn tells o b (stage_by r settler counts now) (stage_by (extended r (e ∷ [])) settler counts now)) × AreEven settler.quiet g.books (ends (extended r (e ∷ [])))
 unapplied-keeps tells o b r e settler counts now above units after unapplied answers even k =
     let same : ends (extended r (e ∷ [])) ≡ ends r = unapplied-run r e unapplied in
     let leaves : LeavesBatches (ends r) (ends (extended r (e ∷ []))) = record {

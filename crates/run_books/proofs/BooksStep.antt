@@ -58,6 +58,7 @@ use Rattle.run_books.proofs.BooksKept.{AddsBatch, books-kept, books-even}
 use Rattle.run_books.proofs.BooksEvents.{adds-none, adds-vote, adds-sealed, adds-unsealed}
 use Rattle.run_books.proofs.BooksFair.{AreOfVotes, is-fair, votes-after, fresh-batch}
 use Rattle.run_books.proofs.BooksSeals.{seals-last}
+use Rattle.run_books.specs.Stages.{stage_of}
 
 -- nothing is in doubt, and so no batch of the books
 pub none-doubted : (w : CoreState) (d : List Settlement) → AreInDoubt w d → w.manager.doubt ≡ None → d ≡ []
@@ -74,11 +75,11 @@ behind-block gate size next was now begun is torn same =
     ∙ ap (λ (n : ℕ). drop n begun) (sym two ∙ sym one)
 
 module _ {H : Type 0} (tells : Bool) (world : H → World) (faults : H → Channel → ℕ) (o : Outset) (b : Books) (r : Run) (before after : Settler) (old new : H)
-    (can : CanSettle o (shape_in o.program) r) (even : AreEven before.quiet b (ends r)) (k : KeepsBooks tells o b r before (faults old) (world old)) where
+    (can : CanSettle o (shape_in o.program) r) (even : AreEven before.quiet b (ends r)) (k : KeepsBooks tells o b (stage_of world faults r before old)) where
   -- the books with what the event adds
   pub record StepDone (e : CoreEvent) : Type 0 where
     pub books : Books
-    pub kept : KeepsBooks tells o books (extended r (e ∷ [])) after (faults new) (world new)
+    pub kept : KeepsBooks tells o books (stage_of world faults (extended r (e ∷ [])) after new)
     pub even_again : AreEven after.quiet books (ends (extended r (e ∷ [])))
     pub lasts : IsTrue tells → (head : List ℕ) → LastsSo o head b r before.writer (world old) → LastsSo o head books (extended r (e ∷ [])) after.writer (world new)
 
@@ -147,7 +148,7 @@ module _ {H : Type 0} (tells : Bool) (world : H → World) (faults : H → Chann
           );
     }
       where
-        kept : KeepsBooks tells o (grown_books b m.more batch b.doubted) (extended r (e ∷ [])) after (faults new) (world new)
+        kept : KeepsBooks tells o (grown_books b m.more batch b.doubted) (stage_of world faults (extended r (e ∷ [])) after new)
         kept = books-kept tells o b r e before after (faults old) (faults new) (world old) (world new) batch b.doubted can.above can.units even k m entry adds
 
     -- what the journal law says of it, where it is the settler's step

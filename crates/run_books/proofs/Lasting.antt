@@ -38,6 +38,7 @@ use Rattle.run_books.specs.Books.{Books, booked_journal, AreInDoubt}
 use Rattle.run_books.specs.Images.{LeavesAside, HasOpenBlock, LastsSo}
 use Rattle.run_books.specs.Records.{KeepsRecord}
 use Rattle.run_books.specs.Closing.{IsCourseOf}
+use Rattle.run_books.specs.Stages.{stage_by}
 
 -- a file that is left alone isn't the live manager file
 not-live : (live : ℕ) (file : FileId) → IsAside live file → file ≢ Manager live
@@ -153,7 +154,7 @@ none-doubted r none = by (ends r).manager.doubt refl
 
 -- what has to last
 pub lasts : (tells : Bool) (o : Outset) (head : List ℕ) (b : Books) (r : Run) (settler : Settler) (seen : Observed) (c : Course)
-    → tells ≡ true → KeepsRecord tells o b r settler seen.faults_after seen.new → LastsSo o head b r settler.writer seen.new → IsCourseOf o b r seen c
+    → tells ≡ true → KeepsRecord tells o b (stage_by r settler seen.faults_after seen.new) → LastsSo o head b r settler.writer seen.new → IsCourseOf o b r seen c
     → head ≡ take 15 (seen_at_entry seen (Manager c.live)) → IsBehind seen c o.world → Opens seen c → ReadsMayStay seen.new
     → Lasts o.program seen c
 lasts tells o head b r settler seen c t k l is heads behind opens stay =

@@ -1,8 +1,8 @@
 -- A grain's file that no event votes on is as it was at entry, at each moment that counts.
-use Rattle.std.proofs.Common.{◌≡◌, ◌≢◌, ℕ, refl, ap, ◌∙◌}
+use Rattle.std.proofs.Common.{◌≡◌, ◌∙◌}
 use Rattle.base_types.specs.declared.calls.GrainId.{GrainId}
-use Rattle.host_trait.specs.declared.channels.FileId.TheVariants.{Manager, Grain}
-use Rattle.host_trait.specs.World.{World, Moment, moment_of}
+use Rattle.host_trait.specs.declared.channels.FileId.TheVariants.{Grain}
+use Rattle.host_trait.specs.World.{World, Moment}
 use Rattle.host_trait.proofs.Moments.{weaker}
 use Rattle.promise_spec.specs.Programs.{Program}
 use Rattle.promise_spec.specs.Cores.{how_many}

@@ -48,17 +48,18 @@ use Rattle.run_books.specs.Beside.{EmitsAs, TurnsBeside}
 use Rattle.silo_top.proofs.Observing.{observed_run}
 use Rattle.silo_top.proofs.Beginning.{no_books}
 use Rattle.silo_top.proofs.Promised.{behind_promised}
+use Rattle.run_books.specs.Stages.{stage_by}
 
 -- ---- what each answer says
 
-module _ {T : Type 0} (o : Outset) (b : Books) (r : Run) (s : Settler) (after : Channel → ℕ) where
-  risen_by : (result : Result T RunFault) → TurnsEndAs o b r s after result → HasRisen (turns_ending o.live result) o.faults after
+module _ {T : Type 0} (o : Outset) (b : Books) (r : Run) (s : Settler) (after : Channel → ℕ) (new : World) where
+  risen_by : (result : Result T RunFault) → TurnsEndAs o b (stage_by r s after new) result → HasRisen (turns_ending o.live result) o.faults after
   risen_by (Ok done) e = tt
   risen_by (Err InDoubt) e = e.0.rose
   risen_by (Err WriteFault) e = e
   risen_by (Err Memory) e = tt
 
-  rest_by : (result : Result T RunFault) → TurnsEndAs o b r s after result → turns_ending o.live result ≢ Unwritten → b.rest ≡ []
+  rest_by : (result : Result T RunFault) → TurnsEndAs o b (stage_by r s after new) result → turns_ending o.live result ≢ Unwritten → b.rest ≡ []
   rest_by (Ok done) e other = e.1
   rest_by (Err InDoubt) e other = e.1
   rest_by (Err WriteFault) e other = absurd (other refl)
@@ -96,10 +97,10 @@ output_by live (Err Memory) old mid new calm e other = absurd (other (e ∙ calm
 
 -- over every host
 pub turns_answer : {T : Type 0} (tells : Bool) (o : Outset) (b : Books) (r r' : Run) (s s' : Settler) (mid after : Channel → ℕ) (now now' : World) (result : Result T RunFault) → NoneFailed o.faults mid
-    → TurnsEndAs o b r' s' after result → TurnsBeside tells r r' s s' mid after now now' result → AnswersRun (turns_ending o.live result) o.faults after
+    → TurnsEndAs o b (stage_by r' s' after now') result → TurnsBeside tells (stage_by r s mid now) (stage_by r' s' after now') result → AnswersRun (turns_ending o.live result) o.faults after
 turns_answer tells o b r r' s s' mid after now now' result calm e beside = record {
   good = good_by o.live result;
-  risen = risen_by o b r' s' after result e;
+  risen = risen_by o b r' s' after now' result e;
   input = λ other. absurd (other (beside.pulled ∙ calm Input));
   output = output_by o.live result (o.faults Output) (mid Output) (after Output) (calm Output) beside.emitted;
   exact = λ unbegun. absurd (unbegun (begun_by o.live result));
@@ -134,7 +135,7 @@ module _ {T : Type 0} (m : Manner) (x : Opened) (old mid now new : World) (befor
   r0 = core_from p.types (standing_of log) []
 
   -- the turns went on from the start, and what the images keep held there, where the folder is sound
-  module _ (r' : Run) (s s' : Settler) (mid_faults : Channel → ℕ) (goes : CarriedOn true m out no_books r0 r' s s' after now new result) (beside : TurnsBeside true r0 r' s s' mid_faults after now new result) (loud : s.quiet ≡ false) where
+  module _ (r' : Run) (s s' : Settler) (mid_faults : Channel → ℕ) (goes : CarriedOn true m out no_books (stage_by r0 s mid_faults now) (stage_by r' s' after new) result) (beside : TurnsBeside true (stage_by r0 s mid_faults now) (stage_by r' s' after new) result) (loud : s.quiet ≡ false) where
     abbrev pub b : Books
     b = goes.on.books
 
@@ -178,7 +179,7 @@ module _ {T : Type 0} (m : Manner) (x : Opened) (old mid now new : World) (befor
     are_settled : AreSettled p seen c
     are_settled = settled true out b r' s' seen c result (beside.quiet ∙ loud) goes.on.record_kept goes.on.ended ends_as course
 
-    is_done : (answer : Result T RunFault) → TurnsEndAs out b r' s' after answer → turns_ending x.slot answer ≡ Done → (e : c.entries ≡ (ends r').manager.settled) → IsDone seen c
+    is_done : (answer : Result T RunFault) → TurnsEndAs out b (stage_by r' s' after new) answer → turns_ending x.slot answer ≡ Done → (e : c.entries ≡ (ends r').manager.settled) → IsDone seen c
     is_done (Ok done) e q all = record {
       input = beside.input told ∙ end;
       answered = λ n low high. (let k = e.0.run.answered n low high in (k.0, subst (λ (l : List Entry). Member k.0 l) (sym all) k.1, k.2));
@@ -194,10 +195,10 @@ module _ {T : Type 0} (m : Manner) (x : Opened) (old mid now new : World) (befor
           (unvoted_behind p seen c mid stands (λ g none. (goes.on.record_kept.books.outside told).calls.unvoted g (subst (λ (r : Run). how_many (is_vote_of g) r ≡ 0) run_is none)));
       settled = are_settled;
       output = subst (λ (l : List ℕ). Grew (shape_in p) l new.output (entries_of b.said) b.rest) is.run.now.output (goes.on.record_kept.books.outside told).output;
-      whole = λ other. rest_by out b r' s' after result goes.on.ended (λ q. other (ends_as ∙ q));
+      whole = λ other. rest_by out b r' s' after new result goes.on.ended (λ q. other (ends_as ∙ q));
       ends = record {
         given = refl;
-        risen = subst (λ (e : Ending). HasRisen e before after) (sym ends_as) (risen_by out b r' s' after result goes.on.ended);
+        risen = subst (λ (e : Ending). HasRisen e before after) (sym ends_as) (risen_by out b r' s' after new result goes.on.ended);
         carried = subst IsCarried (sym ends_as) (carried_by x.slot result);
         long = subst (λ (e : Ending). HasLength e (length old.input)) (sym ends_as) (long_by x.slot result (length old.input) short);
         begun = inr (record { ending = subst IsBegun (sym ends_as) (begun_by x.slot result); input = beside.input told ∙ end; short = short });

@@ -79,6 +79,7 @@ use Rattle.silo_top.proofs.LoadBegun.{bank_of, bank_checked, bank_whole, opened_
 use Rattle.silo_top.proofs.OpensWith.{start_is}
 use Rattle.silo_top.proofs.Still.{still_none}
 use Rattle.silo_top.proofs.Unopened.{asked_untouched}
+use Rattle.run_books.specs.Stages.{stage_by}
 
 -- what a list of books that are none says
 rest_by : (b : Books) (mid new : World) → new.output ≡ mid.output ++ b.rest → new.output ≡ mid.output → b.rest ≡ []
@@ -152,10 +153,10 @@ load_file live InDoubt file t = t
 load_file live WriteFault file t = absurd (cc t)
 load_file live Memory file t = absurd (cc t)
 
-pub load_risen : (T : Type 0) (o : Outset) (b : Books) (r : Run) (s : Settler) (counts : Channel → ℕ) (fault : RunFault) → TurnsEndAs o b r s counts {T = T} (Err fault) → HasRisen (load_ending o.live fault) o.faults counts
-load_risen T o b r s counts InDoubt e = e.0.rose
-load_risen T o b r s counts WriteFault e = tt
-load_risen T o b r s counts Memory e = tt
+pub load_risen : (T : Type 0) (o : Outset) (b : Books) (r : Run) (s : Settler) (counts : Channel → ℕ) (now : World) (fault : RunFault) → TurnsEndAs o b (stage_by r s counts now) {T = T} (Err fault) → HasRisen (load_ending o.live fault) o.faults counts
+load_risen T o b r s counts now InDoubt e = e.0.rose
+load_risen T o b r s counts now WriteFault e = tt
+load_risen T o b r s counts now Memory e = tt
 
 module _ {T : Type 0} (n seed : ℕ) (m : Manner) (x : Opened) (st : Started) (old mid new : World) (before between after : Channel → ℕ) (result : Result T RunFault) (is : IsBehindOpening old mid x) (start : IsStartOf x st)
     (reads : program_in bank_text ≡ Ok (program_tree x.checked)) (bank : IsNewBank old) (stay_mid : ReadsMayStay mid) (stay_new : ReadsMayStay new) (hush : st.settler.quiet ≡ true) where
@@ -187,18 +188,18 @@ module _ {T : Type 0} (n seed : ℕ) (m : Manner) (x : Opened) (st : Started) (o
   -- ---- the turns begin
 
   module _ (lines : List Line) (are : AreReadFrom (program_tree x.checked) 0 (load_texts n seed) lines) (wide : 0 < m.width) (above : 0 < x.next_unit.0) (none : NoneFailed before between) (r' : Run) (s' : Settler)
-      (carried : CarriesOn true m (program_tree x.checked) lines (run_of st.core) r' st.settler s' between after mid new result)
-      (aside : TurnsBeside true (run_of st.core) r' st.settler s' between after mid new result) where
+      (carried : CarriesOn true m (program_tree x.checked) lines (stage_by (run_of st.core) st.settler between mid) (stage_by r' s' after new) result)
+      (aside : TurnsBeside true (stage_by (run_of st.core) st.settler between mid) (stage_by r' s' after new) result) where
     began : run_of st.core ≡ r0
     began = start_is (seen_in old.disk) x st is.opened start
 
     base : 0 < r0.base
     base = subst (λ (k : ℕ). 0 < k) is.opened.next above
 
-    kept_first : KeepsTurns true out no_books r0 st.settler between mid
+    kept_first : KeepsTurns true out no_books (stage_by r0 st.settler between mid)
     kept_first = starts_kept r0.base r0.kinds r0.opening true out st.settler between mid base (λ c. let e = none c in omega (arith, e)) start.written start.doubted start.sealing start.settles (λ told. still_none mid)
 
-    first : StartsRun true m out no_books (program_tree x.checked) r0 st.settler lines between mid
+    first : StartsRun true m out no_books (program_tree x.checked) lines (stage_by r0 st.settler between mid)
     first = record {
       outset = starts_outset r0.base r0.kinds r0.opening out (program_tree x.checked) (load_texts n seed) lines m.width m.picks are refl refl refl refl wide refl;
       can = starts_quiet r0.base r0.kinds r0.opening (program_tree x.checked) (load_texts n seed) lines st.settler are start.doubted start.written;
@@ -207,12 +208,12 @@ module _ {T : Type 0} (n seed : ℕ) (m : Manner) (x : Opened) (st : Started) (o
       kept = kept_first;
     }
 
-    pub goes : CarriedOn true m out no_books r0 r' st.settler s' after mid new result
-    goes = subst (λ (r : Run). CarriedOn true m out no_books r r' st.settler s' after mid new result) began
-        (carried out no_books (subst (λ (r : Run). StartsRun true m out no_books (program_tree x.checked) r st.settler lines between mid) (sym began) first))
+    pub goes : CarriedOn true m out no_books (stage_by r0 st.settler between mid) (stage_by r' s' after new) result
+    goes = subst (λ (r : Run). CarriedOn true m out no_books (stage_by r st.settler between mid) (stage_by r' s' after new) result) began
+        (carried out no_books (subst (λ (r : Run). StartsRun true m out no_books (program_tree x.checked) lines (stage_by r st.settler between mid)) (sym began) first))
 
-    pub beside : TurnsBeside true r0 r' st.settler s' between after mid new result
-    beside = subst (λ (r : Run). TurnsBeside true r r' st.settler s' between after mid new result) began aside
+    pub beside : TurnsBeside true (stage_by r0 st.settler between mid) (stage_by r' s' after new) result
+    beside = subst (λ (r : Run). TurnsBeside true (stage_by r st.settler between mid) (stage_by r' s' after new) result) began aside
 
     -- ---- what they wrote: nothing
 
@@ -413,7 +414,7 @@ module _ {T : Type 0} (n seed : ℕ) (m : Manner) (x : Opened) (st : Started) (o
     pub failed_carries : AskFor (program_tree x.checked) (load_texts n seed) (load_calls n seed) → (fault : RunFault) → result ≡ Err fault → (status : Status) → status_ending status ≡ load_ending x.slot fault
         → CarriesLoad n seed (observed_call (m) (load_texts n seed) old new before after status)
     failed_carries asks fault q status ends_as =
-        let ended : TurnsEndAs out b r' s' after {T = T} (Err fault) = subst (TurnsEndAs out b r' s' after) q goes.on.ended in
+        let ended : TurnsEndAs out b (stage_by r' s' after new) {T = T} (Err fault) = subst (TurnsEndAs out b (stage_by r' s' after new)) q goes.on.ended in
         let past : new.past ≡ new.past ++ [] = sym (append-nil new.past) in
         carries asks new after status [] past refl (λ m there. absurd there) refl (λ file. refl)
         (shows asks new after status [] past refl (λ m there. absurd there) refl (λ file. refl)
@@ -423,7 +424,7 @@ module _ {T : Type 0} (n seed : ℕ) (m : Manner) (x : Opened) (st : Started) (o
         (record { added = []; output = same_output ∙ sym (append-nil old.output); front = (_, refl); whole = λ t. absurd (load_undone x.slot fault (sym ends_as ∙ t)); none = inl refl })
         (λ one other. same_output)
         (subst IsBegun (sym ends_as) (load_begun x.slot fault))
-        (subst (λ (y : Ending). HasRisen y before after) (sym ends_as) (load_risen T out b r' s' after fault ended))
+        (subst (λ (y : Ending). HasRisen y before after) (sym ends_as) (load_risen T out b r' s' after new fault ended))
         (λ which. elim which [ inl t ↦ absurd (load_undone x.slot fault (sym ends_as ∙ t)) | inr t ↦ absurd (load_unwritten x.slot fault (sym ends_as ∙ t)) ])
         (λ t d. load_unwritten x.slot fault (sym ends_as ∙ t))
         (λ calm t. absurd (load_undone x.slot fault (sym ends_as ∙ t))) refl)
@@ -433,7 +434,7 @@ module _ {T : Type 0} (n seed : ℕ) (m : Manner) (x : Opened) (st : Started) (o
         → SaysSummary (summary_line (ends r').manager.settled requests (total_kept (ends r') 64)) (status_ending status) new last → HasFailedAs (status_ending status) after final → MaySaySummary (status_ending status)
         → CarriesLoad n seed (observed_call (m) (load_texts n seed) old last before final status)
     summed_carries asks done q status last final requests many says failed may =
-        let ended : HasCarriedAll out r' s' = (subst (TurnsEndAs out b r' s' after) q goes.on.ended).0 in
+        let ended : HasCarriedAll out (stage_by r' s' after new) = (subst (TurnsEndAs out b (stage_by r' s' after new)) q goes.on.ended).0 in
         let same_files : (file : FileId) → final (File file) ≡ after (File file) = files_same (status_ending status) after final may failed in
         let sure : RunHasDoubt (core_run p c0) → ⊥ = λ d. ended.never (subst RunHasDoubt run_is d) in
         let explains_r = explains_at asks last final status says.told says.past says.disk says.left says.input same_files (λ file t. absurd (summary_no_file (status_ending status) may file t)) (λ d. absurd (sure d)) in
