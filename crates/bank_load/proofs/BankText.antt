@@ -25,7 +25,7 @@ use Rattle.promise_spec.specs.Programs.{Program, IsChecked}
 use Rattle.base_types.specs.declared.calls.Value.{Value}
 use Rattle.base_types.specs.declared.calls.Value.TheVariants.{Int}
 use Rattle.script_meaning.specs.Play.{initial_of}
-use Rattle.promise_spec.specs.Records.{new_silo}
+use Rattle.promise_spec.specs.Entries.{new_silo}
 use Rattle.promise_spec.specs.Loads.{account, bank_text}
 use Rattle.bank_load.specs.Banks.{bank_names}
 use Rattle.core_laws.proofs.Decoded.{none-true}
@@ -95,7 +95,7 @@ unfolding initial_or_none lex lexeme name_lexeme number_lexeme text_lexeme symbo
 first_initial = refl
 
 -- so an account of a new silo is empty
-pub bank_is_empty : (p : Program) (k : ℕ) → IsChecked p → p.text ≡ bank_text → (new_silo p.types).states (account k) ≡ Int (pos 0) ∷ []
+pub bank_is_empty : (p : Program) (k : ℕ) → IsChecked p → p.text ≡ bank_text → (new_silo p).states (account k) ≡ Int (pos 0) ∷ []
 unfolding initial_or_none
 bank_is_empty p k checked same =
     let read : program_over lexed_so.1 lexed_so.0 ≡ Ok p.types = sym text_read ∙ ap program_of (sym same) ∙ checked.parsed in

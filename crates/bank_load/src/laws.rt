@@ -5,7 +5,7 @@ ghost use Rattle.request_wire.specs.Names.{names_in};
 ghost use Rattle.request_wire.specs.Request.{call_of};
 ghost use Rattle.serde_json.specs.Written.{compact_text};
 ghost use Rattle.promise_spec.specs.Programs.{Program, IsChecked};
-ghost use Rattle.promise_spec.specs.Records.{new_silo};
+ghost use Rattle.promise_spec.specs.Entries.{new_silo};
 ghost use Rattle.promise_spec.specs.Loads.{account, bank_text, load_calls};
 ghost use Rattle.bank_load.specs.Requests.{request_data};
 
@@ -17,5 +17,5 @@ pub fn load_texts_read_as_their_calls()
 
 /// An account of a new silo of the bank's text is empty.
 pub fn bank_programs_begin_empty()
-    ensures { (p : Program) (k : ℕ) → IsChecked p → p.text ≡ bank_text → (new_silo p.types).states (account k) ≡ Int (pos 0) ∷ [] }
+    ensures { (p : Program) (k : ℕ) → IsChecked p → p.text ≡ bank_text → (new_silo p).states (account k) ≡ Int (pos 0) ∷ [] }
 {}

@@ -46,7 +46,7 @@ impl<T: TryCopy> List<T> {
     pub fn copy(&self) -> Result<List<T>, AllocError>
         ensures { IfOk result (λ made. made ≡ self.now) }
     {
-        let mut items = Vec::new(*self.items.allocator());
+        let mut items = Vec::with_capacity(*self.items.allocator(), self.items.len())?;
         for item in self.items.as_slice() {
             items.push(item.try_copy()?)?;
         }

@@ -1,5 +1,5 @@
 -- What stands in an image stands in another that has the same bytes at its places.
-use Rattle.std.proofs.Common.{◌≡◌, ℕ, ◌+◌, ◌<◌, ◌≤◌, ◌==◌, if◌then◌else◌, List, [], ◌∷◌, length, map, take, drop, slice_index, Option, Some, None, refl, sym, ◌∙◌, ap, arith}
+use Rattle.std.proofs.Common.{◌≡◌, ℕ, ◌+◌, ◌<◌, ◌≤◌, List, [], ◌∷◌, length, take, drop, slice_index, None, refl, sym, ◌∙◌, ap, arith, subst}
 use Rattle.std.proofs.lemmas.List.{take-take, drop-take, get_or-take}
 use Rattle.std.specs.Prelude.{⊤}
 use Rattle.std.specs.List.{AllByRecursion}
@@ -8,17 +8,21 @@ use Rattle.base_types.specs.declared.calls.Value.{Value}
 use Rattle.base_types.specs.declared.calls.GrainId.{GrainId}
 use Rattle.base_types.specs.declared.shapes.Shape.{Shape}
 use Rattle.host_trait.specs.World.{Image}
-use Rattle.gate_block.specs.Log.{LogsUpTo}
+use Rattle.gate_block.specs.Log.{HasBlocks, LogsUpTo}
 use Rattle.cell_model.specs.Units.{Member}
 use Rattle.field_codec.specs.declared.units.Numbers.TheVariants.{Logged}
 use Rattle.commit_log.specs.Bodies.{IsRecordIn}
 use Rattle.commit_log.specs.declared.records.Written.{Written}
 use Rattle.log_reading.specs.Blocks.{header_damage}
-use Rattle.host_trait.specs.declared.channels.FileId.TheVariants.{Manager, Grain}
-use Rattle.silo_spec.specs.Silos.{IsSilo}
+use Rattle.host_trait.specs.declared.channels.FileId.TheVariants.{Manager, Program as ProgramFile, Grain}
+use Rattle.silo_spec.specs.Silos.{IsSilo, HasProgram}
 use Rattle.promise_spec.specs.Records.{Commit}
-use Rattle.promise_spec.specs.Logs.{magic, WriteStands, WritesStand, IsKept, IsLog, body_of}
-use Rattle.batch_disk.specs.Resting.{log_of, BeginsSilo, Voted, StandsIn, PlacesAreNamed, IsAtRest}
+use Rattle.promise_spec.specs.Programs.{Program, shape_in}
+use Rattle.promise_spec.specs.Entries.{LogEntry, Recorded, records_among, Log, records_of}
+use Rattle.promise_spec.specs.Versions.{WriteStands, WritesStand, IsKept}
+use Rattle.promise_spec.specs.Blocks.{AreKept}
+use Rattle.promise_spec.specs.Logs.{magic, StandsUpTo, IsLog}
+use Rattle.batch_disk.specs.Resting.{BeginsSilo, Voted, StandsIn, PlacesAreNamed, IsAtRest}
 use Rattle.batch_disk.proofs.Lists.{each_of}
 
 module _ (live : ℕ) (shape : Shape) (was image : Image) where
@@ -35,9 +39,14 @@ module _ (live : ℕ) (shape : Shape) (was image : Image) where
   all_same unit (w ∷ ws) [] same st = absurd st
   all_same unit (w ∷ ws) (s ∷ ss) same st = (stands_same unit w s same.0 st.0, all_same unit ws ss same.1 st.1)
 
-  pub kept_same : (log : List Commit) → AllByRecursion (λ c. AllByRecursion IsSameAt c.logged.writes) log → AllByRecursion (IsKept live shape was) log → AllByRecursion (IsKept live shape image) log
-  kept_same [] same kept = tt
-  kept_same (c ∷ log) same kept = (record { fits = kept.0.fits; whole = all_same c.logged.unit c.logged.writes c.states same.0 kept.0.whole }, kept_same log same.1 kept.1)
+  pub kept_one : (c : Commit) → AllByRecursion IsSameAt c.logged.writes → IsKept live shape was c → IsKept live shape image c
+  kept_one c same kept = record { fits = kept.fits; whole = all_same c.logged.unit c.logged.writes c.states same kept.whole }
+
+-- so do the entries of a log
+pub kept_same : (live : ℕ) (p : Program) (was image : Image) (entries : List LogEntry) → AllByRecursion (λ c. AllByRecursion (IsSameAt live (shape_in p) was image) c.logged.writes) (records_among entries)
+    → AreKept live was p entries → AreKept live image p entries
+kept_same live p was image [] same kept = tt
+kept_same live p was image (Recorded c ∷ entries) same kept = (kept_one live (shape_in p) was image c same.0 kept.0, kept_same live p was image entries same.1 kept.1)
 
 -- what stands below a place stands there still, where the bytes up to that place are the same
 pub below_same : (d c : List ℕ) (at len end : ℕ) → take end c ≡ take end d → at + len ≤ end → take len (drop at c) ≡ take len (drop at d)
@@ -106,15 +115,29 @@ silo_begins file silo whole = record {
   whole = header_front file ∙ whole;
 }
 
+-- A log stands in an image as in another, where the blocks stand there, the header isn't damaged, the program's file is the same,
+-- and so are the bytes at its places.
+pub stands_up_same : (live : ℕ) (shape : Shape) (was image : Image) (log : Log) (bodies : List (List ℕ)) (gate : ℕ) → StandsUpTo live was log bodies gate
+    → header_damage (image (Manager live)) ≡ None → image (ProgramFile live) ≡ was (ProgramFile live) → HasBlocks bodies gate (image (Manager live))
+    → AllByRecursion (λ c. AllByRecursion (IsSameAt live shape was image) c.logged.writes) (records_of log) → StandsUpTo live image log bodies gate
+stands_up_same live shape was image log bodies gate is whole same blocks places = record {
+  header = whole;
+  program = is.program;
+  checked = is.checked;
+  text = subst (HasProgram is.program.text) (sym same) is.text;
+  base = is.base;
+  blocks = is.blocks;
+  fit = is.fit;
+  spelled = is.spelled;
+  stand = blocks;
+  entries = is.entries;
+  kept = kept_same live is.program was image log.entries places is.kept;
+}
+
 -- each image's log between two steps
-pub rests_log : (live : ℕ) (shape : Shape) (head : List ℕ) (batches : List (List Commit)) (gate : ℕ) (ends : GrainId → ℕ) (voted : List Voted) (image : Image) → PlacesAreNamed live head batches ends → IsAtRest live shape head batches gate ends voted image → IsLog live shape image (log_of batches)
-rests_log live shape head batches gate ends voted image named rests = record {
-  is_live = record { slot = named.slot; silo = silo_of head (map body_of batches) gate (image (Manager live)) named.silo rests.header rests.blocks };
-  header = whole_of head (image (Manager live)) named.silo rests.header;
-  batches = batches;
-  gate = gate;
-  blocks = rests.blocks;
-  sizes = named.sizes;
-  commits = refl;
-  kept = rests.whole;
+pub rests_log : (live : ℕ) (shape : Shape) (head : List ℕ) (log : Log) (bodies : List (List ℕ)) (gate : ℕ) (ends : GrainId → ℕ) (voted : List Voted) (image : Image) → PlacesAreNamed live shape head log ends
+    → IsAtRest live shape head log bodies gate ends voted image → IsLog live image log
+rests_log live shape head log bodies gate ends voted image named rests = record {
+  is_live = named.is_live image (silo_of head bodies gate (image (Manager live)) named.silo rests.header (record { blocks = rests.stands.stand; closed = rests.closed }));
+  is = record { bodies = bodies; gate = gate; stands = rests.stands; closed = rests.closed };
 }

@@ -1,5 +1,5 @@
 -- What a seal leaves of the writer and of the disk.
-use Rattle.std.proofs.Common.{◌≡◌, ℕ, ◌+◌, ◌<◌, ◌≤◌, ◌^◌, true, false, List, [], ◌∷◌, ◌++◌, length, map, refl, sym, ◌∙◌, ap, subst, arith}
+use Rattle.std.proofs.Common.{◌≡◌, ℕ, ◌+◌, ◌<◌, ◌≤◌, ◌^◌, true, false, List, [], ◌∷◌, ◌++◌, length, refl, sym, ◌∙◌, ap, subst, arith}
 use Rattle.std.specs.List.{flat_map, AllByRecursion}
 use Rattle.std.proofs.lemmas.Bool.{false≢true}
 use Rattle.base_types.specs.Stores.{has_room}
@@ -24,8 +24,9 @@ use Rattle.commit_log.specs.Sealing.{staged, EndsAs, IsNext, LogsAs, DoubtAs}
 use Rattle.commit_log.specs.Spelling.{spelling_of_body, spelling_of_block, RecordsFit}
 use Rattle.core_model.specs.declared.effects.Effect.{Effect}
 use Rattle.promise_spec.specs.Records.{Commit}
-use Rattle.promise_spec.specs.Logs.{body_of}
-use Rattle.batch_disk.specs.Resting.{log_of, write_end, PlacesAreNamed, Voted, IsAtRest, raised_ends, all_writes}
+use Rattle.promise_spec.specs.Entries.{Log, grown}
+use Rattle.promise_spec.specs.Blocks.{Records, body_of}
+use Rattle.batch_disk.specs.Resting.{write_end, PlacesAreNamed, Voted, IsAtRest, raised_ends, all_writes}
 use Rattle.batch_disk.specs.Moments.{KeepsLog}
 use Rattle.batch_disk.specs.Writers.{file_end, kept_of, voted_of, CanCount, FitsSlot, KeepsDisk, HasSameEnds}
 use Rattle.batch_disk.specs.Records.{commits_by, AreRecordsFor, IsPlaceOfOne, MayBeLogged, IsAsWritten}
@@ -109,69 +110,70 @@ module _ (live : ℕ) (a b : BatchWriter) (n most : ℕ) (old new : World) (run 
 
 -- ---- in each image
 
-module _ (live : ℕ) (shape : Shape) (head : List ℕ) (batches : List (List Commit)) (batch : ℕ) (es : List Effect) (a : BatchWriter) (rs : List CommitRecord) (block : List ℕ) (fits : RecordsFit rs) (small : length (spelling_of_body rs) < 2 ^ 32) (is : block ≡ spelling_of_block rs)
+module _ (live : ℕ) (shape : Shape) (head : List ℕ) (log : Log) (bodies : List (List ℕ)) (batch : ℕ) (es : List Effect) (a : BatchWriter) (rs : List CommitRecord) (block : List ℕ) (fits : RecordsFit rs) (small : length (spelling_of_body rs) < 2 ^ 32) (is : block ≡ spelling_of_block rs)
     (are : AreRecordsFor (voted_of batch a) es rs) (logged : AllByRecursion (MayBeLogged shape) es) (true_of : AllByRecursion (IsAsWritten (voted_of batch a)) es)
-    (old new : World) (keeps : KeepsDisk live shape head batches a old.disk) (old_seen : (f : FileId) → MayLeave (old.disk f) (old.disk f).seen) where
+    (old new : World) (keeps : KeepsDisk live shape head log bodies a old.disk) (old_seen : (f : FileId) → MayLeave (old.disk f) (old.disk f).seen) where
   abbrev commits : List Commit
   commits = commits_by es rs
 
   next : IsNextBatch shape (kept_of a) commits
   next = next_batch shape (voted_of batch a) (kept_of a) es rs (voted_within a batch) are fits.1 fits.0 logged true_of
 
-  body_is : spelling_of_body rs ≡ body_of commits
+  body_is : spelling_of_body rs ≡ body_of (Records commits)
   body_is = ap spelling_of_body (sym (logged_are (voted_of batch a) es rs are))
 
-  spelled : block ≡ block_of (body_of commits)
+  spelled : block ≡ block_of (body_of (Records commits))
   spelled = is ∙ ap block_of body_is
 
-  each_logs : EachLogs (map body_of batches) a.gate_at (Manager live) old.disk
+  each_logs : EachLogs bodies a.gate_at (Manager live) old.disk
   each_logs c left =
       let seen : Image = λ f. (old.disk f).seen in
-      subst (λ (l : List ℕ). LogsUpTo (map body_of batches) a.gate_at l) (with_bytes-there seen (Manager live) c)
-      (keeps.images (with_bytes seen (Manager live) c) (sealed.with_left old.disk seen (Manager live) c old_seen left)).blocks
+      let rest = keeps.images (with_bytes seen (Manager live) c) (sealed.with_left old.disk seen (Manager live) c old_seen left) in
+      subst (λ (l : List ℕ). LogsUpTo bodies a.gate_at l) (with_bytes-there seen (Manager live) c)
+      (record { blocks = rest.stands.stand; closed = rest.closed })
 
-  pub is_next : IsNext live (map body_of batches) (body_of commits) a.gate_at block old
+  pub is_next : IsNext live bodies (body_of (Records commits)) a.gate_at block old
   is_next = record { block_is = spelled; small = subst (λ (l : List ℕ). length l < 2 ^ 32) body_is small; logs = each_logs }
 
   module _ (run : RunsOnFile (Manager live) (Tears a.gate_at (length block + 1)) 2 old new) where
     -- the seam
-    pub seals_as : (answer : Sealing) (b : BatchWriter) → Passes (λ m. EachLogsOrMore (map body_of batches) (body_of commits) a.gate_at (Manager live) m.disk) old.past new.past
-        → StandsAfter live shape head batches commits answer a b old new → SealsAs live shape head batches es rs answer a b old new
+    pub seals_as : (answer : Sealing) (b : BatchWriter) → Passes (λ m. EachLogsOrMore bodies (body_of (Records commits)) a.gate_at (Manager live) m.disk) old.past new.past
+        → StandsAfter live shape head log bodies commits answer a b old new → SealsAs live shape head log bodies es rs answer a b old new
     seals_as answer b moments stands = record {
       batch = commits;
       made_of = refl;
       records = records_are (voted_of batch a) es rs are;
-      moments = sealed.seal_moments live shape head batches a.gate_at (file_end a) (kept_of a) commits keeps.named next old keeps.images (length block + 1) new run.moments moments;
+      moments = sealed.seal_moments live shape head log bodies a.gate_at (file_end a) (kept_of a) commits keeps.named next old keeps.images (length block + 1) new run.moments moments;
       stands = stands;
     }
 
-    pub stands_sealed : (to : ℕ) (b : BatchWriter) → EachLogs (map body_of batches ++ body_of commits ∷ []) to (Manager live) new.disk → b.gate_at ≡ to → kept_of b ≡ []
-        → ((g : GrainId) → file_end b g ≡ raised_ends (file_end a) (flat_map (λ r. r.writes) rs) g) → KeepsDisk live shape head (batches ++ commits ∷ []) b new.disk
+    pub stands_sealed : (to : ℕ) (b : BatchWriter) → EachLogs (bodies ++ body_of (Records commits) ∷ []) to (Manager live) new.disk → b.gate_at ≡ to → kept_of b ≡ []
+        → ((g : GrainId) → file_end b g ≡ raised_ends (file_end a) (flat_map (λ r. r.writes) rs) g) → KeepsDisk live shape head (grown log commits) (bodies ++ body_of (Records commits) ∷ []) b new.disk
     stands_sealed to b logs gate none ends =
         let writes : flat_map (λ (r : CommitRecord). r.writes) rs ≡ all_writes commits =
         ap (flat_map (λ (r : CommitRecord). r.writes)) (sym (logged_are (voted_of batch a) es rs are)) ∙ flat_of_map (λ (r : CommitRecord). r.writes) (λ (c : Commit). c.logged) commits in
         let says : (g : GrainId) → raised_ends (file_end a) (all_writes commits) g ≡ file_end b g = λ g. ap (λ (ws : List Written). raised_ends (file_end a) ws g) (sym writes) ∙ sym (ends g) in
         let all : raised_ends (file_end a) (all_writes commits) ≡ file_end b = λ i g. says g i in
         record {
-          named = subst (λ (e : GrainId → ℕ). PlacesAreNamed live head (batches ++ commits ∷ []) e) all
-              (sealed.named_more live shape head batches a.gate_at (file_end a) (kept_of a) commits keeps.named next);
+          named = subst (λ (e : GrainId → ℕ). PlacesAreNamed live shape head (grown log commits) e) all
+              (sealed.named_more live shape head log bodies a.gate_at (file_end a) (kept_of a) commits keeps.named next);
           images = λ image left.
-              let one = sealed.rests_sealed live shape head batches a.gate_at (file_end a) (kept_of a) commits keeps.named next old keeps.images (length block + 1) new run.moments run.now to logs image left in
-              let two = subst (λ (e : GrainId → ℕ). IsAtRest live shape head (batches ++ commits ∷ []) to e [] image) all one in
-              let three = subst (λ (n : ℕ). IsAtRest live shape head (batches ++ commits ∷ []) n (file_end b) [] image) (sym gate) two in
-              subst (λ (vs : List Voted). IsAtRest live shape head (batches ++ commits ∷ []) b.gate_at (file_end b) vs image) (sym none) three;
+              let one = sealed.rests_sealed live shape head log bodies a.gate_at (file_end a) (kept_of a) commits keeps.named next old keeps.images (length block + 1) new run.moments run.now to logs image left in
+              let two = subst (λ (e : GrainId → ℕ). IsAtRest live shape head (grown log commits) (bodies ++ body_of (Records commits) ∷ []) to e [] image) all one in
+              let three = subst (λ (n : ℕ). IsAtRest live shape head (grown log commits) (bodies ++ body_of (Records commits) ∷ []) n (file_end b) [] image) (sym gate) two in
+              subst (λ (vs : List Voted). IsAtRest live shape head (grown log commits) (bodies ++ body_of (Records commits) ∷ []) b.gate_at (file_end b) vs image) (sym none) three;
         }
 
-    pub stands_unsealed : (b : BatchWriter) → LogsAs live NotSealed (map body_of batches) (body_of commits) a.gate_at old new → HasSameEnds a b → kept_of b ≡ []
-        → Passes (KeepsLog live shape head (log_of batches) old) old.past new.past × KeepsDisk live shape head batches b new.disk
+    pub stands_unsealed : (b : BatchWriter) → LogsAs live NotSealed bodies (body_of (Records commits)) a.gate_at old new → HasSameEnds a b → kept_of b ≡ []
+        → Passes (KeepsLog live head log old) old.past new.past × KeepsDisk live shape head log bodies b new.disk
     stands_unsealed b logs same none = (
-      sealed.still_moments live shape head batches a.gate_at (file_end a) (kept_of a) commits keeps.named next old keeps.images (length block + 1) new run.moments logs.0,
-      keeps_with live shape head batches a b [] new.disk same none keeps.named (λ image left.
-          let rests = sealed.rests_unsealed live shape head batches a.gate_at (file_end a) (kept_of a) commits keeps.named next old keeps.images (length block + 1) new run.moments run.now logs.1 image left in
-          record { header = rests.header; blocks = rests.blocks; whole = rests.whole; long = rests.long; stand = tt }),
+      sealed.still_moments live shape head log bodies a.gate_at (file_end a) (kept_of a) commits keeps.named next old keeps.images (length block + 1) new run.moments logs.0,
+      keeps_with live shape head log bodies a b [] new.disk same none keeps.named (λ image left.
+          let rests = sealed.rests_unsealed live shape head log bodies a.gate_at (file_end a) (kept_of a) commits keeps.named next old keeps.images (length block + 1) new run.moments run.now logs.1 image left in
+          record { header = rests.header; stands = rests.stands; closed = rests.closed; long = rests.long; stand = tt }),
     )
 
-    pub stands_in_doubt : (b : BatchWriter) → ((f : FileId) → MayLeave (new.disk f) (new.disk f).seen) → EndsAs live InDoubt a.gate_at block old new → LogsAs live InDoubt (map body_of batches) (body_of commits) a.gate_at old new
-        → DoubtAs live InDoubt (map body_of batches) (body_of commits) a.gate_at block old new → StandsAfter live shape head batches commits InDoubt a b old new
+    pub stands_in_doubt : (b : BatchWriter) → ((f : FileId) → MayLeave (new.disk f) (new.disk f).seen) → EndsAs live InDoubt a.gate_at block old new → LogsAs live InDoubt bodies (body_of (Records commits)) a.gate_at old new
+        → DoubtAs live InDoubt bodies (body_of (Records commits)) a.gate_at block old new → StandsAfter live shape head log bodies commits InDoubt a b old new
     stands_in_doubt b new_seen ends logs which =
-        sealed.in_doubt live shape head batches a.gate_at (file_end a) (kept_of a) commits keeps.named next old keeps.images (length block + 1) new run.moments run.now old_seen new_seen block spelled ends logs which
+        sealed.in_doubt live shape head log bodies a.gate_at (file_end a) (kept_of a) commits keeps.named next old keeps.images (length block + 1) new run.moments run.now old_seen new_seen block spelled ends logs which

@@ -21,10 +21,10 @@ use Rattle.field_codec.specs.Spelling.{VersionFits, spelling_of_version}
 use Rattle.gate_block.specs.Gates.{IsClosedAt}
 use Rattle.grain_log.specs.Places as places
 use Rattle.grain_log.specs.Places.{spelling_of_versions, places_from}
-use Rattle.promise_spec.specs.Records.{Commit}
+use Rattle.promise_spec.specs.Entries.{Log}
 use Rattle.promise_spec.specs.Logs.{IsLog}
 use Rattle.cell_model.specs.Units.{Member}
-use Rattle.batch_disk.specs.Resting.{log_of, EachImage, write_end, PlacesAreNamed, Voted, StandsIn, NotAmong, IsAtRest, AreOfType, voted_at, voted_from}
+use Rattle.batch_disk.specs.Resting.{EachImage, write_end, PlacesAreNamed, Voted, StandsIn, NotAmong, IsAtRest, AreOfType, voted_at, voted_from}
 use Rattle.batch_disk.specs.Moments.{KeepsLog}
 use Rattle.batch_disk.specs.Writers.{file_end, kept_of, voted_of, CanCount, IsInBounds, FitsSlot, FitsDisk, KeepsDisk, HasSameEnds}
 use Rattle.batch_disk.specs.declared.writer.BatchWriter.{BatchWriter}
@@ -147,62 +147,62 @@ no_run file at size w = run_more_syncs file (Tears at size) 0 1 w w (omega arith
 
 -- ---- in each image
 
-module _ (live : ℕ) (shape : Shape) (head : List ℕ) (batches : List (List Commit)) where
+module _ (live : ℕ) (shape : Shape) (head : List ℕ) (log : Log) (bodies : List (List ℕ)) where
   -- what is kept of one batch stands
-  pub rests_some : (a : BatchWriter) (batch : ℕ) (disk : Disk) → KeepsDisk live shape head batches a disk → EachImage (IsAtRest live shape head batches a.gate_at (file_end a) (voted_of batch a)) disk
+  pub rests_some : (a : BatchWriter) (batch : ℕ) (disk : Disk) → KeepsDisk live shape head log bodies a disk → EachImage (IsAtRest live shape head log bodies a.gate_at (file_end a) (voted_of batch a)) disk
   rests_some a batch disk keeps image left =
       let rests = keeps.images image left in
-      record { header = rests.header; blocks = rests.blocks; whole = rests.whole; long = rests.long; stand = each_voted (StandsIn live shape image) a batch rests.stand }
+      record { header = rests.header; stands = rests.stands; closed = rests.closed; long = rests.long; stand = each_voted (StandsIn live shape image) a batch rests.stand }
 
   -- a writer with these ends that keeps these versions
-  pub keeps_with : (a b : BatchWriter) (voted : List Voted) (disk : Disk) → HasSameEnds a b → kept_of b ≡ voted → PlacesAreNamed live head batches (file_end a)
-      → EachImage (IsAtRest live shape head batches a.gate_at (file_end a) voted) disk → KeepsDisk live shape head batches b disk
+  pub keeps_with : (a b : BatchWriter) (voted : List Voted) (disk : Disk) → HasSameEnds a b → kept_of b ≡ voted → PlacesAreNamed live shape head log (file_end a)
+      → EachImage (IsAtRest live shape head log bodies a.gate_at (file_end a) voted) disk → KeepsDisk live shape head log bodies b disk
   keeps_with a b voted disk same kept named rests = record {
-    named = subst (λ (e : GrainId → ℕ). PlacesAreNamed live head batches e) (ends_same a b same) named;
+    named = subst (λ (e : GrainId → ℕ). PlacesAreNamed live shape head log e) (ends_same a b same) named;
     images = λ image left.
-        let one = subst (λ (n : ℕ). IsAtRest live shape head batches n (file_end a) voted image) (sym same.gate) (rests image left) in
-        let two = subst (λ (vs : List Voted). IsAtRest live shape head batches b.gate_at (file_end a) vs image) (sym kept) one in
-        subst (λ (e : GrainId → ℕ). IsAtRest live shape head batches b.gate_at e (kept_of b) image) (ends_same a b same) two;
+        let one = subst (λ (n : ℕ). IsAtRest live shape head log bodies n (file_end a) voted image) (sym same.gate) (rests image left) in
+        let two = subst (λ (vs : List Voted). IsAtRest live shape head log bodies b.gate_at (file_end a) vs image) (sym kept) one in
+        subst (λ (e : GrainId → ℕ). IsAtRest live shape head log bodies b.gate_at e (kept_of b) image) (ends_same a b same) two;
   }
 
   -- dropping what is kept of others
-  pub keeps_some : (a b : BatchWriter) (batch : ℕ) (disk : Disk) → HasSameEnds a b → kept_of b ≡ voted_of batch a → KeepsDisk live shape head batches a disk → KeepsDisk live shape head batches b disk
+  pub keeps_some : (a b : BatchWriter) (batch : ℕ) (disk : Disk) → HasSameEnds a b → kept_of b ≡ voted_of batch a → KeepsDisk live shape head log bodies a disk → KeepsDisk live shape head log bodies b disk
   keeps_some a b batch disk same kept keeps = keeps_with a b (voted_of batch a) disk same kept keeps.named (rests_some a batch disk keeps)
 
-  module _ (a : BatchWriter) (batch : ℕ) (grain : GrainId) (size : ℕ) (old new : World) (fresh : NotAmong grain (voted_of batch a)) (keeps : KeepsDisk live shape head batches a old.disk)
+  module _ (a : BatchWriter) (batch : ℕ) (grain : GrainId) (size : ℕ) (old new : World) (fresh : NotAmong grain (voted_of batch a)) (keeps : KeepsDisk live shape head log bodies a old.disk)
       (run : RunsOnFile (Grain live grain) (Tears (file_end a grain) size) 1 old new) where
     -- at each moment of a vote
-    pub vote_keeps_log : Passes (KeepsLog live shape head (log_of batches) old) old.past new.past
-    vote_keeps_log = vote_moments live shape head batches a.gate_at (file_end a) (voted_of batch a) grain size keeps.named fresh old (rests_some a batch old.disk keeps) new run.moments
+    pub vote_keeps_log : Passes (KeepsLog live head log old) old.past new.past
+    vote_keeps_log = vote_moments live shape head log bodies a.gate_at (file_end a) (voted_of batch a) grain size keeps.named fresh old (rests_some a batch old.disk keeps) new run.moments
 
     -- after a vote of no, or without memory
-    pub keeps_no : (b : BatchWriter) → HasSameEnds a b → kept_of b ≡ voted_of batch a → KeepsDisk live shape head batches b new.disk
+    pub keeps_no : (b : BatchWriter) → HasSameEnds a b → kept_of b ≡ voted_of batch a → KeepsDisk live shape head log bodies b new.disk
     keeps_no b same kept =
         keeps_with a b (voted_of batch a) new.disk same kept keeps.named
-        (vote_rests live shape head batches a.gate_at (file_end a) (voted_of batch a) grain size keeps.named fresh old (rests_some a batch old.disk keeps) (moment_of new) run.now)
+        (vote_rests live shape head log bodies a.gate_at (file_end a) (voted_of batch a) grain size keeps.named fresh old (rests_some a batch old.disk keeps) (moment_of new) run.now)
 
   -- after a vote of yes
-  pub keeps_yes : (a : BatchWriter) (batch : ℕ) (grain : GrainId) (vs : List Version) (old new : World) → NotAmong grain (voted_of batch a) → KeepsDisk live shape head batches a old.disk
+  pub keeps_yes : (a : BatchWriter) (batch : ℕ) (grain : GrainId) (vs : List Version) (old new : World) → NotAmong grain (voted_of batch a) → KeepsDisk live shape head log bodies a old.disk
       → RunsOnFile (Grain live grain) (Tears (file_end a grain) (length (spelling_of_versions vs))) 1 old new → (b : BatchWriter) → HasSameEnds a b → kept_of b ≡ voted_of batch a ++ voted_from grain (file_end a grain) vs
       → ((image : List ℕ) → MayLeave (new.disk (Grain live grain)) image → places.VersionsStand image (file_end a grain) vs) → AreOfType shape grain vs → AllByRecursion VersionFits vs
-      → file_end a grain + length (spelling_of_versions vs) < 2 ^ 63 → KeepsDisk live shape head batches b new.disk
+      → file_end a grain + length (spelling_of_versions vs) < 2 ^ 63 → KeepsDisk live shape head log bodies b new.disk
   keeps_yes a batch grain vs old new fresh keeps run b same kept stand typed fits low =
       keeps_with a b (voted_of batch a ++ voted_from grain (file_end a grain) vs) new.disk same kept keeps.named
-      (vote_yes live shape head batches a.gate_at (file_end a) (voted_of batch a) grain (length (spelling_of_versions vs)) keeps.named fresh old (rests_some a batch old.disk keeps) new vs run.now stand typed fits low)
+      (vote_yes live shape head log bodies a.gate_at (file_end a) (voted_of batch a) grain (length (spelling_of_versions vs)) keeps.named fresh old (rests_some a batch old.disk keeps) new vs run.now stand typed fits low)
 
   -- ---- what the calls ask of the files holds where the writer keeps the disk
 
   lie_seen : (disk : Disk) (vs : List Voted) → AllByRecursion (StandsIn live shape (λ f. (disk f).seen)) vs → AllByRecursion (LiesIn live disk) vs
   lie_seen disk vs stand = each_leads (StandsIn live shape (λ f. (disk f).seen)) (LiesIn live disk) (λ v st. stands_within live shape (λ f. (disk f).seen) v.unit v.write v.state st) vs stand
 
-  pub keeps_fits : (w : BatchWriter) (disk : Disk) → KeepsDisk live shape head batches w disk → ((f : FileId) → MayLeave (disk f) (disk f).seen) → FitsSlot live w disk
+  pub keeps_fits : (w : BatchWriter) (disk : Disk) → KeepsDisk live shape head log bodies w disk → ((f : FileId) → MayLeave (disk f) (disk f).seen) → FitsSlot live w disk
   keeps_fits w disk keeps seen =
       let rests = keeps.images (λ f. (disk f).seen) seen in
-      record { long = rests.long; kept = lie_seen disk (kept_of w) rests.stand; closed = λ sure. (rests.blocks.blocks.within, rests.blocks.closed) }
+      record { long = rests.long; kept = lie_seen disk (kept_of w) rests.stand; closed = λ sure. (rests.stands.stand.within, rests.closed) }
 
   -- each image's log
-  pub keeps_log : (w : BatchWriter) (disk : Disk) → KeepsDisk live shape head batches w disk → EachImage (λ image. IsLog live shape image (log_of batches)) disk
-  keeps_log w disk keeps image left = rests_log live shape head batches w.gate_at (file_end w) (kept_of w) image keeps.named (keeps.images image left)
+  pub keeps_log : (w : BatchWriter) (disk : Disk) → KeepsDisk live shape head log bodies w disk → EachImage (λ image. IsLog live image log) disk
+  keeps_log w disk keeps image left = rests_log live shape head log bodies w.gate_at (file_end w) (kept_of w) image keeps.named (keeps.images image left)
 
 -- ---- a writer that has gone to a batch, and has room
 

@@ -1,11 +1,11 @@
 -- What each image keeps while a grain's versions are written at its file's end.
-use Rattle.std.proofs.Common.{◌≡◌, ◌≢◌, inl, inr, ℕ, ◌+◌, ◌<◌, ◌≤◌, ◌^◌, List, [], ◌∷◌, ◌++◌, length, take, drop, map, refl, sym, ◌∙◌, ap, subst, arith, length-append}
+use Rattle.std.proofs.Common.{◌≡◌, ◌≢◌, inl, inr, ℕ, ◌+◌, ◌<◌, ◌≤◌, ◌^◌, List, [], ◌∷◌, ◌++◌, length, take, drop, refl, sym, ◌∙◌, ap, subst, arith, length-append, slice_index}
 use Rattle.std.specs.List.{AllByRecursion}
 use Rattle.base_types.specs.declared.calls.GrainId.{GrainId}
 use Rattle.base_types.specs.declared.shapes.Shape.{Shape}
 use Rattle.base_types.specs.declared.stores.Version.{Version}
 use Rattle.host_trait.specs.declared.channels.FileId.{FileId}
-use Rattle.host_trait.specs.declared.channels.FileId.TheVariants.{Program, Manager, Grain}
+use Rattle.host_trait.specs.declared.channels.FileId.TheVariants.{Program as ProgramFile, Manager, Grain}
 use Rattle.host_trait.specs.Disk.{MayLeave, Tears}
 use Rattle.host_trait.specs.World.{World, Moment, Image, Passes, moment_of}
 use Rattle.host_trait.specs.Runs.{ChangesFile}
@@ -13,21 +13,22 @@ use Rattle.host_trait.proofs.Names.{cases_file}
 use Rattle.host_trait.proofs.Moments.{weaker}
 use Rattle.host_trait.proofs.Runs.{each_image}
 use Rattle.field_codec.specs.Spelling.{spelling_of_version, VersionFits}
-use Rattle.gate_block.specs.Log.{LogsUpTo}
+use Rattle.gate_block.specs.Log.{HasBlocks}
+use Rattle.log_reading.specs.Blocks.{header_damage}
 use Rattle.grain_log.specs.Places as places
 use Rattle.grain_log.specs.Places.{spelling_of_versions}
 use Rattle.commit_log.specs.declared.records.Written.{Written}
 use Rattle.promise_spec.specs.Records.{Commit}
 use Rattle.promise_spec.specs.Crashes.{IsAside}
-use Rattle.promise_spec.specs.Logs.{body_of}
-use Rattle.batch_disk.specs.Resting.{log_of, EachImage, IsBelow, AreBelow, PlacesAreNamed, Voted, StandsIn, NotAmong, IsAtRest, voted_from, AreOfType}
+use Rattle.promise_spec.specs.Entries.{Log, records_of}
+use Rattle.batch_disk.specs.Resting.{EachImage, IsBelow, AreBelow, PlacesAreNamed, Voted, StandsIn, NotAmong, IsAtRest, voted_from, AreOfType}
 use Rattle.batch_disk.specs.Moments.{KeepsLog}
 use Rattle.batch_disk.proofs.Lists.{each_leads, each_both, both_parts}
-use Rattle.batch_disk.proofs.Keeping.{IsSameAt, stands_same, kept_same, below_same, rests_log}
+use Rattle.batch_disk.proofs.Keeping.{IsSameAt, stands_same, below_same, stands_up_same, rests_log}
 
 -- the grain of a grain file, another for any other file
 abbrev grain_in : GrainId → FileId → GrainId
-grain_in other (Program slot) = other
+grain_in other (ProgramFile slot) = other
 grain_in other (Manager slot) = other
 grain_in other (Grain slot grain) = grain
 
@@ -60,16 +61,17 @@ module _ (live : ℕ) (shape : Shape) (ends : GrainId → ℕ) (grain : GrainId)
   ]
 
   -- an image in which only the versions' bytes are torn keeps all that counts
-  pub torn_rests : (head : List ℕ) (batches : List (List Commit)) (gate : ℕ) (voted : List Voted) → AreBelow ends (log_of batches) → NotAmong grain voted
-      → IsAtRest live shape head batches gate ends voted was → IsAtRest live shape head batches gate ends voted image
-  torn_rests head batches gate voted below fresh is =
-      let log : image (Manager live) ≡ was (Manager live) = others (Manager live) (not_manager live grain) in
+  pub torn_rests : (head : List ℕ) (log : Log) (bodies : List (List ℕ)) (gate : ℕ) (voted : List Voted) → AreBelow ends (records_of log) → NotAmong grain voted
+      → IsAtRest live shape head log bodies gate ends voted was → IsAtRest live shape head log bodies gate ends voted image
+  torn_rests head log bodies gate voted below fresh is =
+      let manager : image (Manager live) ≡ was (Manager live) = others (Manager live) (not_manager live grain) in
       record {
-        header = ap (take 15) log ∙ is.header;
-        blocks = subst (λ (l : List ℕ). LogsUpTo (map body_of batches) gate l) (sym log) is.blocks;
-        whole = kept_same live shape was image (log_of batches)
+        header = ap (take 15) manager ∙ is.header;
+        stands = stands_up_same live shape was image log bodies gate is.stands (ap header_damage manager ∙ is.stands.header) (others (ProgramFile live) (λ e. absurd cc))
+            (subst (HasBlocks bodies gate) (sym manager) is.stands.stand)
             (each_leads (λ (c : Commit). AllByRecursion (IsBelow ends) c.logged.writes) (λ (c : Commit). AllByRecursion (IsSameAt live shape was image) c.logged.writes)
-            (λ c each. each_leads (IsBelow ends) (IsSameAt live shape was image) same_below c.logged.writes each) (log_of batches) below) is.whole;
+            (λ c each. each_leads (IsBelow ends) (IsSameAt live shape was image) same_below c.logged.writes each) (records_of log) below);
+        closed = subst (λ (l : List ℕ). slice_index l gate ≢ 1) (sym manager) is.closed;
         long = long_still is.long;
         stand = each_both (λ (n : Voted). n.write.grain ≢ grain) (StandsIn live shape was) (StandsIn live shape image) same_apart voted fresh is.stand;
       }
@@ -93,22 +95,22 @@ stand_named live shape image grain at (v ∷ vs) stand typed fits low =
 -- ---- a vote
 
 aside_grain : (live : ℕ) (grain : GrainId) (f : FileId) → IsAside live f → f ≢ Grain live grain
-aside_grain live grain (Program slot) aside e = absurd cc
+aside_grain live grain (ProgramFile slot) aside e = absurd cc
 aside_grain live grain (Manager slot) aside e = absurd cc
 aside_grain live grain (Grain slot g) aside e = aside (ap (slot_in slot) e) where
   slot_in : ℕ → FileId → ℕ
-  slot_in other (Program s) = other
+  slot_in other (ProgramFile s) = other
   slot_in other (Manager s) = other
   slot_in other (Grain s g) = s
 
-module _ (live : ℕ) (shape : Shape) (head : List ℕ) (batches : List (List Commit)) (gate : ℕ) (ends : GrainId → ℕ) (voted : List Voted) (grain : GrainId) (size : ℕ)
-    (named : PlacesAreNamed live head batches ends) (fresh : NotAmong grain voted) (old : World) (is : EachImage (IsAtRest live shape head batches gate ends voted) old.disk) where
-  pub vote_rests : (m : Moment) → ChangesFile (Grain live grain) (Tears (ends grain) size) old m → EachImage (IsAtRest live shape head batches gate ends voted) m.disk
+module _ (live : ℕ) (shape : Shape) (head : List ℕ) (log : Log) (bodies : List (List ℕ)) (gate : ℕ) (ends : GrainId → ℕ) (voted : List Voted) (grain : GrainId) (size : ℕ)
+    (named : PlacesAreNamed live shape head log ends) (fresh : NotAmong grain voted) (old : World) (is : EachImage (IsAtRest live shape head log bodies gate ends voted) old.disk) where
+  pub vote_rests : (m : Moment) → ChangesFile (Grain live grain) (Tears (ends grain) size) old m → EachImage (IsAtRest live shape head log bodies gate ends voted) m.disk
   vote_rests m changes image left =
-      each_image (Grain live grain) (Tears (ends grain) size) (IsAtRest live shape head batches gate ends voted) (IsAtRest live shape head batches gate ends voted) old m changes
-      (λ was now at others torn. torn_rests live shape ends grain size was now others torn head batches gate voted named.below fresh at) is image left
+      each_image (Grain live grain) (Tears (ends grain) size) (IsAtRest live shape head log bodies gate ends voted) (IsAtRest live shape head log bodies gate ends voted) old m changes
+      (λ was now at others torn. torn_rests live shape ends grain size was now others torn head log bodies gate voted named.below fresh at) is image left
 
-  pub vote_still : (m : Moment) → ChangesFile (Grain live grain) (Tears (ends grain) size) old m → KeepsLog live shape head (log_of batches) old m
+  pub vote_still : (m : Moment) → ChangesFile (Grain live grain) (Tears (ends grain) size) old m → KeepsLog live head log old m
   vote_still m changes =
       let each = vote_rests m changes in
       record {
@@ -117,23 +119,23 @@ module _ (live : ℕ) (shape : Shape) (head : List ℕ) (batches : List (List Co
           aside = λ f aside. changes.others f (aside_grain live grain f aside);
           header = λ image left. (each image left).header;
         };
-        logs = λ image left. rests_log live shape head batches gate ends voted image named (each image left);
+        logs = λ image left. rests_log live shape head log bodies gate ends voted image named (each image left);
       }
 
   -- CASE 1: at each moment no image's log changes
-  pub vote_moments : (new : World) → Passes (ChangesFile (Grain live grain) (Tears (ends grain) size) old) old.past new.past → Passes (KeepsLog live shape head (log_of batches) old) old.past new.past
-  vote_moments new run = weaker (ChangesFile (Grain live grain) (Tears (ends grain) size) old) (KeepsLog live shape head (log_of batches) old) vote_still run
+  pub vote_moments : (new : World) → Passes (ChangesFile (Grain live grain) (Tears (ends grain) size) old) old.past new.past → Passes (KeepsLog live head log old) old.past new.past
+  vote_moments new run = weaker (ChangesFile (Grain live grain) (Tears (ends grain) size) old) (KeepsLog live head log old) vote_still run
 
   -- and after Ok the versions stand too
   pub vote_yes : (new : World) (versions : List Version) → ChangesFile (Grain live grain) (Tears (ends grain) size) old (moment_of new)
       → ((image : List ℕ) → MayLeave (new.disk (Grain live grain)) image → places.VersionsStand image (ends grain) versions) → AreOfType shape grain versions → AllByRecursion VersionFits versions
-      → ends grain + length (spelling_of_versions versions) < 2 ^ 63 → EachImage (IsAtRest live shape head batches gate ends (voted ++ voted_from grain (ends grain) versions)) new.disk
+      → ends grain + length (spelling_of_versions versions) < 2 ^ 63 → EachImage (IsAtRest live shape head log bodies gate ends (voted ++ voted_from grain (ends grain) versions)) new.disk
   vote_yes new versions changes stand typed fits low image left =
       let rests = vote_rests (moment_of new) changes image left in
       record {
         header = rests.header;
-        blocks = rests.blocks;
-        whole = rests.whole;
+        stands = rests.stands;
+        closed = rests.closed;
         long = rests.long;
         stand = both_parts (StandsIn live shape image) voted (voted_from grain (ends grain) versions) rests.stand
             (stand_named live shape image grain (ends grain) versions (stand (image (Grain live grain)) (left (Grain live grain))) typed fits low);

@@ -1,10 +1,10 @@
 -- What is at each moment of a step that writes a batch.
-use Rattle.std.specs.Prelude.{◌≡◌, ◌⊎◌, ℕ, List, ◌++◌, take}
-use Rattle.base_types.specs.declared.shapes.Shape.{Shape}
+use Rattle.std.specs.Prelude.{◌≡◌, ◌⊎◌, ℕ, List, take}
 use Rattle.host_trait.specs.declared.channels.FileId.{FileId}
 use Rattle.host_trait.specs.World.{World, Moment}
 use Rattle.host_trait.specs.declared.channels.FileId.TheVariants.{Manager}
 use Rattle.promise_spec.specs.Records.{Commit}
+use Rattle.promise_spec.specs.Entries.{Log, grown}
 use Rattle.promise_spec.specs.Logs.{IsLog}
 use Rattle.promise_spec.specs.Crashes.{IsAside}
 use Rattle.batch_disk.specs.Resting.{EachImage}
@@ -16,11 +16,11 @@ pub record LeavesRest (live : ℕ) (head : List ℕ) (old : World) (m : Moment) 
   pub header : EachImage (λ image. take 15 (image (Manager live)) ≡ head) m.disk
 
 -- and each image's log is this one
-pub record KeepsLog (live : ℕ) (shape : Shape) (head : List ℕ) (log : List Commit) (old : World) (m : Moment) : Type 0 where
+pub record KeepsLog (live : ℕ) (head : List ℕ) (log : Log) (old : World) (m : Moment) : Type 0 where
   pub rest : LeavesRest live head old m
-  pub logs : EachImage (λ image. IsLog live shape image log) m.disk
+  pub logs : EachImage (λ image. IsLog live image log) m.disk
 
 -- or each image's log is this one, or it and the whole batch
-pub record IsSeam (live : ℕ) (shape : Shape) (head : List ℕ) (log batch : List Commit) (old : World) (m : Moment) : Type 0 where
+pub record IsSeam (live : ℕ) (head : List ℕ) (log : Log) (batch : List Commit) (old : World) (m : Moment) : Type 0 where
   pub rest : LeavesRest live head old m
-  pub logs : EachImage (λ image. IsLog live shape image log ⊎ IsLog live shape image (log ++ batch)) m.disk
+  pub logs : EachImage (λ image. IsLog live image log ⊎ IsLog live image (grown log batch)) m.disk

@@ -1,5 +1,5 @@
 -- What each image has between two steps that write a batch, where this slot is live.
-use Rattle.std.specs.Prelude.{◌≡◌, ◌≢◌, ℕ, ◌+◌, ◌≤◌, max, if◌then◌else◌, List, [], ◌∷◌, length, map, take, drop, slice_index, slice_get, Some, None}
+use Rattle.std.specs.Prelude.{◌≡◌, ◌≢◌, ℕ, ◌+◌, ◌≤◌, max, if◌then◌else◌, List, [], ◌∷◌, length, take, drop, slice_index, slice_get, Some, None}
 use Rattle.std.specs.List.{flat_map, AllByRecursion}
 use Rattle.base_types.specs.declared.calls.GrainId.{GrainId}
 use Rattle.base_types.specs.declared.calls.UnitNo.{UnitNo}
@@ -10,17 +10,17 @@ use Rattle.base_types.specs.declared.stores.Version.{Version}
 use Rattle.host_trait.specs.declared.channels.FileId.TheVariants.{Manager, Grain}
 use Rattle.host_trait.specs.Files.{same_grain}
 use Rattle.host_trait.specs.World.{Disk, Image, IsImage}
-use Rattle.gate_block.specs.Log.{LogsUpTo}
 use Rattle.grain_log.specs.Places.{places_from}
 use Rattle.grain_log.specs.Reads.{fields_of}
 use Rattle.commit_log.specs.declared.records.Written.{Written}
+use Rattle.silo_spec.specs.Silos.{IsSilo}
+use Rattle.silo_spec.specs.Slots.{IsLive}
 use Rattle.log_reading.specs.Blocks.{header_damage}
+use Rattle.promise_spec.specs.Programs.{shape_in}
 use Rattle.promise_spec.specs.Records.{Commit}
-use Rattle.promise_spec.specs.Logs.{magic, WriteStands, IsKept, body_of}
-
--- the records of these batches, one batch behind the other
-abbrev pub log_of : List (List Commit) → List Commit
-log_of batches = flat_map (λ batch. batch) batches
+use Rattle.promise_spec.specs.Entries.{Log, records_of, standing_of}
+use Rattle.promise_spec.specs.Versions.{WriteStands}
+use Rattle.promise_spec.specs.Logs.{magic, StandsUpTo}
 
 -- this holds of each image that a crash may leave
 abbrev pub EachImage : (Image → Type 0) → Disk → Type 0
@@ -98,19 +98,19 @@ AreOfType shape grain versions = AllByRecursion (λ v. fields_of (slice_get shap
 
 -- ---- between two steps
 
--- What no image decides: the slot is one that may be live, the header is a silo's, a batch has at most 64 records, and all that
--- these batches name ends at most at these ends.
-pub record PlacesAreNamed (live : ℕ) (head : List ℕ) (batches : List (List Commit)) (ends : GrainId → ℕ) : Type 0 where
-  pub slot : live ≡ 0
+-- What no image decides: the slot is live where its manager file is a silo's, the header is a silo's, the shape is that of the
+-- program in force, and all that the log's records name ends at most at these ends; a base names no places.
+pub record PlacesAreNamed (live : ℕ) (shape : Shape) (head : List ℕ) (log : Log) (ends : GrainId → ℕ) : Type 0 where
+  pub is_live : (image : Image) → IsSilo magic (image (Manager live)) → IsLive magic live image
   pub silo : BeginsSilo head
-  pub sizes : AllByRecursion (λ batch. length batch ≤ 64) batches
-  pub below : AreBelow ends (log_of batches)
+  pub shape_is : shape ≡ shape_in (standing_of log).program
+  pub below : AreBelow ends (records_of log)
 
--- What each image has: this header; the log of these batches up to this closed gate, each record whole; grain files that go
--- on to these ends at least; and the versions that the votes of the open batch wrote.
-pub record IsAtRest (live : ℕ) (shape : Shape) (head : List ℕ) (batches : List (List Commit)) (gate : ℕ) (ends : GrainId → ℕ) (voted : List Voted) (image : Image) : Type 0 where
+-- What each image has: this header; the log, which stands up to this closed gate; grain files that go on to these ends at least;
+-- and the versions that the votes of the open batch wrote.
+pub record IsAtRest (live : ℕ) (shape : Shape) (head : List ℕ) (log : Log) (bodies : List (List ℕ)) (gate : ℕ) (ends : GrainId → ℕ) (voted : List Voted) (image : Image) : Type 0 where
   pub header : take 15 (image (Manager live)) ≡ head
-  pub blocks : LogsUpTo (map body_of batches) gate (image (Manager live))
-  pub whole : AllByRecursion (IsKept live shape image) (log_of batches)
+  pub stands : StandsUpTo live image log bodies gate
+  pub closed : slice_index (image (Manager live)) gate ≢ 1
   pub long : (g : GrainId) → ends g ≤ length (image (Grain live g))
   pub stand : AllByRecursion (StandsIn live shape image) voted

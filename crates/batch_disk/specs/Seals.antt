@@ -1,20 +1,21 @@
 -- What stands after a batch was to be sealed, by the answer.
-use Rattle.std.specs.Prelude.{◌≡◌, ◌⊎◌, ◌+◌, ◌==◌, nat_lt, ℕ, Bool, true, false, ◌&&◌, ◌||◌, not, List, [], ◌∷◌, ◌++◌, length, map, slice_index}
+use Rattle.std.specs.Prelude.{◌≡◌, ◌⊎◌, ◌+◌, ◌==◌, nat_lt, ℕ, Bool, true, false, ◌&&◌, ◌||◌, not, List, [], ◌∷◌, ◌++◌, length, slice_index}
 use Rattle.base_types.specs.declared.calls.GrainId.{GrainId}
 use Rattle.base_types.specs.declared.shapes.Shape.{Shape}
 use Rattle.host_trait.specs.Disk.{FileState}
 use Rattle.host_trait.specs.World.{World, Image, IsImage, Passes, moment_of}
-use Rattle.gate_block.specs.Log.{HasBlocks}
 use Rattle.commit_log.specs.declared.records.CommitRecord.{CommitRecord}
 use Rattle.commit_log.specs.declared.gate.Sealing.{Sealing}
 use Rattle.commit_log.specs.declared.gate.Sealing.TheVariants.{Sealed, NotSealed, InDoubt}
 use Rattle.core_model.specs.declared.effects.Effect.{Effect}
 use Rattle.host_trait.specs.declared.channels.FileId.TheVariants.{Manager}
 use Rattle.promise_spec.specs.Records.{Commit, AreRecordsOf}
-use Rattle.promise_spec.specs.Logs.{IsLog, body_of}
+use Rattle.promise_spec.specs.Entries.{Log, grown}
+use Rattle.promise_spec.specs.Blocks.{Records, body_of}
+use Rattle.promise_spec.specs.Logs.{StandsUpTo, IsLog}
 use Rattle.promise_spec.specs.Exits.{HasBlock, DifferAt}
 use Rattle.std.specs.List.{flat_map}
-use Rattle.batch_disk.specs.Resting.{log_of, EachImage, SomeImage, raised_ends}
+use Rattle.batch_disk.specs.Resting.{EachImage, SomeImage, raised_ends}
 use Rattle.batch_disk.specs.Moments.{LeavesRest, KeepsLog, IsSeam}
 use Rattle.batch_disk.specs.Writers.{file_end, kept_of, HasSameEnds, KeepsDisk}
 use Rattle.batch_disk.specs.Records.{commits_by}
@@ -31,36 +32,36 @@ abbrev pub may_open : ℕ → FileState → Bool
 may_open gate file = not ((nat_lt gate (length file.base) && is_untouched file.ranges gate) && not (slice_index file.base gate == 1))
 
 -- at each moment and now no image has the batch: the gate was never written
-pub record NoneHas (live : ℕ) (shape : Shape) (head : List ℕ) (log : List Commit) (old new : World) : Type 0 where
-  pub moments : Passes (KeepsLog live shape head log old) old.past new.past
-  pub logs : EachImage (λ image. IsLog live shape image log) new.disk
+pub record NoneHas (live : ℕ) (head : List ℕ) (log : Log) (old new : World) : Type 0 where
+  pub moments : Passes (KeepsLog live head log old) old.past new.past
+  pub logs : EachImage (λ image. IsLog live image log) new.disk
 
 -- In doubt. Each image's log is as it was, or has the batch whole; the batch's whole block stands behind the gate in each, and
 -- they differ at most in that gate. The gate was never written, and no crash may leave it open, or some image has the batch.
-pub record IsSealInDoubt (live : ℕ) (shape : Shape) (head : List ℕ) (batches : List (List Commit)) (batch : List Commit) (gate : ℕ) (old new : World) : Type 0 where
+pub record IsSealInDoubt (live : ℕ) (head : List ℕ) (log : Log) (bodies : List (List ℕ)) (batch : List Commit) (gate : ℕ) (old new : World) : Type 0 where
   pub rest : LeavesRest live head old (moment_of new)
-  pub logs : EachImage (λ image. IsLog live shape image (log_of batches) ⊎ IsLog live shape image (log_of batches ++ batch)) new.disk
-  pub front : EachImage (λ image. HasBlocks (map body_of batches) gate (image (Manager live))) new.disk
+  pub logs : EachImage (λ image. IsLog live image log ⊎ IsLog live image (grown log batch)) new.disk
+  pub front : EachImage (λ image. StandsUpTo live image log bodies gate) new.disk
   pub block : EachImage (HasBlock live gate batch) new.disk
   pub differ : (one other : Image) → IsImage new.disk one → IsImage new.disk other → DifferAt gate (one (Manager live)) (other (Manager live))
-  pub which : ((may_open gate (new.disk (Manager live)) ≡ false) × NoneHas live shape head (log_of batches) old new)
-      ⊎ ((may_open gate (new.disk (Manager live)) ≡ true) × SomeImage (λ image. IsLog live shape image (log_of batches ++ batch)) new.disk)
+  pub which : ((may_open gate (new.disk (Manager live)) ≡ false) × NoneHas live head log old new)
+      ⊎ ((may_open gate (new.disk (Manager live)) ≡ true) × SomeImage (λ image. IsLog live image (grown log batch)) new.disk)
 
 -- Sealed: each image has the batch. Not sealed: none has it, at no moment. In doubt: as above.
-abbrev pub StandsAfter : ℕ → Shape → List ℕ → List (List Commit) → List Commit → Sealing → BatchWriter → BatchWriter → World → World → Type 0
-StandsAfter live shape head batches batch (Sealed next) before after old new = KeepsDisk live shape head (batches ++ batch ∷ []) after new.disk
-StandsAfter live shape head batches batch NotSealed before after old new =
-    Passes (KeepsLog live shape head (log_of batches) old) old.past new.past × KeepsDisk live shape head batches after new.disk
-StandsAfter live shape head batches batch InDoubt before after old new = IsSealInDoubt live shape head batches batch before.gate_at old new
+abbrev pub StandsAfter : ℕ → Shape → List ℕ → Log → List (List ℕ) → List Commit → Sealing → BatchWriter → BatchWriter → World → World → Type 0
+StandsAfter live shape head log bodies batch (Sealed next) before after old new = KeepsDisk live shape head (grown log batch) (bodies ++ body_of (Records batch) ∷ []) after new.disk
+StandsAfter live shape head log bodies batch NotSealed before after old new =
+    Passes (KeepsLog live head log old) old.past new.past × KeepsDisk live shape head log bodies after new.disk
+StandsAfter live shape head log bodies batch InDoubt before after old new = IsSealInDoubt live head log bodies batch before.gate_at old new
 
 -- What sealing these units does, of whom these records were made: there are their records, which are those, and at each moment
 -- each image has the log that it had, or it with all of them; and after it, by the answer.
-pub record SealsAs (live : ℕ) (shape : Shape) (head : List ℕ) (batches : List (List Commit)) (effects : List Effect) (made : List CommitRecord) (answer : Sealing) (before after : BatchWriter) (old new : World) : Type 0 where
+pub record SealsAs (live : ℕ) (shape : Shape) (head : List ℕ) (log : Log) (bodies : List (List ℕ)) (effects : List Effect) (made : List CommitRecord) (answer : Sealing) (before after : BatchWriter) (old new : World) : Type 0 where
   pub batch : List Commit
   pub made_of : batch ≡ commits_by effects made
   pub records : AreRecordsOf effects batch
-  pub moments : Passes (IsSeam live shape head (log_of batches) batch old) old.past new.past
-  pub stands : StandsAfter live shape head batches batch answer before after old new
+  pub moments : Passes (IsSeam live head log batch old) old.past new.past
+  pub stands : StandsAfter live shape head log bodies batch answer before after old new
 
 -- What becomes of the writer, which stays in its slot. Sealed: the next gate is the answer's, the records' places count, and
 -- nothing is kept. Not sealed: nothing is kept. In doubt: all is as it was, but for the doubt.

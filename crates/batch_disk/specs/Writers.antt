@@ -7,7 +7,7 @@ use Rattle.base_types.specs.declared.shapes.Shape.{Shape}
 use Rattle.host_trait.specs.World.{Disk}
 use Rattle.gate_block.specs.Gates.{IsClosedAt}
 use Rattle.host_trait.specs.declared.channels.FileId.TheVariants.{Manager, Grain}
-use Rattle.promise_spec.specs.Records.{Commit}
+use Rattle.promise_spec.specs.Entries.{Log}
 use Rattle.batch_disk.specs.Resting.{EachImage, write_end, Voted, PlacesAreNamed, IsAtRest}
 use Rattle.batch_disk.specs.declared.writer.BatchWriter.{BatchWriter}
 use Rattle.batch_disk.specs.declared.writer.KeptVersion.{KeptVersion}
@@ -50,11 +50,11 @@ pub record FitsSlot (live : ℕ) (writer : BatchWriter) (disk : Disk) : Type 0 w
 abbrev pub FitsDisk : BatchWriter → Disk → Type 0
 FitsDisk writer disk = FitsSlot writer.slot writer disk
 
--- What the writer keeps of the folder, where this slot is live: its gate and its ends are those of this log, in each image, where what the votes wrote
--- stands.
-pub record KeepsDisk (live : ℕ) (shape : Shape) (head : List ℕ) (batches : List (List Commit)) (writer : BatchWriter) (disk : Disk) : Type 0 where
-  pub named : PlacesAreNamed live head batches (file_end writer)
-  pub images : EachImage (IsAtRest live shape head batches writer.gate_at (file_end writer) (kept_of writer)) disk
+-- What the writer keeps of the folder, where this slot is live: its gate and its ends are those of this log, whose blocks have these
+-- bodies, in each image, where what the votes wrote stands.
+pub record KeepsDisk (live : ℕ) (shape : Shape) (head : List ℕ) (log : Log) (bodies : List (List ℕ)) (writer : BatchWriter) (disk : Disk) : Type 0 where
+  pub named : PlacesAreNamed live shape head log (file_end writer)
+  pub images : EachImage (IsAtRest live shape head log bodies writer.gate_at (file_end writer) (kept_of writer)) disk
 
 -- slot, gate, ends and doubt are as they were
 pub record HasSameEnds (old new : BatchWriter) : Type 0 where

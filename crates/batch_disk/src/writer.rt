@@ -13,8 +13,8 @@ ghost use Rattle.host_trait.specs.declared.channels.FileId.TheVariants.{Grain, M
 ghost use Rattle.grain_log.specs.Places.{spelling_of_versions};
 ghost use Rattle.commit_log.specs.Sealing.{SealHasCause};
 ghost use Rattle.core_model.specs.declared.effects.Effect.{Effect as AnEffect};
-ghost use Rattle.promise_spec.specs.Records.{Commit};
-ghost use Rattle.batch_disk.specs.Resting.{log_of, write_end, raised_ends, NotAmong, AreOfType, voted_at, voted_from};
+ghost use Rattle.promise_spec.specs.Entries.{Log};
+ghost use Rattle.batch_disk.specs.Resting.{write_end, raised_ends, NotAmong, AreOfType, voted_at, voted_from};
 ghost use Rattle.batch_disk.specs.Moments.{KeepsLog};
 ghost use Rattle.batch_disk.specs.Writers.{file_end, voted_by, kept_of, voted_of, IsInBounds, FitsDisk, KeepsDisk, HasSameEnds};
 ghost use Rattle.batch_disk.specs.Records.{AreRecordsFor, IsSealable, MayBeLogged, IsAsWritten};
@@ -191,14 +191,14 @@ impl BatchWriter {
             → RunsOnFile (Grain self.old.slot grain) (Tears (file_end self.old grain) (length (spelling_of_versions versions.now))) 1 (H.world host.old) (H.world host.new) }
 
         // At each moment each image has the log that it had.
-        ensures still { IsTrue H.tells → (shape : Shape) (head : List ℕ) (batches : List (List Commit)) → NotAmong grain (voted_of batch self.old)
-            → KeepsDisk self.old.slot shape head batches self.old (H.world host.old).disk
-            → Passes (KeepsLog self.old.slot shape head (log_of batches) (H.world host.old)) (H.world host.old).past (H.world host.new).past }
+        ensures still { IsTrue H.tells → (shape : Shape) (head : List ℕ) (log : Log) (bodies : List (List ℕ)) → NotAmong grain (voted_of batch self.old)
+            → KeepsDisk self.old.slot shape head log bodies self.old (H.world host.old).disk
+            → Passes (KeepsLog self.old.slot head log (H.world host.old)) (H.world host.old).past (H.world host.new).past }
 
         // After every answer the log is where the writer keeps it, and what the votes wrote stands.
-        ensures keeps { IsTrue H.tells → (shape : Shape) (head : List ℕ) (batches : List (List Commit)) → NotAmong grain (voted_of batch self.old)
-            → AreOfType shape grain versions.now → KeepsDisk self.old.slot shape head batches self.old (H.world host.old).disk
-            → KeepsDisk self.old.slot shape head batches self.new (H.world host.new).disk }
+        ensures keeps { IsTrue H.tells → (shape : Shape) (head : List ℕ) (log : Log) (bodies : List (List ℕ)) → NotAmong grain (voted_of batch self.old)
+            → AreOfType shape grain versions.now → KeepsDisk self.old.slot shape head log bodies self.old (H.world host.old).disk
+            → KeepsDisk self.old.slot shape head log bodies self.new (H.world host.new).disk }
 
         // A vote of yes: they are on disk, and are kept. No other vote is kept more, and what is kept is this batch's.
         ensures there { IfOk result (λ yes. IsTrue yes → IsTrue H.tells → (H.world host.new).disk (Grain self.old.slot grain)
@@ -306,11 +306,11 @@ impl BatchWriter {
         ensures twice { IsTrue H.tells → (next : ℕ) → result ≡ Sealing.Sealed next → (H.world host.new).syncs ≡ (H.world host.old).syncs + 2 }
 
         // The seam: at each moment each image has the log that it had, or it with the records of these units, all of them whole.
-        ensures seals { IsTrue H.tells → (shape : Shape) (head : List ℕ) (batches : List (List Commit)) (batch : ℕ) (effects : List AnEffect)
+        ensures seals { IsTrue H.tells → (shape : Shape) (head : List ℕ) (log : Log) (bodies : List (List ℕ)) (batch : ℕ) (effects : List AnEffect)
             → AreRecordsFor (voted_of batch self.old) effects work.records
             → AllByRecursion (MayBeLogged shape) effects → AllByRecursion (IsAsWritten (voted_of batch self.old)) effects
-            → KeepsDisk self.old.slot shape head batches self.old (H.world host.old).disk
-            → SealsAs self.old.slot shape head batches effects work.records result self.old self.new (H.world host.old) (H.world host.new) }
+            → KeepsDisk self.old.slot shape head log bodies self.old (H.world host.old).disk
+            → SealsAs self.old.slot shape head log bodies effects work.records result self.old self.new (H.world host.old) (H.world host.new) }
         ensures after { WriterAfter result work.records self.old self.new }
         ensures slot { self.new.slot ≡ self.old.slot }
 

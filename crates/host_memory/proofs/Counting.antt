@@ -29,7 +29,7 @@ pub due_more : {X : Type 0} (p : X → Bool) (old : List X) (i : ℕ) (e : X) (a
 due_more p old i e a b due low held is first second =
     is ∙ ap (λ (x : Bool). x || b) first ∙ ap (λ (x : Bool). list_any p (take i old) || x) (second ∙ ap p held) ∙ sym (list_any_more p old i e low)
 
--- no bytes were moved into a slice that has room: none are left
-pub pull_end : (n taken : ℕ) (into copied items : List ℕ) → n ≡ min (length into) (length (drop taken items)) → copied ≡ take n (drop taken items) → n ≡ 0 → 0 < length (copied ++ drop n into) → length items ≤ taken
-pull_end n taken into copied items least is none some =
-    omega (arith, least, none, some, length-append copied (drop n into), ap length is, length-take n (drop taken items), length-drop n into, length-drop taken items)
+-- no bytes were moved into a slice that has room, though some may be: none are left
+pub pull_end : (n taken most : ℕ) (into copied items : List ℕ) → 1 ≤ most → n ≡ min (min (length into) (length (drop taken items))) most → copied ≡ take n (drop taken items) → n ≡ 0 → 0 < length (copied ++ drop n into) → length items ≤ taken
+pull_end n taken most into copied items moves least is none some =
+    omega (arith, moves, least, none, some, length-append copied (drop n into), ap length is, length-take n (drop taken items), length-drop n into, length-drop taken items)

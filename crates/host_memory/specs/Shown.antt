@@ -35,6 +35,10 @@ left_in h = h.plan.left
 abbrev pub planned_in : MemoryHost → List Planned
 planned_in h = h.plan.faults.items
 
+-- how many bytes a pull moves at most
+abbrev pub most_in : MemoryHost → ℕ
+most_in h = h.most
+
 -- which files are ready
 abbrev pub ready_in : MemoryHost → FileId → Bool
 ready_in h = is_kept h.files.items

@@ -23,6 +23,8 @@ pub struct MemoryHost {
     alloc: Global,
     input: Vec<u8>,
     taken: usize,
+    /// How many bytes a pull moves at most.
+    most: usize,
     output: Vec<u8>,
     files: Vec<Stored>,
     events: Vec<Noted>,
@@ -31,6 +33,7 @@ pub struct MemoryHost {
     input_faults: u64,
     output_faults: u64,
     ghost in_range: { taken ≤ length input.items },
+    ghost moves: { 1 ≤ most },
     ghost shown: { output.items ≡ output_of events.items },
     ghost seen: { AreSeen files.items events.items },
     ghost clock: { AreBy (2 * plan.calls + 1) events.items },
@@ -52,7 +55,7 @@ fn first_files(alloc: Global) -> Result<Vec<Stored>, AllocError>
 }
 
 impl MemoryHost {
-    ghost use Rattle.host_memory.specs.Shown.{world_in, counts_in, starved_in, calls_in, left_in, planned_in, is_written, image_in, IsCrashOf, SameWorld, SamePlan, SameButFiles, PutsFile, IsFresh};
+    ghost use Rattle.host_memory.specs.Shown.{world_in, counts_in, starved_in, calls_in, left_in, planned_in, most_in, is_written, image_in, IsCrashOf, SameWorld, SamePlan, SameButFiles, PutsFile, IsFresh};
     ghost use Rattle.host_memory.specs.Drawings.{IsDrawing};
     ghost use Rattle.host_memory.specs.declared.events.Noted.{Noted};
 
@@ -66,6 +69,7 @@ impl MemoryHost {
             alloc,
             input: input.to_vec(alloc)?,
             taken: 0,
+            most: usize::MAX,
             output: Vec::new(alloc),
             files: first_files(alloc)?,
             events: Vec::new(alloc),
@@ -100,6 +104,16 @@ impl MemoryHost {
         ensures same { SameWorld self.old self.new }
     {
         self.plan.stop_after(calls);
+    }
+
+    /// From now on a pull moves at most so many bytes.
+    pub fn pull_at_most(&mut self, bytes: usize)
+        requires { 1 ≤ bytes }
+        ensures most { most_in self.new ≡ bytes }
+        ensures plan { SamePlan self.old self.new }
+        ensures same { SameWorld self.old self.new }
+    {
+        self.most = bytes;
     }
 
     /// Puts this input in the place of what is left. Without memory all stays as it was.
@@ -245,7 +259,7 @@ impl MemoryHost {
 }
 
 impl Host for MemoryHost {
-    ghost use Rattle.host_memory.specs.Shown.{world_in, counts_in, ready_in, starved_in, is_stopped, is_planned, is_named, TakesTurn};
+    ghost use Rattle.host_memory.specs.Shown.{world_in, counts_in, ready_in, starved_in, most_in, is_stopped, is_planned, is_named, TakesTurn};
     ghost use Rattle.host_memory.specs.Failures.{DidNothing, HasTorn, HasNotSynced, FailedAs};
     ghost use Rattle.host_memory.specs.declared.plan.CallKind.{CallKind};
     ghost use Rattle.host_trait.specs.declared.channels.Channel.TheVariants.{Input, Output, File};
@@ -271,11 +285,15 @@ impl Host for MemoryHost {
         ensures named { is_err result ≡ is_named self.old CallKind.Pull Input }
         ensures starved { starved_in self.new ≡ starved_in self.old }
         ensures turn { TakesTurn CallKind.Pull Input self.old self.new }
+
+        // It moves no more than it may.
+        ensures most { IfOk result (λ n. n ≤ most_in self.old) }
+        ensures kept { most_in self.new ≡ most_in self.old }
     {
         match self.plan.turn(CallKind::Pull, Channel::Input) {
             Turn::Goes => {
                 let rest = &self.input[self.taken..];
-                let n = into.len().min(rest.len());
+                let n = into.len().min(rest.len()).min(self.most);
                 into[..n].copy_from_slice(&rest[..n]);
                 self.taken += n;
                 Ok(n)

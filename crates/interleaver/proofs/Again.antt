@@ -1,8 +1,6 @@
 -- Where a run can go on nobody can move, and from where all is carried it can go on.
 use Rattle.std.proofs.Common.{◌≡◌, ◌<◌, ℕ, Option, None, Some, List, [], ◌∷◌, ◌++◌, map, Bool, true, length, refl, sym, ap, ◌∙◌}
 use Rattle.std.specs.Prelude.{is_some, filter, if◌then◌else◌}
-use Rattle.host_trait.specs.declared.channels.Channel.{Channel}
-use Rattle.host_trait.specs.World.{World}
 use Rattle.request_wire.specs.declared.requests.Line.{Line}
 use Rattle.core_model.specs.CoreState.{CoreState}
 use Rattle.core_model.specs.Legal.{Run, ends}
@@ -20,6 +18,7 @@ use Rattle.run_books.specs.Books.{Books, AreInDoubt}
 use Rattle.run_books.specs.Records.{KeepsRecord, HasCarriedAll}
 use Rattle.interleaver.specs.Turns.{IsFreshRecord}
 use Rattle.interleaver.proofs.Starting.{kept-none}
+use Rattle.run_books.specs.Stages.{Stage}
 
 -- where a run can begin, nobody can move
 pub nobody-moves : (types : ProgramTree) (o : Outset) (r : Run) (settler : Settler) (lines : List Line) → 0 < r.base → KeepsUnitRule (basis_of o) r → CanTurn r settler lines → movers_in types r ≡ []
@@ -37,9 +36,9 @@ none-doubted w (batch ∷ []) are none = absurd (apart are.0 (sym are.1 ∙ none
     apart n q = absurd cc
 none-doubted w (batch ∷ (other ∷ more)) are none = absurd are
 
-module _ (tells : Bool) (o : Outset) (b : Books) (r : Run) (settler : Settler) (counts : Channel → ℕ) (now : World) (kept : KeepsRecord tells o b r settler counts now) (all : HasCarriedAll o r settler) where
+module _ (tells : Bool) (o : Outset) (b : Books) (s : Stage) (kept : KeepsRecord tells o b s) (all : HasCarriedAll o s) where
   -- the next lines can be carried
-  pub can-again : (lines : List Line) → GoUpFrom (ends r).units.lines lines → CanTurn r settler lines
+  pub can-again : (lines : List Line) → GoUpFrom (ends s.run).units.lines lines → CanTurn s.run s.settler lines
   can-again lines numbers = record {
     quiet = all.run.quiet;
     going = (all.none, all.unstopped);
@@ -50,5 +49,5 @@ module _ (tells : Bool) (o : Outset) (b : Books) (r : Run) (settler : Settler) (
   }
 
   -- and their record begins with what is there
-  pub fresh-again : b.rest ≡ [] → (next : Outset) (used : ℕ) → (next.ruled ≡ true → picks_used r (length r.events) ≡ used) → IsFreshRecord next b used r
-  fresh-again rest next used picks = record { picks = picks; doubted = none-doubted (ends r) b.doubted kept.books.booked.doubted all.none; rest = rest }
+  pub fresh-again : b.rest ≡ [] → (next : Outset) (used : ℕ) → (next.ruled ≡ true → picks_used s.run (length s.run.events) ≡ used) → IsFreshRecord next b used s.run
+  fresh-again rest next used picks = record { picks = picks; doubted = none-doubted (ends s.run) b.doubted kept.books.booked.doubted all.none; rest = rest }

@@ -29,6 +29,7 @@ use Rattle.run_books.proofs.Leaving.{core-beside, beside-fault, run-stays, IsAns
 use Rattle.interleaver.specs.UnderWay.{BeganOn, SettlesBy}
 use Rattle.interleaver.proofs.Alone.{own-same, own-told}
 use Rattle.interleaver.proofs.Settles.{settles-by}
+use Rattle.run_books.specs.Stages.{stage_by, stage_of}
 
 -- the run goes on by no event
 on-by-none : (r r' : Run) → r' ≡ r → r' ≡ extended r []
@@ -36,31 +37,31 @@ on-by-none r r' q = q ∙ run-stays r
 
 -- an error says the same, whatever the answer might have been else
 module _ (tells : Bool) (r r' : Run) (settler settler' : Settler) (faults faults' : Channel → ℕ) (now now' : World) where
-  pub beside-err : {T U : Type 0} (f : RunFault) → TurnsBeside {T = T} tells r r' settler settler' faults faults' now now' (Err f) → (answer : Result U RunFault) → answer ≡ Err f
-      → TurnsBeside {T = U} tells r r' settler settler' faults faults' now now' answer
+  pub beside-err : {T U : Type 0} (f : RunFault) → TurnsBeside {T = T} tells (stage_by r settler faults now) (stage_by r' settler' faults' now') (Err f) → (answer : Result U RunFault) → answer ≡ Err f
+      → TurnsBeside {T = U} tells (stage_by r settler faults now) (stage_by r' settler' faults' now') answer
   beside-err {T} {U} f b answer q =
-      subst (TurnsBeside {T = U} tells r r' settler settler' faults faults' now now') (sym q) (beside-fault tells r r' settler settler' faults faults' now now' {T = T} {U = U} f b)
+      subst (TurnsBeside {T = U} tells (stage_by r settler faults now) (stage_by r' settler' faults' now')) (sym q) (beside-fault tells r r' settler settler' faults faults' now now' {T = T} {U = U} f b)
 
 -- ---- the core alone
 
 module _ (tells : Bool) (r r' : Run) (settler : Settler) (faults : Channel → ℕ) (now : World) where
   -- nothing was done
-  pub none-beside : {T : Type 0} (result : Result T RunFault) → r' ≡ r → TurnsBeside {T = T} tells r r' settler settler faults faults now now result
+  pub none-beside : {T : Type 0} (result : Result T RunFault) → r' ≡ r → TurnsBeside {T = T} tells (stage_by r settler faults now) (stage_by r' settler faults now) result
   none-beside result q = core-beside tells r r' settler faults now result [] (on-by-none r r' q)
 
   -- a unit's step
-  pub acts-beside : {T : Type 0} (result : Result T RunFault) (types : ProgramTree) (u : UnitNo) → Acts none_comes types u (own_sight r) (own_sight r') → TurnsBeside {T = T} tells r r' settler settler faults faults now now result
+  pub acts-beside : {T : Type 0} (result : Result T RunFault) (types : ProgramTree) (u : UnitNo) → Acts none_comes types u (own_sight r) (own_sight r') → TurnsBeside {T = T} tells (stage_by r settler faults now) (stage_by r' settler faults now) result
   acts-beside result types u (inl looked) = none-beside result (own-same r r' looked)
   acts-beside result types u (inr (e, (y, p))) = core-beside tells r r' settler faults now result (e ∷ []) (own-told r r' e y p.told)
 
   -- a line's event, put or not
   pub puts-beside : {T : Type 0} (result : Result T RunFault) (types : ProgramTree) (line : Line)
-      → Looks none_comes (own_sight r) (own_sight r') ⊎ ((y : CoreReply) × PutsLine none_comes types line.number line.what (own_sight r) (own_sight r') y) → TurnsBeside {T = T} tells r r' settler settler faults faults now now result
+      → Looks none_comes (own_sight r) (own_sight r') ⊎ ((y : CoreReply) × PutsLine none_comes types line.number line.what (own_sight r) (own_sight r') y) → TurnsBeside {T = T} tells (stage_by r settler faults now) (stage_by r' settler faults now) result
   puts-beside result types line (inl looked) = none-beside result (own-same r r' looked)
   puts-beside result types line (inr (y, p)) = core-beside tells r r' settler faults now result (p.e ∷ []) (own-told r r' p.e y p.told)
 
   -- a line's begin
-  pub begins-beside : {T : Type 0} (result : Result T RunFault) (types : ProgramTree) (line : Line) (before after : List Agent) → BeganOn types line r r' before after → TurnsBeside {T = T} tells r r' settler settler faults faults now now result
+  pub begins-beside : {T : Type 0} (result : Result T RunFault) (types : ProgramTree) (line : Line) (before after : List Agent) → BeganOn types line r r' before after → TurnsBeside {T = T} tells (stage_by r settler faults now) (stage_by r' settler faults now) result
   begins-beside result types line before after g = core-beside tells r r' settler faults now result (g.on.put.e ∷ []) (own-told r r' g.on.put.e g.on.r g.on.put.told)
 
 -- ---- the settler's step
@@ -87,7 +88,7 @@ by-events r r' (inr s) = (s.0 ∷ [], s.2)
 module _ {H E : Type 0} (tells : Bool) (world : H → World) (faults : H → Channel → ℕ) (shape : Shape) (r r' : Run) (before after : Settler) (old new : H) where
   -- the settler's step, whatever it answered
   pub step-beside : {T : Type 0} (done : T) (result : Result Turned E) → TurnsAs tells world faults none_comes shape before after (own_sight r) (own_sight r') old new result
-      → (x : Result Turned E) → result ≡ x → (answer : Result T RunFault) → answer ≡ answer_of done x → TurnsBeside {T = T} tells r r' before after (faults old) (faults new) (world old) (world new) answer
+      → (x : Result Turned E) → result ≡ x → (answer : Result T RunFault) → answer ≡ answer_of done x → TurnsBeside {T = T} tells (stage_of world faults r before old) (stage_of world faults r' after new) answer
   step-beside {T} done result turns x is answer q =
       let turned : TurnsAs tells world faults none_comes shape before after (own_sight r) (own_sight r') old new x = subst (TurnsAs tells world faults none_comes shape before after (own_sight r) (own_sight r') old new) is turns in
       let on = by-events r r' (settles-by {E = E} tells world faults shape r r' before after old new x turned) in

@@ -1,6 +1,6 @@
 -- Where nobody can move: all is done.
 use Rattle.std.proofs.Common.{◌≡◌, ℕ, zero, suc, ◌≤◌, ◌<◌, Option, Some, None, List, [], ◌∷◌, ◌++◌, length, Bool, true, false, true≢false, refl, sym, ap, ◌∙◌, subst, arith}
-use Rattle.std.specs.Prelude.{if◌then◌else◌, is_some, nat_lt, slice_get, take, drop}
+use Rattle.std.specs.Prelude.{if◌then◌else◌, is_some, nat_lt, slice_get, take, drop, filter, map, ◌&&◌}
 use Rattle.std.proofs.lemmas.Bool.{lt-ltb, cond-true, and_parts}
 use Rattle.base_types.specs.declared.shapes.Shape.{Shape}
 use Rattle.base_types.specs.declared.shapes.TypeShape.{TypeShape}
@@ -18,24 +18,20 @@ use Rattle.turn_rules.proofs.Growth.{ends-more}
 use Rattle.std.proofs.lemmas.Option.{slice_get_within}
 use Rattle.base_types.specs.declared.entries.Entry.{Entry}
 use Rattle.request_wire.specs.declared.requests.Line.{Line}
-use Rattle.core_model.specs.CoreState.{Batch, CoreState}
+use Rattle.core_model.specs.CoreState.{Batch, CoreState, GrainId}
 use Rattle.core_model.specs.declared.effects.Effect.{Effect}
 use Rattle.core_model.specs.declared.events.CoreEvent.{CoreEvent}
-use Rattle.core_model.specs.declared.events.CoreEvent.TheVariants.{Doubt}
+use Rattle.core_model.specs.declared.events.CoreEvent.TheVariants.{Doubt, Take}
 use Rattle.core_model.specs.Legal.{Run, ends}
 use Rattle.core_model.specs.Laws.{extended}
 use Rattle.core_model.specs.Lines.{EntriesAreOnce}
-use Rattle.core_model.specs.CoreState.{GrainId}
 use Rattle.core_model.specs.Events.{applies, step, does, can, is_allowed}
 use Rattle.core_model.specs.Learning.{next_learn}
-use Rattle.core_model.specs.declared.events.CoreEvent.TheVariants.{Take}
-use Rattle.std.specs.Prelude.{filter, map, ◌&&◌}
 use Rattle.promise_spec.specs.Gotten.{got_in}
-use Rattle.promise_spec.specs.TurnRule.{OfUnit, can_move}
+use Rattle.promise_spec.specs.TurnRule.{OfUnit, can_move, OfSettler, Mover}
 use Rattle.core_model.specs.Settler.{Seals, Writes, Takes, Rests, has_step, settler_step, batch_step, last_step, learn_step, undecided_step, first_unvoted}
 use Rattle.core_laws.proofs.Lined.{once-ends}
 use Rattle.promise_spec.specs.Causes.{RunHasDoubt}
-use Rattle.promise_spec.specs.TurnRule.{OfSettler, Mover}
 use Rattle.turn_rules.specs.Carried.{movers_of}
 use Rattle.turn_rules.specs.Quiet.{HasRun}
 use Rattle.turn_rules.specs.Turning.{has_room}
@@ -140,56 +136,56 @@ doubt-steps w d left = by w.manager.batch
     by (Some b) = of-open (is_some b.decisions) b.number b
 
 module _ (tells : Bool) (o : Outset) (lines : List Line) (b : Books) (s : TurnStage) (way : IsUnderWay tells o o.program.types lines o.width o.picks b s)
-    (nobody : movers_of o.program.types s.run (units_carried s.agents) ≡ []) (full : has_room (loop_at o s.run s.agents s.used) ≡ false) where
+    (nobody : movers_of o.program.types s.at.run (units_carried s.agents) ≡ []) (full : has_room (loop_at o s.at.run s.agents s.used) ≡ false) where
   w : CoreState
-  w = ends s.run
+  w = ends s.at.run
 
   -- nothing is in doubt
-  no-doubt : (ends s.run).manager.doubt ≡ None
-  no-doubt = by (ends s.run).manager.doubt refl
+  no-doubt : (ends s.at.run).manager.doubt ≡ None
+  no-doubt = by (ends s.at.run).manager.doubt refl
     where
-      by : (d : Option ℕ) → (ends s.run).manager.doubt ≡ d → (ends s.run).manager.doubt ≡ None
+      by : (d : Option ℕ) → (ends s.at.run).manager.doubt ≡ d → (ends s.at.run).manager.doubt ≡ None
       by None e = e
       by (Some n) e =
-          let some : is_some (ends s.run).manager.doubt ≡ true = ap is_some e in
-          let steps : has_step (settler_step (ends s.run)) ≡ true = doubt-steps (ends s.run) some (way.left (way.books.doubt ∙ some)) in
-          absurd (none-in (ends s.run).manager.doubt (sym (ap (λ (x : Bool). (if is_some (ends s.run).manager.doubt then [] else map OfUnit (filter (can_move o.program.types (ends s.run) (got_in s.run)) (units_carried s.agents))) ++ (if x then OfSettler ∷ [] else [])) steps) ∙ nobody))
+          let some : is_some (ends s.at.run).manager.doubt ≡ true = ap is_some e in
+          let steps : has_step (settler_step (ends s.at.run)) ≡ true = doubt-steps (ends s.at.run) some (way.left (way.books.doubt ∙ some)) in
+          absurd (none-in (ends s.at.run).manager.doubt (sym (ap (λ (x : Bool). (if is_some (ends s.at.run).manager.doubt then [] else map OfUnit (filter (can_move o.program.types (ends s.at.run) (got_in s.at.run)) (units_carried s.agents))) ++ (if x then OfSettler ∷ [] else [])) steps) ∙ nobody))
         where
-          none-in : (d : Option ℕ) → ((if is_some d then [] else map OfUnit (filter (can_move o.program.types (ends s.run) (got_in s.run)) (units_carried s.agents))) ++ (OfSettler ∷ [])) ≡ [] → ⊥
-          none-in d q = last-in (if is_some d then [] else map OfUnit (filter (can_move o.program.types (ends s.run) (got_in s.run)) (units_carried s.agents))) q
+          none-in : (d : Option ℕ) → ((if is_some d then [] else map OfUnit (filter (can_move o.program.types (ends s.at.run) (got_in s.at.run)) (units_carried s.agents))) ++ (OfSettler ∷ [])) ≡ [] → ⊥
+          none-in d q = last-in (if is_some d then [] else map OfUnit (filter (can_move o.program.types (ends s.at.run) (got_in s.at.run)) (units_carried s.agents))) q
             where
               last-in : (ms : List Mover) → ms ++ (OfSettler ∷ []) ≡ [] → ⊥
               last-in [] t = absurd cc
               last-in (m ∷ ms) t = absurd cc
 
-  pub has-carried : HasCarriedAll o s.run s.settler
+  pub has-carried : HasCarriedAll o s.at
   has-carried =
-      let run : HasRun (length o.asked) (ends s.run) = turn-ended (loop_at o s.run s.agents s.used) way.turning no-doubt nobody (subst (λ (n : ℕ). 0 < n) (sym way.outset.width_is) way.outset.wide) full in
-      let once : EntriesAreOnce (ends s.run) = once-ends (λ (e : Effect). true) s.run (legal-run (basis_of o) s.run way.turning.first way.turning.unit_rule) in
+      let run : HasRun (length o.asked) (ends s.at.run) = turn-ended (loop_at o s.at.run s.agents s.used) way.turning no-doubt nobody (subst (λ (n : ℕ). 0 < n) (sym way.outset.width_is) way.outset.wide) full in
+      let once : EntriesAreOnce (ends s.at.run) = once-ends (λ (e : Effect). true) s.at.run (legal-run (basis_of o) s.at.run way.turning.first way.turning.unit_rule) in
       let le = once.written in
       let ge = run.quiet.written in
-      let few : (ends s.run).units.lines ≤ length o.asked = (let q = way.outset.all in omega (arith, q)) in
-      let many : length (ends s.run).manager.settled ≡ (ends s.run).units.lines =
-      so-many (ends s.run).units.lines (ends s.run).manager.settled once.differ (λ x m. let e = once.entry x m in (e.0, e.1)) (λ k lo hi. let a = run.answered k lo (omega (arith, hi, few)) in (a.0, a.1, a.2)) in
+      let few : (ends s.at.run).units.lines ≤ length o.asked = (let q = way.outset.all in omega (arith, q)) in
+      let many : length (ends s.at.run).manager.settled ≡ (ends s.at.run).units.lines =
+      so-many (ends s.at.run).units.lines (ends s.at.run).manager.settled once.differ (λ x m. let e = once.entry x m in (e.0, e.1)) (λ k lo hi. let a = run.answered k lo (omega (arith, hi, few)) in (a.0, a.1, a.2)) in
       record {
         run = run;
         none = no-doubt;
-        never = λ d. absurd (true≢false (sym (doubted-now s.run d) ∙ ap is_some no-doubt));
+        never = λ d. absurd (true≢false (sym (doubted-now s.at.run d) ∙ ap is_some no-doubt));
         unstopped = way-unstopped way;
-        rests = no-step (settler_step (ends s.run))
-            (empty-append (if is_some (ends s.run).manager.doubt then [] else map OfUnit (filter (can_move o.program.types (ends s.run) (got_in s.run)) (units_carried s.agents)))
-            (if has_step (settler_step (ends s.run)) then OfSettler ∷ [] else []) nobody).1;
-        written = way.books.written ∙ (let x : (ends s.run).manager.emitted ≡ (ends s.run).units.lines = omega (arith, le, ge, many) in x);
+        rests = no-step (settler_step (ends s.at.run))
+            (empty-append (if is_some (ends s.at.run).manager.doubt then [] else map OfUnit (filter (can_move o.program.types (ends s.at.run) (got_in s.at.run)) (units_carried s.agents)))
+            (if has_step (settler_step (ends s.at.run)) then OfSettler ∷ [] else []) nobody).1;
+        written = way.books.written ∙ (let x : (ends s.at.run).manager.emitted ≡ (ends s.at.run).units.lines = omega (arith, le, ge, many) in x);
       }
 
 -- what the settler's step needs to know of a run under way
 pub can-settle : (tells : Bool) (o : Outset) (types : ProgramTree) (lines : List Line) (width : ℕ) (picks : List ℕ) (b : Books) (s : TurnStage) (shape : Shape) → IsUnderWay tells o types lines width picks b s
-    → shape.types ≡ type_shapes types → CanSettle o shape s.run
+    → shape.types ≡ type_shapes types → CanSettle o shape s.at.run
 can-settle tells o types lines width picks b s shape way is =
-    let once : EntriesAreOnce (ends s.run) = once-ends (λ (e : Effect). true) s.run (legal-run (basis_of o) s.run way.turning.first way.turning.unit_rule) in
+    let once : EntriesAreOnce (ends s.at.run) = once-ends (λ (e : Effect). true) s.at.run (legal-run (basis_of o) s.at.run way.turning.first way.turning.unit_rule) in
     let le = once.written in
     let few = way.room in
-    let most : length (ends s.run).manager.settled ≤ (ends s.run).units.lines = at-most (ends s.run).units.lines (ends s.run).manager.settled once.differ (λ x m. let e = once.entry x m in (e.0, e.1)) in
+    let most : length (ends s.at.run).manager.settled ≤ (ends s.at.run).units.lines = at-most (ends s.at.run).units.lines (ends s.at.run).manager.settled once.differ (λ x m. let e = once.entry x m in (e.0, e.1)) in
     record {
       above = way.turning.first;
       units = way.turning.unit_rule;

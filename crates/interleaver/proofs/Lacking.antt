@@ -35,16 +35,17 @@ use Rattle.interleaver.proofs.Alone.{own-same, own-told}
 use Rattle.run_books.proofs.BooksStated.{OthersKeep}
 use Rattle.interleaver.proofs.Frames.{unit-others, unit-no-halt}
 use Rattle.interleaver.proofs.LineTurns.{drop-at}
+use Rattle.run_books.specs.Stages.{stage_by}
 
 module _ (keeps : OthersKeep) (tells : Bool) (o : Outset) (lines : List Line) (b : Books) (s : TurnStage) (r' : Run) (way : IsUnderWay tells o o.program.types lines o.width o.picks b s) where
   abbrev l : TurnLoop
-  l = loop_at o s.run s.agents s.used
+  l = loop_at o s.at.run s.agents s.used
 
   abbrev Ends : Run → Type 0
-  Ends x = RecordGoesOn {T = Bool} tells o b s.run x s.settler s.settler s.counts s.world s.world (Err Memory)
+  Ends x = RecordGoesOn {T = Bool} tells o b s.at (stage_by x s.at.settler s.at.faults s.at.world) (Err Memory)
 
   -- nothing was put
-  pub lacks-none : r' ≡ s.run → Ends r'
+  pub lacks-none : r' ≡ s.at.run → Ends r'
   lacks-none q = subst Ends (sym q) (record {
     books = b;
     record_kept = record { above = way.turning.first; units = way.turning.unit_rule; turns = way.turning.turn_rule; books = way.books };
@@ -53,16 +54,16 @@ module _ (keeps : OthersKeep) (tells : Bool) (o : Outset) (lines : List Line) (b
   })
 
   -- an event was put that is the next
-  lacks-event : (e : CoreEvent) → r' ≡ with_event s.run e → MayCome (basis_of o) s.run e → (o.ruled ≡ true → IsNext o.program.types (length o.asked) o.width o.picks s.run e) → is_settling e ≡ false → (e ≡ Halt → ⊥) → Ends r'
+  lacks-event : (e : CoreEvent) → r' ≡ with_event s.at.run e → MayCome (basis_of o) s.at.run e → (o.ruled ≡ true → IsNext o.program.types (length o.asked) o.width o.picks s.at.run e) → is_settling e ≡ false → (e ≡ Halt → ⊥) → Ends r'
   lacks-event e q may is_next other halt =
-      let rule : KeepsUnitRule (basis_of o) (with_event s.run e) = unit-grows (basis_of o) s.run e way.turning.unit_rule may in
-      let on = keeps tells o b s.run e s.settler s.counts s.world way.turning.first way.turning.unit_rule rule other way.even way.books in
+      let rule : KeepsUnitRule (basis_of o) (with_event s.at.run e) = unit-grows (basis_of o) s.at.run e way.turning.unit_rule may in
+      let on = keeps tells o b s.at.run e s.at.settler s.at.faults s.at.world way.turning.first way.turning.unit_rule rule other way.even way.books in
       subst Ends (sym q) (record {
         books = on.0.books;
         record_kept = record {
           above = way.turning.first;
           units = rule;
-          turns = λ ruled. turn-grows o.program.types (length o.asked) o.width o.picks s.run e (way.turning.turn_rule ruled) (is_next ruled);
+          turns = λ ruled. turn-grows o.program.types (length o.asked) o.width o.picks s.at.run e (way.turning.turn_rule ruled) (is_next ruled);
           books = on.0.kept;
         };
         lasts = on.0.lasts;
@@ -70,53 +71,53 @@ module _ (keeps : OthersKeep) (tells : Bool) (o : Outset) (lines : List Line) (b
       })
 
   -- the picked unit's event is the next
-  unit-next : o.ruled ≡ true → (u : UnitNo) → IsPicked l (OfUnit u) → (e : CoreEvent) → mover_of e ≡ OfUnit u → IsNext o.program.types (length o.asked) o.width o.picks s.run e
+  unit-next : o.ruled ≡ true → (u : UnitNo) → IsPicked l (OfUnit u) → (e : CoreEvent) → mover_of e ≡ OfUnit u → IsNext o.program.types (length o.asked) o.width o.picks s.at.run e
   unit-next ruled u pick e own a =
-      subst (λ (m : Mover). IsTurn (line_can_begin o.width (length o.asked) s.run (ends s.run)) (picked (movers_in o.program.types s.run) (next_pick o.picks s.run)) (ends s.run) e m) (sym own) (
-        begins-kept o.width (length o.asked) s.run l.units way.turning.kept ∙ pick.none,
-        ap (λ (ms : List Mover). picked ms (next_pick o.picks s.run)) (movers-kept o.program.types s.run l.units way.turning.kept)
-            ∙ ap (λ (n : ℕ). picked (movers_of o.program.types s.run l.units) (get_or o.picks n 0)) (sym (way.turning.count ruled)) ∙ pick.pick,
+      subst (λ (m : Mover). IsTurn (line_can_begin o.width (length o.asked) s.at.run (ends s.at.run)) (picked (movers_in o.program.types s.at.run) (next_pick o.picks s.at.run)) (ends s.at.run) e m) (sym own) (
+        begins-kept o.width (length o.asked) s.at.run l.units way.turning.kept ∙ pick.none,
+        ap (λ (ms : List Mover). picked ms (next_pick o.picks s.at.run)) (movers-kept o.program.types s.at.run l.units way.turning.kept)
+            ∙ ap (λ (n : ℕ). picked (movers_of o.program.types s.at.run l.units) (get_or o.picks n 0)) (sym (way.turning.count ruled)) ∙ pick.pick,
       )
 
-  line-next : has_room l ≡ true → (e : CoreEvent) → mover_of e ≡ OfLine → IsNext o.program.types (length o.asked) o.width o.picks s.run e
+  line-next : has_room l ≡ true → (e : CoreEvent) → mover_of e ≡ OfLine → IsNext o.program.types (length o.asked) o.width o.picks s.at.run e
   line-next room e own a =
-      subst (λ (m : Mover). IsTurn (line_can_begin o.width (length o.asked) s.run (ends s.run)) (picked (movers_in o.program.types s.run) (next_pick o.picks s.run)) (ends s.run) e m) (sym own)
-      (begins-kept o.width (length o.asked) s.run l.units way.turning.kept ∙ room)
+      subst (λ (m : Mover). IsTurn (line_can_begin o.width (length o.asked) s.at.run (ends s.at.run)) (picked (movers_in o.program.types s.at.run) (next_pick o.picks s.at.run)) (ends s.at.run) e m) (sym own)
+      (begins-kept o.width (length o.asked) s.at.run l.units way.turning.kept ∙ room)
 
   -- a unit's step that had no memory
-  pub unit-lacks : (u : UnitNo) → IsPicked l (OfUnit u) → Acts none_comes o.program.types u (own_sight s.run) (own_sight r') → Ends r'
-  unit-lacks u pick (inl looked) = lacks-none (own-same s.run r' looked)
+  pub unit-lacks : (u : UnitNo) → IsPicked l (OfUnit u) → Acts none_comes o.program.types u (own_sight s.at.run) (own_sight r') → Ends r'
+  unit-lacks u pick (inl looked) = lacks-none (own-same s.at.run r' looked)
   unit-lacks u pick (inr (e, (y, p))) =
-      let same : saw (own_sight s.run) p.told.rest ≡ own_sight s.run = looks-alone (own_sight s.run) (saw (own_sight s.run) p.told.rest) (record { rest = p.told.rest; others = p.told.others; sight = refl }) in
-      let due : MayCome (basis_of o) s.run e =
-      subst (λ (x : Run). MayCome (basis_of o) x e) (ap run_seen same ∙ own-run s.run) (p.due (subst (IsAlone (leaves_unit u)) (sym same) (own-alone (leaves_unit u) s.run)) (basis_of o) refl) in
-      lacks-event e (own-told s.run r' e y p.told) due (λ ruled. unit-next ruled u pick e p.own) (unit-others u e p.own) (unit-no-halt u e p.own)
+      let same : saw (own_sight s.at.run) p.told.rest ≡ own_sight s.at.run = looks-alone (own_sight s.at.run) (saw (own_sight s.at.run) p.told.rest) (record { rest = p.told.rest; others = p.told.others; sight = refl }) in
+      let due : MayCome (basis_of o) s.at.run e =
+      subst (λ (x : Run). MayCome (basis_of o) x e) (ap run_seen same ∙ own-run s.at.run) (p.due (subst (IsAlone (leaves_unit u)) (sym same) (own-alone (leaves_unit u) s.at.run)) (basis_of o) refl) in
+      lacks-event e (own-told s.at.run r' e y p.told) due (λ ruled. unit-next ruled u pick e p.own) (unit-others u e p.own) (unit-no-halt u e p.own)
 
   -- a line's event that had none
   pub line-lacks : (line : Line) → slice_get lines s.begun ≡ Some line → has_room l ≡ true
-      → Looks none_comes (own_sight s.run) (own_sight r') ⊎ ((y : CoreReply) × PutsLine none_comes o.program.types line.number line.what (own_sight s.run) (own_sight r') y) → Ends r'
-  line-lacks line next room (inl looked) = lacks-none (own-same s.run r' looked)
+      → Looks none_comes (own_sight s.at.run) (own_sight r') ⊎ ((y : CoreReply) × PutsLine none_comes o.program.types line.number line.what (own_sight s.at.run) (own_sight r') y) → Ends r'
+  line-lacks line next room (inl looked) = lacks-none (own-same s.at.run r' looked)
   line-lacks line next room (inr (y, p)) = by line.what refl p.is
     where
-      numbers : GoUpFrom (ends s.run).units.lines (line ∷ drop (suc s.begun) lines)
-      numbers = subst (GoUpFrom (ends s.run).units.lines) (drop-at lines s.begun line next) way.numbers
+      numbers : GoUpFrom (ends s.at.run).units.lines (line ∷ drop (suc s.begun) lines)
+      numbers = subst (GoUpFrom (ends s.at.run).units.lines) (drop-at lines s.begun line next) way.numbers
 
       this-reads : ReadsLineAs o.program.types o.asked line.number line.what
-      this-reads = subst (λ (k : ℕ). ReadsLineAs o.program.types o.asked k line.what) (let e : (ends s.run).units.lines + 0 + 1 ≡ (ends s.run).units.lines + 1 = omega arith in e ∙ sym numbers.0)
+      this-reads = subst (λ (k : ℕ). ReadsLineAs o.program.types o.asked k line.what) (let e : (ends s.at.run).units.lines + 0 + 1 ≡ (ends s.at.run).units.lines + 1 = omega arith in e ∙ sym numbers.0)
           (way.outset.reads 0 line (ap (λ (xs : List Line). slice_get xs 0) (drop-at lines s.begun line next)))
 
-      run : r' ≡ with_event s.run p.e
-      run = own-told s.run r' p.e y p.told
+      run : r' ≡ with_event s.at.run p.e
+      run = own-told s.at.run r' p.e y p.told
 
       by : (what : Result Call BadRequest) → line.what ≡ what → IsEventOf o.program.types line.number what p.e → Ends r'
       by (Ok call) q is =
-          lacks-event (Begin (OfLineOrigin line.number) call is.0) (run ∙ ap (with_event s.run) is.1) (λ x. (subst (ReadsLineAs o.program.types o.asked line.number) q this-reads, is.2))
+          lacks-event (Begin (OfLineOrigin line.number) call is.0) (run ∙ ap (with_event s.at.run) is.1) (λ x. (subst (ReadsLineAs o.program.types o.asked line.number) q this-reads, is.2))
           (λ ruled. line-next room (Begin (OfLineOrigin line.number) call is.0) refl) refl (λ h. apart call is.0 h)
         where
           apart : (c : Call) (f : Bool) → Begin (OfLineOrigin line.number) c f ≡ Halt → ⊥
           apart c f t = absurd cc
       by (Err why) q is =
-          lacks-event (Bad line.number why) (run ∙ ap (with_event s.run) is) (λ x. subst (ReadsLineAs o.program.types o.asked line.number) q this-reads)
+          lacks-event (Bad line.number why) (run ∙ ap (with_event s.at.run) is) (λ x. subst (ReadsLineAs o.program.types o.asked line.number) q this-reads)
           (λ ruled. line-next room (Bad line.number why) refl) refl (λ h. apart why h)
         where
           apart : (f : BadRequest) → Bad line.number f ≡ Halt → ⊥

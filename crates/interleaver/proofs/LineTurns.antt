@@ -38,6 +38,7 @@ use Rattle.interleaver.proofs.Alone.{own-told}
 use Rattle.run_books.proofs.BooksStated.{OthersKeep}
 use Rattle.interleaver.proofs.Frames.{lines-begun, lines-bad, same-number}
 use Rattle.interleaver.proofs.OtherTurns.{loop-into}
+use Rattle.run_books.specs.Stages.{stage_by}
 
 -- the list behind an index
 pub drop-at : {A : Type 0} (xs : List A) (i : ℕ) (x : A) → slice_get xs i ≡ Some x → drop i xs ≡ x ∷ drop (suc i) xs
@@ -54,9 +55,9 @@ allowed-with d h e p q t =
     ap (λ (a : Bool). ((a || false) && (not h || false)) && e) p ∙ ap (λ (a : Bool). ((true || false) && (not a || false)) && e) q ∙ t
 
 module _ (keeps : OthersKeep) (tells : Bool) (o : Outset) (lines : List Line) (b : Books) (s s' : TurnStage) (way : IsUnderWay tells o o.program.types lines o.width o.picks b s)
-    (line : Line) (next : slice_get lines s.begun ≡ Some line) (room : has_room (loop_at o s.run s.agents s.used) ≡ true) where
+    (line : Line) (next : slice_get lines s.begun ≡ Some line) (room : has_room (loop_at o s.at.run s.agents s.used) ≡ true) where
   abbrev l : TurnLoop
-  l = loop_at o s.run s.agents s.used
+  l = loop_at o s.at.run s.agents s.used
 
   abbrev rest : List Line
   rest = drop (suc s.begun) lines
@@ -64,103 +65,103 @@ module _ (keeps : OthersKeep) (tells : Bool) (o : Outset) (lines : List Line) (b
   split : drop s.begun lines ≡ line ∷ rest
   split = drop-at lines s.begun line next
 
-  numbers : GoUpFrom (ends s.run).units.lines (line ∷ rest)
-  numbers = subst (GoUpFrom (ends s.run).units.lines) split way.numbers
+  numbers : GoUpFrom (ends s.at.run).units.lines (line ∷ rest)
+  numbers = subst (GoUpFrom (ends s.at.run).units.lines) split way.numbers
 
-  sure : is_none (ends s.run).manager.doubt ≡ true
-  sure = (and_parts (is_none (ends s.run).manager.doubt) _ room).0
+  sure : is_none (ends s.at.run).manager.doubt ≡ true
+  sure = (and_parts (is_none (ends s.at.run).manager.doubt) _ room).0
 
-  all : length o.asked ≡ (ends s.run).units.lines + length (line ∷ rest)
-  all = way.outset.all ∙ ap (λ (x : List Line). (ends s.run).units.lines + length x) split
+  all : length o.asked ≡ (ends s.at.run).units.lines + length (line ∷ rest)
+  all = way.outset.all ∙ ap (λ (x : List Line). (ends s.at.run).units.lines + length x) split
 
-  reads : (at : ℕ) (x : Line) → slice_get (line ∷ rest) at ≡ Some x → ReadsLineAs o.program.types o.asked ((ends s.run).units.lines + at + 1) x.what
-  reads = subst (λ (xs : List Line). (at : ℕ) (x : Line) → slice_get xs at ≡ Some x → ReadsLineAs o.program.types o.asked ((ends s.run).units.lines + at + 1) x.what) split way.outset.reads
+  reads : (at : ℕ) (x : Line) → slice_get (line ∷ rest) at ≡ Some x → ReadsLineAs o.program.types o.asked ((ends s.at.run).units.lines + at + 1) x.what
+  reads = subst (λ (xs : List Line). (at : ℕ) (x : Line) → slice_get xs at ≡ Some x → ReadsLineAs o.program.types o.asked ((ends s.at.run).units.lines + at + 1) x.what) split way.outset.reads
 
   this-reads : ReadsLineAs o.program.types o.asked line.number line.what
-  this-reads = subst (λ (k : ℕ). ReadsLineAs o.program.types o.asked k line.what) (let e : (ends s.run).units.lines + 0 + 1 ≡ (ends s.run).units.lines + 1 = omega arith in e ∙ sym numbers.0) (reads 0 line refl)
+  this-reads = subst (λ (k : ℕ). ReadsLineAs o.program.types o.asked k line.what) (let e : (ends s.at.run).units.lines + 0 + 1 ≡ (ends s.at.run).units.lines + 1 = omega arith in e ∙ sym numbers.0) (reads 0 line refl)
 
   -- all goes on by the line's event
-  line-on : (e : CoreEvent) → s'.run ≡ with_event s.run e → is_settling e ≡ false → (e ≡ Halt → ⊥) → (ends s'.run).units.lines ≡ (ends s.run).units.lines + 1 → (ends s'.run).units.next ≤ 2 ^ 63
-      → line.number < 2 ^ 32 → IsTurning (loop_at o s'.run s'.agents s'.used) → s'.begun ≡ s.begun + 1 → s'.settler ≡ s.settler → s'.counts ≡ s.counts → s'.world ≡ s.world → s.settler.doubted ≡ false
+  line-on : (e : CoreEvent) → s'.at.run ≡ with_event s.at.run e → is_settling e ≡ false → (e ≡ Halt → ⊥) → (ends s'.at.run).units.lines ≡ (ends s.at.run).units.lines + 1 → (ends s'.at.run).units.next ≤ 2 ^ 63
+      → line.number < 2 ^ 32 → IsTurning (loop_at o s'.at.run s'.agents s'.used) → s'.begun ≡ s.begun + 1 → s'.at.settler ≡ s.at.settler → s'.at.faults ≡ s.at.faults → s'.at.world ≡ s.at.world → s.at.settler.doubted ≡ false
       → WentOn tells o o.program.types lines o.width o.picks b s s'
   line-on e run other halt more few small turning begun settler counts world calm =
-      let rule : KeepsUnitRule (basis_of o) (with_event s.run e) = subst (KeepsUnitRule (basis_of o)) run turning.unit_rule in
-      let on = keeps tells o b s.run e s.settler s.counts s.world way.turning.first way.turning.unit_rule rule other way.even way.books in
+      let rule : KeepsUnitRule (basis_of o) (with_event s.at.run e) = subst (KeepsUnitRule (basis_of o)) run turning.unit_rule in
+      let on = keeps tells o b s.at.run e s.at.settler s.at.faults s.at.world way.turning.first way.turning.unit_rule rule other way.even way.books in
       let at : s'.begun ≡ suc s.begun = (let x : s.begun + 1 ≡ suc s.begun = omega arith in begun ∙ x) in
       record {
         books = on.0.books;
         under_way = record {
-          outset = subst (λ (n : ℕ). IsOutset o o.program.types s'.run (drop n lines) o.width o.picks) (sym at) (record {
+          outset = subst (λ (n : ℕ). IsOutset o o.program.types s'.at.run (drop n lines) o.width o.picks) (sym at) (record {
             types_are = refl;
             kinds = ap (λ (x : Run). x.kinds) run ∙ way.outset.kinds;
             width_is = refl;
             wide = way.outset.wide;
             picks_are = refl;
-            all = (let x : (ends s.run).units.lines + length (line ∷ rest) ≡ (ends s'.run).units.lines + length rest = omega (arith, more) in all ∙ x);
+            all = (let x : (ends s.at.run).units.lines + length (line ∷ rest) ≡ (ends s'.at.run).units.lines + length rest = omega (arith, more) in all ∙ x);
             reads = λ i x q. subst (λ (k : ℕ). ReadsLineAs o.program.types o.asked k x.what)
-                (let z : (ends s.run).units.lines + suc i + 1 ≡ (ends s'.run).units.lines + i + 1 = omega (arith, more) in z) (reads (suc i) x q);
+                (let z : (ends s.at.run).units.lines + suc i + 1 ≡ (ends s'.at.run).units.lines + i + 1 = omega (arith, more) in z) (reads (suc i) x q);
           });
-          numbers = subst (λ (n : ℕ). GoUpFrom (ends s'.run).units.lines (drop n lines)) (sym at) (subst (λ (k : ℕ). GoUpFrom k rest) (sym more) numbers.1);
+          numbers = subst (λ (n : ℕ). GoUpFrom (ends s'.at.run).units.lines (drop n lines)) (sym at) (subst (λ (k : ℕ). GoUpFrom k rest) (sym more) numbers.1);
           accepted = way.accepted;
           few = few;
           room = (let is = numbers.0 in omega (arith, more, is, small));
           turning = turning;
-          books = subst (λ (x : World). KeepsBooks tells o on.0.books s'.run s'.settler s'.counts x) (sym world)
-              (subst (λ (x : Channel → ℕ). KeepsBooks tells o on.0.books s'.run s'.settler x s.world) (sym counts)
-              (subst (λ (x : Settler). KeepsBooks tells o on.0.books s'.run x s.counts s.world) (sym settler)
-              (subst (λ (x : Run). KeepsBooks tells o on.0.books x s.settler s.counts s.world) (sym run) on.0.kept)));
-          even = subst (λ (x : Settler). AreEven x.quiet on.0.books (ends s'.run)) (sym settler) (subst (λ (x : Run). AreEven s.settler.quiet on.0.books (ends x)) (sym run) on.1);
+          books = subst (λ (x : World). KeepsBooks tells o on.0.books (stage_by s'.at.run s'.at.settler s'.at.faults x)) (sym world)
+              (subst (λ (x : Channel → ℕ). KeepsBooks tells o on.0.books (stage_by s'.at.run s'.at.settler x s.at.world)) (sym counts)
+              (subst (λ (x : Settler). KeepsBooks tells o on.0.books (stage_by s'.at.run x s.at.faults s.at.world)) (sym settler)
+              (subst (λ (x : Run). KeepsBooks tells o on.0.books (stage_by x s.at.settler s.at.faults s.at.world)) (sym run) on.0.kept)));
+          even = subst (λ (x : Settler). AreEven x.quiet on.0.books (ends s'.at.run)) (sym settler) (subst (λ (x : Run). AreEven s.at.settler.quiet on.0.books (ends x)) (sym run) on.1);
           left = λ d. absurd (true≢false (sym d ∙ ap (λ (x : Settler). x.doubted) settler ∙ calm));
         };
-        lasts = λ t head was. subst (λ (x : World). LastsSo o head on.0.books s'.run s'.settler.writer x) (sym world)
-            (subst (λ (x : Settler). LastsSo o head on.0.books s'.run x.writer s.world) (sym settler)
-            (subst (λ (x : Run). LastsSo o head on.0.books x s.settler.writer s.world) (sym run) (on.0.lasts t head was)));
+        lasts = λ t head was. subst (λ (x : World). LastsSo o head on.0.books s'.at.run s'.at.settler.writer x) (sym world)
+            (subst (λ (x : Settler). LastsSo o head on.0.books s'.at.run x.writer s.at.world) (sym settler)
+            (subst (λ (x : Run). LastsSo o head on.0.books x s.at.settler.writer s.at.world) (sym run) (on.0.lasts t head was)));
       }
 
   -- a line's turn
-  pub line-went : BeganOn o.program.types line s.run s'.run s.agents s'.agents → s'.used ≡ s.used → s'.begun ≡ s.begun + 1 → s'.settler ≡ s.settler → s'.counts ≡ s.counts → s'.world ≡ s.world
-      → s.settler.doubted ≡ false → WentOn tells o o.program.types lines o.width o.picks b s s'
+  pub line-went : BeganOn o.program.types line s.at.run s'.at.run s.agents s'.agents → s'.used ≡ s.used → s'.begun ≡ s.begun + 1 → s'.at.settler ≡ s.at.settler → s'.at.faults ≡ s.at.faults → s'.at.world ≡ s.at.world
+      → s.at.settler.doubted ≡ false → WentOn tells o o.program.types lines o.width o.picks b s s'
   line-went g used begun settler counts world calm = by line.what refl g.on.put.is
     where
       e : CoreEvent
       e = g.on.put.e
 
-      run : s'.run ≡ with_event s.run e
-      run = own-told s.run s'.run e g.on.r g.on.put.told
+      run : s'.at.run ≡ with_event s.at.run e
+      run = own-told s.at.run s'.at.run e g.on.r g.on.put.told
 
-      replied : g.on.r ≡ reply_to (ends s.run) e
-      replied = reply-alone (own_sight s.run) (own_sight s'.run) e g.on.r g.on.put.told ∙ ap (λ (x : Run). reply_to (ends x) e) (own-run s.run)
+      replied : g.on.r ≡ reply_to (ends s.at.run) e
+      replied = reply-alone (own_sight s.at.run) (own_sight s'.at.run) e g.on.r g.on.put.told ∙ ap (λ (x : Run). reply_to (ends x) e) (own-run s.at.run)
 
       by : (what : Result Call BadRequest) → line.what ≡ what → IsEventOf o.program.types line.number what e → WentOn tells o o.program.types lines o.width o.picks b s s'
       by (Ok call) q is =
           let plain = is.0 in
           let ev : CoreEvent = Begin (OfLineOrigin line.number) call plain in
-          let a : applies (ends s.run) ev ≡ true = allowed-with (ends s.run).manager.doubt (ends s.run).units.halt (line.number == (ends s.run).units.lines + 1) sure (way-unstopped way) (same-number line.number ((ends s.run).units.lines + 1) numbers.0) in
-          let due : MayCome (basis_of o) s.run ev = (λ x. (subst (ReadsLineAs o.program.types o.asked line.number) q this-reads, is.2)) in
-          let on : s'.run ≡ with_event s.run ev = run ∙ ap (with_event s.run) is.1 in
-          let new : began_by g.on.r ≡ Some (new_unit (ends s.run)) =
-          ap began_by (replied ∙ ap (reply_to (ends s.run)) is.1 ∙ cond-true (applies (ends s.run) ev) (reply_with (ends s.run) ev) (reply_without (ends s.run) ev) a) in
+          let a : applies (ends s.at.run) ev ≡ true = allowed-with (ends s.at.run).manager.doubt (ends s.at.run).units.halt (line.number == (ends s.at.run).units.lines + 1) sure (way-unstopped way) (same-number line.number ((ends s.at.run).units.lines + 1) numbers.0) in
+          let due : MayCome (basis_of o) s.at.run ev = (λ x. (subst (ReadsLineAs o.program.types o.asked line.number) q this-reads, is.2)) in
+          let on : s'.at.run ≡ with_event s.at.run ev = run ∙ ap (with_event s.at.run) is.1 in
+          let new : began_by g.on.r ≡ Some (new_unit (ends s.at.run)) =
+          ap began_by (replied ∙ ap (reply_to (ends s.at.run)) is.1 ∙ cond-true (applies (ends s.at.run) ev) (reply_with (ends s.at.run) ev) (reply_without (ends s.at.run) ev) a) in
           let us : units_carried s'.agents ≡ with_new l = g.on.units ∙ ap (with_begun (units_carried s.agents)) (g.on.is ∙ new) in
-          let more : (ends s'.run).units.lines ≡ (ends s.run).units.lines + 1 =
-          ap (λ (x : Run). (ends x).units.lines) on ∙ ap (λ (x : CoreState). x.units.lines) (ends-more s.run ev) ∙ lines-begun (ends s.run) line.number call plain a in
+          let more : (ends s'.at.run).units.lines ≡ (ends s.at.run).units.lines + 1 =
+          ap (λ (x : Run). (ends x).units.lines) on ∙ ap (λ (x : CoreState). x.units.lines) (ends-more s.at.run ev) ∙ lines-begun (ends s.at.run) line.number call plain a in
           line-on ev on refl (λ h. apart call plain h) more g.few g.small
-          (loop-into o (with_event s.run ev) s'.run (with_new l) (units_carried s'.agents) s.used s'.used on us used (turn-line l way.turning line.number call plain room due a))
+          (loop-into o (with_event s.at.run ev) s'.at.run (with_new l) (units_carried s'.agents) s.used s'.used on us used (turn-line l way.turning line.number call plain room due a))
           begun settler counts world calm
         where
           apart : (c : Call) (p : Bool) → Begin (OfLineOrigin line.number) c p ≡ Halt → ⊥
           apart c p t = absurd cc
       by (Err why) q is =
           let ev : CoreEvent = Bad line.number why in
-          let a : applies (ends s.run) ev ≡ true = allowed-with (ends s.run).manager.doubt (ends s.run).units.halt (line.number == (ends s.run).units.lines + 1) sure (way-unstopped way) (same-number line.number ((ends s.run).units.lines + 1) numbers.0) in
-          let due : MayCome (basis_of o) s.run ev = (λ x. subst (ReadsLineAs o.program.types o.asked line.number) q this-reads) in
-          let on : s'.run ≡ with_event s.run ev = run ∙ ap (with_event s.run) is in
+          let a : applies (ends s.at.run) ev ≡ true = allowed-with (ends s.at.run).manager.doubt (ends s.at.run).units.halt (line.number == (ends s.at.run).units.lines + 1) sure (way-unstopped way) (same-number line.number ((ends s.at.run).units.lines + 1) numbers.0) in
+          let due : MayCome (basis_of o) s.at.run ev = (λ x. subst (ReadsLineAs o.program.types o.asked line.number) q this-reads) in
+          let on : s'.at.run ≡ with_event s.at.run ev = run ∙ ap (with_event s.at.run) is in
           let none : began_by g.on.r ≡ None =
-          ap began_by (replied ∙ ap (reply_to (ends s.run)) is ∙ cond-true (applies (ends s.run) ev) (reply_with (ends s.run) ev) (reply_without (ends s.run) ev) a) in
+          ap began_by (replied ∙ ap (reply_to (ends s.at.run)) is ∙ cond-true (applies (ends s.at.run) ev) (reply_with (ends s.at.run) ev) (reply_without (ends s.at.run) ev) a) in
           let us : units_carried s'.agents ≡ units_carried s.agents = g.on.units ∙ ap (with_begun (units_carried s.agents)) (g.on.is ∙ none) in
-          let more : (ends s'.run).units.lines ≡ (ends s.run).units.lines + 1 =
-          ap (λ (x : Run). (ends x).units.lines) on ∙ ap (λ (x : CoreState). x.units.lines) (ends-more s.run ev) ∙ lines-bad (ends s.run) line.number why a in
+          let more : (ends s'.at.run).units.lines ≡ (ends s.at.run).units.lines + 1 =
+          ap (λ (x : Run). (ends x).units.lines) on ∙ ap (λ (x : CoreState). x.units.lines) (ends-more s.at.run ev) ∙ lines-bad (ends s.at.run) line.number why a in
           line-on ev on refl (λ h. apart why h) more g.few g.small
-          (loop-into o (with_event s.run ev) s'.run (units_carried s.agents) (units_carried s'.agents) s.used s'.used on us used (turn-bad l way.turning ev refl refl room due))
+          (loop-into o (with_event s.at.run ev) s'.at.run (units_carried s.agents) (units_carried s'.agents) s.used s'.used on us used (turn-bad l way.turning ev refl refl room due))
           begun settler counts world calm
         where
           apart : (y : BadRequest) → Bad line.number y ≡ Halt → ⊥

@@ -54,33 +54,33 @@ loop-into o r r' us us' used used' q p n t =
 
 module _ (tells : Bool) (o : Outset) (lines : List Line) (b : Books) (s s' : TurnStage) (way : IsUnderWay tells o o.program.types lines o.width o.picks b s) where
   abbrev l : TurnLoop
-  l = loop_at o s.run s.agents s.used
+  l = loop_at o s.at.run s.agents s.used
 
   -- the settler's event applies
-  settler-applies : (e : CoreEvent) → MakesEvent (settler_step (ends s.run)) e → applies (ends s.run) e ≡ true
-  settler-applies e makes = step-applies s.run e makes ∙ ap (λ (h : Bool). not h || is_after_halt e) (way-unstopped way)
+  settler-applies : (e : CoreEvent) → MakesEvent (settler_step (ends s.at.run)) e → applies (ends s.at.run) e ≡ true
+  settler-applies e makes = step-applies s.at.run e makes ∙ ap (λ (h : Bool). not h || is_after_halt e) (way-unstopped way)
 
   -- a turn of the settler
-  pub settler-went : {T : Type 0} (done : T) → IsPicked l OfSettler → (e : CoreEvent) → MakesEvent (settler_step (ends s.run)) e → s'.run ≡ with_event s.run e
-      → SettledOn {T = T} tells o b s.run s'.run s.settler s'.settler s'.counts s.world s'.world (Ok done)
+  pub settler-went : {T : Type 0} (done : T) → IsPicked l OfSettler → (e : CoreEvent) → MakesEvent (settler_step (ends s.at.run)) e → s'.at.run ≡ with_event s.at.run e
+      → SettledOn {T = T} tells o b s.at s'.at (Ok done)
       → units_carried s'.agents ≡ units_carried s.agents → s'.used ≡ s.used + 1 → s'.begun ≡ s.begun
       → WentOn tells o o.program.types lines o.width o.picks b s s'
   settler-went done pick e makes run on agents used begun =
-      let is = settlers (settler_step (ends s.run)) e makes in
-      let same : (ends s'.run).units.lines ≡ (ends s.run).units.lines =
-      ap (λ (x : Run). (ends x).units.lines) run ∙ ap (λ (x : CoreState). x.units.lines) (ends-more s.run e) ∙ lines-stay (ends s.run) e (settler-no-line e is.0) in
-      let next : (ends s'.run).units.next ≡ (ends s.run).units.next =
-      ap (λ (x : Run). (ends x).units.next) run ∙ ap (λ (x : CoreState). x.units.next) (ends-more s.run e) ∙ next-stays (ends s.run) e is.1 in
+      let is = settlers (settler_step (ends s.at.run)) e makes in
+      let same : (ends s'.at.run).units.lines ≡ (ends s.at.run).units.lines =
+      ap (λ (x : Run). (ends x).units.lines) run ∙ ap (λ (x : CoreState). x.units.lines) (ends-more s.at.run e) ∙ lines-stay (ends s.at.run) e (settler-no-line e is.0) in
+      let next : (ends s'.at.run).units.next ≡ (ends s.at.run).units.next =
+      ap (λ (x : Run). (ends x).units.next) run ∙ ap (λ (x : CoreState). x.units.next) (ends-more s.at.run e) ∙ next-stays (ends s.at.run) e is.1 in
       record {
         books = on.on.books;
         under_way = record {
-          outset = subst (λ (n : ℕ). IsOutset o o.program.types s'.run (drop n lines) o.width o.picks) (sym begun)
-              (outset-stays o o.program.types s.run s'.run (drop s.begun lines) o.width o.picks (ap (λ (x : Run). x.kinds) run) same way.outset);
-          numbers = subst (λ (n : ℕ). GoUpFrom (ends s'.run).units.lines (drop n lines)) (sym begun) (subst (λ (k : ℕ). GoUpFrom k (drop s.begun lines)) (sym same) way.numbers);
+          outset = subst (λ (n : ℕ). IsOutset o o.program.types s'.at.run (drop n lines) o.width o.picks) (sym begun)
+              (outset-stays o o.program.types s.at.run s'.at.run (drop s.begun lines) o.width o.picks (ap (λ (x : Run). x.kinds) run) same way.outset);
+          numbers = subst (λ (n : ℕ). GoUpFrom (ends s'.at.run).units.lines (drop n lines)) (sym begun) (subst (λ (k : ℕ). GoUpFrom k (drop s.begun lines)) (sym same) way.numbers);
           accepted = way.accepted;
           few = subst (λ (k : ℕ). k ≤ 2 ^ 63) (sym next) way.few;
           room = subst (λ (k : ℕ). k < 2 ^ 32) (sym same) way.room;
-          turning = loop-into o (with_event s.run e) s'.run (units_carried s.agents) (units_carried s'.agents) (s.used + 1) s'.used run agents used (turn-settler l way.turning e pick makes (settler-applies e makes));
+          turning = loop-into o (with_event s.at.run e) s'.at.run (units_carried s.agents) (units_carried s'.agents) (s.used + 1) s'.used run agents used (turn-settler l way.turning e pick makes (settler-applies e makes));
           books = on.on.kept;
           even = on.says.0;
           left = on.says.1;
@@ -89,14 +89,14 @@ module _ (tells : Bool) (o : Outset) (lines : List Line) (b : Books) (s s' : Tur
       }
 
   -- and where it ends the run
-  pub settler-ends : {T : Type 0} → IsPicked l OfSettler → SettlesBy s.run s'.run → (fault : RunFault)
-      → SettledOn {T = T} tells o b s.run s'.run s.settler s'.settler s'.counts s.world s'.world (Err fault)
-      → RecordGoesOn {T = Bool} tells o b s.run s'.run s.settler s'.settler s'.counts s.world s'.world (Err fault)
+  pub settler-ends : {T : Type 0} → IsPicked l OfSettler → SettlesBy s.at.run s'.at.run → (fault : RunFault)
+      → SettledOn {T = T} tells o b s.at s'.at (Err fault)
+      → RecordGoesOn {T = Bool} tells o b s.at s'.at (Err fault)
   settler-ends {T} pick by fault on = record {
     books = on.on.books;
     record_kept = record {
       above = above by;
-      units = settles-rule o s.run s'.run by way.turning.unit_rule;
+      units = settles-rule o s.at.run s'.at.run by way.turning.unit_rule;
       turns = turns by;
       books = on.on.kept;
     };
@@ -104,16 +104,16 @@ module _ (tells : Bool) (o : Outset) (lines : List Line) (b : Books) (s s' : Tur
     ended = ends-so fault on.says;
   }
     where
-      above : SettlesBy s.run s'.run → 0 < s'.run.base
+      above : SettlesBy s.at.run s'.at.run → 0 < s'.at.run.base
       above (inl q) = subst (λ (x : Run). 0 < x.base) (sym q) way.turning.first
       above (inr x) = subst (λ (x : Run). 0 < x.base) (sym x.2) way.turning.first
 
-      turns : SettlesBy s.run s'.run → o.ruled ≡ true → KeepsTurnRule o.program.types (length o.asked) o.width o.picks s'.run
+      turns : SettlesBy s.at.run s'.at.run → o.ruled ≡ true → KeepsTurnRule o.program.types (length o.asked) o.width o.picks s'.at.run
       turns (inl q) ruled = subst (KeepsTurnRule o.program.types (length o.asked) o.width o.picks) (sym q) (way.turning.turn_rule ruled)
       turns (inr x) ruled =
           subst (KeepsTurnRule o.program.types (length o.asked) o.width o.picks) (sym x.2) ((turn-settler l way.turning x.0 pick x.1 (settler-applies x.0 x.1)).turn_rule ruled)
 
-      ends-so : (f : RunFault) → SettledSays {T = T} o on.on.books s'.run s'.settler s'.counts (Err f) → TurnsEndAs o on.on.books s'.run s'.settler s'.counts {T = Bool} (Err f)
+      ends-so : (f : RunFault) → SettledSays {T = T} o on.on.books s'.at (Err f) → TurnsEndAs o on.on.books s'.at {T = Bool} (Err f)
       ends-so InDoubt x = x
       ends-so WriteFault x = x
       ends-so Memory x = x

@@ -31,6 +31,7 @@ use Rattle.interleaver.proofs.Choosing.{at-outset}
 use Rattle.interleaver.proofs.Flying.{kept-flown, lines-flying}
 use Rattle.interleaver.proofs.Lacking.{lacks-none, line-lacks}
 use Rattle.interleaver.proofs.LineTurns.{drop-at, line-went}
+use Rattle.run_books.specs.Stages.{stage_by}
 
 -- nothing is behind the last
 drop-none : {A : Type 0} (xs : List A) (i : ℕ) → slice_get xs i ≡ None → drop i xs ≡ []
@@ -57,27 +58,27 @@ still-carried types r doubted before after is carried = subst (AreCarried types 
     by false = drops-carried types none_comes (own_sight r) before (is_flown (ends r)) carried
 
 module _ (tells : Bool) (o : Outset) (types : ProgramTree) (lines : List Line) (width : ℕ) (picks : List ℕ) (b : Books) (s : TurnStage) (agents : List Agent)
-    (is : agents ≡ flown_unless s.settler.doubted (ends s.run) s.agents) (carried : AreCarried types none_comes (own_sight s.run) s.agents) (way : IsUnderWay tells o types lines width picks b s) where
-  legal : IsLegalRun s.run
-  legal = legal-run (basis_of o) s.run way.turning.first way.turning.unit_rule
+    (is : agents ≡ flown_unless s.at.settler.doubted (ends s.at.run) s.agents) (carried : AreCarried types none_comes (own_sight s.at.run) s.agents) (way : IsUnderWay tells o types lines width picks b s) where
+  legal : IsLegalRun s.at.run
+  legal = legal-run (basis_of o) s.at.run way.turning.first way.turning.unit_rule
 
-  calm : s.settler.doubted ≡ false → (ends s.run).manager.doubt ≡ None
-  calm q = none-of (ends s.run).manager.doubt (sym way.books.doubt ∙ q)
+  calm : s.at.settler.doubted ≡ false → (ends s.at.run).manager.doubt ≡ None
+  calm q = none-of (ends s.at.run).manager.doubt (sym way.books.doubt ∙ q)
 
-  came : AllByRecursion (λ (a : Agent). (ends s.run).units.origin a.carried.unit ≡ a.carried.origin) s.agents
-  came = subst (λ (x : Run). AllByRecursion (λ (a : Agent). (ends x).units.origin a.carried.unit ≡ a.carried.origin) s.agents) (own-run s.run) carried.came
+  came : AllByRecursion (λ (a : Agent). (ends s.at.run).units.origin a.carried.unit ≡ a.carried.origin) s.agents
+  came = subst (λ (x : Run). AllByRecursion (λ (a : Agent). (ends x).units.origin a.carried.unit ≡ a.carried.origin) s.agents) (own-run s.at.run) carried.came
 
-  still : AreCarried types none_comes (own_sight s.run) agents
-  still = still-carried types s.run s.settler.doubted s.agents agents is carried
+  still : AreCarried types none_comes (own_sight s.at.run) agents
+  still = still-carried types s.at.run s.at.settler.doubted s.agents agents is carried
 
-  kept-same : filter (is_kept (ends s.run)) (units_carried agents) ≡ filter (is_kept (ends s.run)) (units_carried s.agents)
-  kept-same = subst (λ (xs : List Agent). filter (is_kept (ends s.run)) (units_carried xs) ≡ filter (is_kept (ends s.run)) (units_carried s.agents)) (sym is) (by s.settler.doubted refl)
+  kept-same : filter (is_kept (ends s.at.run)) (units_carried agents) ≡ filter (is_kept (ends s.at.run)) (units_carried s.agents)
+  kept-same = subst (λ (xs : List Agent). filter (is_kept (ends s.at.run)) (units_carried xs) ≡ filter (is_kept (ends s.at.run)) (units_carried s.agents)) (sym is) (by s.at.settler.doubted refl)
     where
-      by : (d : Bool) → s.settler.doubted ≡ d → filter (is_kept (ends s.run)) (units_carried (flown_unless d (ends s.run) s.agents)) ≡ filter (is_kept (ends s.run)) (units_carried s.agents)
+      by : (d : Bool) → s.at.settler.doubted ≡ d → filter (is_kept (ends s.at.run)) (units_carried (flown_unless d (ends s.at.run) s.agents)) ≡ filter (is_kept (ends s.at.run)) (units_carried s.agents)
       by true q = refl
-      by false q = kept-flown types s.run legal (calm q) s.agents carried.known came
+      by false q = kept-flown types s.at.run legal (calm q) s.agents carried.known came
 
-  turning : IsTurning (loop_at o s.run agents s.used)
+  turning : IsTurning (loop_at o s.at.run agents s.used)
   turning = record {
     first = way.turning.first;
     unit_rule = way.turning.unit_rule;
@@ -85,7 +86,7 @@ module _ (tells : Bool) (o : Outset) (types : ProgramTree) (lines : List Line) (
     turn_rule = way.turning.turn_rule;
     kept = record {
       kept = kept-same ∙ way.turning.kept.kept;
-      below = λ u m. subst (λ (x : Run). u.0 < (ends x).units.next) (own-run s.run) (still.below u m);
+      below = λ u m. subst (λ (x : Run). u.0 < (ends x).units.next) (own-run s.at.run) (still.below u m);
     };
     older = still.older;
     count = way.turning.count;
@@ -106,55 +107,55 @@ module _ (tells : Bool) (o : Outset) (types : ProgramTree) (lines : List Line) (
   }
 
   -- so many lines are in flight as agents of lines are left
-  flying : s.settler.doubted ≡ false → length (filter (is_flying (ends s.run)) (units_carried agents)) ≡ lines_carried agents
-  flying q = subst (λ (xs : List Agent). length (filter (is_flying (ends s.run)) (units_carried xs)) ≡ lines_carried xs) (sym (is ∙ ap (λ (d : Bool). flown_unless d (ends s.run) s.agents) q))
-      (lines-flying types s.run legal (calm q) (way-unstopped way) s.agents carried.known came)
+  flying : s.at.settler.doubted ≡ false → length (filter (is_flying (ends s.at.run)) (units_carried agents)) ≡ lines_carried agents
+  flying q = subst (λ (xs : List Agent). length (filter (is_flying (ends s.at.run)) (units_carried xs)) ≡ lines_carried xs) (sym (is ∙ ap (λ (d : Bool). flown_unless d (ends s.at.run) s.agents) q))
+      (lines-flying types s.at.run legal (calm q) (way-unstopped way) s.agents carried.known came)
 
-  narrow : s.settler.doubted ≡ false → nat_lt (length (filter (is_flying (ends s.run)) (units_carried agents))) o.width ≡ nat_lt (lines_carried agents) width
+  narrow : s.at.settler.doubted ≡ false → nat_lt (length (filter (is_flying (ends s.at.run)) (units_carried agents))) o.width ≡ nat_lt (lines_carried agents) width
   narrow q = ap (λ (n : ℕ). nat_lt n o.width) (flying q) ∙ ap (λ (k : ℕ). nat_lt (lines_carried agents) k) way.outset.width_is
 
   abbrev Left : Bool
-  Left = nat_lt (ends s.run).units.lines (length o.asked)
+  Left = nat_lt (ends s.at.run).units.lines (length o.asked)
 
   -- the line that begins next has room
-  pub room-some : (line : Line) → Some line ≡ next_line_by s.settler.doubted agents width s.begun lines
-      → (slice_get lines s.begun ≡ Some line) × (has_room (loop_at o s.run agents s.used) ≡ true) × (s.settler.doubted ≡ false)
-  room-some line = by s.settler.doubted refl (nat_lt (lines_carried agents) width) refl
+  pub room-some : (line : Line) → Some line ≡ next_line_by s.at.settler.doubted agents width s.begun lines
+      → (slice_get lines s.begun ≡ Some line) × (has_room (loop_at o s.at.run agents s.used) ≡ true) × (s.at.settler.doubted ≡ false)
+  room-some line = by s.at.settler.doubted refl (nat_lt (lines_carried agents) width) refl
     where
-      by : (d : Bool) → s.settler.doubted ≡ d → (few : Bool) → nat_lt (lines_carried agents) width ≡ few → Some line ≡ (if d || not few then None else slice_get lines s.begun)
-          → (slice_get lines s.begun ≡ Some line) × (has_room (loop_at o s.run agents s.used) ≡ true) × (s.settler.doubted ≡ false)
+      by : (d : Bool) → s.at.settler.doubted ≡ d → (few : Bool) → nat_lt (lines_carried agents) width ≡ few → Some line ≡ (if d || not few then None else slice_get lines s.begun)
+          → (slice_get lines s.begun ≡ Some line) × (has_room (loop_at o s.at.run agents s.used) ≡ true) × (s.at.settler.doubted ≡ false)
       by true q few p x = absurd cc
       by false q false p x = absurd cc
       by false q true p x =
           let at = drop-at lines s.begun line (sym x) in
           let long : length (drop s.begun lines) ≡ suc (length (drop (suc s.begun) lines)) = ap length at in
           let all = way.outset.all in
-          let some : (ends s.run).units.lines < length o.asked = omega (arith, all, long) in (
+          let some : (ends s.at.run).units.lines < length o.asked = omega (arith, all, long) in (
             sym x,
-            ap (λ (z : Bool). z && (nat_lt (length (filter (is_flying (ends s.run)) (units_carried agents))) o.width && Left)) (ap is_none (calm q))
-                ∙ ap (λ (z : Bool). z && Left) (narrow q ∙ p) ∙ lt-ltb (ends s.run).units.lines (length o.asked) some,
+            ap (λ (z : Bool). z && (nat_lt (length (filter (is_flying (ends s.at.run)) (units_carried agents))) o.width && Left)) (ap is_none (calm q))
+                ∙ ap (λ (z : Bool). z && Left) (narrow q ∙ p) ∙ lt-ltb (ends s.at.run).units.lines (length o.asked) some,
             q,
           )
 
   -- where none begins, none has
-  pub room-none : None ≡ next_line_by s.settler.doubted agents width s.begun lines → has_room (loop_at o s.run agents s.used) ≡ false
-  room-none = by s.settler.doubted refl (nat_lt (lines_carried agents) width) refl
+  pub room-none : None ≡ next_line_by s.at.settler.doubted agents width s.begun lines → has_room (loop_at o s.at.run agents s.used) ≡ false
+  room-none = by s.at.settler.doubted refl (nat_lt (lines_carried agents) width) refl
     where
-      by : (d : Bool) → s.settler.doubted ≡ d → (few : Bool) → nat_lt (lines_carried agents) width ≡ few → None ≡ (if d || not few then None else slice_get lines s.begun) → has_room (loop_at o s.run agents s.used) ≡ false
+      by : (d : Bool) → s.at.settler.doubted ≡ d → (few : Bool) → nat_lt (lines_carried agents) width ≡ few → None ≡ (if d || not few then None else slice_get lines s.begun) → has_room (loop_at o s.at.run agents s.used) ≡ false
       by true q few p x =
-          ap (λ (z : Bool). z && (nat_lt (length (filter (is_flying (ends s.run)) (units_carried agents))) o.width && Left)) (some-is (ends s.run).manager.doubt (sym way.books.doubt ∙ q))
+          ap (λ (z : Bool). z && (nat_lt (length (filter (is_flying (ends s.at.run)) (units_carried agents))) o.width && Left)) (some-is (ends s.at.run).manager.doubt (sym way.books.doubt ∙ q))
       by false q false p x =
-          ap (λ (z : Bool). z && (nat_lt (length (filter (is_flying (ends s.run)) (units_carried agents))) o.width && Left)) (ap is_none (calm q))
+          ap (λ (z : Bool). z && (nat_lt (length (filter (is_flying (ends s.at.run)) (units_carried agents))) o.width && Left)) (ap is_none (calm q))
           ∙ ap (λ (z : Bool). z && Left) (narrow q ∙ p)
       by false q true p x =
-          ap (λ (z : Bool). z && (nat_lt (length (filter (is_flying (ends s.run)) (units_carried agents))) o.width && Left)) (ap is_none (calm q))
+          ap (λ (z : Bool). z && (nat_lt (length (filter (is_flying (ends s.at.run)) (units_carried agents))) o.width && Left)) (ap is_none (calm q))
           ∙ ap (λ (z : Bool). z && Left) (narrow q ∙ p) ∙ none-left
         where
           none-left : Left ≡ false
           none-left = elim (cases_Bool Left) [
             | inr f ↦ f
             | inl t ↦ absurd (
-                let lt : (ends s.run).units.lines < length o.asked = ltb-true (ends s.run).units.lines (length o.asked) t in
+                let lt : (ends s.at.run).units.lines < length o.asked = ltb-true (ends s.at.run).units.lines (length o.asked) t in
                 let none : length (drop s.begun lines) ≡ 0 = ap length (drop-none lines s.begun (sym x)) in
                 let all = way.outset.all in omega (arith, lt, none, all))
           ]
@@ -169,28 +170,28 @@ module _ (tells : Bool) (o : Outset) (types : ProgramTree) (lines : List Line) (
   says-from s' (Err f) g = g
 
   -- a line's turn
-  pub line-says : (keeps : OthersKeep) (line : Line) → Some line ≡ next_line_by s.settler.doubted agents width s.begun lines → (s' : TurnStage) → BeganOn types line s.run s'.run agents s'.agents
-      → s'.used ≡ s.used → s'.begun ≡ s.begun + 1 → s'.settler ≡ s.settler → s'.counts ≡ s.counts → s'.world ≡ s.world → WentOn tells o types lines width picks b s s'
+  pub line-says : (keeps : OthersKeep) (line : Line) → Some line ≡ next_line_by s.at.settler.doubted agents width s.begun lines → (s' : TurnStage) → BeganOn types line s.at.run s'.at.run agents s'.agents
+      → s'.used ≡ s.used → s'.begun ≡ s.begun + 1 → s'.at.settler ≡ s.at.settler → s'.at.faults ≡ s.at.faults → s'.at.world ≡ s.at.world → WentOn tells o types lines width picks b s s'
   line-says keeps line next s' g used begun settler counts world =
       let found = room-some line next in
       went-from s'
-      (at-outset (λ t n ps. IsUnderWay tells o t lines n ps b (record s { agents = agents }) → BeganOn t line s.run s'.run agents s'.agents → WentOn tells o t lines n ps b (record s { agents = agents }) s')
-      o types s.run (drop s.begun lines) width picks way.outset
+      (at-outset (λ t n ps. IsUnderWay tells o t lines n ps b (record s { agents = agents }) → BeganOn t line s.at.run s'.at.run agents s'.agents → WentOn tells o t lines n ps b (record s { agents = agents }) s')
+      o types s.at.run (drop s.begun lines) width picks way.outset
       (λ w x. line-went keeps tells o lines b (record s { agents = agents }) s' w line found.0 found.1 x used begun settler counts world found.2) dropped-way g)
 
   -- or its event has no memory
-  pub line-out-says : (keeps : OthersKeep) (line : Line) → Some line ≡ next_line_by s.settler.doubted agents width s.begun lines → (r' : Run)
-      → Looks none_comes (own_sight s.run) (own_sight r') ⊎ ((y : CoreReply) × PutsLine none_comes types line.number line.what (own_sight s.run) (own_sight r') y)
-      → RecordGoesOn {T = Bool} tells o b s.run r' s.settler s.settler s.counts s.world s.world (Err Memory)
+  pub line-out-says : (keeps : OthersKeep) (line : Line) → Some line ≡ next_line_by s.at.settler.doubted agents width s.begun lines → (r' : Run)
+      → Looks none_comes (own_sight s.at.run) (own_sight r') ⊎ ((y : CoreReply) × PutsLine none_comes types line.number line.what (own_sight s.at.run) (own_sight r') y)
+      → RecordGoesOn {T = Bool} tells o b s.at (stage_by r' s.at.settler s.at.faults s.at.world) (Err Memory)
   line-out-says keeps line next r' put =
       let found = room-some line next in
-      at-outset (λ t n ps. IsUnderWay tells o t lines n ps b (record s { agents = agents }) → Looks none_comes (own_sight s.run) (own_sight r') ⊎ ((y : CoreReply) × PutsLine none_comes t line.number line.what (own_sight s.run) (own_sight r') y)
-      → RecordGoesOn {T = Bool} tells o b s.run r' s.settler s.settler s.counts s.world s.world (Err Memory))
-      o types s.run (drop s.begun lines) width picks way.outset
+      at-outset (λ t n ps. IsUnderWay tells o t lines n ps b (record s { agents = agents }) → Looks none_comes (own_sight s.at.run) (own_sight r') ⊎ ((y : CoreReply) × PutsLine none_comes t line.number line.what (own_sight s.at.run) (own_sight r') y)
+      → RecordGoesOn {T = Bool} tells o b s.at (stage_by r' s.at.settler s.at.faults s.at.world) (Err Memory))
+      o types s.at.run (drop s.begun lines) width picks way.outset
       (λ w x. line-lacks keeps tells o lines b (record s { agents = agents }) r' w line found.0 found.1 x) dropped-way put
 
   -- or there was none for the line itself
-  pub unread-says : (keeps : OthersKeep) → RecordGoesOn {T = Bool} tells o b s.run s.run s.settler s.settler s.counts s.world s.world (Err Memory)
+  pub unread-says : (keeps : OthersKeep) → RecordGoesOn {T = Bool} tells o b s.at s.at (Err Memory)
   unread-says keeps =
-      at-outset (λ t n ps. IsUnderWay tells o t lines n ps b s → RecordGoesOn {T = Bool} tells o b s.run s.run s.settler s.settler s.counts s.world s.world (Err Memory))
-      o types s.run (drop s.begun lines) width picks way.outset (λ w. lacks-none keeps tells o lines b s s.run w refl) way
+      at-outset (λ t n ps. IsUnderWay tells o t lines n ps b s → RecordGoesOn {T = Bool} tells o b s.at s.at (Err Memory))
+      o types s.at.run (drop s.begun lines) width picks way.outset (λ w. lacks-none keeps tells o lines b s s.at.run w refl) way

@@ -34,6 +34,7 @@ use Rattle.run_books.specs.declared.faults.RunFault.{RunFault}
 use Rattle.run_books.specs.declared.faults.RunFault.TheVariants as fault
 use Rattle.run_books.proofs.BooksStated.{SettledKeep}
 use Rattle.interleaver.proofs.Alone.{own-same}
+use Rattle.run_books.specs.Stages.{stage_of}
 
 -- a look at what one has alone, then an event: the run's next event
 two-on : (r r' : Run) (seen mid : Sight) (e : CoreEvent) (reply : CoreReply) → Looks none_comes (own_sight r) seen → MakesEvent (settler_step (state_shown seen)) e
@@ -105,12 +106,12 @@ settles-rule o r r' (inr s) k =
 module _ {H E : Type 0} (keeps : SettledKeep) (tells : Bool) (world : H → World) (faults : H → Channel → ℕ) (shape : Shape) (r r' : Run) (before after : Settler) (old new : H)
     (result : Result Turned E) (turns : TurnsAs tells world faults none_comes shape before after (own_sight r) (own_sight r') old new result)
     (o : Outset) (b : Books) (can : CanSettle o shape r) (even : AreEven before.quiet b (ends r)) (left : before.doubted ≡ true → has_unwritten (ends r) ≡ true)
-    (books : KeepsBooks tells o b r before (faults old) (world old)) where
+    (books : KeepsBooks tells o b (stage_of world faults r before old)) where
   abbrev Settled : (T : Type 0) → Result T RunFault → Type 0
-  Settled T answer = SettledOn {T = T} tells o b r r' before after (faults new) (world old) (world new) answer
+  Settled T answer = SettledOn {T = T} tells o b (stage_of world faults r before old) (stage_of world faults r' after new) answer
 
   abbrev Says : Result Turned E → Type 0
-  Says x = (g : BooksGoOn tells o b r r' before after (faults new) (world old) (world new)) × SaysOfStep o g.books r' after (faults new) x
+  Says x = (g : BooksGoOn tells o b (stage_of world faults r before old) (stage_of world faults r' after new)) × SaysOfStep o g.books (stage_of world faults r' after new) x
 
   abbrev Turns : Result Turned E → Type 0
   Turns x = TurnsAs tells world faults none_comes shape before after (own_sight r) (own_sight r') old new x

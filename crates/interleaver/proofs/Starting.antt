@@ -36,6 +36,7 @@ use Rattle.run_books.specs.Books.{Books}
 use Rattle.interleaver.specs.Turns.{KeepsTurns as KeepsRecord, IsFreshRecord}
 use Rattle.interleaver.specs.UnderWay.{IsUnderWay}
 use Rattle.run_books.proofs.Resting.{even-at-rest}
+use Rattle.run_books.specs.Stages.{stage_by}
 
 units-above : (n b : ℕ) (u : UnitNo) → Member u (units_from n b) → b ≤ u.0
 units-above zero b u m = absurd m
@@ -97,8 +98,8 @@ module _ (o : Outset) (r : Run) (first : 0 < r.base) (rule : KeepsUnitRule (basi
 
 module _ (tells : Bool) (o : Outset) (types : ProgramTree) (lines : List Line) (width : ℕ) (picks : List ℕ) (b : Books) (used : ℕ) (r : Run) (settler : Settler) (counts : Channel → ℕ) (now : World) where
   -- all that holds on the way holds where nobody is carried yet
-  pub start : IsOutset o types r lines width picks → CanTurn r settler lines → IsFreshRecord o b used r → KeepsRecord tells o b r settler counts now → IsAcceptedProgram types → HasFewNumbers (ends r)
-      → IsUnderWay tells o types lines width picks b (record { run = r; settler = settler; counts = counts; world = now; agents = []; begun = 0; used = used })
+  pub start : IsOutset o types r lines width picks → CanTurn r settler lines → IsFreshRecord o b used r → KeepsRecord tells o b (stage_by r settler counts now) → IsAcceptedProgram types → HasFewNumbers (ends r)
+      → IsUnderWay tells o types lines width picks b (record { at = stage_by r settler counts now; agents = []; begun = 0; used = used })
   start is can fresh k accepted few = record {
     outset = is;
     numbers = can.numbers;

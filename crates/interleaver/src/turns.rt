@@ -1,5 +1,4 @@
-ghost use Rattle.std.specs.Prelude.{◌≡◌, ◌+◌, ◌-◌, ◌<◌, ◌≤◌, ◌^◌, ◌⊎◌, ℕ, List as AList, true, false, IsTrue, IfOk, IfErr, OnErr, length};
-ghost use Rattle.request_wire.specs.declared.requests.Line.{Line as ALine};
+ghost use Rattle.std.specs.Prelude.{◌≡◌, ◌+◌, ◌-◌, ◌<◌, ◌≤◌, ◌^◌, ◌⊎◌, List as AList, true, false, IfOk, IfErr, OnErr, length};
 ghost use Rattle.host_trait.specs.Files.{StaysReady};
 ghost use Rattle.core_model.specs.Legal.{Run, ends};
 ghost use Rattle.core_model.specs.Settler.{has_step, settler_step};
@@ -10,25 +9,19 @@ ghost use Rattle.history_core.specs.Cores.{run_of};
 ghost use Rattle.script_tree.specs.Programs.{ProgramTree, program_tree};
 ghost use Rattle.script_check.specs.Shapes.{type_shapes};
 ghost use Rattle.promise_spec.specs.TurnRule.{picks_used};
-ghost use Rattle.turn_rules.specs.Turning.{has_room};
 ghost use Rattle.txn_agent.specs.declared.agent.Agent.{Agent as AnAgent};
 ghost use Rattle.txn_agent.specs.Linked.{IsLegalRun};
 ghost use Rattle.txn_agent.specs.Stepping.{Acts};
 ghost use Rattle.worker_rules.specs.Stories.{NoneLoads};
-ghost use Rattle.batch_disk.specs.Writers.{IsInBounds, FitsDisk};
 ghost use Rattle.unit_carrier.specs.Carrying.{AreCarried, AreFreed, unit_at, units_carried};
 ghost use Rattle.unit_carrier.specs.Lines.{PutsLine};
-ghost use Rattle.settle_loop.specs.Turning.{has_unwritten};
 ghost use Rattle.run_books.specs.declared.faults.RunFault.TheVariants.{Memory};
-ghost use Rattle.run_books.specs.Beginnings.{Outset, CanTurn, IsOutset};
 ghost use Rattle.run_books.specs.Beside.{TurnsBeside};
-ghost use Rattle.run_books.specs.Books.{Books};
-ghost use Rattle.interleaver.specs.Flights.{lines_carried, loop_at, next_line_by};
+ghost use Rattle.interleaver.specs.Flights.{lines_carried, next_line_by};
 ghost use Rattle.interleaver.specs.Looking.{IsLooked, looked_after};
-ghost use Rattle.run_books.specs.Records.{KeepsBooks};
-ghost use Rattle.interleaver.specs.Turns.{KeepsTurns, IsFreshRecord, TurnsGoOn};
-ghost use Rattle.run_books.specs.Settling.{AreEven, CanSettle};
-ghost use Rattle.interleaver.specs.UnderWay.{stage_of, BeganOn, IsUnderWay, MovedOn, SettledOn, SettlesBy, SettlesOne, TurnSays};
+ghost use Rattle.interleaver.specs.Turns.{TurnsCarry, WhereTurnsBegin};
+ghost use Rattle.interleaver.specs.UnderWay.{turn_stage, BeganOn, HoldsUnits, MoveGoesOn, MovedOn, SettlesBy, SettlesOne, StepSettles, TurnGoesOn};
+ghost use Rattle.run_books.specs.Stages.{stage_of, IsSafe};
 
 use crate::flights::{drop_unless_doubted, lines_in};
 use crate::movers::{NextMover, next_mover, pick_at};
@@ -65,17 +58,16 @@ fn settle<H: Host, G: Gate>(
     host: &mut H,
     gate: &G,
 ) -> Result<(), RunFault>
-    requires bounds { IsInBounds settler.old.writer }
-    requires fits { IsTrue H.tells → FitsDisk settler.old.writer (H.world host.old).disk }
+    requires safe { IsSafe H.tells settler.old.writer (H.world host.old) }
     ensures settles { SettlesBy (run_of core.old) (run_of core.new) }
     ensures acted { IfOk result (λ _. has_step (settler_step (ends (run_of core.old))) ≡ true → SettlesOne (run_of core.old) (run_of core.new)) }
-    ensures goes { (o : Outset) (b : Books) → CanSettle o shape.now (run_of core.old) → AreEven settler.old.quiet b (ends (run_of core.old))
-        → (settler.old.doubted ≡ true → has_unwritten (ends (run_of core.old)) ≡ true)
-        → KeepsBooks H.tells o b (run_of core.old) settler.old (H.faults host.old) (H.world host.old)
-        → SettledOn H.tells o b (run_of core.old) (run_of core.new) settler.old settler.new (H.faults host.new) (H.world host.old) (H.world host.new) result }
-    ensures beside { TurnsBeside H.tells (run_of core.old) (run_of core.new) settler.old settler.new (H.faults host.old) (H.faults host.new) (H.world host.old) (H.world host.new) result }
-    ensures bounds { IsInBounds settler.new.writer }
-    ensures fits { IsTrue H.tells → FitsDisk settler.new.writer (H.world host.new).disk }
+    ensures goes { StepSettles H.tells shape.now
+        (stage_of H.world H.faults (run_of core.old) settler.old host.old)
+        (stage_of H.world H.faults (run_of core.new) settler.new host.new) result }
+    ensures beside { TurnsBeside H.tells
+        (stage_of H.world H.faults (run_of core.old) settler.old host.old)
+        (stage_of H.world H.faults (run_of core.new) settler.new host.new) result }
+    ensures safe { IsSafe H.tells settler.new.writer (H.world host.new) }
     ensures ready { StaysReady (H.is_ready host.old) (H.is_ready host.new) }
 {
     match settler.step(shape, core, host, gate)? {
@@ -180,12 +172,12 @@ impl Turns {
         requires carried { AreCarried (program_tree checked.now) none_comes (own_sight (run_of core.old)) self.old.agents.list.items }
         requires room { self.old.begun < 2 ^ 64 - 1 }
         ensures put { OnErr result (Looks none_comes (own_sight (run_of core.old)) (own_sight (run_of core.new))
-            ⊎ ((r : AReply) × PutsLine none_comes (program_tree checked.now) line.now.number line.now.what (own_sight (run_of core.old)) (own_sight (run_of core.new)) r)) }
+            ⊎ ((r : AReply) × PutsLine none_comes (program_tree checked.now) line.now.number line.now.what (own_sight (run_of core.old))
+            (own_sight (run_of core.new)) r)) }
         ensures memory { IfErr result (λ fault. fault ≡ Memory) }
-        ensures begins { IfOk result (λ _. BeganOn (program_tree checked.now) line.now (run_of core.old) (run_of core.new) self.old.agents.list.items self.new.agents.list.items) }
-        ensures carried { IfOk result (λ _. AreCarried (program_tree checked.now) none_comes (own_sight (run_of core.new)) self.new.agents.list.items) }
-        ensures looked { IfOk result (λ _. IsLooked self.new.looked (run_of core.new) (units_carried self.new.agents.list.items)) }
-        ensures freed { IfOk result (λ _. AreFreed self.new.front self.new.agents.list.items) }
+        ensures begins { IfOk result (λ _. BeganOn (program_tree checked.now) line.now (run_of core.old) (run_of core.new)
+            self.old.agents.list.items self.new.agents.list.items) }
+        ensures units { IfOk result (λ _. HoldsUnits (program_tree checked.now) (run_of core.new) self.new) }
         ensures begun { IfOk result (λ _. self.new.begun ≡ self.old.begun + 1) }
         ensures used { self.new.used ≡ self.old.used }
         ensures shape { self.new.shape ≡ self.old.shape }
@@ -210,15 +202,13 @@ impl Turns {
         index: usize,
     ) -> Result<(), RunFault>
         requires within { index < length self.old.agents.list.items }
-        requires carried { AreCarried (program_tree checked.now) none_comes (own_sight (run_of core.old)) self.old.agents.list.items }
-        requires looked { IsLooked self.old.looked (run_of core.old) (units_carried self.old.agents.list.items) }
-        requires freed { AreFreed self.old.front self.old.agents.list.items }
-        ensures acts { Acts none_comes (program_tree checked.now) (unit_at self.old.agents.list.items index) (own_sight (run_of core.old)) (own_sight (run_of core.new)) }
+        requires units { HoldsUnits (program_tree checked.now) (run_of core.old) self.old }
+        ensures acts { Acts none_comes (program_tree checked.now) (unit_at self.old.agents.list.items index)
+            (own_sight (run_of core.old)) (own_sight (run_of core.new)) }
         ensures memory { IfErr result (λ fault. fault ≡ Memory) }
-        ensures moves { IfOk result (λ _. MovedOn (program_tree checked.now) index (run_of core.old) (run_of core.new) self.old.agents.list.items self.new.agents.list.items) }
-        ensures carried { IfOk result (λ _. AreCarried (program_tree checked.now) none_comes (own_sight (run_of core.new)) self.new.agents.list.items) }
-        ensures looked { IfOk result (λ _. IsLooked self.new.looked (run_of core.new) (units_carried self.new.agents.list.items)) }
-        ensures freed { IfOk result (λ _. AreFreed self.new.front self.new.agents.list.items) }
+        ensures moves { IfOk result (λ _. MovedOn (program_tree checked.now) index (run_of core.old) (run_of core.new)
+            self.old.agents.list.items self.new.agents.list.items) }
+        ensures units { IfOk result (λ _. HoldsUnits (program_tree checked.now) (run_of core.new) self.new) }
         ensures begun { self.new.begun ≡ self.old.begun }
         ensures used { self.new.used ≡ self.old.used }
         ensures shape { self.new.shape ≡ self.old.shape }
@@ -242,25 +232,18 @@ impl Turns {
         gate: &G,
         picks: &[u32],
     ) -> Result<bool, RunFault>
-        requires carried { AreCarried (program_tree checked.now) none_comes (own_sight (run_of core.old)) self.old.agents.list.items }
-        requires looked { IsLooked self.old.looked (run_of core.old) (units_carried self.old.agents.list.items) }
-        requires freed { AreFreed self.old.front self.old.agents.list.items }
+        requires units { HoldsUnits (program_tree checked.now) (run_of core.old) self.old }
         requires room { self.old.used < 2 ^ 64 - 1 }
         requires shape { self.old.shape.types ≡ type_shapes (program_tree checked.now) }
-        requires bounds { IsInBounds settler.old.writer }
-        requires fits { IsTrue H.tells → FitsDisk settler.old.writer (H.world host.old).disk }
-        ensures turns { (o : Outset) (b : Books) (lines : AList ALine) (width : ℕ) → IsUnderWay H.tells o (program_tree checked.now) lines width picks.now b (stage_of (run_of core.old) settler.old (H.faults host.old) (H.world host.old) self.old)
-            → has_room (loop_at o (run_of core.old) self.old.agents.list.items self.old.used) ≡ false
-            → TurnSays H.tells o (program_tree checked.now) lines width picks.now b (stage_of (run_of core.old) settler.old (H.faults host.old) (H.world host.old) self.old) (stage_of (run_of core.new) settler.new (H.faults host.new) (H.world host.new) self.new) result }
-        ensures beside { TurnsBeside H.tells (run_of core.old) (run_of core.new) settler.old settler.new (H.faults host.old) (H.faults host.new) (H.world host.old) (H.world host.new) result }
-        ensures carried { IfOk result (λ _. AreCarried (program_tree checked.now) none_comes (own_sight (run_of core.new)) self.new.agents.list.items) }
-        ensures looked { IfOk result (λ _. IsLooked self.new.looked (run_of core.new) (units_carried self.new.agents.list.items)) }
-        ensures freed { IfOk result (λ _. AreFreed self.new.front self.new.agents.list.items) }
+        requires safe { IsSafe H.tells settler.old.writer (H.world host.old) }
+        ensures turns { MoveGoesOn H.tells (program_tree checked.now) picks.now
+            (turn_stage (stage_of H.world H.faults (run_of core.old) settler.old host.old) self.old)
+            (turn_stage (stage_of H.world H.faults (run_of core.new) settler.new host.new) self.new) result }
+        ensures units { IfOk result (λ _. HoldsUnits (program_tree checked.now) (run_of core.new) self.new) }
         ensures used { IfOk result (λ _. self.new.used ≤ self.old.used + 1) }
         ensures goes { IfOk result (λ more. more ≡ true → self.new.begun + self.new.used ≡ self.old.begun + self.old.used + 1) }
         ensures shape { self.new.shape ≡ self.old.shape }
-        ensures bounds { IsInBounds settler.new.writer }
-        ensures fits { IsTrue H.tells → FitsDisk settler.new.writer (H.world host.new).disk }
+        ensures safe { IsSafe H.tells settler.new.writer (H.world host.new) }
         ensures ready { StaysReady (H.is_ready host.old) (H.is_ready host.new) }
     {
         self.front = self.agents.freed_front(self.front);
@@ -301,25 +284,19 @@ impl Turns {
         width: u32,
         picks: &[u32],
     ) -> Result<bool, RunFault>
-        requires carried { AreCarried (program_tree checked.now) none_comes (own_sight (run_of core.old)) self.old.agents.list.items }
-        requires looked { IsLooked self.old.looked (run_of core.old) (units_carried self.old.agents.list.items) }
-        requires freed { AreFreed self.old.front self.old.agents.list.items }
+        requires units { HoldsUnits (program_tree checked.now) (run_of core.old) self.old }
         requires room { self.old.begun + self.old.used < 2 ^ 64 - 1 }
         requires shape { self.old.shape.types ≡ type_shapes (program_tree checked.now) }
-        requires bounds { IsInBounds settler.old.writer }
-        requires fits { IsTrue H.tells → FitsDisk settler.old.writer (H.world host.old).disk }
+        requires safe { IsSafe H.tells settler.old.writer (H.world host.old) }
         ensures same { L.lines lines.new ≡ L.lines lines.old }
-        ensures turns { (o : Outset) (b : Books) → IsUnderWay H.tells o (program_tree checked.now) (L.lines lines.old) width picks.now b (stage_of (run_of core.old) settler.old (H.faults host.old) (H.world host.old) self.old)
-            → TurnSays H.tells o (program_tree checked.now) (L.lines lines.old) width picks.now b (stage_of (run_of core.old) settler.old (H.faults host.old) (H.world host.old) self.old) (stage_of (run_of core.new) settler.new (H.faults host.new) (H.world host.new) self.new) result }
-        ensures beside { TurnsBeside H.tells (run_of core.old) (run_of core.new) settler.old settler.new (H.faults host.old) (H.faults host.new) (H.world host.old) (H.world host.new) result }
-        ensures carried { IfOk result (λ _. AreCarried (program_tree checked.now) none_comes (own_sight (run_of core.new)) self.new.agents.list.items) }
-        ensures looked { IfOk result (λ _. IsLooked self.new.looked (run_of core.new) (units_carried self.new.agents.list.items)) }
-        ensures freed { IfOk result (λ _. AreFreed self.new.front self.new.agents.list.items) }
+        ensures turns { TurnGoesOn H.tells (program_tree checked.now) (L.lines lines.old) width picks.now
+            (turn_stage (stage_of H.world H.faults (run_of core.old) settler.old host.old) self.old)
+            (turn_stage (stage_of H.world H.faults (run_of core.new) settler.new host.new) self.new) result }
+        ensures units { IfOk result (λ _. HoldsUnits (program_tree checked.now) (run_of core.new) self.new) }
         ensures used { IfOk result (λ _. self.new.used ≤ self.old.used + 1) }
         ensures goes { IfOk result (λ more. more ≡ true → self.new.begun + self.new.used ≡ self.old.begun + self.old.used + 1) }
         ensures shape { self.new.shape ≡ self.old.shape }
-        ensures bounds { IsInBounds settler.new.writer }
-        ensures fits { IsTrue H.tells → FitsDisk settler.new.writer (H.world host.new).disk }
+        ensures safe { IsSafe H.tells settler.new.writer (H.world host.new) }
         ensures ready { StaysReady (H.is_ready host.old) (H.is_ready host.new) }
     {
         drop_unless_doubted(
@@ -372,28 +349,21 @@ pub fn run_turns<H: Host, G: Gate, L: Lines>(
 ) -> Result<(), RunFault>
     requires legal { IsLegalRun (own_sight (run_of core.old)).first }
     requires loads { NoneLoads (own_sight (run_of core.old)).mine }
-    requires bounds { IsInBounds settler.old.writer }
-    requires fits { IsTrue H.tells → FitsDisk settler.old.writer (H.world host.old).disk }
+    requires safe { IsSafe H.tells settler.old.writer (H.world host.old) }
 
-    // The run's record, however it ends.
-    ensures record_kept { (o : Outset) (b : Books) → IsOutset o (program_tree checked.now) (run_of core.old) (L.lines lines.old) width turns.now
-        → CanTurn (run_of core.old) settler.old (L.lines lines.old) → IsFreshRecord o b used.old (run_of core.old)
-        → KeepsTurns H.tells o b (run_of core.old) settler.old (H.faults host.old) (H.world host.old)
-        → TurnsGoOn H.tells o b (run_of core.old) (run_of core.new) settler.old settler.new (H.faults host.new) (H.world host.old) (H.world host.new) result }
+    // The run's record, however it ends, and what it leaves beside that.
+    ensures carries { TurnsCarry H.tells (program_tree checked.now) (L.lines lines.old) width turns.now used.old
+        (stage_of H.world H.faults (run_of core.old) settler.old host.old)
+        (stage_of H.world H.faults (run_of core.new) settler.new host.new) result }
 
     // How many picks were used by then, where all is done.
-    ensures used { (o : Outset) (b : Books) → IsOutset o (program_tree checked.now) (run_of core.old) (L.lines lines.old) width turns.now
-        → CanTurn (run_of core.old) settler.old (L.lines lines.old) → IsFreshRecord o b used.old (run_of core.old)
-        → KeepsTurns H.tells o b (run_of core.old) settler.old (H.faults host.old) (H.world host.old)
-        → o.ruled ≡ true → IfOk result (λ _. picks_used (run_of core.new) (length (run_of core.new).events) ≡ used.new) }
+    ensures used { WhereTurnsBegin H.tells (program_tree checked.now) (L.lines lines.old) width turns.now used.old
+        (stage_of H.world H.faults (run_of core.old) settler.old host.old)
+        (λ o b. o.ruled ≡ true → IfOk result (λ _. picks_used (run_of core.new) (length (run_of core.new).events) ≡ used.new)) }
     ensures unused { IfErr result (λ _. used.new ≡ used.old) }
 
-    // And what it leaves beside that.
-    ensures beside { TurnsBeside H.tells (run_of core.old) (run_of core.new) settler.old settler.new (H.faults host.old) (H.faults host.new) (H.world host.old) (H.world host.new) result }
-
     ensures same { L.lines lines.new ≡ L.lines lines.old }
-    ensures bounds { IsInBounds settler.new.writer }
-    ensures fits { IsTrue H.tells → FitsDisk settler.new.writer (H.world host.new).disk }
+    ensures safe { IsSafe H.tells settler.new.writer (H.world host.new) }
     ensures ready { StaysReady (H.is_ready host.old) (H.is_ready host.new) }
 {
     core.show_few();

@@ -1,5 +1,5 @@
 -- The balances that a log stands for are those that the core keeps.
-use Rattle.std.proofs.Common.{◌≡◌, inl, inr, ℕ, zero, suc, ◌+◌, ◌<◌, ◌≤◌, ℤ, pos, ◌+ℤ◌, Bool, true, false, List, [], ◌∷◌, ◌++◌, Option, Some, None, length, map, filter, take, drop, get_or, unwrap_or, fold, refl, sym, ap, ◌∙◌, subst, arith, take-append-drop, get_or-drop, length-drop, true≢false}
+use Rattle.std.proofs.Common.{◌≡◌, inl, inr, ℕ, zero, suc, ◌+◌, ◌<◌, pos, ◌+ℤ◌, Bool, true, false, List, [], ◌∷◌, ◌++◌, Option, Some, None, map, filter, take, drop, get_or, unwrap_or, fold, refl, sym, ap, ◌∙◌, subst, arith, take-append-drop, get_or-drop, length-drop, true≢false}
 use Rattle.core_model.specs.CoreState.{UnitNo, GrainId, Value, Write, CoreState, Member, nobody}
 use Rattle.core_model.specs.declared.effects.Effect.{Effect}
 use Rattle.core_model.specs.declared.phases.Verdict.{Verdict}
@@ -7,7 +7,6 @@ use Rattle.core_model.specs.declared.phases.Verdict.TheVariants.{Committed}
 use Rattle.core_model.specs.Effects.{effect_of}
 use Rattle.core_model.specs.Tests.{is_committed, state_written}
 use Rattle.core_model.specs.Serial as model
-use Rattle.core_model.specs.Legal.{Run, IsLegal, ends}
 use Rattle.core_laws.proofs.Ends.{serial-ends}
 use Rattle.core_laws.proofs.Orders.{Member-at}
 use Rattle.history_core.specs.Closing.{or_else, state_after, last_among, last_state}
@@ -15,17 +14,18 @@ use Rattle.history_core.specs.Kept.{IsCoreReached}
 use Rattle.history_core.proofs.Reached.{rests, closed-within, committed-closed}
 use Rattle.script_tree.specs.Programs.{ProgramTree}
 use Rattle.promise_spec.specs.Programs.{Program, IsChecked}
-use Rattle.promise_spec.specs.Records.{Commit, States, after_writes, new_silo, standing_of, AreRecordsOf}
+use Rattle.promise_spec.specs.Records.{Commit, States, after_writes, AreRecordsOf}
+use Rattle.promise_spec.specs.Entries.{Recorded, Standing, Log, after_entry, after_entries, new_log, standing_of}
 use Rattle.promise_spec.specs.UnitRule.{IsPlayOf}
 use Rattle.promise_spec.specs.Causes.{RunHasDoubt}
-use Rattle.promise_spec.specs.Courses.{Observed, Course, basis, order, opening_standing, core_run, core_end}
+use Rattle.promise_spec.specs.Courses.{Observed, Course, basis, order, core_run, core_end}
 use Rattle.promise_spec.specs.Explained.{IsExplained}
 use Rattle.promise_spec.specs.Loads.{account, balance_in, total_of, bank_text}
 use Rattle.promise_spec.proofs.Standings as standings
 use Rattle.promise_spec.proofs.Doubts.{doubt_left}
 use Rattle.promise_laws.specs.Legality.{is_play, applied_run}
 use Rattle.promise_laws.proofs.Legal.{is_play-true, ends_alike, legal}
-use Rattle.promise_laws.proofs.SerialRecords.{next-states, above_records}
+use Rattle.promise_laws.proofs.SerialRecords.{next-states, above_entries}
 use Rattle.bank_load.specs.Summaries.{kept_balance, total_kept}
 use Rattle.bank_load.proofs.BankText.{bank_is_empty}
 
@@ -117,29 +117,34 @@ totals_same : (states : States) (w : CoreState) → ((k : ℕ) → balance_in (s
 totals_same states w each zero = refl
 totals_same states w each (suc n) = λ i. totals_same states w each n i +ℤ each n i
 
-module _ (p : Program) (r : Observed) (c : Course) (is : IsExplained p r c) (checked : IsChecked p) (text : p.text ≡ bank_text) (opening : c.opening ≡ []) (sure : RunHasDoubt (core_run p c) → ⊥) where
+-- the states after some records
+written_there : (before : Standing) (more : List Commit) → (after_entries before (map Recorded more)).states ≡ fold after_writes before.states more
+written_there before [] = refl
+written_there before (c ∷ more) = written_there (after_entry before (Recorded c)) more
+
+module _ (p : Program) (r : Observed) (c : Course) (is : IsExplained p r c) (checked : IsChecked p) (text : p.text ≡ bank_text) (opening : c.opening ≡ new_log p) (sure : RunHasDoubt (core_run p c) → ⊥) where
   above : 0 < (core_run p c).base
-  above = above_records (new_silo p.types) c.opening (omega arith)
+  above = above_entries c.opening.base c.opening.entries (subst (λ (l : Log). 0 < l.base.next) (sym opening) (omega arith))
 
   records : AreRecordsOf (model.committed (core_end p c)) c.added
   records = elim is.records [ inl all ↦ all | inr more ↦ absurd (sure (doubt_left (core_run p c) more.begins more.doubt)) ]
 
-  serial : model.IsSerialOrder (is_play p.types) (opening_standing p c).states (model.committed (core_end p c))
-  serial = subst (λ w. model.IsSerialOrder (is_play p.types) (opening_standing p c).states (model.committed w)) (ends_alike (core_run p c))
+  serial : model.IsSerialOrder (is_play p.types) (standing_of c.opening).states (model.committed (core_end p c))
+  serial = subst (λ w. model.IsSerialOrder (is_play p.types) (standing_of c.opening).states (model.committed w)) (ends_alike (core_run p c))
       (serial-ends (is_play p.types) (applied_run (core_run p c)) (legal (basis p r c) (core_run p c) above is.units))
 
   -- a grain's state by the order is what its last committed writer wrote, or else the opening state
-  state_is : (g : GrainId) → (standing_of p.types (order c)).states g ≡ unwrap_or (last_state (core_end p c) g) ((opening_standing p c).states g)
+  state_is : (g : GrainId) → (standing_of (order c)).states g ≡ unwrap_or (last_state (core_end p c) g) ((standing_of c.opening).states g)
   state_is g =
-      (λ i. (standings.in_parts (new_silo p.types) c.opening c.added i).states g)
-      ∙ (λ i. standings.written (opening_standing p c) c.added i g)
-      ∙ sym (states_same p.types (opening_standing p c).states (opening_standing p c).states (model.committed (core_end p c)) c.added (λ x. refl) serial records g)
-      ∙ last_written (core_end p c) (opening_standing p c).states (opening_standing p c).states g (core_end p c).manager.order None refl
-      ∙ ap (λ (s : Option (List Value)). unwrap_or s ((opening_standing p c).states g)) (last_of_all (core_end p c) (core_run p c, above, refl, refl) g)
+      (λ i. (standings.grown_stands c.opening c.added i).states g)
+      ∙ (λ i. written_there (standing_of c.opening) c.added i g)
+      ∙ sym (states_same p.types (standing_of c.opening).states (standing_of c.opening).states (model.committed (core_end p c)) c.added (λ x. refl) serial records g)
+      ∙ last_written (core_end p c) (standing_of c.opening).states (standing_of c.opening).states g (core_end p c).manager.order None refl
+      ∙ ap (λ (s : Option (List Value)). unwrap_or s ((standing_of c.opening).states g)) (last_of_all (core_end p c) (core_run p c, above, refl, refl) g)
 
-  empty : (k : ℕ) → balance_in ((opening_standing p c).states (account k)) ≡ pos 0
-  empty k = ap balance_in (ap (λ (l : List Commit). (standing_of p.types l).states (account k)) opening ∙ bank_is_empty p k checked text)
+  empty : (k : ℕ) → balance_in ((standing_of c.opening).states (account k)) ≡ pos 0
+  empty k = ap balance_in (ap (λ (l : Log). (standing_of l).states (account k)) opening ∙ bank_is_empty p k checked text)
 
-  pub totals_kept : total_of (standing_of p.types (order c)).states 64 ≡ total_kept (core_end p c) 64
-  totals_kept = totals_same (standing_of p.types (order c)).states (core_end p c)
-      (λ k. ap balance_in (state_is (account k)) ∙ balance_kept (last_state (core_end p c) (account k)) ((opening_standing p c).states (account k)) (empty k)) 64
+  pub totals_kept : total_of (standing_of (order c)).states 64 ≡ total_kept (core_end p c) 64
+  totals_kept = totals_same (standing_of (order c)).states (core_end p c)
+      (λ k. ap balance_in (state_is (account k)) ∙ balance_kept (last_state (core_end p c) (account k)) ((standing_of c.opening).states (account k)) (empty k)) 64

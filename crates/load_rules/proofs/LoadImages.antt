@@ -1,22 +1,18 @@
 -- What each image of a load keeps: that of its turns, since the files stay while the summary is printed.
-use Rattle.std.proofs.Common.{◌≡◌, ◌≢◌, ◌⊎◌, inl, inr, ℕ, List, [], ◌∷◌, ◌++◌, Some, refl, sym, ap, ◌∙◌, subst, arith, append_assoc}
+use Rattle.std.proofs.Common.{◌≡◌, ◌≢◌, ◌⊎◌, inl, inr, ℕ, ◌<◌, List, [], ◌∷◌, ◌++◌, Some, refl, sym, ap, ◌∙◌, subst, append_assoc}
 use Rattle.core_model.specs.CoreState.{Member}
 use Rattle.host_trait.specs.declared.channels.Channel.{Channel}
-use Rattle.host_trait.specs.declared.channels.FileId.{FileId}
-use Rattle.host_trait.specs.declared.channels.FileId.TheVariants.{Program as ProgramFile, Manager, Grain}
-use Rattle.host_trait.specs.Disk.{FileState, MayLeave}
 use Rattle.host_trait.specs.World.{World, Disk, Moment, Image, IsImage, moment_of, last_of}
-use Rattle.silo_spec.specs.Silos.{HasProgram}
-use Rattle.silo_spec.specs.Slots.{IsLive}
-use Rattle.promise_spec.specs.Programs.{Program, shape_in}
-use Rattle.promise_spec.specs.Records.{Commit, new_silo}
-use Rattle.promise_spec.specs.Serial.{IsSerial}
-use Rattle.promise_spec.specs.Logs.{magic, IsLog}
+use Rattle.promise_spec.specs.Programs.{Program}
+use Rattle.promise_spec.specs.Records.{Commit}
+use Rattle.promise_spec.specs.Entries.{Log, grown, records_of, standing_of}
+use Rattle.promise_spec.specs.Serial.{IsSerialFrom}
+use Rattle.promise_spec.specs.Logs.{IsLog}
 use Rattle.promise_spec.specs.Images.{AreNumbered, IsSoundFolder}
 use Rattle.promise_spec.specs.Moments.{IsImageOf, IsLongest}
 use Rattle.promise_spec.specs.Causes.{RunHasDoubt}
 use Rattle.promise_spec.specs.Endings.{Ending}
-use Rattle.promise_spec.specs.Courses.{Observed, Course, order, moments, lines, opening_standing, core_run, core_end}
+use Rattle.promise_spec.specs.Courses.{Observed, Course, order, moments, lines, seen_at_entry, core_run, core_end}
 use Rattle.promise_spec.specs.Orders.{IsOrdered}
 use Rattle.promise_spec.specs.Crashes.{SurvivesCrashes, StaySound}
 use Rattle.promise_spec.specs.Explained.{ComeOfEvents, IsExplained}
@@ -24,9 +20,11 @@ use Rattle.promise_spec.specs.Exits.{ImagesMayDiffer, IsExit}
 use Rattle.promise_spec.specs.Journals.{KeepsJournal, commits_of}
 use Rattle.promise_spec.proofs.Lists.{either_in, in_append}
 use Rattle.promise_spec.proofs.OneLog.{one_log}
+use Rattle.promise_spec.proofs.Standings.{grown_records}
 use Rattle.promise_laws.proofs.Journaled as journaled
 use Rattle.promise_spec.proofs.Doubts.{doubt_left}
-use Rattle.promise_laws.specs.Obligations.{Opens, Journals, LeavesAtExit, ExplainsEvents, Lasts}
+use Rattle.promise_laws.specs.Obligations.{Opens, Journals}
+use Rattle.promise_laws.proofs.Bases.{begins_above}
 use Rattle.promise_laws.proofs.SerialRecords.{explained_serial}
 use Rattle.promise_laws.proofs.OneFamily.{explained_family}
 use Rattle.promise_laws.proofs.TrueReplies.{known_of}
@@ -47,12 +45,6 @@ image_among ms ns image among is =
     let h = among is.moment is.member in
     record { moment = h.moment; member = h.member; left = subst (λ (d : Disk). IsImage d image) h.disk is.left }
 
--- one image with the program file of another
-with_program : Image → Image → Image
-with_program image other (ProgramFile slot) = other (ProgramFile slot)
-with_program image other (Manager slot) = image (Manager slot)
-with_program image other (Grain slot grain) = image (Grain slot grain)
-
 module _ (p : Program) (n seed : ℕ) (r : Observed) (c : Course) (mid : World) (counts : Channel → ℕ) (turns_end : Ending) (turns told : List Moment) (s : ShowsLoad p n seed r c mid counts turns_end turns told) where
   abbrev then_seen : Observed
   then_seen = at_turns_end r mid counts turns_end
@@ -60,14 +52,17 @@ module _ (p : Program) (n seed : ℕ) (r : Observed) (c : Course) (mid : World) 
   abbrev then_course : Course
   then_course = turned_course c turns
 
-  o : Opens p then_seen then_course
+  o : Opens then_seen then_course
   o = s.lasts.opens
 
   j : Journals p then_seen then_course
   j = s.lasts.journals
 
+  pub based : 0 < c.opening.base.next
+  based = begins_above c.live (seen_at_entry r) c.opening o.read
+
   pub is : IsExplained p r c
-  is = explained p r c s.explains
+  is = explained p r c based s.explains
 
   -- ---- moments
 
@@ -119,54 +114,42 @@ module _ (p : Program) (n seed : ℕ) (r : Observed) (c : Course) (mid : World) 
 
   -- ---- the opening log
 
-  numbered : AreNumbered (new_silo p.types).next c.opening
-  numbered = opening_numbered p then_seen then_course o
+  numbered : AreNumbered c.opening.base.next (records_of c.opening)
+  numbered = opening_numbered then_seen then_course o
 
-  serial : IsSoundFolder p r.old → IsSerial p.types (new_silo p.types).states c.opening
-  serial folder = opening_serial p then_seen then_course o folder
-
-  -- each image has the program, as the program file is left alone
-  has_program : (image : Image) → IsImageOf (moments r c) image → HasProgram p.text (image (ProgramFile c.live))
-  unfolding with_program
-  has_program image of =
-      (o.folder.whole (with_program o.some image) mixed c.live live).program
-    where
-      live : IsLive magic c.live (with_program o.some image)
-      live = record { slot = (o.opened o.some o.possible).is_live.slot; silo = (o.opened o.some o.possible).is_live.silo }
-
-      then_of : IsImageOf (moments then_seen then_course) image
-      then_of = to_image image of
-
-      mixed : IsImage r.old.disk (with_program o.some image)
-      mixed (ProgramFile slot) = subst (λ (f : FileState). MayLeave f (image (ProgramFile slot))) ((j.alone then_of.moment then_of.member).aside (ProgramFile slot) tt) (then_of.left (ProgramFile slot))
-      mixed (Manager slot) = at_entry p then_seen then_course o o.some o.possible (Manager slot)
-      mixed (Grain slot grain) = at_entry p then_seen then_course o o.some o.possible (Grain slot grain)
+  serial : IsSoundFolder r.old → IsSerialFrom c.opening.base c.opening.entries
+  serial folder = opening_serial then_seen then_course o folder
 
   -- ---- clauses
 
-  order_is : order c ≡ c.opening ++ commits_of j.journal
-  order_is = ap (λ (l : List Commit). c.opening ++ l) j.commits
+  order_is : order c ≡ grown c.opening (commits_of j.journal)
+  order_is = ap (λ (l : List Commit). grown c.opening l) j.commits
+
+  -- the order's units are numbered
+  all_numbered : AreNumbered c.opening.base.next (records_of (grown c.opening (commits_of j.journal)))
+  all_numbered = subst (λ (l : Log). AreNumbered c.opening.base.next (records_of l)) order_is (order_numbered p r c based is numbered)
 
   kept_in : (image : Image) → (of : IsImageOf (moments then_seen then_course) image) → KeepsJournal c.live p c.opening r.old.output j.journal of.moment image
   kept_in image of = (j.kept of.moment of.member image of.left).0
 
-  longest : IsLongest c.live p (moments then_seen then_course) (order c)
+  longest : IsLongest c.live (moments then_seen then_course) (order c)
   longest =
-      subst (IsLongest c.live p (moments then_seen then_course)) (sym order_is)
-      (journaled.longest c.live p c.opening r.old.output j.journal (moments then_seen then_course) j.last j.left (subst (IsLog c.live (shape_in p) j.last) order_is j.longest)
+      subst (IsLongest c.live (moments then_seen then_course)) (sym order_is)
+      (journaled.longest c.live p c.opening r.old.output j.journal (moments then_seen then_course) j.last j.left (subst (IsLog c.live j.last) order_is j.longest)
       (λ m there image left. (j.kept m there image left).0))
 
   pub ordered : IsOrdered p r c
   ordered = record {
+    in_force = s.in_force;
     read = o.read;
-    opened = λ image possible. record { entry = at_entry p then_seen then_course o image possible; log = o.opened image possible };
+    opened = λ image possible. record { entry = at_entry then_seen then_course o image possible; log = o.opened image possible };
     longest = record {
       image = longest.image;
       left = of_image longest.image longest.left;
       log = longest.log;
-      longest = λ other of. longest.longest other (to_image other of);
+      longest = λ other log of has. longest.longest other log (to_image other of) has;
     };
-    serial = explained_serial p r c is;
+    serial = explained_serial p r c based is;
   }
 
   past : r.new.past ≡ r.old.past ++ (c.early ++ c.late)
@@ -175,7 +158,7 @@ module _ (p : Program) (n seed : ℕ) (r : Observed) (c : Course) (mid : World) 
       ∙ ap (λ (l : List Moment). r.old.past ++ l) (append_assoc c.early turns told)
       ∙ ap (λ (l : List Moment). r.old.past ++ (c.early ++ l)) (sym s.late)
 
-  pub crashes : SurvivesCrashes p r c
+  pub crashes : SurvivesCrashes r c
   crashes = record {
     past = past;
     quiet = o.quiet;
@@ -186,11 +169,14 @@ module _ (p : Program) (n seed : ℕ) (r : Observed) (c : Course) (mid : World) 
         journaled.chained c.live p c.opening r.old.output j.journal a.moment b.moment one other (kept_in one a) (kept_in other b));
     whole = λ image of.
         (let a = to_image image of in
-        journaled.whole c.live p c.opening r.old.output j.journal a.moment image (kept_in image a) (has_program image of)
-        (subst (AreNumbered 1) order_is (order_numbered p r c is numbered)));
+        journaled.whole c.live p c.opening r.old.output j.journal a.moment image (kept_in image a) all_numbered);
     keeps = λ image of.
         (let k = kept_in image (to_image image of) in
-        record { log = c.opening ++ commits_of (k.said ++ k.unsaid); is = k.log; longer = (commits_of (k.said ++ k.unsaid), refl) });
+        record {
+          more = commits_of (k.said ++ k.unsaid);
+          is = k.log;
+          front = (commits_of k.later, j.commits ∙ ap commits_of k.split ∙ journaled.commits_of-append (k.said ++ k.unsaid) k.later);
+        });
     alone = λ m there.
         (let h = to_turns m there in
         let a = j.alone h.moment h.member in
@@ -200,22 +186,22 @@ module _ (p : Program) (n seed : ℕ) (r : Observed) (c : Course) (mid : World) 
         });
   }
 
-  pub sound : IsSoundFolder p r.old → StaySound p r c
+  pub sound : IsSoundFolder r.old → StaySound r c
   sound folder image of =
       let a = to_image image of in
-      journaled.sound c.live p c.opening r.old.output j.journal a.moment image (kept_in image a) (has_program image of)
-      (subst (IsSerial p.types (new_silo p.types).states) order_is (order_serial p r c is (serial folder)))
-      (subst (AreNumbered 1) order_is (order_numbered p r c is numbered))
+      let all : IsSerialFrom c.opening.base (grown c.opening (commits_of j.journal)).entries =
+      subst (λ (l : Log). IsSerialFrom c.opening.base l.entries) order_is (order_serial p r c s.in_force based is (serial folder)) in
+      journaled.sound c.live p c.opening r.old.output j.journal a.moment image (kept_in image a) all all_numbered
 
   pub records : ComeOfEvents p r c
   records = record {
-    family = explained_family p r c is numbered;
+    family = explained_family p r c based is numbered;
     whole = λ image log of is_log. j.batches image log (to_image image of) is_log;
   }
 
   -- ---- the exit
 
-  logs : (image : Image) → IsImage r.new.disk image → (log : List Commit) × IsLog c.live (shape_in p) image log × ((log ≡ order c) ⊎ ((begins : ℕ) × ((core_end p c).manager.doubt ≡ Some begins)))
+  logs : (image : Image) → IsImage r.new.disk image → (log : Log) × IsLog c.live image log × ((log ≡ order c) ⊎ ((begins : ℕ) × ((core_end p c).manager.doubt ≡ Some begins)))
   logs image left =
       let x = s.lasts.leaves.logs image (at_exit image left) in
       (x.log, x.is, elim x.which [ inl whole ↦ inl whole | inr lacks ↦ inr (lacks.begins, lacks.doubt) ])
@@ -226,17 +212,17 @@ module _ (p : Program) (n seed : ℕ) (r : Observed) (c : Course) (mid : World) 
       record {
         rose = doubt-rose (core_run p c) _ _ left is.faults.seals;
         ending = is.doubt_ends left;
-        told = λ e m doubtful. doubt-told p.types (lines r) (opening_standing p c).states (opening_standing p c).next (core_end p c) (known_of p r c is) e (subst (λ l. Member e l) s.settled m) doubtful;
+        told = λ e m doubtful. doubt-told p.types (lines r) (standing_of c.opening).states (standing_of c.opening).next (core_end p c) (known_of p r c based is) e (subst (λ l. Member e l) s.settled m) doubtful;
       }
 
-  doubtful_batch : (one other : Image) (a b : List Commit) → IsImage r.new.disk one → IsImage r.new.disk other → IsLog c.live (shape_in p) one a → IsLog c.live (shape_in p) other b → a ≢ b
+  doubtful_batch : (one other : Image) (a b : Log) → IsImage r.new.disk one → IsImage r.new.disk other → IsLog c.live one a → IsLog c.live other b → a ≢ b
       → (begins : ℕ) × ((core_end p c).manager.doubt ≡ Some begins)
   doubtful_batch one other a b left left_too is_a is_b differ =
       let x = logs one left in
       let y = logs other left_too in
       elim x.2 [
         | inl whole ↦ elim y.2 [
-          | inl whole_too ↦ absurd (differ (one_log c.live c.live (shape_in p) one a x.0 is_a x.1 ∙ whole ∙ sym whole_too ∙ one_log c.live c.live (shape_in p) other y.0 b y.1 is_b))
+          | inl whole_too ↦ absurd (differ (one_log c.live c.live one a x.0 is_a x.1 ∙ whole ∙ sym whole_too ∙ one_log c.live c.live other y.0 b y.1 is_b))
           | inr lacks ↦ lacks
         ]
         | inr lacks ↦ lacks
@@ -255,13 +241,14 @@ module _ (p : Program) (n seed : ℕ) (r : Observed) (c : Course) (mid : World) 
           ];
         });
     doubt = λ one other a b left left_too is_a is_b differ. (let d = doubtful_batch one other a b left left_too is_a is_b differ in doubted d.0 d.1);
-    nowhere = λ e there what none l member. none s.whole.image (order c) l (subst (λ (d : Disk). IsImage d s.whole.image) (sym s.disk) s.whole.left) s.whole.has (in_append l c.opening c.added (inr member));
+    nowhere = λ e there what none l member. none s.whole.image (order c) l (subst (λ (d : Disk). IsImage d s.whole.image) (sym s.disk) s.whole.left) s.whole.has (subst (Member l) (sym (grown_records c.opening c.added)) (in_append l (records_of c.opening) c.added (inr member)));
     block = λ d.
         (let b = s.lasts.leaves.block d in
         record {
           gate = b.gate;
           batch = b.batch;
-          batches = b.batches;
+          before = b.before;
+          bodies = b.bodies;
           records = b.records;
           log = b.log;
           front = λ image left. b.front image (at_exit image left);
@@ -272,10 +259,10 @@ module _ (p : Program) (n seed : ℕ) (r : Observed) (c : Course) (mid : World) 
   }
 
   -- where no batch is in doubt each image has the whole order
-  pub whole_order : (RunHasDoubt (core_run p c) → ⊥) → (image : Image) → IsImage mid.disk image → IsLog c.live (shape_in p) image (order c)
+  pub whole_order : (RunHasDoubt (core_run p c) → ⊥) → (image : Image) → IsImage mid.disk image → IsLog c.live image (order c)
   whole_order sure image left =
       let x = logs image (subst (λ (d : Disk). IsImage d image) (sym s.disk) left) in
       elim x.2 [
-        | inl whole ↦ subst (λ (l : List Commit). IsLog c.live (shape_in p) image l) whole x.1
+        | inl whole ↦ subst (λ (l : Log). IsLog c.live image l) whole x.1
         | inr lacks ↦ absurd (sure (doubt_left (core_run p c) lacks.0 lacks.1))
       ]

@@ -1,23 +1,22 @@
 -- A load that shows what it has to keeps its promise.
-use Rattle.std.proofs.Common.{◌≡◌, ◌≢◌, ◌⊎◌, inl, inr, ℕ, List, [], ◌∷◌, refl, sym, ap, ◌∙◌, subst, arith}
+use Rattle.std.proofs.Common.{◌≡◌, ◌≢◌, inl, inr, ℕ, List, [], ◌∷◌, refl, ap, ◌∙◌, subst, arith}
 use Rattle.base_types.specs.declared.entries.Entry.{Entry}
 use Rattle.core_model.specs.CoreState.{Member}
 use Rattle.host_trait.specs.declared.channels.Channel.{Channel}
-use Rattle.host_trait.specs.declared.channels.Channel.TheVariants.{Input, Output, File}
+use Rattle.host_trait.specs.declared.channels.Channel.TheVariants.{Output, File}
 use Rattle.host_trait.specs.Faults.{Rose}
 use Rattle.host_trait.specs.World.{World, Disk, Moment, Image, IsImage, moment_of, last_of}
-use Rattle.promise_spec.specs.Programs.{Program, shape_in}
+use Rattle.promise_spec.specs.Programs.{Program}
 use Rattle.promise_spec.specs.Logs.{IsLog}
-use Rattle.promise_spec.specs.Causes.{NoneRose, RunHasDoubt}
+use Rattle.promise_spec.specs.Causes.{NoneRose}
 use Rattle.promise_spec.specs.Endings as ending
 use Rattle.promise_spec.specs.Endings.{Ending, HasRisen, IsBegun, IsCalm}
-use Rattle.promise_spec.specs.Courses.{Observed, Course, order, moments, core_run, core_end}
-use Rattle.promise_spec.specs.Promise.{HasNoChild, IsNoLock, IsUndisturbed}
+use Rattle.promise_spec.specs.Courses.{Observed, Course, order, moments, core_end}
 use Rattle.promise_spec.specs.Loads.{HasLoaded, KeepsLoad}
 use Rattle.promise_laws.proofs.Undisturbed.{calm_undisturbed}
 use Rattle.promise_laws.proofs.Unlocked.{single_unlocked}
 use Rattle.load_rules.specs.Loading.{ShowsLoad}
-use Rattle.load_rules.proofs.LoadImages.{is, part_of, ordered, crashes, sound, records, exit, whole_order}
+use Rattle.load_rules.proofs.LoadImages.{based, is, part_of, ordered, crashes, sound, records, exit, whole_order}
 
 -- the last of some moments that wrote nothing hasn't either
 last_quiet : (output : List ℕ) (before : Moment) (early : List Moment) → before.output ≡ output → ((m : Moment) → Member m early → m.output ≡ output) → (last_of before early).output ≡ output
@@ -46,7 +45,7 @@ calm_by old new e none begun risen = go e begun risen
 
 module _ (p : Program) (n seed : ℕ) (r : Observed) (c : Course) (mid : World) (counts : Channel → ℕ) (turns_end : Ending) (turns told : List Moment) (s : ShowsLoad p n seed r c mid counts turns_end turns told) where
   -- nothing is printed before all lasts
-  lasting : (m : Moment) (image : Image) → Member m (moments r c) → IsImage m.disk image → m.output ≢ r.old.output → IsLog c.live (shape_in p) image (order c)
+  lasting : (m : Moment) (image : Image) → Member m (moments r c) → IsImage m.disk image → m.output ≢ r.old.output → IsLog c.live image (order c)
   lasting m image there left printed = elim (part_of p n seed r c mid counts turns_end turns told s m there) [
     | inl first ↦ absurd (printed (ap (λ (x : Moment). x.output) first ∙ last_quiet r.old.output (moment_of r.old) c.early refl s.lasts.opens.quiet))
     | inr (inl y) ↦ absurd (printed (s.hushed m y))
@@ -54,7 +53,7 @@ module _ (p : Program) (n seed : ℕ) (r : Observed) (c : Course) (mid : World) 
     | inr (inr (inr y)) ↦ behind (ap (λ (x : Moment). x.disk) y ∙ s.disk) (λ none. y)
   ]
     where
-      behind : m.disk ≡ mid.disk → (told ≡ [] → m ≡ moment_of r.new) → IsLog c.live (shape_in p) image (order c)
+      behind : m.disk ≡ mid.disk → (told ≡ [] → m ≡ moment_of r.new) → IsLog c.live image (order c)
       behind same now = elim s.printed [
         | inl none ↦ absurd (printed (ap (λ (x : Moment). x.output) (now none.0) ∙ none.1))
         | inr sure ↦ whole_order p n seed r c mid counts turns_end turns told s sure image (subst (λ (d : Disk). IsImage d image) same left)
@@ -72,9 +71,9 @@ module _ (p : Program) (n seed : ℕ) (r : Observed) (c : Course) (mid : World) 
     undoubted = s.undoubted;
     complete = λ none. record {
       calm = calm_by r.faults_before r.faults_after r.ending none s.carried s.risen;
-      undisturbed = λ e m. calm_undisturbed p r c (is p n seed r c mid counts turns_end turns told s) none e (settled_entry e m);
+      undisturbed = λ e m. calm_undisturbed p r c (based p n seed r c mid counts turns_end turns told s) (is p n seed r c mid counts turns_end turns told s) none e (settled_entry e m);
     };
-    alone = λ unthreaded one childless e m. single_unlocked p r c (is p n seed r c mid counts turns_end turns told s) unthreaded one childless e (settled_entry e m);
+    alone = λ unthreaded one childless e m. single_unlocked p r c (based p n seed r c mid counts turns_end turns told s) (is p n seed r c mid counts turns_end turns told s) unthreaded one childless e (settled_entry e m);
     syncs = s.syncs;
     most = s.most;
   }

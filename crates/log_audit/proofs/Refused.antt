@@ -11,7 +11,7 @@ use Rattle.log_reading.specs.declared.faults.FolderFault.{FolderFault}
 use Rattle.log_reading.proofs.Summing.{named_by-append}
 use Rattle.silo_opening.specs.Opened.{in_folder, ending_of}
 use Rattle.promise_spec.specs.Programs.{Program, shape_in}
-use Rattle.promise_spec.specs.Records.{Commit}
+use Rattle.promise_spec.specs.Entries.{Log}
 use Rattle.promise_spec.specs.Openings.{Reading, Reads, named_by, named_by_grain, opened_as}
 use Rattle.promise_spec.specs.Refusals.{IsRefusedBy}
 use Rattle.promise_spec.proofs.Lists.{each_of, in_append}
@@ -36,11 +36,11 @@ fault_among live shape image front some back (FolderFault.Damaged at place) f = 
 fault_among live shape image front some back (FolderFault.Failed at) f = (f.0, among front some back f.0 f.1, f.2)
 fault_among live shape image front some back FolderFault.Memory f = tt
 
-module _ (image : Image) (live : ℕ) (p : Program) (log : List Commit) (parts : HasParts image live p log) where
+module _ (image : Image) (live : ℕ) (p : Program) (log : Log) (parts : HasParts image live p log) where
   all_there : AllByRecursion (IsThere live (shape_in p) image) (named_by parts.records)
   all_there = all_of_order (IsThere live (shape_in p) image) (named_by parts.records) (none_missing live (shape_in p) image (named_by_grain (named_by parts.records)) parts.whole)
 
-  refused_by : live ≡ 0 → (e : FolderFault) → IsRereadFault live (shape_in p) image parts.records e → IsRefusedBy image (Reads live p log) (ending_of (in_folder e))
+  refused_by : live ≡ 0 → (e : FolderFault) → IsRereadFault live (shape_in p) image parts.records e → IsRefusedBy image (Reads live log) (ending_of (in_folder e))
   refused_by first (FolderFault.Damaged at place) (inl here) = absurd (let no : Err place ≡ Ok parts.records = sym here ∙ parts.read in cc)
   refused_by first (FolderFault.Damaged at place) (inr f) =
       let there = each_of (IsThere live (shape_in p) image) (named_by parts.records) f.0 all_there f.1 in
@@ -50,5 +50,5 @@ module _ (image : Image) (live : ℕ) (p : Program) (log : List Commit) (parts :
       inr (f.0.written.grain, f.2, record { program = p; records = parts.records; first = parts.program; then_log = parts.read; named = in_map (λ (n : Named). n.written.grain) f.0 (named_by parts.records) f.1 })
   refused_by first FolderFault.Memory f = tt
 
-  pub refused_again : opened_as image ≡ Reads live p log → (e : FolderFault) → IsRereadFault live (shape_in p) image parts.records e → IsRefusedBy image (opened_as image) (ending_of (in_folder e))
-  refused_again reads e f = subst (λ (r : Reading). IsRefusedBy image r (ending_of (in_folder e))) (sym reads) (refused_by (reads_is_live image live p log reads).slot e f)
+  pub refused_again : opened_as image ≡ Reads live log → (e : FolderFault) → IsRereadFault live (shape_in p) image parts.records e → IsRefusedBy image (opened_as image) (ending_of (in_folder e))
+  refused_again reads e f = subst (λ (r : Reading). IsRefusedBy image r (ending_of (in_folder e))) (sym reads) (refused_by (reads_is_live image live log reads).slot e f)

@@ -23,12 +23,12 @@ use Rattle.log_reading.specs.Steps.{next_in}
 use Rattle.log_reading.proofs.Following.{follows_begins, follows_on}
 use Rattle.script_tree.specs.Programs.{ProgramTree}
 use Rattle.script_meaning.specs.Play.{Played, found_in, initial_of, play}
-use Rattle.promise_spec.specs.Records.{Commit, States, written, put_state, after_writes, log_start}
+use Rattle.promise_spec.specs.Records.{Commit, States, written, put_state, after_writes}
 use Rattle.promise_spec.specs.Serial.{IsSerial, Replays, depth_of, played}
 use Rattle.promise_spec.specs.Family.{states_after}
 use Rattle.promise_spec.specs.Openings.{commit_of}
 use Rattle.log_audit.specs.declared.replay.Bad.{Bad}
-use Rattle.log_audit.specs.Replaying.{same_write, agree, as_commits, FailsToReplay, ReplaysTo, FailsFirst, AllReplayTo, IsFirstFailure}
+use Rattle.log_audit.specs.Replaying.{same_write, agree, first_states, as_commits, FailsToReplay, ReplaysTo, FailsFirst, AllReplayTo, IsFirstFailure}
 use Rattle.log_audit.proofs.Gathering.{FollowsIfClean, all_read, rest_of}
 
 -- ---- a value is itself, by the tests
@@ -128,7 +128,7 @@ one_kept types old new grain state puts = λ i g. each g i
     ]
 
 -- nothing is kept where a log begins
-pub none_kept : (types : ProgramTree) (store : Store) → ((grain : GrainId) → state_in store grain ≡ None) → found_in types store ≡ (log_start types).states
+pub none_kept : (types : ProgramTree) (store : Store) → ((grain : GrainId) → state_in store grain ≡ None) → found_in types store ≡ first_states types
 none_kept types store none = λ i grain. unwrap_or (none grain i) (initial_of (slice_get types grain.kind))
 
 -- ---- one after another

@@ -1,12 +1,8 @@
 -- How a report ends, and what a call of one shows.
 use Rattle.std.specs.Prelude.{◌≡◌, ◌⊎◌, ℕ, List, Result, Ok, Err}
 use Rattle.host_trait.specs.declared.channels.Channel.{Channel}
-use Rattle.host_trait.specs.World.{World, Image}
+use Rattle.host_trait.specs.World.{World}
 use Rattle.log_reading.specs.declared.faults.FolderFault.{FolderFault}
-use Rattle.script_tree.specs.Programs.{program_tree}
-use Rattle.silo_opening.specs.declared.open.Opened.{Opened}
-use Rattle.silo_opening.specs.Opened.{IsOpenedFrom}
-use Rattle.promise_spec.specs.Programs.{Program}
 use Rattle.promise_spec.specs.Words.{Manner}
 use Rattle.promise_spec.specs.Courses.{Observed}
 use Rattle.promise_spec.specs.Commands.{MayCut}
@@ -40,7 +36,3 @@ abbrev pub from_folder : FolderFault → ReportFault
 from_folder (FolderFault.Damaged file place) = ReportFault.Damaged file place
 from_folder (FolderFault.Failed file) = ReportFault.DiskFault file
 from_folder FolderFault.Memory = ReportFault.Memory
-
--- the program of an opened folder
-abbrev pub program_opened : (image : Image) (o : Opened) → IsOpenedFrom image o → Program
-program_opened image o is = record { text = is.text; types = program_tree o.checked }

@@ -1,5 +1,5 @@
 -- What playing records over a store gives.
-use Rattle.std.specs.Prelude.{◌≡◌, ◌≢◌, ℕ, ◌++◌, ◌∷◌, Bool, true, false, ◌==◌, ◌&&◌, List, map, Option, Some, None}
+use Rattle.std.specs.Prelude.{◌≡◌, ◌≢◌, ℕ, ◌++◌, ◌∷◌, Bool, true, false, ◌==◌, ◌&&◌, List, map, slice_get, Option, Some, None}
 use Rattle.base_types.specs.declared.calls.GrainId.{GrainId}
 use Rattle.base_types.specs.declared.calls.Value.{Value}
 use Rattle.base_types.specs.declared.calls.Outcome.{Outcome}
@@ -9,6 +9,7 @@ use Rattle.host_trait.specs.World.{Image}
 use Rattle.commit_log.specs.declared.records.CommitRecord.{CommitRecord}
 use Rattle.core_model.specs.Equality.{same_state, same_outcome}
 use Rattle.script_tree.specs.Programs.{ProgramTree}
+use Rattle.script_meaning.specs.Play.{initial_of}
 use Rattle.promise_spec.specs.Records.{Commit, States, written, after_writes}
 use Rattle.promise_spec.specs.Serial.{IsSerial, Replays, played}
 use Rattle.promise_spec.specs.Family.{states_after}
@@ -23,6 +24,10 @@ same_write a b = same_grain a.0 b.0 && same_state a.1 b.1
 -- answers
 abbrev pub agree : Bool → Outcome → Outcome → ℕ → ℕ → Bool
 agree same gives kept asked answers = same && (same_outcome gives kept && (asked == answers))
+
+-- the initial fields of each grain, where a log begins
+abbrev pub first_states : ProgramTree → States
+first_states types grain = initial_of (slice_get types grain.kind)
 
 -- the records with the states that stand at their places
 abbrev pub as_commits : ℕ → Shape → Image → List CommitRecord → List Commit

@@ -1,4 +1,4 @@
-ghost use Rattle.std.specs.Prelude.{◌≡◌, ℕ, List, IsTrue, OnOk, IfOk, IfErr, is_ok};
+ghost use Rattle.std.specs.Prelude.{◌≡◌, ℕ, List, IsTrue, OnOk, OnErr, IfOk, IfErr, is_ok};
 ghost use Rattle.host_trait.specs.Disk.{settled};
 ghost use Rattle.host_trait.specs.Files.{StaysReady};
 ghost use Rattle.host_trait.specs.Faults.{NoneFailed};
@@ -71,8 +71,11 @@ pub fn audit<H: Host>(alloc: Global, host: &mut H) -> Result<AuditReport, OpenFa
     ensures calm { OnOk result (NoneFailed (H.faults host.old) (H.faults host.new)) }
     ensures fault { IfErr result (λ e. OpenFaulted e (H.faults host.old) (H.faults host.new)) }
 
-    // Nothing was written or emitted, and no input was taken.
-    ensures run { IsTrue H.tells → RunsOnFile manager Stays 1 (H.world host.old) (H.world host.new) }
+    // Nothing was written or emitted, and no input was taken. The live manager file was synced; where there is no report, slot 0's
+    // was looked at.
+    ensures run { OnOk result (IsTrue H.tells → (live : ℕ) → IsLive magic live (seen_in (H.world host.old).disk)
+        → RunsOnFile (Manager live) Stays 1 (H.world host.old) (H.world host.new)) }
+    ensures looked { OnErr result (IsTrue H.tells → RunsOnFile manager Stays 1 (H.world host.old) (H.world host.new)) }
     ensures ready { StaysReady (H.is_ready host.old) (H.is_ready host.new) }
 {
     let opened = match open_silo(alloc, host) {

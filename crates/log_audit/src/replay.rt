@@ -11,11 +11,11 @@ ghost use Rattle.log_reading.specs.Counts.{ReadFaulted};
 ghost use Rattle.log_reading.specs.Steps.{seen_in};
 ghost use Rattle.script_tree.specs.Programs.{ProgramTree, program_tree};
 ghost use Rattle.script_meaning.specs.Play.{found_in};
-ghost use Rattle.promise_spec.specs.Records.{written, log_start, put_state};
+ghost use Rattle.promise_spec.specs.Records.{written, put_state};
 ghost use Rattle.promise_spec.specs.Openings.{commit_of};
 ghost use Rattle.promise_spec.specs.Serial.{depth_of};
 ghost use Rattle.log_audit.specs.Unread.{IsVersionFault, IsRereadFault};
-ghost use Rattle.log_audit.specs.Replaying.{same_write, agree, as_commits, ReplaysTo, AllReplayTo, IsFirstFailure};
+ghost use Rattle.log_audit.specs.Replaying.{same_write, agree, first_states, as_commits, ReplaysTo, AllReplayTo, IsFirstFailure};
 
 use base_types::{GrainId, Origin, Outcome, Shape, State, Store, UnitNo};
 use commit_log::{CommitRecord, Named};
@@ -195,7 +195,7 @@ pub(crate) fn replay_log<H: Host>(
     requires slot { slot ≤ 1 }
     ensures replays { IfOk result (λ found. IsTrue H.tells → (records : Lists ARecord) → records_in_file shape.now ((H.world host.old).disk (Manager slot)).seen ≡ Ok records
         → let types = program_tree checked.now in
-        IsFirstFailure types (log_start types).states (as_commits slot shape.now (seen_in (H.world host.old).disk) records) found) }
+        IsFirstFailure types (first_states types) (as_commits slot shape.now (seen_in (H.world host.old).disk) records) found) }
     ensures unread { IfErr result (λ e. IsTrue H.tells → (records : Lists ARecord) → records_in_file shape.now ((H.world host.old).disk (Manager slot)).seen ≡ Ok records
         → IsRereadFault slot shape.now (seen_in (H.world host.old).disk) records e) }
     ensures asked { IsTrue H.tells → OnlyAsked (H.world host.old) (H.world host.new) }

@@ -10,7 +10,7 @@ ghost use Rattle.promise_spec.specs.Commands.{Reports};
 ghost use Rattle.promise_spec.specs.Endings.{HasFailedAs, BadUse};
 ghost use Rattle.log_audit.specs.Lines.{grain_data, grain_lines};
 ghost use Rattle.log_audit.specs.Writing.{PutsPart};
-ghost use Rattle.log_audit.specs.Endings.{report_ending, reported_as, program_opened, MayEnd};
+ghost use Rattle.log_audit.specs.Endings.{report_ending, reported_as, MayEnd};
 
 use crate::faults::{ReportFault, unopened, unread};
 use crate::grains::read_grains;
@@ -70,7 +70,7 @@ fn write_grains<H: Host>(
 fn write_show<H: Host>(alloc: Global, host: &mut H, opened: &Opened) -> Result<(), ReportFault>
     requires slot { opened.now.slot ≤ 1 }
     ensures puts { IsTrue H.tells → (o : IsOpenedFrom (seen_in (H.world host.old).disk) opened.now)
-        → PutsPart (show_text (program_opened (seen_in (H.world host.old).disk) opened.now o) o.log) (is_ok result) (H.world host.old) (H.world host.new) }
+        → PutsPart (show_text o.log) (is_ok result) (H.world host.old) (H.world host.new) }
     ensures ended { IsTrue H.tells → IsOpenedFrom (seen_in (H.world host.old).disk) opened.now → MayEnd (report_ending result) }
     ensures exact { HasFailedAs (report_ending result) (H.faults host.old) (H.faults host.new) }
     ensures ready { StaysReady (H.is_ready host.old) (H.is_ready host.new) }

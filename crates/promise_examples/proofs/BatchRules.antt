@@ -15,7 +15,7 @@ use Rattle.promise_spec.specs.Causes.{RunHasDoubt, is_no, is_vote_of, is_unseale
 use Rattle.promise_spec.specs.Batches.{EndsABatch, kept_by}
 use Rattle.promise_spec.specs.UnitRule.{KeepsUnitRule}
 use Rattle.promise_spec.specs.TurnRule.{KeepsTurnRule}
-use Rattle.promise_examples.specs.Examples.{accounts, account_1, unit_no, first_commit, account_run, account_basis, AskDeposits}
+use Rattle.promise_examples.specs.Examples.{account_log, accounts, account_1, unit_no, first_commit, account_run, account_basis, AskDeposits}
 use Rattle.promise_examples.specs.WrittenBatch.{batch_events, both_commits, both_entries}
 use Rattle.promise_examples.proofs.FirstFamily.{none_of, none_counted}
 use Rattle.promise_examples.proofs.WholeBatches.{not_between}
@@ -111,7 +111,7 @@ records_are = (
 )
 
 -- the one batch has both records
-pub both_end : EndsABatch (ends core) [] both_commits
+pub both_end : EndsABatch (ends core) (account_log []) (account_log both_commits)
 unfolding put put_grain
 both_end = record {
   batches = 1;
@@ -132,8 +132,8 @@ unfolding put put_grain
 two_kept = refl
 
 -- so a log doesn't end behind the first
-pub one_ends_none : EndsABatch (ends core) [] (first_commit ∷ []) → ⊥
-one_ends_none is = not_between (ends core) [] (first_commit ∷ []) 0 is (omega (arith, none_before)) (omega (arith, two_kept))
+pub one_ends_none : EndsABatch (ends core) (account_log []) (account_log (first_commit ∷ [])) → ⊥
+one_ends_none is = not_between (ends core) (account_log []) (first_commit ∷ []) 0 is (omega (arith, none_before)) (omega (arith, two_kept))
 
 -- ---- faults
 

@@ -18,7 +18,7 @@ use Rattle.host_trait.specs.declared.channels.FileId.TheVariants.{Grain}
 use Rattle.host_trait.specs.World.{Moment, Image, IsImage, moment_of}
 use Rattle.silo_spec.specs.Silos.{manager, program_file, HasProgram}
 use Rattle.promise_spec.specs.Programs.{shape_in}
-use Rattle.promise_spec.specs.Records.{Commit}
+use Rattle.promise_spec.specs.Entries.{Log}
 use Rattle.promise_spec.specs.Logs.{IsLog, IsPrefix}
 use Rattle.promise_spec.specs.Moments.{IsImageOf}
 use Rattle.promise_spec.specs.Outputs.{IsProper, Grew, reply_lines}
@@ -37,11 +37,11 @@ use Rattle.promise_spec.specs.Explained.{ComeOfEvents, AreAdded, AreSettled, IsE
 use Rattle.promise_spec.specs.Journals.{Settlement, KeepsJournal, Backs, commits_of, entries_of}
 use Rattle.promise_spec.specs.Promise.{IsSoundFolder, IsUndisturbed, IsNoLock, HasEnded, Keeps}
 use Rattle.promise_laws.specs.Obligations.{Shows}
-use Rattle.promise_examples.specs.Examples.{accounts, account_program, account_1, unit_no, first_commit, first_entry, deposit_events, account_run}
+use Rattle.promise_examples.specs.Examples.{account_log, accounts, account_program, account_1, unit_no, first_commit, first_entry, deposit_events, account_run}
 use Rattle.promise_examples.specs.DepositRuns.{MayHaveDeposit, LeavesOthers, IsBetween, IsDepositRun, deposit_course}
 use Rattle.promise_spec.proofs.Lists.{none_is}
 use Rattle.promise_spec.proofs.OneLog.{one_log}
-use Rattle.promise_laws.proofs.Journaled.{chained, longest, holds, whole as all_whole, sound}
+use Rattle.promise_laws.proofs.Journaled.{commits_of-append, chained, longest, holds, whole as all_whole, sound}
 use Rattle.promise_examples.proofs.FirstDeposit.{five}
 use Rattle.promise_examples.proofs.Between.{at_each, exit_there, all_less}
 use Rattle.promise_examples.proofs.WholeBatches.{no_batch}
@@ -127,15 +127,15 @@ module _ (r : Observed) (opened : Moment) (sealing : List Moment) (run : IsDepos
 
   -- what a moment keeps of the journal, where the entries that it says are a first part of the run's
   abbrev KeepsAt : Moment → Image → Type 0
-  KeepsAt m image = (k : KeepsJournal 0 account_program [] r.old.output journal m image) × IsPrefix (entries_of k.said) (first_entry ∷ [])
+  KeepsAt m image = (k : KeepsJournal 0 account_program (account_log []) r.old.output journal m image) × IsPrefix (entries_of k.said) (first_entry ∷ [])
 
-  unsaid_at : (m : Moment) (image : Image) → m.output ≡ r.old.output → IsLog 0 (shape_in account_program) image [] → KeepsAt m image
+  unsaid_at : (m : Moment) (image : Image) → m.output ≡ r.old.output → IsLog 0 image (account_log []) → KeepsAt m image
   unsaid_at m image quiet log = (
     record { said = []; unsaid = []; later = journal; rest = []; split = refl; log = log; output = record { output = quiet ∙ sym (append-nil r.old.output); unended = tt; proper = tt } },
     (first_entry ∷ [], refl),
   )
 
-  sealed_at : (m : Moment) (image : Image) → m.output ≡ r.old.output → IsLog 0 (shape_in account_program) image (first_commit ∷ []) → KeepsAt m image
+  sealed_at : (m : Moment) (image : Image) → m.output ≡ r.old.output → IsLog 0 image (account_log (first_commit ∷ [])) → KeepsAt m image
   sealed_at m image quiet log = (
     record { said = []; unsaid = journal; later = []; rest = []; split = refl; log = log; output = record { output = quiet ∙ sym (append-nil r.old.output); unended = tt; proper = tt } },
     (first_entry ∷ [], refl),
@@ -144,7 +144,7 @@ module _ (r : Observed) (opened : Moment) (sealing : List Moment) (run : IsDepos
   grew : Grew (shape_in account_program) r.old.output r.new.output (first_entry ∷ []) []
   grew = record { output = run.output ∙ ap (λ (l : List ℕ). r.old.output ++ l) (sym (append-nil (reply_lines (shape_in account_program) (first_entry ∷ [])))); unended = tt; proper = (proper, tt) }
 
-  said_at : (image : Image) → IsLog 0 (shape_in account_program) image (first_commit ∷ []) → KeepsAt (moment_of r.new) image
+  said_at : (image : Image) → IsLog 0 image (account_log (first_commit ∷ [])) → KeepsAt (moment_of r.new) image
   said_at image log = (record { said = journal; unsaid = []; later = []; rest = []; split = refl; log = log; output = grew }, ([], refl))
 
   abbrev Known : Moment → Type 0
@@ -165,7 +165,7 @@ module _ (r : Observed) (opened : Moment) (sealing : List Moment) (run : IsDepos
   known : (m : Moment) → Member m (moments r course) → Known m
   known = at_each Known opened sealing (moment_of r.new) at_opened (all_less (IsBetween r r.old.output MayHaveDeposit) Known sealing at_sealing run.sealed) at_exit
 
-  keeps_at : (image : Image) (is : IsImageOf (moments r course) image) → KeepsJournal 0 account_program [] r.old.output journal is.moment image
+  keeps_at : (image : Image) (is : IsImageOf (moments r course) image) → KeepsJournal 0 account_program (account_log []) r.old.output journal is.moment image
   keeps_at image is = (known is.moment is.member image is.left).0.0
 
   begun : HasBegun (core_end account_program course) (unit_no 1)
@@ -182,9 +182,10 @@ module _ (r : Observed) (opened : Moment) (sealing : List Moment) (run : IsDepos
 
   ordered : IsOrdered account_program r course
   ordered = record {
+    in_force = refl;
     read = run.read;
     opened = λ image left. record { entry = (run.entry image left).0; log = (run.entry image left).1.0 };
-    longest = longest 0 account_program [] r.old.output journal (moments r course) run.some (record { moment = moment_of r.new; member = exit_there opened sealing (moment_of r.new); left = run.possible }) (run.logged run.some run.possible).0
+    longest = longest 0 account_program (account_log []) r.old.output journal (moments r course) run.some (record { moment = moment_of r.new; member = exit_there opened sealing (moment_of r.new); left = run.possible }) (run.logged run.some run.possible).0
         (λ m there image left. (known m there image left).0.0);
     serial = serial;
   }
@@ -217,29 +218,29 @@ module _ (r : Observed) (opened : Moment) (sealing : List Moment) (run : IsDepos
       (all_less (IsBetween r r.old.output MayHaveDeposit) AllMayHave sealing (λ m is. is.images) run.sealed) (λ image left. inr (run.logged image left))
 
   -- the one batch is the deposit's
-  one_batch : EndsABatch (core_end account_program course) [] (first_commit ∷ [])
+  one_batch : EndsABatch (core_end account_program course) (account_log []) (account_log (first_commit ∷ []))
   unfolding put put_grain
   one_batch = record { batches = 1; more = first_commit ∷ []; split = refl; records = (record { unit = refl; origin = refl; call = refl; answers = refl; result = refl; writes = refl }, tt) }
 
-  whole_batches : (image : Image) (log : List Commit) → MayHaveDeposit image → IsLog 0 (shape_in account_program) image log → EndsABatch (core_end account_program course) [] log
+  whole_batches : (image : Image) (log : Log) → MayHaveDeposit image → IsLog 0 image log → EndsABatch (core_end account_program course) (account_log []) log
   whole_batches image log (inl none) is =
-      subst (EndsABatch (core_end account_program course) []) (one_log 0 0 (shape_in account_program) image [] log none.0 is) (no_batch (core_end account_program course) [])
+      subst (EndsABatch (core_end account_program course) (account_log [])) (one_log 0 0 image (account_log []) log none.0 is) (no_batch (core_end account_program course) (account_log []))
   whole_batches image log (inr has) is =
-      subst (EndsABatch (core_end account_program course) []) (one_log 0 0 (shape_in account_program) image (first_commit ∷ []) log has.0 is) one_batch
+      subst (EndsABatch (core_end account_program course) (account_log [])) (one_log 0 0 image (account_log (first_commit ∷ [])) log has.0 is) one_batch
 
-  crashes : SurvivesCrashes account_program r course
+  crashes : SurvivesCrashes r course
   crashes = record {
     past = run.past;
     quiet = λ m there. only (λ (n : Moment). n.output ≡ r.old.output) opened m run.quiet there;
     before = λ image is. only (λ (n : Moment). IsImage n.disk image → IsImage r.old.disk image) opened is.moment (λ left. (run.entry image left).0) is.member is.left;
-    chain = λ one other a b. chained 0 account_program [] r.old.output journal a.moment b.moment one other (keeps_at one a) (keeps_at other b);
-    whole = λ image is. all_whole 0 account_program [] r.old.output journal is.moment image (keeps_at image is) (known is.moment is.member image is.left).1 numbered;
-    keeps = λ image is. let k = keeps_at image is in record { log = commits_of (k.said ++ k.unsaid); is = k.log; longer = (commits_of (k.said ++ k.unsaid), refl) };
+    chain = λ one other a b. chained 0 account_program (account_log []) r.old.output journal a.moment b.moment one other (keeps_at one a) (keeps_at other b);
+    whole = λ image is. all_whole 0 account_program (account_log []) r.old.output journal is.moment image (keeps_at image is) numbered;
+    keeps = λ image is. let k = keeps_at image is in record { more = commits_of (k.said ++ k.unsaid); is = k.log; front = (commits_of k.later, ap commits_of k.split ∙ commits_of-append (k.said ++ k.unsaid) k.later) };
     alone = alone;
   }
 
-  sound_all : StaySound account_program r course
-  sound_all image is = sound 0 account_program [] r.old.output journal is.moment image (keeps_at image is) (known is.moment is.member image is.left).1 serial numbered
+  sound_all : StaySound r course
+  sound_all image is = sound 0 account_program (account_log []) r.old.output journal is.moment image (keeps_at image is) serial numbered
 
   -- and the files of other grains
   apart : (m : Moment) → Member m (moments r course) → LeavesOthers r m
@@ -259,10 +260,10 @@ module _ (r : Observed) (opened : Moment) (sealing : List Moment) (run : IsDepos
 
   exit : IsExit account_program r course
   exit = record {
-    logs = λ image left. record { log = first_commit ∷ []; is = (run.logged image left).0; which = inl refl };
+    logs = λ image left. record { log = account_log (first_commit ∷ []); is = (run.logged image left).0; which = inl refl };
     doubt = λ one other a b is_one is_other log_a log_b differ.
-        absurd (differ (one_log 0 0 (shape_in account_program) one a (first_commit ∷ []) log_a (run.logged one is_one).0 ∙ sym (one_log 0 0 (shape_in account_program) other b (first_commit ∷ []) log_b (run.logged other is_other).0)));
-    nowhere = λ e there. only (λ (d : Entry). d.what ≡ settled.InDoubt → IsNowhere 0 account_program r d.unit → HasNoRecord course d.unit) first_entry e (λ is. absurd (cc is)) there;
+        absurd (differ (one_log 0 0 one a (account_log (first_commit ∷ [])) log_a (run.logged one is_one).0 ∙ sym (one_log 0 0 other b (account_log (first_commit ∷ [])) log_b (run.logged other is_other).0)));
+    nowhere = λ e there. only (λ (d : Entry). d.what ≡ settled.InDoubt → IsNowhere 0 r d.unit → HasNoRecord course d.unit) first_entry e (λ is. absurd (cc is)) there;
     block = λ doubt. absurd (no_doubt doubt);
     behind = λ none. run.behind;
   }
@@ -346,5 +347,5 @@ module _ (r : Observed) (opened : Moment) (sealing : List Moment) (run : IsDepos
   }
 
   -- and over a sound folder it shows what has to be shown, where some image was there at the return of the opening's sync
-  pub shown : IsSoundFolder account_program r.old → (some : Image) → IsImage opened.disk some → Shows account_program r course
-  shown sound_folder some possible = shows account_program r course kept sound_folder some possible journal refl backs (λ m there image left. (known m there image left).0)
+  pub shown : IsSoundFolder r.old → (some : Image) → IsImage opened.disk some → Shows account_program r course
+  shown sound_folder some possible = shows account_program r course kept refl sound_folder some possible journal refl backs (λ m there image left. (known m there image left).0)

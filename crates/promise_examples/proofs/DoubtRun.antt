@@ -24,6 +24,7 @@ use Rattle.host_trait.specs.declared.channels.FileId.TheVariants.{Manager, Grain
 use Rattle.host_trait.specs.World.{Moment, Image, IsImage, moment_of}
 use Rattle.silo_spec.specs.Silos.{manager, program_file, HasProgram}
 use Rattle.promise_spec.specs.Programs.{shape_in}
+use Rattle.promise_spec.specs.Entries.{Log}
 use Rattle.promise_spec.specs.Records.{Commit, AreRecordsOf}
 use Rattle.promise_spec.specs.Logs.{IsLog, IsPrefix}
 use Rattle.promise_spec.specs.Moments.{IsImageOf}
@@ -43,12 +44,12 @@ use Rattle.promise_spec.specs.Explained.{ComeOfEvents, AreAdded, AreSettled, IsE
 use Rattle.promise_spec.specs.Journals.{Settlement, KeepsJournal, Backs, commits_of, entries_of}
 use Rattle.promise_spec.specs.Promise.{IsSoundFolder, HasEnded, Keeps}
 use Rattle.promise_laws.specs.Obligations.{Shows}
-use Rattle.promise_examples.specs.Examples.{accounts, account_program, account_1, unit_no, first_commit, locked_entry, doubt_entry, conflict_entries, conflict_events, account_run}
+use Rattle.promise_examples.specs.Examples.{account_log, accounts, account_program, account_1, unit_no, first_commit, locked_entry, doubt_entry, conflict_entries, conflict_events, account_run}
 use Rattle.promise_examples.specs.DepositRuns.{HasNone, HasDeposit, MayHaveDeposit, LeavesOthers, IsBetween}
 use Rattle.promise_examples.specs.DoubtRuns.{IsDoubtRun, doubt_course, first_told}
 use Rattle.promise_spec.proofs.Lists.{none_at, some_is, in_append, both_parts}
 use Rattle.promise_spec.proofs.OneLog.{one_log}
-use Rattle.promise_laws.proofs.Journaled.{chained, longest, holds, whole as all_whole, sound}
+use Rattle.promise_laws.proofs.Journaled.{commits_of-append, chained, longest, holds, whole as all_whole, sound}
 use Rattle.promise_examples.proofs.Between.{at_each, exit_there, all_less}
 use Rattle.promise_examples.proofs.WholeBatches.{no_batch}
 use Rattle.promise_examples.proofs.Showing.{shows}
@@ -168,7 +169,7 @@ module _ (r : Observed) (opened : Moment) (told doubting : List Moment) (run : I
   course = doubt_course opened told doubting r
 
   abbrev KeepsAt : Moment → Image → Type 0
-  KeepsAt m image = (k : KeepsJournal 0 account_program [] r.old.output journal m image) × IsPrefix (entries_of k.said) conflict_entries
+  KeepsAt m image = (k : KeepsJournal 0 account_program (account_log []) r.old.output journal m image) × IsPrefix (entries_of k.said) conflict_entries
 
   abbrev Known : Moment → Type 0
   Known m = (image : Image) → IsImage m.disk image → KeepsAt m image × HasProgram account_program.text (image program_file)
@@ -215,7 +216,7 @@ module _ (r : Observed) (opened : Moment) (told doubting : List Moment) (run : I
   known : (m : Moment) → Member m (moments r course) → Known m
   known = at_each Known opened (told ++ doubting) (moment_of r.new) at_opened between at_exit
 
-  keeps_at : (image : Image) (is : IsImageOf (moments r course) image) → KeepsJournal 0 account_program [] r.old.output journal is.moment image
+  keeps_at : (image : Image) (is : IsImageOf (moments r course) image) → KeepsJournal 0 account_program (account_log []) r.old.output journal is.moment image
   keeps_at image is = (known is.moment is.member image is.left).0.0
 
   begun : HasBegun (core_end account_program course) (unit_no 1)
@@ -232,9 +233,10 @@ module _ (r : Observed) (opened : Moment) (told doubting : List Moment) (run : I
 
   ordered : IsOrdered account_program r course
   ordered = record {
+    in_force = refl;
     read = run.read;
     opened = λ image left. record { entry = (run.entry image left).0; log = (run.entry image left).1.0 };
-    longest = longest 0 account_program [] r.old.output journal (moments r course) run.some (record { moment = moment_of r.new; member = exit_there opened (told ++ doubting) (moment_of r.new); left = run.possible }) run.there.0
+    longest = longest 0 account_program (account_log []) r.old.output journal (moments r course) run.some (record { moment = moment_of r.new; member = exit_there opened (told ++ doubting) (moment_of r.new); left = run.possible }) run.there.0
         (λ m there image left. (known m there image left).0.0);
     serial = serial;
   }
@@ -273,18 +275,18 @@ module _ (r : Observed) (opened : Moment) (told doubting : List Moment) (run : I
       run.exit
 
   -- the one batch is the deposit's, which is in doubt
-  one_batch : EndsABatch (core_end account_program course) [] (first_commit ∷ [])
+  one_batch : EndsABatch (core_end account_program course) (account_log []) (account_log (first_commit ∷ []))
   unfolding put put_grain
   one_batch = record { batches = 1; more = first_commit ∷ []; split = refl; records = (record { unit = refl; origin = refl; call = refl; answers = refl; result = refl; writes = refl }, tt) }
 
-  whole_batches : (image : Image) (log : List Commit) → MayHaveDeposit image → IsLog 0 (shape_in account_program) image log → EndsABatch (core_end account_program course) [] log
+  whole_batches : (image : Image) (log : Log) → MayHaveDeposit image → IsLog 0 image log → EndsABatch (core_end account_program course) (account_log []) log
   whole_batches image log (inl none) is =
-      subst (EndsABatch (core_end account_program course) []) (one_log 0 0 (shape_in account_program) image [] log none.0 is) (no_batch (core_end account_program course) [])
+      subst (EndsABatch (core_end account_program course) (account_log [])) (one_log 0 0 image (account_log []) log none.0 is) (no_batch (core_end account_program course) (account_log []))
   whole_batches image log (inr has) is =
-      subst (EndsABatch (core_end account_program course) []) (one_log 0 0 (shape_in account_program) image (first_commit ∷ []) log has.0 is) one_batch
+      subst (EndsABatch (core_end account_program course) (account_log [])) (one_log 0 0 image (account_log (first_commit ∷ [])) log has.0 is) one_batch
 
-  sound_all : StaySound account_program r course
-  sound_all image is = sound 0 account_program [] r.old.output journal is.moment image (keeps_at image is) (known is.moment is.member image is.left).1 serial numbered
+  sound_all : StaySound r course
+  sound_all image is = sound 0 account_program (account_log []) r.old.output journal is.moment image (keeps_at image is) serial numbered
 
   -- and the files of other grains
   apart : (m : Moment) → Member m (moments r course) → LeavesOthers r m
@@ -294,14 +296,14 @@ module _ (r : Observed) (opened : Moment) (told doubting : List Moment) (run : I
       (all_less (IsBetween r (first_told r) MayHaveDeposit) (LeavesOthers r) doubting (λ m is. is.apart) run.either))
       run.apart.1
 
-  crashes : SurvivesCrashes account_program r course
+  crashes : SurvivesCrashes r course
   crashes = record {
     past = run.past;
     quiet = λ m there. only (λ (n : Moment). n.output ≡ r.old.output) opened m run.quiet there;
     before = λ image is. only (λ (n : Moment). IsImage n.disk image → IsImage r.old.disk image) opened is.moment (λ left. (run.entry image left).0) is.member is.left;
-    chain = λ one other a b. chained 0 account_program [] r.old.output journal a.moment b.moment one other (keeps_at one a) (keeps_at other b);
-    whole = λ image is. all_whole 0 account_program [] r.old.output journal is.moment image (keeps_at image is) (known is.moment is.member image is.left).1 numbered;
-    keeps = λ image is. let k = keeps_at image is in record { log = commits_of (k.said ++ k.unsaid); is = k.log; longer = (commits_of (k.said ++ k.unsaid), refl) };
+    chain = λ one other a b. chained 0 account_program (account_log []) r.old.output journal a.moment b.moment one other (keeps_at one a) (keeps_at other b);
+    whole = λ image is. all_whole 0 account_program (account_log []) r.old.output journal is.moment image (keeps_at image is) numbered;
+    keeps = λ image is. let k = keeps_at image is in record { more = commits_of (k.said ++ k.unsaid); is = k.log; front = (commits_of k.later, ap commits_of k.split ∙ commits_of-append (k.said ++ k.unsaid) k.later) };
     alone = alone;
   }
 
@@ -313,9 +315,9 @@ module _ (r : Observed) (opened : Moment) (told doubting : List Moment) (run : I
   unfolding put put_grain
   doubt_is = refl
 
-  ends_with : (image : Image) → HasNone image ⊎ HasDeposit image → HasLogAtExit account_program course (core_end account_program course) image
-  ends_with image (inl none) = record { log = []; is = none.0; which = inr (record { begins = 0; doubt = doubt_is; last = first_commit ∷ []; split = refl; units = sym doubtful_is }) }
-  ends_with image (inr has) = record { log = first_commit ∷ []; is = has.0; which = inl refl }
+  ends_with : (image : Image) → HasNone image ⊎ HasDeposit image → HasLogAtExit course (core_end account_program course) image
+  ends_with image (inl none) = record { log = account_log []; is = none.0; which = inr (record { begins = 0; doubt = doubt_is; last = first_commit ∷ []; split = refl; units = sym doubtful_is }) }
+  ends_with image (inr has) = record { log = account_log (first_commit ∷ []); is = has.0; which = inl refl }
 
   rose : Rose (r.faults_before (File manager)) (r.faults_after (File manager))
   rose = let one : r.faults_after (File manager) ≡ r.faults_before (File manager) + 1 = run.rose in omega arith
@@ -353,13 +355,14 @@ module _ (r : Observed) (opened : Moment) (told doubting : List Moment) (run : I
     logs = λ image left. ends_with image (run.exit image left);
     doubt = λ one other a b is_one is_other log_a log_b differ. is_doubt;
     nowhere = λ e there.
-        either_of (λ (d : Entry). d.what ≡ settled.InDoubt → IsNowhere 0 account_program r d.unit → HasNoRecord course d.unit) locked_entry doubt_entry e
+        either_of (λ (d : Entry). d.what ≡ settled.InDoubt → IsNowhere 0 r d.unit → HasNoRecord course d.unit) locked_entry doubt_entry e
         (λ is. absurd (cc is))
-        (λ is nowhere. absurd (nowhere run.some (first_commit ∷ []) first_commit run.possible run.there.0 (inl refl) refl)) there;
+        (λ is nowhere. absurd (nowhere run.some (account_log (first_commit ∷ [])) first_commit run.possible run.there.0 (inl refl) refl)) there;
     block = λ doubt. record {
       gate = 15;
       batch = first_commit ∷ [];
-      batches = [];
+      before = account_log [];
+      bodies = [];
       records = chosen_is;
       log = inr refl;
       front = run.front;
@@ -454,5 +457,5 @@ module _ (r : Observed) (opened : Moment) (told doubting : List Moment) (run : I
   }
 
   -- and over a sound folder it shows what has to be shown, where some image was there at the return of the opening's sync
-  pub shown : IsSoundFolder account_program r.old → (some : Image) → IsImage opened.disk some → Shows account_program r course
-  shown sound_folder some possible = shows account_program r course kept sound_folder some possible journal refl backs (λ m there image left. (known m there image left).0)
+  pub shown : IsSoundFolder r.old → (some : Image) → IsImage opened.disk some → Shows account_program r course
+  shown sound_folder some possible = shows account_program r course kept refl sound_folder some possible journal refl backs (λ m there image left. (known m there image left).0)

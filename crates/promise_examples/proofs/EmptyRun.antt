@@ -1,14 +1,17 @@
 -- A run that reads no line keeps the whole promise.
-use Rattle.std.proofs.Common.{◌≡◌, inl, inr, ℕ, ◌≤◌, List, [], ◌++◌, length, refl, sym, ◌∙◌, ap, subst, arith}
+use Rattle.promise_spec.specs.Prefixes.{IsPrefixOf}
+use Rattle.promise_spec.proofs.Prefixes.{of_itself}
+use Rattle.promise_spec.proofs.Standings.{grown_none}
+use Rattle.promise_spec.specs.Entries.{Log, grown}
+use Rattle.std.proofs.Common.{◌≡◌, inl, inr, ℕ, ◌≤◌, List, [], length, refl, sym, ◌∙◌, ap, subst, arith}
 use Rattle.std.proofs.lemmas.List.{append-nil}
 use Rattle.core_model.specs.CoreState.{Member}
 use Rattle.host_trait.specs.World.{Moment, Image, IsImage, moment_of}
 use Rattle.host_trait.specs.declared.channels.Channel.{Channel}
 use Rattle.host_trait.specs.declared.channels.FileId.TheVariants.{Grain}
 use Rattle.request_wire.specs.Lines.{lines_of}
-use Rattle.promise_spec.specs.Programs.{Program, shape_in}
-use Rattle.promise_spec.specs.Records.{Commit}
-use Rattle.promise_spec.specs.Logs.{magic, IsLog}
+use Rattle.promise_spec.specs.Programs.{Program}
+use Rattle.promise_spec.specs.Logs.{IsLog}
 use Rattle.promise_spec.specs.Moments.{IsImageOf}
 use Rattle.promise_spec.specs.Causes.{RoseBy}
 use Rattle.promise_spec.specs.Endings.{Done, DiskFault, HasRisen, IsCarried, HasLength, IsCalm}
@@ -22,9 +25,8 @@ use Rattle.promise_spec.proofs.OneLog.{one_log}
 use Rattle.promise_examples.proofs.FirstFamily.{no_family}
 use Rattle.promise_examples.proofs.WholeBatches.{no_batch}
 use Rattle.promise_examples.specs.EmptyRuns.{IsEmptyRun, empty_course}
-use Rattle.silo_spec.specs.Slots.{IsLive}
 
-module _ (p : Program) (r : Observed) (opening : List Commit) (run : IsEmptyRun p r opening) where
+module _ (p : Program) (r : Observed) (opening : Log) (run : IsEmptyRun p r opening) where
   -- the two moments that count are the exit's
   at_exit : (image : Image) → IsImageOf (moments r (empty_course r opening)) image → IsImage r.new.disk image
   at_exit image is = elim is.member [
@@ -35,11 +37,12 @@ module _ (p : Program) (r : Observed) (opening : List Commit) (run : IsEmptyRun 
     ]
   ]
 
-  whole : (image : Image) → IsImage r.new.disk image → IsLog 0 (shape_in p) image (opening ++ [])
-  whole image is = subst (λ (l : List Commit). IsLog 0 (shape_in p) image l) (sym (append-nil opening)) (run.logs image is)
+  whole : (image : Image) → IsImage r.new.disk image → IsLog 0 image (grown opening [])
+  whole image is = subst (λ (l : Log). IsLog 0 image l) (sym (grown_none opening)) (run.logs image is)
 
-  moved : (image : Image) → IsLog 0 (shape_in p) image (opening ++ []) → (live : ℕ) → IsLive magic live image → IsLog live (shape_in p) image (opening ++ [])
-  moved image is live is_live = subst (λ (slot : ℕ). IsLog slot (shape_in p) image (opening ++ [])) (sym is_live.slot) is
+  -- a log is a prefix of the same one
+  first_of_both : (x y : Log) → x ≡ y → IsPrefixOf x y
+  first_of_both x y same = subst (IsPrefixOf x) same (of_itself x)
 
   same_output : (m : Moment) → Member m (moments r (empty_course r opening)) → m.output ≡ r.old.output
   same_output m there = elim there [
@@ -65,13 +68,14 @@ module _ (p : Program) (r : Observed) (opening : List Commit) (run : IsEmptyRun 
   kept = record {
     headline = record {
       ordered = record {
+        in_force = run.in_force;
         read = run.read;
         opened = λ image is. record { entry = run.entry image is; log = run.logs image is };
         longest = record {
           image = run.some;
           left = record { moment = moment_of r.new; member = inl refl; left = run.possible };
           log = whole run.some run.possible;
-          longest = λ other is live is_live. (opening ++ [], moved other (whole other (at_exit other is)) live is_live, ([], sym (append-nil (opening ++ []))));
+          longest = λ other log is has. first_of_both log (grown opening []) (one_log has.0 0 other log (grown opening []) has.1 (whole other (at_exit other is)));
         };
         serial = tt;
       };
@@ -87,9 +91,9 @@ module _ (p : Program) (r : Observed) (opening : List Commit) (run : IsEmptyRun 
         past = run.synced;
         quiet = λ m there. elim there [ inl same ↦ ap (λ (n : Moment). n.output) same ∙ run.output | inr none ↦ absurd none ];
         before = λ image is. elim is.member [ inl same ↦ run.entry image (subst (λ (m : Moment). IsImage m.disk image) same is.left) | inr none ↦ absurd none ];
-        chain = λ one other a b live is_live. (opening ++ [], moved one (whole one (at_exit one a)) live is_live, λ too is_too. (opening ++ [], moved other (whole other (at_exit other b)) too is_too, inl ([], sym (append-nil (opening ++ [])))));
-        whole = λ image is. whole_if p image (run.sound image (at_exit image is));
-        keeps = λ image is. record { log = opening; is = run.logs image (at_exit image is); longer = ([], sym (append-nil opening)) };
+        chain = λ one other a b x y has also. inl (first_of_both x y (one_log has.0 0 one x (grown opening []) has.1 (whole one (at_exit one a)) ∙ sym (one_log also.0 0 other y (grown opening []) also.1 (whole other (at_exit other b)))));
+        whole = λ image is. whole_if image (run.sound image (at_exit image is));
+        keeps = λ image is. record { more = []; is = whole image (at_exit image is); front = ([], refl) };
         alone = λ m there. elim there [
           | inl same ↦ subst (LeavesAlone 0 r) (sym same) run.alone
           | inr more ↦ elim more [ inl same ↦ subst (LeavesAlone 0 r) (sym same) run.alone | inr none ↦ absurd none ]
@@ -108,7 +112,7 @@ module _ (p : Program) (r : Observed) (opening : List Commit) (run : IsEmptyRun 
     };
     traced = record {
       family = no_family p.types (lines r) _ _ _;
-      whole = λ image log is log_is. subst (EndsABatch (core_end p (empty_course r opening)) opening) (one_log 0 0 (shape_in p) image opening log (run.logs image (at_exit image is)) log_is) (no_batch (core_end p (empty_course r opening)) opening);
+      whole = λ image log is log_is. subst (EndsABatch (core_end p (empty_course r opening)) opening) (one_log 0 0 image opening log (run.logs image (at_exit image is)) log_is) (no_batch (core_end p (empty_course r opening)) opening);
     };
     settled = record {
       entries = ([], refl);
@@ -130,8 +134,8 @@ module _ (p : Program) (r : Observed) (opening : List Commit) (run : IsEmptyRun 
       ];
     };
     exit = record {
-      logs = λ image is. record { log = opening ++ []; is = whole image is; which = inl refl };
-      doubt = λ one other a b is_one is_other log_a log_b differ. absurd (differ (one_log 0 0 (shape_in p) one a (opening ++ []) log_a (whole one is_one) ∙ sym (one_log 0 0 (shape_in p) other b (opening ++ []) log_b (whole other is_other))));
+      logs = λ image is. record { log = grown opening []; is = whole image is; which = inl refl };
+      doubt = λ one other a b is_one is_other log_a log_b differ. absurd (differ (one_log 0 0 one a (grown opening []) log_a (whole one is_one) ∙ sym (one_log 0 0 other b (grown opening []) log_b (whole other is_other))));
       nowhere = λ e none. absurd none;
       block = λ doubt. absurd (none_at doubt.at _ doubt.doubt.there);
       behind = λ none. run.behind;

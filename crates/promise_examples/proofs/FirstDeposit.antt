@@ -10,20 +10,24 @@ use Rattle.field_codec.specs.Spelling.{spelling_of_version}
 use Rattle.request_wire.specs.Reply.{reply_line}
 use Rattle.script_meaning.specs.Play.{unit, play_over}
 use Rattle.promise_spec.specs.Programs.{shape_in}
-use Rattle.promise_spec.specs.Records.{Commit, new_silo, standing_of}
 use Rattle.promise_spec.specs.Serial.{IsSerial}
-use Rattle.promise_spec.specs.Logs.{IsLog, IsKept, body_of}
+use Rattle.promise_spec.specs.Blocks.{Records, body_of}
+use Rattle.promise_spec.specs.Logs.{IsLog}
 use Rattle.base_types.specs.declared.calls.Value.{Value}
 use Rattle.gate_block.specs.Log.{gate_of, LogsUpTo}
 use Rattle.gate_block.proofs.Logs as blocks
 use Rattle.gate_block.specs.Blocks.{block_of, found_at, shut}
 use Rattle.promise_spec.specs.Reports.{show_text, history_text, audit_text}
-use Rattle.promise_examples.specs.Examples.{accounts, account_program, account_1, deposit, first_commit, next_commit, first_version, grain_bytes, block_bytes, manager_bytes, folder, torn_folder, first_entry}
+use Rattle.promise_examples.specs.Examples.{account_log, accounts, account_program, account_1, deposit, first_commit, next_commit, first_version, grain_bytes, block_bytes, manager_bytes, folder, torn_folder, first_entry}
+use Rattle.promise_examples.proofs.AccountLogs.{account_logged}
+use Rattle.promise_spec.proofs.Batched.{IsBatched}
+use Rattle.promise_spec.specs.Entries.{new_silo, Log, standing_of}
+use Rattle.promise_spec.specs.Versions.{IsKept}
 
 pub version_spelled : spelling_of_version first_version ≡ grain_bytes
 version_spelled = refl
 
-pub block_spelled : block_of (body_of (first_commit ∷ [])) ≡ block_bytes
+pub block_spelled : block_of (body_of (Records (first_commit ∷ []))) ≡ block_bytes
 block_spelled = refl
 
 pub manager_size : length (manager_bytes 1) ≡ 89
@@ -33,15 +37,14 @@ pub five : FitsSigned w64 (pos 5)
 five = fits_signed_from_abs w64 (pos 5) (lit< tt)
 
 -- the image's log is that one record
-pub logged : IsLog 0 (shape_in account_program) (folder 1 grain_bytes) (first_commit ∷ [])
-logged = record {
-  is_live = record { slot = refl; silo = record { long = omega arith; gate = refl; named = refl } };
+pub logged_batch : IsBatched 0 (shape_in account_program) (folder 1 grain_bytes) (first_commit ∷ [])
+logged_batch = record {
   header = refl;
   batches = (first_commit ∷ []) ∷ [];
   gate = 88;
   blocks = record { blocks = record { small = (omega arith, tt); at = refl; within = omega arith; blocks = refl }; closed = λ e. cc e };
   sizes = (omega arith, tt);
-  commits = refl;
+  are = refl;
   kept = (
     record {
       fits = record {
@@ -66,25 +69,30 @@ logged = record {
   );
 }
 
+pub logged : IsLog 0 (folder 1 grain_bytes) (account_log (first_commit ∷ []))
+logged = account_logged (folder 1 grain_bytes) (first_commit ∷ []) (record { long = omega arith; gate = refl; named = refl }) refl logged_batch
+
 -- it ends at the file's last byte
-pub ends_last : LogsUpTo (map body_of ((first_commit ∷ []) ∷ [])) 88 (manager_bytes 1)
+pub ends_last : LogsUpTo (map body_of (Records (first_commit ∷ []) ∷ [])) 88 (manager_bytes 1)
 ends_last = record { blocks = record { small = (omega arith, tt); at = refl; within = omega arith; blocks = refl }; closed = λ e. cc e }
 
 -- where the block's gate is closed, the log is empty
-pub closed_gate : IsLog 0 (shape_in account_program) (folder 0 grain_bytes) []
-closed_gate = record {
-  is_live = record { slot = refl; silo = record { long = omega arith; gate = refl; named = refl } };
+closed_batch : IsBatched 0 (shape_in account_program) (folder 0 grain_bytes) []
+closed_batch = record {
   header = refl;
   batches = [];
   gate = 15;
   blocks = record { blocks = record { small = tt; at = refl; within = omega arith; blocks = refl }; closed = λ e. cc e };
   sizes = tt;
-  commits = refl;
+  are = refl;
   kept = tt;
 }
 
+pub closed_gate : IsLog 0 (folder 0 grain_bytes) (account_log [])
+closed_gate = account_logged (folder 0 grain_bytes) [] (record { long = omega arith; gate = refl; named = refl }) refl closed_batch
+
 -- the deposit stands in the store
-pub stands : (standing_of accounts (first_commit ∷ [])).states account_1 ≡ Int (pos 5) ∷ []
+pub stands : (standing_of (account_log (first_commit ∷ []))).states account_1 ≡ Int (pos 5) ∷ []
 stands = refl
 
 -- its reply
@@ -93,19 +101,19 @@ unfolding serde_json_on_literals digits
 reply = refl
 
 -- two deposits are serial
-pub two_serial : IsSerial accounts (new_silo accounts).states (first_commit ∷ next_commit 4 9 ∷ [])
+pub two_serial : IsSerial accounts (new_silo account_program).states (first_commit ∷ next_commit 4 9 ∷ [])
 unfolding unit play_over
 two_serial = (record { result = refl; asked = refl; writes = refl }, (record { result = refl; asked = refl; writes = refl }, tt))
 
 -- and not where the second doesn't see the first
-pub not_serial : IsSerial accounts (new_silo accounts).states (first_commit ∷ next_commit 4 4 ∷ []) → ⊥
+pub not_serial : IsSerial accounts (new_silo account_program).states (first_commit ∷ next_commit 4 4 ∷ []) → ⊥
 unfolding unit play_over
 not_serial s = cc s.1.0.result
 
 -- where the block is cut the folder has no log
-pub torn : (log : List Commit) → IsLog 0 (shape_in account_program) (torn_folder 80) log → ⊥
+pub torn : (log : Log) → IsLog 0 (torn_folder 80) log → ⊥
 torn log is =
-    let whole : found_at (gate_of (take 80 (manager_bytes 1))) (take 80 (manager_bytes 1)) ≡ shut = (blocks.logged (map body_of is.batches) is.gate (take 80 (manager_bytes 1)) is.blocks).2 in
+    let whole : found_at (gate_of (take 80 (manager_bytes 1))) (take 80 (manager_bytes 1)) ≡ shut = (blocks.logged is.is.bodies is.is.gate (take 80 (manager_bytes 1)) (record { blocks = is.is.stands.stand; closed = is.is.closed })).2 in
     absurd (cc whole)
 
 -- where the grain's file is cut within the version, the record isn't kept, whatever its states
@@ -116,14 +124,14 @@ cut (state ∷ states) kept =
     let size : 10 ≡ 19 = ap (λ (l : List ℕ). length l) v.here ∙ v.version_is.len in
     omega (arith, size)
 
-pub shown : show_text account_program (first_commit ∷ []) ≡ codes "{\"fields\":{\"balance\":5},\"grain\":\"account/1\"}\n{\"count\":1}\n"
+pub shown : show_text (account_log (first_commit ∷ [])) ≡ codes "{\"fields\":{\"balance\":5},\"grain\":\"account/1\"}\n{\"count\":1}\n"
 unfolding serde_json_on_literals digits
 shown = refl
 
-pub told : history_text account_program (first_commit ∷ []) ≡ codes "{\"args\":[5],\"call\":\"account/1.deposit\",\"n\":1,\"reply\":5,\"unit\":1}\n"
+pub told : history_text (account_log (first_commit ∷ [])) ≡ codes "{\"args\":[5],\"call\":\"account/1.deposit\",\"n\":1,\"reply\":5,\"unit\":1}\n"
 unfolding serde_json_on_literals digits
 told = refl
 
-pub audited : audit_text (first_commit ∷ []) None ≡ codes "{\"count\":1,\"first_bad\":null}\n"
+pub audited : audit_text (account_log (first_commit ∷ [])) None ≡ codes "{\"count\":1,\"first_bad\":null}\n"
 unfolding serde_json_on_literals digits
 audited = refl

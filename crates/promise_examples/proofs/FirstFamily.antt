@@ -6,14 +6,15 @@ use Rattle.base_types.specs.declared.calls.UnitNo.{UnitNo}
 use Rattle.core_model.specs.CoreState.{Member, CoreState}
 use Rattle.script_tree.specs.Programs.{ProgramTree}
 use Rattle.script_meaning.specs.Play.{unit, play_over}
-use Rattle.promise_spec.specs.Records.{Commit, States, new_silo}
+use Rattle.promise_spec.specs.Records.{Commit, States}
 use Rattle.promise_spec.specs.Serial.{IsSerial}
 use Rattle.promise_spec.specs.Images.{AreNumbered}
 use Rattle.promise_spec.specs.Lines.{IsLineCall}
 use Rattle.promise_spec.specs.Cores.{HasBegun}
 use Rattle.promise_spec.specs.Family.{AreAnswers, IsUnitOf, IsReached, IsAskedBefore, IsFamily}
-use Rattle.promise_examples.specs.Examples.{accounts, unit_no, first_commit, deposit_call}
+use Rattle.promise_examples.specs.Examples.{accounts, unit_no, first_commit, deposit_call, account_program}
 use Rattle.promise_spec.proofs.Lists.{none_at}
+use Rattle.promise_spec.specs.Entries.{new_silo}
 
 -- the one thing in a list of one
 pub only : {A : Type 0} (P : A → Type 0) (x y : A) → P x → Member y (x ∷ []) → P y
@@ -29,7 +30,7 @@ pub only_at : {A : Type 0} (x : A) (i : ℕ) (y : A) → slice_get (x ∷ []) i 
 only_at x zero y is = refl
 only_at x (suc i) y is = absurd (none_at i y is)
 
-pub serial : IsSerial accounts (new_silo accounts).states (first_commit ∷ [])
+pub serial : IsSerial accounts (new_silo account_program).states (first_commit ∷ [])
 unfolding unit play_over
 serial = (record { result = refl; asked = refl; writes = refl }, tt)
 
@@ -57,14 +58,14 @@ not_child parent index depth same = absurd (cc same)
 
 -- the record comes from line 1
 pub family_of : (lines : List (List ℕ)) (w : CoreState) → IsLineCall accounts lines 1 deposit_call → HasBegun w (unit_no 1) → IsUnitOf w first_commit → IsReached accounts lines w (first_commit ∷ []) (unit_no 1)
-    → IsFamily accounts lines w (new_silo accounts).states (first_commit ∷ []) (first_commit ∷ [])
+    → IsFamily accounts lines w (new_silo account_program).states (first_commit ∷ []) (first_commit ∷ [])
 family_of lines w asks begun unit_is reached = record {
   line = λ c n there. only (λ (d : Commit). d.logged.origin ≡ Line n → IsLineCall accounts lines n d.logged.call) first_commit c (λ same. subst (λ k. IsLineCall accounts lines k deposit_call) (line_is n same) asks) there;
   one_each = λ c d n there also is too. only (λ (x : Commit). x ≡ d) first_commit c (only (λ (x : Commit). first_commit ≡ x) first_commit d refl also) there;
   answers = λ c there. only (λ (d : Commit). AreAnswers (first_commit ∷ []) d.logged.unit d.logged.answers) first_commit c (λ i answer is. absurd (none_at i answer is)) there;
   younger = λ c parent index depth there. only (λ (d : Commit). d.logged.origin ≡ Child parent index depth → parent.0 < d.logged.unit.0) first_commit c (λ is. absurd (not_child parent index depth is)) there;
   asked = λ c d index depth there also.
-      only (λ (x : Commit). x.logged.origin ≡ Child d.logged.unit index depth → IsAskedBefore accounts (new_silo accounts).states (first_commit ∷ []) x d index depth) first_commit c (λ is. absurd (not_child d.logged.unit index depth is)) there;
+      only (λ (x : Commit). x.logged.origin ≡ Child d.logged.unit index depth → IsAskedBefore accounts (new_silo account_program).states (first_commit ∷ []) x d index depth) first_commit c (λ is. absurd (not_child d.logged.unit index depth is)) there;
   units = λ c there. only (IsUnitOf w) first_commit c unit_is there;
   reached = λ c there. only (λ (d : Commit). IsReached accounts lines w (first_commit ∷ []) d.logged.unit) first_commit c reached there;
 }

@@ -1,3 +1,4 @@
+pub mod AccountLogs
 pub mod FirstDeposit
 pub mod AccountText
 pub mod FirstFamily

@@ -26,19 +26,23 @@ use Rattle.silo_spec.specs.Silos.{manager, program_file, IsSilo, HasProgram}
 use Rattle.request_wire.specs.Names.{TypeNames, names_in}
 use Rattle.request_wire.specs.Request.{shape_of, grain_of, method_of, args_of, passed, call_of}
 use Rattle.request_wire.proofs.Arguments.{json_of-read}
-use Rattle.promise_spec.specs.Programs.{ProgramFault, shape_in, program_in}
+use Rattle.promise_spec.specs.Programs.{ProgramFault, program_in}
 use Rattle.promise_spec.specs.Openings.{with_types, program_in_file}
-use Rattle.promise_spec.specs.Logs.{magic, IsLog, body_of}
+use Rattle.promise_spec.specs.Logs.{magic, HasLog}
 use Rattle.promise_spec.specs.Crashes.{IsAside}
 use Rattle.promise_spec.specs.Promise.{IsSoundFolder}
-use Rattle.promise_examples.specs.Examples.{account_text, accounts, account_program, program_bytes, account_1, deposit_of, read_call, first_version, grain_bytes, block_bytes, manager_of, manager_bytes}
+use Rattle.promise_examples.specs.Examples.{account_log, account_text, accounts, account_program, program_bytes, account_1, deposit_of, read_call, first_version, grain_bytes, block_bytes, manager_of, manager_bytes, first_commit}
 use Rattle.promise_examples.specs.DepositRuns.{HasNone, HasDeposit}
 use Rattle.promise_examples.specs.WrittenRun.{new_manager, disk_of, new_disk, pending_gate, sealing_disk, sealed_disk}
-use Rattle.promise_examples.proofs.FirstDeposit.{logged}
+use Rattle.promise_examples.proofs.FirstDeposit.{logged_batch, logged}
 use Rattle.promise_examples.proofs.AccountText.{account_is_checked}
-use Rattle.promise_spec.proofs.Slots.{first_live}
 use Rattle.promise_spec.specs.Images.{IsSound}
-use Rattle.silo_spec.specs.Slots.{IsLive}
+use Rattle.promise_examples.proofs.AccountLogs.{account_logged}
+use Rattle.promise_spec.proofs.Batched.{batch_body}
+use Rattle.promise_spec.proofs.OneLog.{one_log}
+use Rattle.promise_spec.proofs.Prefixes.{of_itself}
+use Rattle.promise_spec.specs.Prefixes.{IsPrefixOf}
+use Rattle.promise_spec.specs.Entries.{Log}
 
 -- ---- what images have
 
@@ -46,40 +50,38 @@ pub program_spelled : HasProgram account_text program_bytes
 program_spelled = refl
 
 module _ (image : Image) (program_is : image program_file ≡ program_bytes) where
-  has_program : HasProgram account_program.text (image program_file)
+  pub has_program : HasProgram account_program.text (image program_file)
   has_program = subst (λ (file : List ℕ). HasProgram account_text file) (sym program_is) program_spelled
 
   -- a manager file whose first gate is closed
   pub has_none : (file : List ℕ) → IsSilo magic file → header_damage file ≡ None → LogsUpTo [] 15 file → image manager ≡ file → HasNone image
   has_none file silo header blocks is = (
-    record {
-      is_live = first_live image (subst (λ (f : List ℕ). IsSilo magic f) (sym is) silo);
+    account_logged image [] (subst (λ (f : List ℕ). IsSilo magic f) (sym is) silo) has_program (record {
       header = ap header_damage is ∙ header;
       batches = [];
       gate = 15;
       blocks = subst (λ (f : List ℕ). LogsUpTo [] 15 f) (sym is) blocks;
       sizes = tt;
-      commits = refl;
+      are = refl;
       kept = tt;
-    },
+    }),
     has_program,
   )
 
   -- the first deposit's files
   pub has_deposit : image manager ≡ manager_bytes 1 → image (Grain 0 account_1) ≡ grain_bytes → HasDeposit image
   has_deposit is grain_is =
-      let stands = logged.kept.0.whole.0 in (
-        record {
-          is_live = first_live image (subst (λ (f : List ℕ). IsSilo magic f) (sym is) logged.is_live.silo);
-          header = ap header_damage is ∙ logged.header;
-          batches = logged.batches;
-          gate = logged.gate;
-          blocks = subst (λ (f : List ℕ). LogsUpTo (map body_of logged.batches) logged.gate f) (sym is) logged.blocks;
-          sizes = logged.sizes;
-          commits = logged.commits;
+      let stands = logged_batch.kept.0.whole.0 in (
+        account_logged image (first_commit ∷ []) (subst (λ (f : List ℕ). IsSilo magic f) (sym is) logged.is_live.silo) has_program (record {
+          header = ap header_damage is ∙ logged_batch.header;
+          batches = logged_batch.batches;
+          gate = logged_batch.gate;
+          blocks = subst (λ (f : List ℕ). LogsUpTo (map batch_body logged_batch.batches) logged_batch.gate f) (sym is) logged_batch.blocks;
+          sizes = logged_batch.sizes;
+          are = logged_batch.are;
           kept = (
             record {
-              fits = logged.kept.0.fits;
+              fits = logged_batch.kept.0.fits;
               whole = (
                 record {
                   near = stands.near;
@@ -91,7 +93,7 @@ module _ (image : Image) (program_is : image program_file ≡ program_bytes) whe
             },
             tt,
           );
-        },
+        }),
         has_program,
       )
 
@@ -211,17 +213,17 @@ abbrev pub new_folder : Image
 new_folder file = (new_disk file).seen
 
 -- each image has the empty log
-pub sound_world : (w : World) → ((image : Image) → IsImage w.disk image → IsImage new_disk image) → IsSoundFolder account_program w
+pub sound_world : (w : World) → ((image : Image) → IsImage w.disk image → IsImage new_disk image) → IsSoundFolder w
 sound_world w same = record {
-  chain = λ one other is_one is_other live is. ([], log_in one is_one live is, λ too is_too. ([], log_in other is_other too is_too, inl ([], refl)));
-  sound = λ image left live is. subst (λ (slot : ℕ). IsSound slot account_program image) (sym is.slot) (sound_at image left);
+  chain = λ one other is_one is_other a b has_a has_b.
+      (let a_is : a ≡ account_log [] = log_is one is_one a has_a in
+      let b_is : b ≡ account_log [] = log_is other is_other b has_b in
+      inl (subst (λ (l : Log). IsPrefixOf l b) (sym a_is) (subst (λ (l : Log). IsPrefixOf (account_log []) l) (sym b_is) (of_itself (account_log [])))));
+  sound = λ image left live is. subst (λ (slot : ℕ). IsSound slot image) (sym is.slot) (record { log = account_log []; is = (new_images image (same image left)).0; serial = tt; numbered = tt });
 }
   where
-    sound_at : (image : Image) → IsImage w.disk image → IsSound 0 account_program image
-    sound_at image left = let has = new_images image (same image left) in record { log = []; is = has.0; program = has.1; serial = tt; numbered = tt }
-
-    log_in : (image : Image) → IsImage w.disk image → (live : ℕ) → IsLive magic live image → IsLog live (shape_in account_program) image []
-    log_in image left live is = subst (λ (slot : ℕ). IsLog slot (shape_in account_program) image []) (sym is.slot) (new_images image (same image left)).0
+    log_is : (image : Image) → IsImage w.disk image → (log : Log) → HasLog image log → log ≡ account_log []
+    log_is image left log has = one_log has.0 0 image log (account_log []) has.1 (new_images image (same image left)).0
 
 -- ---- the program file
 

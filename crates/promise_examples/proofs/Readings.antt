@@ -15,7 +15,7 @@ use Rattle.promise_spec.specs.Programs.{Program, shape_in}
 use Rattle.promise_spec.specs.Logs.{magic}
 use Rattle.promise_spec.specs.Openings.{NoSilo, DamagedAt, Reads, is_silo, header_damage, behind_header, records_behind, no_more, with_program, with_slot, with_log, opened_as}
 use Rattle.promise_spec.proofs.Openings.{no_silo_is_read}
-use Rattle.promise_examples.specs.Examples.{account_program, account_1, account_2, first_commit, program_bytes, grain_bytes, manager_bytes, folder, torn_folder}
+use Rattle.promise_examples.specs.Examples.{account_log, account_program, account_1, account_2, first_commit, program_bytes, grain_bytes, manager_bytes, folder, torn_folder}
 use Rattle.promise_examples.specs.Readings.{changed, folder_of, program_folder, log_folder, log_changed, grain_folder, two_writes, same_account, version_by, two_folder}
 use Rattle.promise_examples.proofs.NewSilo.{file_is_read}
 use Rattle.promise_spec.proofs.Slots.{first_silo}
@@ -24,8 +24,8 @@ use Rattle.promise_spec.proofs.Slots.{first_silo}
 
 -- what the manager files read as
 pub record Logs : Type 0 where
-  pub deposit : opened_as (folder 1 grain_bytes) ≡ Reads 0 account_program (first_commit ∷ [])
-  pub closed : opened_as (folder 0 grain_bytes) ≡ Reads 0 account_program []
+  pub deposit : opened_as (folder 1 grain_bytes) ≡ Reads 0 (account_log (first_commit ∷ []))
+  pub closed : opened_as (folder 0 grain_bytes) ≡ Reads 0 (account_log [])
   pub torn : opened_as (torn_folder 80) ≡ DamagedAt manager 16
   pub cut : opened_as (torn_folder 16) ≡ DamagedAt manager 16
   pub count : opened_as (log_changed 20 65) ≡ DamagedAt manager 20

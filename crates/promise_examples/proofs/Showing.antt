@@ -3,7 +3,7 @@ use Rattle.std.proofs.Common.{◌≡◌, List}
 use Rattle.core_model.specs.CoreState.{Member}
 use Rattle.host_trait.specs.World.{Moment, Image, IsImage, moment_of, last_of}
 use Rattle.promise_spec.specs.Programs.{Program}
-use Rattle.promise_spec.specs.Courses.{Observed, Course, moments}
+use Rattle.promise_spec.specs.Courses.{Observed, Course, moments, program_in_force}
 use Rattle.promise_spec.specs.Journals.{Settlement, Backs, commits_of}
 use Rattle.promise_spec.specs.Images.{IsSoundFolder}
 use Rattle.promise_spec.specs.Promise.{Keeps}
@@ -12,9 +12,9 @@ use Rattle.promise_laws.specs.Obligations.{SaysIn, Opens, Journals, ExplainsEven
 
 module _ (p : Program) (r : Observed) (c : Course) (keeps : Keeps p r c) where
   -- it opened the folder, and some image was there at the return of the opening's last sync
-  opens : IsSoundFolder p r.old → (some : Image) → IsImage (last_of (moment_of r.old) c.early).disk some → Opens p r c
+  opens : IsSoundFolder r.old → (some : Image) → IsImage (last_of (moment_of r.old) c.early).disk some → Opens r c
   opens sound some possible = record {
-    folder = whole_folder p r.old sound;
+    folder = whole_folder r.old sound;
     read = keeps.headline.ordered.read;
     opened = λ image left. (keeps.headline.ordered.opened image left).log;
     some = some;
@@ -64,9 +64,10 @@ module _ (p : Program) (r : Observed) (c : Course) (keeps : Keeps p r c) where
     most = keeps.ended.most;
   }
 
-  pub shows : IsSoundFolder p r.old → (some : Image) → IsImage (last_of (moment_of r.old) c.early).disk some
+  pub shows : program_in_force c ≡ p → IsSoundFolder r.old → (some : Image) → IsImage (last_of (moment_of r.old) c.early).disk some
       → (journal : List Settlement) → c.added ≡ commits_of journal → Backs journal c.added → ((m : Moment) → Member m (moments r c) → SaysIn p r c journal m) → Shows p r c
-  shows sound some possible journal commits backs kept = record {
+  shows in_force sound some possible journal commits backs kept = record {
+    in_force = in_force;
     opens = opens sound some possible;
     explains = explains;
     settled = keeps.settled;

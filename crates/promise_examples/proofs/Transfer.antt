@@ -1,5 +1,5 @@
 -- The bytes of a silo in which a transfer between two accounts was logged.
-use Rattle.std.proofs.Common.{◌≡◌, ℕ, List, [], ◌∷◌, pos, refl, sym, ◌∙◌, ap, arith, lit<}
+use Rattle.std.proofs.Common.{◌≡◌, ℕ, List, [], ◌∷◌, map, pos, None, refl, sym, ◌∙◌, ap, arith, lit<}
 use Rattle.std.specs.Prelude.{FitsSigned}
 use Rattle.std.specs.Int.{w64}
 use Rattle.std.proofs.lemmas.Int.{fits_signed_from_abs}
@@ -9,11 +9,18 @@ use Rattle.base_types.specs.declared.calls.Value.TheVariants.{Int}
 use Rattle.field_codec.specs.Spelling.{spelling_of_version}
 use Rattle.script_meaning.specs.Play.{unit, play_over}
 use Rattle.script_meaning.specs.Worked.{bank, at, int}
+use Rattle.gate_block.specs.Log.{LogsUpTo}
+use Rattle.log_reading.specs.Blocks.{header_damage}
+use Rattle.silo_spec.specs.Silos.{manager}
+use Rattle.silo_spec.specs.Slots.{IsLive}
 use Rattle.promise_spec.specs.Programs.{shape_in}
-use Rattle.promise_spec.specs.Records.{written, new_silo, standing_of}
+use Rattle.promise_spec.specs.Logs.{magic}
+use Rattle.promise_spec.specs.Records.{written}
 use Rattle.promise_spec.specs.Serial.{IsSerial}
-use Rattle.promise_spec.specs.Logs.{IsLog, IsKept, body_of}
-use Rattle.promise_examples.specs.Transfers.{bank_program, paid_in, moved, balance, version_of_source, version_of_target, transfer_body, bank_folder}
+use Rattle.promise_spec.specs.Blocks.{Records, body_of, AreKept}
+use Rattle.promise_examples.specs.Transfers.{bank_program, paid_in, moved, balance, version_of_source, version_of_target, transfer_body, bank_folder, bank_log}
+use Rattle.promise_spec.specs.Entries.{new_silo, standing_of}
+use Rattle.promise_spec.specs.Versions.{IsKept}
 
 pub source_spelled : spelling_of_version (balance 2 70) ≡ version_of_source
 source_spelled = refl
@@ -21,7 +28,7 @@ source_spelled = refl
 pub target_spelled : spelling_of_version (balance 2 30) ≡ version_of_target
 target_spelled = refl
 
-pub body_spelled : body_of (moved 70 30 ∷ []) ≡ transfer_body
+pub body_spelled : body_of (Records (moved 70 30 ∷ [])) ≡ transfer_body
 body_spelled = refl
 
 hundred : FitsSigned w64 (pos 100)
@@ -86,28 +93,28 @@ transfer_kept = record {
   );
 }
 
--- the folder's log is both records
-pub logged : IsLog 0 (shape_in bank_program) bank_folder (paid_in ∷ moved 70 30 ∷ [])
-logged = record {
-  is_live = record { slot = refl; silo = record { long = omega arith; gate = refl; named = refl } };
-  header = refl;
-  batches = (paid_in ∷ []) ∷ (moved 70 30 ∷ []) ∷ [];
-  gate = 197;
-  blocks = record { blocks = record { small = (lit< tt, (lit< tt, tt)); at = refl; within = omega arith; blocks = refl }; closed = λ e. cc e };
-  sizes = (omega arith, (omega arith, tt));
-  commits = refl;
-  kept = (deposit_kept, (transfer_kept, tt));
-}
+-- the folder's manager file is a silo's, with the blocks of both records, of which each is kept
+pub live : IsLive magic 0 bank_folder
+live = record { slot = refl; silo = record { long = omega arith; gate = refl; named = refl } }
+
+pub header : header_damage (bank_folder manager) ≡ None
+header = refl
+
+pub stand : LogsUpTo (map body_of (Records (paid_in ∷ []) ∷ Records (moved 70 30 ∷ []) ∷ [])) 197 (bank_folder manager)
+stand = record { blocks = record { small = (lit< tt, (lit< tt, tt)); at = refl; within = omega arith; blocks = refl }; closed = λ e. cc e }
+
+pub kept : AreKept 0 bank_folder bank_program (bank_log (paid_in ∷ moved 70 30 ∷ [])).entries
+kept = (deposit_kept, (transfer_kept, tt))
 
 -- it stands for both new balances
-pub source_stands : (standing_of bank (paid_in ∷ moved 70 30 ∷ [])).states (at 0 1) ≡ int 70 ∷ []
+pub source_stands : (standing_of (bank_log (paid_in ∷ moved 70 30 ∷ []))).states (at 0 1) ≡ int 70 ∷ []
 source_stands = refl
 
-pub target_stands : (standing_of bank (paid_in ∷ moved 70 30 ∷ [])).states (at 0 2) ≡ int 30 ∷ []
+pub target_stands : (standing_of (bank_log (paid_in ∷ moved 70 30 ∷ []))).states (at 0 2) ≡ int 30 ∷ []
 target_stands = refl
 
 -- it is serial
-pub serial : IsSerial bank (new_silo bank).states (paid_in ∷ moved 70 30 ∷ [])
+pub serial : IsSerial bank (new_silo bank_program).states (paid_in ∷ moved 70 30 ∷ [])
 unfolding unit play_over
 serial = (record { result = refl; asked = refl; writes = refl }, (record { result = refl; asked = refl; writes = refl }, tt))
 
@@ -120,12 +127,12 @@ second_amount (first ∷ second ∷ found) = amount second.1
 second_amount _ = 0
 
 -- and not where the transfer leaves account 2 another balance, or stands first
-pub not_serial : IsSerial bank (new_silo bank).states (paid_in ∷ moved 70 31 ∷ []) → ⊥
+pub not_serial : IsSerial bank (new_silo bank_program).states (paid_in ∷ moved 70 31 ∷ []) → ⊥
 not_serial s =
     let same : written (moved 70 30) ≡ written (moved 70 31) = sym serial.1.0.writes ∙ s.1.0.writes in
     let left : 30 ≡ 31 = ap second_amount same in
     omega (arith, left)
 
-pub not_first : IsSerial bank (new_silo bank).states (moved 70 30 ∷ paid_in ∷ []) → ⊥
+pub not_first : IsSerial bank (new_silo bank_program).states (moved 70 30 ∷ paid_in ∷ []) → ⊥
 unfolding unit play_over
 not_first s = cc s.0.result

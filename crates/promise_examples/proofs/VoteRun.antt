@@ -40,12 +40,12 @@ use Rattle.promise_spec.specs.Explained.{ComeOfEvents, AreSettled, IsExplained}
 use Rattle.promise_spec.specs.Journals.{Settlement, KeepsJournal, Backs, commits_of, entries_of}
 use Rattle.promise_spec.specs.Promise.{IsSoundFolder, HasEnded, Keeps}
 use Rattle.promise_laws.specs.Obligations.{Shows}
-use Rattle.promise_examples.specs.Examples.{accounts, account_program, account_1, unit_no, voted_entry, dependent_entry, vote_entries, vote_events, account_run}
+use Rattle.promise_examples.specs.Examples.{account_log, accounts, account_program, account_1, unit_no, voted_entry, dependent_entry, vote_entries, vote_events, account_run}
 use Rattle.promise_examples.specs.DepositRuns.{HasNone, LeavesOthers, IsBetween}
 use Rattle.promise_examples.specs.VoteRuns.{IsVoteRun, vote_course}
 use Rattle.promise_spec.proofs.Lists.{none_at, both_parts}
 use Rattle.promise_spec.proofs.OneLog.{one_log}
-use Rattle.promise_laws.proofs.Journaled.{chained, longest, holds, whole as all_whole, sound}
+use Rattle.promise_laws.proofs.Journaled.{commits_of-append, chained, longest, holds, whole as all_whole, sound}
 use Rattle.promise_examples.proofs.Between.{at_each, exit_there, all_less}
 use Rattle.promise_examples.proofs.WholeBatches.{no_batch}
 use Rattle.promise_examples.proofs.Showing.{shows}
@@ -171,7 +171,7 @@ module _ (r : Observed) (opened : Moment) (failing told : List Moment) (run : Is
   course = vote_course opened failing told r
 
   abbrev KeepsAt : Moment → Image → Type 0
-  KeepsAt m image = (k : KeepsJournal 0 account_program [] r.old.output journal m image) × IsPrefix (entries_of k.said) vote_entries
+  KeepsAt m image = (k : KeepsJournal 0 account_program (account_log []) r.old.output journal m image) × IsPrefix (entries_of k.said) vote_entries
 
   abbrev Known : Moment → Type 0
   Known m = (image : Image) → IsImage m.disk image → KeepsAt m image × HasProgram account_program.text (image program_file)
@@ -215,14 +215,15 @@ module _ (r : Observed) (opened : Moment) (failing told : List Moment) (run : Is
       (all_less (IsBetween r (r.old.output ++ reply_lines (shape_in account_program) (voted_entry ∷ [])) HasNone) Known told at_told run.first))
       at_exit
 
-  keeps_at : (image : Image) (is : IsImageOf (moments r course) image) → KeepsJournal 0 account_program [] r.old.output journal is.moment image
+  keeps_at : (image : Image) (is : IsImageOf (moments r course) image) → KeepsJournal 0 account_program (account_log []) r.old.output journal is.moment image
   keeps_at image is = (known is.moment is.member image is.left).0.0
 
   ordered : IsOrdered account_program r course
   ordered = record {
+    in_force = refl;
     read = run.read;
     opened = λ image left. record { entry = (run.entry image left).0; log = (run.entry image left).1.0 };
-    longest = longest 0 account_program [] r.old.output journal (moments r course) run.some (record { moment = moment_of r.new; member = exit_there opened (failing ++ told) (moment_of r.new); left = run.possible }) (run.exit run.some run.possible).0
+    longest = longest 0 account_program (account_log []) r.old.output journal (moments r course) run.some (record { moment = moment_of r.new; member = exit_there opened (failing ++ told) (moment_of r.new); left = run.possible }) (run.exit run.some run.possible).0
         (λ m there image left. (known m there image left).0.0);
     serial = tt;
   }
@@ -256,8 +257,8 @@ module _ (r : Observed) (opened : Moment) (failing told : List Moment) (run : Is
       (all_less (IsBetween r (r.old.output ++ reply_lines (shape_in account_program) (voted_entry ∷ [])) HasNone) AllHaveNone told (λ m is. is.images) run.first))
       run.exit
 
-  sound_all : StaySound account_program r course
-  sound_all image is = sound 0 account_program [] r.old.output journal is.moment image (keeps_at image is) (known is.moment is.member image is.left).1 tt tt
+  sound_all : StaySound r course
+  sound_all image is = sound 0 account_program (account_log []) r.old.output journal is.moment image (keeps_at image is) tt tt
 
   -- and the files of other grains
   apart : (m : Moment) → Member m (moments r course) → LeavesOthers r m
@@ -267,14 +268,14 @@ module _ (r : Observed) (opened : Moment) (failing told : List Moment) (run : Is
       (all_less (IsBetween r (r.old.output ++ reply_lines (shape_in account_program) (voted_entry ∷ [])) HasNone) (LeavesOthers r) told (λ m is. is.apart) run.first))
       run.apart.1
 
-  crashes : SurvivesCrashes account_program r course
+  crashes : SurvivesCrashes r course
   crashes = record {
     past = run.past;
     quiet = λ m there. only (λ (n : Moment). n.output ≡ r.old.output) opened m run.quiet there;
     before = λ image is. only (λ (n : Moment). IsImage n.disk image → IsImage r.old.disk image) opened is.moment (λ left. (run.entry image left).0) is.member is.left;
-    chain = λ one other a b. chained 0 account_program [] r.old.output journal a.moment b.moment one other (keeps_at one a) (keeps_at other b);
-    whole = λ image is. all_whole 0 account_program [] r.old.output journal is.moment image (keeps_at image is) (known is.moment is.member image is.left).1 tt;
-    keeps = λ image is. let k = keeps_at image is in record { log = commits_of (k.said ++ k.unsaid); is = k.log; longer = (commits_of (k.said ++ k.unsaid), refl) };
+    chain = λ one other a b. chained 0 account_program (account_log []) r.old.output journal a.moment b.moment one other (keeps_at one a) (keeps_at other b);
+    whole = λ image is. all_whole 0 account_program (account_log []) r.old.output journal is.moment image (keeps_at image is) tt;
+    keeps = λ image is. let k = keeps_at image is in record { more = commits_of (k.said ++ k.unsaid); is = k.log; front = (commits_of k.later, ap commits_of k.split ∙ commits_of-append (k.said ++ k.unsaid) k.later) };
     alone = alone;
   }
 
@@ -283,7 +284,7 @@ module _ (r : Observed) (opened : Moment) (failing told : List Moment) (run : Is
   of_events = record {
     family = no_family accounts (lines r) _ _ _;
     whole = λ image log is log_is.
-        subst (EndsABatch (core_end account_program course) []) (one_log 0 0 (shape_in account_program) image [] log (have_none is.moment is.member image is.left).0 log_is) (no_batch (core_end account_program course) []);
+        subst (EndsABatch (core_end account_program course) (account_log [])) (one_log 0 0 image (account_log []) log (have_none is.moment is.member image is.left).0 log_is) (no_batch (core_end account_program course) (account_log []));
   }
 
   replied : HoldsReplies account_program r course
@@ -291,9 +292,9 @@ module _ (r : Observed) (opened : Moment) (failing told : List Moment) (run : Is
 
   exit : IsExit account_program r course
   exit = record {
-    logs = λ image left. record { log = []; is = (run.exit image left).0; which = inl refl };
+    logs = λ image left. record { log = account_log []; is = (run.exit image left).0; which = inl refl };
     doubt = λ one other a b is_one is_other log_a log_b differ.
-        absurd (differ (one_log 0 0 (shape_in account_program) one a [] log_a (run.exit one is_one).0 ∙ sym (one_log 0 0 (shape_in account_program) other b [] log_b (run.exit other is_other).0)));
+        absurd (differ (one_log 0 0 one a (account_log []) log_a (run.exit one is_one).0 ∙ sym (one_log 0 0 other b (account_log []) log_b (run.exit other is_other).0)));
     nowhere = λ e there is nowhere l none. absurd none;
     block = λ doubt. absurd (no_doubt doubt);
     behind = λ none. run.behind;
@@ -386,5 +387,5 @@ module _ (r : Observed) (opened : Moment) (failing told : List Moment) (run : Is
   }
 
   -- and over a sound folder it shows what has to be shown, where some image was there at the return of the opening's sync
-  pub shown : IsSoundFolder account_program r.old → (some : Image) → IsImage opened.disk some → Shows account_program r course
-  shown sound_folder some possible = shows account_program r course kept sound_folder some possible journal refl backs (λ m there image left. (known m there image left).0)
+  pub shown : IsSoundFolder r.old → (some : Image) → IsImage opened.disk some → Shows account_program r course
+  shown sound_folder some possible = shows account_program r course kept refl sound_folder some possible journal refl backs (λ m there image left. (known m there image left).0)

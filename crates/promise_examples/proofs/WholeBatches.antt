@@ -1,8 +1,10 @@
 -- Logs of whole batches.
-use Rattle.std.proofs.Common.{◌≡◌, ℕ, zero, suc, ◌+◌, ◌<◌, ◌≤◌, Bool, true, false, List, [], ◌∷◌, ◌++◌, length, filter, take, nat_le, refl, sym, ap, subst, arith}
+use Rattle.promise_spec.proofs.Standings.{grown_none, grown_records}
+use Rattle.promise_spec.specs.Entries.{Log, grown, records_of}
+use Rattle.std.proofs.Common.{◌≡◌, ℕ, zero, suc, ◌+◌, ◌<◌, ◌≤◌, Bool, true, false, List, [], ◌∷◌, length, filter, take, nat_le, refl, sym, ap, subst, arith, ◌∙◌}
 use Rattle.std.proofs.lemmas.Bool.{leb-true, leb-false}
 use Rattle.std.specs.List.{sum_by}
-use Rattle.std.proofs.lemmas.List.{append-nil, append_cancel_left, length-map, take-take}
+use Rattle.std.proofs.lemmas.List.{append_cancel_left, length-map, take-take}
 use Rattle.std.proofs.lemmas.List.Sums.{sum_by-take-le}
 use Rattle.core_model.specs.declared.effects.Effect.{Effect}
 use Rattle.core_model.specs.Answers.{effect_of}
@@ -12,8 +14,8 @@ use Rattle.promise_spec.specs.Records.{Commit, AreRecordsOf}
 use Rattle.promise_spec.specs.Batches.{EndsABatch, units_in, kept_by}
 
 -- the opening log has no batch behind it
-pub no_batch : (w : CoreState) (opening : List Commit) → EndsABatch w opening opening
-no_batch w opening = record { batches = 0; more = []; split = sym (append-nil opening); records = tt }
+pub no_batch : (w : CoreState) (opening : Log) → EndsABatch w opening opening
+no_batch w opening = record { batches = 0; more = []; split = sym (grown_none opening); records = tt }
 
 -- a longer first part of a list passes no fewer
 more_pass : {A : Type 0} (test : A → Bool) (xs : List A) (a b : ℕ) → a ≤ b → length (filter test (take a xs)) ≤ length (filter test (take b xs))
@@ -48,10 +50,15 @@ same_length [] (l ∷ log) are = absurd are
 same_length (e ∷ effects) [] are = absurd are
 same_length (e ∷ effects) (l ∷ log) are = ap suc (same_length effects log are.1)
 
+-- a log grows to the same log by the same records alone
+same_added : (log : Log) (more other : List Commit) → grown log more ≡ grown log other → more ≡ other
+same_added log more other same =
+    append_cancel_left (records_of log) more other (sym (grown_records log more) ∙ ap (λ (l : Log). records_of l) same ∙ grown_records log other)
+
 -- a log of whole batches doesn't end between two
-pub not_between : (w : CoreState) (opening more : List Commit) (n : ℕ) → EndsABatch w opening (opening ++ more) → length (kept_by w n) < length more → length more < length (kept_by w (n + 1)) → ⊥
+pub not_between : (w : CoreState) (opening : Log) (more : List Commit) (n : ℕ) → EndsABatch w opening (grown opening more) → length (kept_by w n) < length more → length more < length (kept_by w (n + 1)) → ⊥
 not_between w opening more n ends above below =
-    let same : more ≡ ends.more = append_cancel_left opening more ends.more ends.split in
+    let same : more ≡ ends.more = same_added opening more ends.more ends.split in
     let long : length more ≡ length ends.more = ap (λ (l : List Commit). length l) same in
     let count : length ends.more ≡ length (kept_by w ends.batches) = same_length (kept_by w ends.batches) ends.more ends.records in
     by_order (nat_le (n + 1) ends.batches) refl long count where

@@ -1,4 +1,5 @@
 -- The run of two deposits in one batch that is written out shows what a run has to show, and so keeps its promise.
+use Rattle.promise_examples.proofs.AccountLogs.{account_logged}
 use Rattle.std.proofs.Common.{◌≡◌, ◌⊎◌, inl, inr, ℕ, zero, suc, ◌+◌, ◌≤◌, List, [], ◌∷◌, ◌++◌, map, take, slice_index, pos, refl, sym, ◌∙◌, ap, subst, arith, lit<}
 use Rattle.std.specs.Prelude.{FitsSigned}
 use Rattle.std.specs.Int.{w64}
@@ -22,10 +23,12 @@ use Rattle.host_trait.specs.Disk.{Overwrote, settled}
 use Rattle.host_trait.specs.World.{Disk, Image, IsImage, Moment, moment_of}
 use Rattle.host_trait.proofs.Crashes.{settled_only}
 use Rattle.log_reading.specs.Blocks.{header_damage}
-use Rattle.silo_spec.specs.Silos.{manager, program_file, IsSilo}
+use Rattle.silo_spec.specs.Silos.{manager, program_file, IsSilo, HasProgram}
 use Rattle.promise_spec.specs.Programs.{shape_in}
+use Rattle.promise_spec.specs.Entries.{Log}
 use Rattle.promise_spec.specs.Records.{Commit}
-use Rattle.promise_spec.specs.Logs.{magic, IsLog, body_of}
+use Rattle.promise_spec.specs.Blocks.{Records, body_of}
+use Rattle.promise_spec.specs.Logs.{magic, IsLog}
 use Rattle.promise_spec.specs.Outputs.{IsProper, Grew, reply_lines}
 use Rattle.promise_spec.specs.Causes.{RoseBy, most_syncs_of}
 use Rattle.promise_spec.specs.Courses.{moments, core_run, core_end}
@@ -42,28 +45,26 @@ use Rattle.promise_spec.proofs.OneLog.{one_log}
 use Rattle.promise_laws.specs.Obligations.{SaysIn, Opens, Journals, ExplainsEvents, LeavesAtExit, EndsRightly, Shows}
 use Rattle.promise_laws.proofs.ShownRuns.{shown}
 use Rattle.promise_laws.proofs.ShownPromise.{promised}
-use Rattle.promise_examples.specs.Examples.{account_program, account_1, program_bytes, unit_no, first_commit, next_commit, first_version, first_entry, manager_of}
+use Rattle.promise_examples.specs.Examples.{account_log, account_program, account_1, program_bytes, unit_no, first_commit, next_commit, first_version, first_entry, manager_of, account_text}
 use Rattle.promise_examples.specs.DepositRuns.{HasNone, LeavesOthers, IsBetween}
 use Rattle.promise_examples.specs.HostCalls.{IsHosted}
 use Rattle.promise_examples.specs.WrittenRun.{new_manager, disk_of, new_disk, pending_block, pending_gate, reply_text, opened}
 use Rattle.promise_examples.specs.WrittenDoubt.{pair_before}
 use Rattle.promise_examples.specs.WrittenVote.{reading_manner}
-use Rattle.promise_examples.specs.WrittenBatch.{both_commits, second_entry, both_entries, both_versions, both_block, second_text, versions_pending, both_disk, batching, batch_after, batched, batch_course, batched_steps}
-use Rattle.promise_examples.proofs.FirstDeposit.{five, logged}
+use Rattle.promise_examples.specs.WrittenBatch.{both_commits, second_entry, both_entries, both_versions, both_block, second_text, versions_pending, both_disk, batching, batch_after, batch_course, batched_steps, batched}
+use Rattle.promise_examples.proofs.FirstDeposit.{five, logged_batch}
 use Rattle.promise_examples.proofs.FirstFamily.{only, either_of}
-use Rattle.promise_examples.proofs.AccountText.{account_is_checked}
-use Rattle.promise_examples.proofs.NewSilo.{ends_there, gate_is_silo, shut_has_none, gate_only, has_none, new_images, seen_possible, new_folder, program_spelled}
+use Rattle.promise_examples.proofs.NewSilo.{ends_there, gate_is_silo, shut_has_none, gate_only, has_none, new_images, seen_possible, new_folder, has_program}
 use Rattle.promise_examples.proofs.SealingDisks.{sealed_front, gate_front, alone_of, apart_of, between_of, at_new, at_block, at_staged}
 use Rattle.promise_examples.proofs.HostSteps.{pulled, ended, wrote_grain, wrote_log, synced_grain, synced_log, emitted}
 use Rattle.promise_examples.proofs.Between.{at_each, exit_there, all_less}
 use Rattle.promise_examples.proofs.WholeBatches.{no_batch}
 use Rattle.promise_examples.proofs.BatchRules.{batch_unit_rule, batch_turn_rule, settled_is, emitted_is, records_are, both_end, no_doubt, no_votes, no_seals, voted_on, four_most, four_syncs}
 use Rattle.promise_examples.proofs.WrittenDoubt.{asks, sound_at_entry}
-use Rattle.promise_spec.proofs.Slots.{first_live}
 
 -- ---- the bytes
 
-pub block_spelled : block_of (body_of both_commits) ≡ both_block
+pub block_spelled : block_of (body_of (Records both_commits)) ≡ both_block
 block_spelled = refl
 
 four : FitsSigned w64 (pos 4)
@@ -77,7 +78,7 @@ last_version = record { unit = unit_no 2; state = Int (pos 9) ∷ [] }
 
 -- the file has both versions
 first_there : IsVersionAt 1 (record { offset = 0; len = 19 }) both_versions first_version
-first_there = record { version_is = logged.kept.0.whole.0.version.version_is; here = refl }
+first_there = record { version_is = logged_batch.kept.0.whole.0.version.version_is; here = refl }
 
 last_there : IsVersionAt 1 (record { offset = 19; len = 19 }) both_versions last_version
 last_there = record { version_is = record { fits = record { unit = lit< tt; state = (omega arith, (nine, tt)) }; count = refl; len = refl }; here = refl }
@@ -98,32 +99,31 @@ last_fits = record {
 }
 
 -- the block is whole, and its gate is the last byte's
-both_blocks : LogsUpTo (map body_of (both_commits ∷ [])) 152 (manager_of both_block 1)
+both_blocks : LogsUpTo (map body_of (Records both_commits ∷ [])) 152 (manager_of both_block 1)
 both_blocks = record { blocks = record { small = (lit< tt, tt); at = refl; within = omega arith; blocks = refl }; closed = λ e. cc e }
 
 -- ---- the images
 
 -- the image's log is both records
 abbrev HasBoth : Image → Type 0
-HasBoth image = IsLog 0 (shape_in account_program) image both_commits
+HasBoth image = IsLog 0 image (account_log both_commits)
 
 -- it has both or none
 abbrev MayHaveBoth : Image → Type 0
 MayHaveBoth image = HasNone image ⊎ HasBoth image
 
 module _ (image : Image) where
-  has_both : image manager ≡ manager_of both_block 1 → image (Grain 0 account_1) ≡ both_versions → HasBoth image
-  has_both is grain_is = record {
-    is_live = first_live image (subst (λ (f : List ℕ). IsSilo magic f) (sym is) (gate_is_silo both_block 1));
+  has_both : image manager ≡ manager_of both_block 1 → image (Grain 0 account_1) ≡ both_versions → HasProgram account_text (image program_file) → HasBoth image
+  has_both is grain_is file = account_logged image both_commits (subst (λ (f : List ℕ). IsSilo magic f) (sym is) (gate_is_silo both_block 1)) file (record {
     header = ap header_damage is;
     batches = both_commits ∷ [];
     gate = 152;
-    blocks = subst (λ (f : List ℕ). LogsUpTo (map body_of (both_commits ∷ [])) 152 f) (sym is) both_blocks;
+    blocks = subst (λ (f : List ℕ). LogsUpTo (map body_of (Records both_commits ∷ [])) 152 f) (sym is) both_blocks;
     sizes = (omega arith, tt);
-    commits = refl;
+    are = refl;
     kept = (
       record {
-        fits = logged.kept.0.fits;
+        fits = logged_batch.kept.0.fits;
         whole = (
           record {
             near = lit< tt;
@@ -148,7 +148,7 @@ module _ (image : Image) where
         tt,
       ),
     );
-  }
+  })
 
   -- while the gate is written
   gate_images : IsImage (both_disk (pending_gate both_block)) image → MayHaveBoth image
@@ -156,13 +156,13 @@ module _ (image : Image) where
       let gate = slice_index (image manager) 15 in
       let is : image manager ≡ manager_of both_block gate = gate_only both_block (image manager) (left manager) in
       elim (cases_eq gate 1) [
-        | inl open_gate ↦ inr (has_both (is ∙ ap (manager_of both_block) open_gate) (settled_only both_versions (image (Grain 0 account_1)) (left (Grain 0 account_1))))
+        | inl open_gate ↦ inr (has_both (is ∙ ap (manager_of both_block) open_gate) (settled_only both_versions (image (Grain 0 account_1)) (left (Grain 0 account_1))) (has_program image (settled_only program_bytes (image program_file) (left program_file))))
         | inr shut ↦ inl (has_none image (settled_only program_bytes (image program_file) (left program_file)) (manager_of both_block gate) (gate_is_silo both_block gate) refl (shut_has_none both_block gate shut) is)
       ]
 
   -- and once it's synced
   both_images : IsImage (both_disk (settled (manager_of both_block 1))) image → HasBoth image
-  both_images left = has_both (settled_only (manager_of both_block 1) (image manager) (left manager)) (settled_only both_versions (image (Grain 0 account_1)) (left (Grain 0 account_1)))
+  both_images left = has_both (settled_only (manager_of both_block 1) (image manager) (left manager)) (settled_only both_versions (image (Grain 0 account_1)) (left (Grain 0 account_1))) (has_program image (settled_only program_bytes (image program_file) (left program_file)))
 
 -- ---- the moments
 
@@ -226,9 +226,9 @@ alone =
     at_each (LeavesAlone 0 batched) opened batching (moment_of batch_after) (at_new batched refl [] (settled [])).alone (all_less IsOnWay (LeavesAlone 0 batched) batching way_alone on_way)
     (alone_of batched refl (reply_text ++ second_text) (settled (manager_of both_block 1)) (settled both_versions) (sealed_front both_block 1))
 
-whole_batches : (image : Image) (log : List Commit) → MayHaveBoth image → IsLog 0 (shape_in account_program) image log → EndsABatch (core_end account_program batch_course) [] log
-whole_batches image log (inl none) is = subst (EndsABatch (core_end account_program batch_course) []) (one_log 0 0 (shape_in account_program) image [] log none.0 is) (no_batch (core_end account_program batch_course) [])
-whole_batches image log (inr has) is = subst (EndsABatch (core_end account_program batch_course) []) (one_log 0 0 (shape_in account_program) image both_commits log has is) both_end
+whole_batches : (image : Image) (log : Log) → MayHaveBoth image → IsLog 0 image log → EndsABatch (core_end account_program batch_course) (account_log []) log
+whole_batches image log (inl none) is = subst (EndsABatch (core_end account_program batch_course) (account_log [])) (one_log 0 0 image (account_log []) log none.0 is) (no_batch (core_end account_program batch_course) (account_log []))
+whole_batches image log (inr has) is = subst (EndsABatch (core_end account_program batch_course) (account_log [])) (one_log 0 0 image (account_log both_commits) log has is) both_end
 
 -- ---- the journal
 
@@ -329,9 +329,9 @@ says = at_each Says opened batching (moment_of batch_after) (unsaid opened refl 
 
 -- ---- what the run shows
 
-opens : Opens account_program batched batch_course
+opens : Opens batched batch_course
 opens = record {
-  folder = whole_folder account_program batched.old sound_at_entry;
+  folder = whole_folder batched.old sound_at_entry;
   read = (new_images new_folder (seen_possible new_manager [])).0;
   opened = λ image left. (new_images image left).0;
   some = new_folder;
@@ -385,11 +385,11 @@ told = record {
 
 leaves : LeavesAtExit account_program batched batch_course
 leaves = record {
-  logs = λ image left. record { log = both_commits; is = both_images image left; which = inl refl };
+  logs = λ image left. record { log = account_log both_commits; is = both_images image left; which = inl refl };
   nowhere = λ e there.
-      either_of (λ (d : Entry). d.what ≡ settled_as.InDoubt → IsNowhere 0 account_program batched d.unit → HasNoRecord batch_course d.unit) first_entry second_entry e (λ is. absurd (cc is)) (λ is. absurd (cc is)) there;
+      either_of (λ (d : Entry). d.what ≡ settled_as.InDoubt → IsNowhere 0 batched d.unit → HasNoRecord batch_course d.unit) first_entry second_entry e (λ is. absurd (cc is)) (λ is. absurd (cc is)) there;
   block = λ doubt. absurd (no_doubt doubt);
-  behind = λ none image left. ends_there (map body_of (both_commits ∷ [])) 152 (image manager) (manager_of both_block 1) new_manager (settled_only (manager_of both_block 1) (image manager) (left manager)) both_blocks refl (omega arith);
+  behind = λ none image left. ends_there (map body_of (Records both_commits ∷ [])) 152 (image manager) (manager_of both_block 1) new_manager (settled_only (manager_of both_block 1) (image manager) (left manager)) both_blocks refl (omega arith);
 }
 
 answered : (n : ℕ) → 1 ≤ n → n ≤ 2 → (e : Entry) × Member e both_entries × (e.line ≡ n)
@@ -412,6 +412,7 @@ ends = record {
 
 pub batched_shows : Shows account_program batched batch_course
 batched_shows = record {
+  in_force = refl;
   opens = opens;
   explains = explains;
   settled = told;
@@ -427,7 +428,7 @@ pub batched_keeps : Keeps account_program batched batch_course
 batched_keeps = shown account_program batched batch_course batched_shows
 
 pub batched_promises : Promises reading_manner batched
-batched_promises = promised account_program batched batch_course account_is_checked batched_shows reading_manner refl program_spelled
+batched_promises = promised account_program batched batch_course batched_shows reading_manner refl
 
 -- ---- the host's calls
 

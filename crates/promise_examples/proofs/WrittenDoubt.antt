@@ -1,4 +1,8 @@
 -- The run that is written out, of two deposits of which one is left in doubt, meets all that is asked of such a run.
+use Rattle.host_trait.proofs.Crashes.{settled_only}
+use Rattle.log_reading.specs.Blocks.{header_damage}
+use Rattle.promise_spec.specs.Logs.{StandsUpTo}
+use Rattle.promise_examples.proofs.AccountLogs.{account_begins}
 use Rattle.std.proofs.Common.{◌≡◌, ◌≢◌, ◌⊎◌, inl, inr, ℕ, zero, suc, ◌+◌, ◌<◌, ◌≤◌, List, [], ◌∷◌, ◌++◌, length, take, drop, slice_index, refl, sym, ◌∙◌, ap, subst, arith}
 use Rattle.std.specs.List.{AllByRecursion}
 use Rattle.std.specs.Fmt.{digits}
@@ -12,7 +16,7 @@ use Rattle.host_trait.specs.Faults.{FailedOn}
 use Rattle.host_trait.specs.World.{Image, IsImage, Moment}
 use Rattle.cell_model.specs.Units.{same_grain}
 use Rattle.gate_block.specs.Log.{HasBlocks}
-use Rattle.silo_spec.specs.Silos.{manager}
+use Rattle.silo_spec.specs.Silos.{manager, program_file}
 use Rattle.promise_spec.specs.Programs.{shape_in}
 use Rattle.promise_spec.specs.Outputs.{reply_lines}
 use Rattle.promise_spec.specs.Courses.{lines}
@@ -20,18 +24,17 @@ use Rattle.promise_spec.specs.Exits.{HasBlock, DifferAt}
 use Rattle.promise_spec.specs.Promise.{IsSoundFolder, Keeps, Promises}
 use Rattle.promise_laws.specs.Obligations.{Shows}
 use Rattle.promise_laws.proofs.ShownPromise.{promised}
-use Rattle.promise_examples.specs.Examples.{account_program, account_1, program_bytes, first_commit, grain_bytes, block_bytes, manager_bytes, locked_entry, conflict_entries, AskDeposits}
+use Rattle.promise_examples.specs.Examples.{account_program, account_1, program_bytes, first_commit, grain_bytes, block_bytes, manager_bytes, locked_entry, conflict_entries, AskDeposits, account_log}
 use Rattle.promise_examples.specs.DepositRuns.{HasNone, HasDeposit, MayHaveDeposit, IsBetween}
 use Rattle.promise_examples.specs.DoubtRuns.{IsDoubtRun, doubt_course, first_told}
 use Rattle.promise_examples.specs.HostCalls.{IsHosted}
 use Rattle.promise_examples.specs.WrittenRun.{new_manager, new_disk, version_pending, block_pending, gate_pending, sealing_disk, request_line, opened}
 use Rattle.promise_examples.specs.WrittenDoubt.{pair_manner, second_line, locked_text, doubt_text, told, doubting, pair_before, one_fault, doubted, doubted_steps}
-use Rattle.promise_examples.proofs.NewSilo.{has_deposit, other_bytes, gate_only, new_images, sealing_images, settled_stays, grain_stays, seen_possible, new_folder, sound_world, program_spelled, line_asks}
+use Rattle.promise_examples.proofs.NewSilo.{has_deposit, other_bytes, gate_only, new_images, sealing_images, settled_stays, grain_stays, seen_possible, new_folder, sound_world, line_asks, has_program}
 use Rattle.promise_examples.proofs.SealingDisks.{at_new, at_block, at_staged, at_sealing}
 use Rattle.promise_examples.proofs.HostSteps.{pulled, ended, wrote_grain, wrote_log, synced_grain, synced_log, unsynced_log, emitted}
 use Rattle.promise_examples.proofs.WrittenRun.{version_wrote, block_wrote, gate_wrote}
 use Rattle.promise_examples.proofs.DoubtRun.{kept, shown}
-use Rattle.promise_examples.proofs.AccountText.{account_is_checked}
 
 -- ---- the lines
 
@@ -60,8 +63,9 @@ module _ (image : Image) (left : IsImage sealing_disk image) where
   unfolding gate
   file_is = gate_only block_bytes (image manager) (left manager)
 
-  front : HasBlocks [] 15 (image manager)
-  front = subst (λ (f : List ℕ). HasBlocks [] 15 f) (sym file_is) (record { small = tt; at = refl; within = omega arith; blocks = refl })
+  front : StandsUpTo 0 image (account_log []) [] 15
+  front = account_begins image (ap header_damage file_is) (has_program image (settled_only program_bytes (image program_file) (left program_file)))
+      (subst (λ (f : List ℕ). HasBlocks [] 15 f) (sym file_is) (record { small = tt; at = refl; within = omega arith; blocks = refl }))
 
   block : HasBlock 0 15 (first_commit ∷ []) image
   block = ap (λ (f : List ℕ). take 73 (drop 16 f)) file_is
@@ -145,7 +149,7 @@ is_doubt_run = record {
   others = other_counts;
 }
 
-pub sound_at_entry : IsSoundFolder account_program pair_before
+pub sound_at_entry : IsSoundFolder pair_before
 sound_at_entry = sound_world pair_before (λ image left. left)
 
 pub doubted_keeps : Keeps account_program doubted (doubt_course opened told doubting doubted)
@@ -156,7 +160,7 @@ pub doubted_shows : Shows account_program doubted (doubt_course opened told doub
 doubted_shows = shown doubted opened told doubting is_doubt_run sound_at_entry new_folder (seen_possible new_manager [])
 
 pub doubted_promises : Promises pair_manner doubted
-doubted_promises = promised account_program doubted (doubt_course opened told doubting doubted) account_is_checked doubted_shows pair_manner refl program_spelled
+doubted_promises = promised account_program doubted (doubt_course opened told doubting doubted) doubted_shows pair_manner refl
 
 -- ---- the host's calls
 

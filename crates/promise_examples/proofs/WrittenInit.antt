@@ -21,7 +21,7 @@ use Rattle.promise_spec.specs.Promise.{IsSoundFolder}
 use Rattle.promise_spec.specs.Commands.{IsProgramText, WasSilo, MakesSilo, ManagerLasts}
 use Rattle.promise_spec.specs.Calls.{Obeys, Serves}
 use Rattle.promise_spec.proofs.Words.{one_command}
-use Rattle.promise_examples.specs.Examples.{account_text, accounts, account_program, program_bytes, account_1}
+use Rattle.promise_examples.specs.Examples.{account_text, accounts, program_bytes, account_1}
 use Rattle.promise_examples.specs.HostCalls.{HostStep, IsStep, Lead, Write, Sync, FailedSync, IsHosted}
 use Rattle.promise_examples.specs.WrittenRun.{new_manager, new_disk, moment}
 use Rattle.promise_examples.specs.WrittenInit.{init_words, head_disk, header_bytes, length_field, length_pending, text_pending, closing_gate, header_pending, opening_gate, empty_disk, made_disk, opening_disk, unsynced, filling, init_before, init_after, made, init_at, opening_steps, made_steps, again_before, again_after, made_again, again_steps, cut_text, cut_before, cut_after, unmade, unmade_steps, halted_after, halted, halted_steps, other_words, unused}
@@ -215,7 +215,7 @@ as_written (Grain zero grain) = either_way (same_grain grain account_1) where
   either_way false = refl
 as_written (Grain (suc slot) grain) = refl
 
-pub sound_after : IsSoundFolder account_program init_after
+pub sound_after : IsSoundFolder init_after
 sound_after = sound_world init_after (λ image left f. subst (λ (file : FileState). MayLeave file (image f)) (as_written f) (left f))
 
 -- ---- the host's calls

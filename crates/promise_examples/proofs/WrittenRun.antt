@@ -5,7 +5,8 @@ use Rattle.host_trait.specs.Disk.{Overwrote, settled}
 use Rattle.host_trait.specs.World.{Moment}
 use Rattle.host_trait.proofs.Crashes.{settled_only}
 use Rattle.silo_spec.specs.Silos.{manager}
-use Rattle.promise_spec.specs.Logs.{body_of}
+use Rattle.promise_spec.specs.Blocks.{Records, body_of}
+use Rattle.promise_spec.specs.Logs.{}
 use Rattle.promise_spec.specs.Programs.{shape_in}
 use Rattle.promise_spec.specs.Words.{plain_manner}
 use Rattle.promise_spec.specs.Lines.{IsLineCall}
@@ -19,11 +20,10 @@ use Rattle.promise_examples.specs.DepositRuns.{IsDepositRun, deposit_course}
 use Rattle.promise_examples.specs.HostCalls.{IsHosted}
 use Rattle.promise_examples.specs.WrittenRun.{new_manager, new_disk, version_pending, block_pending, gate_pending, version_disk, voted_disk, block_disk, staged_disk, sealed_disk, request_line, reply_text, moment, opened, sealing, world_before, written_run, written_steps}
 use Rattle.promise_examples.proofs.FirstDeposit.{reply, ends_last}
-use Rattle.promise_examples.proofs.NewSilo.{new_images, ends_there, sealed_images, seen_possible, new_folder, sound_world, program_spelled, line_asks}
+use Rattle.promise_examples.proofs.NewSilo.{new_images, ends_there, sealed_images, seen_possible, new_folder, sound_world, line_asks}
 use Rattle.promise_examples.proofs.SealingDisks.{at_new, at_block, at_staged, at_sealing, at_sealed, if_none, if_has}
 use Rattle.promise_examples.proofs.HostSteps.{pulled, ended, wrote_grain, wrote_log, synced_grain, synced_log, emitted}
 use Rattle.promise_examples.proofs.DepositRun.{kept, shown}
-use Rattle.promise_examples.proofs.AccountText.{account_is_checked}
 
 asks : IsLineCall accounts (lines written_run) 1 deposit_call
 unfolding serde_json_on_literals
@@ -58,7 +58,7 @@ is_deposit_run = record {
     ),
   );
   logged = sealed_images;
-  behind = λ image left. ends_there (map body_of ((first_commit ∷ []) ∷ [])) 88 (image manager) (manager_bytes 1) new_manager (settled_only (manager_bytes 1) (image manager) (left manager)) ends_last refl (omega arith);
+  behind = λ image left. ends_there (map body_of (Records (first_commit ∷ []) ∷ [])) 88 (image manager) (manager_bytes 1) new_manager (settled_only (manager_bytes 1) (image manager) (left manager)) ends_last refl (omega arith);
   alone = ((at_new written_run refl [] (settled [])).alone, (at_sealed written_run refl reply_text).alone);
   apart = ((at_new written_run refl [] (settled [])).apart, (at_sealed written_run refl reply_text).apart);
   some = λ file. (sealed_disk file).seen;
@@ -66,7 +66,7 @@ is_deposit_run = record {
   faults = λ channel. refl;
 }
 
-pub sound_at_entry : IsSoundFolder account_program world_before
+pub sound_at_entry : IsSoundFolder world_before
 sound_at_entry = sound_world world_before (λ image left. left)
 
 pub written_keeps : Keeps account_program written_run (deposit_course opened sealing written_run)
@@ -77,7 +77,7 @@ pub written_shows : Shows account_program written_run (deposit_course opened sea
 written_shows = shown written_run opened sealing is_deposit_run sound_at_entry new_folder (seen_possible new_manager [])
 
 pub written_promises : Promises plain_manner written_run
-written_promises = promised account_program written_run (deposit_course opened sealing written_run) account_is_checked written_shows plain_manner refl program_spelled
+written_promises = promised account_program written_run (deposit_course opened sealing written_run) written_shows plain_manner refl
 
 -- ---- the host's calls
 

@@ -1,4 +1,6 @@
 -- The run that is written out, of a doubt whose gate's write never began, shows what has to be shown, and keeps the promise.
+use Rattle.log_reading.specs.Blocks.{header_damage}
+use Rattle.promise_examples.proofs.AccountLogs.{account_begins}
 use Rattle.std.proofs.Common.{◌≡◌, ◌≢◌, inl, inr, ℕ, ◌≤◌, List, [], ◌∷◌, ◌++◌, length, take, drop, slice_index, refl, sym, ◌∙◌, ap, subst, arith}
 use Rattle.std.specs.Fmt.{digits}
 use Rattle.std.specs.List.{AllByRecursion}
@@ -12,10 +14,11 @@ use Rattle.host_trait.proofs.Crashes.{settled_only}
 use Rattle.core_model.specs.Serial.{chosen}
 use Rattle.core_model.specs.CoreState.{GrainId, Member, put, put_grain}
 use Rattle.gate_block.specs.Log.{HasBlocks}
-use Rattle.silo_spec.specs.Silos.{manager}
+use Rattle.silo_spec.specs.Silos.{manager, program_file}
 use Rattle.promise_spec.specs.Programs.{shape_in}
-use Rattle.promise_spec.specs.Records.{Commit, AreRecordsOf}
-use Rattle.promise_spec.specs.Logs.{IsLog}
+use Rattle.promise_spec.specs.Entries.{Log}
+use Rattle.promise_spec.specs.Records.{AreRecordsOf}
+use Rattle.promise_spec.specs.Logs.{IsLog, StandsUpTo}
 use Rattle.promise_spec.specs.Outputs.{Grew, reply_lines}
 use Rattle.promise_spec.specs.Causes.{RoseBy, NoneRose, most_syncs_of}
 use Rattle.promise_spec.specs.Endings.{DiskFault}
@@ -31,14 +34,13 @@ use Rattle.promise_spec.proofs.OneLog.{one_log}
 use Rattle.promise_laws.specs.Obligations.{SaysIn, Opens, Journals, ExplainsEvents, LeavesAtExit, EndsRightly, Shows}
 use Rattle.promise_laws.proofs.ShownRuns.{shown}
 use Rattle.promise_laws.proofs.ShownPromise.{promised}
-use Rattle.promise_examples.specs.Examples.{account_program, first_commit, grain_bytes, block_bytes, manager_bytes, locked_entry, doubt_entry, conflict_entries}
+use Rattle.promise_examples.specs.Examples.{account_log, account_program, first_commit, grain_bytes, block_bytes, manager_bytes, locked_entry, doubt_entry, conflict_entries, program_bytes}
 use Rattle.promise_examples.specs.DepositRuns.{HasNone, LeavesOthers, IsBetween}
 use Rattle.promise_examples.specs.HostCalls.{IsHosted}
 use Rattle.promise_examples.specs.WrittenRun.{new_manager, new_disk, version_pending, block_pending, staged_disk, opened}
 use Rattle.promise_examples.specs.WrittenDoubt.{pair_manner, locked_text, doubt_text, pair_before, one_fault}
 use Rattle.promise_examples.specs.WrittenUnbegun.{gate_failing, unbegun_after, unbegun, unbegun_course, unbegun_steps}
-use Rattle.promise_examples.proofs.AccountText.{account_is_checked}
-use Rattle.promise_examples.proofs.NewSilo.{new_images, seen_possible, new_folder, program_spelled}
+use Rattle.promise_examples.proofs.NewSilo.{new_images, seen_possible, new_folder, has_program}
 use Rattle.promise_examples.proofs.SealingDisks.{at_new, at_block, at_staged}
 use Rattle.promise_examples.proofs.HostSteps.{pulled, ended, wrote_grain, wrote_log, unbegun_log, synced_grain, synced_log, emitted}
 use Rattle.promise_examples.proofs.Between.{at_each, exit_there, all_less}
@@ -84,7 +86,7 @@ none_has : (m : Moment) → Member m (moments unbegun unbegun_course) → AllHav
 none_has = at_each AllHaveNone opened gate_failing (moment_of unbegun_after) (λ image left. new_images image left) (all_less HasNoneAt AllHaveNone gate_failing (λ m is. is.images) on_way) at_exit.images
 
 -- so each log is empty
-pub no_records : (m : Moment) (image : Image) → Member m (moments unbegun unbegun_course) → IsImage m.disk image → IsLog 0 (shape_in account_program) image []
+pub no_records : (m : Moment) (image : Image) → Member m (moments unbegun unbegun_course) → IsImage m.disk image → IsLog 0 image (account_log [])
 no_records m image there left = (none_has m there image left).0
 
 -- other files and the header are as they were
@@ -99,9 +101,9 @@ alone =
     (all_less HasNoneAt (LeavesAlone 0 unbegun) gate_failing (λ m is. is.alone) on_way) at_exit.alone
 
 -- an empty log ends where a batch does
-whole_batches : (image : Image) (log : List Commit) → HasNone image → IsLog 0 (shape_in account_program) image log → EndsABatch (core_end account_program unbegun_course) [] log
+whole_batches : (image : Image) (log : Log) → HasNone image → IsLog 0 image log → EndsABatch (core_end account_program unbegun_course) (account_log []) log
 whole_batches image log none is =
-    subst (EndsABatch (core_end account_program unbegun_course) []) (one_log 0 0 (shape_in account_program) image [] log none.0 is) (no_batch (core_end account_program unbegun_course) [])
+    subst (EndsABatch (core_end account_program unbegun_course) (account_log [])) (one_log 0 0 image (account_log []) log none.0 is) (no_batch (core_end account_program unbegun_course) (account_log []))
 
 -- ---- the journal: both entries, and no record
 
@@ -167,9 +169,9 @@ says = at_each Says opened gate_failing (moment_of unbegun_after) opened_says (a
 -- ---- what the run shows
 
 -- what the opening read
-opens : Opens account_program unbegun unbegun_course
+opens : Opens unbegun unbegun_course
 opens = record {
-  folder = whole_folder account_program unbegun.old sound_at_entry;
+  folder = whole_folder unbegun.old sound_at_entry;
   read = (new_images new_folder (seen_possible new_manager [])).0;
   opened = λ image left. (new_images image left).0;
   some = new_folder;
@@ -249,9 +251,10 @@ module _ (image : Image) (left : IsImage staged_disk image) where
   staged_is : image manager ≡ manager_bytes 0
   staged_is = settled_only (manager_bytes 0) (image manager) (left manager)
 
-  -- no block stands before it
-  front : HasBlocks [] 15 (image manager)
-  front = subst (λ (f : List ℕ). HasBlocks [] 15 f) (sym staged_is) (record { small = tt; at = refl; within = omega arith; blocks = refl })
+  -- the empty log stands up to its gate
+  front : StandsUpTo 0 image (account_log []) [] 15
+  front = account_begins image (ap header_damage staged_is) (has_program image (settled_only program_bytes (image program_file) (left program_file)))
+      (subst (λ (f : List ℕ). HasBlocks [] 15 f) (sym staged_is) (record { small = tt; at = refl; within = omega arith; blocks = refl }))
 
   -- it is the batch's
   block : HasBlock 0 15 (first_commit ∷ []) image
@@ -268,7 +271,8 @@ doubtful_block : BlockInDoubt 0 unbegun unbegun_course (core_end account_program
 doubtful_block = record {
   gate = 15;
   batch = first_commit ∷ [];
-  batches = [];
+  before = account_log [];
+  bodies = [];
   records = chosen_is;
   log = inl refl;
   front = front;
@@ -279,7 +283,7 @@ doubtful_block = record {
 -- the logs at the exit
 leaves : LeavesAtExit account_program unbegun unbegun_course
 leaves = record {
-  logs = λ image left. record { log = []; is = (at_exit.images image left).0; which = inl refl };
+  logs = λ image left. record { log = account_log []; is = (at_exit.images image left).0; which = inl refl };
   nowhere = λ e there what none l added. absurd added;
   block = λ doubt. doubtful_block;
   behind = λ none. absurd (omega (arith, none, one_seal));
@@ -305,6 +309,7 @@ ends = record {
 -- all that has to be shown
 pub unbegun_shows : Shows account_program unbegun unbegun_course
 unbegun_shows = record {
+  in_force = refl;
   opens = opens;
   explains = explains;
   settled = written;
@@ -321,7 +326,7 @@ unbegun_keeps = shown account_program unbegun unbegun_course unbegun_shows
 
 -- in the manner of its words
 pub unbegun_promises : Promises pair_manner unbegun
-unbegun_promises = promised account_program unbegun unbegun_course account_is_checked unbegun_shows pair_manner refl program_spelled
+unbegun_promises = promised account_program unbegun unbegun_course unbegun_shows pair_manner refl
 
 -- ---- the host's calls
 

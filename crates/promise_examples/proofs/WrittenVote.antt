@@ -27,11 +27,10 @@ use Rattle.promise_examples.specs.VoteRuns.{IsVoteRun, vote_course}
 use Rattle.promise_examples.specs.HostCalls.{IsHosted}
 use Rattle.promise_examples.specs.WrittenRun.{new_manager, new_disk, request_line, opened}
 use Rattle.promise_examples.specs.WrittenVote.{reading_manner, read_line, voted_text, dependent_text, version_cut, cut_disk, failing, vote_told, reading_before, grain_fault, voted, voted_steps}
-use Rattle.promise_examples.proofs.NewSilo.{empty_images, new_images, settled_stays, seen_possible, new_folder, sound_world, program_spelled, line_asks, read_asks}
+use Rattle.promise_examples.proofs.NewSilo.{empty_images, new_images, settled_stays, seen_possible, new_folder, sound_world, line_asks, read_asks}
 use Rattle.promise_examples.proofs.SealingDisks.{at_new}
 use Rattle.promise_examples.proofs.HostSteps.{account_same, pulled, ended, cut_grain, synced_log, emitted}
 use Rattle.promise_examples.proofs.VoteRun.{kept, shown}
-use Rattle.promise_examples.proofs.AccountText.{account_is_checked}
 
 asks : AskBoth (lines voted)
 unfolding serde_json_on_literals
@@ -111,7 +110,7 @@ is_vote_run = record {
   others = other_counts;
 }
 
-pub sound_at_entry : IsSoundFolder account_program reading_before
+pub sound_at_entry : IsSoundFolder reading_before
 sound_at_entry = sound_world reading_before (λ image left. left)
 
 pub voted_keeps : Keeps account_program voted (vote_course opened failing vote_told voted)
@@ -122,7 +121,7 @@ pub voted_shows : Shows account_program voted (vote_course opened failing vote_t
 voted_shows = shown voted opened failing vote_told is_vote_run sound_at_entry new_folder (seen_possible new_manager [])
 
 pub voted_promises : Promises reading_manner voted
-voted_promises = promised account_program voted (vote_course opened failing vote_told voted) account_is_checked voted_shows reading_manner refl program_spelled
+voted_promises = promised account_program voted (vote_course opened failing vote_told voted) voted_shows reading_manner refl
 
 -- ---- the host's calls
 

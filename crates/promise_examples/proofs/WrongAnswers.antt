@@ -1,4 +1,5 @@
 -- Answers that don't keep the promise, over any folder and to any words.
+use Rattle.promise_spec.specs.Entries.{Log, standing_of}
 use Rattle.std.proofs.Common.{false, ◌≡◌, ◌≢◌, ◌⊎◌, inl, inr, ℕ, ◌+◌, ◌-◌, ◌^◌, ◌<◌, ◌≤◌, List, [], ◌∷◌, ◌++◌, length, Ok, Err, refl, sym, ap, subst, ◌∙◌, arith, true}
 use Rattle.std.proofs.lemmas.List.{append-nil, append_cancel_left}
 use Rattle.base_types.specs.declared.calls.GrainId.{GrainId}
@@ -18,7 +19,6 @@ use Rattle.request_wire.specs.Reply.{reply_data, reply_line}
 use Rattle.script_tree.specs.Programs.{ProgramTree}
 use Rattle.silo_spec.specs.Silos.{manager, program_file, IsSilo, HasProgram}
 use Rattle.promise_spec.specs.Programs.{Program, ProgramFault, IsChecked, shape_in, unless_fault, checked_in, program_in}
-use Rattle.promise_spec.specs.Records.{Commit}
 use Rattle.promise_spec.specs.Logs.{magic, IsLog}
 use Rattle.promise_spec.specs.Images.{IsSound}
 use Rattle.promise_spec.specs.Openings.{Reading, NoSilo, DamagedAt, Reads, opened_as}
@@ -34,18 +34,18 @@ use Rattle.promise_laws.proofs.OpenedRuns.{anywhere_opened}
 use Rattle.promise_spec.specs.Commands.{MakesAs, MakesSilo, MayCut, IsReported, Reports, Audits}
 use Rattle.promise_spec.specs.Loads.{IsUnmadeBy, from_there, Loads}
 use Rattle.promise_spec.specs.Checks.{Checks}
-use Rattle.promise_spec.specs.Calls.{Understands, Obeys, Serves, GoesOn, AnswersAs}
+use Rattle.promise_spec.specs.Calls.{Understands, Obeys, Serves, AnswersAs, GoesOn}
 use Rattle.promise_spec.proofs.Lists.{in_append}
 use Rattle.promise_spec.proofs.Openings.{log_is_read, no_silo_is_read, sound_is_read, reads_is, reads_is_live}
 use Rattle.silo_spec.specs.Slots.{IsLive}
 
 -- ---- a folder reads in one way
 
-not_two : (reading : Reading) (live : ℕ) (p : Program) (log : List Commit) (f : FileId) (place : ℕ) → reading ≡ Reads live p log → reading ≡ DamagedAt f place → ⊥
-not_two reading live p log f place a b = let e : Reads live p log ≡ DamagedAt f place = sym a ∙ b in absurd (cc e)
+not_two : (reading : Reading) (live : ℕ) (log : Log) (f : FileId) (place : ℕ) → reading ≡ Reads live log → reading ≡ DamagedAt f place → ⊥
+not_two reading live log f place a b = let e : Reads live log ≡ DamagedAt f place = sym a ∙ b in absurd (cc e)
 
-not_none : (reading : Reading) (live : ℕ) (p : Program) (log : List Commit) → reading ≡ Reads live p log → reading ≡ NoSilo → ⊥
-not_none reading live p log a b = let e : Reads live p log ≡ NoSilo = sym a ∙ b in absurd (cc e)
+not_none : (reading : Reading) (live : ℕ) (log : Log) → reading ≡ Reads live log → reading ≡ NoSilo → ⊥
+not_none reading live log a b = let e : Reads live log ≡ NoSilo = sym a ∙ b in absurd (cc e)
 
 -- ---- refusals
 
@@ -86,7 +86,7 @@ said_some shape (x ∷ entries) e there same =
 
 -- what a run answers over any folder: it wasn't opened, or it was
 answered : (m : Manner) (r : Observed) → Promises m r → IsUnopened r ⊎ HasOpened r
-answered m r keeps = elim keeps.answers [ inl unopened ↦ inl unopened | inr kept ↦ inr (anywhere_opened kept.0 r kept.1.0 kept.1.1) ]
+answered m r keeps = elim keeps.answers [ inl unopened ↦ inl unopened | inr kept ↦ inr (anywhere_opened r kept.0 kept.1) ]
 
 module _ (m : Manner) (r : Observed) where
   pub another_place : (f : FileId) (place : ℕ) → Promises m r → r.ending ≡ ending.Damaged f place → opened_as (seen_at_entry r) ≢ DamagedAt f place → ⊥
@@ -95,9 +95,9 @@ module _ (m : Manner) (r : Observed) where
     | inr opened ↦ subst ending.IsCarried is opened.carried
   ]
 
-  pub sound_damaged : (live : ℕ) (p : Program) (f : FileId) (place : ℕ) → Promises m r → IsChecked p → IsSound live p (seen_at_entry r) → r.ending ≡ ending.Damaged f place → ⊥
-  sound_damaged live p f place keeps checked sound is =
-      another_place f place keeps is (not_two (opened_as (seen_at_entry r)) live p sound.log f place (sound_is_read live p (seen_at_entry r) checked sound))
+  pub sound_damaged : (live : ℕ) (f : FileId) (place : ℕ) → Promises m r → IsSound live (seen_at_entry r) → r.ending ≡ ending.Damaged f place → ⊥
+  sound_damaged live f place keeps sound is =
+      another_place f place keeps is (not_two (opened_as (seen_at_entry r)) live sound.log f place (sound_is_read live (seen_at_entry r) sound))
 
   pub silo_called_none : (live : ℕ) → Promises m r → IsLive magic live (seen_at_entry r) → r.ending ≡ ending.NotASilo → ⊥
   silo_called_none live keeps silo is = elim (answered m r keeps) [
@@ -108,13 +108,13 @@ module _ (m : Manner) (r : Observed) where
   pub none_opened : Promises m r → ((live : ℕ) → IsLive magic live (seen_at_entry r) → ⊥) → r.ending ≡ ending.Done → ⊥
   none_opened keeps none is = elim (answered m r keeps) [
     | inl unopened ↦ not_opened r unopened is
-    | inr opened ↦ not_none (opened_as (seen_at_entry r)) opened.openable.live opened.openable.program opened.openable.log opened.openable.reads ((no_silo_is_read (seen_at_entry r)).1 none)
+    | inr opened ↦ not_none (opened_as (seen_at_entry r)) opened.openable.live opened.openable.log opened.openable.reads ((no_silo_is_read (seen_at_entry r)).1 none)
   ]
 
   pub damaged_carried : (f : FileId) (place : ℕ) → Promises m r → opened_as (seen_at_entry r) ≡ DamagedAt f place → r.new.input ≢ r.old.input → ⊥
   damaged_carried f place keeps damaged pulled = elim (answered m r keeps) [
     | inl unopened ↦ pulled unopened.unread
-    | inr opened ↦ not_two (opened_as (seen_at_entry r)) opened.openable.live opened.openable.program opened.openable.log f place opened.openable.reads damaged
+    | inr opened ↦ not_two (opened_as (seen_at_entry r)) opened.openable.live opened.openable.log f place opened.openable.reads damaged
   ]
 
   pub no_bad_use : Promises m r → r.ending ≡ ending.BadUse → ⊥
@@ -129,7 +129,7 @@ module _ (m : Manner) (r : Observed) where
         let must : MustBeRead (seen_at_entry r) (opened_as (seen_at_entry r)) (file.Grain slot grain) = subst (IsRefusedBy (seen_at_entry r) (opened_as (seen_at_entry r))) is unopened.refused in
         let same : file.Grain slot grain ≡ manager = subst (λ (reading : Reading). MustBeRead (seen_at_entry r) reading (file.Grain slot grain)) ((no_silo_is_read (seen_at_entry r)).1 none) must in
         absurd (cc same)
-    | inr opened ↦ not_none (opened_as (seen_at_entry r)) opened.openable.live opened.openable.program opened.openable.log opened.openable.reads ((no_silo_is_read (seen_at_entry r)).1 none)
+    | inr opened ↦ not_none (opened_as (seen_at_entry r)) opened.openable.live opened.openable.log opened.openable.reads ((no_silo_is_read (seen_at_entry r)).1 none)
   ]
 
   -- where a grain's file is blamed a record names the grain
@@ -141,7 +141,7 @@ module _ (m : Manner) (r : Observed) where
     | inl head ↦ absurd (no_head slot grain head)
     | inr g ↦ named_of_file image other slot grain (inr (g.0, g.1, g.2))
   ]
-  named_of_reading image (Reads live p log) slot grain must = named_of_file image live slot grain must
+  named_of_reading image (Reads live log) slot grain must = named_of_file image live slot grain must
 
   pub unnamed_blamed : (slot : ℕ) (grain : GrainId) → Promises m r → (IsNamedIn slot (seen_at_entry r) grain → ⊥) → r.ending ≡ ending.DiskFault (file.Grain slot grain) → ⊥
   unnamed_blamed slot grain keeps unnamed is = elim (answered m r keeps) [
@@ -166,7 +166,7 @@ module _ (m : Manner) (r : Observed) where
     | inl unopened ↦
         let must : MustBeRead (seen_at_entry r) (opened_as (seen_at_entry r)) (file.Grain slot grain) = subst (IsRefusedBy (seen_at_entry r) (opened_as (seen_at_entry r))) is unopened.refused in
         not_behind last grain live place slot later (subst (λ (reading : Reading). MustBeRead (seen_at_entry r) reading (file.Grain slot grain)) damaged must)
-    | inr opened ↦ not_two (opened_as (seen_at_entry r)) opened.openable.live opened.openable.program opened.openable.log (file.Grain live last) place opened.openable.reads damaged
+    | inr opened ↦ not_two (opened_as (seen_at_entry r)) opened.openable.live opened.openable.log (file.Grain live last) place opened.openable.reads damaged
   ]
 
   pub done_unread : Promises m r → r.ending ≡ ending.Done → r.new.input ≢ [] → ⊥
@@ -181,9 +181,9 @@ module _ (m : Manner) (r : Observed) where
     | inr opened ↦
         let a = opened.done is in
         let e = a.each 1 (omega arith) line in
-        let text : List ℕ = reply_lines (shape_in opened.openable.program) a.entries in
+        let text : List ℕ = reply_lines (shape_in (standing_of opened.openable.log).program) a.entries in
         let none : [] ≡ text ++ [] = append_cancel_left r.old.output [] (text ++ []) (append-nil r.old.output ∙ sym quiet ∙ a.output.output) in
-        said_some (shape_in opened.openable.program) a.entries e.0 e.1 none
+        said_some (shape_in (standing_of opened.openable.log).program) a.entries e.0 e.1 none
   ]
 
   pub grain_fault_opened : (slot : ℕ) (grain : GrainId) → Promises m r → r.new.input ≢ r.old.input → r.ending ≡ ending.DiskFault (file.Grain slot grain) → ⊥
@@ -200,24 +200,21 @@ module _ (m : Manner) (r : Observed) where
 
 -- ---- reports
 
-same_text : (text : Program → List Commit → List ℕ) (p q : Program) (a b : List Commit) → p ≡ q → a ≡ b → text p a ≡ text q b
-same_text text p q a b e f = λ i. text (e i) (f i)
+pub another_text : (text : Log → List ℕ) (r : Observed) (live : ℕ) (log : Log) → Reports text r → r.ending ≡ ending.Done
+    → IsLog live (seen_at_entry r) log → r.new.output ≢ r.old.output ++ text log → ⊥
+another_text text r live log (inl unopened) done is differ = not_opened r unopened done
+another_text text r live log (inr reported) done is differ =
+    let e = reads_is reported.live live reported.log log (sym reported.reads ∙ log_is_read (seen_at_entry r) live log is) in
+    differ (reported.prints.output ∙ ap (λ (l : List ℕ). r.old.output ++ l) (reported.prints.whole done ∙ ap text e.1))
 
-pub another_text : (text : Program → List Commit → List ℕ) (r : Observed) (live : ℕ) (p : Program) (log : List Commit) → Reports text r → r.ending ≡ ending.Done
-    → IsChecked p → HasProgram p.text (seen_at_entry r (file.Program live)) → IsLog live (shape_in p) (seen_at_entry r) log → r.new.output ≢ r.old.output ++ text p log → ⊥
-another_text text r live p log (inl unopened) done checked program is differ = not_opened r unopened done
-another_text text r live p log (inr reported) done checked program is differ =
-    let e = reads_is reported.live live reported.program p reported.log log (sym reported.reads ∙ log_is_read (seen_at_entry r) live p log checked program is) in
-    differ (reported.prints.output ∙ ap (λ (l : List ℕ). r.old.output ++ l) (reported.prints.whole done ∙ same_text text reported.program p reported.log log e.1 e.2))
-
-pub changed_by_report : (text : Program → List Commit → List ℕ) (r : Observed) (image : Image) → Reports text r → IsImage r.new.disk image → (IsImage r.old.disk image → ⊥) → ⊥
+pub changed_by_report : (text : Log → List ℕ) (r : Observed) (image : Image) → Reports text r → IsImage r.new.disk image → (IsImage r.old.disk image → ⊥) → ⊥
 changed_by_report text r image (inl unopened) left new = new (unopened.untouched.now.images image left)
 changed_by_report text r image (inr reported) left new = new (reported.now image left).0
 
-pub told_and_taken : (text : Program → List Commit → List ℕ) (r : Observed) (image : Image) → Reports text r → IsImage r.new.disk image → r.new.output ≢ r.old.output
+pub told_and_taken : (text : Log → List ℕ) (r : Observed) (image : Image) → Reports text r → IsImage r.new.disk image → r.new.output ≢ r.old.output
     → ((live : ℕ) → IsLive magic live (seen_at_entry r) → image (file.Manager live) ≢ seen_at_entry r (file.Manager live)) → ⊥
 told_and_taken text r image (inl unopened) left told other = told unopened.untouched.now.quiet
-told_and_taken text r image (inr reported) left told other = other reported.live (reads_is_live (seen_at_entry r) reported.live reported.program reported.log reported.reads) ((reported.now image left).1 told)
+told_and_taken text r image (inr reported) left told other = other reported.live (reads_is_live (seen_at_entry r) reported.live reported.log reported.reads) ((reported.now image left).1 told)
 
 -- ---- init
 
@@ -262,13 +259,13 @@ module _ (r : Observed) (makes : MakesSilo r) where
 unopened_bad : (r : Observed) → IsUnopened r → r.ending ≡ ending.BadUse → ⊥
 unopened_bad r unopened is = subst (IsRefusedBy (seen_at_entry r) (opened_as (seen_at_entry r))) is unopened.refused
 
-reported_bad : (text : Program → List Commit → List ℕ) (r : Observed) → IsReported text r → r.ending ≡ ending.BadUse → ⊥
+reported_bad : (text : Log → List ℕ) (r : Observed) → IsReported text r → r.ending ≡ ending.BadUse → ⊥
 reported_bad text r reported is = elim reported.ending [
   | inl done ↦ absurd (let e : ending.Done ≡ ending.BadUse = sym done ∙ is in cc e)
   | inr cut ↦ subst MayCut is cut
 ]
 
-unreported : (text : Program → List Commit → List ℕ) (r : Observed) → Reports text r → r.ending ≡ ending.BadUse → ⊥
+unreported : (text : Log → List ℕ) (r : Observed) → Reports text r → r.ending ≡ ending.BadUse → ⊥
 unreported text r (inl unopened) is = unopened_bad r unopened is
 unreported text r (inr reported) is = reported_bad text r reported is
 
@@ -281,7 +278,7 @@ unloaded n seed m r loads is = elim loads.answers [
   | inl unmade ↦ subst (λ (e : ending.Ending). IsUnmadeBy e r) is unmade.ends_as
   | inr from ↦ elim from.carried [
     | inl unopened ↦ unopened_bad (from_there r from.made) unopened is
-    | inr course ↦ subst ending.IsBegun is course.1.ended.carried
+    | inr course ↦ subst ending.IsBegun is course.2.ended.carried
   ]
 ]
 

@@ -1,4 +1,7 @@
 -- Runs that don't keep the promise.
+use Rattle.promise_spec.specs.Prefixes.{IsPrefixOf}
+use Rattle.promise_spec.proofs.Prefixes.{grown_front}
+use Rattle.promise_spec.proofs.Standings.{grown_none, grown_records}
 use Rattle.std.proofs.Common.{◌≡◌, ◌≢◌, inl, inr, ℕ, ◌+◌, ◌<◌, ◌≤◌, ◌^◌, Bool, true, false, List, [], ◌∷◌, ◌++◌, length, map, take, drop, Some, Ok, Result, refl, sym, ap, subst, ◌∙◌, arith, length-drop}
 use Rattle.std.specs.Prelude.{slice_get}
 use Rattle.std.specs.Int.{w32, to_le_bytes, from_le_bytes}
@@ -29,7 +32,7 @@ use Rattle.core_model.specs.Lines.{DifferInLine}
 use Rattle.core_model.specs.Serial.{committed, chosen}
 use Rattle.core_model.specs.CoreState.{Member, Mode}
 use Rattle.gate_block.proofs.Logs as blocks
-use Rattle.gate_block.specs.Log.{HasBlocks, LogsUpTo, gate_of}
+use Rattle.gate_block.specs.Log.{LogsUpTo, gate_of}
 use Rattle.host_trait.specs.declared.channels.FileId.{FileId}
 use Rattle.host_trait.specs.declared.channels.FileId.TheVariants as file
 use Rattle.host_trait.specs.World.{Image, IsImage, Moment, moment_of, last_of}
@@ -39,9 +42,10 @@ use Rattle.request_wire.specs.Reply.{reply_line}
 use Rattle.script_tree.specs.Programs.{ProgramTree}
 use Rattle.script_meaning.specs.Play.{IsTransaction}
 use Rattle.promise_spec.specs.Programs.{Program, shape_in}
-use Rattle.promise_spec.specs.Records.{Commit, Standing, States, after_writes, AreRecordsOf}
+use Rattle.promise_spec.specs.Entries.{Log, Standing, standing_of, grown, records_of}
+use Rattle.promise_spec.specs.Records.{Commit, States, after_writes, AreRecordsOf}
 use Rattle.promise_spec.specs.Serial.{IsSerial, played}
-use Rattle.promise_spec.specs.Logs.{magic, IsLog, IsPrefix, body_of}
+use Rattle.promise_spec.specs.Logs.{magic, IsLog, IsPrefix, StandsUpTo}
 use Rattle.promise_spec.specs.Moments.{IsImageOf}
 use Rattle.promise_spec.specs.Lines.{ReadsLineAs, IsLineCall}
 use Rattle.promise_spec.specs.Outputs.{reply_lines}
@@ -50,7 +54,7 @@ use Rattle.promise_spec.specs.Causes.{RunHasDoubt, NoneRose, is_vote_of, is_unse
 use Rattle.promise_examples.specs.Alive.{IsAlive}
 use Rattle.promise_spec.specs.Family.{states_after}
 use Rattle.promise_spec.specs.Endings as ending
-use Rattle.promise_spec.specs.Courses.{Observed, Course, order, moments, seen_at_entry, lines, opening_standing, core_run, core_end}
+use Rattle.promise_spec.specs.Courses.{Observed, Course, order, moments, seen_at_entry, lines, core_run, core_end}
 use Rattle.promise_spec.specs.Replies.{IsEntryOf, IsTrueOf, HasNoRecord}
 use Rattle.promise_spec.specs.Crashes.{Acknowledges, IsAside}
 use Rattle.promise_spec.specs.Batches.{kept_by}
@@ -65,6 +69,7 @@ use Rattle.promise_examples.proofs.WholeBatches.{not_between}
 use Rattle.promise_examples.proofs.Emitting.{emitted_before, nothing_unwritten}
 use Rattle.promise_spec.proofs.OneLog.{one_log}
 use Rattle.silo_spec.specs.Slots.{IsLive}
+use Rattle.promise_spec.specs.Blocks.{body_of, Block, Records, BlockFits}
 
 ok_is : (x y : Result Call BadRequest) (a b : Call) → x ≡ Ok a → y ≡ Ok b → x ≡ y → a ≡ b
 ok_is x y a b is_a is_b same = cc
@@ -100,20 +105,22 @@ length-count n = refl
 count_of : (rs : List CommitRecord) → length rs < 2 ^ 32 → from_le_bytes w32 (take 4 (spelling_of_body rs)) ≡ length rs
 count_of rs small = ap (from_le_bytes w32) (take_at (to_le_bytes w32 (length rs)) (flat_map spelling_of_record rs) 4 (length-count (length rs))) ∙ from_le_bytes-to_le_bytes_4 (length rs) small
 
-many : (batches : List (List Commit)) (records : List CommitRecord) → AllByRecursion (λ batch. length batch ≤ 64) batches → length records ≡ 65 → map body_of batches ≡ spelling_of_body records ∷ [] → ⊥
+many : (blocks : List Block) (records : List CommitRecord) → AllByRecursion BlockFits blocks → length records ≡ 65 → map body_of blocks ≡ spelling_of_body records ∷ [] → ⊥
 many [] records sizes long same = none_is (spelling_of_body records) [] (sym same)
-many (batch ∷ batches) records sizes long same =
-    let body : body_of batch ≡ spelling_of_body records = head_of (body_of batch) (spelling_of_body records) (map body_of batches) [] same in
+many (Records batch ∷ blocks) records sizes long same =
+    let body : body_of (Records batch) ≡ spelling_of_body records = head_of (body_of (Records batch)) (spelling_of_body records) (map body_of blocks) [] same in
     let size : length (map (λ (c : Commit). c.logged) batch) ≡ length batch = length-map batch (λ (c : Commit). c.logged) in
     let few : length batch ≤ 64 = sizes.0 in
-    let one : from_le_bytes w32 (take 4 (body_of batch)) ≡ length (map (λ (c : Commit). c.logged) batch) = count_of (map (λ (c : Commit). c.logged) batch) (omega (arith, size, few)) in
+    let one : from_le_bytes w32 (take 4 (body_of (Records batch))) ≡ length (map (λ (c : Commit). c.logged) batch) = count_of (map (λ (c : Commit). c.logged) batch) (omega (arith, size, few)) in
     let other : from_le_bytes w32 (take 4 (spelling_of_body records)) ≡ length records = count_of records (omega (arith, long)) in
     let same_count : length (map (λ (c : Commit). c.logged) batch) ≡ length records = sym one ∙ ap (λ (l : List ℕ). from_le_bytes w32 (take 4 l)) body ∙ other in
     omega (arith, same_count, size, few, long)
 
-pub too_many : (live : ℕ) (shape : Shape) (image : Image) (records : List CommitRecord) (gate : ℕ) (log : List Commit) → length records ≡ 65 → LogsUpTo (spelling_of_body records ∷ []) gate (image (file.Manager live)) → IsLog live shape image log → ⊥
-too_many live shape image records gate log long blocks_are is =
-    many is.batches records is.sizes long (blocks.one_log (map body_of is.batches) (spelling_of_body records ∷ []) is.gate gate (image (file.Manager live)) is.blocks blocks_are).0
+pub too_many : (live : ℕ) (image : Image) (records : List CommitRecord) (gate : ℕ) (log : Log) → length records ≡ 65 → LogsUpTo (spelling_of_body records ∷ []) gate (image (file.Manager live)) → IsLog live image log → ⊥
+too_many live image records gate log long blocks_are is =
+    let stands = is.is.stands in
+    many stands.blocks records stands.fit long
+    (sym stands.spelled ∙ (blocks.one_log is.is.bodies (spelling_of_body records ∷ []) is.is.gate gate (image (file.Manager live)) (record { blocks = stands.stand; closed = is.is.closed }) blocks_are).0)
 
 -- without events no record is added
 nothing_added : (types : ProgramTree) (standing : Standing) (added : List Commit) → AreAdded (ends (core_from types standing [])) added → (l : Commit) → Member l added → ⊥
@@ -122,23 +129,24 @@ nothing_added types standing (x ∷ added) (inl none) l there = absurd none
 nothing_added types standing (x ∷ added) (inr follow) l there = absurd (cc follow.doubt)
 
 module _ (p : Program) (r : Observed) (c : Course) where
-  pub read_at_entry : (log : List Commit) → Keeps p r c → IsLog c.live (shape_in p) (seen_at_entry r) log → c.opening ≡ log
-  read_at_entry log keeps is = one_log c.live c.live (shape_in p) (seen_at_entry r) c.opening log keeps.headline.ordered.read is
+  pub read_at_entry : (log : Log) → Keeps p r c → IsLog c.live (seen_at_entry r) log → c.opening ≡ log
+  read_at_entry log keeps is = one_log c.live c.live (seen_at_entry r) c.opening log keeps.headline.ordered.read is
 
-  pub opening_is : (image : Image) (log : List Commit) → Keeps p r c → IsImage (last_of (moment_of r.old) c.early).disk image → IsLog c.live (shape_in p) image log → c.opening ≡ log
-  opening_is image log keeps left is = one_log c.live c.live (shape_in p) image c.opening log (keeps.headline.ordered.opened image left).log is
+  pub opening_is : (image : Image) (log : Log) → Keeps p r c → IsImage (last_of (moment_of r.old) c.early).disk image → IsLog c.live image log → c.opening ≡ log
+  opening_is image log keeps left is = one_log c.live c.live image c.opening log (keeps.headline.ordered.opened image left).log is
 
-  pub shorter : (image : Image) (log : List Commit) → Keeps p r c → IsImageOf (moments r c) image → IsLog c.live (shape_in p) image log → (IsPrefix c.opening log → ⊥) → ⊥
+  pub shorter : (image : Image) (log : Log) → Keeps p r c → IsImageOf (moments r c) image → IsLog c.live image log → (IsPrefixOf c.opening log → ⊥) → ⊥
   shorter image log keeps left is lost =
       let k = keeps.headline.crashes.keeps image left in
-      lost (subst (λ (l : List Commit). IsPrefix c.opening l) (one_log c.live c.live (shape_in p) image k.log log k.is is) k.longer)
+      let longer : IsPrefixOf c.opening (grown c.opening k.more) = subst (λ (l : Log). IsPrefixOf l (grown c.opening k.more)) (grown_none c.opening) (grown_front c.opening [] k.more (k.more, refl)) in
+      lost (subst (λ (l : Log). IsPrefixOf c.opening l) (one_log c.live c.live image (grown c.opening k.more) log k.is is) longer)
 
-  pub part_of_batch : (image : Image) (more : List Commit) (n : ℕ) → Keeps p r c → IsImageOf (moments r c) image → IsLog c.live (shape_in p) image (c.opening ++ more)
+  pub part_of_batch : (image : Image) (more : List Commit) (n : ℕ) → Keeps p r c → IsImageOf (moments r c) image → IsLog c.live image (grown c.opening more)
       → length (kept_by (core_end p c) n) < length more → length more < length (kept_by (core_end p c) (n + 1)) → ⊥
   part_of_batch image more n keeps left is above below =
-      not_between (core_end p c) c.opening more n (keeps.traced.whole image (c.opening ++ more) left is) above below
+      not_between (core_end p c) c.opening more n (keeps.traced.whole image (grown c.opening more) left is) above below
 
-  pub one_of_two : (image : Image) (l : Commit) → Keeps p r c → IsImageOf (moments r c) image → IsLog c.live (shape_in p) image (c.opening ++ (l ∷ [])) → 2 ≤ length (kept_by (core_end p c) 1) → ⊥
+  pub one_of_two : (image : Image) (l : Commit) → Keeps p r c → IsImageOf (moments r c) image → IsLog c.live image (grown c.opening (l ∷ [])) → 2 ≤ length (kept_by (core_end p c) 1) → ⊥
   one_of_two image l keeps left is two =
       let none : length (kept_by (core_end p c) 0) ≡ 0 = refl in
       let below : length (l ∷ []) < length (kept_by (core_end p c) (0 + 1)) = omega (arith, two) in
@@ -162,15 +170,15 @@ module _ (p : Program) (r : Observed) (c : Course) where
   pub changed_header : (m : Moment) (image : Image) → Keeps p r c → Member m (moments r c) → IsImage m.disk image → take 15 (image (file.Manager c.live)) ≢ take 15 (seen_at_entry r (file.Manager c.live)) → ⊥
   changed_header m image keeps there left differ = differ ((keeps.headline.crashes.alone m there).header image left)
 
-  pub early_reply : (m : Moment) (image : Image) (more : List ℕ) → Keeps p r c → Member m (moments r c) → IsImage m.disk image → IsLog c.live (shape_in p) image c.opening → m.output ≡ r.old.output ++ more → Member 10 more
-      → ((e : Entry) → Member e c.entries → (l : Commit) × Member l c.added × Acknowledges e l × (Member l c.opening → ⊥)) → ⊥
+  pub early_reply : (m : Moment) (image : Image) (more : List ℕ) → Keeps p r c → Member m (moments r c) → IsImage m.disk image → IsLog c.live image c.opening → m.output ≡ r.old.output ++ more → Member 10 more
+      → ((e : Entry) → Member e c.entries → (l : Commit) × Member l c.added × Acknowledges e l × (Member l (records_of c.opening) → ⊥)) → ⊥
   early_reply m image more keeps there left is grew feed backed =
       let h = keeps.headline.holds m image there left in
       let same : more ≡ reply_lines (shape_in p) h.written ++ h.rest = append_cancel_left r.old.output more (reply_lines (shape_in p) h.written ++ h.rest) (sym grew ∙ h.output.output) in
       let w = written_some (shape_in p) h.written c.entries h.rest more same h.output.unended feed h.front in
       let b = backed w.0 w.2 in
-      let has : Member b.0 h.log = h.has w.0 b.0 w.1 b.1 b.2 in
-      b.3 (subst (λ (l : List Commit). Member b.0 l) (one_log c.live c.live (shape_in p) image h.log c.opening h.is is) has)
+      let has : Member b.0 (records_of h.log) = h.has w.0 b.0 w.1 b.1 b.2 in
+      b.3 (subst (λ (l : Log). Member b.0 (records_of l)) (one_log c.live c.live image h.log c.opening h.is is) has)
 
   pub untold : Keeps p r c → length c.entries < (core_end p c).manager.emitted → ⊥
   untold keeps more = let told : (core_end p c).manager.emitted ≤ length c.entries = keeps.settled.told in omega arith
@@ -193,26 +201,26 @@ module _ (p : Program) (r : Observed) (c : Course) where
   pub locked_and_logged : (e : Entry) (l : Commit) (by : UnitNo) (grain : GrainId) → Keeps p r c → Member e c.entries → e.what ≡ settled.Lock by grain → Member l c.added → l.logged.unit ≡ e.unit → ⊥
   locked_and_logged e l by grain keeps there is added same = subst (λ (w : Settled). IsTrueOf p r c e w) is (keeps.headline.replies.true_each e there) l added same
 
-  in_order : (image : Image) (log : List Commit) (l : Commit) → Keeps p r c → IsImage r.new.disk image → IsLog c.live (shape_in p) image log → Member l log → Member l (order c)
+  in_order : (image : Image) (log : Log) (l : Commit) → Keeps p r c → IsImage r.new.disk image → IsLog c.live image log → Member l (records_of log) → Member l (records_of (order c))
   in_order image log l keeps left is there =
       let k = keeps.exit.logs image left in
-      let here : Member l k.log = subst (λ (x : List Commit). Member l x) (one_log c.live c.live (shape_in p) image log k.log is k.is) there in
+      let here : Member l (records_of k.log) = subst (λ (x : Log). Member l (records_of x)) (one_log c.live c.live image log k.log is k.is) there in
       elim k.which [
-        | inl same ↦ subst (λ (x : List Commit). Member l x) same here
-        | inr lacks ↦ subst (λ (x : List Commit). Member l x) (sym lacks.split) (in_append l k.log lacks.last (inl here))
+        | inl same ↦ subst (λ (x : Log). Member l (records_of x)) same here
+        | inr lacks ↦ subst (λ (x : List Commit). Member l x) (sym (ap records_of lacks.split ∙ grown_records k.log lacks.last)) (in_append l (records_of k.log) lacks.last (inl here))
       ]
 
-  pub refused_in_doubt : (e : Entry) (l : Commit) (image : Image) (log : List Commit) → Keeps p r c → Member e c.entries → e.what ≡ settled.Disk → IsImage r.new.disk image → IsLog c.live (shape_in p) image log → Member l log
-      → (Member l c.opening → ⊥) → l.logged.unit ≡ e.unit → ⊥
+  pub refused_in_doubt : (e : Entry) (l : Commit) (image : Image) (log : Log) → Keeps p r c → Member e c.entries → e.what ≡ settled.Disk → IsImage r.new.disk image → IsLog c.live image log → Member l (records_of log)
+      → (Member l (records_of c.opening) → ⊥) → l.logged.unit ≡ e.unit → ⊥
   refused_in_doubt e l image log keeps there is left log_is in_log not_old same =
       let none : HasNoRecord c e.unit = subst (λ (w : Settled). IsTrueOf p r c e w) is (keeps.headline.replies.true_each e there) in
-      elim (either_in l c.opening c.added (in_order image log l keeps left log_is in_log)) [ inl old ↦ not_old old | inr added ↦ none l added same ]
+      elim (either_in l (records_of c.opening) c.added (subst (λ (x : List Commit). Member l x) (grown_records c.opening c.added) (in_order image log l keeps left log_is in_log))) [ inl old ↦ not_old old | inr added ↦ none l added same ]
 
   pub another_block : (image : Image) → Keeps p r c → RunHasDoubt (core_run p c) → IsImage r.new.disk image
-      → ((gate : ℕ) (batch : List Commit) (batches : List (List Commit)) → AreRecordsOf (chosen (core_end p c)) batch → HasBlocks (map body_of batches) gate (image (file.Manager c.live)) → HasBlock c.live gate batch image → ⊥) → ⊥
+      → ((gate : ℕ) (batch : List Commit) (before : Log) (bodies : List (List ℕ)) → AreRecordsOf (chosen (core_end p c)) batch → StandsUpTo c.live image before bodies gate → HasBlock c.live gate batch image → ⊥) → ⊥
   another_block image keeps doubt left none =
       let b = keeps.exit.block doubt in
-      none b.gate b.batch b.batches b.records (b.front image left) (b.block image left)
+      none b.gate b.batch b.before b.bodies b.records (b.front image left) (b.block image left)
 
   pub no_such_line : (l : Commit) (n : ℕ) → Keeps p r c → Member l c.added → l.logged.origin ≡ Line n → length (lines r) < n → ⊥
   no_such_line l n keeps added is beyond =
@@ -225,17 +233,17 @@ module _ (p : Program) (r : Observed) (c : Course) where
       → ((states : States) → (played p.types states parent.logged).asked ≡ []) → ⊥
   not_asked l parent index depth keeps added also is asks_none =
       let a = keeps.traced.family.asked l parent index depth added also is in
-      let none = asks_none (states_after (opening_standing p c).states a.front) in
+      let none = asks_none (states_after (standing_of c.opening).states a.front) in
       none_at index _ (sym (ap (λ asked. slice_get asked index) none) ∙ a.asks)
 
   pub another_call : (at n : ℕ) (call other : Call) (plain : Bool) → Keeps p r c → AppliesAt (core_run p c) at (event.Begin (Line n) call plain) → IsLineCall p.types (lines r) n other → call ≢ other → ⊥
   another_call at n call other plain keeps begins_it asks differ = differ (same_call p.types (lines r) n call other (keeps.explained.units at (event.Begin (Line n) call plain) begins_it).0 asks)
 
   pub wrong_total : (e : Entry) (l : Commit) (front back : List Commit) (outcome : Outcome) → Keeps p r c → Member e c.entries → e.what ≡ settled.Done outcome → c.added ≡ front ++ (l ∷ back) → IsEntryOf e l → IsTransaction p.types l.logged.call
-      → (played p.types (states_after (opening_standing p c).states front) l.logged).result ≢ outcome → ⊥
+      → (played p.types (states_after (standing_of c.opening).states front) l.logged).result ≢ outcome → ⊥
   wrong_total e l front back outcome keeps there is split of transaction differ =
       let added : Member l c.added = subst (λ (x : List Commit). Member l x) (sym split) (in_append l front (l ∷ back) (inr (inl refl))) in
-      let replays = serial_at p.types (opening_standing p c).states front l back (subst (λ (x : List Commit). IsSerial p.types (opening_standing p c).states x) split keeps.headline.ordered.serial) in
+      let replays = serial_at p.types (standing_of c.opening).states front l back (subst (λ (x : List Commit). IsSerial p.types (standing_of c.opening).states x) split keeps.headline.ordered.serial) in
       elim (subst (λ (w : Settled). IsTrueOf p r c e w) is (keeps.headline.replies.true_each e there)) [
         | inl reply ↦
             let same : reply.commit ≡ l = keeps.traced.family.one_each reply.commit l e.line reply.added added reply.of.line of.line in
@@ -331,7 +339,7 @@ module _ (p : Program) (r : Observed) (c : Course) where
   -- a run that ends as none does that has begun has no records
   pub unbegun_record : (l : Commit) → Keeps p r c → (ending.IsBegun r.ending → ⊥) → Member l c.added → ⊥
   unbegun_record l keeps never there =
-      nothing_added p.types (opening_standing p c) c.added (subst (λ (events : List CoreEvent). AreAdded (ends (core_from p.types (opening_standing p c) events)) c.added) (no_events p r c keeps never) keeps.explained.records) l there
+      nothing_added p.types (standing_of c.opening) c.added (subst (λ (events : List CoreEvent). AreAdded (ends (core_from p.types (standing_of c.opening) events)) c.added) (no_events p r c keeps never) keeps.explained.records) l there
 
   pub grain_fault : (slot : ℕ) (grain : GrainId) → Keeps p r c → r.ending ≡ ending.DiskFault (file.Grain slot grain) → ⊥
   grain_fault slot grain keeps is = let same : file.Grain slot grain ≡ file.Manager c.live = (keeps.explained.doubted (file.Grain slot grain) is).0 in absurd (cc same)

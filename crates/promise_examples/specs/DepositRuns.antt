@@ -15,15 +15,15 @@ use Rattle.promise_spec.specs.Endings.{Done, input_limit}
 use Rattle.promise_spec.specs.Crashes.{LeavesAlone}
 use Rattle.promise_spec.specs.Courses.{Observed, Course, seen_at_entry, lines}
 use Rattle.promise_spec.specs.Exits.{EndsAsRead}
-use Rattle.promise_examples.specs.Examples.{accounts, account_program, account_1, first_commit, first_entry, deposit_call, deposit_events}
+use Rattle.promise_examples.specs.Examples.{account_log, accounts, account_program, account_1, first_commit, first_entry, deposit_call, deposit_events}
 
 -- the image is one of the program, and has an empty log, or the deposit's record
 abbrev pub HasNone : Image → Type 0
-HasNone image = IsLog 0 (shape_in account_program) image [] × HasProgram account_program.text (image program_file)
+HasNone image = IsLog 0 image (account_log []) × HasProgram account_program.text (image program_file)
 
 abbrev pub HasDeposit : Image → Type 0
 HasDeposit image =
-    IsLog 0 (shape_in account_program) image (first_commit ∷ []) × HasProgram account_program.text (image program_file)
+    IsLog 0 image (account_log (first_commit ∷ [])) × HasProgram account_program.text (image program_file)
 
 -- the files of all grains but `account/1` are as they were
 abbrev pub LeavesOthers : Observed → Moment → Type 0
@@ -53,7 +53,7 @@ pub record IsDepositRun (r : Observed) (opened : Moment) (sealing : List Moment)
   pub given : lines r ≡ lines_of r.old.input
   pub asks : IsLineCall accounts (lines r) 1 deposit_call
   pub left : r.new.input ≡ []
-  pub read : IsLog 0 (shape_in account_program) (seen_at_entry r) []
+  pub read : IsLog 0 (seen_at_entry r) (account_log [])
   pub past : r.new.past ≡ r.old.past ++ (opened ∷ (sealing ++ moment_of r.new ∷ []))
   pub quiet : opened.output ≡ r.old.output
   pub output : r.new.output ≡ r.old.output ++ reply_lines (shape_in account_program) (first_entry ∷ [])
@@ -72,7 +72,7 @@ pub record IsDepositRun (r : Observed) (opened : Moment) (sealing : List Moment)
 abbrev pub deposit_course : Moment → List Moment → Observed → Course
 deposit_course opened sealing r = record {
   live = 0;
-  opening = [];
+  opening = account_log [];
   added = first_commit ∷ [];
   early = opened ∷ [];
   late = sealing ++ moment_of r.new ∷ [];

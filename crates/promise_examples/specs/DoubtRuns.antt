@@ -4,17 +4,16 @@ use Rattle.std.specs.List.{AllByRecursion}
 use Rattle.host_trait.specs.declared.channels.Channel.{Channel}
 use Rattle.host_trait.specs.declared.channels.Channel.TheVariants.{File}
 use Rattle.host_trait.specs.World.{Moment, Image, IsImage, moment_of}
-use Rattle.gate_block.specs.Log.{HasBlocks}
 use Rattle.silo_spec.specs.Silos.{manager}
 use Rattle.request_wire.specs.Lines.{lines_of}
 use Rattle.promise_spec.specs.Programs.{shape_in}
-use Rattle.promise_spec.specs.Logs.{IsLog}
+use Rattle.promise_spec.specs.Logs.{IsLog, StandsUpTo}
 use Rattle.promise_spec.specs.Outputs.{reply_lines}
 use Rattle.promise_spec.specs.Endings.{DiskFault, input_limit}
 use Rattle.promise_spec.specs.Crashes.{LeavesAlone}
 use Rattle.promise_spec.specs.Courses.{Observed, Course, seen_at_entry, lines}
 use Rattle.promise_spec.specs.Exits.{HasBlock, DifferAt}
-use Rattle.promise_examples.specs.Examples.{account_program, first_commit, locked_entry, conflict_entries, conflict_events, AskDeposits}
+use Rattle.promise_examples.specs.Examples.{account_log, account_program, first_commit, locked_entry, conflict_entries, conflict_events, AskDeposits}
 use Rattle.promise_examples.specs.DepositRuns.{HasNone, HasDeposit, MayHaveDeposit, LeavesOthers, IsBetween}
 
 -- what a run has written when the second line is told
@@ -33,7 +32,7 @@ pub record IsDoubtRun (r : Observed) (opened : Moment) (told doubting : List Mom
   pub given : lines r ≡ lines_of r.old.input
   pub asks : AskDeposits (lines r)
   pub left : r.new.input ≡ []
-  pub read : IsLog 0 (shape_in account_program) (seen_at_entry r) []
+  pub read : IsLog 0 (seen_at_entry r) (account_log [])
   pub past : r.new.past ≡ r.old.past ++ (opened ∷ (told ++ doubting ++ moment_of r.new ∷ []))
   pub quiet : opened.output ≡ r.old.output
   pub output : r.new.output ≡ r.old.output ++ reply_lines (shape_in account_program) conflict_entries
@@ -41,7 +40,7 @@ pub record IsDoubtRun (r : Observed) (opened : Moment) (told doubting : List Mom
   pub none : AllByRecursion (IsBetween r (first_told r) HasNone) told
   pub either : AllByRecursion (IsBetween r (first_told r) MayHaveDeposit) doubting
   pub exit : (image : Image) → IsImage r.new.disk image → MayHaveDeposit image
-  pub front : (image : Image) → IsImage r.new.disk image → HasBlocks [] 15 (image manager)
+  pub front : (image : Image) → IsImage r.new.disk image → StandsUpTo 0 image (account_log []) [] 15
   pub block : (image : Image) → IsImage r.new.disk image → HasBlock 0 15 (first_commit ∷ []) image
   pub differ : (one other : Image) → IsImage r.new.disk one → IsImage r.new.disk other →
       DifferAt 15 (one manager) (other manager)
@@ -58,7 +57,7 @@ pub record IsDoubtRun (r : Observed) (opened : Moment) (told doubting : List Mom
 abbrev pub doubt_course : Moment → List Moment → List Moment → Observed → Course
 doubt_course opened told doubting r = record {
   live = 0;
-  opening = [];
+  opening = account_log [];
   added = first_commit ∷ [];
   early = opened ∷ [];
   late = told ++ doubting ++ moment_of r.new ∷ [];

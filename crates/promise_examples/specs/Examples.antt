@@ -26,7 +26,8 @@ use Rattle.core_model.specs.declared.events.CoreEvent.{CoreEvent}
 use Rattle.core_model.specs.declared.events.CoreEvent.TheVariants as event
 use Rattle.core_model.specs.Legal.{Run}
 use Rattle.promise_spec.specs.Programs.{Program}
-use Rattle.promise_spec.specs.Records.{Commit, new_silo}
+use Rattle.promise_spec.specs.Records.{Commit}
+use Rattle.promise_spec.specs.Entries.{new_silo, Log, new_log, grown}
 use Rattle.promise_spec.specs.Logs.{magic}
 use Rattle.promise_spec.specs.Lines.{IsLineCall}
 use Rattle.promise_spec.specs.Cores.{core_from}
@@ -256,13 +257,17 @@ pub record AskBoth (lines : List (List ℕ)) : Type 0 where
   pub first : IsLineCall accounts lines 1 deposit_call
   pub second : IsLineCall accounts lines 2 read_call
 
+-- the log of a silo of accounts with these records
+abbrev pub account_log : List Commit → Log
+account_log records = grown (new_log account_program) records
+
 -- the core's run of these events over an empty log
 abbrev pub account_run : List CoreEvent → Run
-account_run events = core_from accounts (new_silo accounts) events
+account_run events = core_from accounts (new_silo account_program) events
 
 -- what the unit rule is told of it, where these lines are asked
 abbrev pub account_basis : List (List ℕ) → Basis
-account_basis lines = record { types = accounts; lines = lines; opening = new_silo accounts }
+account_basis lines = record { types = accounts; lines = lines; opening = new_silo account_program }
 
 -- the lines 1 and 2 ask for deposits of 5 and 4
 pub record AskDeposits (lines : List (List ℕ)) : Type 0 where

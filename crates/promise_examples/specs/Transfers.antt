@@ -10,9 +10,14 @@ use Rattle.script_meaning.specs.Worked.{bank, at, int, call}
 use Rattle.promise_spec.specs.Programs.{Program}
 use Rattle.promise_spec.specs.Records.{Commit}
 use Rattle.promise_spec.specs.Logs.{magic}
+use Rattle.promise_spec.specs.Entries.{Log, new_log, grown}
 
 abbrev pub bank_program : Program
 bank_program = record { text = []; types = bank }
+
+-- a log that starts with a new silo of that program, and has these records
+abbrev pub bank_log : List Commit → Log
+bank_log records = grown (new_log bank_program) records
 
 -- line 1: `account/1.deposit` with 100
 abbrev pub paid_in : Commit

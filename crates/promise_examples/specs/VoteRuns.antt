@@ -13,7 +13,7 @@ use Rattle.promise_spec.specs.Endings.{Done, input_limit}
 use Rattle.promise_spec.specs.Crashes.{LeavesAlone}
 use Rattle.promise_spec.specs.Courses.{Observed, Course, seen_at_entry, lines}
 use Rattle.promise_spec.specs.Exits.{EndsAsRead}
-use Rattle.promise_examples.specs.Examples.{account_program, account_1, voted_entry, vote_entries, vote_events, AskBoth}
+use Rattle.promise_examples.specs.Examples.{account_log, account_program, account_1, voted_entry, vote_entries, vote_events, AskBoth}
 use Rattle.promise_examples.specs.DepositRuns.{HasNone, LeavesOthers, IsBetween}
 
 -- The files read as an empty log at entry. The run synced it, failed to write the first line's file, and wrote that
@@ -27,7 +27,7 @@ pub record IsVoteRun (r : Observed) (opened : Moment) (failing told : List Momen
   pub given : lines r ≡ lines_of r.old.input
   pub asks : AskBoth (lines r)
   pub left : r.new.input ≡ []
-  pub read : IsLog 0 (shape_in account_program) (seen_at_entry r) []
+  pub read : IsLog 0 (seen_at_entry r) (account_log [])
   pub past : r.new.past ≡ r.old.past ++ (opened ∷ (failing ++ told ++ moment_of r.new ∷ []))
   pub quiet : opened.output ≡ r.old.output
   pub output : r.new.output ≡ r.old.output ++ reply_lines (shape_in account_program) vote_entries
@@ -48,7 +48,7 @@ pub record IsVoteRun (r : Observed) (opened : Moment) (failing told : List Momen
 abbrev pub vote_course : Moment → List Moment → List Moment → Observed → Course
 vote_course opened failing told r = record {
   live = 0;
-  opening = [];
+  opening = account_log [];
   added = [];
   early = opened ∷ [];
   late = failing ++ told ++ moment_of r.new ∷ [];

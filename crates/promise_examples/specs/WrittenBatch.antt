@@ -15,7 +15,7 @@ use Rattle.silo_spec.specs.Silos.{manager}
 use Rattle.promise_spec.specs.Endings.{Done}
 use Rattle.promise_spec.specs.Records.{Commit}
 use Rattle.promise_spec.specs.Courses.{Observed, Course}
-use Rattle.promise_examples.specs.Examples.{account_1, unit_no, deposited, begin_deposit, first_commit, next_commit, first_entry, grain_bytes, manager_of}
+use Rattle.promise_examples.specs.Examples.{account_log, account_1, unit_no, deposited, begin_deposit, first_commit, next_commit, first_entry, grain_bytes, manager_of}
 use Rattle.promise_examples.specs.HostCalls.{Held, HostStep, Pull, Emit, Write, Sync}
 use Rattle.promise_examples.specs.WrittenRun.{new_manager, disk_of, new_disk, pending_block, pending_gate, request_line, reply_text, moment, opened}
 use Rattle.promise_examples.specs.WrittenDoubt.{second_line, pair_before}
@@ -118,7 +118,7 @@ batched = record {
 abbrev pub batch_course : Course
 batch_course = record {
   live = 0;
-  opening = [];
+  opening = account_log [];
   added = both_commits;
   early = opened ∷ [];
   late = batching ++ moment_of batch_after ∷ [];

@@ -6,7 +6,7 @@ use Rattle.host_trait.specs.World.{World, Moment}
 use Rattle.silo_spec.specs.Silos.{manager}
 use Rattle.promise_spec.specs.Endings.{DiskFault}
 use Rattle.promise_spec.specs.Courses.{Observed, Course}
-use Rattle.promise_examples.specs.Examples.{account_1, grain_bytes, block_bytes, conflict_entries, conflict_events}
+use Rattle.promise_examples.specs.Examples.{account_log, account_1, grain_bytes, block_bytes, conflict_entries, conflict_events}
 use Rattle.promise_examples.specs.HostCalls.{Held, HostStep, Pull, Emit, Write, FailedWrite, Sync}
 use Rattle.promise_examples.specs.WrittenRun.{new_disk, version_disk, voted_disk, block_disk, staged_disk, request_line, moment, opened}
 use Rattle.promise_examples.specs.WrittenDoubt.{pair_manner, second_line, locked_text, doubt_text, told, pair_before, one_fault, pair_opened, pair_at}
@@ -45,7 +45,7 @@ unbegun = record {
 abbrev pub unbegun_course : Course
 unbegun_course = record {
   live = 0;
-  opening = [];
+  opening = account_log [];
   added = [];
   early = opened ∷ [];
   late = gate_failing ++ unbegun_told ∷ [];

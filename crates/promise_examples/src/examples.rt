@@ -1,4 +1,4 @@
-ghost use Rattle.std.specs.Prelude.{◌≡◌, ◌≢◌, ℕ, true, List, [], ◌∷◌, ◌++◌, codes, length, None, pos, take, drop, slice_get, Some, Err};
+ghost use Rattle.std.specs.Prelude.{◌≡◌, ◌≢◌, ℕ, true, List, [], ◌∷◌, ◌++◌, codes, length, None, pos, take, drop, map, slice_get, Some, Err};
 ghost use Rattle.base_types.specs.declared.calls.Value.{Value};
 ghost use Rattle.base_types.specs.declared.calls.Value.TheVariants.{Int};
 ghost use Rattle.core_model.specs.CoreState.{Member};
@@ -6,9 +6,9 @@ ghost use Rattle.field_codec.specs.Spelling.{spelling_of_version};
 ghost use Rattle.gate_block.specs.Blocks.{block_of};
 ghost use Rattle.request_wire.specs.Reply.{reply_line};
 ghost use Rattle.promise_spec.specs.Programs.{Program, IsChecked, shape_in, program_in};
-ghost use Rattle.promise_spec.specs.Records.{Commit, new_silo, standing_of};
 ghost use Rattle.promise_spec.specs.Serial.{IsSerial};
-ghost use Rattle.promise_spec.specs.Logs.{magic, IsLog, IsKept, body_of};
+ghost use Rattle.promise_spec.specs.Blocks.{Records, body_of, AreKept};
+ghost use Rattle.promise_spec.specs.Logs.{magic, IsLog};
 ghost use Rattle.promise_spec.specs.Courses.{Observed, lines, moments, seen_at_entry, core_end};
 ghost use Rattle.promise_spec.specs.Promise.{Keeps, IsSoundFolder, Promises};
 ghost use Rattle.promise_laws.specs.Obligations.{Shows};
@@ -19,7 +19,7 @@ ghost use Rattle.promise_examples.specs.WrittenRun.{opened, sealing, written_run
 ghost use Rattle.promise_examples.specs.WrittenDoubt.{pair_manner, told, doubting, doubted, doubted_steps};
 ghost use Rattle.promise_examples.specs.WrittenUnbegun.{unbegun, unbegun_course, unbegun_steps};
 ghost use Rattle.promise_examples.specs.WrittenVote.{reading_manner, failing, vote_told, voted, voted_steps};
-ghost use Rattle.promise_examples.specs.WrittenBatch.{both_commits, both_block, batched, batch_course, batched_steps};
+ghost use Rattle.promise_examples.specs.WrittenBatch.{both_commits, both_block, batch_course, batched_steps, batched};
 ghost use Rattle.promise_spec.specs.Batches.{EndsABatch};
 ghost use Rattle.promise_examples.specs.WrittenRefusal.{refused, refused_steps};
 ghost use Rattle.promise_examples.specs.WrittenCheck.{check_words, check_line, check_call, check_steps};
@@ -34,7 +34,7 @@ ghost use Rattle.host_trait.specs.Faults.{Rose};
 ghost use Rattle.promise_examples.specs.EmptyRuns.{IsEmptyRun, empty_course};
 ghost use Rattle.promise_examples.specs.DoubtRuns.{IsDoubtRun, doubt_course};
 ghost use Rattle.script_meaning.specs.Worked.{bank, at, int, call};
-ghost use Rattle.promise_examples.specs.Transfers.{bank_program, paid_in, moved, balance, version_of_source, version_of_target, transfer_body, bank_folder};
+ghost use Rattle.promise_examples.specs.Transfers.{bank_program, paid_in, moved, balance, version_of_source, version_of_target, transfer_body, bank_folder, bank_log};
 ghost use Rattle.promise_spec.specs.Loads.{load_calls, transfers_after, summary_text, bank_text};
 ghost use Rattle.request_wire.specs.Names.{names_in};
 ghost use Rattle.bank_load.specs.Banks.{bank_names};
@@ -43,64 +43,72 @@ ghost use Rattle.promise_examples.specs.DepositRuns.{IsDepositRun, deposit_cours
 ghost use Rattle.host_trait.specs.World.{Moment, Image, IsImage};
 ghost use Rattle.host_trait.specs.declared.channels.FileId.{FileId};
 ghost use Rattle.host_trait.specs.declared.channels.FileId.TheVariants.{Grain};
+ghost use Rattle.gate_block.specs.Log.{LogsUpTo};
+ghost use Rattle.log_reading.specs.Blocks.{header_damage};
+ghost use Rattle.silo_spec.specs.Slots.{IsLive};
 ghost use Rattle.silo_spec.specs.Silos.{manager, program_file, IsSilo, IsNewSilo, IsNewIfSilo};
 ghost use Rattle.promise_examples.specs.Readings.{changed, folder_of, program_folder, log_folder, log_changed, grain_folder, program_with, two_writes, same_account, version_by, two_folder};
 ghost use Rattle.promise_spec.specs.Reports.{show_text, history_text, audit_text};
-ghost use Rattle.promise_examples.specs.Examples.{accounts, account_program, program_bytes, account_1, account_2, deposit_call, first_commit, next_commit, first_version, grain_bytes, block_bytes, manager_bytes, folder, torn_folder, deposit, first_entry, deposit_events, conflict_events, conflict_entries, account_run, account_basis, AskDeposits, vote_events, vote_entries, AskBoth};
+ghost use Rattle.promise_examples.specs.Examples.{account_log, accounts, account_program, program_bytes, account_1, account_2, deposit_call, first_commit, next_commit, first_version, grain_bytes, block_bytes, manager_bytes, folder, torn_folder, deposit, first_entry, deposit_events, conflict_events, conflict_entries, account_run, account_basis, AskDeposits, vote_events, vote_entries, AskBoth};
 ghost use Rattle.core_model.specs.Legal.{ends};
 ghost use Rattle.promise_spec.specs.Lines.{IsLineCall};
 ghost use Rattle.promise_spec.specs.UnitRule.{KeepsUnitRule};
 ghost use Rattle.promise_spec.specs.TurnRule.{KeepsTurnRule};
+ghost use Rattle.promise_spec.specs.Entries.{new_silo, Log, standing_of};
+ghost use Rattle.promise_spec.specs.Versions.{IsKept};
 
 /// The first deposit in its bytes: 19 of the version and 89 of the manager file spell its record. The folder's log is
 /// that record, which stands for 5 in `account/1`; with the block's gate closed the log is empty. The reply is a line.
 pub fn first_deposit_reads()
     ensures version { spelling_of_version first_version ≡ grain_bytes }
-    ensures block { block_of (body_of (first_commit ∷ [])) ≡ block_bytes }
+    ensures block { block_of (body_of (Records (first_commit ∷ []))) ≡ block_bytes }
     ensures size { length (manager_bytes 1) ≡ 89 }
-    ensures log { IsLog 0 (shape_in account_program) (folder 1 grain_bytes) (first_commit ∷ []) }
-    ensures closed { IsLog 0 (shape_in account_program) (folder 0 grain_bytes) [] }
-    ensures stands { (standing_of accounts (first_commit ∷ [])).states account_1 ≡ Int (pos 5) ∷ [] }
+    ensures log { IsLog 0 (folder 1 grain_bytes) (account_log (first_commit ∷ [])) }
+    ensures closed { IsLog 0 (folder 0 grain_bytes) (account_log []) }
+    ensures stands { (standing_of (account_log (first_commit ∷ []))).states account_1 ≡ Int (pos 5) ∷ [] }
     ensures reply { reply_line (shape_in account_program) first_entry ≡ codes "{\"n\":1,\"reply\":5,\"unit\":1}\n" }
 {}
 
 /// What the reports print of the first deposit.
 pub fn reports_tell_the_first_deposit()
-    ensures show { show_text account_program (first_commit ∷ []) ≡ codes "{\"fields\":{\"balance\":5},\"grain\":\"account/1\"}\n{\"count\":1}\n" }
-    ensures history { history_text account_program (first_commit ∷ []) ≡ codes "{\"args\":[5],\"call\":\"account/1.deposit\",\"n\":1,\"reply\":5,\"unit\":1}\n" }
-    ensures audit { audit_text (first_commit ∷ []) None ≡ codes "{\"count\":1,\"first_bad\":null}\n" }
+    ensures show { show_text (account_log (first_commit ∷ [])) ≡ codes "{\"fields\":{\"balance\":5},\"grain\":\"account/1\"}\n{\"count\":1}\n" }
+    ensures history { history_text (account_log (first_commit ∷ [])) ≡ codes "{\"args\":[5],\"call\":\"account/1.deposit\",\"n\":1,\"reply\":5,\"unit\":1}\n" }
+    ensures audit { audit_text (account_log (first_commit ∷ [])) None ≡ codes "{\"count\":1,\"first_bad\":null}\n" }
 {}
 
 /// A folder whose open block is cut has no log, and one whose grain file is cut within a version doesn't keep the record.
 pub fn torn_folders_have_no_log()
-    ensures block { (log : List Commit) → IsLog 0 (shape_in account_program) (torn_folder 80) log → ⊥ }
+    ensures block { (log : Log) → IsLog 0 (torn_folder 80) log → ⊥ }
     ensures version { (states : List (List Value)) → IsKept 0 (shape_in account_program) (folder 1 (take 10 grain_bytes)) (record { logged = deposit; states = states }) → ⊥ }
 {}
 
 /// A deposit of 5 and one of 4 that leaves 9 are serial, and not where the second leaves 4.
 pub fn deposits_are_serial()
-    ensures serial { IsSerial accounts (new_silo accounts).states (first_commit ∷ next_commit 4 9 ∷ []) }
-    ensures unseen { IsSerial accounts (new_silo accounts).states (first_commit ∷ next_commit 4 4 ∷ []) → ⊥ }
+    ensures serial { IsSerial accounts (new_silo account_program).states (first_commit ∷ next_commit 4 9 ∷ []) }
+    ensures unseen { IsSerial accounts (new_silo account_program).states (first_commit ∷ next_commit 4 4 ∷ []) → ⊥ }
 {}
 
 /// A transfer of 30 between two accounts, of which the first had 100: its record is spelled so, and its two versions. The
-/// folder's log is the deposit's record and that, each version stands at its place, and the log stands for 70 and 30. The
+/// folder's blocks are the deposit's record and that, each version stands at its place, and the log stands for 70 and 30. The
 /// two are serial, and not where the second account is left with 31, or where the transfer stands first.
 pub fn transfers_read()
     ensures source { spelling_of_version (balance 2 70) ≡ version_of_source }
     ensures target { spelling_of_version (balance 2 30) ≡ version_of_target }
-    ensures body { body_of (moved 70 30 ∷ []) ≡ transfer_body }
-    ensures log { IsLog 0 (shape_in bank_program) bank_folder (paid_in ∷ moved 70 30 ∷ []) }
-    ensures one { (standing_of bank (paid_in ∷ moved 70 30 ∷ [])).states (at 0 1) ≡ int 70 ∷ [] }
-    ensures other { (standing_of bank (paid_in ∷ moved 70 30 ∷ [])).states (at 0 2) ≡ int 30 ∷ [] }
-    ensures serial { IsSerial bank (new_silo bank).states (paid_in ∷ moved 70 30 ∷ []) }
-    ensures unseen { IsSerial bank (new_silo bank).states (paid_in ∷ moved 70 31 ∷ []) → ⊥ }
-    ensures early { IsSerial bank (new_silo bank).states (moved 70 30 ∷ paid_in ∷ []) → ⊥ }
+    ensures body { body_of (Records (moved 70 30 ∷ [])) ≡ transfer_body }
+    ensures live { IsLive magic 0 bank_folder }
+    ensures header { header_damage (bank_folder manager) ≡ None }
+    ensures stand { LogsUpTo (map body_of (Records (paid_in ∷ []) ∷ Records (moved 70 30 ∷ []) ∷ [])) 197 (bank_folder manager) }
+    ensures kept { AreKept 0 bank_folder bank_program (bank_log (paid_in ∷ moved 70 30 ∷ [])).entries }
+    ensures one { (standing_of (bank_log (paid_in ∷ moved 70 30 ∷ []))).states (at 0 1) ≡ int 70 ∷ [] }
+    ensures other { (standing_of (bank_log (paid_in ∷ moved 70 30 ∷ []))).states (at 0 2) ≡ int 30 ∷ [] }
+    ensures serial { IsSerial bank (new_silo bank_program).states (paid_in ∷ moved 70 30 ∷ []) }
+    ensures unseen { IsSerial bank (new_silo bank_program).states (paid_in ∷ moved 70 31 ∷ []) → ⊥ }
+    ensures early { IsSerial bank (new_silo bank_program).states (moved 70 30 ∷ paid_in ∷ []) → ⊥ }
 {}
 
 /// The promise can be kept: a run that reads no line keeps all six clauses, over any log.
 pub fn empty_runs_keep()
-    ensures { (p : Program) (r : Observed) (opening : List Commit) → IsEmptyRun p r opening → Keeps p r (empty_course r opening) }
+    ensures { (p : Program) (r : Observed) (opening : Log) → IsEmptyRun p r opening → Keeps p r (empty_course r opening) }
 {}
 
 /// Two runs of the core keep both rules: one deposit at width 1, and two at width 2, of which the second meets the first
@@ -143,14 +151,14 @@ pub fn loads_draw_and_sum()
     ensures drawn { transfers_after 7 2 ≡ call (at 1 0) 0 (int 30 ∷ int 63 ∷ int 54 ∷ []) ∷ call (at 1 0) 0 (int 17 ∷ int 41 ∷ int 20 ∷ []) ∷ [] }
     ensures many { length (load_calls 2 7) ≡ 66 }
     ensures last { slice_get (load_calls 2 7) 63 ≡ Some (call (at 0 63) 0 (int 1000 ∷ [])) }
-    ensures summed { (r : Observed) (opened : Moment) (sealing : List Moment) → length (lines r) ≡ 1 → summary_text account_program r (deposit_course opened sealing r) ≡ codes "{\"aborted\":0,\"committed\":1,\"faulted\":0,\"requests\":1,\"total\":5}\n" }
+    ensures summed { (r : Observed) (opened : Moment) (sealing : List Moment) → length (lines r) ≡ 1 → summary_text r (deposit_course opened sealing r) ≡ codes "{\"aborted\":0,\"committed\":1,\"faulted\":0,\"requests\":1,\"total\":5}\n" }
 {}
 
 /// A run of one deposit is written out whole: the program is a checked one, the folder is a new silo's and sound, what the run
 /// shows keeps the promise, and a host's calls lead from its begin to its end, each as the host's own contract says.
 pub fn a_run_is_written_out()
     ensures checked { IsChecked account_program }
-    ensures sound { IsSoundFolder account_program written_run.old }
+    ensures sound { IsSoundFolder written_run.old }
     ensures run { IsDepositRun written_run opened sealing }
     ensures kept { Keeps account_program written_run (deposit_course opened sealing written_run) }
     ensures promised { Promises plain_manner written_run }
@@ -159,7 +167,7 @@ pub fn a_run_is_written_out()
 
 /// And so is a run of two deposits at once, of which the second meets the first one's lock, and the first is left in doubt.
 pub fn a_doubt_is_written_out()
-    ensures sound { IsSoundFolder account_program doubted.old }
+    ensures sound { IsSoundFolder doubted.old }
     ensures run { IsDoubtRun doubted opened told doubting }
     ensures kept { Keeps account_program doubted (doubt_course opened told doubting doubted) }
     ensures promised { Promises pair_manner doubted }
@@ -170,7 +178,7 @@ pub fn a_doubt_is_written_out()
 /// the deposit's line is told to be in doubt all the same. It shows what a run has to show.
 pub fn an_unbegun_doubt_is_written_out()
     ensures none { (m : Moment) (image : Image) → Member m (moments unbegun unbegun_course) → IsImage m.disk image
-        → IsLog 0 (shape_in account_program) image [] }
+        → IsLog 0 image (account_log []) }
     ensures shown { Shows account_program unbegun unbegun_course }
     ensures kept { Keeps account_program unbegun unbegun_course }
     ensures promised { Promises pair_manner unbegun }
@@ -179,7 +187,7 @@ pub fn an_unbegun_doubt_is_written_out()
 
 /// And so is a run of a deposit whose version can't be written, and of a read of what it left.
 pub fn a_vote_is_written_out()
-    ensures sound { IsSoundFolder account_program voted.old }
+    ensures sound { IsSoundFolder voted.old }
     ensures run { IsVoteRun voted opened failing vote_told }
     ensures kept { Keeps account_program voted (vote_course opened failing vote_told voted) }
     ensures promised { Promises reading_manner voted }
@@ -189,10 +197,10 @@ pub fn a_vote_is_written_out()
 /// And so is a run of two deposits at once, of which the second finds what the first left: one block has the records of
 /// both. A log with the first alone doesn't end where a batch does.
 pub fn a_batch_is_written_out()
-    ensures sound { IsSoundFolder account_program batched.old }
-    ensures block { block_of (body_of both_commits) ≡ both_block }
-    ensures whole { EndsABatch (core_end account_program batch_course) [] both_commits }
-    ensures cut { EndsABatch (core_end account_program batch_course) [] (first_commit ∷ []) → ⊥ }
+    ensures sound { IsSoundFolder batched.old }
+    ensures block { block_of (body_of (Records both_commits)) ≡ both_block }
+    ensures whole { EndsABatch (core_end account_program batch_course) (account_log []) (account_log both_commits) }
+    ensures cut { EndsABatch (core_end account_program batch_course) (account_log []) (account_log (first_commit ∷ [])) → ⊥ }
     ensures shown { Shows account_program batched batch_course }
     ensures kept { Keeps account_program batched batch_course }
     ensures promised { Promises reading_manner batched }
@@ -210,8 +218,8 @@ pub fn a_run_shows_enough()
 /// gate is closed; and where a byte or a file is another, which file is damaged, and at which place of the tables in
 /// `docs/FORMATS.md`.
 pub fn folders_read_so()
-    ensures logged { opened_as (folder 1 grain_bytes) ≡ Reads 0 account_program (first_commit ∷ []) }
-    ensures closed { opened_as (folder 0 grain_bytes) ≡ Reads 0 account_program [] }
+    ensures logged { opened_as (folder 1 grain_bytes) ≡ Reads 0 (account_log (first_commit ∷ [])) }
+    ensures closed { opened_as (folder 0 grain_bytes) ≡ Reads 0 (account_log []) }
 
     // no silo: the manager file is too short, or has another header gate or magic
     ensures short { opened_as (log_folder (take 15 (manager_bytes 1))) ≡ NoSilo }
@@ -308,7 +316,7 @@ pub fn a_refusal_is_written_out()
 pub fn an_init_is_written_out()
     ensures hosted { IsHosted made made_steps }
     ensures made { MakesSilo made }
-    ensures sound { IsSoundFolder account_program made.new }
+    ensures sound { IsSoundFolder made.new }
     ensures follows { (file : FileId) → made.new.disk file ≡ written_run.old.disk file }
     ensures served { Serves init_words (λ c. made) }
 {}

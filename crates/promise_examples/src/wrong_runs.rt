@@ -1,4 +1,4 @@
-ghost use Rattle.std.specs.Prelude.{◌≡◌, ◌≢◌, ◌+◌, ◌-◌, ◌^◌, ◌<◌, ◌≤◌, ◌++◌, ◌∷◌, [], ℕ, Bool, true, false, List, length, Err, map, take};
+ghost use Rattle.std.specs.Prelude.{◌≡◌, ◌≢◌, ◌+◌, ◌-◌, ◌^◌, ◌<◌, ◌≤◌, ◌++◌, ◌∷◌, [], ℕ, Bool, true, false, List, length, Err, take};
 ghost use Rattle.base_types.specs.declared.calls.Call.{Call};
 ghost use Rattle.base_types.specs.declared.calls.GrainId.{GrainId};
 ghost use Rattle.base_types.specs.declared.calls.Origin.TheVariants.{Line, Child};
@@ -6,7 +6,6 @@ ghost use Rattle.base_types.specs.declared.calls.Outcome.{Outcome};
 ghost use Rattle.base_types.specs.declared.calls.UnitNo.{UnitNo};
 ghost use Rattle.base_types.specs.declared.entries.Entry.{Entry};
 ghost use Rattle.base_types.specs.declared.entries.Settled.TheVariants as settled;
-ghost use Rattle.base_types.specs.declared.shapes.Shape.{Shape};
 ghost use Rattle.commit_log.specs.declared.records.CommitRecord.{CommitRecord};
 ghost use Rattle.commit_log.specs.Spelling.{spelling_of_body};
 ghost use Rattle.core_model.specs.declared.effects.Effect.{Effect};
@@ -17,7 +16,7 @@ ghost use Rattle.core_model.specs.Legal.{begins};
 ghost use Rattle.core_model.specs.Serial.{committed, chosen};
 ghost use Rattle.core_model.specs.Tests.{is_before};
 ghost use Rattle.core_model.specs.CoreState.{Member, Mode};
-ghost use Rattle.gate_block.specs.Log.{HasBlocks, LogsUpTo, gate_of};
+ghost use Rattle.gate_block.specs.Log.{LogsUpTo, gate_of};
 ghost use Rattle.host_trait.specs.declared.channels.Channel.{Channel};
 ghost use Rattle.host_trait.specs.declared.channels.Channel.TheVariants.{Input, Output, File};
 ghost use Rattle.host_trait.specs.declared.channels.FileId.{FileId};
@@ -29,13 +28,14 @@ ghost use Rattle.script_meaning.specs.Play.{IsTransaction};
 ghost use Rattle.silo_spec.specs.Silos.{manager, program_file, IsSilo, HasProgram};
 ghost use Rattle.silo_spec.specs.Slots.{IsLive};
 ghost use Rattle.promise_spec.specs.Programs.{Program, ProgramFault, IsChecked, shape_in, program_in};
+ghost use Rattle.promise_spec.specs.Entries.{Log, standing_of, grown, records_of};
 ghost use Rattle.promise_spec.specs.Images.{IsSound};
 ghost use Rattle.promise_spec.specs.Openings.{DamagedAt, opened_as};
 ghost use Rattle.promise_spec.specs.Words.{Command, Manner};
 ghost use Rattle.promise_spec.specs.Refusals.{IsUnopened, IsNamedIn};
 ghost use Rattle.promise_spec.specs.Records.{Commit, States, AreRecordsOf};
 ghost use Rattle.promise_spec.specs.Serial.{played};
-ghost use Rattle.promise_spec.specs.Logs.{magic, IsLog, IsPrefix, body_of};
+ghost use Rattle.promise_spec.specs.Logs.{magic, IsLog, IsPrefix, StandsUpTo};
 ghost use Rattle.promise_spec.specs.Moments.{IsImageOf};
 ghost use Rattle.promise_spec.specs.Lines.{IsLineCall};
 ghost use Rattle.promise_spec.specs.Cores.{AppliesAt, how_many, state_before};
@@ -43,33 +43,34 @@ ghost use Rattle.promise_spec.specs.Causes.{RunHasDoubt, NoneRose, is_vote_of, i
 ghost use Rattle.promise_examples.specs.Alive.{IsAlive};
 ghost use Rattle.promise_spec.specs.Family.{states_after};
 ghost use Rattle.promise_spec.specs.Endings as ending;
-ghost use Rattle.promise_spec.specs.Courses.{Observed, Course, order, moments, seen_at_entry, lines, opening_standing, core_run, core_end};
+ghost use Rattle.promise_spec.specs.Courses.{Observed, Course, order, moments, seen_at_entry, lines, core_run, core_end};
 ghost use Rattle.promise_spec.specs.Replies.{IsEntryOf};
 ghost use Rattle.promise_spec.specs.Crashes.{Acknowledges, IsAside};
 ghost use Rattle.promise_spec.specs.Batches.{kept_by};
 ghost use Rattle.promise_spec.specs.Exits.{HasBlock};
 ghost use Rattle.promise_spec.specs.Promise.{Keeps, KeepsAnywhere, Promises};
 ghost use Rattle.promise_spec.specs.Commands.{MakesSilo, Reports};
-ghost use Rattle.promise_spec.specs.Calls.{Understands, Serves, GoesOn, AnswersAs};
+ghost use Rattle.promise_spec.specs.Calls.{Understands, Serves, AnswersAs, GoesOn};
 ghost use Rattle.promise_spec.specs.Loads.{KeepsLoad, summary_text};
 ghost use Rattle.promise_spec.specs.Checks.{Checks};
 ghost use Rattle.two_silos.specs.Generated.{checked};
 ghost use Rattle.two_silos.specs.Summaries.{summary_of, line_of};
+ghost use Rattle.promise_spec.specs.Prefixes.{IsPrefixOf};
 
 /// The opening log is the disk's: no run can take another for it, as one that answers from an old log again would, or one
 /// that opens or closes a gate of a batch left in doubt before the log is synced.
 pub fn the_opening_log_is_the_disks()
-    ensures entry { (p : Program) (r : Observed) (c : Course) (log : List Commit) → Keeps p r c
-        → IsLog c.live (shape_in p) (seen_at_entry r) log → c.opening ≡ log }
-    ensures synced { (p : Program) (r : Observed) (c : Course) (image : Image) (log : List Commit) → Keeps p r c
-        → IsImage (last_of (moment_of r.old) c.early).disk image → IsLog c.live (shape_in p) image log → c.opening ≡ log }
+    ensures entry { (p : Program) (r : Observed) (c : Course) (log : Log) → Keeps p r c
+        → IsLog c.live (seen_at_entry r) log → c.opening ≡ log }
+    ensures synced { (p : Program) (r : Observed) (c : Course) (image : Image) (log : Log) → Keeps p r c
+        → IsImage (last_of (moment_of r.old) c.early).disk image → IsLog c.live image log → c.opening ≡ log }
 {}
 
 /// No run keeps the promise that at some moment may leave a log without all that it opened with, as where an earlier gate is
 /// closed for a moment, or that leaves a folder that is no silo.
 pub fn logs_are_not_lost()
-    ensures shorter { (p : Program) (r : Observed) (c : Course) (image : Image) (log : List Commit) → Keeps p r c
-        → IsImageOf (moments r c) image → IsLog c.live (shape_in p) image log → (IsPrefix c.opening log → ⊥) → ⊥ }
+    ensures shorter { (p : Program) (r : Observed) (c : Course) (image : Image) (log : Log) → Keeps p r c
+        → IsImageOf (moments r c) image → IsLog c.live image log → (IsPrefixOf c.opening log → ⊥) → ⊥ }
     ensures closed { (p : Program) (r : Observed) (c : Course) (image : Image) → Keeps p r c
         → IsImage r.new.disk image → (IsLive magic c.live image → ⊥) → ⊥ }
 {}
@@ -79,10 +80,10 @@ pub fn logs_are_not_lost()
 /// where the first batch has two.
 pub fn batches_are_whole()
     ensures part { (p : Program) (r : Observed) (c : Course) (image : Image) (more : List Commit) (n : ℕ) → Keeps p r c
-        → IsImageOf (moments r c) image → IsLog c.live (shape_in p) image (c.opening ++ more)
+        → IsImageOf (moments r c) image → IsLog c.live image (grown c.opening more)
         → length (kept_by (core_end p c) n) < length more → length more < length (kept_by (core_end p c) (n + 1)) → ⊥ }
     ensures one { (p : Program) (r : Observed) (c : Course) (image : Image) (l : Commit) → Keeps p r c
-        → IsImageOf (moments r c) image → IsLog c.live (shape_in p) image (c.opening ++ (l ∷ []))
+        → IsImageOf (moments r c) image → IsLog c.live image (grown c.opening (l ∷ []))
         → 2 ≤ length (kept_by (core_end p c) 1) → ⊥ }
 {}
 
@@ -143,9 +144,9 @@ pub fn other_files_stay()
 /// No run keeps the promise that writes a reply before its record is in every image.
 pub fn replies_come_after_records()
     ensures { (p : Program) (r : Observed) (c : Course) (m : Moment) (image : Image) (more : List ℕ) → Keeps p r c
-        → Member m (moments r c) → IsImage m.disk image → IsLog c.live (shape_in p) image c.opening
+        → Member m (moments r c) → IsImage m.disk image → IsLog c.live image c.opening
         → m.output ≡ r.old.output ++ more → Member 10 more
-        → ((e : Entry) → Member e c.entries → (l : Commit) × Member l c.added × Acknowledges e l × (Member l c.opening → ⊥)) → ⊥ }
+        → ((e : Entry) → Member e c.entries → (l : Commit) × Member l c.added × Acknowledges e l × (Member l (records_of c.opening) → ⊥)) → ⊥ }
 {}
 
 /// No run keeps the promise that tells the core of more replies than it wrote; so none, on one thread, that takes a batch
@@ -172,17 +173,17 @@ pub fn lines_are_answered_once()
 pub fn aborted_units_have_no_record()
     ensures lock { (p : Program) (r : Observed) (c : Course) (e : Entry) (l : Commit) (by : UnitNo) (grain : GrainId) → Keeps p r c
         → Member e c.entries → e.what ≡ settled.Lock by grain → Member l c.added → l.logged.unit ≡ e.unit → ⊥ }
-    ensures doubt { (p : Program) (r : Observed) (c : Course) (e : Entry) (l : Commit) (image : Image) (log : List Commit) → Keeps p r c
-        → Member e c.entries → e.what ≡ settled.Disk → IsImage r.new.disk image → IsLog c.live (shape_in p) image log → Member l log
-        → (Member l c.opening → ⊥) → l.logged.unit ≡ e.unit → ⊥ }
+    ensures doubt { (p : Program) (r : Observed) (c : Course) (e : Entry) (l : Commit) (image : Image) (log : Log) → Keeps p r c
+        → Member e c.entries → e.what ≡ settled.Disk → IsImage r.new.disk image → IsLog c.live image log → Member l (records_of log)
+        → (Member l (records_of c.opening) → ⊥) → l.logged.unit ≡ e.unit → ⊥ }
 {}
 
 /// No run keeps the promise that is left with a batch in doubt, and has no block of the records of its units behind the blocks
 /// of the log, as where other records stand there, or the block stands elsewhere.
 pub fn the_block_in_doubt_is_the_batchs()
     ensures { (p : Program) (r : Observed) (c : Course) (image : Image) → Keeps p r c → RunHasDoubt (core_run p c) → IsImage r.new.disk image
-        → ((gate : ℕ) (batch : List Commit) (batches : List (List Commit)) → AreRecordsOf (chosen (core_end p c)) batch
-        → HasBlocks (map body_of batches) gate (image (file.Manager c.live)) → HasBlock c.live gate batch image → ⊥) → ⊥ }
+        → ((gate : ℕ) (batch : List Commit) (before : Log) (bodies : List (List ℕ)) → AreRecordsOf (chosen (core_end p c)) batch
+        → StandsUpTo c.live image before bodies gate → HasBlock c.live gate batch image → ⊥) → ⊥ }
 {}
 
 /// No run keeps the promise that adds a record of a line that isn't there, or of a child for which its parent's play doesn't
@@ -202,7 +203,7 @@ pub fn records_come_from_lines()
 pub fn replies_are_serial()
     ensures total { (p : Program) (r : Observed) (c : Course) (e : Entry) (l : Commit) (front back : List Commit) (outcome : Outcome) → Keeps p r c
         → Member e c.entries → e.what ≡ settled.Done outcome → c.added ≡ front ++ (l ∷ back) → IsEntryOf e l → IsTransaction p.types l.logged.call
-        → (played p.types (states_after (opening_standing p c).states front) l.logged).result ≢ outcome → ⊥ }
+        → (played p.types (states_after (standing_of c.opening).states front) l.logged).result ≢ outcome → ⊥ }
     ensures order { (p : Program) (r : Observed) (c : Course) (first : Effect) (later : List Effect) (l : Commit) (more : List Commit) → Keeps p r c
         → committed (core_end p c) ≡ first ∷ later → c.added ≡ l ∷ more → l.logged.unit ≢ first.unit → ⊥ }
 {}
@@ -236,7 +237,7 @@ pub fn endings_are_true()
 pub fn refusals_are_true()
     ensures place { (m : Manner) (r : Observed) (f : FileId) (place : ℕ) → Promises m r → r.ending ≡ ending.Damaged f place
         → opened_as (seen_at_entry r) ≢ DamagedAt f place → ⊥ }
-    ensures sound { (m : Manner) (r : Observed) (live : ℕ) (p : Program) (f : FileId) (place : ℕ) → Promises m r → IsChecked p → IsSound live p (seen_at_entry r)
+    ensures sound { (m : Manner) (r : Observed) (live : ℕ) (f : FileId) (place : ℕ) → Promises m r → IsSound live (seen_at_entry r)
         → r.ending ≡ ending.Damaged f place → ⊥ }
     ensures silo { (m : Manner) (r : Observed) (live : ℕ) → Promises m r → IsLive magic live (seen_at_entry r) → r.ending ≡ ending.NotASilo → ⊥ }
     ensures opened { (m : Manner) (r : Observed) → Promises m r → ((live : ℕ) → IsLive magic live (seen_at_entry r) → ⊥) → r.ending ≡ ending.Done → ⊥ }
@@ -311,12 +312,11 @@ pub fn lines_begin_after_the_input()
 /// No report of a folder prints the text of another log than the one that it reads as, or may leave what couldn't stand there
 /// before, or prints while a crash may take back what it tells.
 pub fn reports_tell_the_folder()
-    ensures text { (text : Program → List Commit → List ℕ) (r : Observed) (live : ℕ) (p : Program) (log : List Commit) → Reports text r → r.ending ≡ ending.Done
-        → IsChecked p → HasProgram p.text (seen_at_entry r (file.Program live)) → IsLog live (shape_in p) (seen_at_entry r) log
-        → r.new.output ≢ r.old.output ++ text p log → ⊥ }
-    ensures changed { (text : Program → List Commit → List ℕ) (r : Observed) (image : Image) → Reports text r
+    ensures text { (text : Log → List ℕ) (r : Observed) (live : ℕ) (log : Log) → Reports text r → r.ending ≡ ending.Done
+        → IsLog live (seen_at_entry r) log → r.new.output ≢ r.old.output ++ text log → ⊥ }
+    ensures changed { (text : Log → List ℕ) (r : Observed) (image : Image) → Reports text r
         → IsImage r.new.disk image → (IsImage r.old.disk image → ⊥) → ⊥ }
-    ensures taken { (text : Program → List Commit → List ℕ) (r : Observed) (image : Image) → Reports text r → IsImage r.new.disk image
+    ensures taken { (text : Log → List ℕ) (r : Observed) (image : Image) → Reports text r → IsImage r.new.disk image
         → r.new.output ≢ r.old.output
         → ((live : ℕ) → IsLive magic live (seen_at_entry r) → image (file.Manager live) ≢ seen_at_entry r (file.Manager live)) → ⊥ }
 {}
@@ -342,7 +342,7 @@ pub fn inits_make_their_input()
 /// wanting, or while some image lacks the order, or that is done after a doubt, or ends with a fault of the output then.
 pub fn loads_tell_their_summary()
     ensures text { (p : Program) (n seed : ℕ) (r : Observed) (c : Course) → KeepsLoad p n seed r c → r.ending ≡ ending.Done
-        → r.new.output ≢ r.old.output ++ summary_text p r c → ⊥ }
+        → r.new.output ≢ r.old.output ++ summary_text r c → ⊥ }
     ensures early { (p : Program) (n seed : ℕ) (r : Observed) (c : Course) → KeepsLoad p n seed r c → r.ending ≡ ending.Memory
         → r.new.output ≢ r.old.output → ⊥ }
     ensures doubt { (p : Program) (n seed : ℕ) (r : Observed) (c : Course) → KeepsLoad p n seed r c → RunHasDoubt (core_run p c)
@@ -350,7 +350,7 @@ pub fn loads_tell_their_summary()
     ensures fault { (p : Program) (n seed : ℕ) (r : Observed) (c : Course) → KeepsLoad p n seed r c → RunHasDoubt (core_run p c)
         → r.ending ≡ ending.WriteFault → ⊥ }
     ensures soon { (p : Program) (n seed : ℕ) (r : Observed) (c : Course) (m : Moment) (image : Image) → KeepsLoad p n seed r c
-        → Member m (moments r c) → IsImage m.disk image → (IsLog c.live (shape_in p) image (order c) → ⊥) → m.output ≢ r.old.output → ⊥ }
+        → Member m (moments r c) → IsImage m.disk image → (IsLog c.live image (order c) → ⊥) → m.output ≢ r.old.output → ⊥ }
 {}
 
 /// No check keeps its promise that is done and prints anything but the line of its world, as one that prints nothing, or the line of
@@ -372,6 +372,6 @@ pub fn checks_tell_their_world()
 
 /// A live manager file with a block of 65 records has no log.
 pub fn batches_are_small()
-    ensures { (live : ℕ) (shape : Shape) (image : Image) (records : List CommitRecord) (gate : ℕ) (log : List Commit) → length records ≡ 65
-        → LogsUpTo (spelling_of_body records ∷ []) gate (image (file.Manager live)) → IsLog live shape image log → ⊥ }
+    ensures { (live : ℕ) (image : Image) (records : List CommitRecord) (gate : ℕ) (log : Log) → length records ≡ 65
+        → LogsUpTo (spelling_of_body records ∷ []) gate (image (file.Manager live)) → IsLog live image log → ⊥ }
 {}

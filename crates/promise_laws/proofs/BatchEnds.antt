@@ -44,6 +44,7 @@ use Rattle.promise_spec.specs.Gotten.{got_from}
 use Rattle.promise_spec.proofs.Lists.{none_at}
 use Rattle.promise_laws.specs.Closings.{AllEnd}
 use Rattle.promise_spec.specs.Explained.{AreAdded}
+use Rattle.promise_spec.specs.Entries.{Log, grown}
 use Rattle.promise_spec.specs.Batches.{units_in, kept_by, EndsABatch}
 
 -- ---- what an event leaves of a finished unit
@@ -270,7 +271,7 @@ module _ (opening : GrainId → List Value) (w : CoreState) (e : CoreEvent) (c :
       (take_all n w.manager.past (omega (arith, far)) ∙ sym (take_all (length w.manager.past) w.manager.past (omega arith)))
 
   -- so a log of whole batches stays one
-  pub ends-stay : (first log : List Commit) → EndsABatch w first log → EndsABatch (step w e) first log
+  pub ends-stay : (first log : Log) → EndsABatch w first log → EndsABatch (step w e) first log
   ends-stay first log b = elim (cases_lt (length w.manager.past) b.batches) [
     | inl far ↦ record {
       batches = length w.manager.past;
@@ -287,7 +288,7 @@ module _ (opening : GrainId → List Value) (w : CoreState) (e : CoreEvent) (c :
   ]
 
 -- after a run that keeps the unit rule
-pub batch-stays : (s : Basis) (r : Run) (e : CoreEvent) (first log : List Commit) → 0 < r.base → KeepsUnitRule s r
+pub batch-stays : (s : Basis) (r : Run) (e : CoreEvent) (first log : Log) → 0 < r.base → KeepsUnitRule s r
     → EndsABatch (ends r) first log → EndsABatch (step (ends r) e) first log
 batch-stays s r e first log above keeps b =
     let same : ends (applied_run r) ≡ ends r = ends_alike r in
@@ -310,7 +311,7 @@ keeps-front s r more keeps at e here =
     (keeps at e (record { there = t.0; applied = subst (λ (es : List CoreEvent). applies (run (begins r) es) e ≡ true) (sym same) here.applied }))
 
 -- whatever events come
-pub batch-stays-run : (s : Basis) (r : Run) (more : List CoreEvent) (first log : List Commit) → 0 < r.base → KeepsUnitRule s (extended r more)
+pub batch-stays-run : (s : Basis) (r : Run) (more : List CoreEvent) (first log : Log) → 0 < r.base → KeepsUnitRule s (extended r more)
     → EndsABatch (ends r) first log → EndsABatch (ends (extended r more)) first log
 batch-stays-run s r [] first log above keeps b = subst (λ (es : List CoreEvent). EndsABatch (run (begins r) es) first log) (sym (append-nil r.events)) b
 batch-stays-run s r (e ∷ es) first log above keeps b =
@@ -367,10 +368,10 @@ closed-of : (s : Basis) (r : Run) → 0 < r.base → KeepsUnitRule s r → AreCl
 closed-of s r above keeps = subst (AreClosed r.opening) (ends_alike r) (closed-ends (is_play s.types) (applied_run r) (legal s r above keeps))
 
 -- the moments of a run
-pub moments-stay : (live : ℕ) (s : Basis) (p : Program) (r : Run) (more : List CoreEvent) (first : List Commit) (old new : List Moment) → 0 < r.base → KeepsUnitRule s (extended r more)
-    → Passes (AllEnd live p (ends r) first) old new → Passes (AllEnd live p (ends (extended r more)) first) old new
-moments-stay live s p r more first old new above keeps passes =
-    weaker (AllEnd live p (ends r) first) (AllEnd live p (ends (extended r more)) first) (λ m all image log left is. batch-stays-run s r more first log above keeps (all image log left is)) passes
+pub moments-stay : (live : ℕ) (s : Basis) (r : Run) (more : List CoreEvent) (first : Log) (old new : List Moment) → 0 < r.base → KeepsUnitRule s (extended r more)
+    → Passes (AllEnd live (ends r) first) old new → Passes (AllEnd live (ends (extended r more)) first) old new
+moments-stay live s r more first old new above keeps passes =
+    weaker (AllEnd live (ends r) first) (AllEnd live (ends (extended r more)) first) (λ m all image log left is. batch-stays-run s r more first log above keeps (all image log left is)) passes
 
 -- ---- a batch in doubt is the last one
 
@@ -475,7 +476,7 @@ module _ (opening : GrainId → List Value) (w : CoreState) (c : AreClosed openi
       go (Some from) there = (let q = t.1 from there in (q.1.0, q.1.1 ∙ sym (ap (λ (o : Option ℕ). batch_begin o w.manager.closed) there)))
 
   -- what a run adds ends where a batch does
-  added-end : Tally w → (first more : List Commit) → AreAdded w more → EndsABatch w first (first ++ more)
+  added-end : Tally w → (first : Log) (more : List Commit) → AreAdded w more → EndsABatch w first (grown first more)
   added-end t first more (inl are) =
       let n = front-is t in
       record { batches = n.0; more = more; split = refl; records = subst (λ (es : List Effect). AreRecordsOf es more) (sym (front-batches n.0 n.1)) are }
@@ -488,6 +489,6 @@ module _ (opening : GrainId → List Value) (w : CoreState) (c : AreClosed openi
       }
 
 -- what a run adds, with a batch in doubt or without, ends where a batch does
-pub records-end : (s : Basis) (r : Run) (first more : List Commit) → 0 < r.base → KeepsUnitRule s r
-    → AreAdded (ends r) more → EndsABatch (ends r) first (first ++ more)
+pub records-end : (s : Basis) (r : Run) (first : Log) (more : List Commit) → 0 < r.base → KeepsUnitRule s r
+    → AreAdded (ends r) more → EndsABatch (ends r) first (grown first more)
 records-end s r first more above keeps are = added-end r.opening (ends r) (closed-of s r above keeps) (tally-ends r) first more are

@@ -21,7 +21,8 @@ use Rattle.core_model.specs.Lines.{DifferInLine}
 use Rattle.script_tree.specs.Programs.{ProgramTree}
 use Rattle.script_meaning.proofs.Plays.{plays_are_orderly_lem}
 use Rattle.promise_spec.specs.Programs.{Program, shape_in}
-use Rattle.promise_spec.specs.Records.{Commit, States, new_silo, log_start, after_writes}
+use Rattle.promise_spec.specs.Records.{Commit, States, after_writes}
+use Rattle.promise_spec.specs.Entries.{Log, new_silo, records_of, standing_of}
 use Rattle.promise_spec.specs.Serial.{depth_of, IsSerial}
 use Rattle.promise_spec.specs.Logs.{IsPrefix}
 use Rattle.promise_spec.specs.Images.{IsWholeSilo, AreNumbered}
@@ -29,13 +30,15 @@ use Rattle.promise_spec.specs.Lines.{IsBadLine}
 use Rattle.promise_spec.specs.Cores.{AppliesAt}
 use Rattle.promise_spec.specs.Causes.{RunHasDoubt}
 use Rattle.promise_spec.specs.Endings as ending
-use Rattle.promise_spec.specs.Courses.{Observed, Course, order, lines, opening_standing, core_run, core_end}
+use Rattle.promise_spec.specs.Courses.{Observed, Course, order, lines, seen_at_entry, core_run, core_end}
 use Rattle.promise_spec.specs.Explained.{IsExplained}
 use Rattle.promise_spec.specs.Promise.{IsAnswered}
 use Rattle.promise_spec.specs.Replies.{IsTrueOf}
 use Rattle.promise_spec.specs.Loads.{load_calls, line_valued, is_faulted, line_aborted, how_many_lines, KeepsLoad}
 use Rattle.promise_spec.proofs.Lists.{get_seam}
 use Rattle.promise_spec.proofs.OneLog.{one_log}
+use Rattle.promise_spec.proofs.Standings.{grown_records}
+use Rattle.promise_laws.proofs.Bases.{begins_above}
 use Rattle.promise_laws.proofs.Journaled.{numbered_front}
 use Rattle.promise_laws.proofs.Doubted.{not-both}
 use Rattle.promise_laws.proofs.TrueReplies.{replies_within, replies_once, replies_true}
@@ -181,7 +184,7 @@ no_abort types states (c ∷ log) l serial (inl same) is =
     (plays_are_orderly_lem types c.logged.call (depth_of c.logged.origin) states c.logged.answers).ended (serial.0.result ∙ ap (λ (x : Commit). x.logged.result) (sym same) ∙ is)
 no_abort types states (c ∷ log) l serial (inr later) is = no_abort types (after_writes states c) log l serial.1 later is
 
-module _ (p : Program) (r : Observed) (c : Course) (is : IsExplained p r c) (numbered : AreNumbered (log_start p.types).next c.opening) (serial : IsSerial p.types (opening_standing p c).states c.added)
+module _ (p : Program) (r : Observed) (c : Course) (based : 0 < c.opening.base.next) (is : IsExplained p r c) (numbered : AreNumbered c.opening.base.next (records_of c.opening)) (serial : IsSerial p.types (standing_of c.opening).states c.added)
     (all : c.entries ≡ (core_end p c).manager.settled) (answered : IsAnswered r c) (sure : RunHasDoubt (core_run p c) → ⊥) (calls : (n : ℕ) (why : BadRequest) → IsBadLine p.types (lines r) n why → ⊥) where
   front : IsPrefix c.entries (core_end p c).manager.settled
   front = ([], sym all ∙ sym (append-nil c.entries))
@@ -192,8 +195,8 @@ module _ (p : Program) (r : Observed) (c : Course) (is : IsExplained p r c) (num
 
   -- no outcome is an abort
   no_aborted : (e : Entry) → IsTrueOf p r c e (settled.Done outcome.Aborted) → ⊥
-  no_aborted e (inl logged) = no_abort p.types (opening_standing p c).states c.added logged.commit serial logged.added logged.result
-  no_aborted e (inr plain) = (plays_are_orderly_lem p.types plain.call 1 (new_silo p.types).states plain.answers).ended plain.result
+  no_aborted e (inl logged) = no_abort p.types (standing_of c.opening).states c.added logged.commit serial logged.added logged.result
+  no_aborted e (inr plain) = (plays_are_orderly_lem p.types plain.call 1 (new_silo p).states plain.answers).ended plain.result
 
   -- an entry is of exactly one of three kinds
   one_kind : (e : Entry) → Member e c.entries → IsOneOf (line_aborted e.what) (line_valued e.what) (is_faulted e.what)
@@ -208,7 +211,7 @@ module _ (p : Program) (r : Observed) (c : Course) (is : IsExplained p r c) (num
       by : (s : Settled) → e.what ≡ s → IsOneOf (line_aborted e.what) (line_valued e.what) (is_faulted e.what)
       by (settled.Done (outcome.Value value)) q = kind (settled.Done (outcome.Value value)) q refl
       by (settled.Done (outcome.Fault text)) q = kind (settled.Done (outcome.Fault text)) q refl
-      by (settled.Done outcome.Aborted) q = absurd (no_aborted e (subst (IsTrueOf p r c e) q (replies_true p r c is numbered front e there)))
+      by (settled.Done outcome.Aborted) q = absurd (no_aborted e (subst (IsTrueOf p r c e) q (replies_true p r c based is numbered front e there)))
       by (settled.Lock other grain) q = kind (settled.Lock other grain) q refl
       by (settled.Vote grain) q = kind (settled.Vote grain) q refl
       by (settled.Dependency on) q = kind (settled.Dependency on) q refl
@@ -226,7 +229,7 @@ module _ (p : Program) (r : Observed) (c : Course) (is : IsExplained p r c) (num
   pub counted : how_many_lines line_aborted c.entries + (how_many_lines line_valued c.entries + how_many_lines is_faulted c.entries) ≡ length (lines r)
   counted =
       counts_three (λ (e : Entry). line_aborted e.what) (λ (e : Entry). line_valued e.what) (λ (e : Entry). is_faulted e.what) c.entries one_kind
-      ∙ as_many_lines c.entries (replies_once p r c is front) (λ e there. (replies_within p r c is front e there).0) (length (lines r)) (λ e there. (replies_within p r c is front e there).1) answered
+      ∙ as_many_lines c.entries (replies_once p r c based is front) (λ e there. (replies_within p r c based is front e there).0) (length (lines r)) (λ e there. (replies_within p r c based is front e there).1) answered
 
 -- ---- a load
 
@@ -246,12 +249,17 @@ module _ (p : Program) (n seed : ℕ) (r : Observed) (c : Course) (keeps : Keeps
       not-both p.types (lines r) (bad.index + 1) t.0 why (keeps.asked.each bad.index t.0 t.1) (subst (λ (k : ℕ). IsBadLine p.types (lines r) k why) bad.number bad)
 
   -- the units of the opening log are numbered
-  opening_numbered : AreNumbered (log_start p.types).next c.opening
+  opening_numbered : AreNumbered c.opening.base.next (records_of c.opening)
   opening_numbered =
       let longest = keeps.ordered.longest in
-      let whole : IsWholeSilo c.live p longest.image = keeps.crashes.whole longest.image longest.left c.live longest.log.is_live in
-      numbered_front (log_start p.types).next c.opening c.added
-      (subst (AreNumbered (log_start p.types).next) (one_log c.live c.live (shape_in p) longest.image whole.log (order c) whole.is longest.log) whole.numbered)
+      let whole : IsWholeSilo c.live longest.image = keeps.crashes.whole longest.image longest.left c.live longest.log.is_live in
+      let same : whole.log ≡ order c = one_log c.live c.live longest.image whole.log (order c) whole.is longest.log in
+      let all : AreNumbered c.opening.base.next (records_of (order c)) = subst (λ (l : Log). AreNumbered l.base.next (records_of l)) same whole.numbered in
+      numbered_front c.opening.base.next (records_of c.opening) c.added (subst (AreNumbered c.opening.base.next) (grown_records c.opening c.added) all)
+
+  -- the opening log begins with a number above 0
+  based : 0 < c.opening.base.next
+  based = begins_above c.live (seen_at_entry r) c.opening keeps.ordered.read
 
   -- no batch is in doubt
   undoubted : (r.ending ≡ ending.Done) ⊎ (r.ending ≡ ending.WriteFault) → RunHasDoubt (core_run p c) → ⊥
@@ -260,4 +268,4 @@ module _ (p : Program) (n seed : ℕ) (r : Observed) (c : Course) (keeps : Keeps
 
   -- a load that told its summary, or failed while it did, counts each line once
   pub load_counted : (r.ending ≡ ending.Done) ⊎ (r.ending ≡ ending.WriteFault) → how_many_lines line_aborted c.entries + (how_many_lines line_valued c.entries + how_many_lines is_faulted c.entries) ≡ length (lines r)
-  load_counted ends = counted p r c keeps.explained opening_numbered keeps.ordered.serial keeps.settled (keeps.ended.done ends) (undoubted ends) no_bad_line
+  load_counted ends = counted p r c based keeps.explained opening_numbered keeps.ordered.serial keeps.settled (keeps.ended.done ends) (undoubted ends) no_bad_line

@@ -13,6 +13,7 @@ use Rattle.core_model.specs.CoreState.{Member}
 use Rattle.silo_spec.specs.Moments.{IsAsAtEntry}
 use Rattle.promise_spec.specs.Programs.{Program, IsChecked, shape_in}
 use Rattle.promise_spec.specs.Records.{Commit}
+use Rattle.promise_spec.specs.Entries.{Log, records_of, grown}
 use Rattle.promise_spec.specs.Logs.{IsLog}
 use Rattle.promise_spec.specs.Images.{IsWholeSilo, IsWholeFolder}
 use Rattle.promise_spec.specs.Outputs.{IsProper, Grew}
@@ -23,6 +24,7 @@ use Rattle.promise_spec.specs.Exits.{HasLogAtExit, IsNowhere, AreOf, units_in_do
 use Rattle.promise_spec.specs.Journals.{Settlement, KeepsJournal, AllSay, AllLog, CutAt, IsSealing, commits_of, entries_of}
 use Rattle.promise_spec.specs.Promise.{Promises}
 use Rattle.promise_spec.specs.Replies.{HasNoRecord}
+use Rattle.promise_spec.proofs.Standings.{grown_none, grown_records}
 use Rattle.promise_spec.proofs.Lists.{each_of, in_append, either_in}
 use Rattle.promise_spec.proofs.OneLog.{one_log}
 use Rattle.promise_spec.proofs.Openings.{reads_is_live, log_is_read, reads_is}
@@ -35,13 +37,13 @@ use Rattle.promise_spec.specs.Words.{Manner}
 
 -- ---- the opening
 
-module _ (p : Program) (r : Observed) (c : Course) (mid : World) (b : IsBehind p r c mid) where
-  -- a program for which the folder is whole is the one that it reads as
-  pub same_program : (q : Program) → IsChecked q → IsWholeFolder q r.old → ReadsMayStay r.old → (q ≡ p) × IsLog c.live (shape_in q) (seen_at_entry r) c.opening
-  same_program q checked whole stay =
-      let s : IsWholeSilo c.live q (seen_at_entry r) = whole.whole (seen_at_entry r) stay c.live (reads_is_live (seen_at_entry r) c.live p c.opening b.reads) in
-      let both = reads_is c.live c.live q p s.log c.opening (sym (log_is_read (seen_at_entry r) c.live q s.log checked s.program s.is) ∙ b.reads) in
-      (both.1, subst (IsLog c.live (shape_in q) (seen_at_entry r)) both.2 s.is)
+module _ (p : Program) (r : Observed) (c : Course) (mid : World) (b : IsBehind r c mid) where
+  -- over a whole folder the files have the log that they read as
+  pub read_log : IsWholeFolder r.old → ReadsMayStay r.old → IsLog c.live (seen_at_entry r) c.opening
+  read_log whole stay =
+      let s : IsWholeSilo c.live (seen_at_entry r) = whole.whole (seen_at_entry r) stay c.live (reads_is_live (seen_at_entry r) c.live c.opening b.reads) in
+      let both = reads_is c.live c.live s.log c.opening (sym (log_is_read (seen_at_entry r) c.live s.log s.is) ∙ b.reads) in
+      subst (IsLog c.live (seen_at_entry r)) both.1 s.is
 
   -- the early moments are those of the opening
   early_is : b.untouched.moments.more ≡ c.early
@@ -55,14 +57,14 @@ module _ (p : Program) (r : Observed) (c : Course) (mid : World) (b : IsBehind p
   stays_sound : (image : Image) → IsImage mid.disk image → IsImage r.old.disk image × (image (Manager c.live) ≡ (r.old.disk (Manager c.live)).seen)
   stays_sound image left = (b.untouched.now.images image left, settled_only (seen_at_entry r (Manager c.live)) (image (Manager c.live)) (subst (λ (f : FileState). MayLeave f (image (Manager c.live))) b.settled (left (Manager c.live))))
 
-  -- over a folder that is whole for the program that it reads as
-  pub opens : IsWholeFolder p r.old → ReadsMayStay r.old → ReadsMayStay mid → IsLog c.live (shape_in p) (seen_at_entry r) c.opening → Opens p r c
+  -- over a whole folder whose files have the log
+  pub opens : IsWholeFolder r.old → ReadsMayStay r.old → ReadsMayStay mid → IsLog c.live (seen_at_entry r) c.opening → Opens r c
   opens whole stay stay_mid read =
-      let all : AllLog c.live p c.opening mid.disk = settled_logs c.live p r.old mid.disk c.opening whole stay stays_sound read in
+      let all : AllLog c.live c.opening mid.disk = settled_logs c.live r.old mid.disk c.opening whole stay stays_sound read in
       record {
         folder = whole;
         read = read;
-        opened = subst (λ (m : Moment). AllLog c.live p c.opening m.disk) (sym b.last) all;
+        opened = subst (λ (m : Moment). AllLog c.live c.opening m.disk) (sym b.last) all;
         some = λ file. (mid.disk file).seen;
         possible = subst (λ (m : Moment). IsImage m.disk (λ file. (mid.disk file).seen)) (sym b.last) stay_mid;
         past = b.late ∙ ap (λ (l : List Moment). l ++ c.late) b.early ∙ append_assoc r.old.past c.early c.late;
@@ -70,15 +72,13 @@ module _ (p : Program) (r : Observed) (c : Course) (mid : World) (b : IsBehind p
         before = λ image of. (as_entry of.moment of.member).images image of.left;
       }
 
-  -- and over one that is whole for any checked program
-  pub opens_whole : (q : Program) → IsChecked q → IsWholeFolder q r.old → ReadsMayStay r.old → ReadsMayStay mid → Opens p r c
-  opens_whole q checked whole stay stay_mid =
-      let t = same_program q checked whole stay in
-      opens (subst (λ (x : Program). IsWholeFolder x r.old) t.0 whole) stay stay_mid (subst (λ (x : Program). IsLog c.live (shape_in x) (seen_at_entry r) c.opening) t.0 t.1)
+  -- and over a whole one
+  pub opens_whole : IsWholeFolder r.old → ReadsMayStay r.old → ReadsMayStay mid → Opens r c
+  opens_whole whole stay stay_mid = opens whole stay stay_mid (read_log whole stay)
 
   -- each image behind the opening has the opening log
-  opened_at : Opens p r c → AllLog c.live p c.opening mid.disk
-  opened_at o = subst (λ (m : Moment). AllLog c.live p c.opening m.disk) b.last o.opened
+  opened_at : Opens r c → AllLog c.live c.opening mid.disk
+  opened_at o = subst (λ (m : Moment). AllLog c.live c.opening m.disk) b.last o.opened
 
   -- ---- the moments
 
@@ -97,11 +97,11 @@ module _ (p : Program) (r : Observed) (c : Course) (mid : World) (b : IsBehind p
       late_is = append_cancel_left mid.past passes.more c.late (sym passes.past ∙ b.late)
 
   -- behind the opening each log is the opening log: no batch
-  first_ends : Opens p r c → AllEnd c.live p (core_end p c) c.opening (moment_of mid)
+  first_ends : Opens r c → AllEnd c.live (core_end p c) c.opening (moment_of mid)
   first_ends o image log left is = record {
     batches = 0;
     more = [];
-    split = one_log c.live c.live (shape_in p) image log c.opening is (opened_at o image left) ∙ sym (append-nil c.opening);
+    split = one_log c.live c.live image log c.opening is (opened_at o image left) ∙ sym (grown_none c.opening);
     records = tt;
   }
 
@@ -117,7 +117,7 @@ module _ (p : Program) (r : Observed) (c : Course) (mid : World) (b : IsBehind p
       apart (Manager slot) is same = is (cc same)
       apart (Grain slot grain) is same = absurd (cc same)
 
-  module _ (o : Opens p r c) (said journal : List Settlement) (entries : c.entries ≡ entries_of said) where
+  module _ (o : Opens r c) (said journal : List Settlement) (entries : c.entries ≡ entries_of said) where
     -- what an image keeps was said in the entries
     says_in : (m : Moment) → AllSay c.live p c.opening mid.output said journal m → SaysIn p r c journal m
     says_in m all image left =
@@ -151,11 +151,11 @@ module _ (p : Program) (r : Observed) (c : Course) (mid : World) (b : IsBehind p
 
   -- ---- the end
 
-  module _ (o : Opens p r c) (said unsaid later : List Settlement) (cut : CutAt c.live p c.opening mid said unsaid later c.rest r.new) (entries : c.entries ≡ entries_of said)
+  module _ (o : Opens r c) (said unsaid later : List Settlement) (cut : CutAt c.live p c.opening mid said unsaid later c.rest r.new) (entries : c.entries ≡ entries_of said)
       (proper : AllByRecursion (IsProper (shape_in p)) (entries_of said)) (carries : Carries p r c mid ((said ++ unsaid) ++ later))
-      (last : Image) (left : IsImage r.new.disk last) (has : IsLog c.live (shape_in p) last (order c)) where
-    order_is : order c ≡ c.opening ++ commits_of ((said ++ unsaid) ++ later)
-    order_is = ap (λ (l : List Commit). c.opening ++ l) carries.commits
+      (last : Image) (left : IsImage r.new.disk last) (has : IsLog c.live last (order c)) where
+    order_is : order c ≡ grown c.opening (commits_of ((said ++ unsaid) ++ later))
+    order_is = ap (λ (l : List Commit). grown c.opening l) carries.commits
 
     -- the journal that was kept is what a run has to show of one
     journals : Journals p r c
@@ -164,7 +164,7 @@ module _ (p : Program) (r : Observed) (c : Course) (mid : World) (b : IsBehind p
       commits = carries.commits;
       backs = carries.backs;
       kept = says_all o said ((said ++ unsaid) ++ later) entries cut.moments (cut_says c.live p c.opening mid said unsaid later c.rest r.new proper cut);
-      batches = λ image log of is. gather (AllEnd c.live p (core_end p c) c.opening) (first_ends o) carries.batches carries.batches_now of.moment of.member image log of.left is;
+      batches = λ image log of is. gather (AllEnd c.live (core_end p c) c.opening) (first_ends o) carries.batches carries.batches_now of.moment of.member image log of.left is;
       last = last;
       left = record { moment = moment_of r.new; member = inr (in_append (moment_of r.new) c.late (moment_of r.new ∷ []) (inr (inl refl))); left = left };
       longest = has;
@@ -172,15 +172,15 @@ module _ (p : Program) (r : Observed) (c : Course) (mid : World) (b : IsBehind p
     }
 
     -- an image with all that is in the journal has the whole order
-    whole_order : (image : Image) → IsLog c.live (shape_in p) image (c.opening ++ commits_of ((said ++ unsaid) ++ later)) → HasLogAtExit p c (core_end p c) image
-    whole_order image is = record { log = order c; is = subst (IsLog c.live (shape_in p) image) (sym order_is) is; which = inl refl }
+    whole_order : (image : Image) → IsLog c.live image (grown c.opening (commits_of ((said ++ unsaid) ++ later))) → HasLogAtExit c (core_end p c) image
+    whole_order image is = record { log = order c; is = subst (IsLog c.live image) (sym order_is) is; which = inl refl }
 
     -- a unit that no image has is in no record
-    nowhere : (e : Entry) → IsNowhere c.live p r e.unit → HasNoRecord c e.unit
-    nowhere e none l there = none last (order c) l left has (in_append l c.opening c.added (inr there))
+    nowhere : (e : Entry) → IsNowhere c.live r e.unit → HasNoRecord c e.unit
+    nowhere e none l there = none last (order c) l left has (subst (λ (cs : List Commit). Member l cs) (sym (grown_records c.opening c.added)) (in_append l (records_of c.opening) c.added (inr there)))
 
     -- and what its images hold, where those that lack the last batch are explained
-    lasts : ((image : Image) → IsLog c.live (shape_in p) image (c.opening ++ commits_of (said ++ unsaid)) → HasLogAtExit p c (core_end p c) image) → Lasts p r c
+    lasts : ((image : Image) → IsLog c.live image (grown c.opening (commits_of (said ++ unsaid))) → HasLogAtExit c (core_end p c) image) → Lasts p r c
     lasts short = record {
       opens = o;
       journals = journals;
@@ -193,35 +193,35 @@ module _ (p : Program) (r : Observed) (c : Course) (mid : World) (b : IsBehind p
     }
 
   -- no batch is in doubt, or none that an image may have
-  pub whole_lasts : (said unsaid : List Settlement) → Opens p r c → ReadsMayStay r.new → CutAt c.live p c.opening mid said unsaid [] c.rest r.new → c.entries ≡ entries_of said
+  pub whole_lasts : (said unsaid : List Settlement) → Opens r c → ReadsMayStay r.new → CutAt c.live p c.opening mid said unsaid [] c.rest r.new → c.entries ≡ entries_of said
       → AllByRecursion (IsProper (shape_in p)) (entries_of said) → Carries p r c mid (said ++ unsaid) → Lasts p r c
   whole_lasts said unsaid o stay cut entries proper carries =
       lasts o said unsaid [] cut entries proper (subst (Carries p r c mid) (sym (append-nil (said ++ unsaid))) carries) (λ file. (r.new.disk file).seen) stay (all (λ file. (r.new.disk file).seen) (short (λ file. (r.new.disk file).seen) stay))
       (λ image is. record { log = order c; is = all image is; which = inl refl })
     where
-      short : (image : Image) → IsImage r.new.disk image → IsLog c.live (shape_in p) image (c.opening ++ commits_of (said ++ unsaid))
+      short : (image : Image) → IsImage r.new.disk image → IsLog c.live image (grown c.opening (commits_of (said ++ unsaid)))
       short image left = elim (cut.log image left) [
         | inl was ↦ was
-        | inr is ↦ subst (λ (l : List Settlement). IsLog c.live (shape_in p) image (c.opening ++ commits_of l)) (append-nil (said ++ unsaid)) is
+        | inr is ↦ subst (λ (l : List Settlement). IsLog c.live image (grown c.opening (commits_of l))) (append-nil (said ++ unsaid)) is
       ]
 
-      all : (image : Image) → IsLog c.live (shape_in p) image (c.opening ++ commits_of (said ++ unsaid)) → IsLog c.live (shape_in p) image (order c)
-      all image is = subst (λ (l : List Commit). IsLog c.live (shape_in p) image (c.opening ++ l)) (sym carries.commits) is
+      all : (image : Image) → IsLog c.live image (grown c.opening (commits_of (said ++ unsaid))) → IsLog c.live image (order c)
+      all image is = subst (λ (l : List Commit). IsLog c.live image (grown c.opening l)) (sym carries.commits) is
 
   -- a batch is in doubt, and an image has it
-  pub doubt_lasts : (said unsaid : List Settlement) (batch : Settlement) (last : Image) (begins : ℕ) → Opens p r c → CutAt c.live p c.opening mid said unsaid (batch ∷ []) c.rest r.new → c.entries ≡ entries_of said
-      → AllByRecursion (IsProper (shape_in p)) (entries_of said) → Carries p r c mid ((said ++ unsaid) ++ batch ∷ []) → IsImage r.new.disk last → IsLog c.live (shape_in p) last (order c)
+  pub doubt_lasts : (said unsaid : List Settlement) (batch : Settlement) (last : Image) (begins : ℕ) → Opens r c → CutAt c.live p c.opening mid said unsaid (batch ∷ []) c.rest r.new → c.entries ≡ entries_of said
+      → AllByRecursion (IsProper (shape_in p)) (entries_of said) → Carries p r c mid ((said ++ unsaid) ++ batch ∷ []) → IsImage r.new.disk last → IsLog c.live last (order c)
       → (core_end p c).manager.doubt ≡ Some begins → AreOf (units_in_doubt (core_end p c)) (commits_of (batch ∷ [])) → Lasts p r c
   doubt_lasts said unsaid batch last begins o cut entries proper carries left has doubt units =
       lasts o said unsaid (batch ∷ []) cut entries proper carries last left has
       (λ image is. record {
-        log = c.opening ++ commits_of (said ++ unsaid);
+        log = grown c.opening (commits_of (said ++ unsaid));
         is = is;
         which = inr (record {
           begins = begins;
           doubt = doubt;
           last = commits_of (batch ∷ []);
-          split = ap (λ (l : List Commit). c.opening ++ l) carries.commits ∙ sym (joined_logs c.opening (said ++ unsaid) (batch ∷ []));
+          split = ap (λ (l : List Commit). grown c.opening l) carries.commits ∙ sym (joined_logs c.opening (said ++ unsaid) (batch ∷ []));
           units = units;
         });
       })
@@ -229,25 +229,25 @@ module _ (p : Program) (r : Observed) (c : Course) (mid : World) (b : IsBehind p
 -- ---- the promise
 
 -- what a run answers, and what lasts where its folder was opened so, is the whole promise
-pub carried_promised : (m : Manner) (p : Program) (r : Observed) (c : Course) (mid : World) → ShowsAnywhere p r c → r.manner ≡ m → IsChecked p → IsBehind p r c mid → ReadsMayStay r.old → ReadsMayStay mid
-    → (Opens p r c → Lasts p r c) → Promises m r
-carried_promised m p r c mid answers is checked behind stay stay_mid lasts =
-    answered_promised p r c answers m is checked behind.reads (λ q checked_too whole. lasts (opens_whole p r c mid behind q checked_too whole stay stay_mid))
+pub carried_promised : (m : Manner) (p : Program) (r : Observed) (c : Course) (mid : World) → ShowsAnywhere p r c → r.manner ≡ m → IsBehind r c mid → ReadsMayStay r.old → ReadsMayStay mid
+    → (Opens r c → Lasts p r c) → Promises m r
+carried_promised m p r c mid answers is behind stay stay_mid lasts =
+    answered_promised p r c answers m is behind.reads (λ whole. lasts (opens_whole p r c mid behind whole stay stay_mid))
 
 -- ---- batches at the moments of a step
 
 -- another log of the image is the same, and ends so too
-same_ends : (live : ℕ) (p : Program) (w : core.CoreState) (opening log other : List Commit) (image : Image) → EndsABatch w opening log → IsLog live (shape_in p) image log → IsLog live (shape_in p) image other → EndsABatch w opening other
-same_ends live p w opening log other image ends is is_too = subst (EndsABatch w opening) (one_log live live (shape_in p) image log other is is_too) ends
+same_ends : (live : ℕ) (w : core.CoreState) (opening log other : Log) (image : Image) → EndsABatch w opening log → IsLog live image log → IsLog live image other → EndsABatch w opening other
+same_ends live w opening log other image ends is is_too = subst (EndsABatch w opening) (one_log live live image log other is is_too) ends
 
 -- where each image has one log
-pub logged_ends : (live : ℕ) (p : Program) (w : core.CoreState) (opening log : List Commit) (m : Moment) → AllLog live p log m.disk → EndsABatch w opening log → AllEnd live p w opening m
-logged_ends live p w opening log m all ends image other left is = same_ends live p w opening log other image ends (all image left) is
+pub logged_ends : (live : ℕ) (w : core.CoreState) (opening log : Log) (m : Moment) → AllLog live log m.disk → EndsABatch w opening log → AllEnd live w opening m
+logged_ends live w opening log m all ends image other left is = same_ends live w opening log other image ends (all image left) is
 
 -- while a batch is sealed, by whichever state both logs end so
-pub sealing_ends : (live : ℕ) (p : Program) (w : core.CoreState) (opening before : List Commit) (batch : List Settlement) (mid : World) (m : Moment) → IsSealing live p before batch mid m
-    → EndsABatch w opening before → EndsABatch w opening (before ++ commits_of batch) → AllEnd live p w opening m
-sealing_ends live p w opening before batch mid m s first second image log left is = elim (s.log image left) [
-  | inl was ↦ same_ends live p w opening before log image first was is
-  | inr has ↦ same_ends live p w opening (before ++ commits_of batch) log image second has is
+pub sealing_ends : (live : ℕ) (w : core.CoreState) (opening before : Log) (batch : List Settlement) (mid : World) (m : Moment) → IsSealing live before batch mid m
+    → EndsABatch w opening before → EndsABatch w opening (grown before (commits_of batch)) → AllEnd live w opening m
+sealing_ends live w opening before batch mid m s first second image log left is = elim (s.log image left) [
+  | inl was ↦ same_ends live w opening before log image first was is
+  | inr has ↦ same_ends live w opening (grown before (commits_of batch)) log image second has is
 ]

@@ -1,3 +1,4 @@
+pub mod Bases
 pub mod Journaled
 pub mod Stepping
 pub mod SettledLogs
@@ -5,6 +6,7 @@ pub mod Backing
 pub mod DoubtImages
 pub mod Quiet
 pub mod SoundFolders
+pub mod SamePrograms
 pub mod Legal
 pub mod SerialRecords
 pub mod SerialCauses

@@ -28,24 +28,26 @@ use Rattle.script_holding.specs.Holding.{same_grain}
 use Rattle.script_meaning.proofs.Grains.{is_same_grain, same_grain_is}
 use Rattle.script_meaning.specs.Trails.{answers_of, reads_of, Has, states_of}
 use Rattle.promise_spec.specs.Programs.{Program}
-use Rattle.promise_spec.specs.Records.{Commit, States, new_silo, IsRecordOf}
+use Rattle.promise_spec.specs.Records.{Commit, States, IsRecordOf}
+use Rattle.promise_spec.specs.Entries.{records_of, standing_of}
 use Rattle.promise_spec.specs.Serial.{depth_of, played}
 use Rattle.promise_spec.specs.Lines.{IsLineCall}
 use Rattle.promise_spec.specs.Images.{IsAboveParent, AreNumbered}
 use Rattle.promise_spec.specs.Cores.{HasBegun}
 use Rattle.promise_spec.specs.Family.{is_child, answer_of, AreAnswers, HasGranted, LeadsTo, IsReached, by_line, by_parent, states_after, IsAskedBefore, IsUnitOf, IsFamily}
-use Rattle.promise_spec.specs.Courses.{Observed, Course, order, lines, basis, opening_standing, core_run, core_end}
+use Rattle.promise_spec.specs.Courses.{Observed, Course, order, lines, basis, core_run, core_end}
 use Rattle.promise_spec.specs.Explained.{AreAdded, IsExplained}
 use Rattle.promise_spec.proofs.Lists.{head_of, tail_of, none_is, none_at, some_is}
 use Rattle.promise_laws.specs.Legality.{is_play, applied_run}
 use Rattle.promise_laws.proofs.Legal.{ends_alike, legal}
-use Rattle.promise_laws.proofs.SerialRecords.{above_records}
+use Rattle.promise_laws.proofs.SerialRecords.{above_entries}
 use Rattle.promise_laws.proofs.AskedFor.{asks_child}
 use Rattle.promise_laws.proofs.Handed.{outcome-at}
 use Rattle.promise_laws.specs.Handed.{found}
 use Rattle.promise_laws.proofs.Told.{HasOutcome, Led, Known}
 use Rattle.promise_laws.proofs.ToldRuns.{known-ends}
 use Rattle.promise_laws.proofs.Added.{AreSerialOf, added-of, record-unit, unit-record, one-record, StandsAfter, stands-after, reads-stand}
+use Rattle.promise_spec.proofs.Standings.{grown_records}
 use Rattle.promise_laws.proofs.TrueReplies.{below-next}
 
 -- What is known at the end of a run: why its units began, the core's laws of children, lines and reads, the units whose
@@ -355,24 +357,25 @@ above-parent first (l ∷ log) c parent index depth numbered (inl q) e =
 above-parent first (l ∷ log) c parent index depth numbered (inr m) e = above-parent first log c parent index depth numbered.3 m e
 
 -- what the causes clause explains is a family
-pub explained_family : (p : Program) (r : Observed) (c : Course) → IsExplained p r c → AreNumbered (new_silo p.types).next c.opening →
-    IsFamily p.types (lines r) (core_end p c) (opening_standing p c).states (order c) c.added
-explained_family p r c is numbered =
-    let above : 0 < (core_run p c).base = above_records (new_silo p.types) c.opening (omega arith) in
+pub explained_family : (p : Program) (r : Observed) (c : Course) → 0 < c.opening.base.next → IsExplained p r c → AreNumbered c.opening.base.next (records_of c.opening) →
+    IsFamily p.types (lines r) (core_end p c) (standing_of c.opening).states (records_of (order c)) c.added
+explained_family p r c based is numbered =
+    let above : 0 < (core_run p c).base = above_entries c.opening.base c.opening.entries based in
     let run : Run = applied_run (core_run p c) in
     let lawful : IsLegal (is_play p.types) run = legal (basis p r c) (core_run p c) above is.units in
     let same : ends run ≡ core_end p c = ends_alike (core_run p c) in
-    family p.types (lines r) (core_end p c) (opening_standing p c).states c.opening c.added (record {
+    subst (λ (order : List Commit). IsFamily p.types (lines r) (core_end p c) (standing_of c.opening).states order c.added) (sym (grown_records c.opening c.added))
+    (family p.types (lines r) (core_end p c) (standing_of c.opening).states (records_of c.opening) c.added (record {
       base = (core_run p c).base;
       known = known-ends (basis p r c) (core_run p c) above is.units;
       children = subst ChildrenAreKnown same (children-ends (is_play p.types) run lawful);
       answers = subst (λ (w : CoreState). AnswersAreOutcomes w) same (answers-ends (is_play p.types) run lawful);
       lines = subst EntriesAreOnce same (once-ends (is_play p.types) run lawful);
       holders = subst HoldersHaveRead same (holders-ends (is_play p.types) run lawful);
-      units = subst (λ (w : CoreState). AreSerialOf p.types (opening_standing p c).states w c.added) same
+      units = subst (λ (w : CoreState). AreSerialOf p.types (standing_of c.opening).states w c.added) same
           (added-of p.types run c.added lawful (subst (λ (w : CoreState). AreAdded w c.added) (sym same) is.records));
       below = λ d parent index depth m e.
-          (let one : parent.0 < d.logged.unit.0 = above-parent (new_silo p.types).next c.opening d parent index depth numbered m e in
-          let two : d.logged.unit.0 < (opening_standing p c).next = below-next (new_silo p.types) c.opening d m in
+          (let one : parent.0 < d.logged.unit.0 = above-parent c.opening.base.next (records_of c.opening) d parent index depth numbered m e in
+          let two : d.logged.unit.0 < (standing_of c.opening).next = below-next c.opening.base c.opening.entries d m in
           omega (arith, one, two));
-    })
+    }))

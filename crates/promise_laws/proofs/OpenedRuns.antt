@@ -5,23 +5,23 @@ use Rattle.base_types.specs.declared.entries.Entry.{Entry}
 use Rattle.core_model.specs.declared.events.CoreEvent.{CoreEvent}
 use Rattle.core_model.specs.Legal.{ends}
 use Rattle.core_model.specs.CoreState.{Member}
-use Rattle.promise_spec.specs.Programs.{Program, IsChecked, shape_in}
+use Rattle.promise_spec.specs.Programs.{Program, shape_in}
 use Rattle.promise_spec.specs.Images.{IsWholeFolder}
 use Rattle.promise_spec.specs.Outputs.{Grew, reply_lines}
 use Rattle.promise_spec.specs.Openings.{Reads, opened_as}
 use Rattle.promise_spec.specs.Endings as ending
 use Rattle.promise_spec.specs.Cores.{core_from}
-use Rattle.promise_spec.specs.Courses.{Observed, Course, seen_at_entry, opening_standing, core_end}
+use Rattle.promise_spec.specs.Courses.{Observed, Course, seen_at_entry, program_in_force, core_end}
+use Rattle.promise_spec.specs.Entries.{standing_of}
 use Rattle.promise_spec.specs.Words.{Manner}
 use Rattle.promise_spec.specs.Promise.{Keeps, KeepsAnywhere, Promises}
 use Rattle.promise_spec.proofs.Lists.{in_append}
-use Rattle.promise_spec.proofs.Openings.{one_program}
-use Rattle.host_trait.specs.declared.channels.FileId.TheVariants.{Program as ProgramFile}
 use Rattle.promise_laws.specs.Answered.{HasAnswered, HasOpened}
 use Rattle.promise_laws.specs.Obligations.{ShowsAnywhere, Lasts, Shows}
+use Rattle.promise_laws.proofs.Bases.{reads_above}
 use Rattle.promise_laws.proofs.OneFamily.{explained_family}
 use Rattle.promise_laws.proofs.TrueReplies.{replies_within, replies_once, replies_true, replies_ordered}
-use Rattle.promise_laws.proofs.ShownRuns.{explained, at_entry, ended_anywhere, answers_of, shown}
+use Rattle.promise_laws.proofs.ShownRuns.{explained, ended_anywhere, answers_of, shown}
 
 -- a list without a member is empty
 no_member : {A : Type 0} (xs : List A) → ((x : A) → Member x xs → ⊥) → xs ≡ []
@@ -42,7 +42,7 @@ module _ (p : Program) (r : Observed) (c : Course) (k : KeepsAnywhere p r c) whe
   -- and no entries
   unbegun_entry : (e : Entry) → (ending.IsBegun r.ending → ⊥) → Member e c.entries → ⊥
   unbegun_entry e never there =
-      let settled_is : (core_end p c).manager.settled ≡ [] = ap (λ (events : List CoreEvent). (ends (core_from p.types (opening_standing p c) events)).manager.settled) (no_events never) in
+      let settled_is : (core_end p c).manager.settled ≡ [] = ap (λ (events : List CoreEvent). (ends (core_from p.types (standing_of c.opening) events)).manager.settled) (no_events never) in
       subst (λ (x : List Entry). Member e x) settled_is (in_core e there)
 
   -- one that is done has answered each line
@@ -69,63 +69,51 @@ module _ (p : Program) (r : Observed) (c : Course) (k : KeepsAnywhere p r c) whe
       ∙ ap (λ (rest : List ℕ). r.old.output ++ rest) whole
       ∙ append-nil r.old.output
 
-  pub anywhere_opened : HasOpened r
-  anywhere_opened = record {
-    openable = record { live = c.live; program = p; log = c.opening; reads = k.reads };
-    carried = k.ended.carried;
-    risen = k.ended.risen;
-    file = λ f is. (k.explained.doubted f is).0;
-    long = k.ended.long;
-    done = has_answered;
-    unbegun = nothing_said;
-  }
+-- a run that keeps this much of the program in force opened its folder
+pub anywhere_opened : (r : Observed) (c : Course) → KeepsAnywhere (program_in_force c) r c → HasOpened r
+anywhere_opened r c k = record {
+  openable = record { live = c.live; log = c.opening; reads = k.reads };
+  carried = k.ended.carried;
+  risen = k.ended.risen;
+  file = λ f is. (k.explained.doubted f is).0;
+  long = k.ended.long;
+  done = has_answered (program_in_force c) r c k;
+  unbegun = nothing_said (program_in_force c) r c k;
+}
 
 -- ---- what it shows
 
 module _ (p : Program) (r : Observed) (c : Course) (a : ShowsAnywhere p r c) where
   -- what it shows is what it keeps over any folder
-  pub shown_anywhere : opened_as (seen_at_entry r) ≡ Reads c.live p c.opening → KeepsAnywhere p r c
+  pub shown_anywhere : opened_as (seen_at_entry r) ≡ Reads c.live c.opening → KeepsAnywhere p r c
   shown_anywhere reads =
-      let is = explained p r c a.explains in
+      let based = reads_above c.live (seen_at_entry r) c.opening reads in
+      let is = explained p r c based a.explains in
       record {
+        in_force = a.in_force;
         reads = reads;
         output = a.output;
         whole = a.whole;
-        within = replies_within p r c is a.settled.entries;
-        once = replies_once p r c is a.settled.entries;
-        in_order = replies_ordered p r c is a.settled.entries;
+        within = replies_within p r c based is a.settled.entries;
+        once = replies_once p r c based is a.settled.entries;
+        in_order = replies_ordered p r c based is a.settled.entries;
         settled = a.settled;
         explained = is;
-        ended = ended_anywhere p r c a;
-        true_each = λ numbered. replies_true p r c is numbered a.settled.entries;
-        family = λ numbered. explained_family p r c is numbered;
+        ended = ended_anywhere p r c based a;
+        true_each = λ numbered. replies_true p r c based is numbered a.settled.entries;
+        family = λ numbered. explained_family p r c based is numbered;
       }
 
   -- with what lasts, it shows what has to be shown
   with_images : Lasts p r c → Shows p r c
-  with_images l = record { opens = l.opens; explains = a.explains; settled = a.settled; output = a.output; whole = a.whole; journals = l.journals; leaves = l.leaves; ends = a.ends }
-
-  -- the folder is whole for one checked program alone
-  one_whole : IsChecked p → (q : Program) → IsChecked q → IsWholeFolder q r.old → Lasts p r c → p ≡ q
-  one_whole checked q checked_too folder l =
-      let o = l.opens in
-      let left = at_entry p r c o o.some o.possible in
-      let silo = (o.opened o.some o.possible).is_live in
-      one_program (o.some (ProgramFile c.live)) p q checked checked_too (o.folder.whole o.some left c.live silo).program (folder.whole o.some left c.live silo).program
-
-  -- so it keeps all clauses for such a program
-  pub kept_over : IsChecked p → ((q : Program) → IsChecked q → IsWholeFolder q r.old → Lasts p r c) → (q : Program) → IsChecked q → IsWholeFolder q r.old → Keeps q r c
-  kept_over checked lasts q checked_too folder =
-      let l = lasts q checked_too folder in
-      subst (λ (x : Program). Keeps x r c) (one_whole checked q checked_too folder l) (shown p r c (with_images l))
+  with_images l = record { in_force = a.in_force; opens = l.opens; explains = a.explains; settled = a.settled; output = a.output; whole = a.whole; journals = l.journals; leaves = l.leaves; ends = a.ends }
 
   -- and the whole promise
-  pub answered_promised : (m : Manner) → r.manner ≡ m → IsChecked p → opened_as (seen_at_entry r) ≡ Reads c.live p c.opening
-      → ((q : Program) → IsChecked q → IsWholeFolder q r.old → Lasts p r c) → Promises m r
-  answered_promised m is checked reads lasts = record {
+  pub answered_promised : (m : Manner) → r.manner ≡ m → opened_as (seen_at_entry r) ≡ Reads c.live c.opening → (IsWholeFolder r.old → Lasts p r c) → Promises m r
+  answered_promised m is reads lasts = record {
     manner = is;
-    answers = inr (p, (c, shown_anywhere reads));
-    over_whole = λ q checked_too folder. inr (c, kept_over checked lasts q checked_too folder);
+    answers = inr (c, subst (λ (q : Program). KeepsAnywhere q r c) (sym a.in_force) (shown_anywhere reads));
+    over_whole = λ folder. inr (c, subst (λ (q : Program). Keeps q r c) (sym a.in_force) (shown p r c (with_images (lasts folder))));
   }
 
 -- what a run shows is both

@@ -5,6 +5,7 @@ use Rattle.core_model.specs.CoreState.{Member, CoreState}
 use Rattle.host_trait.specs.World.{Disk, Moment, Image, IsImage, moment_of, last_of}
 use Rattle.promise_spec.specs.Programs.{Program, shape_in}
 use Rattle.promise_spec.specs.Records.{Commit}
+use Rattle.promise_spec.specs.Entries.{Log}
 use Rattle.promise_spec.specs.Logs.{IsLog}
 use Rattle.promise_spec.specs.Causes.{syncs_of}
 use Rattle.promise_spec.specs.Moments.{IsImageOf}
@@ -134,25 +135,26 @@ module _ (p : Program) (r s : Observed) (c : Course) (told : List Moment) (told_
 
   ordered : IsOrdered p r c → IsOrdered p (alike r s) (quiet_course r c told)
   ordered k = record {
+    in_force = k.in_force;
     read = k.read;
     opened = λ image is. let o = k.opened image is in record { entry = o.entry; log = o.log };
     longest = record {
       image = k.longest.image;
       left = of_load k.longest.image k.longest.left;
       log = k.longest.log;
-      longest = λ other is. k.longest.longest other (of_run other is);
+      longest = λ other log is. k.longest.longest other log (of_run other is);
     };
     serial = k.serial;
   }
 
-  crashes : (alike r s).new.past ≡ s.old.past ++ (c.early ++ (map (quieted r.old.output) c.late ++ told)) → SurvivesCrashes p r c → SurvivesCrashes p (alike r s) (quiet_course r c told)
+  crashes : (alike r s).new.past ≡ s.old.past ++ (c.early ++ (map (quieted r.old.output) c.late ++ told)) → SurvivesCrashes r c → SurvivesCrashes (alike r s) (quiet_course r c told)
   crashes past k = record {
     past = past;
     quiet = k.quiet;
     before = k.before;
     chain = λ one other is_one is_other. k.chain one other (of_run one is_one) (of_run other is_other);
     whole = λ image is. k.whole image (of_run image is);
-    keeps = λ image is. let o = k.keeps image (of_run image is) in record { log = o.log; is = o.is; longer = o.longer };
+    keeps = λ image is. let o = k.keeps image (of_run image is) in record { more = o.more; is = o.is; front = o.front };
     alone = λ m there.
         let h = to_run m there in
         let o = k.alone h.moment h.member in
@@ -162,7 +164,7 @@ module _ (p : Program) (r s : Observed) (c : Course) (told : List Moment) (told_
         };
   }
 
-  sound : (IsSoundFolder p r.old → StaySound p r c) → IsSoundFolder p (alike r s).old → StaySound p (alike r s) (quiet_course r c told)
+  sound : (IsSoundFolder r.old → StaySound r c) → IsSoundFolder (alike r s).old → StaySound (alike r s) (quiet_course r c told)
   sound k folder image is = k (record { chain = folder.chain; sound = folder.sound }) image (of_run image is)
 
   records : ComeOfEvents p r c → ComeOfEvents p (alike r s) (quiet_course r c told)
@@ -185,7 +187,7 @@ module _ (p : Program) (r s : Observed) (c : Course) (told : List Moment) (told_
     nowhere = k.nowhere;
     block = λ doubted.
         let o = k.block doubted in
-        record { gate = o.gate; batch = o.batch; batches = o.batches; records = o.records; log = o.log; front = o.front; block = o.block; differ = o.differ };
+        record { gate = o.gate; batch = o.batch; before = o.before; bodies = o.bodies; records = o.records; log = o.log; front = o.front; block = o.block; differ = o.differ };
     behind = k.behind;
   }
 
@@ -202,16 +204,16 @@ module _ (p : Program) (r s : Observed) (c : Course) (told : List Moment) (told_
   }
 
   -- where the run is done, each image that it left has the whole order
-  whole_order : Keeps p r c → r.ending ≡ Done → (image : Image) → IsImage r.new.disk image → IsLog c.live (shape_in p) image (order c)
+  whole_order : Keeps p r c → r.ending ≡ Done → (image : Image) → IsImage r.new.disk image → IsLog c.live image (order c)
   whole_order k done image left =
       let o = k.exit.logs image left in
       elim o.which [
-        | inl whole ↦ subst (λ (l : List Commit). IsLog c.live (shape_in p) image l) whole o.is
+        | inl whole ↦ subst (λ (l : Log). IsLog c.live image l) whole o.is
         | inr lack ↦ absurd (subst EndingMayDoubt done (k.explained.doubt_ends (doubt_left (core_run p c) lack.begins lack.doubt)))
       ]
 
   -- a moment of the load has written nothing, or has the disk that the run left
-  unsaid_or_left : SurvivesCrashes p r c → (m : Moment) → Member m (moments (alike r s) (quiet_course r c told)) → (m.output ≡ r.old.output) ⊎ (m.disk ≡ r.new.disk)
+  unsaid_or_left : SurvivesCrashes r c → (m : Moment) → Member m (moments (alike r s) (quiet_course r c told)) → (m.output ≡ r.old.output) ⊎ (m.disk ≡ r.new.disk)
   unsaid_or_left k m (inl here) = inl (ap (λ (n : Moment). n.output) here ∙ last_quiet r.old.output (moment_of r.old) c.early refl k.quiet)
   unsaid_or_left k m (inr there) =
       let late : List Moment = map (quieted r.old.output) c.late in
@@ -223,7 +225,7 @@ module _ (p : Program) (r s : Observed) (c : Course) (told : List Moment) (told_
         | inr x ↦ inr (elim x [ inl here ↦ ap (λ (n : Moment). n.disk) here | inr none ↦ absurd none ])
       ]
 
-  lasting : Keeps p r c → r.ending ≡ Done → (m : Moment) (image : Image) → Member m (moments (alike r s) (quiet_course r c told)) → IsImage m.disk image → m.output ≢ r.old.output → IsLog c.live (shape_in p) image (order c)
+  lasting : Keeps p r c → r.ending ≡ Done → (m : Moment) (image : Image) → Member m (moments (alike r s) (quiet_course r c told)) → IsImage m.disk image → m.output ≢ r.old.output → IsLog c.live image (order c)
   lasting k done m image there left said = elim (unsaid_or_left k.headline.crashes m there) [
     | inl quiet ↦ absurd (said quiet)
     | inr same ↦ whole_order k done image (subst (λ d. IsImage d image) same left)
@@ -252,7 +254,7 @@ module _ (p : Program) (r s : Observed) (c : Course) (told : List Moment) (told_
   }
 
   -- the load with what the run shows keeps what is promised of a load
-  alike_keeps : (n seed : ℕ) → Keeps p r c → r.ending ≡ Done → AskFor p.types (lines r) (load_calls n seed) → IsQuietRun r c (summary_text p r c) told s → KeepsLoad p n seed (alike r s) (quiet_course r c told)
+  alike_keeps : (n seed : ℕ) → Keeps p r c → r.ending ≡ Done → AskFor p.types (lines r) (load_calls n seed) → IsQuietRun r c (summary_text r c) told s → KeepsLoad p n seed (alike r s) (quiet_course r c told)
   alike_keeps n seed k done asked q = record {
     asked = asked;
     ordered = ordered k.headline.ordered;
@@ -262,12 +264,12 @@ module _ (p : Program) (r s : Observed) (c : Course) (told : List Moment) (told_
     exit = exit k.exit;
     settled = k.settled.all (inl (subst IsAllWritten (sym done) tt));
     explained = explained k.explained;
-    output = prints (summary_text p r c) done (q.output ∙ ap (λ (o : List ℕ). o ++ summary_text p r c) q.output_before);
+    output = prints (summary_text r c) done (q.output ∙ ap (λ (o : List ℕ). o ++ summary_text r c) q.output_before);
     lasting = lasting k done;
     silent = λ undone. absurd (undone done);
     ended = ended k done q.unread q.syncs_before q.syncs_after;
   }
 
 -- a load that follows a run keeps what is promised of a load
-pub follows : (p : Program) (n seed : ℕ) (r s : Observed) (c : Course) (told : List Moment) → Keeps p r c → r.ending ≡ Done → AskFor p.types (lines r) (load_calls n seed) → IsQuietRun r c (summary_text p r c) told s → KeepsLoad p n seed s (quiet_course r c told)
-follows p n seed r s c told k done asked q = subst (λ (t : Observed). KeepsLoad p n seed t (quiet_course r c told)) (sym (same_load r c (summary_text p r c) told s q)) (alike_keeps p r s c told q.left n seed k done asked q)
+pub follows : (p : Program) (n seed : ℕ) (r s : Observed) (c : Course) (told : List Moment) → Keeps p r c → r.ending ≡ Done → AskFor p.types (lines r) (load_calls n seed) → IsQuietRun r c (summary_text r c) told s → KeepsLoad p n seed s (quiet_course r c told)
+follows p n seed r s c told k done asked q = subst (λ (t : Observed). KeepsLoad p n seed t (quiet_course r c told)) (sym (same_load r c (summary_text r c) told s q)) (alike_keeps p r s c told q.left n seed k done asked q)

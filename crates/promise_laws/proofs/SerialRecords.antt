@@ -20,10 +20,11 @@ use Rattle.script_meaning.specs.Trails.{Has, states_of}
 use Rattle.script_meaning.proofs.Lists.{pairs_first, pairs_rest}
 use Rattle.script_meaning.proofs.Plays.{play_rests_on_reads_lem, plays_are_orderly_lem}
 use Rattle.promise_spec.specs.Programs.{Program}
-use Rattle.promise_spec.specs.Records.{Commit, States, Standing, put_state, after_writes, new_silo, after_record, after_records, IsRecordOf, AreRecordsOf}
+use Rattle.promise_spec.specs.Records.{Commit, States, put_state, after_writes, IsRecordOf, AreRecordsOf}
+use Rattle.promise_spec.specs.Entries.{LogEntry, Recorded, Standing, after_entry, after_entries, standing_of}
 use Rattle.promise_spec.specs.Serial.{IsSerial, Replays, depth_of, played}
 use Rattle.promise_spec.specs.UnitRule.{played_by, IsPlayOf}
-use Rattle.promise_spec.specs.Courses.{Observed, Course, basis, opening_standing, core_run, core_end}
+use Rattle.promise_spec.specs.Courses.{Observed, Course, basis, core_run, core_end}
 use Rattle.promise_spec.specs.Explained.{IsExplained}
 use Rattle.promise_laws.specs.Legality.{is_play, applied_run}
 use Rattle.promise_laws.proofs.Legal.{is_play-true, ends_alike, legal}
@@ -116,20 +117,20 @@ serial_records types store states (e ∷ es) (l ∷ log) same serial are =
     )
 
 -- the next number is above 0
-pub above_records : (before : Standing) (log : List Commit) → 0 < before.next → 0 < (after_records before log).next
-above_records before [] above = above
-above_records before (l ∷ log) above = above_records (after_record before l) log (omega (arith, above))
+pub above_entries : (before : Standing) (entries : List LogEntry) → 0 < before.next → 0 < (after_entries before entries).next
+above_entries before [] above = above
+above_entries before (Recorded c ∷ entries) above = above_entries (after_entry before (Recorded c)) entries (omega (arith, above))
 
-pub explained_serial : (p : Program) (r : Observed) (c : Course) → IsExplained p r c → IsSerial p.types (opening_standing p c).states c.added
-explained_serial p r c is =
+pub explained_serial : (p : Program) (r : Observed) (c : Course) → 0 < c.opening.base.next → IsExplained p r c → IsSerial p.types (standing_of c.opening).states c.added
+explained_serial p r c based is =
     let run : Run = applied_run (core_run p c) in
-    let lawful : IsLegal (is_play p.types) run = legal (basis p r c) (core_run p c) (above_records (new_silo p.types) c.opening (omega arith)) is.units in
+    let lawful : IsLegal (is_play p.types) run = legal (basis p r c) (core_run p c) (above_entries c.opening.base c.opening.entries based) is.units in
     let same : ends run ≡ core_end p c = ends_alike (core_run p c) in
     elim is.records [
       | inl all ↦
-          serial_records p.types (opening_standing p c).states (opening_standing p c).states (model.committed (core_end p c)) c.added (λ g. refl)
-          (subst (λ w. model.IsSerialOrder (is_play p.types) (opening_standing p c).states (model.committed w)) same (serial-ends (is_play p.types) run lawful)) all
+          serial_records p.types (standing_of c.opening).states (standing_of c.opening).states (model.committed (core_end p c)) c.added (λ g. refl)
+          (subst (λ w. model.IsSerialOrder (is_play p.types) (standing_of c.opening).states (model.committed w)) same (serial-ends (is_play p.types) run lawful)) all
       | inr more ↦
-          serial_records p.types (opening_standing p c).states (opening_standing p c).states (model.committed (core_end p c) ++ model.chosen (core_end p c)) c.added (λ g. refl)
-          (subst (λ w. model.IsSerialOrder (is_play p.types) (opening_standing p c).states (model.committed w ++ model.chosen w)) same (serial-chosen-ends (is_play p.types) run lawful)) more.records
+          serial_records p.types (standing_of c.opening).states (standing_of c.opening).states (model.committed (core_end p c) ++ model.chosen (core_end p c)) c.added (λ g. refl)
+          (subst (λ w. model.IsSerialOrder (is_play p.types) (standing_of c.opening).states (model.committed w ++ model.chosen w)) same (serial-chosen-ends (is_play p.types) run lawful)) more.records
     ]

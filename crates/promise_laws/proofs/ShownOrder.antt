@@ -10,23 +10,29 @@ use Rattle.core_laws.proofs.Lined.{Rises}
 use Rattle.cell_model.proofs.Units.{filter-member}
 use Rattle.script_tree.specs.Programs.{ProgramTree}
 use Rattle.promise_spec.specs.Programs.{Program}
-use Rattle.promise_spec.specs.Records.{Commit, Standing, new_silo, after_record, after_records, AreRecordsOf}
-use Rattle.promise_spec.specs.Serial.{IsSerial}
+use Rattle.promise_spec.specs.Records.{Commit, AreRecordsOf}
+use Rattle.promise_spec.specs.Entries as entry
+use Rattle.promise_spec.specs.Entries.{LogEntry, Standing, after_entry, after_entries, records_of, standing_of}
+use Rattle.promise_spec.specs.Serial.{IsSerial, IsSerialFrom}
 use Rattle.promise_spec.specs.Images.{IsAboveParent, AreNumbered}
-use Rattle.promise_spec.specs.Courses.{Observed, Course, lines, order, opening_standing, core_end}
+use Rattle.promise_spec.specs.Courses.{Observed, Course, lines, order, program_in_force, core_end}
 use Rattle.promise_spec.specs.Explained.{IsExplained}
+use Rattle.promise_spec.proofs.Standings.{serial_from, grown_records}
 use Rattle.promise_spec.proofs.Lists.{all_of, both_parts}
 use Rattle.promise_laws.proofs.SerialRecords.{explained_serial}
 use Rattle.promise_laws.proofs.TrueReplies.{Known, known_of, Recorded, recorded, chosen_by, unit_of, order-finished, next-grows, below-next, rises-filter, order-rises}
 
--- records that are serial from where others, which are serial, lead
-serial_after : (types : ProgramTree) (before : Standing) (log more : List Commit) → IsSerial types before.states log → IsSerial types (after_records before log).states more → IsSerial types before.states (log ++ more)
-serial_after types before [] more first later = later
-serial_after types before (c ∷ log) more first later = (first.0, serial_after types (after_record before c) log more first.1 later)
+-- records that are serial from where entries, which are serial, lead
+serial_after : (before : Standing) (entries : List LogEntry) (more : List Commit) → IsSerialFrom before entries → IsSerialFrom (after_entries before entries) (map entry.Recorded more) → IsSerialFrom before (entries ++ map entry.Recorded more)
+serial_after before [] more first later = later
+serial_after before (entry.Recorded c ∷ entries) more first later = (first.0, serial_after (after_entry before (entry.Recorded c)) entries more first.1 later)
 
 -- the order is serial where the opening log is
-pub order_serial : (p : Program) (r : Observed) (c : Course) → IsExplained p r c → IsSerial p.types (new_silo p.types).states c.opening → IsSerial p.types (new_silo p.types).states (order c)
-order_serial p r c is first = serial_after p.types (new_silo p.types) c.opening c.added first (explained_serial p r c is)
+pub order_serial : (p : Program) (r : Observed) (c : Course) → program_in_force c ≡ p → 0 < c.opening.base.next → IsExplained p r c → IsSerialFrom c.opening.base c.opening.entries → IsSerialFrom (order c).base (order c).entries
+order_serial p r c same based is first =
+    let added : IsSerial (standing_of c.opening).program.types (standing_of c.opening).states c.added =
+    subst (λ (q : Program). IsSerial q.types (standing_of c.opening).states c.added) (sym same) (explained_serial p r c based is) in
+    serial_after c.opening.base c.opening.entries c.added first ((serial_from (standing_of c.opening) c.added).1 added)
 
 -- numbered records behind numbered ones with lower numbers
 numbered_after : (first next : ℕ) (log more : List Commit) → first ≤ next → AreNumbered first log → ((l : Commit) → Member l log → l.logged.unit.0 < next) → AreNumbered next more → AreNumbered first (log ++ more)
@@ -79,12 +85,12 @@ unit_above types ls opening base w known u born =
     known.kids.younger p u (subst (λ x. Member x (w.units.kids p)) t.1 (Member-get (w.units.kids p) i t.0))))
 
 -- the added records are numbered from where the opening log ends
-added_numbered : (p : Program) (r : Observed) (c : Course) → IsExplained p r c → AreNumbered (opening_standing p c).next c.added
-added_numbered p r c is =
+added_numbered : (p : Program) (r : Observed) (c : Course) → 0 < c.opening.base.next → IsExplained p r c → AreNumbered (standing_of c.opening).next c.added
+added_numbered p r c based is =
     let w : CoreState = core_end p c in
-    let opening : GrainId → List Value = (opening_standing p c).states in
-    let base : ℕ = (opening_standing p c).next in
-    let k : Known p.types (lines r) opening base w = known_of p r c is in
+    let opening : GrainId → List Value = (standing_of c.opening).states in
+    let base : ℕ = (standing_of c.opening).next in
+    let k : Known p.types (lines r) opening base w = known_of p r c based is in
     let are : Recorded w c.added = recorded opening w c.added k.kept k.split is.records in
     let done : (u : UnitNo) → Member u (chosen_by are.test w) → w.units.phase u ≡ Unborn → ⊥ = λ u m z.
     (let f = order-finished opening w k.kept u (filter-member (λ x. are.test (w.manager.verdict x)) w.manager.order u m).0 in let y : Unborn ≡ Finished = sym z ∙ f in cc) in
@@ -94,7 +100,8 @@ added_numbered p r c is =
     are.records
 
 -- the order is numbered where the opening log is
-pub order_numbered : (p : Program) (r : Observed) (c : Course) → IsExplained p r c → AreNumbered (new_silo p.types).next c.opening → AreNumbered (new_silo p.types).next (order c)
-order_numbered p r c is first =
-    numbered_after (new_silo p.types).next (opening_standing p c).next c.opening c.added (next-grows (new_silo p.types) c.opening) first
-    (λ l m. below-next (new_silo p.types) c.opening l m) (added_numbered p r c is)
+pub order_numbered : (p : Program) (r : Observed) (c : Course) → 0 < c.opening.base.next → IsExplained p r c → AreNumbered c.opening.base.next (records_of c.opening) → AreNumbered c.opening.base.next (records_of (order c))
+order_numbered p r c based is first =
+    subst (AreNumbered c.opening.base.next) (sym (grown_records c.opening c.added))
+    (numbered_after c.opening.base.next (standing_of c.opening).next (records_of c.opening) c.added (next-grows c.opening.base c.opening.entries) first
+    (λ l m. below-next c.opening.base c.opening.entries l m) (added_numbered p r c based is))

@@ -16,9 +16,11 @@ use Rattle.request_wire.proofs.Cuts.{slice_split-cons, keeps_first}
 use Rattle.request_wire.proofs.OneLine.{reply_line-first}
 use Rattle.promise_spec.specs.Programs.{Program, shape_in}
 use Rattle.promise_spec.specs.Records.{Commit}
+use Rattle.promise_spec.specs.Entries.{Log, grown}
 use Rattle.promise_spec.specs.Logs.{IsLog, IsPrefix}
 use Rattle.promise_spec.specs.Outputs.{IsProper, reply_lines}
 use Rattle.promise_spec.specs.Journals.{Settlement, KeepsJournal, AllSay, AllLog, JournalAt, DoubtAt, CutAt, IsSealing, Seals, Doubts, commits_of, entries_of}
+use Rattle.promise_spec.proofs.Standings.{grown_none, grown_twice}
 use Rattle.promise_spec.proofs.Lists.{head_of, parts_of}
 use Rattle.promise_laws.proofs.Journaled.{commits_of-append}
 
@@ -107,14 +109,14 @@ cut-no_feed shape e n low =
 -- ---- journals and logs
 
 -- a batch behind a log
-pub joined_logs : (opening : List Commit) (j batch : List Settlement) → (opening ++ commits_of j) ++ commits_of batch ≡ opening ++ commits_of (j ++ batch)
-joined_logs opening j batch = append_assoc opening (commits_of j) (commits_of batch) ∙ ap (λ (l : List Commit). opening ++ l) (sym (commits_of-append j batch))
+pub joined_logs : (opening : Log) (j batch : List Settlement) → grown (grown opening (commits_of j)) (commits_of batch) ≡ grown opening (commits_of (j ++ batch))
+joined_logs opening j batch = grown_twice opening (commits_of j) (commits_of batch) ∙ ap (λ (l : List Commit). grown opening l) (sym (commits_of-append j batch))
 
 -- settlements without records leave the log
-pub same_log : (opening : List Commit) (j more : List Settlement) → commits_of more ≡ [] → opening ++ commits_of (j ++ more) ≡ opening ++ commits_of j
-same_log opening j more none = ap (λ (l : List Commit). opening ++ l) (commits_of-append j more ∙ ap (λ (l : List Commit). commits_of j ++ l) none ∙ append-nil (commits_of j))
+pub same_log : (opening : Log) (j more : List Settlement) → commits_of more ≡ [] → grown opening (commits_of (j ++ more)) ≡ grown opening (commits_of j)
+same_log opening j more none = ap (λ (l : List Commit). grown opening l) (commits_of-append j more ∙ ap (λ (l : List Commit). commits_of j ++ l) none ∙ append-nil (commits_of j))
 
-module _ (live : ℕ) (p : Program) (opening : List Commit) where
+module _ (live : ℕ) (p : Program) (opening : Log) where
   -- what an image keeps of a journal, and how much was said
   abbrev Says : List ℕ → List Settlement → List Settlement → Moment → Image → Type 0
   Says before said journal m image = (k : KeepsJournal live p opening before journal m image) × IsPrefix k.said said
@@ -122,7 +124,7 @@ module _ (live : ℕ) (p : Program) (opening : List Commit) where
   -- an image that has what is settled
   here : (before : List ℕ) (said unsaid later : List Settlement) (rest : List ℕ) (m : Moment) (image : Image)
       → m.output ≡ before ++ (reply_lines (shape_in p) (entries_of said) ++ rest) → NoFeed rest → AllByRecursion (IsProper (shape_in p)) (entries_of said)
-      → IsLog live (shape_in p) image (opening ++ commits_of (said ++ unsaid)) → Says before said ((said ++ unsaid) ++ later) m image
+      → IsLog live image (grown opening (commits_of (said ++ unsaid))) → Says before said ((said ++ unsaid) ++ later) m image
   here before said unsaid later rest m image output unended proper log = (
     record { said = said; unsaid = unsaid; later = later; rest = rest; split = refl; log = log; output = record { output = output; unended = unended; proper = proper } },
     ([], sym (append-nil said)),
@@ -164,10 +166,10 @@ module _ (live : ℕ) (p : Program) (opening : List Commit) where
     -- ---- before a doubt
 
     -- the world behind the opening
-    pub begins_at : (now : World) → now.output ≡ old.output → now.past ≡ old.past → AllLog live p opening now.disk → JournalAt live p opening old [] [] now
+    pub begins_at : (now : World) → now.output ≡ old.output → now.past ≡ old.past → AllLog live opening now.disk → JournalAt live p opening old [] [] now
     begins_at now output past log = record {
       output = output ∙ sym (append-nil old.output);
-      log = λ image left. subst (IsLog live (shape_in p) image) (sym (append-nil opening)) (log image left);
+      log = λ image left. subst (IsLog live image) (sym (grown_none opening)) (log image left);
       moments = record { more = []; past = past ∙ sym (append-nil old.past); each = tt };
     }
 
@@ -183,7 +185,7 @@ module _ (live : ℕ) (p : Program) (opening : List Commit) where
         ends = sym (append_assoc said unsaid batch)
 
         sealing : (mid : World) (m : Moment) → AllByRecursion (IsProper (shape_in p)) (entries_of said) → mid.output ≡ old.output ++ reply_lines (shape_in p) (entries_of said)
-            → IsSealing live p (opening ++ commits_of (said ++ unsaid)) batch mid m → AllSay live p opening old.output said (said ++ (unsaid ++ batch)) m
+            → IsSealing live (grown opening (commits_of (said ++ unsaid))) batch mid m → AllSay live p opening old.output said (said ++ (unsaid ++ batch)) m
         sealing mid m proper output s image left = elim (s.log image left) [
           | inl was ↦
               subst (λ (l : List Settlement). Says old.output said l m image) (sym ends)
@@ -191,7 +193,7 @@ module _ (live : ℕ) (p : Program) (opening : List Commit) where
           | inr has ↦
               subst (λ (l : List Settlement). Says old.output said l m image) (append-nil (said ++ (unsaid ++ batch)))
               (here old.output said (unsaid ++ batch) [] [] m image (whole said m mid output s.output) tt proper
-              (subst (IsLog live (shape_in p) image) (joined_logs opening (said ++ unsaid) batch ∙ ap (λ (l : List Settlement). opening ++ commits_of l) (sym ends)) has))
+              (subst (IsLog live image) (joined_logs opening (said ++ unsaid) batch ∙ ap (λ (l : List Settlement). grown opening (commits_of l)) (sym ends)) has))
         ]
 
         further : (m : Moment) → AllSay live p opening old.output said (said ++ unsaid) m → AllSay live p opening old.output said (said ++ (unsaid ++ batch)) m
@@ -199,31 +201,31 @@ module _ (live : ℕ) (p : Program) (opening : List Commit) where
 
         -- a seal
         pub seals_on : (mid new : World) → AllByRecursion (IsProper (shape_in p)) (entries_of said) → JournalAt live p opening old said unsaid mid
-            → Seals live p (opening ++ commits_of (said ++ unsaid)) batch mid new → JournalAt live p opening old said (unsaid ++ batch) new
+            → Seals live (grown opening (commits_of (said ++ unsaid))) batch mid new → JournalAt live p opening old said (unsaid ++ batch) new
         seals_on mid new proper at s = record {
           output = s.output ∙ at.output;
-          log = λ image left. subst (IsLog live (shape_in p) image) (joined_logs opening (said ++ unsaid) batch ∙ ap (λ (l : List Settlement). opening ++ commits_of l) (sym ends)) (s.log image left);
+          log = λ image left. subst (IsLog live image) (joined_logs opening (said ++ unsaid) batch ∙ ap (λ (l : List Settlement). grown opening (commits_of l)) (sym ends)) (s.log image left);
           moments = both _
               (weaker (AllSay live p opening old.output said (said ++ unsaid)) (AllSay live p opening old.output said (said ++ (unsaid ++ batch))) (λ m all. further m all) at.moments)
-              (weaker (IsSealing live p (opening ++ commits_of (said ++ unsaid)) batch mid) (AllSay live p opening old.output said (said ++ (unsaid ++ batch))) (λ m is. sealing mid m proper at.output is) s.moments);
+              (weaker (IsSealing live (grown opening (commits_of (said ++ unsaid))) batch mid) (AllSay live p opening old.output said (said ++ (unsaid ++ batch))) (λ m is. sealing mid m proper at.output is) s.moments);
         }
 
         -- settlements without records, and no call
         pub settles_on : (now : World) → commits_of batch ≡ [] → JournalAt live p opening old said unsaid now → JournalAt live p opening old said (unsaid ++ batch) now
         settles_on now none at = record {
           output = at.output;
-          log = λ image left. subst (IsLog live (shape_in p) image) (sym (same_log opening (said ++ unsaid) batch none) ∙ ap (λ (l : List Settlement). opening ++ commits_of l) (sym ends)) (at.log image left);
+          log = λ image left. subst (IsLog live image) (sym (same_log opening (said ++ unsaid) batch none) ∙ ap (λ (l : List Settlement). grown opening (commits_of l)) (sym ends)) (at.log image left);
           moments = weaker (AllSay live p opening old.output said (said ++ unsaid)) (AllSay live p opening old.output said (said ++ (unsaid ++ batch))) (λ m all. further m all) at.moments;
         }
 
       -- calls that leave output and logs alone
       pub stays_on : (mid new : World) → AllByRecursion (IsProper (shape_in p)) (entries_of said) → JournalAt live p opening old said unsaid mid
-          → Seals live p (opening ++ commits_of (said ++ unsaid)) [] mid new → JournalAt live p opening old said unsaid new
+          → Seals live (grown opening (commits_of (said ++ unsaid))) [] mid new → JournalAt live p opening old said unsaid new
       stays_on mid new proper at s = subst (λ (l : List Settlement). JournalAt live p opening old said l new) (append-nil unsaid) (seals_on [] mid new proper at s)
 
       -- a doubt in which no image has the batch, at no moment: the names alone
       pub unbegun_on : (names : List Settlement) (mid new : World) → commits_of names ≡ [] → AllByRecursion (IsProper (shape_in p)) (entries_of said) → JournalAt live p opening old said unsaid mid
-          → Seals live p (opening ++ commits_of (said ++ unsaid)) [] mid new → JournalAt live p opening old said (unsaid ++ names) new
+          → Seals live (grown opening (commits_of (said ++ unsaid))) [] mid new → JournalAt live p opening old said (unsaid ++ names) new
       unbegun_on names mid new none proper at s = settles_on names new none (stays_on mid new proper at s)
 
     -- ---- entries are written
@@ -271,9 +273,9 @@ module _ (live : ℕ) (p : Program) (opening : List Commit) where
       -- an entry is written
       pub emits_on : (mid new : World) → JournalAt live p opening old said (moved ++ unsaid) mid → IsEmitted (reply_line (shape_in p) e) mid new → JournalAt live p opening old (said ++ moved) unsaid new
       emits_on mid new at emitted =
-          let log : AllLog live p (opening ++ commits_of ((said ++ moved) ++ unsaid)) new.disk =
-          subst (λ (d : Disk). AllLog live p (opening ++ commits_of ((said ++ moved) ++ unsaid)) d) (sym emitted.disk)
-          (subst (λ (l : List Settlement). AllLog live p (opening ++ commits_of l) mid.disk) moves at.log) in
+          let log : AllLog live (grown opening (commits_of ((said ++ moved) ++ unsaid))) new.disk =
+          subst (λ (d : Disk). AllLog live (grown opening (commits_of ((said ++ moved) ++ unsaid))) d) (sym emitted.disk)
+          (subst (λ (l : List Settlement). AllLog live (grown opening (commits_of l)) mid.disk) moves at.log) in
           let output : new.output ≡ old.output ++ reply_lines (shape_in p) (entries_of (said ++ moved)) = told said moved e mid new one_entry at.output emitted in
           record {
             output = output;
@@ -290,7 +292,7 @@ module _ (live : ℕ) (p : Program) (opening : List Commit) where
       pub cuts_on : (n : ℕ) (mid new : World) → JournalAt live p opening old said (moved ++ unsaid) mid → Emitted n (reply_line (shape_in p) e) mid new → n < length (reply_line (shape_in p) e)
           → CutAt live p opening old said (moved ++ unsaid) [] (take n (reply_line (shape_in p) e)) new
       cuts_on n mid new at emitted low =
-          let log : AllLog live p (opening ++ commits_of (said ++ (moved ++ unsaid))) new.disk = subst (λ (d : Disk). AllLog live p (opening ++ commits_of (said ++ (moved ++ unsaid))) d) (sym emitted.disk) at.log in
+          let log : AllLog live (grown opening (commits_of (said ++ (moved ++ unsaid)))) new.disk = subst (λ (d : Disk). AllLog live (grown opening (commits_of (said ++ (moved ++ unsaid)))) d) (sym emitted.disk) at.log in
           let output = part_told said n (reply_line (shape_in p) e) mid new at.output emitted in
           let unended = cut-no_feed (shape_in p) e n low in
           record {
@@ -317,13 +319,13 @@ module _ (live : ℕ) (p : Program) (opening : List Commit) where
     module _ (said unsaid : List Settlement) (batch : Settlement) (proper : AllByRecursion (IsProper (shape_in p)) (entries_of said)) where
       -- an image that has the journal, or it with the batch
       either_says : (rest : List ℕ) (m : Moment) (image : Image) → m.output ≡ old.output ++ (reply_lines (shape_in p) (entries_of said) ++ rest) → NoFeed rest
-          → IsLog live (shape_in p) image (opening ++ commits_of (said ++ unsaid)) ⊎ IsLog live (shape_in p) image (opening ++ commits_of ((said ++ unsaid) ++ batch ∷ []))
+          → IsLog live image (grown opening (commits_of (said ++ unsaid))) ⊎ IsLog live image (grown opening (commits_of ((said ++ unsaid) ++ batch ∷ [])))
           → Says old.output said ((said ++ unsaid) ++ batch ∷ []) m image
       either_says rest m image output unended (inl was) = here old.output said unsaid (batch ∷ []) rest m image output unended proper was
       either_says rest m image output unended (inr has) =
           subst (λ (l : List Settlement). Says old.output said l m image) (append-nil (said ++ (unsaid ++ batch ∷ [])) ∙ sym (append_assoc said unsaid (batch ∷ [])))
           (here old.output said (unsaid ++ batch ∷ []) [] rest m image output unended proper
-          (subst (λ (l : List Settlement). IsLog live (shape_in p) image (opening ++ commits_of l)) (append_assoc said unsaid (batch ∷ [])) has))
+          (subst (λ (l : List Settlement). IsLog live image (grown opening (commits_of l))) (append_assoc said unsaid (batch ∷ [])) has))
 
       -- the moment that is now
       pub doubt_says : (now : World) → DoubtAt live p opening old said unsaid batch now → AllSay live p opening old.output said ((said ++ unsaid) ++ batch ∷ []) (moment_of now)
@@ -331,29 +333,29 @@ module _ (live : ℕ) (p : Program) (opening : List Commit) where
 
     -- a batch is in doubt; its units' names come before it
     pub doubts_on : (said unsaid names : List Settlement) (batch : Settlement) (mid new : World) → commits_of names ≡ [] → AllByRecursion (IsProper (shape_in p)) (entries_of said) → JournalAt live p opening old said unsaid mid
-        → Doubts live p (opening ++ commits_of (said ++ unsaid)) batch mid new → DoubtAt live p opening old said (unsaid ++ names) batch new
+        → Doubts live (grown opening (commits_of (said ++ unsaid))) batch mid new → DoubtAt live p opening old said (unsaid ++ names) batch new
     doubts_on said unsaid names batch mid new none proper at d = record {
       output = d.output ∙ at.output;
       log = λ image left. either image (d.log image left);
       moments = both _
           (weaker (AllSay live p opening old.output said (said ++ unsaid)) (AllSay live p opening old.output said ((said ++ (unsaid ++ names)) ++ batch ∷ [])) (λ m all. further m all) at.moments)
-          (weaker (IsSealing live p (opening ++ commits_of (said ++ unsaid)) (batch ∷ []) mid) (AllSay live p opening old.output said ((said ++ (unsaid ++ names)) ++ batch ∷ []))
+          (weaker (IsSealing live (grown opening (commits_of (said ++ unsaid))) (batch ∷ []) mid) (AllSay live p opening old.output said ((said ++ (unsaid ++ names)) ++ batch ∷ []))
           (λ m is image left. either_says said (unsaid ++ names) batch proper [] m image (whole said m mid at.output is.output) tt (either image (is.log image left))) d.moments);
     }
       where
         named : said ++ (unsaid ++ names) ≡ (said ++ unsaid) ++ names
         named = sym (append_assoc said unsaid names)
 
-        logs : opening ++ commits_of (said ++ unsaid) ≡ opening ++ commits_of (said ++ (unsaid ++ names))
-        logs = sym (same_log opening (said ++ unsaid) names none) ∙ ap (λ (l : List Settlement). opening ++ commits_of l) (sym named)
+        logs : grown opening (commits_of (said ++ unsaid)) ≡ grown opening (commits_of (said ++ (unsaid ++ names)))
+        logs = sym (same_log opening (said ++ unsaid) names none) ∙ ap (λ (l : List Settlement). grown opening (commits_of l)) (sym named)
 
-        longer_logs : (opening ++ commits_of (said ++ unsaid)) ++ commits_of (batch ∷ []) ≡ opening ++ commits_of ((said ++ (unsaid ++ names)) ++ batch ∷ [])
-        longer_logs = ap (λ (l : List Commit). l ++ commits_of (batch ∷ [])) logs ∙ joined_logs opening (said ++ (unsaid ++ names)) (batch ∷ [])
+        longer_logs : grown (grown opening (commits_of (said ++ unsaid))) (commits_of (batch ∷ [])) ≡ grown opening (commits_of ((said ++ (unsaid ++ names)) ++ batch ∷ []))
+        longer_logs = ap (λ (l : Log). grown l (commits_of (batch ∷ []))) logs ∙ joined_logs opening (said ++ (unsaid ++ names)) (batch ∷ [])
 
-        either : (image : Image) → IsLog live (shape_in p) image (opening ++ commits_of (said ++ unsaid)) ⊎ IsLog live (shape_in p) image ((opening ++ commits_of (said ++ unsaid)) ++ commits_of (batch ∷ []))
-            → IsLog live (shape_in p) image (opening ++ commits_of (said ++ (unsaid ++ names))) ⊎ IsLog live (shape_in p) image (opening ++ commits_of ((said ++ (unsaid ++ names)) ++ batch ∷ []))
-        either image (inl was) = inl (subst (IsLog live (shape_in p) image) logs was)
-        either image (inr has) = inr (subst (IsLog live (shape_in p) image) longer_logs has)
+        either : (image : Image) → IsLog live image (grown opening (commits_of (said ++ unsaid))) ⊎ IsLog live image (grown (grown opening (commits_of (said ++ unsaid))) (commits_of (batch ∷ [])))
+            → IsLog live image (grown opening (commits_of (said ++ (unsaid ++ names)))) ⊎ IsLog live image (grown opening (commits_of ((said ++ (unsaid ++ names)) ++ batch ∷ [])))
+        either image (inl was) = inl (subst (IsLog live image) logs was)
+        either image (inr has) = inr (subst (IsLog live image) longer_logs has)
 
         further : (m : Moment) → AllSay live p opening old.output said (said ++ unsaid) m → AllSay live p opening old.output said ((said ++ (unsaid ++ names)) ++ batch ∷ []) m
         further m all =
@@ -392,10 +394,10 @@ module _ (live : ℕ) (p : Program) (opening : List Commit) where
           }
         where
           either : (image : Image) → IsImage new.disk image
-              → IsLog live (shape_in p) image (opening ++ commits_of ((said ++ moved) ++ unsaid)) ⊎ IsLog live (shape_in p) image (opening ++ commits_of (((said ++ moved) ++ unsaid) ++ batch ∷ []))
+              → IsLog live image (grown opening (commits_of ((said ++ moved) ++ unsaid))) ⊎ IsLog live image (grown opening (commits_of (((said ++ moved) ++ unsaid) ++ batch ∷ [])))
           either image left = elim (at.log image (subst (λ (d : Disk). IsImage d image) emitted.disk left)) [
-            | inl was ↦ inl (subst (λ (l : List Settlement). IsLog live (shape_in p) image (opening ++ commits_of l)) (moves said moved unsaid e one_entry proper) was)
-            | inr has ↦ inr (subst (λ (l : List Settlement). IsLog live (shape_in p) image (opening ++ commits_of l)) doubt_moves has)
+            | inl was ↦ inl (subst (λ (l : List Settlement). IsLog live image (grown opening (commits_of l))) (moves said moved unsaid e one_entry proper) was)
+            | inr has ↦ inr (subst (λ (l : List Settlement). IsLog live image (grown opening (commits_of l))) doubt_moves has)
           ]
 
       -- or cut
@@ -414,7 +416,7 @@ module _ (live : ℕ) (p : Program) (opening : List Commit) where
           }
         where
           either : (image : Image) → IsImage new.disk image
-              → IsLog live (shape_in p) image (opening ++ commits_of (said ++ (moved ++ unsaid))) ⊎ IsLog live (shape_in p) image (opening ++ commits_of ((said ++ (moved ++ unsaid)) ++ batch ∷ []))
+              → IsLog live image (grown opening (commits_of (said ++ (moved ++ unsaid)))) ⊎ IsLog live image (grown opening (commits_of ((said ++ (moved ++ unsaid)) ++ batch ∷ [])))
           either image left = at.log image (subst (λ (d : Disk). IsImage d image) emitted.disk left)
 
       -- an emit that failed wrote the line whole, or a part of it
@@ -433,7 +435,7 @@ module _ (live : ℕ) (p : Program) (opening : List Commit) where
       | inr has ↦
           subst (λ (l : List Settlement). Says old.output said l (moment_of now) image) (append-nil (said ++ (unsaid ++ later)) ∙ sym (append_assoc said unsaid later))
           (here old.output said (unsaid ++ later) [] rest (moment_of now) image at.output at.unended proper
-          (subst (λ (l : List Settlement). IsLog live (shape_in p) image (opening ++ commits_of l)) (append_assoc said unsaid later) has))
+          (subst (λ (l : List Settlement). IsLog live image (grown opening (commits_of l))) (append_assoc said unsaid later) has))
     ]
 
     -- whole lines are a cut without a rest
@@ -450,16 +452,16 @@ module _ (live : ℕ) (p : Program) (opening : List Commit) where
     doubt_cut said unsaid batch now at = record { output = whole said (moment_of now) now at.output refl; unended = tt; log = at.log; moments = at.moments }
 
 -- calls that only asked leave each log as it was
-pub asked_seals : (live : ℕ) (p : Program) (before : List Commit) (mid new : World) → OnlyAsked mid new → AllLog live p before mid.disk → Seals live p before [] mid new
-asked_seals live p before mid new asked all = record {
-  moments = weaker (λ m. m ≡ moment_of mid) (IsSealing live p before [] mid)
+pub asked_seals : (live : ℕ) (before : Log) (mid new : World) → OnlyAsked mid new → AllLog live before mid.disk → Seals live before [] mid new
+asked_seals live before mid new asked all = record {
+  moments = weaker (λ m. m ≡ moment_of mid) (IsSealing live before [] mid)
       (λ m same. record {
         output = ap (λ (n : Moment). n.output) same;
         log = λ image left. inl (all image (subst (λ (n : Moment). IsImage n.disk image) same left));
       })
       asked.moments;
   output = asked.output;
-  log = λ image left. subst (IsLog live (shape_in p) image) (sym (append-nil before)) (all image (subst (λ (d : Disk). IsImage d image) asked.disk left));
+  log = λ image left. subst (IsLog live image) (sym (grown_none before)) (all image (subst (λ (d : Disk). IsImage d image) asked.disk left));
 }
 
 -- what was written of a cut line is a first part of it

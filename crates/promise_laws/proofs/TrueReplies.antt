@@ -31,19 +31,22 @@ use Rattle.core_laws.proofs.Lined.{Rises, rises-part, once-ends}
 use Rattle.script_tree.specs.Programs.{ProgramTree}
 use Rattle.script_meaning.specs.Play.{Played, play_over}
 use Rattle.promise_spec.specs.Programs.{Program}
-use Rattle.promise_spec.specs.Records.{Commit, Standing, new_silo, after_record, after_records, IsRecordOf, AreRecordsOf}
+use Rattle.promise_spec.specs.Records.{Commit, IsRecordOf, AreRecordsOf}
+use Rattle.promise_spec.specs.Entries as entry
+use Rattle.promise_spec.specs.Entries.{LogEntry, records_among, Standing, new_silo, after_entry, after_entries, Log, records_of, standing_of}
 use Rattle.promise_spec.specs.Serial.{depth_of}
 use Rattle.promise_spec.specs.Logs.{IsPrefix}
 use Rattle.promise_spec.specs.Images.{IsAboveParent, AreNumbered}
 use Rattle.promise_spec.specs.Family.{is_child, answer_of, AreAnswers}
 use Rattle.promise_spec.specs.Replies.{IsLoggedReply, IsPlainReply, IsTrueOf, StandInOrder}
 use Rattle.promise_spec.specs.UnitRule.{played_by, IsPlayOf}
-use Rattle.promise_spec.specs.Courses.{Observed, Course, lines, basis, opening_standing, core_run, core_end}
+use Rattle.promise_spec.specs.Courses.{Observed, Course, lines, basis, core_run, core_end}
 use Rattle.promise_spec.specs.Explained.{AreAdded, IsExplained}
+use Rattle.promise_spec.proofs.Standings.{grown_records}
 use Rattle.promise_spec.proofs.Lists.{some_is, none_at, member_at, either_in, in_append}
 use Rattle.promise_laws.specs.Legality.{is_play, applied_run}
 use Rattle.promise_laws.proofs.Legal.{is_play-true, ends_alike, legal}
-use Rattle.promise_laws.proofs.SerialRecords.{plays_again, above_records}
+use Rattle.promise_laws.proofs.SerialRecords.{plays_again, above_entries}
 use Rattle.promise_laws.proofs.UnitsByRule.{AllSaid, ByRule, all_said, rule-run, rule-begins}
 use Rattle.promise_laws.proofs.Tellings.{Tells, Telling, telling-ends}
 
@@ -73,10 +76,10 @@ known-ends types lines r l said = record {
   tells = telling-ends (is_play types) types lines r l said;
 }
 
-pub known_of : (p : Program) (r : Observed) (c : Course) → IsExplained p r c → Known p.types (lines r) (opening_standing p c).states (opening_standing p c).next (core_end p c)
-known_of p r c is =
-    subst (Known p.types (lines r) (opening_standing p c).states (opening_standing p c).next) (ends_alike (core_run p c))
-    (known-ends p.types (lines r) (applied_run (core_run p c)) (legal (basis p r c) (core_run p c) (above_records (new_silo p.types) c.opening (omega arith)) is.units) (all_said (basis p r c) (core_run p c) is.units))
+pub known_of : (p : Program) (r : Observed) (c : Course) → 0 < c.opening.base.next → IsExplained p r c → Known p.types (lines r) (standing_of c.opening).states (standing_of c.opening).next (core_end p c)
+known_of p r c based is =
+    subst (Known p.types (lines r) (standing_of c.opening).states (standing_of c.opening).next) (ends_alike (core_run p c))
+    (known-ends p.types (lines r) (applied_run (core_run p c)) (legal (basis p r c) (core_run p c) (above_entries c.opening.base c.opening.entries based) is.units) (all_said (basis p r c) (core_run p c) is.units))
 
 -- ---- the records are those of the units that meet a test
 
@@ -201,14 +204,14 @@ answer_in (l ∷ log) u i a all some =
     rest e (inl (x, (inr m), is)) = inl (x, m, is)
 
 -- the opening log's units are below the next number, and each is above its parent
-pub next-grows : (before : Standing) (log : List Commit) → before.next ≤ (after_records before log).next
+pub next-grows : (before : Standing) (entries : List LogEntry) → before.next ≤ (after_entries before entries).next
 next-grows before [] = omega arith
-next-grows before (l ∷ log) = (let t = next-grows (after_record before l) log in omega (arith, t))
+next-grows before (entry.Recorded l ∷ entries) = (let t = next-grows (after_entry before (entry.Recorded l)) entries in omega (arith, t))
 
-pub below-next : (before : Standing) (log : List Commit) (l : Commit) → Member l log → l.logged.unit.0 < (after_records before log).next
+pub below-next : (before : Standing) (entries : List LogEntry) (l : Commit) → Member l (records_among entries) → l.logged.unit.0 < (after_entries before entries).next
 below-next before [] l m = absurd m
-below-next before (k ∷ log) l (inl same) = (let t = next-grows (after_record before k) log in let q = ap (λ (z : Commit). z.logged.unit.0) same in omega (arith, t, q))
-below-next before (k ∷ log) l (inr m) = below-next (after_record before k) log l m
+below-next before (entry.Recorded k ∷ entries) l (inl same) = (let t = next-grows (after_entry before (entry.Recorded k)) entries in let q = ap (λ (z : Commit). z.logged.unit.0) same in omega (arith, t, q))
+below-next before (entry.Recorded k ∷ entries) l (inr m) = below-next (after_entry before (entry.Recorded k)) entries l m
 
 above-parent : (first : ℕ) (log : List Commit) (l : Commit) → AreNumbered first log → Member l log → IsAboveParent l.logged.origin l.logged.unit.0
 above-parent first [] l all m = absurd m
@@ -216,12 +219,12 @@ above-parent first (k ∷ log) l all (inl same) = subst (λ (z : Commit). IsAbov
 above-parent first (k ∷ log) l all (inr m) = above-parent first log l all.3 m
 
 -- no record of the opening log is a child of a unit of the run
-no_child : (types : ProgramTree) (opening : List Commit) (u : UnitNo) (i : ℕ) → AreNumbered (new_silo types).next opening → (after_records (new_silo types) opening).next ≤ u.0
-    → (l : Commit) → Member l opening → is_child u i l.logged.origin ≡ true → ⊥
-no_child types opening u i numbered late l m e =
+no_child : (opening : Log) (u : UnitNo) (i : ℕ) → AreNumbered opening.base.next (records_of opening) → (standing_of opening).next ≤ u.0
+    → (l : Commit) → Member l (records_of opening) → is_child u i l.logged.origin ≡ true → ⊥
+no_child opening u i numbered late l m e =
     let t = child-true u i l.logged.origin e in
-    let above : u.0 < l.logged.unit.0 = subst (λ o. IsAboveParent o l.logged.unit.0) t.1 (above-parent (new_silo types).next opening l numbered m) in
-    let below = below-next (new_silo types) opening l m in
+    let above : u.0 < l.logged.unit.0 = subst (λ o. IsAboveParent o l.logged.unit.0) t.1 (above-parent opening.base.next (records_of opening) l numbered m) in
+    let below = below-next opening.base opening.entries l m in
     omega (arith, above, below, late)
 
 -- what is known of a unit to commit is its result
@@ -260,19 +263,19 @@ child-ends types lines opening base w added known are k u i d a origin born e = 
     go Finished q Condemned h = (let z : None ≡ Some a = from Finished Condemned q h in absurd cc)
 
 -- the answers of a unit at its end are those of the order
-answers_by_order : (types : ProgramTree) (lines : List (List ℕ)) (opening : GrainId → List Value) (log : List Commit) (w : CoreState) (added : List Commit)
-    → Known types lines opening (after_records (new_silo types) log).next w → Recorded w added → AreNumbered (new_silo types).next log
-    → (u : UnitNo) → (w.units.phase u ≡ Finished) ⊎ (w.units.phase u ≡ Ended) → (w.units.phase u ≡ Unborn → ⊥) → AreAnswers (log ++ added) u (w.manager.answers u)
+answers_by_order : (types : ProgramTree) (lines : List (List ℕ)) (opening : GrainId → List Value) (log : Log) (w : CoreState) (added : List Commit)
+    → Known types lines opening (standing_of log).next w → Recorded w added → AreNumbered log.base.next (records_of log)
+    → (u : UnitNo) → (w.units.phase u ≡ Finished) ⊎ (w.units.phase u ≡ Ended) → (w.units.phase u ≡ Unborn → ⊥) → AreAnswers (records_of log ++ added) u (w.manager.answers u)
 answers_by_order types lines opening log w added known are numbered u end born i a there =
     let e = outcome_at w (w.units.kids u) (w.manager.answers u) i a (known.answers u end) there in
     let o = known.kids.origin u i e.0 in
-    answer_in (log ++ added) u i a
-    (λ l m t. elim (either_in l log added m) [
-      | inl h ↦ absurd (no_child types log u i numbered (known.rule.2 u born) l h t)
+    answer_in (records_of log ++ added) u i a
+    (λ l m t. elim (either_in l (records_of log) added m) [
+      | inl h ↦ absurd (no_child log u i numbered (known.rule.2 u born) l h t)
       | inr h ↦ added-result l h t e.1
     ])
     (elim (child-ends types lines opening _ w added known are (get_or (w.units.kids u) i nobody) u i o.0 a o.1 o.2 e.1) [
-      | inl t ↦ inl (t.0, in_append t.0 log added (inr t.1), t.2)
+      | inl t ↦ inl (t.0, in_append t.0 (records_of log) added (inr t.1), t.2)
       | inr t ↦ inr t
     ])
   where
@@ -295,36 +298,37 @@ begun-for types lines opening base w known e m born = elim (known.once.entry e m
 ]
 
 -- the outcome of a plain run is its play's
-plain-reply : (p : Program) (r : Observed) (c : Course) → Known p.types (lines r) (opening_standing p c).states (opening_standing p c).next (core_end p c) → Recorded (core_end p c) c.added → AreNumbered (new_silo p.types).next c.opening
+plain-reply : (p : Program) (r : Observed) (c : Course) → Known p.types (lines r) (standing_of c.opening).states (standing_of c.opening).next (core_end p c) → Recorded (core_end p c) c.added → AreNumbered c.opening.base.next (records_of c.opening)
     → (e : Entry) → Member e (core_end p c).manager.settled → (result : Outcome) → (core_end p c).units.phase e.unit ≡ Ended → (core_end p c).manager.result e.unit ≡ result → IsPlainReply p r c e result
 plain-reply p r c known are numbered e m result ended is =
     let born : (core_end p c).units.phase e.unit ≡ Unborn → ⊥ = λ z. (let y : Unborn ≡ Ended = sym z ∙ ended in absurd cc) in
-    let begun : core.HasBegunFor (core_end p c) e.unit e.line = begun-for p.types (lines r) (opening_standing p c).states (opening_standing p c).next (core_end p c) known e m born in
+    let begun : core.HasBegunFor (core_end p c) e.unit e.line = begun-for p.types (lines r) (standing_of c.opening).states (standing_of c.opening).next (core_end p c) known e m born in
     let line = known.rule.3 e.unit e.line begun in
     let plain = known.rule.5 e.unit ended in
     let play : IsPlayOf p.types (plain_effect (core_end p c) e.unit) = is_play-true p.types (plain_effect (core_end p c) e.unit) (known.plays e.unit ended plain.1) in
     let depth : depth_of ((core_end p c).units.origin e.unit) ≡ 1 = ap depth_of begun.1 in
-    let again : play_over p.types ((core_end p c).units.call e.unit) 1 (new_silo p.types).states ((core_end p c).manager.answers e.unit) ≡ played_by p.types (plain_effect (core_end p c) e.unit) =
-    ap (λ d. play_over p.types ((core_end p c).units.call e.unit) d (new_silo p.types).states ((core_end p c).manager.answers e.unit)) (sym depth)
-    ∙ plays_again p.types (new_silo p.types).states (plain_effect (core_end p c) e.unit) play (λ x n. absurd n) in
+    let again : play_over p.types ((core_end p c).units.call e.unit) 1 (new_silo p).states ((core_end p c).manager.answers e.unit) ≡ played_by p.types (plain_effect (core_end p c) e.unit) =
+    ap (λ d. play_over p.types ((core_end p c).units.call e.unit) d (new_silo p).states ((core_end p c).manager.answers e.unit)) (sym depth)
+    ∙ plays_again p.types (new_silo p).states (plain_effect (core_end p c) e.unit) play (λ x n. absurd n) in
     record {
       call = (core_end p c).units.call e.unit;
       line = line.0;
       plain = λ t. (let z : true ≡ false = sym plain.0 ∙ line.1.1 t in absurd cc);
       answers = (core_end p c).manager.answers e.unit;
-      are = answers_by_order p.types (lines r) (opening_standing p c).states c.opening (core_end p c) c.added known are numbered e.unit (inr ended) born;
+      are = subst (λ (order : List Commit). AreAnswers order e.unit ((core_end p c).manager.answers e.unit)) (sym (grown_records c.opening c.added))
+          (answers_by_order p.types (lines r) (standing_of c.opening).states c.opening (core_end p c) c.added known are numbered e.unit (inr ended) born);
       enough = ap (λ (x : Played). length x.asked) again ∙ play.asked;
       result = ap (λ (x : Played). x.result) again ∙ play.result ∙ is;
     }
 
 -- the outcome of a committed unit is its record's
-logged-reply : (p : Program) (r : Observed) (c : Course) → Known p.types (lines r) (opening_standing p c).states (opening_standing p c).next (core_end p c) → Recorded (core_end p c) c.added
+logged-reply : (p : Program) (r : Observed) (c : Course) → Known p.types (lines r) (standing_of c.opening).states (standing_of c.opening).next (core_end p c) → Recorded (core_end p c) c.added
     → (e : Entry) → Member e (core_end p c).manager.settled → (result : Outcome) → (core_end p c).units.phase e.unit ≡ Finished → (core_end p c).manager.verdict e.unit ≡ Committed → (core_end p c).manager.result e.unit ≡ result
     → IsLoggedReply c e result
 logged-reply p r c known are e m result done sure is =
     let born : (core_end p c).units.phase e.unit ≡ Unborn → ⊥ = λ z. (let y : Unborn ≡ Finished = sym z ∙ done in absurd cc) in
-    let begun : core.HasBegunFor (core_end p c) e.unit e.line = begun-for p.types (lines r) (opening_standing p c).states (opening_standing p c).next (core_end p c) known e m born in
-    let t = has_record (opening_standing p c).states (core_end p c) c.added known.kept are e.unit done sure in
+    let begun : core.HasBegunFor (core_end p c) e.unit e.line = begun-for p.types (lines r) (standing_of c.opening).states (standing_of c.opening).next (core_end p c) known e m born in
+    let t = has_record (standing_of c.opening).states (core_end p c) c.added known.kept are e.unit done sure in
     record {
       commit = t.0;
       added = t.1;
@@ -332,16 +336,16 @@ logged-reply p r c known are e m result done sure is =
       result = t.2.result ∙ is;
     }
 
-told-true : (p : Program) (r : Observed) (c : Course) → Known p.types (lines r) (opening_standing p c).states (opening_standing p c).next (core_end p c) → Recorded (core_end p c) c.added → AreNumbered (new_silo p.types).next c.opening
+told-true : (p : Program) (r : Observed) (c : Course) → Known p.types (lines r) (standing_of c.opening).states (standing_of c.opening).next (core_end p c) → Recorded (core_end p c) c.added → AreNumbered c.opening.base.next (records_of c.opening)
     → (e : Entry) → Member e (core_end p c).manager.settled → (what : Settled) → Tells p.types (lines r) (core_end p c) e what → IsTrueOf p r c e what
 told-true p r c known are numbered e m (settled.Done outcome) t = elim t.0 [
   | inl f ↦ inr (plain-reply p r c known are numbered e m outcome f t.1)
   | inr f ↦ inl (logged-reply p r c known are e m outcome f.0 f.1 t.1)
 ]
-told-true p r c known are numbered e m (settled.Lock by grain) t = no_record (opening_standing p c).states (core_end p c) c.added known.kept are e.unit t
-told-true p r c known are numbered e m (settled.Vote grain) t = no_record (opening_standing p c).states (core_end p c) c.added known.kept are e.unit t
-told-true p r c known are numbered e m (settled.Dependency on) t = no_record (opening_standing p c).states (core_end p c) c.added known.kept are e.unit t
-told-true p r c known are numbered e m settled.Disk t = no_record (opening_standing p c).states (core_end p c) c.added known.kept are e.unit t
+told-true p r c known are numbered e m (settled.Lock by grain) t = no_record (standing_of c.opening).states (core_end p c) c.added known.kept are e.unit t
+told-true p r c known are numbered e m (settled.Vote grain) t = no_record (standing_of c.opening).states (core_end p c) c.added known.kept are e.unit t
+told-true p r c known are numbered e m (settled.Dependency on) t = no_record (standing_of c.opening).states (core_end p c) c.added known.kept are e.unit t
+told-true p r c known are numbered e m settled.Disk t = no_record (standing_of c.opening).states (core_end p c) c.added known.kept are e.unit t
 told-true p r c known are numbered e m settled.InDoubt t = tt
 told-true p r c known are numbered e m (settled.Bad why) t = t
 
@@ -350,9 +354,9 @@ told-true p r c known are numbered e m (settled.Bad why) t = t
 pub in_settled : (p : Program) (c : Course) → IsPrefix c.entries (core_end p c).manager.settled → (e : Entry) → Member e c.entries → Member e (core_end p c).manager.settled
 in_settled p c front e m = subst (Member e) (sym front.1) (Member-left e c.entries front.0 m)
 
-pub replies_within : (p : Program) (r : Observed) (c : Course) → IsExplained p r c → IsPrefix c.entries (core_end p c).manager.settled → (e : Entry) → Member e c.entries → (1 ≤ e.line) × (e.line ≤ length (lines r))
-replies_within p r c is front e m =
-    let k = known_of p r c is in
+pub replies_within : (p : Program) (r : Observed) (c : Course) → 0 < c.opening.base.next → IsExplained p r c → IsPrefix c.entries (core_end p c).manager.settled → (e : Entry) → Member e c.entries → (1 ≤ e.line) × (e.line ≤ length (lines r))
+replies_within p r c based is front e m =
+    let k = known_of p r c based is in
     let t = k.once.entry e (in_settled p c front e m) in
     let few = k.rule.1 in
     (omega (arith, t.0), omega (arith, t.1, few))
@@ -361,14 +365,14 @@ differ-front : (xs ys : List Entry) → core.DifferInLine (xs ++ ys) → core.Di
 differ-front [] ys d = tt
 differ-front (x ∷ xs) ys d = ((λ y m. d.0 y (Member-left y xs ys m)), differ-front xs ys d.1)
 
-pub replies_once : (p : Program) (r : Observed) (c : Course) → IsExplained p r c → IsPrefix c.entries (core_end p c).manager.settled → core.DifferInLine c.entries
-replies_once p r c is front = differ-front c.entries front.0 (subst core.DifferInLine front.1 (known_of p r c is).once.differ)
+pub replies_once : (p : Program) (r : Observed) (c : Course) → 0 < c.opening.base.next → IsExplained p r c → IsPrefix c.entries (core_end p c).manager.settled → core.DifferInLine c.entries
+replies_once p r c based is front = differ-front c.entries front.0 (subst core.DifferInLine front.1 (known_of p r c based is).once.differ)
 
-pub replies_true : (p : Program) (r : Observed) (c : Course) → IsExplained p r c → AreNumbered (new_silo p.types).next c.opening → IsPrefix c.entries (core_end p c).manager.settled → (e : Entry) → Member e c.entries → IsTrueOf p r c e e.what
-replies_true p r c is numbered front e m =
-    let k = known_of p r c is in
+pub replies_true : (p : Program) (r : Observed) (c : Course) → 0 < c.opening.base.next → IsExplained p r c → AreNumbered c.opening.base.next (records_of c.opening) → IsPrefix c.entries (core_end p c).manager.settled → (e : Entry) → Member e c.entries → IsTrueOf p r c e e.what
+replies_true p r c based is numbered front e m =
+    let k = known_of p r c based is in
     let there = in_settled p c front e m in
-    told-true p r c k (recorded (opening_standing p c).states (core_end p c) c.added k.kept k.split is.records) numbered e there e.what (k.tells e there)
+    told-true p r c k (recorded (standing_of c.opening).states (core_end p c) c.added k.kept k.split is.records) numbered e there e.what (k.tells e there)
 
 -- ---- and their order
 
@@ -407,11 +411,11 @@ pub order-rises : (opening : GrainId → List Value) (w : CoreState) → Kept op
 order-rises opening w k =
     rises-part opening _ w k.0 w.manager.order 0 (λ j h. (let e : j ≡ 0 + j = omega arith in (omega (arith, h), ap (λ z. get_or w.manager.order z nobody) e)))
 
-pub replies_ordered : (p : Program) (r : Observed) (c : Course) → IsExplained p r c → IsPrefix c.entries (core_end p c).manager.settled → StandInOrder c.entries c.added
-replies_ordered p r c is front i j m n d e a b at_i at_j at_m at_n of_d of_e lt =
+pub replies_ordered : (p : Program) (r : Observed) (c : Course) → 0 < c.opening.base.next → IsExplained p r c → IsPrefix c.entries (core_end p c).manager.settled → StandInOrder c.entries c.added
+replies_ordered p r c based is front i j m n d e a b at_i at_j at_m at_n of_d of_e lt =
     let w : CoreState = core_end p c in
-    let k = known_of p r c is in
-    let opening : GrainId → List Value = (opening_standing p c).states in
+    let k = known_of p r c based is in
+    let opening : GrainId → List Value = (standing_of c.opening).states in
     let are : Recorded w c.added = recorded opening w c.added k.kept k.split is.records in
     let us : List UnitNo = chosen_by are.test w in
     let x = unit_at w us c.added m a are.records at_m in

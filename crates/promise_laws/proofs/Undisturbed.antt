@@ -32,7 +32,6 @@ use Rattle.core_laws.proofs.Caused.{entry-parts}
 use Rattle.core_laws.proofs.Dependencies.{Depends, depends-step}
 use Rattle.core_laws.proofs.Kept.{Kept, kept-start, kept-step}
 use Rattle.promise_spec.specs.Programs.{Program}
-use Rattle.promise_spec.specs.Records.{new_silo}
 use Rattle.promise_spec.specs.Cores.{AppliesAt, how_many, state_before}
 use Rattle.promise_spec.specs.Gotten.{got_from}
 use Rattle.promise_spec.specs.UnitRule.{IsDue}
@@ -41,7 +40,7 @@ use Rattle.promise_spec.specs.Courses.{Observed, Course, basis, core_run, core_e
 use Rattle.promise_spec.specs.Explained.{IsExplained}
 use Rattle.promise_spec.specs.Promise.{IsUndisturbed}
 use Rattle.promise_spec.proofs.Lists.{some_is}
-use Rattle.promise_laws.proofs.SerialRecords.{above_records}
+use Rattle.promise_laws.proofs.SerialRecords.{above_entries}
 use Rattle.promise_laws.proofs.Applied.{AllFit, keeps-run, none-applies}
 
 -- the event shows no fault, and isn't a load
@@ -323,12 +322,12 @@ quiet-events p r c is none at e there a = quiet e (record { there = there; appli
     quiet (Load g u state) applied due = due
     quiet _ applied due = tt
 
-pub calm_undisturbed : (p : Program) (r : Observed) (c : Course) → IsExplained p r c → NoneRose r.faults_before r.faults_after
+pub calm_undisturbed : (p : Program) (r : Observed) (c : Course) → 0 < c.opening.base.next → IsExplained p r c → NoneRose r.faults_before r.faults_after
     → (e : Entry) → Member e (core_end p c).manager.settled → IsUndisturbed e.what
-calm_undisturbed p r c is none =
+calm_undisturbed p r c based is none =
     let opening : GrainId → List Value = (core_run p c).opening in
     (keeps-run (λ w e. IsQuiet e) (KeepsCalm opening) (calm-step opening) c.events (begins (core_run p c)) (quiet-events p r c is none) (
-      kept-start (core_run p c).base (core_run p c).kinds (core_run p c).capacity opening (above_records (new_silo p.types) c.opening (omega arith)),
+      kept-start (core_run p c).base (core_run p c).kinds (core_run p c).capacity opening (above_entries c.opening.base c.opening.entries based),
       ((λ u. tt), (λ u d m. absurd m)),
       record {
         refused = λ u b. cc;

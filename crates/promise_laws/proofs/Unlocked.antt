@@ -31,7 +31,6 @@ use Rattle.core_laws.proofs.Reasons.{Argued, argued-step}
 use Rattle.core_laws.proofs.Kept.{Kept, kept-start, kept-step}
 use Rattle.core_laws.proofs.Lined.{Once, once-change}
 use Rattle.promise_spec.specs.Programs.{Program}
-use Rattle.promise_spec.specs.Records.{new_silo}
 use Rattle.promise_spec.specs.Cores.{AppliesAt, state_before}
 use Rattle.promise_spec.specs.Gotten.{got_from}
 use Rattle.promise_spec.specs.UnitRule.{IsDue}
@@ -39,7 +38,7 @@ use Rattle.promise_spec.specs.TurnRule.{is_line, is_settled, in_flight, units_fr
 use Rattle.promise_spec.specs.Courses.{Observed, Course, basis, core_run, core_end}
 use Rattle.promise_spec.specs.Explained.{IsExplained}
 use Rattle.promise_spec.specs.Promise.{HasNoChild, IsNoLock}
-use Rattle.promise_laws.proofs.SerialRecords.{above_records}
+use Rattle.promise_laws.proofs.SerialRecords.{above_entries}
 use Rattle.promise_laws.proofs.Applied.{AllFit, keeps-run, counts}
 
 -- a line begins only where none is in flight, no child begins, and nothing is loaded
@@ -288,12 +287,12 @@ single-events p r c is unthreaded one none at e there a = single e (record { the
     single (Load g u state) applied due = due
     single _ applied due = tt
 
-pub single_unlocked : (p : Program) (r : Observed) (c : Course) → IsExplained p r c → r.manner.threaded ≡ false → r.manner.width ≡ 1
+pub single_unlocked : (p : Program) (r : Observed) (c : Course) → 0 < c.opening.base.next → IsExplained p r c → r.manner.threaded ≡ false → r.manner.width ≡ 1
     → HasNoChild p c → (e : Entry) → Member e (core_end p c).manager.settled → IsNoLock e.what
-single_unlocked p r c is unthreaded one none =
+single_unlocked p r c based is unthreaded one none =
     let first : Run = core_run p c in
     (keeps-run (IsSingle first) (KeepsAlone first) (alone-step first) c.events (begins first) (single-events p r c is unthreaded one none) (
-      kept-start first.base first.kinds first.capacity first.opening (above_records (new_silo p.types) c.opening (omega arith)),
+      kept-start first.base first.kinds first.capacity first.opening (above_entries c.opening.base c.opening.entries based),
       ((λ u. tt), (λ u d m. absurd m)),
       (λ b ds q. cc),
       ((λ u n b. absurd (b.0 refl)), (λ u v n a b. absurd (a.0 refl)), tt, (λ x m. absurd m), (λ u n b. absurd (b.0 refl)), tt, omega arith),

@@ -7,18 +7,17 @@ use Rattle.host_trait.specs.declared.channels.FileId.{FileId}
 use Rattle.host_trait.specs.declared.channels.FileId.TheVariants.{Manager}
 use Rattle.request_wire.specs.Lines.{lines_of}
 use Rattle.promise_spec.specs.Programs.{Program, shape_in}
-use Rattle.promise_spec.specs.Records.{Commit}
+use Rattle.promise_spec.specs.Entries.{Log, standing_of}
 use Rattle.promise_spec.specs.Outputs.{Grew}
 use Rattle.promise_spec.specs.Openings.{Reads, opened_as}
 use Rattle.promise_spec.specs.Endings.{Done, DiskFault, HasRisen, HasLength, IsCarried, IsBegun}
 use Rattle.promise_spec.specs.Courses.{Observed, seen_at_entry}
 
--- the folder reads as a silo of this program with this log, in this slot
+-- the folder reads as a silo with this log, in this slot
 pub record IsOpenable (r : Observed) : Type 0 where
   pub live : ℕ
-  pub program : Program
-  pub log : List Commit
-  pub reads : opened_as (seen_at_entry r) ≡ Reads live program log
+  pub log : Log
+  pub reads : opened_as (seen_at_entry r) ≡ Reads live log
 
 -- the input was read to its end, and what was written is one entry for each line
 pub record HasAnswered (p : Program) (r : Observed) : Type 0 where
@@ -38,5 +37,5 @@ pub record HasOpened (r : Observed) : Type 0 where
   pub risen : HasRisen r.ending r.faults_before r.faults_after
   pub file : (f : FileId) → r.ending ≡ DiskFault f → f ≡ Manager openable.live
   pub long : HasLength r.ending (length r.old.input)
-  pub done : r.ending ≡ Done → HasAnswered openable.program r
+  pub done : r.ending ≡ Done → HasAnswered (standing_of openable.log).program r
   pub unbegun : (IsBegun r.ending → ⊥) → r.new.output ≡ r.old.output

@@ -7,8 +7,8 @@ use Rattle.host_trait.specs.World as host
 use Rattle.host_trait.specs.World.{Moment, Image, IsImage, Passes, moment_of, last_of}
 use Rattle.core_model.specs.CoreState.{CoreState}
 use Rattle.silo_spec.specs.Moments.{IsUntouched}
-use Rattle.promise_spec.specs.Programs.{Program, shape_in}
-use Rattle.promise_spec.specs.Records.{Commit}
+use Rattle.promise_spec.specs.Programs.{Program}
+use Rattle.promise_spec.specs.Entries.{Log}
 use Rattle.promise_spec.specs.Logs.{IsLog}
 use Rattle.promise_spec.specs.Openings.{Reads, opened_as}
 use Rattle.promise_spec.specs.Cores.{how_many}
@@ -23,10 +23,10 @@ use Rattle.promise_spec.specs.Journals.{Settlement, commits_of, Backs}
 abbrev pub ReadsMayStay : host.World → Type 0
 ReadsMayStay w = (file : FileId) → MayLeave (w.disk file) (w.disk file).seen
 
--- The world behind the opening: the folder read as this slot, program and log, no image was added, nothing is pending in the live
+-- The world behind the opening: the folder read as this slot and log, no image was added, nothing is pending in the live
 -- manager file, and the early moments end here.
-pub record IsBehind (p : Program) (r : Observed) (c : Course) (mid : host.World) : Type 0 where
-  pub reads : opened_as (seen_at_entry r) ≡ Reads c.live p c.opening
+pub record IsBehind (r : Observed) (c : Course) (mid : host.World) : Type 0 where
+  pub reads : opened_as (seen_at_entry r) ≡ Reads c.live c.opening
   pub untouched : IsUntouched r.old mid
   pub settled : mid.disk (Manager c.live) ≡ settled (seen_at_entry r (Manager c.live))
   pub others : (file : FileId) → file ≢ Manager c.live → mid.disk file ≡ r.old.disk file
@@ -35,16 +35,16 @@ pub record IsBehind (p : Program) (r : Observed) (c : Course) (mid : host.World)
   pub late : r.new.past ≡ mid.past ++ c.late
 
 -- the log of each image of the moment ends where a batch does, as the core has closed them
-abbrev pub AllEnd : ℕ → Program → CoreState → List Commit → Moment → Type 0
-AllEnd live p w opening m = (image : Image) (log : List Commit) → IsImage m.disk image → IsLog live (shape_in p) image log → EndsABatch w opening log
+abbrev pub AllEnd : ℕ → CoreState → Log → Moment → Type 0
+AllEnd live w opening m = (image : Image) (log : Log) → IsImage m.disk image → IsLog live image log → EndsABatch w opening log
 
 -- what is carried beside the journal itself: at each moment since, and now, whole batches, and other files and the header as
 -- they were
 pub record Carries (p : Program) (r : Observed) (c : Course) (mid : host.World) (journal : List Settlement) : Type 0 where
   pub commits : c.added ≡ commits_of journal
   pub backs : Backs journal c.added
-  pub batches : Passes (AllEnd c.live p (core_end p c) c.opening) mid.past r.new.past
-  pub batches_now : AllEnd c.live p (core_end p c) c.opening (moment_of r.new)
+  pub batches : Passes (AllEnd c.live (core_end p c) c.opening) mid.past r.new.past
+  pub batches_now : AllEnd c.live (core_end p c) c.opening (moment_of r.new)
   pub alone : Passes (LeavesAlone c.live r) mid.past r.new.past
   pub alone_now : LeavesAlone c.live r (moment_of r.new)
   pub block : RunHasDoubt (core_run p c) → BlockInDoubt c.live r c (core_end p c)

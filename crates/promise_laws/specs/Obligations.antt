@@ -7,7 +7,7 @@ use Rattle.host_trait.specs.World.{Moment, Image, IsImage, moment_of, last_of}
 use Rattle.core_model.specs.CoreState.{Member}
 use Rattle.request_wire.specs.Lines.{lines_of}
 use Rattle.promise_spec.specs.Programs.{Program, shape_in}
-use Rattle.promise_spec.specs.Records.{Commit}
+use Rattle.promise_spec.specs.Entries.{Log}
 use Rattle.promise_spec.specs.Logs.{IsLog, IsPrefix}
 use Rattle.promise_spec.specs.Moments.{IsImageOf}
 use Rattle.promise_spec.specs.Outputs.{Grew}
@@ -17,7 +17,7 @@ use Rattle.promise_spec.specs.Images.{IsWholeFolder}
 use Rattle.promise_spec.specs.Causes.{AreFaults, RunHasDoubt, NoneRose, is_unsealed, syncs_of, most_syncs_of}
 use Rattle.promise_spec.specs.Cores.{how_many}
 use Rattle.promise_spec.specs.Endings.{Done, WriteFault, DiskFault, HasRisen, IsCarried, HasLength, CountsSyncs, EndingMayDoubt}
-use Rattle.promise_spec.specs.Courses.{Observed, Course, order, moments, lines, seen_at_entry, basis, core_run, core_end}
+use Rattle.promise_spec.specs.Courses.{Observed, Course, order, moments, lines, seen_at_entry, program_in_force, basis, core_run, core_end}
 use Rattle.promise_spec.specs.Crashes.{LeavesAlone}
 use Rattle.promise_spec.specs.Batches.{EndsABatch}
 use Rattle.promise_spec.specs.Replies.{HasNoRecord}
@@ -28,10 +28,10 @@ use Rattle.promise_spec.specs.Promise.{HasReadAll, IsDone}
 
 -- The run opened this log, over a whole folder: the files read as it, and each image at the return of the opening's last
 -- sync has it; there is one. Until then nothing was written, and each image was one of those at entry.
-pub record Opens (p : Program) (r : Observed) (c : Course) : Type 0 where
-  pub folder : IsWholeFolder p r.old
-  pub read : IsLog c.live (shape_in p) (seen_at_entry r) c.opening
-  pub opened : AllLog c.live p c.opening (last_of (moment_of r.old) c.early).disk
+pub record Opens (r : Observed) (c : Course) : Type 0 where
+  pub folder : IsWholeFolder r.old
+  pub read : IsLog c.live (seen_at_entry r) c.opening
+  pub opened : AllLog c.live c.opening (last_of (moment_of r.old) c.early).disk
   pub some : Image
   pub possible : IsImage (last_of (moment_of r.old) c.early).disk some
   pub past : r.new.past ≡ r.old.past ++ (c.early ++ c.late)
@@ -51,11 +51,11 @@ pub record Journals (p : Program) (r : Observed) (c : Course) : Type 0 where
   pub commits : c.added ≡ commits_of journal
   pub backs : Backs journal c.added
   pub kept : (m : Moment) → Member m (moments r c) → SaysIn p r c journal m
-  pub batches : (image : Image) (log : List Commit) → IsImageOf (moments r c) image → IsLog c.live (shape_in p) image log →
+  pub batches : (image : Image) (log : Log) → IsImageOf (moments r c) image → IsLog c.live image log →
       EndsABatch (core_end p c) c.opening log
   pub last : Image
   pub left : IsImageOf (moments r c) last
-  pub longest : IsLog c.live (shape_in p) last (order c)
+  pub longest : IsLog c.live last (order c)
   pub alone : (m : Moment) → Member m (moments r c) → LeavesAlone c.live r m
 
 -- The records are those of the core's committed units. The events keep the unit rule, and on one thread the turn rule.
@@ -74,8 +74,8 @@ pub record ExplainsEvents (p : Program) (r : Observed) (c : Course) : Type 0 whe
 -- be in doubt and that no image has is in no record, and the block of a batch in doubt stands behind its gate. Where no batch
 -- failed to be sealed, nothing was left behind the log.
 pub record LeavesAtExit (p : Program) (r : Observed) (c : Course) : Type 0 where
-  pub logs : (image : Image) → IsImage r.new.disk image → HasLogAtExit p c (core_end p c) image
-  pub nowhere : (e : Entry) → Member e c.entries → e.what ≡ InDoubt → IsNowhere c.live p r e.unit → HasNoRecord c e.unit
+  pub logs : (image : Image) → IsImage r.new.disk image → HasLogAtExit c (core_end p c) image
+  pub nowhere : (e : Entry) → Member e c.entries → e.what ≡ InDoubt → IsNowhere c.live r e.unit → HasNoRecord c e.unit
   pub block : RunHasDoubt (core_run p c) → BlockInDoubt c.live r c (core_end p c)
   pub behind : how_many is_unsealed (core_run p c) ≡ 0 → (image : Image) → IsImage r.new.disk image → EndsAsRead c.live r image
 
@@ -92,9 +92,10 @@ pub record EndsRightly (p : Program) (r : Observed) (c : Course) : Type 0 where
   pub syncs : NoneRose r.faults_before r.faults_after → CountsSyncs r.ending → r.new.syncs ≡ r.old.syncs + syncs_of (core_run p c)
   pub most : r.new.syncs ≤ r.old.syncs + most_syncs_of (core_run p c)
 
--- what a run has to show
+-- what a run has to show; the program is that in force
 pub record Shows (p : Program) (r : Observed) (c : Course) : Type 0 where
-  pub opens : Opens p r c
+  pub in_force : program_in_force c ≡ p
+  pub opens : Opens r c
   pub explains : ExplainsEvents p r c
   pub settled : AreSettled p r c
   pub output : Grew (shape_in p) r.old.output r.new.output c.entries c.rest
@@ -105,6 +106,7 @@ pub record Shows (p : Program) (r : Observed) (c : Course) : Type 0 where
 
 -- what a run has to show over any folder that reads as a silo, sound or not: nothing of what the images hold
 pub record ShowsAnywhere (p : Program) (r : Observed) (c : Course) : Type 0 where
+  pub in_force : program_in_force c ≡ p
   pub explains : ExplainsEvents p r c
   pub settled : AreSettled p r c
   pub output : Grew (shape_in p) r.old.output r.new.output c.entries c.rest
@@ -113,6 +115,6 @@ pub record ShowsAnywhere (p : Program) (r : Observed) (c : Course) : Type 0 wher
 
 -- and what it has to show of the images, over a whole folder
 pub record Lasts (p : Program) (r : Observed) (c : Course) : Type 0 where
-  pub opens : Opens p r c
+  pub opens : Opens r c
   pub journals : Journals p r c
   pub leaves : LeavesAtExit p r c

@@ -33,7 +33,10 @@ pub use calm::{calm_runs_are_undisturbed, single_runs_meet_no_lock};
 pub use causes::explained_aborts_have_causes;
 pub use closing::{carried_runs_promise, kept_journals_last, read_folders_open};
 pub use families::explained_runs_are_families;
-pub use folders::{crashes_leave_sound_folders, folders_stay_sound};
+pub use folders::{
+    crashes_leave_sound_folders, folders_keep_their_program, folders_stay_sound,
+    fresh_silos_have_an_empty_log,
+};
 pub use gotten::units_got_what_the_core_shows;
 pub use loads::{loads_count_each_line, loads_follow_runs};
 pub use proper::settled_entries_are_proper;

@@ -18,5 +18,5 @@ pub fn loads_count_each_line()
 /// the replies, keeps what is promised of a load.
 pub fn loads_follow_runs()
     ensures { (p : Program) (n seed : ℕ) (r s : Observed) (c : Course) (told : List Moment) → Keeps p r c → r.ending ≡ Done
-        → AskFor p.types (lines r) (load_calls n seed) → IsQuietRun r c (summary_text p r c) told s → KeepsLoad p n seed s (quiet_course r c told) }
+        → AskFor p.types (lines r) (load_calls n seed) → IsQuietRun r c (summary_text r c) told s → KeepsLoad p n seed s (quiet_course r c told) }
 {}

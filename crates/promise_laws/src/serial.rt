@@ -8,7 +8,8 @@ ghost use Rattle.script_tree.specs.Programs.{ProgramTree};
 ghost use Rattle.promise_spec.specs.Programs.{Program};
 ghost use Rattle.promise_spec.specs.Serial.{IsSerial};
 ghost use Rattle.promise_spec.specs.UnitRule.{Basis, IsPlayOf, KeepsUnitRule};
-ghost use Rattle.promise_spec.specs.Courses.{Observed, Course, opening_standing};
+ghost use Rattle.promise_spec.specs.Courses.{Observed, Course};
+ghost use Rattle.promise_spec.specs.Entries.{standing_of};
 ghost use Rattle.promise_spec.specs.Explained.{IsExplained};
 ghost use Rattle.promise_laws.specs.Legality.{is_play, applied_run};
 
@@ -24,7 +25,7 @@ pub fn runs_are_legal()
 /// of the batch in doubt, and the events keep the unit rule, the records are serial from what the opening log stands
 /// for. This is the core's own law, carried from its effects to the records.
 pub fn explained_runs_are_serial()
-    ensures { (p : Program) (r : Observed) (c : Course) → IsExplained p r c → IsSerial p.types (opening_standing p c).states c.added }
+    ensures { (p : Program) (r : Observed) (c : Course) → 0 < c.opening.base.next → IsExplained p r c → IsSerial p.types (standing_of c.opening).states c.added }
 {}
 
 /// Where a run keeps the unit rule, each entry that it settles has its cause at an event of the run.

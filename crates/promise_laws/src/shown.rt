@@ -1,9 +1,7 @@
 ghost use Rattle.std.specs.Prelude.{◌≡◌};
-ghost use Rattle.host_trait.specs.declared.channels.FileId.TheVariants.{Program as ProgramFile};
-ghost use Rattle.silo_spec.specs.Silos.{HasProgram};
-ghost use Rattle.promise_spec.specs.Programs.{Program, IsChecked};
+ghost use Rattle.promise_spec.specs.Programs.{Program};
 ghost use Rattle.promise_spec.specs.Words.{Manner};
-ghost use Rattle.promise_spec.specs.Courses.{Observed, Course, seen_at_entry};
+ghost use Rattle.promise_spec.specs.Courses.{Observed, Course};
 ghost use Rattle.promise_spec.specs.Promise.{Keeps, Promises};
 ghost use Rattle.promise_laws.specs.Obligations.{Shows};
 
@@ -12,8 +10,7 @@ pub fn shown_runs_keep()
     ensures { (p : Program) (r : Observed) (c : Course) → Shows p r c → Keeps p r c }
 {}
 
-/// And it promises so, in the manner of its words, where its files read as a checked program at entry.
+/// And it promises so, in the manner of its words, over whatever folder.
 pub fn shown_runs_promise()
-    ensures { (m : Manner) (p : Program) (r : Observed) (c : Course) → r.manner ≡ m → IsChecked p
-        → HasProgram p.text (seen_at_entry r (ProgramFile c.live)) → Shows p r c → Promises m r }
+    ensures { (m : Manner) (p : Program) (r : Observed) (c : Course) → r.manner ≡ m → Shows p r c → Promises m r }
 {}

@@ -1,5 +1,5 @@
-ghost use Rattle.std.specs.Prelude.{◌≡◌, ◌⊎◌, ◌++◌, ℕ, List, [], ◌∷◌, take, ◌≤◌, length, map};
-ghost use Rattle.std.specs.List.{flat_map, AllByRecursion};
+ghost use Rattle.std.specs.Prelude.{◌≡◌, ◌⊎◌, ◌++◌, ℕ, List, [], ◌∷◌, take, ◌≤◌, length};
+ghost use Rattle.std.specs.List.{AllByRecursion};
 ghost use Rattle.base_types.specs.declared.shapes.Shape.{Shape};
 ghost use Rattle.field_codec.specs.declared.units.Numbers.TheVariants.{Logged};
 ghost use Rattle.commit_log.specs.Bodies.{IsRecordIn};
@@ -7,20 +7,21 @@ ghost use Rattle.gate_block.specs.Log.{LogsUpTo};
 ghost use Rattle.base_types.specs.declared.entries.Entry.{Entry};
 ghost use Rattle.host_trait.specs.Disk.{MayLeave};
 ghost use Rattle.host_trait.specs.declared.channels.FileId.{FileId};
-ghost use Rattle.host_trait.specs.declared.channels.FileId.TheVariants.{Manager, Program as ProgramFile};
+ghost use Rattle.host_trait.specs.declared.channels.FileId.TheVariants.{Manager};
 ghost use Rattle.host_trait.specs.World.{World, Moment, Disk, Image, IsImage, Passes, Ticks, Emitted, IsEmitted, moment_of, Arrives};
 ghost use Rattle.host_trait.specs.Runs.{OnlyAsked};
-ghost use Rattle.silo_spec.specs.Silos.{HasProgram};
-ghost use Rattle.promise_spec.specs.Logs.{body_of, IsLog, IsPrefix};
+ghost use Rattle.promise_spec.specs.Logs.{StandsUpTo, IsLog, IsPrefix};
 ghost use Rattle.promise_spec.specs.Images.{IsWholeFolder, AreChained, AreNumbered, IsSoundIfSilo};
 ghost use Rattle.request_wire.specs.Reply.{reply_line};
 ghost use Rattle.promise_spec.specs.Programs.{Program, shape_in};
-ghost use Rattle.promise_spec.specs.Records.{Commit, new_silo};
+ghost use Rattle.promise_spec.specs.Records.{Commit};
+ghost use Rattle.promise_spec.specs.Entries.{Log, records_of, grown};
+ghost use Rattle.promise_spec.specs.Blocks.{Records, body_of};
 ghost use Rattle.promise_spec.specs.Outputs.{IsProper};
 ghost use Rattle.core_model.specs.CoreState.{Member};
 ghost use Rattle.promise_spec.specs.Crashes.{Acknowledges, Holds};
 ghost use Rattle.promise_spec.specs.Journals.{Settlement, Backs, AllKeep, AllSay, AllLog, JournalAt, DoubtAt, CutAt, Seals, Doubts, commits_of, entries_of, KeepsJournal};
-ghost use Rattle.promise_spec.specs.Serial.{IsSerial};
+ghost use Rattle.promise_spec.specs.Serial.{IsSerialFrom};
 ghost use Rattle.promise_spec.specs.Moments.{IsImageOf, IsLongest};
 ghost use Rattle.promise_spec.specs.Courses.{Observed, Course};
 
@@ -28,29 +29,29 @@ ghost use Rattle.promise_spec.specs.Courses.{Observed, Course};
 /// output alone keep it, a seal makes it longer by the batch, and settlements without records make it longer without a
 /// call. What each image says of it each image keeps.
 pub fn journals_go_on()
-    ensures begins { (live : ℕ) (p : Program) (opening : List Commit) (old now : World) → now.output ≡ old.output → now.past ≡ old.past
-        → AllLog live p opening now.disk → JournalAt live p opening old [] [] now }
-    ensures stays { (live : ℕ) (p : Program) (opening : List Commit) (old mid new : World) (said unsaid : List Settlement)
+    ensures begins { (live : ℕ) (p : Program) (opening : Log) (old now : World) → now.output ≡ old.output → now.past ≡ old.past
+        → AllLog live opening now.disk → JournalAt live p opening old [] [] now }
+    ensures stays { (live : ℕ) (p : Program) (opening : Log) (old mid new : World) (said unsaid : List Settlement)
         → AllByRecursion (IsProper (shape_in p)) (entries_of said) → JournalAt live p opening old said unsaid mid
-        → Seals live p (opening ++ commits_of (said ++ unsaid)) [] mid new → JournalAt live p opening old said unsaid new }
-    ensures asked { (live : ℕ) (p : Program) (before : List Commit) (mid new : World) → OnlyAsked mid new → AllLog live p before mid.disk → Seals live p before [] mid new }
-    ensures seals { (live : ℕ) (p : Program) (opening : List Commit) (old mid new : World) (said unsaid batch : List Settlement)
+        → Seals live (grown opening (commits_of (said ++ unsaid))) [] mid new → JournalAt live p opening old said unsaid new }
+    ensures asked { (live : ℕ) (before : Log) (mid new : World) → OnlyAsked mid new → AllLog live before mid.disk → Seals live before [] mid new }
+    ensures seals { (live : ℕ) (p : Program) (opening : Log) (old mid new : World) (said unsaid batch : List Settlement)
         → AllByRecursion (IsProper (shape_in p)) (entries_of said) → JournalAt live p opening old said unsaid mid
-        → Seals live p (opening ++ commits_of (said ++ unsaid)) batch mid new → JournalAt live p opening old said (unsaid ++ batch) new }
-    ensures kept { (live : ℕ) (p : Program) (opening : List Commit) (before : List ℕ) (said journal : List Settlement) (m : Moment)
+        → Seals live (grown opening (commits_of (said ++ unsaid))) batch mid new → JournalAt live p opening old said (unsaid ++ batch) new }
+    ensures kept { (live : ℕ) (p : Program) (opening : Log) (before : List ℕ) (said journal : List Settlement) (m : Moment)
         → AllSay live p opening before said journal m → AllKeep live p opening before journal m }
-    ensures settles { (live : ℕ) (p : Program) (opening : List Commit) (old now : World) (said unsaid more : List Settlement)
+    ensures settles { (live : ℕ) (p : Program) (opening : Log) (old now : World) (said unsaid more : List Settlement)
         → commits_of more ≡ [] → JournalAt live p opening old said unsaid now → JournalAt live p opening old said (unsaid ++ more) now }
 {}
 
 /// The next entry is written: its line stands whole in the output, or, where the call failed, whole or cut.
 pub fn journals_are_told()
-    ensures emits { (live : ℕ) (p : Program) (opening : List Commit) (old mid new : World) (said moved unsaid : List Settlement) (e : Entry)
+    ensures emits { (live : ℕ) (p : Program) (opening : Log) (old mid new : World) (said moved unsaid : List Settlement) (e : Entry)
         → entries_of moved ≡ e ∷ [] → AllByRecursion (IsProper (shape_in p)) (entries_of (said ++ moved))
         → JournalAt live p opening old said (moved ++ unsaid) mid → IsEmitted (reply_line (shape_in p) e) mid new
         → JournalAt live p opening old (said ++ moved) unsaid new }
     ensures front { (shape : Shape) (e : Entry) (n : ℕ) → IsPrefix (take n (reply_line shape e)) (reply_line shape e) }
-    ensures fails { (live : ℕ) (p : Program) (opening : List Commit) (old mid new : World) (said moved unsaid : List Settlement) (e : Entry) (n : ℕ)
+    ensures fails { (live : ℕ) (p : Program) (opening : Log) (old mid new : World) (said moved unsaid : List Settlement) (e : Entry) (n : ℕ)
         → entries_of moved ≡ e ∷ [] → AllByRecursion (IsProper (shape_in p)) (entries_of (said ++ moved))
         → JournalAt live p opening old said (moved ++ unsaid) mid → Emitted n (reply_line (shape_in p) e) mid new
         → JournalAt live p opening old (said ++ moved) unsaid new ⊎ CutAt live p opening old said (moved ++ unsaid) [] (take n (reply_line (shape_in p) e)) new }
@@ -59,20 +60,20 @@ pub fn journals_are_told()
 /// A batch is in doubt. Its units' entries, which name no outcome, stand in the journal, and behind them the batch, where an
 /// image may have it; where none has it, at no moment, the entries alone. Then entries are written as before.
 pub fn journals_doubt()
-    ensures unbegun { (live : ℕ) (p : Program) (opening : List Commit) (old mid new : World) (said unsaid names : List Settlement)
+    ensures unbegun { (live : ℕ) (p : Program) (opening : Log) (old mid new : World) (said unsaid names : List Settlement)
         → commits_of names ≡ [] → AllByRecursion (IsProper (shape_in p)) (entries_of said) → JournalAt live p opening old said unsaid mid
-        → Seals live p (opening ++ commits_of (said ++ unsaid)) [] mid new → JournalAt live p opening old said (unsaid ++ names) new }
-    ensures doubts { (live : ℕ) (p : Program) (opening : List Commit) (old mid new : World) (said unsaid names : List Settlement) (batch : Settlement)
+        → Seals live (grown opening (commits_of (said ++ unsaid))) [] mid new → JournalAt live p opening old said (unsaid ++ names) new }
+    ensures doubts { (live : ℕ) (p : Program) (opening : Log) (old mid new : World) (said unsaid names : List Settlement) (batch : Settlement)
         → commits_of names ≡ [] → AllByRecursion (IsProper (shape_in p)) (entries_of said) → JournalAt live p opening old said unsaid mid
-        → Doubts live p (opening ++ commits_of (said ++ unsaid)) batch mid new → DoubtAt live p opening old said (unsaid ++ names) batch new }
-    ensures stays { (live : ℕ) (p : Program) (opening : List Commit) (old mid new : World) (said unsaid : List Settlement) (batch : Settlement)
+        → Doubts live (grown opening (commits_of (said ++ unsaid))) batch mid new → DoubtAt live p opening old said (unsaid ++ names) batch new }
+    ensures stays { (live : ℕ) (p : Program) (opening : Log) (old mid new : World) (said unsaid : List Settlement) (batch : Settlement)
         → AllByRecursion (IsProper (shape_in p)) (entries_of said) → DoubtAt live p opening old said unsaid batch mid
         → Passes (λ m. m ≡ moment_of mid) mid.past new.past → moment_of new ≡ moment_of mid → DoubtAt live p opening old said unsaid batch new }
-    ensures emits { (live : ℕ) (p : Program) (opening : List Commit) (old mid new : World) (said moved unsaid : List Settlement) (batch : Settlement) (e : Entry)
+    ensures emits { (live : ℕ) (p : Program) (opening : Log) (old mid new : World) (said moved unsaid : List Settlement) (batch : Settlement) (e : Entry)
         → entries_of moved ≡ e ∷ [] → AllByRecursion (IsProper (shape_in p)) (entries_of (said ++ moved))
         → DoubtAt live p opening old said (moved ++ unsaid) batch mid → IsEmitted (reply_line (shape_in p) e) mid new
         → DoubtAt live p opening old (said ++ moved) unsaid batch new }
-    ensures fails { (live : ℕ) (p : Program) (opening : List Commit) (old mid new : World) (said moved unsaid : List Settlement) (batch : Settlement) (e : Entry) (n : ℕ)
+    ensures fails { (live : ℕ) (p : Program) (opening : Log) (old mid new : World) (said moved unsaid : List Settlement) (batch : Settlement) (e : Entry) (n : ℕ)
         → entries_of moved ≡ e ∷ [] → AllByRecursion (IsProper (shape_in p)) (entries_of (said ++ moved))
         → DoubtAt live p opening old said (moved ++ unsaid) batch mid → Emitted n (reply_line (shape_in p) e) mid new
         → DoubtAt live p opening old (said ++ moved) unsaid batch new
@@ -81,18 +82,18 @@ pub fn journals_doubt()
 
 /// Whole lines are a cut without a rest: so what holds at the end of a run whose last line was cut holds of every run.
 pub fn whole_journals_are_cut()
-    ensures journal { (live : ℕ) (p : Program) (opening : List Commit) (old now : World) (said unsaid : List Settlement)
+    ensures journal { (live : ℕ) (p : Program) (opening : Log) (old now : World) (said unsaid : List Settlement)
         → JournalAt live p opening old said unsaid now → CutAt live p opening old said unsaid [] [] now }
-    ensures doubt { (live : ℕ) (p : Program) (opening : List Commit) (old now : World) (said unsaid : List Settlement) (batch : Settlement)
+    ensures doubt { (live : ℕ) (p : Program) (opening : Log) (old now : World) (said unsaid : List Settlement) (batch : Settlement)
         → DoubtAt live p opening old said unsaid batch now → CutAt live p opening old said unsaid (batch ∷ []) [] now }
 {}
 
 /// Over a whole folder whose files read as this log, each image that has the live manager file as it reads has this log too: so after
 /// a sync of that file every image has it.
 pub fn settled_folders_have_one_log()
-    ensures { (live : ℕ) (p : Program) (w : World) (disk : Disk) (log : List Commit) → IsWholeFolder p w → ((file : FileId) → MayLeave (w.disk file) (w.disk file).seen)
+    ensures { (live : ℕ) (w : World) (disk : Disk) (log : Log) → IsWholeFolder w → ((file : FileId) → MayLeave (w.disk file) (w.disk file).seen)
         → ((image : Image) → IsImage disk image → IsImage w.disk image × (image (Manager live) ≡ (w.disk (Manager live)).seen))
-        → IsLog live (shape_in p) (λ file. (w.disk file).seen) log → AllLog live p log disk }
+        → IsLog live (λ file. (w.disk file).seen) log → AllLog live log disk }
 {}
 
 /// The last moment of a call is what the host then shows, so it is after one call, after one run of calls and another, and where
@@ -113,28 +114,27 @@ pub fn journals_back_entries()
         → Backs (j ++ batch) (commits_of (j ++ batch)) }
 {}
 
-/// Where the live manager file may be left with the block of a batch in doubt, an image has the batch.
+/// Where the live manager file may be left with the block of a batch in doubt behind the bodies of a log, an image has the batch.
 pub fn doubts_have_an_image()
-    ensures { (live : ℕ) (shape : Shape) (disk : Disk) (batches : List (List Commit)) (batch : List Commit) (gate : ℕ) (c : List ℕ)
-        → AllByRecursion (λ (b : List Commit). length b ≤ 64) batches → length batch ≤ 64
-        → AllByRecursion (λ (l : Commit). IsRecordIn Logged shape l.logged) batch
-        → MayLeave (disk (Manager live)) c → LogsUpTo (map body_of (batches ++ batch ∷ [])) gate c → (rest : Image) → IsImage disk rest
-        → ((image : Image) → IsImage disk image → IsLog live shape image (flat_map (λ (b : List Commit). b) batches)
-        ⊎ IsLog live shape image (flat_map (λ (b : List Commit). b) batches ++ batch))
-        → (image : Image) × (IsImage disk image × IsLog live shape image (flat_map (λ (b : List Commit). b) batches ++ batch)) }
+    ensures { (live : ℕ) (disk : Disk) (some : Image) (before : Log) (bodies : List (List ℕ)) (at : ℕ) (batch : List Commit) (gate : ℕ) (c : List ℕ)
+        → (s : StandsUpTo live some before bodies at) → length batch ≤ 64
+        → AllByRecursion (λ (l : Commit). IsRecordIn Logged (shape_in s.program) l.logged) batch
+        → MayLeave (disk (Manager live)) c → LogsUpTo (bodies ++ body_of (Records batch) ∷ []) gate c → (rest : Image) → IsImage disk rest
+        → ((image : Image) → IsImage disk image → IsLog live image before ⊎ IsLog live image (grown before batch))
+        → (image : Image) × (IsImage disk image × IsLog live image (grown before batch)) }
 {}
 
 /// From a journal that each image keeps: the images of any moments are a chain, the order is the opening log with the
 /// journal's records, each image is sound where the order is serial, and each holds what was acknowledged by then.
 pub fn journals_survive()
-    ensures chained { (live : ℕ) (p : Program) (opening : List Commit) (before : List ℕ) (journal : List Settlement) (m n : Moment) (a b : Image)
-        → KeepsJournal live p opening before journal m a → KeepsJournal live p opening before journal n b → AreChained p a b }
-    ensures longest { (live : ℕ) (p : Program) (opening : List Commit) (before : List ℕ) (journal : List Settlement) (moments : List Moment) (image : Image)
-        → IsImageOf moments image → IsLog live (shape_in p) image (opening ++ commits_of journal)
-        → ((m : Moment) → Member m moments → AllKeep live p opening before journal m) → IsLongest live p moments (opening ++ commits_of journal) }
-    ensures sound { (live : ℕ) (p : Program) (opening : List Commit) (before : List ℕ) (journal : List Settlement) (m : Moment) (image : Image)
-        → KeepsJournal live p opening before journal m image → HasProgram p.text (image (ProgramFile live))
-        → IsSerial p.types (new_silo p.types).states (opening ++ commits_of journal) → AreNumbered 1 (opening ++ commits_of journal) → IsSoundIfSilo p image }
+    ensures chained { (live : ℕ) (p : Program) (opening : Log) (before : List ℕ) (journal : List Settlement) (m n : Moment) (a b : Image)
+        → KeepsJournal live p opening before journal m a → KeepsJournal live p opening before journal n b → AreChained a b }
+    ensures longest { (live : ℕ) (p : Program) (opening : Log) (before : List ℕ) (journal : List Settlement) (moments : List Moment) (image : Image)
+        → IsImageOf moments image → IsLog live image (grown opening (commits_of journal))
+        → ((m : Moment) → Member m moments → AllKeep live p opening before journal m) → IsLongest live moments (grown opening (commits_of journal)) }
+    ensures sound { (live : ℕ) (p : Program) (opening : Log) (before : List ℕ) (journal : List Settlement) (m : Moment) (image : Image)
+        → KeepsJournal live p opening before journal m image → IsSerialFrom opening.base (grown opening (commits_of journal)).entries
+        → AreNumbered opening.base.next (records_of (grown opening (commits_of journal))) → IsSoundIfSilo image }
     ensures holds { (p : Program) (r : Observed) (c : Course) (journal : List Settlement) (m : Moment) (image : Image) → Backs journal c.added
         → (k : KeepsJournal c.live p c.opening r.old.output journal m image) → IsPrefix (entries_of k.said) c.entries → Holds p r c m image }
 {}

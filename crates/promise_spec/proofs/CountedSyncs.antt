@@ -5,7 +5,8 @@ use Rattle.promise_spec.specs.Programs.{Program}
 use Rattle.promise_spec.specs.Cores.{core_from}
 use Rattle.promise_spec.specs.Causes.{NoneRose, syncs_of}
 use Rattle.promise_spec.specs.Endings.{Done, InputTooLong, CountsSyncs, IsBegun}
-use Rattle.promise_spec.specs.Courses.{Observed, Course, opening_standing, core_run}
+use Rattle.promise_spec.specs.Courses.{Observed, Course, core_run}
+use Rattle.promise_spec.specs.Entries.{standing_of}
 use Rattle.promise_spec.specs.Promise.{Keeps}
 use Rattle.promise_spec.proofs.Opened.{no_events}
 
@@ -18,5 +19,5 @@ module _ (p : Program) (r : Observed) (c : Course) where
   pub long_syncs : (line : ℕ) → Keeps p r c → NoneRose r.faults_before r.faults_after → r.ending ≡ InputTooLong line → r.new.syncs ≡ r.old.syncs + 1
   long_syncs line keeps calm is =
       let none : c.events ≡ [] = no_events p r c keeps (λ begun. subst IsBegun is begun) in
-      let few : syncs_of (core_run p c) ≡ 1 = ap (λ (events : List CoreEvent). syncs_of (core_from p.types (opening_standing p c) events)) none in
+      let few : syncs_of (core_run p c) ≡ 1 = ap (λ (events : List CoreEvent). syncs_of (core_from p.types (standing_of c.opening) events)) none in
       keeps.ended.syncs calm (subst CountsSyncs (sym is) tt) ∙ ap (λ (n : ℕ). r.old.syncs + n) few

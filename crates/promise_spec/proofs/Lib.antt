@@ -1,6 +1,11 @@
 pub mod Lists
 pub mod Slots
+pub mod Standings
+pub mod Prefixes
+pub mod Growing
+pub mod Batched
 pub mod OneLog
+pub mod Chains
 pub mod EntryLines
 pub mod PlainNames
 pub mod ReadBlocks
@@ -8,7 +13,6 @@ pub mod ReadVersions
 pub mod Openings
 pub mod Doubts
 pub mod Words
-pub mod Standings
 pub mod Opened
 pub mod CountedSyncs
 pub mod WholeFolders

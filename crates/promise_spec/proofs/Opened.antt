@@ -8,7 +8,8 @@ use Rattle.promise_spec.specs.Programs.{Program}
 use Rattle.promise_spec.specs.Openings.{Reads, opened_as}
 use Rattle.promise_spec.specs.Endings as ending
 use Rattle.promise_spec.specs.Cores.{core_from}
-use Rattle.promise_spec.specs.Courses.{Observed, Course, seen_at_entry, opening_standing, core_end}
+use Rattle.promise_spec.specs.Courses.{Observed, Course, seen_at_entry, core_end}
+use Rattle.promise_spec.specs.Entries.{standing_of}
 use Rattle.promise_spec.specs.Promise.{Keeps, KeepsAnywhere}
 use Rattle.promise_spec.proofs.Lists.{in_append}
 
@@ -24,12 +25,13 @@ module _ (p : Program) (r : Observed) (c : Course) where
   -- and no entries
   pub unbegun_entry : (e : Entry) → Keeps p r c → (ending.IsBegun r.ending → ⊥) → Member e c.entries → ⊥
   unbegun_entry e keeps never there =
-      let settled_is : (core_end p c).manager.settled ≡ [] = ap (λ (events : List CoreEvent). (ends (core_from p.types (opening_standing p c) events)).manager.settled) (no_events keeps never) in
+      let settled_is : (core_end p c).manager.settled ≡ [] = ap (λ (events : List CoreEvent). (ends (core_from p.types (standing_of c.opening) events)).manager.settled) (no_events keeps never) in
       subst (λ (x : List Entry). Member e x) settled_is (in_settled e keeps there)
 
   -- what it keeps over any folder that reads as its log
-  pub kept_anywhere : Keeps p r c → opened_as (seen_at_entry r) ≡ Reads c.live p c.opening → KeepsAnywhere p r c
+  pub kept_anywhere : Keeps p r c → opened_as (seen_at_entry r) ≡ Reads c.live c.opening → KeepsAnywhere p r c
   kept_anywhere keeps reads = record {
+    in_force = keeps.headline.ordered.in_force;
     reads = reads;
     output = keeps.headline.replies.output;
     whole = keeps.headline.replies.whole;

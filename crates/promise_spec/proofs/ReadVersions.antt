@@ -32,7 +32,7 @@ use Rattle.cell_model.specs.Units as cell
 use Rattle.cell_model.proofs.Units.{same_grain-true, same_grain-is, filter-stays}
 use Rattle.script_holding.specs.Holding.{same_grain}
 use Rattle.promise_spec.specs.Records.{Commit, ascending_with, ascending}
-use Rattle.promise_spec.specs.Logs.{WriteStands, WritesStand, IsKept}
+use Rattle.promise_spec.specs.Versions.{WriteStands, WritesStand, IsKept}
 use Rattle.promise_spec.specs.Openings.{Named, named_by, named_by_grain, is_owned, version_named, missing_or, first_missing, state_of, commit_of}
 use Rattle.promise_spec.proofs.Lists.{parts_of, both_parts, each_of, all_of, in_flat, all_flat}
 

@@ -7,13 +7,13 @@ use Rattle.silo_spec.specs.Silos.{manager, IsSilo, IsNewSilo}
 use Rattle.silo_spec.specs.Moments.{IsUntouched}
 use Rattle.silo_spec.specs.Making.{CameThisFar, IsBeside}
 use Rattle.script_tree.specs.Programs.{ProgramTree}
-use Rattle.promise_spec.specs.Programs.{Program, ProgramFault, text_limit, program_in}
-use Rattle.promise_spec.specs.Records.{Commit, log_start}
-use Rattle.promise_spec.specs.Serial.{IsSerial, Replays}
+use Rattle.promise_spec.specs.Programs.{ProgramFault, text_limit, program_in}
+use Rattle.promise_spec.specs.Records.{Commit}
+use Rattle.promise_spec.specs.Entries.{LogEntry, Recorded, Log, after_entries}
+use Rattle.promise_spec.specs.Serial.{IsSerialFrom, Replays}
 use Rattle.promise_spec.specs.Logs.{magic, IsPrefix}
 use Rattle.promise_spec.specs.Openings.{Reads, opened_as}
 use Rattle.promise_spec.specs.Endings.{Ending, Done, Memory, ReadFault, WriteFault, DiskFault, AlreadyASilo, BadProgram, InputTooLong, HasRisen}
-use Rattle.promise_spec.specs.Family.{states_after}
 use Rattle.promise_spec.specs.Courses.{Observed, seen_at_entry}
 use Rattle.promise_spec.specs.Refusals.{IsHead, IsUnopened}
 use Rattle.promise_spec.specs.Reports.{audit_text}
@@ -92,12 +92,11 @@ LeavesAsBefore live old m = (image : Image) → IsImage m.disk image →
 -- A report of the folder: it prints the text of the log as the folder reads at entry, and nothing of the folder
 -- changes, nor is any input read. It is done, or there was no memory, or the output or a file failed, which the count
 -- shows.
-pub record IsReported (text : Program → List Commit → List ℕ) (r : Observed) : Type 0 where
+pub record IsReported (text : Log → List ℕ) (r : Observed) : Type 0 where
   pub live : ℕ
-  pub program : Program
-  pub log : List Commit
-  pub reads : opened_as (seen_at_entry r) ≡ Reads live program log
-  pub prints : Prints (text program log) r
+  pub log : Log
+  pub reads : opened_as (seen_at_entry r) ≡ Reads live log
+  pub prints : Prints (text log) r
   pub unread : r.new.input ≡ r.old.input
   pub moments : Passes (LeavesAsBefore live r.old) r.old.past r.new.past
   pub now : LeavesAsBefore live r.old (moment_of r.new)
@@ -107,21 +106,21 @@ pub record IsReported (text : Program → List Commit → List ℕ) (r : Observe
 
 -- What `show` and `history` promise of any folder, each of its text: they don't open it and leave all as it was, or they
 -- report its log.
-abbrev pub Reports : (Program → List Commit → List ℕ) → Observed → Type 0
+abbrev pub Reports : (Log → List ℕ) → Observed → Type 0
 Reports text r = IsUnopened r ⊎ IsReported text r
 
 -- the first record that doesn't replay is this unit's; there is none exactly where the log is serial
-abbrev pub IsFirstBad : Program → List Commit → Option ℕ → Type 0
-IsFirstBad p log None = IsSerial p.types (log_start p.types).states log
-IsFirstBad p log (Some unit) =
-    (front : List Commit) × (bad : Commit) × (back : List Commit) × (log ≡ (front ++ (bad ∷ back))) × (bad.logged.unit.0 ≡ unit)
-    × IsSerial p.types (log_start p.types).states front × (Replays p.types (states_after (log_start p.types).states front) bad → ⊥)
+abbrev pub IsFirstBad : Log → Option ℕ → Type 0
+IsFirstBad log None = IsSerialFrom log.base log.entries
+IsFirstBad log (Some unit) =
+    (front : List LogEntry) × (bad : Commit) × (back : List LogEntry) × (log.entries ≡ (front ++ (Recorded bad ∷ back))) × (bad.logged.unit.0 ≡ unit)
+    × IsSerialFrom log.base front × (Replays (after_entries log.base front).program.types (after_entries log.base front).states bad → ⊥)
 
 -- an audit of the folder: it names the first unit of the log whose record doesn't replay
 pub record IsAudited (r : Observed) : Type 0 where
   pub first_bad : Option ℕ
-  pub report : IsReported (λ p log. audit_text log first_bad) r
-  pub first : IsFirstBad report.program report.log first_bad
+  pub report : IsReported (λ log. audit_text log first_bad) r
+  pub first : IsFirstBad report.log first_bad
 
 -- What `audit` promises of any folder, sound or not: it doesn't open it and leaves all as it was, or audits its log.
 abbrev pub Audits : Observed → Type 0

@@ -6,7 +6,7 @@ use Rattle.core_model.specs.declared.events.CoreEvent.{CoreEvent}
 use Rattle.core_model.specs.Events.{applies, step, run}
 use Rattle.core_model.specs.Legal.{Run, begins}
 use Rattle.script_tree.specs.Programs.{ProgramTree}
-use Rattle.promise_spec.specs.Records.{Standing}
+use Rattle.promise_spec.specs.Entries.{Standing}
 
 -- the core's run: its units are numbered from the next number on, its grains have the states that the log stands for,
 -- and every grain is in memory

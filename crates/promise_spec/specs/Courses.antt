@@ -1,12 +1,13 @@
 -- What a run was given, saw and did, and the course that it took.
-use Rattle.std.specs.Prelude.{ℕ, List, ◌++◌}
+use Rattle.std.specs.Prelude.{ℕ, List}
 use Rattle.base_types.specs.declared.entries.Entry.{Entry}
 use Rattle.host_trait.specs.declared.channels.Channel.{Channel}
 use Rattle.host_trait.specs.World.{World, Moment, Image}
 use Rattle.core_model.specs.CoreState as core
 use Rattle.core_model.specs.declared.events.CoreEvent.{CoreEvent}
 use Rattle.core_model.specs.Legal as legal
-use Rattle.promise_spec.specs.Records.{Commit, Standing, standing_of}
+use Rattle.promise_spec.specs.Records.{Commit}
+use Rattle.promise_spec.specs.Entries.{Log, standing_of, grown}
 use Rattle.promise_spec.specs.Programs.{Program}
 use Rattle.promise_spec.specs.Moments.{counted_moments}
 use Rattle.promise_spec.specs.Cores.{core_from}
@@ -30,7 +31,7 @@ pub record Observed : Type 0 where
 -- that were written, with a rest that is none.
 pub record Course : Type 0 where
   pub live : ℕ
-  pub opening : List Commit
+  pub opening : Log
   pub added : List Commit
   pub early : List Moment
   pub late : List Moment
@@ -39,8 +40,12 @@ pub record Course : Type 0 where
   pub rest : List ℕ
 
 -- the order of the run
-abbrev pub order : Course → List Commit
-order c = c.opening ++ c.added
+abbrev pub order : Course → Log
+order c = grown c.opening c.added
+
+-- the program in force, which is `p` of all clauses
+abbrev pub program_in_force : Course → Program
+program_in_force c = (standing_of c.opening).program
 
 -- the moments that count for crashes
 abbrev pub moments : Observed → Course → List Moment
@@ -54,17 +59,13 @@ seen_at_entry r file = (r.old.disk file).seen
 abbrev pub lines : Observed → List (List ℕ)
 lines r = r.asked
 
--- what the opening log stands for
-abbrev pub opening_standing : Program → Course → Standing
-opening_standing p c = standing_of p.types c.opening
-
 -- what the unit rule is told of the run
 abbrev pub basis : Program → Observed → Course → Basis
-basis p r c = record { types = p.types; lines = lines r; opening = opening_standing p c }
+basis p r c = record { types = p.types; lines = lines r; opening = standing_of c.opening }
 
 -- the core's run
 abbrev pub core_run : Program → Course → legal.Run
-core_run p c = core_from p.types (opening_standing p c) c.events
+core_run p c = core_from p.types (standing_of c.opening) c.events
 
 -- the core's last state
 abbrev pub core_end : Program → Course → core.CoreState

@@ -9,6 +9,7 @@ use Rattle.host_trait.specs.declared.channels.FileId.{FileId}
 use Rattle.host_trait.specs.declared.channels.FileId.TheVariants.{Program as ProgramFile, Manager, Grain}
 use Rattle.host_trait.specs.World.{Moment, Image, IsImage}
 use Rattle.promise_spec.specs.Records.{Commit}
+use Rattle.promise_spec.specs.Entries.{Log, records_of, grown}
 use Rattle.promise_spec.specs.Logs.{IsLog, IsPrefix}
 use Rattle.promise_spec.specs.Programs.{Program, shape_in}
 use Rattle.promise_spec.specs.Images.{AreChained, IsWholeIfSilo, IsSoundIfSilo}
@@ -37,15 +38,15 @@ pub record Holds (p : Program) (r : Observed) (c : Course) (m : Moment) (image :
   pub rest : List ℕ
   pub output : Grew (shape_in p) r.old.output m.output written rest
   pub front : IsPrefix written c.entries
-  pub log : List Commit
-  pub is : IsLog c.live (shape_in p) image log
-  pub has : (e : Entry) (l : Commit) → Member e written → Member l c.added → Acknowledges e l → Member l log
+  pub log : Log
+  pub is : IsLog c.live image log
+  pub has : (e : Entry) (l : Commit) → Member e written → Member l c.added → Acknowledges e l → Member l (records_of log)
 
--- the image has a log that begins with the opening log
-pub record KeepsOpening (p : Program) (c : Course) (image : Image) : Type 0 where
-  pub log : List Commit
-  pub is : IsLog c.live (shape_in p) image log
-  pub longer : IsPrefix c.opening log
+-- the image's log is the opening log with a first part of the records that were added
+pub record KeepsOpening (c : Course) (image : Image) : Type 0 where
+  pub more : List Commit
+  pub is : IsLog c.live image (grown c.opening more)
+  pub front : IsPrefix more c.added
 
 -- a file that a run leaves alone, where the live files are of this slot: one of another slot, and the program's
 abbrev pub IsAside : ℕ → FileId → Type 0
@@ -60,19 +61,19 @@ pub record LeavesAlone (live : ℕ) (r : Observed) (m : Moment) : Type 0 where
 
 -- The moments of the run are the early ones and the late ones. At the early ones nothing is written and each image is
 -- one of those at entry. From the opening's last sync on, inside a call too, the images are a chain, each that is a
--- silo is whole, and each has a log that begins with the opening log; other files and the header stay as they were.
-pub record SurvivesCrashes (p : Program) (r : Observed) (c : Course) : Type 0 where
+-- silo is whole, and each has the opening log with a first part of what was added; other files and the header stay as they were.
+pub record SurvivesCrashes (r : Observed) (c : Course) : Type 0 where
   pub past : r.new.past ≡ r.old.past ++ (c.early ++ c.late)
   pub quiet : (m : Moment) → Member m c.early → m.output ≡ r.old.output
   pub before : (image : Image) → IsImageOf c.early image → IsImage r.old.disk image
-  pub chain : (one other : Image) → IsImageOf (moments r c) one → IsImageOf (moments r c) other → AreChained p one other
-  pub whole : (image : Image) → IsImageOf (moments r c) image → IsWholeIfSilo p image
-  pub keeps : (image : Image) → IsImageOf (moments r c) image → KeepsOpening p c image
+  pub chain : (one other : Image) → IsImageOf (moments r c) one → IsImageOf (moments r c) other → AreChained one other
+  pub whole : (image : Image) → IsImageOf (moments r c) image → IsWholeIfSilo image
+  pub keeps : (image : Image) → IsImageOf (moments r c) image → KeepsOpening c image
   pub alone : (m : Moment) → Member m (moments r c) → LeavesAlone c.live r m
 
 -- and each image of each moment that is a silo is sound
-abbrev pub StaySound : Program → Observed → Course → Type 0
-StaySound p r c = (image : Image) → IsImageOf (moments r c) image → IsSoundIfSilo p image
+abbrev pub StaySound : Observed → Course → Type 0
+StaySound r c = (image : Image) → IsImageOf (moments r c) image → IsSoundIfSilo image
 
 -- and each image of each moment holds what the output by then acknowledges
 abbrev pub HoldsReplies : Program → Observed → Course → Type 0

@@ -10,6 +10,7 @@ use Rattle.host_trait.specs.declared.channels.FileId.{FileId}
 use Rattle.host_trait.specs.declared.channels.FileId.TheVariants.{Manager, Grain}
 use Rattle.host_trait.specs.World.{Moment, Image}
 use Rattle.promise_spec.specs.Records.{Commit, AreRecordsOf}
+use Rattle.promise_spec.specs.Entries.{Log, records_of, standing_of}
 use Rattle.promise_spec.specs.Logs.{IsLog, IsPrefix}
 use Rattle.request_wire.specs.Reply.{reply_line}
 use Rattle.promise_spec.specs.Programs.{Program, shape_in}
@@ -21,7 +22,7 @@ use Rattle.promise_spec.specs.Causes.{AreCaused, AreFaults, RunHasDoubt, is_vote
 use Rattle.promise_spec.specs.Moments.{IsImageOf}
 use Rattle.promise_spec.specs.Family.{IsFamily}
 use Rattle.promise_spec.specs.Batches.{EndsABatch}
-use Rattle.promise_spec.specs.Courses.{Observed, Course, order, moments, lines, basis, opening_standing, core_run, core_end}
+use Rattle.promise_spec.specs.Courses.{Observed, Course, order, moments, lines, basis, core_run, core_end}
 
 -- the records of the batch in doubt follow those of the committed units
 pub record RecordsInDoubt (w : CoreState) (added : List Commit) : Type 0 where
@@ -37,8 +38,8 @@ AreAdded w added = AreRecordsOf (committed w) added ⊎ RecordsInDoubt w added
 -- The records of the order come from the core's events: those that the run added come from the lines, call by call, and
 -- each image's log is the opening log and whole batches behind it.
 pub record ComeOfEvents (p : Program) (r : Observed) (c : Course) : Type 0 where
-  pub family : IsFamily p.types (lines r) (core_end p c) (opening_standing p c).states (order c) c.added
-  pub whole : (image : Image) (log : List Commit) → IsImageOf (moments r c) image → IsLog c.live (shape_in p) image log →
+  pub family : IsFamily p.types (lines r) (core_end p c) (standing_of c.opening).states (records_of (order c)) c.added
+  pub whole : (image : Image) (log : Log) → IsImageOf (moments r c) image → IsLog c.live image log →
       EndsABatch (core_end p c) c.opening log
 
 -- all that is settled has been written, or the run ended with a batch in doubt

@@ -3,7 +3,7 @@ use Rattle.std.specs.Prelude.{◌⊎◌}
 use Rattle.silo_spec.specs.Moments.{IsUntouched}
 use Rattle.promise_spec.specs.Programs.{Program}
 use Rattle.promise_spec.specs.Images.{IsSoundFolder}
-use Rattle.promise_spec.specs.Courses.{Observed, Course}
+use Rattle.promise_spec.specs.Courses.{Observed, Course, program_in_force}
 use Rattle.promise_spec.specs.Orders.{IsOrdered}
 use Rattle.promise_spec.specs.Replies.{AreReplies}
 use Rattle.promise_spec.specs.Crashes.{SurvivesCrashes, StaySound, HoldsReplies}
@@ -14,10 +14,10 @@ use Rattle.promise_spec.specs.Crashes.{SurvivesCrashes, StaySound, HoldsReplies}
 pub record KeepsHeadline (p : Program) (r : Observed) (c : Course) : Type 0 where
   pub ordered : IsOrdered p r c
   pub replies : AreReplies p r c
-  pub crashes : SurvivesCrashes p r c
-  pub sound : IsSoundFolder p r.old → StaySound p r c
+  pub crashes : SurvivesCrashes r c
+  pub sound : IsSoundFolder r.old → StaySound r c
   pub holds : HoldsReplies p r c
 
 -- the call wrote nothing and left each image one of those at entry, or took a course that keeps the headline
-abbrev pub HasHeadline : Program → Observed → Type 0
-HasHeadline p r = IsUntouched r.old r.new ⊎ ((c : Course) × KeepsHeadline p r c)
+abbrev pub HasHeadline : Observed → Type 0
+HasHeadline r = IsUntouched r.old r.new ⊎ ((c : Course) × KeepsHeadline (program_in_force c) r c)

@@ -1,7 +1,11 @@
 pub mod Programs
 pub mod Records
+pub mod Entries
 pub mod Serial
+pub mod Versions
+pub mod Blocks
 pub mod Logs
+pub mod Prefixes
 pub mod Images
 pub mod Moments
 pub mod Lines

@@ -14,14 +14,15 @@ use Rattle.silo_spec.specs.Silos.{IsNewSilo}
 use Rattle.silo_spec.specs.Moments.{IsUntouched}
 use Rattle.silo_spec.specs.Making.{StaysBeside, IsNewAt, FromFirstSync, CameThisFar}
 use Rattle.script_tree.specs.Programs.{ProgramTree}
-use Rattle.promise_spec.specs.Programs.{Program, IsChecked, shape_in}
-use Rattle.promise_spec.specs.Records.{States, standing_of}
+use Rattle.promise_spec.specs.Programs.{Program}
+use Rattle.promise_spec.specs.Records.{States}
+use Rattle.promise_spec.specs.Entries.{standing_of}
 use Rattle.promise_spec.specs.Logs.{magic, IsLog}
 use Rattle.promise_spec.specs.Lines.{IsLineCall}
 use Rattle.promise_spec.specs.Kinds.{kind_of}
 use Rattle.promise_spec.specs.Causes.{NoneRose, RunHasDoubt, syncs_of, most_syncs_of}
 use Rattle.promise_spec.specs.Endings as ending
-use Rattle.promise_spec.specs.Courses.{Observed, Course, order, moments, lines, core_run, core_end}
+use Rattle.promise_spec.specs.Courses.{Observed, Course, order, moments, lines, program_in_force, core_run, core_end}
 use Rattle.promise_spec.specs.Images.{IsSoundFolder}
 use Rattle.promise_spec.specs.Orders.{IsOrdered}
 use Rattle.promise_spec.specs.Crashes.{SurvivesCrashes, StaySound}
@@ -111,9 +112,9 @@ total_of states (suc n) = total_of states n +ℤ balance_in (states (account n))
 
 -- the one line that a load prints: how many lines were aborted, ended with a value, ended with a fault, and were
 -- asked, and the balances of the 64 accounts by the order
-abbrev pub summary_text : Program → Observed → Course → List ℕ
-summary_text p r c =
-    let total = value_data (Int (total_of (standing_of p.types (order c)).states 64)) in
+abbrev pub summary_text : Observed → Course → List ℕ
+summary_text r c =
+    let total = value_data (Int (total_of (standing_of (order c)).states 64)) in
     let asked = counted (codes "requests") (length (lines r)) (member (codes "total") total no_members) in
     let faulted = counted (codes "faulted") (how_many_lines is_faulted c.entries) asked in
     let committed = counted (codes "committed") (how_many_lines line_valued c.entries) faulted in
@@ -142,15 +143,15 @@ pub record HasLoaded (p : Program) (r : Observed) (c : Course) : Type 0 where
 pub record KeepsLoad (p : Program) (n seed : ℕ) (r : Observed) (c : Course) : Type 0 where
   pub asked : AskFor p.types (lines r) (load_calls n seed)
   pub ordered : IsOrdered p r c
-  pub crashes : SurvivesCrashes p r c
-  pub sound : IsSoundFolder p r.old → StaySound p r c
+  pub crashes : SurvivesCrashes r c
+  pub sound : IsSoundFolder r.old → StaySound r c
   pub traced : ComeOfEvents p r c
   pub exit : IsExit p r c
   pub settled : c.entries ≡ (core_end p c).manager.settled
   pub explained : IsExplained p r c
-  pub output : Prints (summary_text p r c) r
+  pub output : Prints (summary_text r c) r
   pub lasting : (m : Moment) (image : Image) → Member m (moments r c) → IsImage m.disk image → m.output ≢ r.old.output →
-      IsLog c.live (shape_in p) image (order c)
+      IsLog c.live image (order c)
   pub silent : r.ending ≢ ending.Done → r.ending ≢ ending.WriteFault → r.new.output ≡ r.old.output
   pub ended : HasLoaded p r c
 
@@ -193,10 +194,7 @@ from_there r made = record r { old = made }
 pub record LoadsFrom (n seed : ℕ) (r : Observed) : Type 0 where
   pub made : World
   pub has : HasMade r made
-  pub program : Program
-  pub checked : IsChecked program
-  pub text : program.text ≡ bank_text
-  pub carried : IsUnopened (from_there r made) ⊎ ((c : Course) × KeepsLoad program n seed (from_there r made) c)
+  pub carried : IsUnopened (from_there r made) ⊎ ((c : Course) × ((program_in_force c).text ≡ bank_text) × KeepsLoad (program_in_force c) n seed (from_there r made) c)
 
 -- What `load` promises, carried in the manner of its words: it makes no silo, or makes one and carries its lines in it.
 pub record Loads (n seed : ℕ) (m : Manner) (r : Observed) : Type 0 where

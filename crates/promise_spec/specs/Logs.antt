@@ -1,66 +1,51 @@
--- The log of an image, and when one log is a prefix of another.
-use Rattle.std.specs.Prelude.{◌≡◌, ℕ, ◌^◌, ◌<◌, ◌≤◌, List, [], ◌∷◌, ◌++◌, length, map, codes, slice_get, Some, None, ⊤}
+-- The log of an image: that of its live slot.
+use Rattle.std.specs.Prelude.{◌≡◌, ◌≢◌, ℕ, List, ◌++◌, map, codes, slice_index, None}
 use Rattle.std.specs.List.{flat_map, AllByRecursion}
-use Rattle.base_types.specs.declared.calls.UnitNo.{UnitNo}
-use Rattle.base_types.specs.declared.calls.Value.{Value}
-use Rattle.host_trait.specs.declared.channels.FileId.TheVariants.{Manager, Grain}
+use Rattle.host_trait.specs.declared.channels.FileId.TheVariants.{Manager, Program as ProgramFile}
 use Rattle.host_trait.specs.World.{Image}
-use Rattle.gate_block.specs.Log.{LogsUpTo}
-use Rattle.base_types.specs.declared.shapes.Shape.{Shape}
-use Rattle.grain_log.specs.Places.{IsVersionAt}
-use Rattle.grain_log.specs.Reads.{fields_of}
-use Rattle.field_codec.specs.declared.units.Numbers.TheVariants.{Logged}
-use Rattle.commit_log.specs.declared.records.Written.{Written}
-use Rattle.commit_log.specs.Spelling.{spelling_of_body}
-use Rattle.commit_log.specs.Bodies.{IsRecordIn}
+use Rattle.gate_block.specs.Log.{HasBlocks}
 use Rattle.log_reading.specs.Blocks.{header_damage}
+use Rattle.silo_spec.specs.Silos.{HasProgram}
 use Rattle.silo_spec.specs.Slots.{IsLive}
-use Rattle.promise_spec.specs.Records.{Commit}
+use Rattle.promise_spec.specs.Programs.{Program, IsChecked}
+use Rattle.promise_spec.specs.Entries.{Log, new_silo}
+use Rattle.promise_spec.specs.Blocks.{Block, entries_in, body_of, BlockFits, AreKept}
 
 -- the eight bytes after the header gate that name a silo
 abbrev pub magic : List ℕ
 magic = codes "OTXLOG01"
 
--- the version of a unit stands whole at the place that its write names, below 2 to the 63, with this state, which has
--- the fields of its type
-pub record WriteStands (live : ℕ) (shape : Shape) (image : Image) (unit : UnitNo) (w : Written) (state : List Value) : Type 0 where
-  pub near : w.place.offset < 2 ^ 63
-  pub fields : fields_of (slice_get shape.types w.grain.kind) ≡ Some (length state)
-  pub version : IsVersionAt (length state) w.place (image (Grain live w.grain)) (record { unit = unit; state = state })
+-- This log stands in a slot's files, up to this gate: the manager file has zeros at bytes 13 and 14; the program file has a
+-- checked program, over which a new silo is the base; and from byte 15 on stand the open blocks of the entries, each of which
+-- is kept whole.
+pub record StandsUpTo (slot : ℕ) (image : Image) (log : Log) (bodies : List (List ℕ)) (gate : ℕ) : Type 0 where
+  pub header : header_damage (image (Manager slot)) ≡ None
+  pub program : Program
+  pub checked : IsChecked program
+  pub text : HasProgram program.text (image (ProgramFile slot))
+  pub base : log.base ≡ new_silo program
+  pub blocks : List Block
+  pub fit : AllByRecursion BlockFits blocks
+  pub spelled : bodies ≡ map body_of blocks
+  pub stand : HasBlocks bodies gate (image (Manager slot))
+  pub entries : log.entries ≡ flat_map entries_in blocks
+  pub kept : AreKept slot image program log.entries
 
--- each write of a unit has its state, and the version stands
-abbrev pub WritesStand : ℕ → Shape → Image → UnitNo → List Written → List (List Value) → Type 0
-WritesStand live shape image unit [] [] = ⊤
-WritesStand live shape image unit (w ∷ ws) (state ∷ states) =
-    WriteStands live shape image unit w state × WritesStand live shape image unit ws states
-WritesStand live shape image unit _ _ = ⊥
-
--- The record is within the format's limits, its unit's number is above 0 and its own and its parent's are below 2 to the
--- 63, its call and its grains are the program's, and its versions stand.
-pub record IsKept (live : ℕ) (shape : Shape) (image : Image) (c : Commit) : Type 0 where
-  pub fits : IsRecordIn Logged shape c.logged
-  pub whole : WritesStand live shape image c.logged.unit c.logged.writes c.states
-
--- the records of one batch as a block's body
-abbrev pub body_of : List Commit → List ℕ
-body_of batch = spelling_of_body (map (λ c. c.logged) batch)
-
--- The log of an image under a program's shape, where this slot is live: its manager file has zeros at bytes 13 and 14, and
--- from byte 15 on the open blocks of these batches, up to a closed gate. A batch has at most 64 records. Each record is
--- kept whole.
-pub record IsLog (live : ℕ) (shape : Shape) (image : Image) (log : List Commit) : Type 0 where
-  pub is_live : IsLive magic live image
-  pub header : header_damage (image (Manager live)) ≡ None
-  pub batches : List (List Commit)
+-- The log of a slot's files: it stands up to a closed gate.
+pub record IsLogIn (slot : ℕ) (image : Image) (log : Log) : Type 0 where
+  pub bodies : List (List ℕ)
   pub gate : ℕ
-  pub blocks : LogsUpTo (map body_of batches) gate (image (Manager live))
-  pub sizes : AllByRecursion (λ batch. length batch ≤ 64) batches
-  pub commits : log ≡ flat_map (λ batch. batch) batches
-  pub kept : AllByRecursion (IsKept live shape image) log
+  pub stands : StandsUpTo slot image log bodies gate
+  pub closed : slice_index (image (Manager slot)) gate ≢ 1
 
--- an image that is a silo has a log in its live slot, of which this holds
-abbrev pub HasLog : Shape → Image → (List Commit → Type 0) → Type 0
-HasLog shape image Holds = (live : ℕ) → IsLive magic live image → (log : List Commit) × IsLog live shape image log × Holds log
+-- the log of an image, of which this slot is live
+pub record IsLog (live : ℕ) (image : Image) (log : Log) : Type 0 where
+  pub is_live : IsLive magic live image
+  pub is : IsLogIn live image log
+
+-- whichever slot is live
+abbrev pub HasLog : Image → Log → Type 0
+HasLog image log = (live : ℕ) × IsLog live image log
 
 -- one list is a first part of the other
 abbrev pub IsPrefix : {A : Type 0} → List A → List A → Type 0

@@ -1,4 +1,4 @@
--- What a folder reads as when it is opened: no silo, damaged at a first place, or a program and a log.
+-- What a folder reads as when it is opened: no silo, damaged at a first place, or a slot and a log.
 use Rattle.std.specs.Prelude.{ℕ, Bool, ◌&&◌, ◌==◌, nat_le, if◌then◌else◌, List, length, map, take, drop, slice_index, bytes_eq, Option, Some, None, Result, Ok, Err}
 use Rattle.base_types.specs.declared.shapes.Shape.{Shape}
 use Rattle.host_trait.specs.declared.channels.FileId.{FileId}
@@ -7,6 +7,7 @@ use Rattle.commit_log.specs.declared.records.CommitRecord.{CommitRecord}
 use Rattle.host_trait.specs.declared.channels.FileId.TheVariants.{Manager, Program as ProgramFile}
 use Rattle.promise_spec.specs.Programs.{Program, shape_in}
 use Rattle.promise_spec.specs.Records.{Commit}
+use Rattle.promise_spec.specs.Entries.{Log, new_log, grown}
 use Rattle.promise_spec.specs.Logs.{magic}
 -- the program of a program file
 pub use Rattle.program_file.specs.Files.{text_in_file, with_types, program_in_file}
@@ -21,7 +22,7 @@ pub use Rattle.log_reading.specs.Versions.{named_by, named_by_grain, version_nam
 pub data Reading : Type 0 where
   NoSilo : Reading
   DamagedAt : FileId → ℕ → Reading
-  Reads : ℕ → Program → List Commit → Reading
+  Reads : ℕ → Log → Reading
 
 -- ---- the manager file's header
 
@@ -39,7 +40,7 @@ commit_of live shape image r = record {
 -- ---- the folder
 
 abbrev pub with_versions : ℕ → Program → Image → List CommitRecord → Option (FileId × ℕ) → Reading
-with_versions live p image records None = Reads live p (map (commit_of live (shape_in p) image) records)
+with_versions live p image records None = Reads live (grown (new_log p) (map (commit_of live (shape_in p) image) records))
 with_versions live p image records (Some missing) = DamagedAt missing.0 missing.1
 
 abbrev pub with_log : ℕ → Program → Image → Result (List CommitRecord) ℕ → Reading

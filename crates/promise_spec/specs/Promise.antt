@@ -8,8 +8,8 @@ use Rattle.core_model.specs.CoreState.{UnitNo, Member}
 use Rattle.core_model.specs.declared.events.CoreEvent.TheVariants.{Begin}
 use Rattle.core_model.specs.Lines.{DifferInLine}
 use Rattle.request_wire.specs.Lines.{lines_of}
-use Rattle.promise_spec.specs.Programs.{Program, IsChecked, shape_in}
-use Rattle.promise_spec.specs.Records.{log_start}
+use Rattle.promise_spec.specs.Programs.{Program, shape_in}
+use Rattle.promise_spec.specs.Entries.{records_of, standing_of}
 pub use Rattle.promise_spec.specs.Images.{IsWholeFolder, IsSoundFolder}
 use Rattle.promise_spec.specs.Images.{AreNumbered}
 use Rattle.promise_spec.specs.Outputs.{Grew}
@@ -20,7 +20,7 @@ use Rattle.promise_spec.specs.Cores.{AppliesAt}
 use Rattle.promise_spec.specs.Causes.{NoneRose, syncs_of, most_syncs_of}
 use Rattle.promise_spec.specs.Endings.{Done, WriteFault, IsMarked, HasRisen, IsCarried, IsBegun, IsCalm, HasLength, CountsSyncs, input_limit}
 use Rattle.promise_spec.specs.Words.{Manner}
-use Rattle.promise_spec.specs.Courses.{Observed, Course, order, lines, seen_at_entry, opening_standing, core_run, core_end}
+use Rattle.promise_spec.specs.Courses.{Observed, Course, order, lines, seen_at_entry, program_in_force, core_run, core_end}
 use Rattle.promise_spec.specs.Refusals.{IsUnopened}
 use Rattle.promise_spec.specs.Replies.{IsTrueOf, StandInOrder}
 use Rattle.promise_spec.specs.Headline.{KeepsHeadline}
@@ -91,12 +91,13 @@ pub record Keeps (p : Program) (r : Observed) (c : Course) : Type 0 where
   pub exit : IsExit p r c
   pub ended : HasEnded p r c
 
--- What holds over any folder that opens, sound or not. The files read as this log. What was written is entries, each of another
+-- What holds over any folder that opens, sound or not. The files read as this log, at whose end the program is in force. What was written is entries, each of another
 -- line, and a rest that is empty unless writing failed; entries of logged units stand in the order of their records. They are
 -- those that the core's events settle and explain, and the run ends as the third of these says. Where the opening log's units are
 -- numbered, the entries are true and the records a family.
 pub record KeepsAnywhere (p : Program) (r : Observed) (c : Course) : Type 0 where
-  pub reads : opened_as (seen_at_entry r) ≡ Reads c.live p c.opening
+  pub in_force : program_in_force c ≡ p
+  pub reads : opened_as (seen_at_entry r) ≡ Reads c.live c.opening
   pub output : Grew (shape_in p) r.old.output r.new.output c.entries c.rest
   pub whole : r.ending ≢ WriteFault → c.rest ≡ []
   pub within : (e : Entry) → Member e c.entries → (1 ≤ e.line) × (e.line ≤ length (lines r))
@@ -105,13 +106,13 @@ pub record KeepsAnywhere (p : Program) (r : Observed) (c : Course) : Type 0 wher
   pub settled : AreSettled p r c
   pub explained : IsExplained p r c
   pub ended : HasEnded p r c
-  pub true_each : AreNumbered (log_start p.types).next c.opening → (e : Entry) → Member e c.entries → IsTrueOf p r c e e.what
-  pub family : AreNumbered (log_start p.types).next c.opening → IsFamily p.types (lines r) (core_end p c) (opening_standing p c).states (order c) c.added
+  pub true_each : AreNumbered c.opening.base.next (records_of c.opening) → (e : Entry) → Member e c.entries → IsTrueOf p r c e e.what
+  pub family : AreNumbered c.opening.base.next (records_of c.opening) → IsFamily p.types (lines r) (core_end p c) (standing_of c.opening).states (records_of (order c)) c.added
 
 -- What `run` promises, carried in the manner of its words. Over any folder it doesn't open it and leaves all as it was, or it
 -- opens it, and takes a course that keeps this much. Over a folder whose images are whole it doesn't open it, or takes a course
 -- that keeps all six clauses, of which that images stay sound alone asks that they were.
 pub record Promises (m : Manner) (r : Observed) : Type 0 where
   pub manner : r.manner ≡ m
-  pub answers : IsUnopened r ⊎ ((p : Program) × ((c : Course) × KeepsAnywhere p r c))
-  pub over_whole : (p : Program) → IsChecked p → IsWholeFolder p r.old → IsUnopened r ⊎ ((c : Course) × Keeps p r c)
+  pub answers : IsUnopened r ⊎ ((c : Course) × KeepsAnywhere (program_in_force c) r c)
+  pub over_whole : IsWholeFolder r.old → IsUnopened r ⊎ ((c : Course) × Keeps (program_in_force c) r c)

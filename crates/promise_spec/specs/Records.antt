@@ -1,12 +1,10 @@
--- What the log keeps of a committed unit, and what a log stands for.
-use Rattle.std.specs.Prelude.{◌≡◌, ℕ, ◌+◌, max, if◌then◌else◌, List, [], ◌∷◌, map, zip, fold, slice_get, ⊤}
+-- What the log keeps of a committed unit.
+use Rattle.std.specs.Prelude.{◌≡◌, if◌then◌else◌, List, [], ◌∷◌, map, zip, fold, ⊤}
 use Rattle.base_types.specs.declared.calls.GrainId.{GrainId}
 use Rattle.base_types.specs.declared.calls.Value.{Value}
 use Rattle.core_model.specs.declared.effects.Effect.{Effect}
 use Rattle.commit_log.specs.declared.records.CommitRecord.{CommitRecord}
 use Rattle.script_holding.specs.Holding.{same_grain}
-use Rattle.script_tree.specs.Programs.{ProgramTree}
-use Rattle.script_meaning.specs.Play.{initial_of}
 -- grains in ascending order
 pub use Rattle.log_reading.specs.Versions.{ascending_with, ascending}
 
@@ -30,33 +28,6 @@ put_state states new grain = if same_grain new.0 grain then new.1 else states gr
 -- the states after a unit's writes
 abbrev pub after_writes : States → Commit → States
 after_writes states c = fold put_state states (written c)
-
--- What a log stands for: how many records it has, the number of the next unit, and the state of each grain.
-pub record Standing : Type 0 where
-  pub count : ℕ
-  pub next : ℕ
-  pub states : States
-
--- What a new silo stands for: no record, the unit 1 is next, and each grain has its type's initial fields.
-abbrev pub new_silo : ProgramTree → Standing
-new_silo types = record { count = 0; next = 1; states = λ grain. initial_of (slice_get types grain.kind) }
-
--- what every log begins from: a new silo
-abbrev pub log_start : ProgramTree → Standing
-log_start types = new_silo types
-
--- what stands after one more record
-abbrev pub after_record : Standing → Commit → Standing
-after_record before c =
-    record { count = before.count + 1; next = max before.next (c.logged.unit.0 + 1); states = after_writes before.states c }
-
--- what stands after these records
-abbrev pub after_records : Standing → List Commit → Standing
-after_records before log = fold after_record before log
-
--- what a log stands for
-abbrev pub standing_of : ProgramTree → List Commit → Standing
-standing_of types log = after_records (log_start types) log
 
 -- the record is that of a unit with this effect, and its states are those that the unit wrote
 pub record IsRecordOf (e : Effect) (l : Commit) : Type 0 where

@@ -14,7 +14,7 @@ use Rattle.promise_spec.specs.Openings.{Reading, NoSilo, DamagedAt, Reads, progr
 use Rattle.promise_spec.specs.Endings.{Ending, Memory, DiskFault, NotASilo, Damaged, HasFailedAs}
 use Rattle.promise_spec.specs.Courses.{Observed, seen_at_entry}
 
--- the file is the manager file, or the program's
+-- the file is the manager file, or the program's, of slot 0
 abbrev pub IsHead : FileId → Type 0
 IsHead file = (file ≡ manager) ⊎ (file ≡ program_file)
 
@@ -40,7 +40,7 @@ IsReadBefore image _ file = IsHead file
 abbrev pub MustBeRead : Image → Reading → FileId → Type 0
 MustBeRead image NoSilo file = file ≡ manager
 MustBeRead image (DamagedAt last place) file = IsReadBefore image last file
-MustBeRead image (Reads live p log) file = IsReadFor live image file
+MustBeRead image (Reads live log) file = IsReadFor live image file
 
 -- A folder that reads so may be refused so: for want of memory always, for a fault of a file that has to be read, as no
 -- silo exactly where it reads as none, and as damaged exactly where and at the place at which it first is.

@@ -9,7 +9,8 @@ use Rattle.base_types.specs.declared.entries.Settled.TheVariants.{Done, InDoubt,
 use Rattle.core_model.specs.CoreState.{UnitNo, Member}
 use Rattle.core_model.specs.Lines.{DifferInLine}
 use Rattle.script_meaning.specs.Play.{play_over, IsTransaction}
-use Rattle.promise_spec.specs.Records.{Commit, new_silo}
+use Rattle.promise_spec.specs.Records.{Commit}
+use Rattle.promise_spec.specs.Entries.{new_silo, records_of}
 use Rattle.promise_spec.specs.Programs.{Program, shape_in}
 use Rattle.promise_spec.specs.Outputs.{Grew}
 use Rattle.promise_spec.specs.Lines.{IsLineCall, IsBadLine}
@@ -36,9 +37,9 @@ pub record IsPlainReply (p : Program) (r : Observed) (c : Course) (e : Entry) (o
   pub line : IsLineCall p.types (lines r) e.line call
   pub plain : IsTransaction p.types call → ⊥
   pub answers : List Outcome
-  pub are : AreAnswers (order c) e.unit answers
-  pub enough : length (play_over p.types call 1 (new_silo p.types).states answers).asked ≡ length answers
-  pub result : (play_over p.types call 1 (new_silo p.types).states answers).result ≡ outcome
+  pub are : AreAnswers (records_of (order c)) e.unit answers
+  pub enough : length (play_over p.types call 1 (new_silo p).states answers).asked ≡ length answers
+  pub result : (play_over p.types call 1 (new_silo p).states answers).result ≡ outcome
 
 -- no record that the run added is this unit's
 abbrev pub HasNoRecord : Course → UnitNo → Type 0

@@ -1,5 +1,5 @@
 -- What the commands print that only read.
-use Rattle.std.specs.Prelude.{ℕ, List, [], ◌∷◌, ◌++◌, codes, length, map, option_map, unwrap_or, slice_get, Option, Some, None}
+use Rattle.std.specs.Prelude.{ℕ, List, [], ◌∷◌, ◌++◌, codes, map, option_map, unwrap_or, slice_get, Option, Some, None}
 use Rattle.std.specs.List.{flat_map}
 use Rattle.base_types.specs.declared.calls.Call.{Call}
 use Rattle.base_types.specs.declared.calls.GrainId.{GrainId}
@@ -14,7 +14,8 @@ use Rattle.script_meaning.specs.Calls.{Target, numbered}
 use Rattle.serde_json.specs.Data.{Data, null, number, unsigned, string, array, object, Items, no_items, item, Members, no_members, member, put}
 use Rattle.serde_json.specs.Written.{compact_text}
 use Rattle.promise_spec.specs.Programs.{Program, shape_in}
-use Rattle.promise_spec.specs.Records.{Commit, ascending, standing_of}
+use Rattle.promise_spec.specs.Records.{Commit, ascending}
+use Rattle.promise_spec.specs.Entries.{LogEntry, Recorded, Standing, Log, records_of, standing_of, after_entry}
 
 -- compact JSON, and a line feed
 abbrev pub line_of : Data → List ℕ
@@ -37,15 +38,16 @@ abbrev pub fields_at : Program → GrainId → List FieldDecl
 fields_at p g = unwrap_or (option_map (λ t. t.fields) (slice_get p.types g.kind)) []
 
 -- a grain with its state
-abbrev pub grain_line : Program → List Commit → GrainId → List ℕ
-grain_line p log g =
-    let fields = object (fields_data (fields_at p g) ((standing_of p.types log).states g)) in
+abbrev pub grain_line : Standing → GrainId → List ℕ
+grain_line now g =
+    let p = now.program in
+    let fields = object (fields_data (fields_at p g) (now.states g)) in
     line_of (object (member (codes "fields") fields (member (codes "grain") (string (grain_text (shape_in p) g)) no_members)))
 
--- each grain with a logged write, and at last the number of records
-abbrev pub show_text : Program → List Commit → List ℕ
-show_text p log =
-    flat_map (grain_line p log) (grains_in log) ++ line_of (object (counted (codes "count") (length log) no_members))
+-- each grain with a logged write, and at last the number of entries
+abbrev pub show_text : Log → List ℕ
+show_text log =
+    flat_map (grain_line (standing_of log)) (grains_in (records_of log)) ++ line_of (object (counted (codes "count") (standing_of log).count no_members))
 
 -- ---- history
 
@@ -84,9 +86,14 @@ record_line p c =
     let args = array (items_of c.logged.call.args) in
     line_of (object (member (codes "args") args (member (codes "call") (string (call_text p c.logged.call)) how)))
 
--- each record of the log
-abbrev pub history_text : Program → List Commit → List ℕ
-history_text p log = flat_map (record_line p) log
+-- the entries behind a standing, each record under the program of its time
+abbrev pub entries_text : Standing → List LogEntry → List ℕ
+entries_text before [] = []
+entries_text before (Recorded c ∷ later) = record_line before.program c ++ entries_text (after_entry before (Recorded c)) later
+
+-- each entry of the log
+abbrev pub history_text : Log → List ℕ
+history_text log = entries_text log.base log.entries
 
 -- ---- audit
 
@@ -95,7 +102,7 @@ abbrev pub unit_data : Option ℕ → Data
 unit_data None = null
 unit_data (Some unit) = number (unsigned unit)
 
--- the number of records, and the first unit whose record isn't what the one-thread store gives
-abbrev pub audit_text : List Commit → Option ℕ → List ℕ
+-- the number of entries, and the first unit whose record isn't what the one-thread store gives
+abbrev pub audit_text : Log → Option ℕ → List ℕ
 audit_text log first_bad =
-    line_of (object (counted (codes "count") (length log) (member (codes "first_bad") (unit_data first_bad) no_members)))
+    line_of (object (counted (codes "count") (standing_of log).count (member (codes "first_bad") (unit_data first_bad) no_members)))

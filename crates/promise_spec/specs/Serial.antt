@@ -6,6 +6,7 @@ use Rattle.commit_log.specs.declared.records.CommitRecord.{CommitRecord}
 use Rattle.script_tree.specs.Programs.{ProgramTree}
 use Rattle.script_meaning.specs.Play.{Played, play_over}
 use Rattle.promise_spec.specs.Records.{Commit, States, written, after_writes}
+use Rattle.promise_spec.specs.Entries.{LogEntry, Recorded, Standing, after_entry}
 
 -- the depth of a unit's first frame
 abbrev pub depth_of : Origin → ℕ
@@ -27,3 +28,8 @@ pub record Replays (types : ProgramTree) (states : States) (c : Commit) : Type 0
 abbrev pub IsSerial : ProgramTree → States → List Commit → Type 0
 IsSerial types states [] = ⊤
 IsSerial types states (c ∷ later) = Replays types states c × IsSerial types (after_writes states c) later
+
+-- each record is what the one-thread store gives under the program of its time, over the states that those before it left
+abbrev pub IsSerialFrom : Standing → List LogEntry → Type 0
+IsSerialFrom before [] = ⊤
+IsSerialFrom before (Recorded c ∷ later) = Replays before.program.types before.states c × IsSerialFrom (after_entry before (Recorded c)) later

@@ -11,7 +11,7 @@ use Rattle.core_model.specs.Legal.{Run, begins}
 use Rattle.script_tree.specs.Programs.{ProgramTree}
 use Rattle.script_meaning.specs.Play.{Played, WantUnit, Over, play_over, IsTransaction}
 use Rattle.script_meaning.specs.Trails.{states_of}
-use Rattle.promise_spec.specs.Records.{Standing}
+use Rattle.promise_spec.specs.Entries.{Standing}
 use Rattle.promise_spec.specs.Serial.{depth_of}
 use Rattle.promise_spec.specs.Lines.{IsLineCall, IsBadLine}
 use Rattle.promise_spec.specs.Cores.{AppliesAt, state_before}

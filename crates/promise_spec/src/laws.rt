@@ -1,17 +1,24 @@
-ghost use Rattle.std.specs.Prelude.{◌≡◌, ◌⊎◌, ◌↔◌, ◌++◌, ◌+◌, ◌≤◌, max, fold, ℕ, Bool, true, false, List, [], ◌∷◌, length, codes, Some, Ok};
+ghost use Rattle.std.specs.Prelude.{◌≡◌, ◌⊎◌, ◌↔◌, ◌++◌, ◌+◌, ◌≤◌, ◌<◌, ◌||◌, max, fold, map, ℕ, Bool, true, false, List, [], ◌∷◌, length, codes, Some, Ok};
+ghost use Rattle.std.specs.List.{AllByRecursion, flat_map};
+ghost use Rattle.base_types.specs.declared.calls.GrainId.{GrainId};
 ghost use Rattle.base_types.specs.declared.shapes.Shape.{Shape};
+ghost use Rattle.gate_block.specs.Log.{HasBlocks};
+ghost use Rattle.host_trait.specs.declared.channels.FileId.TheVariants.{Manager};
 ghost use Rattle.base_types.specs.declared.entries.Entry.{Entry};
 ghost use Rattle.host_trait.specs.World.{Image};
 ghost use Rattle.host_trait.specs.declared.channels.FileId.{FileId};
-ghost use Rattle.host_trait.specs.declared.channels.FileId.TheVariants.{Program as ProgramFile};
 ghost use Rattle.field_codec.specs.Reading.{AreBytes};
 ghost use Rattle.script_tree.specs.Programs.{ProgramTree};
-ghost use Rattle.silo_spec.specs.Silos.{HasProgram};
 ghost use Rattle.silo_spec.specs.Slots.{IsLive};
 ghost use Rattle.promise_spec.specs.Programs.{Program, IsChecked, text_limit, shape_in, program_in};
-ghost use Rattle.promise_spec.specs.Records.{Commit, Standing, after_writes, after_records};
-ghost use Rattle.promise_spec.specs.Logs.{magic, IsLog, IsPrefix};
-ghost use Rattle.promise_spec.specs.Images.{AreChained, IsSound, IsWholeFolder};
+ghost use Rattle.promise_spec.specs.Records.{Commit, written, after_writes};
+ghost use Rattle.promise_spec.specs.Entries.{LogEntry, Recorded, records_among, Standing, after_entries, initial_states, new_silo, is_among, Log, records_of, standing_of, grown, checkpointed};
+ghost use Rattle.promise_spec.specs.Versions.{IsKept};
+ghost use Rattle.promise_spec.specs.Blocks.{Records, body_of};
+ghost use Rattle.promise_spec.specs.Serial.{IsSerial, IsSerialFrom};
+ghost use Rattle.promise_spec.specs.Prefixes.{last_position, from_position, IsPrefixOf};
+ghost use Rattle.promise_spec.specs.Logs.{magic, StandsUpTo, IsLogIn, IsLog, IsPrefix};
+ghost use Rattle.promise_spec.specs.Images.{IsSound, AreChained, IsWholeFolder};
 ghost use Rattle.promise_spec.specs.Openings.{NoSilo, Reads, live_in, opened_as};
 ghost use Rattle.promise_spec.specs.Words.{GivenOption, Manner, plain_manner, Command, Run, Load, Check, Say};
 ghost use Rattle.request_wire.specs.Reply.{reply_line};
@@ -26,13 +33,22 @@ ghost use Rattle.promise_spec.specs.Promise.{Keeps, Promises};
 /// that keeps its promise, unless it left all as it was.
 pub fn promises_keep_the_headline()
     ensures course { (p : Program) (r : Observed) (c : Course) → Keeps p r c → KeepsHeadline p r c }
-    ensures call { (m : Manner) (p : Program) (r : Observed) → IsChecked p → Promises m r → IsWholeFolder p r.old → HasHeadline p r }
+    ensures call { (m : Manner) (r : Observed) → Promises m r → IsWholeFolder r.old → HasHeadline r }
 {}
 
-/// An image has at most one log under a program's shape, whichever slots are said to be live: the records and their states are
-/// the bytes'. So where a definition says that an image has a log, it is the log.
+/// An image has at most one log, whichever slots are said to be live: the program, the records and their states are the bytes'. So
+/// where a definition says that an image has a log, it is the log. A slot's files have at most one too, live or not; and the unit that
+/// is next where a log begins has a number above 0.
 pub fn one_log()
-    ensures { (one other : ℕ) (shape : Shape) (image : Image) (a b : List Commit) → IsLog one shape image a → IsLog other shape image b → a ≡ b }
+    ensures image { (one other : ℕ) (image : Image) (a b : Log) → IsLog one image a → IsLog other image b → a ≡ b }
+    ensures slot { (slot : ℕ) (image : Image) (a b : Log) → IsLogIn slot image a → IsLogIn slot image b → a ≡ b }
+    ensures begins { (live : ℕ) (image : Image) (log : Log) → IsLog live image log → 0 < log.base.next }
+{}
+
+/// Of two images that are a chain the logs have one base, and the entries of one are a first part of the other's.
+pub fn chains_compare()
+    ensures { (one other : ℕ) (x y : Image) (a b : Log) → AreChained x y → IsLog one x a → IsLog other y b
+        → (a.base ≡ b.base) × (IsPrefix a.entries b.entries ⊎ IsPrefix b.entries a.entries) }
 {}
 
 /// The line of an entry determines the entry, where types are known by their names.
@@ -53,21 +69,65 @@ pub fn checked_programs_have_plain_names()
     ensures { (p : Program) → IsChecked p → HavePlainNames (shape_in p).types }
 {}
 
-/// Of whatever logs two chained images have, one is a first part of the other.
-pub fn chains_compare()
-    ensures { (s t : ℕ) (p : Program) (one other : Image) (a b : List Commit) → AreChained p one other
-        → IsLog s (shape_in p) one a → IsLog t (shape_in p) other b → IsPrefix a b ⊎ IsPrefix b a }
+/// What a log stands for is folds over its entries, each by itself: their count, the number after the greatest unit, and the grains
+/// that some record writes, or that were held before. Behind records the program stays in force, and the states are those after their
+/// writes. What stands after some entries and others is what the others leave of what the first do.
+pub fn standings_are_folds()
+    ensures count { (before : Standing) (entries : List LogEntry) → (after_entries before entries).count ≡ before.count + length entries }
+    ensures next { (before : Standing) (entries : List LogEntry)
+        → (after_entries before entries).next ≡ fold (λ (next : ℕ) (c : Commit). max next (c.logged.unit.0 + 1)) before.next (records_among entries) }
+    ensures held { (before : Standing) (entries : List LogEntry) (grain : GrainId)
+        → (after_entries before entries).held grain ≡ (is_among (flat_map written (records_among entries)) grain || before.held grain) }
+    ensures program { (before : Standing) (more : List Commit) → (after_entries before (map Recorded more)).program ≡ before.program }
+    ensures states { (before : Standing) (more : List Commit)
+        → (after_entries before (map Recorded more)).states ≡ fold after_writes before.states more }
+    ensures front { (before : Standing) (entries more : List LogEntry)
+        → after_entries before (entries ++ more) ≡ after_entries (after_entries before entries) more }
 {}
 
-/// What a log stands for is three folds over its records, each by itself: their count, the number after the greatest unit, and the
-/// states after their writes.
-pub fn standings_are_three_folds()
-    ensures count { (before : Standing) (log : List Commit) → (after_records before log).count ≡ before.count + length log }
-    ensures next { (before : Standing) (log : List Commit)
-        → (after_records before log).next ≡ fold (λ (next : ℕ) (c : Commit). max next (c.logged.unit.0 + 1)) before.next log }
-    ensures states { (before : Standing) (log : List Commit) → (after_records before log).states ≡ fold after_writes before.states log }
-    ensures front { (before : Standing) (log more : List Commit)
-        → after_records before (log ++ more) ≡ after_records (after_records before log) more }
+/// A log grown by records: in parts, what records it has, what it stands for, and when what is added is serial.
+pub fn grown_logs_go_on()
+    ensures none { (log : Log) → grown log [] ≡ log }
+    ensures twice { (log : Log) (more later : List Commit) → grown (grown log more) later ≡ grown log (more ++ later) }
+    ensures records { (log : Log) (more : List Commit) → records_of (grown log more) ≡ records_of log ++ more }
+    ensures stands { (log : Log) (more : List Commit) → standing_of (grown log more) ≡ after_entries (standing_of log) (map Recorded more) }
+    ensures serial { (before : Standing) (more : List Commit)
+        → IsSerialFrom before (map Recorded more) ↔ IsSerial before.program.types before.states more }
+{}
+
+/// A batch's block behind a log, where its records are kept under the program in force: the log grew by them.
+pub fn sealed_batches_grow_a_log()
+    ensures { (slot : ℕ) (image : Image) (log : Log) (bodies : List (List ℕ)) (gate : ℕ) → StandsUpTo slot image log bodies gate
+        → (batch : List Commit) (next : ℕ) → length batch ≤ 64 → AllByRecursion (IsKept slot (shape_in (standing_of log).program) image) batch
+        → HasBlocks (bodies ++ body_of (Records batch) ∷ []) next (image (Manager slot))
+        → StandsUpTo slot image (grown log batch) (bodies ++ body_of (Records batch) ∷ []) next }
+{}
+
+/// Where a grain has no state in the store it has its type's initial fields, behind any entries: from any base of which this is so,
+/// as of a new silo's.
+pub fn unheld_grains_are_initial()
+    ensures any { (before : Standing) (entries : List LogEntry)
+        → ((grain : GrainId) → before.held grain ≡ false → before.states grain ≡ initial_states before.program grain)
+        → (grain : GrainId) → (after_entries before entries).held grain ≡ false
+        → (after_entries before entries).states grain ≡ initial_states (after_entries before entries).program grain }
+    ensures new { (p : Program) (entries : List LogEntry) (grain : GrainId) → (after_entries (new_silo p) entries).held grain ≡ false
+        → (after_entries (new_silo p) entries).states grain ≡ initial_states p grain }
+{}
+
+/// Prefixes over positions: each log is one of itself; over one base they are first parts, and where no base has an entry the two have
+/// one; a log and what stands for it alone are
+/// prefixes of each other; two that are so end at one position and stand for the same; and they go on from one to the next, unless
+/// the one between forgot what both ends have.
+pub fn prefixes_are_an_order()
+    ensures same { (a : Log) → IsPrefixOf a a }
+    ensures one_base { (a b : Log) → a.base ≡ b.base → (IsPrefixOf a b ↔ IsPrefix a.entries b.entries) }
+    ensures no_base { (a b : Log) → a.base.count ≡ 0 → b.base.count ≡ 0 → IsPrefixOf a b
+        → (a.base ≡ b.base) × IsPrefix a.entries b.entries }
+    ensures saved { (a : Log) → IsPrefixOf a (checkpointed a) × IsPrefixOf (checkpointed a) a }
+    ensures shorter { (a b : Log) → IsPrefixOf a b → last_position a ≤ last_position b }
+    ensures stands { (a b : Log) → IsPrefixOf a b → b.base.count ≤ last_position a → (from_position (last_position a) b).base ≡ standing_of a }
+    ensures both { (a b : Log) → IsPrefixOf a b → IsPrefixOf b a → (last_position a ≡ last_position b) × (standing_of a ≡ standing_of b) }
+    ensures then { (a b c : Log) → b.base.count ≤ max a.base.count c.base.count → IsPrefixOf a b → IsPrefixOf b c → IsPrefixOf a c }
 {}
 
 /// A run that is done, or whose input is too long, has asked for as many syncs as its events need, where nothing failed.
@@ -85,17 +145,15 @@ pub fn programs_are_read()
         → IsChecked (record { text = text; types = types }) }
 {}
 
-/// A folder reads as a silo with a live slot, a program and a log exactly where that slot's program file has that program and it has
-/// that log; it reads as no silo exactly where no slot is live. So one that is sound for a checked program is opened with its log,
-/// and is neither called damaged nor no silo.
+/// A folder reads as a silo with a live slot and a log exactly where that slot is live and it has that log there; it reads as no silo
+/// exactly where no slot is live. So one that is sound is opened with its log, and is neither called damaged nor no silo.
 pub fn folders_are_read()
     ensures slot { (image : Image) (live : ℕ) → (live_in image ≡ Some live) ↔ IsLive magic live image }
-    ensures reads { (image : Image) (live : ℕ) (p : Program) (log : List Commit) → ((file : FileId) → AreBytes (image file))
-        → opened_as image ≡ Reads live p log → IsChecked p × HasProgram p.text (image (ProgramFile live)) × IsLog live (shape_in p) image log }
-    ensures read { (image : Image) (live : ℕ) (p : Program) (log : List Commit) → IsChecked p → HasProgram p.text (image (ProgramFile live))
-        → IsLog live (shape_in p) image log → opened_as image ≡ Reads live p log }
+    ensures reads { (image : Image) (live : ℕ) (log : Log) → ((file : FileId) → AreBytes (image file))
+        → opened_as image ≡ Reads live log → IsLog live image log }
+    ensures read { (image : Image) (live : ℕ) (log : Log) → IsLog live image log → opened_as image ≡ Reads live log }
     ensures no_silo { (image : Image) → (opened_as image ≡ NoSilo) ↔ ((live : ℕ) → IsLive magic live image → ⊥) }
-    ensures sound { (live : ℕ) (p : Program) (image : Image) → IsChecked p → (s : IsSound live p image) → opened_as image ≡ Reads live p s.log }
+    ensures sound { (live : ℕ) (image : Image) → (s : IsSound live image) → opened_as image ≡ Reads live s.log }
 {}
 
 /// The words of a command say one thing: one manner of a run, one number of transfers, seed and manner of a load, and one number

@@ -1,7 +1,7 @@
 //! What a run of a silo promises, as definitions that contracts cite. There is no code but public functions with
 //! empty bodies, whose contracts are laws about the definitions. `docs/DEFINITIONS.md` reads them in plain words.
 //!
-//! In reading order: `Programs`, `Records`, `Serial`, `Logs`, `Images`, `Moments` (what a log is, stands for and may
+//! In reading order: `Programs`, `Records`, `Entries`, `Serial`, `Versions`, `Blocks`, `Logs`, `Prefixes`, `Images`, `Moments` (what a log is, stands for and may
 //! look like after a crash), `Lines`, `Outputs`, `Kinds` (what is asked and answered), `Cores`, `Gotten`, `UnitRule`,
 //! `TurnRule`, `Causes`, `Family` (what the core's events are, and where records come from), `Openings` (what a folder
 //! reads as), `Words`, `Endings`, `Courses`, `Refusals`; the clauses `Orders`, `Replies` and `Crashes`, which `Headline`
@@ -19,6 +19,7 @@ mod laws;
 pub use folders::sound_folders_are_whole;
 pub use laws::{
     chains_compare, checked_programs_have_plain_names, done_runs_count_syncs, folders_are_read,
-    one_entry, one_log, one_output, programs_are_read, promises_keep_the_headline,
-    standings_are_three_folds, words_are_read, words_say_one_command,
+    grown_logs_go_on, one_entry, one_log, one_output, prefixes_are_an_order, programs_are_read,
+    promises_keep_the_headline, sealed_batches_grow_a_log, standings_are_folds,
+    unheld_grains_are_initial, words_are_read, words_say_one_command,
 };

@@ -1,15 +1,14 @@
 -- How many syncs were asked, and which files were written, after a step of the settler.
-use Rattle.std.proofs.Common.{◌≡◌, ◌≢◌, ℕ, ◌+◌, ◌*◌, ◌≤◌, List, [], ◌∷◌, Bool, true, false, inl, inr, refl, sym, ap, ◌∙◌, subst, arith}
+use Rattle.std.proofs.Common.{◌≡◌, ◌≢◌, ℕ, ◌+◌, ◌*◌, ◌≤◌, List, [], ◌∷◌, Bool, true, false, refl, sym, ap, ◌∙◌, subst, arith}
 use Rattle.base_types.specs.declared.calls.GrainId.{GrainId}
 use Rattle.host_trait.specs.declared.channels.Channel.{Channel}
 use Rattle.host_trait.specs.declared.channels.FileId.{FileId}
 use Rattle.host_trait.specs.declared.channels.FileId.TheVariants.{Manager, Grain}
-use Rattle.host_trait.specs.Disk.{FileState}
 use Rattle.host_trait.specs.Files.{same_grain}
-use Rattle.host_trait.specs.World.{World, Disk, Moment, Passes, Emitted}
+use Rattle.host_trait.specs.World.{World, Disk, Moment, Emitted}
 use Rattle.host_trait.specs.Runs.{ChangesFile, RunsOnFile}
 use Rattle.host_trait.proofs.Moments.{started, one, both, weaker}
-use Rattle.host_trait.proofs.Names.{same_grain-is, same_grain-refl}
+use Rattle.host_trait.proofs.Names.{same_grain-refl}
 use Rattle.core_model.specs.declared.events.CoreEvent.{CoreEvent}
 use Rattle.core_model.specs.declared.events.CoreEvent.TheVariants as event
 use Rattle.core_model.specs.declared.events.CoreEvent.TheVariants.{Vote}

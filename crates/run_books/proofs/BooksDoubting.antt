@@ -8,6 +8,8 @@ use Rattle.core_model.specs.CoreState.{Member}
 use Rattle.core_model.specs.declared.events.CoreEvent.{CoreEvent}
 use Rattle.core_model.specs.Laws.{extended}
 use Rattle.core_model.specs.Legal.{Run, ends}
+use Rattle.promise_spec.proofs.Standings.{grown_twice}
+use Rattle.promise_spec.specs.Entries.{Log, grown}
 use Rattle.promise_spec.specs.Programs.{shape_in}
 use Rattle.promise_spec.specs.Records.{Commit}
 use Rattle.promise_spec.specs.Logs.{IsLog}
@@ -32,16 +34,16 @@ use Rattle.run_books.specs.Books.{Books, booked_journal, AreBooked}
 use Rattle.run_books.specs.Images.{LeavesAside, HasOpenBlock, LastsSo}
 use Rattle.run_books.proofs.Showing.{added-by}
 use Rattle.run_books.proofs.BooksLists.{alone, alone-commits}
-use Rattle.run_books.proofs.BooksGrown.{grown, grown-front, grown-commits}
+use Rattle.run_books.proofs.BooksGrown.{grown_books, grown-front, grown-commits}
 use Rattle.run_books.proofs.BooksImages.{uncut, backs-alone}
 use Rattle.run_books.proofs.BooksSeals.{aside-later}
 
 module _ (o : Outset) (head : List ℕ) (b : Books) (r : Run) (e : CoreEvent) (writer writer' : BatchWriter) (now now' : World) (more : List Entry) (batch : List Commit)
     (above : 0 < r.base) (units : KeepsUnitRule (basis_of o) r) (after : KeepsUnitRule (basis_of o) (extended r (e ∷ [])))
     (booked : AreBooked b (ends r)) (sure : b.doubted ≡ []) (whole : b.rest ≡ []) (proper : AllByRecursion (IsProper (shape_in o.program)) (entries_of b.said))
-    (l : LastsSo o head b r writer now) (booked' : AreBooked (grown b more [] (as_settled batch ∷ [])) (ends (extended r (e ∷ []))))
-    (doubts : Doubts o.live o.program (o.opening ++ commits_of (b.said ++ b.unsaid)) (as_settled batch) now now')
-    (some : SomeImage (λ image. IsLog o.live (shape_in o.program) image ((o.opening ++ commits_of (b.said ++ b.unsaid)) ++ batch)) now'.disk)
+    (l : LastsSo o head b r writer now) (booked' : AreBooked (grown_books b more [] (as_settled batch ∷ [])) (ends (extended r (e ∷ []))))
+    (doubts : Doubts o.live (grown o.opening (commits_of (b.said ++ b.unsaid))) (as_settled batch) now now')
+    (some : SomeImage (λ image. IsLog o.live image (grown (grown o.opening (commits_of (b.said ++ b.unsaid))) batch)) now'.disk)
     (rest : Passes (LeavesRest o.live head now) now.past now'.past) (rest_now : LeavesRest o.live head now (moment_of now'))
     (fresh : (x : Entry) (c : Commit) → Member x (entries_of ((b.said ++ b.unsaid) ++ alone more)) → Member c batch → Acknowledges x c → ⊥) where
   abbrev r' : Run
@@ -50,11 +52,11 @@ module _ (o : Outset) (head : List ℕ) (b : Books) (r : Run) (e : CoreEvent) (w
   abbrev front : List Settlement
   front = b.said ++ b.unsaid
 
-  abbrev log : List Commit
-  log = o.opening ++ commits_of front
+  abbrev log : Log
+  log = grown o.opening (commits_of front)
 
   abbrev books : Books
-  books = grown b more [] (as_settled batch ∷ [])
+  books = grown_books b more [] (as_settled batch ∷ [])
 
   was-whole : booked_journal b ≡ front
   was-whole = ap (λ (d : List Settlement). front ++ d) sure ∙ append-nil front
@@ -62,14 +64,14 @@ module _ (o : Outset) (head : List ℕ) (b : Books) (r : Run) (e : CoreEvent) (w
   front-is : books.said ++ books.unsaid ≡ front ++ alone more
   front-is = grown-front b more [] (as_settled batch ∷ []) ∙ ap (λ (j : List Settlement). j ++ alone more) (append-nil front)
 
-  log-is : o.opening ++ commits_of (books.said ++ books.unsaid) ≡ log
-  log-is = ap (λ (c : List Commit). o.opening ++ c) (grown-commits b more [] (as_settled batch ∷ []) ∙ append-nil (commits_of front))
+  log-is : grown o.opening (commits_of (books.said ++ books.unsaid)) ≡ log
+  log-is = ap (grown o.opening) (grown-commits b more [] (as_settled batch ∷ []) ∙ append-nil (commits_of front))
 
-  longer-is : o.opening ++ commits_of (booked_journal books) ≡ log ++ commits_of (as_settled batch ∷ [])
+  longer-is : grown o.opening (commits_of (booked_journal books)) ≡ grown log (commits_of (as_settled batch ∷ []))
   longer-is =
-      ap (λ (c : List Commit). o.opening ++ c) (commits_of-append (books.said ++ books.unsaid) (as_settled batch ∷ []))
-      ∙ sym (append_assoc o.opening (commits_of (books.said ++ books.unsaid)) (commits_of (as_settled batch ∷ [])))
-      ∙ ap (λ (c : List Commit). c ++ commits_of (as_settled batch ∷ [])) log-is
+      ap (grown o.opening) (commits_of-append (books.said ++ books.unsaid) (as_settled batch ∷ []))
+      ∙ sym (grown_twice o.opening (commits_of (books.said ++ books.unsaid)) (commits_of (as_settled batch ∷ [])))
+      ∙ ap (λ (c : Log). grown c (commits_of (as_settled batch ∷ []))) log-is
 
   before : JournalAt o.live o.program o.opening o.world b.said b.unsaid now
   before =
@@ -101,29 +103,29 @@ module _ (o : Outset) (head : List ℕ) (b : Books) (r : Run) (e : CoreEvent) (w
   first : EndsABatch (ends r') o.opening log
   first = batch-stays-run (basis_of o) r (e ∷ []) o.opening log above after (records-end (basis_of o) r o.opening (commits_of front) above units (inl booked.commits))
 
-  second : EndsABatch (ends r') o.opening (log ++ commits_of (as_settled batch ∷ []))
+  second : EndsABatch (ends r') o.opening (grown log (commits_of (as_settled batch ∷ [])))
   second = subst (EndsABatch (ends r') o.opening) longer-is
       (records-end (basis_of o) r' o.opening (commits_of (booked_journal books)) above after (added-by (ends r') (books.said ++ books.unsaid) (as_settled batch ∷ []) booked'.commits booked'.doubted))
 
-  ends-now : AllEnd o.live o.program (ends r') o.opening (moment_of now')
+  ends-now : AllEnd o.live (ends r') o.opening (moment_of now')
   ends-now =
-      sealing_ends o.live o.program (ends r') o.opening log (as_settled batch ∷ []) now (moment_of now')
+      sealing_ends o.live (ends r') o.opening log (as_settled batch ∷ []) now (moment_of now')
       (record { output = doubts.output; log = doubts.log }) first second
 
   -- with what stands of its block
-  pub doubt-lasts : HasOpenBlock o.live (o.opening ++ commits_of (booked_journal books)) (ends r') now'.disk → writer'.in_doubt ≡ true → LastsSo o head books r' writer' now'
+  pub doubt-lasts : HasOpenBlock o.live (grown o.opening (commits_of (booked_journal books))) (ends r') now'.disk → writer'.in_doubt ≡ true → LastsSo o head books r' writer' now'
   doubt-lasts block unsure = record {
     journal = journal;
     backs = backs;
-    batches = both (AllEnd o.live o.program (ends r') o.opening) (moments-stay o.live (basis_of o) o.program r (e ∷ []) o.opening o.world.past now.past above after l.batches)
-        (weaker (IsSealing o.live o.program log (as_settled batch ∷ []) now) (AllEnd o.live o.program (ends r') o.opening) (λ m s. sealing_ends o.live o.program (ends r') o.opening log (as_settled batch ∷ []) now m s first second) doubts.moments);
+    batches = both (AllEnd o.live (ends r') o.opening) (moments-stay o.live (basis_of o) r (e ∷ []) o.opening o.world.past now.past above after l.batches)
+        (weaker (IsSealing o.live log (as_settled batch ∷ []) now) (AllEnd o.live (ends r') o.opening) (λ m s. sealing_ends o.live (ends r') o.opening log (as_settled batch ∷ []) now m s first second) doubts.moments);
     batches_now = ends-now;
     alone = both (LeavesAside o.live head o.world) l.alone (weaker (LeavesRest o.live head now) (LeavesAside o.live head o.world) (λ m k. aside-later o.live head o.world now m l.alone_now k) rest);
     alone_now = aside-later o.live head o.world now (moment_of now') l.alone_now rest_now;
     some = λ there. record {
       image = some.image;
       left = some.left;
-      holds = subst (λ (c : List Commit). IsLog o.live (shape_in o.program) some.image c) (sym (longer-is ∙ ap (λ (c : List Commit). log ++ c) (append-nil batch))) some.holds;
+      holds = subst (λ (c : Log). IsLog o.live some.image c) (sym (longer-is ∙ ap (grown log) (append-nil batch))) some.holds;
     };
     block = λ d. block;
     folder = λ q. absurd (let z : true ≡ false = sym unsure ∙ q in cc);

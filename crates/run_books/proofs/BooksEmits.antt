@@ -9,6 +9,7 @@ use Rattle.core_model.specs.CoreState.{CoreState}
 use Rattle.core_model.specs.declared.events.CoreEvent.{CoreEvent}
 use Rattle.core_model.specs.Laws.{extended}
 use Rattle.core_model.specs.Legal.{Run, ends}
+use Rattle.promise_spec.specs.Entries.{grown}
 use Rattle.promise_spec.specs.Programs.{shape_in}
 use Rattle.promise_spec.specs.Logs.{IsLog}
 use Rattle.promise_spec.specs.Outputs.{IsProper}
@@ -42,7 +43,7 @@ module _ (o : Outset) (head : List ℕ) (b c : Books) (r : Run) (more : List Cor
   same : booked_journal c ≡ booked_journal b
   same = λ i. front i ++ doubted i
 
-  ends-now : AllEnd o.live o.program (ends r') o.opening (moment_of now')
+  ends-now : AllEnd o.live (ends r') o.opening (moment_of now')
   ends-now image log left is =
       batch-stays-run (basis_of o) r more o.opening log above after
       (l.batches_now image log (subst (λ (d : Disk). IsImage d image) disk left) is)
@@ -53,12 +54,12 @@ module _ (o : Outset) (head : List ℕ) (b c : Books) (r : Run) (more : List Cor
     header = λ image left. l.alone_now.header image (subst (λ (d : Disk). IsImage d image) disk left);
   }
 
-  block-on : RunHasDoubt r' → HasOpenBlock o.live (o.opening ++ commits_of (booked_journal c)) (ends r') now'.disk
+  block-on : RunHasDoubt r' → HasOpenBlock o.live (grown o.opening (commits_of (booked_journal c))) (ends r') now'.disk
   block-on d =
       let there = doubt-ends r' d in
       let before : (ends r).manager.doubt ≡ Some there.0 = sym doubt ∙ there.1 in
-      subst (λ (k : Disk). HasOpenBlock o.live (o.opening ++ commits_of (booked_journal c)) (ends r') k) (sym disk)
-      (block-kept o.live (o.opening ++ commits_of (booked_journal b)) (o.opening ++ commits_of (booked_journal c)) (ends r) (ends r') now.disk (ap (λ (j : List Settlement). o.opening ++ commits_of j) same)
+      subst (λ (k : Disk). HasOpenBlock o.live (grown o.opening (commits_of (booked_journal c))) (ends r') k) (sym disk)
+      (block-kept o.live (grown o.opening (commits_of (booked_journal b))) (grown o.opening (commits_of (booked_journal c))) (ends r) (ends r') now.disk (ap (λ (j : List Settlement). grown o.opening (commits_of j)) same)
       (doubt-stays r more there.0 before).chosen (l.block (doubt_left r there.0 before)))
 
   folder-on : writer'.in_doubt ≡ false → KeepsFolder o head c r' writer' now'.disk
@@ -66,9 +67,10 @@ module _ (o : Outset) (head : List ℕ) (b c : Books) (r : Run) (more : List Cor
       let f = l.folder (sym (ap (λ (w : BatchWriter). w.in_doubt) writer_is) ∙ sure) in
       subst (λ (w : BatchWriter). KeepsFolder o head c r' w now'.disk) (sym writer_is)
       (record {
-        batches = f.batches;
-        log = f.log ∙ ap (λ (j : List Settlement). o.opening ++ commits_of j) (sym front);
-        keeps = subst (λ (k : Disk). KeepsDisk o.live (shape_in o.program) head f.batches writer k) (sym disk) f.keeps;
+        stood = f.stood;
+        bodies = f.bodies;
+        log = f.log ∙ ap (λ (j : List Settlement). grown o.opening (commits_of j)) (sym front);
+        keeps = subst (λ (k : Disk). KeepsDisk o.live (shape_in o.program) head f.stood f.bodies writer k) (sym disk) f.keeps;
         votes = λ v m. vote-kept r more above writer.batch v.unit v.write.grain v.state (f.votes v m);
         behind = λ none. subst (λ (k : Disk). EndsAsBegun o writer.gate_at (k (Manager o.live))) (sym disk) (f.behind (none-before is_unsealed r more none));
       })
@@ -77,12 +79,12 @@ module _ (o : Outset) (head : List ℕ) (b c : Books) (r : Run) (more : List Cor
   output-lasts journal = record {
     journal = journal;
     backs = subst (λ (j : List Settlement). Backs j (commits_of j)) (sym same) l.backs;
-    batches = passes (AllEnd o.live o.program (ends r') o.opening) ends-now (moments-stay o.live (basis_of o) o.program r more o.opening o.world.past now.past above after l.batches);
+    batches = passes (AllEnd o.live (ends r') o.opening) ends-now (moments-stay o.live (basis_of o) r more o.opening o.world.past now.past above after l.batches);
     batches_now = ends-now;
     alone = passes (LeavesAside o.live head o.world) aside-now l.alone;
     alone_now = aside-now;
-    some = λ there. subst (λ (k : Disk). SomeImage (λ image. IsLog o.live (shape_in o.program) image (o.opening ++ commits_of (booked_journal c))) k) (sym disk)
-        (subst (λ (j : List Settlement). SomeImage (λ image. IsLog o.live (shape_in o.program) image (o.opening ++ commits_of j)) now.disk) (sym same) (l.some (λ none. there (doubted ∙ none))));
+    some = λ there. subst (λ (k : Disk). SomeImage (λ image. IsLog o.live image (grown o.opening (commits_of (booked_journal c)))) k) (sym disk)
+        (subst (λ (j : List Settlement). SomeImage (λ image. IsLog o.live image (grown o.opening (commits_of j))) now.disk) (sym same) (l.some (λ none. there (doubted ∙ none))));
     block = block-on;
     folder = folder-on;
   }

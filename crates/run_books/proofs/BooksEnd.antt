@@ -14,11 +14,13 @@ use Rattle.core_model.specs.Laws.{extended}
 use Rattle.core_model.specs.Legal.{Run, ends}
 use Rattle.core_model.specs.Serial.{chosen}
 use Rattle.core_model.specs.Settler.{Step, Votes, Decides, Seals as SealStep, Learns, Writes, Takes, Rests, MakesEvent, settler_step, to_commit}
+use Rattle.promise_spec.proofs.Standings.{grown_twice}
+use Rattle.promise_spec.specs.Entries.{Log, grown}
 use Rattle.promise_spec.specs.Programs.{shape_in}
 use Rattle.promise_spec.specs.Records.{Commit, AreRecordsOf}
 use Rattle.promise_spec.specs.Journals.{Settlement, Seals, Doubts, commits_of, entries_of}
 use Rattle.promise_laws.proofs.Journaled.{commits_of-append}
-use Rattle.batch_disk.specs.Resting.{log_of, SomeImage}
+use Rattle.batch_disk.specs.Resting.{SomeImage}
 use Rattle.batch_disk.specs.Records.{commits_by}
 use Rattle.batch_disk.specs.Seals.{SealsAs, may_open}
 use Rattle.batch_disk.specs.Writers.{voted_of}
@@ -39,7 +41,7 @@ use Rattle.run_books.specs.Records.{KeepsBooks}
 use Rattle.run_books.specs.Settling.{AreEven, CanSettle}
 use Rattle.run_books.proofs.BooksCore.{Moves, moves-run}
 use Rattle.run_books.proofs.BooksLists.{alone}
-use Rattle.run_books.proofs.BooksGrown.{grown, grown-front, grown-commits}
+use Rattle.run_books.proofs.BooksGrown.{grown_books, grown-front, grown-commits}
 use Rattle.run_books.proofs.BooksKept.{AddsBatch, books-kept, books-even}
 use Rattle.run_books.proofs.BooksEvents.{doubted_by, adds-doubt, not-again}
 use Rattle.run_books.proofs.BooksFair.{is-fair}
@@ -47,6 +49,7 @@ use Rattle.run_books.proofs.BooksInDoubt.{fresh-doubt}
 use Rattle.run_books.proofs.BooksSeals.{seals-last}
 use Rattle.run_books.proofs.BooksDoubting.{doubt-lasts}
 use Rattle.run_books.proofs.BooksStep.{StepDone, IsCounted, sure, writer-sure}
+use Rattle.run_books.specs.Stages.{stage_of}
 
 -- the step that leaves a doubt is that of the seal
 seals-step : (n : ℕ) (s : Step) → MakesEvent s (event.Doubt n) → s ≡ SealStep n
@@ -61,7 +64,7 @@ seals-step n Takes m = absurd (cc m)
 seals-step n Rests m = absurd m
 
 module _ {H : Type 0} (tells : Bool) (world : H → World) (faults : H → Channel → ℕ) (o : Outset) (b : Books) (r : Run) (before after : Settler) (old new : H)
-    (can : CanSettle o (shape_in o.program) r) (even : AreEven before.quiet b (ends r)) (k : KeepsBooks tells o b r before (faults old) (world old)) where
+    (can : CanSettle o (shape_in o.program) r) (even : AreEven before.quiet b (ends r)) (k : KeepsBooks tells o b (stage_of world faults r before old)) where
   abbrev Done : CoreEvent → Type 0
   Done e = StepDone tells world faults o b r before after old new can even k e
 
@@ -96,12 +99,12 @@ module _ {H : Type 0} (tells : Bool) (world : H → World) (faults : H → Chann
     adds = adds-doubt tells world faults o b r before after old new can.above can.units k n c.applied m c.quiet c.written unsure does
 
     books : Books
-    books = grown b m.more [] (doubted_by may effects does.work.records)
+    books = grown_books b m.more [] (doubted_by may effects does.work.records)
 
-    kept : KeepsBooks tells o (grown b m.more [] (doubted_by may effects does.work.records)) r' after (faults new) (world new)
+    kept : KeepsBooks tells o (grown_books b m.more [] (doubted_by may effects does.work.records)) (stage_of world faults r' after new)
     kept = books-kept tells o b r e before after (faults old) (faults new) (world old) (world new) [] (doubted_by may effects does.work.records) can.above can.units even k m refl adds
 
-    again : AreEven after.quiet (grown b m.more [] (doubted_by may effects does.work.records)) (ends r')
+    again : AreEven after.quiet (grown_books b m.more [] (doubted_by may effects does.work.records)) (ends r')
     again = books-even tells o b r e before after (faults old) (faults new) (world old) (world new) [] (doubted_by may effects does.work.records) can.above can.units even k m refl adds
 
     writer-unsure : after.writer.in_doubt ≡ true
@@ -117,35 +120,36 @@ module _ {H : Type 0} (tells : Bool) (world : H → World) (faults : H → Chann
     no-doubts = sure tells world faults o b r before after old new can even k e c refl refl
 
     as-doubt : (t : IsTrue tells) (head : List ℕ) (f : KeepsFolder o head b r before.writer (world old).disk) → (x : Sealing) → event.Doubt n ≡ event_of n x
-        → SealsAs o.live (shape_in o.program) head f.batches effects does.work.records x before.writer after.writer (world old) (world new)
-        → DoubtsBatch o.live o.program head f.batches before.writer after.writer (world old) (world new) before.writer.gate_at effects batch
+        → SealsAs o.live (shape_in o.program) head f.stood f.bodies effects does.work.records x before.writer after.writer (world old) (world new)
+        → DoubtsBatch o.live o.program head f.stood f.bodies before.writer after.writer (world old) (world new) before.writer.gate_at effects batch
     as-doubt t head f (sealing.Sealed next) q s = absurd (cc q)
     as-doubt t head f sealing.NotSealed q s = absurd (cc q)
     as-doubt t head f sealing.InDoubt q s =
-        subst (DoubtsBatch o.live o.program head f.batches before.writer after.writer (world old) (world new) before.writer.gate_at effects) s.made_of
-        (doubted o.live o.program head f.batches before.writer after.writer (world old) (world new) f.keeps effects does.work.records (does.run t).now.output (does.run t).clock s)
+        subst (DoubtsBatch o.live o.program head f.stood f.bodies before.writer after.writer (world old) (world new) before.writer.gate_at effects) s.made_of
+        (doubted o.live o.program head f.stood f.bodies before.writer after.writer (world old) (world new) f.keeps effects does.work.records (does.run t).now.output (does.run t).clock s)
 
-    doubt-of : (t : IsTrue tells) (head : List ℕ) (f : KeepsFolder o head b r before.writer (world old).disk) → DoubtsBatch o.live o.program head f.batches before.writer after.writer (world old) (world new) before.writer.gate_at effects batch
+    doubt-of : (t : IsTrue tells) (head : List ℕ) (f : KeepsFolder o head b r before.writer (world old).disk) → DoubtsBatch o.live o.program head f.stood f.bodies before.writer after.writer (world old) (world new) before.writer.gate_at effects batch
     doubt-of t head f =
         let fair = (is-fair o r before.writer can.above can.units can.kinds can.accepted can.numbers f.votes).seal n (seals-step n (settler_step (ends r)) makes) in
-        as-doubt t head f does.answer does.event (does.seals t (shape_in o.program) head f.batches fair.0 fair.1 f.keeps)
+        as-doubt t head f does.answer does.event (does.seals t (shape_in o.program) head f.stood f.bodies fair.0 fair.1 f.keeps)
 
     module _ (t : IsTrue tells) (head : List ℕ) (l : LastsSo o head b r before.writer (world old)) where
       abbrev Lasting : List Settlement → Type 0
-      Lasting d = LastsSo o head (grown b m.more [] d) r' after.writer (world new)
+      Lasting d = LastsSo o head (grown_books b m.more [] d) r' after.writer (world new)
 
       f : KeepsFolder o head b r before.writer (world old).disk
       f = l.folder (writer-sure tells world faults o b r before after old new can even k e c refl refl)
 
-      log-is : o.opening ++ commits_of (b.said ++ ((b.unsaid ++ []) ++ alone m.more)) ≡ log_of f.batches
-      log-is = ap (λ (x : List Commit). o.opening ++ x) (grown-commits b m.more [] [] ∙ append-nil (commits_of (b.said ++ b.unsaid))) ∙ sym f.log
+      log-is : grown o.opening (commits_of (b.said ++ ((b.unsaid ++ []) ++ alone m.more))) ≡ f.stood
+      log-is = ap (grown o.opening) (grown-commits b m.more [] [] ∙ append-nil (commits_of (b.said ++ b.unsaid))) ∙ sym f.log
 
-      block-of : DoubtsBatch o.live o.program head f.batches before.writer after.writer (world old) (world new) before.writer.gate_at effects batch → (log : List Commit)
-          → (log ≡ log_of f.batches) ⊎ (log ≡ log_of f.batches ++ batch) → HasOpenBlock o.live log (ends r') (world new).disk
+      block-of : DoubtsBatch o.live o.program head f.stood f.bodies before.writer after.writer (world old) (world new) before.writer.gate_at effects batch → (log : Log)
+          → (log ≡ f.stood) ⊎ (log ≡ grown f.stood batch) → HasOpenBlock o.live log (ends r') (world new).disk
       block-of d log which = record {
         gate = before.writer.gate_at;
         batch = batch;
-        batches = f.batches;
+        before = f.stood;
+        bodies = f.bodies;
         records = of_chosen;
         log_is = which;
         front = d.doubt.front;
@@ -153,39 +157,39 @@ module _ {H : Type 0} (tells : Bool) (world : H → World) (faults : H → Chann
         differ = d.doubt.differ;
       }
 
-      unbegun : DoubtsBatch o.live o.program head f.batches before.writer after.writer (world old) (world new) before.writer.gate_at effects batch → may ≡ false
-          → Seals o.live o.program (log_of f.batches) [] (world old) (world new) → Lasting (doubted_by may effects does.work.records)
+      unbegun : DoubtsBatch o.live o.program head f.stood f.bodies before.writer after.writer (world old) (world new) before.writer.gate_at effects batch → may ≡ false
+          → Seals o.live f.stood [] (world old) (world new) → Lasting (doubted_by may effects does.work.records)
       unbegun d no-open seals =
           let nothing : doubted_by may effects does.work.records ≡ [] = ap (λ (x : Bool). doubted_by x effects does.work.records) no-open in
           subst Lasting (sym nothing)
           (seals-last o head b r e before.writer after.writer (world old) (world new) m.more [] can.above can.units c.units k.booked no-doubts even.rest (k.outside t).output.proper l refl
-          (subst (λ (x : List Settlement). AreBooked (grown b m.more [] x) (ends r')) nothing kept.booked)
-          (subst (λ (log : List Commit). Seals o.live o.program log [] (world old) (world new)) f.log seals) d.rest d.doubt.rest
+          (subst (λ (x : List Settlement). AreBooked (grown_books b m.more [] x) (ends r')) nothing kept.booked)
+          (subst (λ (log : Log). Seals o.live log [] (world old) (world new)) f.log seals) d.rest d.doubt.rest
           (λ x y said there is. there)
-          (λ h. block-of d (o.opening ++ commits_of ((b.said ++ ((b.unsaid ++ []) ++ alone m.more)) ++ []))
-          (inl (ap (λ (j : List Settlement). o.opening ++ commits_of j) (append-nil (b.said ++ ((b.unsaid ++ []) ++ alone m.more))) ∙ log-is)))
+          (λ h. block-of d (grown o.opening (commits_of ((b.said ++ ((b.unsaid ++ []) ++ alone m.more)) ++ [])))
+          (inl (ap (λ (j : List Settlement). grown o.opening (commits_of j)) (append-nil (b.said ++ ((b.unsaid ++ []) ++ alone m.more))) ∙ log-is)))
           (λ q. absurd (let z : true ≡ false = sym writer-unsure ∙ q in cc)))
 
-      begun : DoubtsBatch o.live o.program head f.batches before.writer after.writer (world old) (world new) before.writer.gate_at effects batch → may ≡ true
-          → Doubts o.live o.program (log_of f.batches) (as_settled batch) (world old) (world new) → SomeImage (λ image. IsLog o.live (shape_in o.program) image (log_of f.batches ++ batch)) (world new).disk
+      begun : DoubtsBatch o.live o.program head f.stood f.bodies before.writer after.writer (world old) (world new) before.writer.gate_at effects batch → may ≡ true
+          → Doubts o.live f.stood (as_settled batch) (world old) (world new) → SomeImage (λ image. IsLog o.live image (grown f.stood batch)) (world new).disk
           → Lasting (doubted_by may effects does.work.records)
       begun d is-open doubts some =
           let it : doubted_by may effects does.work.records ≡ as_settled batch ∷ [] = ap (λ (x : Bool). doubted_by x effects does.work.records) is-open in
-          let booked' : AreBooked (grown b m.more [] (as_settled batch ∷ [])) (ends r') = subst (λ (x : List Settlement). AreBooked (grown b m.more [] x) (ends r')) it kept.booked in
+          let booked' : AreBooked (grown_books b m.more [] (as_settled batch ∷ [])) (ends r') = subst (λ (x : List Settlement). AreBooked (grown_books b m.more [] x) (ends r')) it kept.booked in
           let named : b.said ++ ((b.unsaid ++ []) ++ alone m.more) ≡ (b.said ++ b.unsaid) ++ alone m.more =
           grown-front b m.more [] [] ∙ ap (λ (j : List Settlement). j ++ alone m.more) (append-nil (b.said ++ b.unsaid)) in
           subst Lasting (sym it)
           (doubt-lasts o head b r e before.writer after.writer (world old) (world new) m.more batch can.above can.units c.units k.booked no-doubts even.rest (k.outside t).output.proper l booked'
-          (subst (λ (log : List Commit). Doubts o.live o.program log (as_settled batch) (world old) (world new)) f.log doubts)
-          (subst (λ (log : List Commit). SomeImage (λ image. IsLog o.live (shape_in o.program) image (log ++ batch)) (world new).disk) f.log some) d.rest d.doubt.rest
+          (subst (λ (log : Log). Doubts o.live log (as_settled batch) (world old) (world new)) f.log doubts)
+          (subst (λ (log : Log). SomeImage (λ image. IsLog o.live image (grown log batch)) (world new).disk) f.log some) d.rest d.doubt.rest
           (λ x y said there is.
           fresh-doubt (basis_of o) r e batch can.above can.units c.units of_batch of_chosen (committed-stays (basis_of o) r can.above can.units e refl) x y
           (subst (λ (xs : List Entry). Member x xs) booked'.entries (subst (λ (j : List Settlement). Member x (entries_of j)) (sym named) said)) there is)
-          (block-of d (o.opening ++ commits_of ((b.said ++ ((b.unsaid ++ []) ++ alone m.more)) ++ as_settled batch ∷ []))
+          (block-of d (grown o.opening (commits_of ((b.said ++ ((b.unsaid ++ []) ++ alone m.more)) ++ as_settled batch ∷ [])))
           (inr (
-          ap (λ (x : List Commit). o.opening ++ x) (commits_of-append (b.said ++ ((b.unsaid ++ []) ++ alone m.more)) (as_settled batch ∷ []))
-          ∙ sym (append_assoc o.opening (commits_of (b.said ++ ((b.unsaid ++ []) ++ alone m.more))) (commits_of (as_settled batch ∷ [])))
-          ∙ (λ i. log-is i ++ append-nil batch i))))
+          ap (grown o.opening) (commits_of-append (b.said ++ ((b.unsaid ++ []) ++ alone m.more)) (as_settled batch ∷ []))
+          ∙ sym (grown_twice o.opening (commits_of (b.said ++ ((b.unsaid ++ []) ++ alone m.more))) (commits_of (as_settled batch ∷ [])))
+          ∙ (λ i. grown (log-is i) (append-nil batch i)))))
           writer-unsure)
 
       lasts : Lasting (doubted_by may effects does.work.records)
@@ -197,7 +201,7 @@ module _ {H : Type 0} (tells : Bool) (world : H → World) (faults : H → Chann
           ]
 
     doubt-done : Done (event.Doubt n)
-    doubt-done = record { books = grown b m.more [] (doubted_by may effects does.work.records); kept = kept; even_again = again; lasts = λ t head l. lasts t head l }
+    doubt-done = record { books = grown_books b m.more [] (doubted_by may effects does.work.records); kept = kept; even_again = again; lasts = λ t head l. lasts t head l }
 
   pub by-doubt : (n : ℕ) → MakesEvent (settler_step (ends r)) (event.Doubt n) → SealsUnits tells world faults o.live n (event.Doubt n) (to_commit (ends r) (ends r).manager.batch) before.writer after.writer old new ⊎ DoubtsAgain tells world faults before.writer after.writer old new
       → Counted (event.Doubt n) → Done (event.Doubt n)

@@ -1,5 +1,5 @@
 -- What each event of the settler that puts nothing out adds to the books.
-use Rattle.std.proofs.Common.{◌≡◌, ℕ, ◌+◌, ◌*◌, ◌<◌, List, [], ◌∷◌, ◌++◌, length, Bool, true, false, ◌&&◌, true≢false, refl, sym, ap, ◌∙◌, subst, arith, append-nil, Some, is_some}
+use Rattle.std.proofs.Common.{◌≡◌, ℕ, ◌+◌, ◌<◌, List, [], ◌∷◌, ◌++◌, length, Bool, true, false, ◌&&◌, true≢false, refl, sym, ap, ◌∙◌, subst, arith, append-nil, Some, is_some}
 use Rattle.std.specs.Prelude.{IsTrue}
 use Rattle.std.proofs.lemmas.Bool.{and_right}
 use Rattle.base_types.specs.declared.calls.GrainId.{GrainId}
@@ -48,6 +48,7 @@ use Rattle.run_books.proofs.BooksCounts.{how-same, how-one}
 use Rattle.run_books.proofs.BooksFaults.{NoneFell, failed-later, calm-later, faults-same, faults-unsealed, faults-no, rose-back, none-failed}
 use Rattle.run_books.proofs.BooksImages.{doubt-kept}
 use Rattle.run_books.proofs.BooksKept.{AddsBatch}
+use Rattle.run_books.specs.Stages.{stage_of}
 
 -- the batch that was made, as one settlement
 abbrev pub made_batch : List Effect → List CommitRecord → List Settlement
@@ -62,7 +63,7 @@ made-records : (writer : BatchWriter) (n : ℕ) (effects : List Effect) (x : Lis
 made-records writer n effects x are = subst (λ (l : List Commit). AreRecordsOf effects l) (sym (append-nil (commits_by effects x))) are
 
 module _ {H : Type 0} (tells : Bool) (world : H → World) (faults : H → Channel → ℕ) (o : Outset) (b : Books) (r : Run) (before after : Settler) (old new : H)
-    (above : 0 < r.base) (units : KeepsUnitRule (basis_of o) r) (k : KeepsBooks tells o b r before (faults old) (world old)) where
+    (above : 0 < r.base) (units : KeepsUnitRule (basis_of o) r) (k : KeepsBooks tells o b (stage_of world faults r before old)) where
   module _ (e : CoreEvent) (a : applies (ends r) e ≡ true) (m : Moves (ends r) e (ends (extended r (e ∷ [])))) (quiet : after.quiet ≡ before.quiet) (written : after.written ≡ before.written) where
     abbrev r' : Run
     r' = extended r (e ∷ [])

@@ -18,13 +18,13 @@ even-put true b w put even w' c same even' = same ∙ put
 even-put false b w put even w' c same even' = inl even'.told
 
 module _ (b : Books) (more : List Entry) (batch d : List Settlement) where
-  abbrev pub grown : Books
-  grown = record { said = b.said; unsaid = (b.unsaid ++ batch) ++ alone more; doubted = d; rest = b.rest }
+  abbrev pub grown_books : Books
+  grown_books = record { said = b.said; unsaid = (b.unsaid ++ batch) ++ alone more; doubted = d; rest = b.rest }
 
-  pub grown-front : grown.said ++ grown.unsaid ≡ ((b.said ++ b.unsaid) ++ batch) ++ alone more
+  pub grown-front : grown_books.said ++ grown_books.unsaid ≡ ((b.said ++ b.unsaid) ++ batch) ++ alone more
   grown-front = sym (append_assoc b.said (b.unsaid ++ batch) (alone more)) ∙ ap (λ (l : List Settlement). l ++ alone more) (sym (append_assoc b.said b.unsaid batch))
 
-  pub grown-commits : commits_of (grown.said ++ grown.unsaid) ≡ commits_of (b.said ++ b.unsaid) ++ commits_of batch
+  pub grown-commits : commits_of (grown_books.said ++ grown_books.unsaid) ≡ commits_of (b.said ++ b.unsaid) ++ commits_of batch
   grown-commits =
       ap commits_of grown-front
       ∙ commits_of-append ((b.said ++ b.unsaid) ++ batch) (alone more)
@@ -32,7 +32,7 @@ module _ (b : Books) (more : List Entry) (batch d : List Settlement) where
       ∙ append-nil (commits_of ((b.said ++ b.unsaid) ++ batch))
       ∙ commits_of-append (b.said ++ b.unsaid) batch
 
-  pub grown-entries : entries_of batch ≡ [] → entries_of (grown.said ++ grown.unsaid) ≡ entries_of (b.said ++ b.unsaid) ++ more
+  pub grown-entries : entries_of batch ≡ [] → entries_of (grown_books.said ++ grown_books.unsaid) ≡ entries_of (b.said ++ b.unsaid) ++ more
   grown-entries none =
       ap entries_of grown-front
       ∙ flat-both (λ (s : Settlement). s.entries) ((b.said ++ b.unsaid) ++ batch) (alone more)
@@ -40,7 +40,7 @@ module _ (b : Books) (more : List Entry) (batch d : List Settlement) where
       ∙ ap (λ (l : List Entry). l ++ more) (flat-both (λ (s : Settlement). s.entries) (b.said ++ b.unsaid) batch ∙ ap (λ (l : List Entry). entries_of (b.said ++ b.unsaid) ++ l) none ∙ append-nil (entries_of (b.said ++ b.unsaid)))
 
   module _ (w w' : CoreState) (settled : w'.manager.settled ≡ w.manager.settled ++ more) (none : entries_of batch ≡ []) where
-    pub grown-booked : (effects : List Effect) → AreBooked b w → committed w' ≡ committed w ++ effects → AreRecordsOf effects (commits_of batch) → AreInDoubt w' d → AreBooked grown w'
+    pub grown-booked : (effects : List Effect) → AreBooked b w → committed w' ≡ committed w ++ effects → AreRecordsOf effects (commits_of batch) → AreInDoubt w' d → AreBooked grown_books w'
     grown-booked effects booked commits records doubted = record {
       commits = subst (λ (l : List Commit). AreRecordsOf (committed w') l) (sym grown-commits)
           (subst (λ (es : List Effect). AreRecordsOf es (commits_of (b.said ++ b.unsaid) ++ commits_of batch)) (sym commits)
@@ -49,13 +49,13 @@ module _ (b : Books) (more : List Entry) (batch d : List Settlement) where
       doubted = doubted;
     }
 
-    told-same : (quiet : Bool) → w'.manager.emitted ≡ w.manager.emitted → w.manager.emitted ≤ length w.manager.settled → IsAsTold quiet b w → IsAsTold quiet grown w'
+    told-same : (quiet : Bool) → w'.manager.emitted ≡ w.manager.emitted → w.manager.emitted ≤ length w.manager.settled → IsAsTold quiet b w → IsAsTold quiet grown_books w'
     told-same true emitted within told = tt
     told-same false emitted within told =
         told ∙ sym (take-front w.manager.emitted w.manager.settled more within) ∙ ap (λ (l : List Entry). take w.manager.emitted l) (sym settled)
         ∙ ap (λ (n : ℕ). take n w'.manager.settled) (sym emitted)
 
-    pub grown-even : (quiet : Bool) → w'.manager.emitted ≡ w.manager.emitted → w.manager.emitted ≤ length w.manager.settled → AreEven quiet b w → AreEven quiet grown w'
+    pub grown-even : (quiet : Bool) → w'.manager.emitted ≡ w.manager.emitted → w.manager.emitted ≤ length w.manager.settled → AreEven quiet b w → AreEven quiet grown_books w'
     grown-even quiet emitted within even = record {
       rest = even.rest;
       told = told-same quiet emitted within even.told;

@@ -8,6 +8,7 @@ use Rattle.core_model.specs.declared.effects.Effect.{Effect}
 use Rattle.core_model.specs.Laws.{extended}
 use Rattle.core_model.specs.Legal.{Run, ends}
 use Rattle.core_model.specs.Serial.{chosen}
+use Rattle.promise_spec.specs.Entries.{Log, grown}
 use Rattle.promise_spec.specs.Programs.{Program, shape_in}
 use Rattle.promise_spec.specs.Records.{Commit, AreRecordsOf}
 use Rattle.promise_spec.specs.Logs.{IsLog}
@@ -22,7 +23,7 @@ use Rattle.run_books.specs.Books.{AreInDoubt}
 use Rattle.run_books.specs.Images.{HasOpenBlock}
 use Rattle.run_books.proofs.BooksLists.{alone, alone-commits}
 
-module _ (live : ℕ) (p : Program) (opening : List Commit) (old : World) (said unsaid : List Settlement) (now : World) where
+module _ (live : ℕ) (p : Program) (opening : Log) (old : World) (said unsaid : List Settlement) (now : World) where
   whole-output : now.output ≡ old.output ++ (reply_lines (shape_in p) (entries_of said) ++ []) → now.output ≡ old.output ++ reply_lines (shape_in p) (entries_of said)
   whole-output q = q ∙ ap (λ (l : List ℕ). old.output ++ l) (append-nil (reply_lines (shape_in p) (entries_of said)))
 
@@ -30,7 +31,7 @@ module _ (live : ℕ) (p : Program) (opening : List Commit) (old : World) (said 
   pub uncut : CutAt live p opening old said unsaid [] [] now → JournalAt live p opening old said unsaid now
   uncut c = record {
     output = whole-output c.output;
-    log = λ image left. ⊎_elim (λ x. x) (λ x. subst (λ (l : List Settlement). IsLog live (shape_in p) image (opening ++ commits_of l)) (append-nil (said ++ unsaid)) x) (c.log image left);
+    log = λ image left. ⊎_elim (λ x. x) (λ x. subst (λ (l : List Settlement). IsLog live image (grown opening (commits_of l))) (append-nil (said ++ unsaid)) x) (c.log image left);
     moments = subst (λ (l : List Settlement). Passes (AllSay live p opening old.output said l) old.past now.past) (append-nil (said ++ unsaid)) c.moments;
   }
 
@@ -63,11 +64,12 @@ doubt-kept r more (batch ∷ []) is =
 doubt-kept r more (batch ∷ (another ∷ rest)) is = absurd is
 
 -- and so does its block
-pub block-kept : (live : ℕ) (log log' : List Commit) (w w' : CoreState) (disk : Disk) → log' ≡ log → chosen w' ≡ chosen w → HasOpenBlock live log w disk → HasOpenBlock live log' w' disk
+pub block-kept : (live : ℕ) (log log' : Log) (w w' : CoreState) (disk : Disk) → log' ≡ log → chosen w' ≡ chosen w → HasOpenBlock live log w disk → HasOpenBlock live log' w' disk
 block-kept live log log' w w' disk same chosen-same h = record {
   gate = h.gate;
   batch = h.batch;
-  batches = h.batches;
+  before = h.before;
+  bodies = h.bodies;
   records = subst (λ (es : List Effect). AreRecordsOf es h.batch) (sym chosen-same) h.records;
   log_is = ⊎_elim (λ q. inl (same ∙ q)) (λ q. inr (same ∙ q)) h.log_is;
   front = h.front;

@@ -24,7 +24,8 @@ use Rattle.run_books.specs.Records.{KeepsBooks, CountsCalls}
 use Rattle.run_books.specs.Settling.{AreEven}
 use Rattle.run_books.proofs.BooksCore.{Moves}
 use Rattle.run_books.proofs.BooksFaults.{NoneFell, fell-both}
-use Rattle.run_books.proofs.BooksGrown.{even-put, grown, grown-booked, grown-even}
+use Rattle.run_books.proofs.BooksGrown.{even-put, grown_books, grown-booked, grown-even}
+use Rattle.run_books.specs.Stages.{stage_by}
 
 -- What an event that puts nothing out adds: a batch's records, and a batch in doubt; and what it leaves of counts, of the settler
 -- and of the host.
@@ -45,14 +46,14 @@ pub record AddsBatch (tells : Bool) (o : Outset) (r r' : Run) (before after : Se
   pub calls : IsTrue tells → CountsCalls o r' new now'
 
 module _ (tells : Bool) (o : Outset) (b : Books) (r : Run) (e : CoreEvent) (before after : Settler) (old new : Channel → ℕ) (now now' : World) (batch d : List Settlement)
-    (above : 0 < r.base) (units : KeepsUnitRule (basis_of o) r) (even : AreEven before.quiet b (ends r)) (k : KeepsBooks tells o b r before old now)
+    (above : 0 < r.base) (units : KeepsUnitRule (basis_of o) r) (even : AreEven before.quiet b (ends r)) (k : KeepsBooks tells o b (stage_by r before old now))
     (m : Moves (ends r) e (ends (extended r (e ∷ [])))) (entry : tells_entry e ≡ false)
     (adds : AddsBatch tells o r (extended r (e ∷ [])) before after old new now now' batch d) where
   abbrev r' : Run
   r' = extended r (e ∷ [])
 
   abbrev pub books : Books
-  books = grown b m.more batch d
+  books = grown_books b m.more batch d
 
   told : (ends r).manager.emitted ≤ length (ends r).manager.settled
   told = (once-ends (λ (x : Effect). true) r (legal-run (basis_of o) r above units)).written
@@ -63,7 +64,7 @@ module _ (tells : Bool) (o : Outset) (b : Books) (r : Run) (e : CoreEvent) (befo
   pub books-even : AreEven after.quiet books (ends r')
   books-even = subst (λ (q : Bool). AreEven q books (ends r')) (sym adds.quiet) even-before
 
-  pub books-kept : KeepsBooks tells o books r' after new now'
+  pub books-kept : KeepsBooks tells o books (stage_by r' after new now')
   books-kept = record {
     faults = adds.faults;
     later = fell-both o.faults old new k.later adds.later;

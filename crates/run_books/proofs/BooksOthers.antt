@@ -1,5 +1,5 @@
 -- The books after an event that isn't the settler's.
-use Rattle.std.proofs.Common.{◌≡◌, ◌⊎◌, ⊎_elim, inl, inr, ℕ, zero, suc, ◌+◌, ◌*◌, ◌<◌, ◌≤◌, List, [], ◌∷◌, ◌++◌, length, take, Bool, true, false, true≢false, refl, sym, ap, ◌∙◌, subst, append-nil, arith, Some, is_some}
+use Rattle.std.proofs.Common.{◌≡◌, ◌⊎◌, ⊎_elim, inl, inr, ℕ, zero, suc, ◌+◌, ◌<◌, ◌≤◌, List, [], ◌∷◌, ◌++◌, length, take, Bool, true, false, true≢false, refl, sym, ap, ◌∙◌, subst, append-nil, arith, Some, is_some}
 use Rattle.std.specs.Prelude.{slice_get}
 use Rattle.base_types.specs.declared.calls.GrainId.{GrainId}
 use Rattle.base_types.specs.declared.entries.Entry.{Entry}
@@ -20,6 +20,7 @@ use Rattle.core_laws.proofs.Lined.{once-ends}
 use Rattle.core_access.specs.Settling.{is_settling, LeavesBatches}
 use Rattle.core_access.proofs.Settling.{others-leave}
 use Rattle.turn_rules.proofs.Lawful.{legal-run}
+use Rattle.promise_spec.specs.Entries.{Log, grown}
 use Rattle.promise_spec.specs.Records.{Commit}
 use Rattle.promise_spec.specs.Causes.{is_no, is_unsealed, is_vote, is_vote_of, is_sealed, RoseBy, RunHasDoubt}
 use Rattle.promise_spec.specs.Cores.{how_many}
@@ -45,8 +46,9 @@ use Rattle.run_books.proofs.BooksCalls.{TellsNoFile, file-still, calls-same}
 use Rattle.run_books.proofs.BooksCore.{moves-run, unapplied-run}
 use Rattle.run_books.proofs.BooksCounts.{how-same, none-before, doubt-ends}
 use Rattle.run_books.proofs.BooksLists.{alone, alone-commits, added-none, take-front}
-use Rattle.run_books.proofs.BooksGrown.{grown, grown-front, grown-commits, grown-booked, grown-even}
+use Rattle.run_books.proofs.BooksGrown.{grown_books, grown-front, grown-commits, grown-booked, grown-even}
 use Rattle.run_books.proofs.BooksImages.{backs-alone, doubt-kept, block-kept, vote-kept}
+use Rattle.run_books.specs.Stages.{stage_by}
 
 -- no file answers it
 answers-none : (e : CoreEvent) → is_settling e ≡ false → TellsNoFile e
@@ -100,7 +102,7 @@ module _ (b : Books) (w w' : CoreState) (more : List Entry) (settled : w'.manage
         inl (told-still (q ∙ take-whole (w.manager.emitted + 1) w.manager.settled (omega (arith, ge)) ∙ sym (take-whole w.manager.emitted w.manager.settled ge)))
 
     -- what was put out stays so
-    put-still : (quiet : Bool) → IsPutOut quiet b w → IsPutOut quiet (grown b more [] b.doubted) w'
+    put-still : (quiet : Bool) → IsPutOut quiet b w → IsPutOut quiet (grown_books b more [] b.doubted) w'
     put-still true put = put
     put-still false (inl q) = inl (told-still q)
     put-still false (inr q) = over-still (less-or w.manager.emitted (length w.manager.settled)) q.0 q.1
@@ -111,19 +113,19 @@ module _ (b : Books) (w w' : CoreState) (more : List Entry) (settled : w'.manage
         less-or (suc m) (suc n) = ⊎_elim (λ le. inl (omega (arith, le))) (λ le. inr (omega (arith, le))) (less-or m n)
 
   -- so does a line that is cut off
-  cut-still : (shape : Shape) → IsCutOff shape b w → IsCutOff shape (grown b more [] b.doubted) w'
+  cut-still : (shape : Shape) → IsCutOff shape b w → IsCutOff shape (grown_books b more [] b.doubted) w'
   cut-still shape (inl q) = inl q
   cut-still shape (inr (entry, next, front)) =
       inr (entry, ap (λ (l : List Entry). slice_get l (length (entries_of b.said))) settled ∙ get-more w.manager.settled more (length (entries_of b.said)) entry next, front)
 
 -- settlements without records, behind a cut
-cut-more : (live : ℕ) (p : Program) (opening : List Commit) (old : World) (said unsaid more : List Settlement) (rest : List ℕ) (now : World) → commits_of more ≡ []
+cut-more : (live : ℕ) (p : Program) (opening : Log) (old : World) (said unsaid more : List Settlement) (rest : List ℕ) (now : World) → commits_of more ≡ []
     → CutAt live p opening old said unsaid [] rest now → CutAt live p opening old said (unsaid ++ more) [] rest now
 cut-more live p opening old said unsaid more rest now none c =
     let whole : World = record now { output = old.output ++ reply_lines (shape_in p) (entries_of said) } in
     let at : JournalAt live p opening old said unsaid whole = record {
       output = refl;
-      log = λ image left. ⊎_elim (λ x. x) (λ x. subst (λ (l : List Settlement). IsLog live (shape_in p) image (opening ++ commits_of l)) (append-nil (said ++ unsaid)) x) (c.log image left);
+      log = λ image left. ⊎_elim (λ x. x) (λ x. subst (λ (l : List Settlement). IsLog live image (grown opening (commits_of l))) (append-nil (said ++ unsaid)) x) (c.log image left);
       moments = subst (λ (l : List Settlement). Passes (AllSay live p opening old.output said l) old.past now.past) (append-nil (said ++ unsaid)) c.moments;
     } in
     let on = whole_cut live p opening old said (unsaid ++ more) whole (settles_on live p opening old said unsaid more whole none at) in
@@ -131,7 +133,7 @@ cut-more live p opening old said unsaid more rest now none c =
 
 module _ (tells : Bool) (o : Outset) (b : Books) (r : Run) (e : CoreEvent) (settler : Settler) (counts : Channel → ℕ) (now : World)
     (above : 0 < r.base) (units : KeepsUnitRule (basis_of o) r) (after : KeepsUnitRule (basis_of o) (extended r (e ∷ [])))
-    (leaves : LeavesBatches (ends r) (ends (extended r (e ∷ [])))) (answers : TellsNoFile e) (k : KeepsBooks tells o b r settler counts now) where
+    (leaves : LeavesBatches (ends r) (ends (extended r (e ∷ [])))) (answers : TellsNoFile e) (k : KeepsBooks tells o b (stage_by r settler counts now)) where
   abbrev r' : Run
   r' = extended r (e ∷ [])
 
@@ -162,12 +164,12 @@ module _ (tells : Bool) (o : Outset) (b : Books) (r : Run) (e : CoreEvent) (sett
   same-sealed = how-same is_sealed r e answers.sealed
 
   abbrev books : Books
-  books = grown b more [] b.doubted
+  books = grown_books b more [] b.doubted
 
   books-even : AreEven settler.quiet b (ends r) → AreEven settler.quiet books (ends r')
   books-even even = grown-even b more [] b.doubted (ends r) (ends r') added.1 refl settler.quiet leaves.emitted told even
 
-  kept : KeepsBooks tells o books r' settler counts now
+  kept : KeepsBooks tells o books (stage_by r' settler counts now)
   kept = record {
     faults = record {
       votes = λ g. subst (λ (n : ℕ). RoseBy n (o.faults (File (Grain o.live g))) (counts (File (Grain o.live g)))) (sym (same-no g)) (k.faults.votes g);
@@ -213,8 +215,8 @@ module _ (tells : Bool) (o : Outset) (b : Books) (r : Run) (e : CoreEvent) (sett
   commits-are : commits_of (booked_journal books) ≡ commits_of (booked_journal b)
   commits-are = ap commits_of journal-is ∙ commits_of-append (booked_journal b) (alone more) ∙ ap (λ (l : List Commit). commits_of (booked_journal b) ++ l) (alone-commits more) ∙ append-nil (commits_of (booked_journal b))
 
-  log-is : o.opening ++ commits_of (booked_journal books) ≡ o.opening ++ commits_of (booked_journal b)
-  log-is = ap (λ (l : List Commit). o.opening ++ l) commits-are
+  log-is : grown o.opening (commits_of (booked_journal books)) ≡ grown o.opening (commits_of (booked_journal b))
+  log-is = ap (grown o.opening) commits-are
 
   cut-by : (d : List Settlement) → AreInDoubt (ends r) d → CutAt o.live o.program o.opening o.world b.said b.unsaid d b.rest now → CutAt o.live o.program o.opening o.world b.said books.unsaid d b.rest now
   cut-by [] is c =
@@ -223,33 +225,34 @@ module _ (tells : Bool) (o : Outset) (b : Books) (r : Run) (e : CoreEvent) (sett
   cut-by (batch ∷ []) is c = subst (λ (l : List Settlement). CutAt o.live o.program o.opening o.world b.said l (batch ∷ []) b.rest now) (sym (unsaid-is (none-more batch is))) c
   cut-by (batch ∷ (another ∷ rest)) is c = absurd is
 
-  block-on : (RunHasDoubt r → HasOpenBlock o.live (o.opening ++ commits_of (booked_journal b)) (ends r) now.disk) → RunHasDoubt r' → HasOpenBlock o.live (o.opening ++ commits_of (booked_journal books)) (ends r') now.disk
+  block-on : (RunHasDoubt r → HasOpenBlock o.live (grown o.opening (commits_of (booked_journal b))) (ends r) now.disk) → RunHasDoubt r' → HasOpenBlock o.live (grown o.opening (commits_of (booked_journal books))) (ends r') now.disk
   block-on has d =
       let there = doubt-ends r' d in
       let before : (ends r).manager.doubt ≡ Some there.0 = sym leaves.doubt ∙ there.1 in
-      block-kept o.live (o.opening ++ commits_of (booked_journal b)) (o.opening ++ commits_of (booked_journal books)) (ends r) (ends r') now.disk log-is
+      block-kept o.live (grown o.opening (commits_of (booked_journal b))) (grown o.opening (commits_of (booked_journal books))) (ends r) (ends r') now.disk log-is
       (doubt-stays r (e ∷ []) there.0 before).chosen (has (doubt_left r there.0 before))
 
   lasts : (head : List ℕ) → LastsSo o head b r settler.writer now → LastsSo o head books r' settler.writer now
   lasts head l = record {
     journal = cut-by b.doubted k.booked.doubted l.journal;
     backs = subst (λ (j : List Settlement). Backs j (commits_of j)) (sym journal-is) (backs-alone (booked_journal b) more l.backs);
-    batches = moments-stay o.live (basis_of o) o.program r (e ∷ []) o.opening o.world.past now.past above after l.batches;
+    batches = moments-stay o.live (basis_of o) r (e ∷ []) o.opening o.world.past now.past above after l.batches;
     batches_now = λ image log left is. batch-stays-run (basis_of o) r (e ∷ []) o.opening log above after (l.batches_now image log left is);
     alone = l.alone;
     alone_now = l.alone_now;
-    some = λ there. subst (λ (log : List Commit). SomeImage (λ image. IsLog o.live (shape_in o.program) image log) now.disk) (sym log-is) (l.some there);
+    some = λ there. subst (λ (log : Log). SomeImage (λ image. IsLog o.live image log) now.disk) (sym log-is) (l.some there);
     block = block-on l.block;
     folder = λ sure. (let f = l.folder sure in record {
-      batches = f.batches;
-      log = f.log ∙ ap (λ (c : List Commit). o.opening ++ c) (sym (grown-commits b more [] b.doubted ∙ append-nil (commits_of (b.said ++ b.unsaid))));
+      stood = f.stood;
+      bodies = f.bodies;
+      log = f.log ∙ ap (grown o.opening) (sym (grown-commits b more [] b.doubted ∙ append-nil (commits_of (b.said ++ b.unsaid))));
       keeps = f.keeps;
       votes = λ v m. vote-kept r (e ∷ []) above settler.writer.batch v.unit v.write.grain v.state (f.votes v m);
       behind = λ none. f.behind (none-before is_unsealed r (e ∷ []) none);
     });
   }
 
-  abbrev go-on : BooksGoOn tells o b r r' settler settler counts now now
+  abbrev go-on : BooksGoOn tells o b (stage_by r settler counts now) (stage_by r' settler counts now)
   go-on = record { books = books; kept = kept; lasts = λ t head l. lasts head l }
 
   still-even : AreEven settler.quiet b (ends r) → AreEven settler.quiet go-on.books (ends r')
@@ -257,8 +260,8 @@ module _ (tells : Bool) (o : Outset) (b : Books) (r : Run) (e : CoreEvent) (sett
 
 -- an event that isn't the settler's keeps the books, also where a line is cut off
 pub others-still : (tells : Bool) (o : Outset) (b : Books) (r : Run) (e : CoreEvent) (settler : Settler) (counts : Channel → ℕ) (now : World)
-    → 0 < r.base → KeepsUnitRule (basis_of o) r → KeepsUnitRule (basis_of o) (extended r (e ∷ [])) → is_settling e ≡ false → KeepsBooks tells o b r settler counts now
-    → (g : BooksGoOn tells o b r (extended r (e ∷ [])) settler settler counts now now) × (g.books.rest ≡ b.rest)
+    → 0 < r.base → KeepsUnitRule (basis_of o) r → KeepsUnitRule (basis_of o) (extended r (e ∷ [])) → is_settling e ≡ false → KeepsBooks tells o b (stage_by r settler counts now)
+    → (g : BooksGoOn tells o b (stage_by r settler counts now) (stage_by (extended r (e ∷ [])) settler counts now)) × (g.books.rest ≡ b.rest)
 others-still tells o b r e settler counts now above units after other k =
     (go-on tells o b r e settler counts now above units after (others-leave r e other) (answers-none e other) k, refl)
 
@@ -272,8 +275,8 @@ others-keep tells o b r e settler counts now above units after other even k = (
 -- one that no file answers, and that doesn't apply, keeps them too
 pub unapplied-keeps : (tells : Bool) (o : Outset) (b : Books) (r : Run) (e : CoreEvent) (settler : Settler) (counts : Channel → ℕ) (now : World)
     → 0 < r.base → KeepsUnitRule (basis_of o) r → KeepsUnitRule (basis_of o) (extended r (e ∷ [])) → applies (ends r) e ≡ false → TellsNoFile e
-    → AreEven settler.quiet b (ends r) → KeepsBooks tells o b r settler counts now
-    → (g : BooksGoOn tells o b r (extended r (e ∷ [])) settler settler counts now now) × AreEven settler.quiet g.books (ends (extended r (e ∷ [])))
+    → AreEven settler.quiet b (ends r) → KeepsBooks tells o b (stage_by r settler counts now)
+    → (g : BooksGoOn tells o b (stage_by r settler counts now) (stage_by (extended r (e ∷ [])) settler counts now)) × AreEven settler.quiet g.books (ends (extended r (e ∷ [])))
 unapplied-keeps tells o b r e settler counts now above units after unapplied answers even k =
     let same : ends (extended r (e ∷ [])) ≡ ends r = unapplied-run r e unapplied in
     let leaves : LeavesBatches (ends r) (ends (extended r (e ∷ []))) = record {

@@ -1,5 +1,5 @@
 -- The books after the settler put an entry out, or was to.
-use Rattle.std.proofs.Common.{◌≡◌, inl, inr, ℕ, zero, suc, ◌+◌, ◌-◌, ◌*◌, ◌^◌, ◌<◌, ◌≤◌, List, [], ◌∷◌, ◌++◌, length, take, Bool, true, false, refl, sym, ap, ◌∙◌, subst, arith, append-nil, append_assoc, Some, is_some, slice_get}
+use Rattle.std.proofs.Common.{◌≡◌, inl, inr, ℕ, zero, suc, ◌+◌, ◌-◌, ◌^◌, ◌<◌, ◌≤◌, List, [], ◌∷◌, ◌++◌, length, take, Bool, true, false, refl, sym, ap, ◌∙◌, subst, arith, append-nil, append_assoc, Some, is_some, slice_get}
 use Rattle.std.specs.Prelude.{IsTrue}
 use Rattle.std.proofs.lemmas.Bool.{false≢true}
 use Rattle.base_types.specs.declared.calls.GrainId.{GrainId}
@@ -37,9 +37,10 @@ use Rattle.run_books.specs.Settling.{AreEven}
 use Rattle.run_books.proofs.BooksCalls.{file-same, file-emitted, calls-same}
 use Rattle.run_books.proofs.BooksCore.{Moves}
 use Rattle.run_books.proofs.BooksCounts.{how-same}
-use Rattle.run_books.proofs.BooksFaults.{NoneFell, calm-later, failed-later, faults-same, fell-both, rose-back, none-failed}
+use Rattle.run_books.proofs.BooksFaults.{NoneFell, calm-later, failed-later, faults-same, fell-both, rose-back}
 use Rattle.run_books.proofs.BooksImages.{doubt-kept}
 use Rattle.run_books.proofs.BooksWritten.{member-at, parts, said_next, next-told, next-booked, next-grew}
+use Rattle.run_books.specs.Stages.{stage_of}
 
 -- a count has room for one more
 counted-is : (n : ℕ) → n < 2 ^ 64 - 1 → counted_up n ≡ n + 1
@@ -47,7 +48,7 @@ counted-is n room = omega (arith, room)
 
 module _ {H : Type 0} (tells : Bool) (world : H → World) (faults : H → Channel → ℕ) (o : Outset) (b : Books) (r : Run) (before after : Settler) (old new : H)
     (above : 0 < r.base) (units : KeepsUnitRule (basis_of o) r) (kinds : r.kinds ≡ length o.program.types) (room : (ends r).manager.emitted < 2 ^ 64 - 1)
-    (k : KeepsBooks tells o b r before (faults old) (world old)) where
+    (k : KeepsBooks tells o b (stage_of world faults r before old)) where
   -- an entry that is settled can be written
   proper : (x : Entry) → slice_get (ends r).manager.settled (ends r).manager.emitted ≡ Some x → IsEntryInRange x → IsProper (shape_in o.program) x
   proper x next range = entry-proper (basis_of o) r above units kinds x (member-at (ends r).manager.emitted (ends r).manager.settled x next) range
@@ -67,7 +68,7 @@ module _ {H : Type 0} (tells : Bool) (world : H → World) (faults : H → Chann
     commits = committed-stays (basis_of o) r above units Emitted refl
 
     kept-by : (c : Books) → AreBooked c (ends r') → IsPutOut after.quiet c (ends r') → c.rest ≡ [] → NoneFell (faults old) (faults new) → (IsTrue tells → ShowsOutside o c r' (faults new) (world new))
-        → KeepsBooks tells o c r' after (faults new) (world new)
+        → KeepsBooks tells o c (stage_of world faults r' after new)
     kept-by c booked said rest later outside = record {
       faults = faults-same o.live r r' o.faults (faults old) (faults new) k.faults later (λ g. how-same (is_no g) r Emitted refl) (how-same is_unsealed r Emitted refl);
       later = fell-both o.faults (faults old) (faults new) k.later later;
@@ -87,7 +88,7 @@ module _ {H : Type 0} (tells : Bool) (world : H → World) (faults : H → Chann
         (how-same is_vote r Emitted refl) (how-same is_sealed r Emitted refl) (how-same is_unsealed r Emitted refl) (λ g. how-same (is_vote_of g) r Emitted refl) same files
 
     -- a quiet settler puts nothing out
-    pub put-quiet : before.quiet ≡ true → new ≡ old → AreEven before.quiet b (ends r) → KeepsBooks tells o b r' after (faults new) (world new) × AreEven after.quiet b (ends r')
+    pub put-quiet : before.quiet ≡ true → new ≡ old → AreEven before.quiet b (ends r) → KeepsBooks tells o b (stage_of world faults r' after new) × AreEven after.quiet b (ends r')
     put-quiet quiet host even =
         let later : NoneFell (faults old) (faults new) = calm-later (faults old) (faults new) (λ c. ap (λ (h : H). faults h c) host) in
         let now_quiet : after.quiet ≡ true = quiet_is ∙ quiet in
@@ -109,7 +110,7 @@ module _ {H : Type 0} (tells : Bool) (world : H → World) (faults : H → Chann
     -- any other puts the next entry out
     pub put-loud : (loud : before.quiet ≡ false) (even : AreEven false b (ends r)) (x : Entry) → IsEntryInRange x → (next : slice_get (ends r).manager.settled (ends r).manager.emitted ≡ Some x)
         → NoneFailed (faults old) (faults new) → (IsTrue tells → IsEmitted (reply_line (shape_in o.program) x) (world old) (world new))
-        → KeepsBooks tells o (said_next b (ends r) x k.booked next even) r' after (faults new) (world new) × AreEven after.quiet (said_next b (ends r) x k.booked next even) (ends r')
+        → KeepsBooks tells o (said_next b (ends r) x k.booked next even) (stage_of world faults r' after new) × AreEven after.quiet (said_next b (ends r) x k.booked next even) (ends r')
     put-loud loud even x range next calm line =
         let later : NoneFell (faults old) (faults new) = calm-later (faults old) (faults new) calm in
         let now_loud : after.quiet ≡ false = quiet_is ∙ loud in
@@ -138,7 +139,7 @@ module _ {H : Type 0} (tells : Bool) (world : H → World) (faults : H → Chann
   module _ (loud : before.quiet ≡ false) (even : AreEven false b (ends r)) (x : Entry) (range : IsEntryInRange x) (next : slice_get (ends r).manager.settled (ends r).manager.emitted ≡ Some x)
       (failed : FailedOn Output (faults old) (faults new)) where
     stays-by : (c : Books) → AreBooked c (ends r) → IsPutOut before.quiet c (ends r) → IsCutOff (shape_in o.program) c (ends r) → (IsTrue tells → Grew (shape_in o.program) o.world.output (world new).output (entries_of c.said) c.rest)
-        → {m : ℕ} {text : List ℕ} → (IsTrue tells → IsAppended m text (world old) (world new)) → KeepsBooks tells o c r before (faults new) (world new)
+        → {m : ℕ} {text : List ℕ} → (IsTrue tells → IsAppended m text (world old) (world new)) → KeepsBooks tells o c (stage_of world faults r before new)
     stays-by c booked said cut grew {m} {text} line =
         let later : NoneFell (faults old) (faults new) = failed-later Output (faults old) (faults new) failed in
         record {
@@ -159,7 +160,7 @@ module _ {H : Type 0} (tells : Bool) (world : H → World) (faults : H → Chann
         }
 
     -- with the whole line put out
-    pub cut-whole : (tells ≡ true → IsEmitted (reply_line (shape_in o.program) x) (world old) (world new)) → KeepsBooks tells o (said_next b (ends r) x k.booked next even) r before (faults new) (world new)
+    pub cut-whole : (tells ≡ true → IsEmitted (reply_line (shape_in o.program) x) (world old) (world new)) → KeepsBooks tells o (said_next b (ends r) x k.booked next even) (stage_of world faults r before new)
     cut-whole line =
         let c : Books = said_next b (ends r) x k.booked next even in
         stays-by c (next-booked b (ends r) x k.booked next even (ends r) refl refl k.booked.doubted)
@@ -170,7 +171,7 @@ module _ {H : Type 0} (tells : Bool) (world : H → World) (faults : H → Chann
     abbrev pub part_said : ℕ → Books
     part_said n = record b { rest = take n (reply_line (shape_in o.program) x) }
 
-    pub cut-part : (n : ℕ) → n < length (reply_line (shape_in o.program) x) → (tells ≡ true → IsAppended n (reply_line (shape_in o.program) x) (world old) (world new)) → KeepsBooks tells o (part_said n) r before (faults new) (world new)
+    pub cut-part : (n : ℕ) → n < length (reply_line (shape_in o.program) x) → (tells ≡ true → IsAppended n (reply_line (shape_in o.program) x) (world old) (world new)) → KeepsBooks tells o (part_said n) (stage_of world faults r before new)
     cut-part n low line =
         let text : List ℕ = reply_line (shape_in o.program) x in
         let front : List ℕ = reply_lines (shape_in o.program) (entries_of b.said) in

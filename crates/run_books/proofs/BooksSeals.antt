@@ -8,6 +8,8 @@ use Rattle.core_model.specs.CoreState.{Member}
 use Rattle.core_model.specs.declared.events.CoreEvent.{CoreEvent}
 use Rattle.core_model.specs.Laws.{extended}
 use Rattle.core_model.specs.Legal.{Run, ends}
+use Rattle.promise_spec.proofs.Standings.{grown_twice}
+use Rattle.promise_spec.specs.Entries.{Log, grown}
 use Rattle.promise_spec.specs.Programs.{shape_in}
 use Rattle.promise_spec.specs.Records.{Commit}
 use Rattle.promise_spec.specs.Crashes.{Acknowledges}
@@ -28,7 +30,7 @@ use Rattle.run_books.specs.Beginnings.{Outset, basis_of}
 use Rattle.run_books.specs.Books.{Books, booked_journal, AreBooked}
 use Rattle.run_books.specs.Images.{LeavesAside, HasOpenBlock, KeepsFolder, LastsSo}
 use Rattle.run_books.proofs.BooksLists.{alone, alone-commits}
-use Rattle.run_books.proofs.BooksGrown.{grown, grown-front, grown-commits}
+use Rattle.run_books.proofs.BooksGrown.{grown_books, grown-front, grown-commits}
 use Rattle.run_books.proofs.BooksImages.{uncut, backs-alone}
 
 -- what came later left other files and the header as they were
@@ -39,8 +41,8 @@ module _ (o : Outset) (head : List ℕ) (b : Books) (r : Run) (e : CoreEvent) (w
     (above : 0 < r.base) (units : KeepsUnitRule (basis_of o) r) (after : KeepsUnitRule (basis_of o) (extended r (e ∷ [])))
     (booked : AreBooked b (ends r)) (sure : b.doubted ≡ []) (whole : b.rest ≡ []) (proper : AllByRecursion (IsProper (shape_in o.program)) (entries_of b.said))
     (l : LastsSo o head b r writer now) (none : entries_of batch ≡ [])
-    (booked' : AreBooked (grown b more batch []) (ends (extended r (e ∷ []))))
-    (seals : Seals o.live o.program (o.opening ++ commits_of (b.said ++ b.unsaid)) batch now now') (rest : Passes (LeavesRest o.live head now) now.past now'.past) (rest_now : LeavesRest o.live head now (moment_of now'))
+    (booked' : AreBooked (grown_books b more batch []) (ends (extended r (e ∷ []))))
+    (seals : Seals o.live (grown o.opening (commits_of (b.said ++ b.unsaid))) batch now now') (rest : Passes (LeavesRest o.live head now) now.past now'.past) (rest_now : LeavesRest o.live head now (moment_of now'))
     (fresh : (x : Entry) (c : Commit) → Member x (entries_of (b.said ++ b.unsaid)) → Member c (commits_of batch) → Acknowledges x c → ⊥) where
   abbrev r' : Run
   r' = extended r (e ∷ [])
@@ -48,11 +50,11 @@ module _ (o : Outset) (head : List ℕ) (b : Books) (r : Run) (e : CoreEvent) (w
   abbrev front : List Settlement
   front = b.said ++ b.unsaid
 
-  abbrev log : List Commit
-  log = o.opening ++ commits_of front
+  abbrev log : Log
+  log = grown o.opening (commits_of front)
 
   abbrev books : Books
-  books = grown b more batch []
+  books = grown_books b more batch []
 
   was-whole : booked_journal b ≡ front
   was-whole = ap (λ (d : List Settlement). front ++ d) sure ∙ append-nil front
@@ -60,8 +62,8 @@ module _ (o : Outset) (head : List ℕ) (b : Books) (r : Run) (e : CoreEvent) (w
   is-whole : booked_journal books ≡ (front ++ batch) ++ alone more
   is-whole = append-nil (books.said ++ books.unsaid) ∙ grown-front b more batch []
 
-  log-is : o.opening ++ commits_of (books.said ++ books.unsaid) ≡ log ++ commits_of batch
-  log-is = ap (λ (c : List Commit). o.opening ++ c) (grown-commits b more batch []) ∙ sym (append_assoc o.opening (commits_of front) (commits_of batch))
+  log-is : grown o.opening (commits_of (books.said ++ books.unsaid)) ≡ grown log (commits_of batch)
+  log-is = ap (grown o.opening) (grown-commits b more batch []) ∙ sym (grown_twice o.opening (commits_of front) (commits_of batch))
 
   before : JournalAt o.live o.program o.opening o.world b.said b.unsaid now
   before =
@@ -89,25 +91,25 @@ module _ (o : Outset) (head : List ℕ) (b : Books) (r : Run) (e : CoreEvent) (w
   first : EndsABatch (ends r') o.opening log
   first = batch-stays-run (basis_of o) r (e ∷ []) o.opening log above after (records-end (basis_of o) r o.opening (commits_of front) above units (inl booked.commits))
 
-  second : EndsABatch (ends r') o.opening (log ++ commits_of batch)
+  second : EndsABatch (ends r') o.opening (grown log (commits_of batch))
   second = subst (EndsABatch (ends r') o.opening) log-is (records-end (basis_of o) r' o.opening (commits_of (books.said ++ books.unsaid)) above after (inl booked'.commits))
 
-  batches : Passes (AllEnd o.live o.program (ends r') o.opening) o.world.past now'.past
+  batches : Passes (AllEnd o.live (ends r') o.opening) o.world.past now'.past
   batches =
-      both (AllEnd o.live o.program (ends r') o.opening) (moments-stay o.live (basis_of o) o.program r (e ∷ []) o.opening o.world.past now.past above after l.batches)
-      (weaker (IsSealing o.live o.program log batch now) (AllEnd o.live o.program (ends r') o.opening) (λ m s. sealing_ends o.live o.program (ends r') o.opening log batch now m s first second) seals.moments)
+      both (AllEnd o.live (ends r') o.opening) (moments-stay o.live (basis_of o) r (e ∷ []) o.opening o.world.past now.past above after l.batches)
+      (weaker (IsSealing o.live log batch now) (AllEnd o.live (ends r') o.opening) (λ m s. sealing_ends o.live (ends r') o.opening log batch now m s first second) seals.moments)
 
   alone-moments : Passes (LeavesAside o.live head o.world) o.world.past now'.past
   alone-moments = both (LeavesAside o.live head o.world) l.alone (weaker (LeavesRest o.live head now) (LeavesAside o.live head o.world) (λ m k. aside-later o.live head o.world now m l.alone_now k) rest)
 
   -- with what stands of a doubt's block, and of the folder
-  pub seals-last : (RunHasDoubt r' → HasOpenBlock o.live (o.opening ++ commits_of (booked_journal books)) (ends r') now'.disk) → (writer'.in_doubt ≡ false → KeepsFolder o head books r' writer' now'.disk)
+  pub seals-last : (RunHasDoubt r' → HasOpenBlock o.live (grown o.opening (commits_of (booked_journal books))) (ends r') now'.disk) → (writer'.in_doubt ≡ false → KeepsFolder o head books r' writer' now'.disk)
       → LastsSo o head books r' writer' now'
   seals-last block folder = record {
     journal = journal;
     backs = backs;
     batches = batches;
-    batches_now = logged_ends o.live o.program (ends r') o.opening (log ++ commits_of batch) (moment_of now') seals.log second;
+    batches_now = logged_ends o.live (ends r') o.opening (grown log (commits_of batch)) (moment_of now') seals.log second;
     alone = alone-moments;
     alone_now = aside-later o.live head o.world now (moment_of now') l.alone_now rest_now;
     some = λ there. absurd (there refl);

@@ -58,6 +58,7 @@ use Rattle.run_books.proofs.BooksEnd.{by-doubt}
 use Rattle.run_books.proofs.BooksFaults.{NoneFell, calm-later, faults-same, fell-both, rose-back}
 use Rattle.run_books.proofs.BooksFair.{is-fair, votes-same}
 use Rattle.run_books.proofs.BooksStated.{SettledKeep}
+use Rattle.run_books.specs.Stages.{stage_of}
 
 -- a step of the open batch
 abbrev pub is_of_batch : Step → Bool
@@ -80,7 +81,7 @@ none-behind (x ∷ xs) zero q = absurd (let z : true ≡ false = q in cc)
 none-behind (x ∷ xs) (suc n) q = (let t = none-behind xs n q in omega (arith, t))
 
 module _ {H : Type 0} (tells : Bool) (world : H → World) (faults : H → Channel → ℕ) (o : Outset) (b : Books) (r : Run) (before after : Settler) (old new : H)
-    (can : CanSettle o (shape_in o.program) r) (even : AreEven before.quiet b (ends r)) (k : KeepsBooks tells o b r before (faults old) (world old)) where
+    (can : CanSettle o (shape_in o.program) r) (even : AreEven before.quiet b (ends r)) (k : KeepsBooks tells o b (stage_of world faults r before old)) where
   abbrev Done : CoreEvent → Type 0
   Done e = StepDone tells world faults o b r before after old new can even k e
 
@@ -206,10 +207,10 @@ looked-on true mid t looked = looks-alone mid t looked.0
 looked-on false mid t looked = looked
 
 module _ {H : Type 0} (tells : Bool) (world : H → World) (faults : H → Channel → ℕ) (o : Outset) (b : Books) (r : Run) (before : Settler) (old : H)
-    (can : CanSettle o (shape_in o.program) r) (even : AreEven before.quiet b (ends r)) (k : KeepsBooks tells o b r before (faults old) (world old)) where
+    (can : CanSettle o (shape_in o.program) r) (even : AreEven before.quiet b (ends r)) (k : KeepsBooks tells o b (stage_of world faults r before old)) where
   -- the books went on, and are even
   abbrev pub WentOn : Run → Settler → H → Type 0
-  WentOn x s h = (g : BooksGoOn tells o b r x before s (faults h) (world old) (world h)) × AreEven s.quiet g.books (ends x)
+  WentOn x s h = (g : BooksGoOn tells o b (stage_of world faults r before old) (stage_of world faults x s h)) × AreEven s.quiet g.books (ends x)
 
   pub unchanged : (r' : Run) (after : Settler) (new : H) → r' ≡ r → after ≡ before → new ≡ old → WentOn r' after new
   unchanged r' after new run settler host =
@@ -311,10 +312,11 @@ module _ {H : Type 0} (tells : Bool) (world : H → World) (faults : H → Chann
                 let f = l.folder (sym lacks.same.doubt ∙ q) in
                 let fair = (is-fair o r before.writer can.above can.units can.kinds can.accepted can.numbers f.votes).vote n g votes in
                 record {
-                  batches = f.batches;
+                  stood = f.stood;
+                  bodies = f.bodies;
                   log = f.log;
-                  keeps = subst (λ (w : World). KeepsDisk o.live (shape_in o.program) head f.batches after.writer w.disk) (lacks.world_is t)
-                      ((lacks.images t).keeps (shape_in o.program) head f.batches fair.0 fair.1 f.keeps);
+                  keeps = subst (λ (w : World). KeepsDisk o.live (shape_in o.program) head f.stood f.bodies after.writer w.disk) (lacks.world_is t)
+                      ((lacks.images t).keeps (shape_in o.program) head f.stood f.bodies fair.0 fair.1 f.keeps);
                   votes = votes-same r n before.writer after.writer lacks.batch lacks.kept f.votes;
                   behind = λ none. subst (λ (gate : ℕ). EndsAsBegun o gate ((world old).disk (Manager o.live))) (sym lacks.same.gate) (f.behind none);
                 });
@@ -347,7 +349,7 @@ module _ {H : Type 0} (tells : Bool) (world : H → World) (faults : H → Chann
       (ap (λ (y : Run). (ends y).manager.doubt) none-more) (λ P here p. both P p (one P (world old) (world new) line.past here)) journal)
 
   abbrev pub Cut : H → Type 0
-  Cut new = (g : BooksGoOn tells o b r r before before (faults new) (world old) (world new)) × Rose (o.faults Output) (faults new Output)
+  Cut new = (g : BooksGoOn tells o b (stage_of world faults r before old) (stage_of world faults r before new)) × Rose (o.faults Output) (faults new Output)
 
   rose-from : (x y z : ℕ) → x ≤ y → Rose y z → Rose x z
   rose-from x y z le rose = omega (arith, le, rose)
@@ -400,21 +402,21 @@ module _ {H : Type 0} (tells : Bool) (world : H → World) (faults : H → Chann
           (entry-proper (basis_of o) r can.above can.units can.kinds x (member-at (ends r).manager.emitted (ends r).manager.settled x next) range))
 
   broken-off : (r' : Run) (after : Settler) (new : H) → IsBrokenOff tells world faults none_comes (shape_in o.program) before after (own_sight r) (own_sight r') old new
-      → (g : BooksGoOn tells o b r r' before after (faults new) (world old) (world new)) × Rose (o.faults Output) (faults new Output)
+      → (g : BooksGoOn tells o b (stage_of world faults r before old) (stage_of world faults r' after new)) × Rose (o.faults Output) (faults new Output)
   broken-off r' after new x =
       let same : r' ≡ r = same-run r r' (own_sight r) x.looked refl in
       let here : run_seen (own_sight r') ≡ r = own-run r' ∙ same in
       let cut : CutsEntry tells world faults before.quiet (shape_in o.program) (ends r) before.writer before.writer old new =
       subst (λ (s : Settler). CutsEntry tells world faults before.quiet (shape_in o.program) (ends r) before.writer s.writer old new) x.settler
       (subst (λ (y : Run). CutsEntry tells world faults before.quiet (shape_in o.program) (ends y) before.writer after.writer old new) here x.cut) in
-      subst (λ (y : Run). (g : BooksGoOn tells o b r y before after (faults new) (world old) (world new)) × Rose (o.faults Output) (faults new Output)) (sym same)
-      (subst (λ (s : Settler). (g : BooksGoOn tells o b r r before s (faults new) (world old) (world new)) × Rose (o.faults Output) (faults new Output)) (sym x.settler)
+      subst (λ (y : Run). (g : BooksGoOn tells o b (stage_of world faults r before old) (stage_of world faults y after new)) × Rose (o.faults Output) (faults new Output)) (sym same)
+      (subst (λ (s : Settler). (g : BooksGoOn tells o b (stage_of world faults r before old) (stage_of world faults r s new)) × Rose (o.faults Output) (faults new Output)) (sym x.settler)
       (cut-by tells refl new cut))
 
   -- ---- whatever it answers
 
   abbrev Answer : {E : Type 0} → Run → Settler → H → Result Turned E → Type 0
-  Answer r' after new result = (g : BooksGoOn tells o b r r' before after (faults new) (world old) (world new)) × SaysOfStep o g.books r' after (faults new) result
+  Answer r' after new result = (g : BooksGoOn tells o b (stage_of world faults r before old) (stage_of world faults r' after new)) × SaysOfStep o g.books (stage_of world faults r' after new) result
 
   pub answered : {E : Type 0} (r' : Run) (after : Settler) (new : H) (result : Result Turned E) → KeepsUnitRule (basis_of o) r'
       → TurnsAs tells world faults none_comes (shape_in o.program) before after (own_sight r) (own_sight r') old new result → Answer r' after new result

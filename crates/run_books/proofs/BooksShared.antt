@@ -53,13 +53,13 @@ use Rattle.run_books.proofs.BooksSettled.{is_of_batch, done, WentOn, went, lacks
 use Rattle.run_books.proofs.Fronts.{after-base, after-kinds, after-units}
 use Rattle.run_books.proofs.Relying.{sees-none, sees-look, sees-both, run-sees, counts-on, going-before, relies-before}
 use Rattle.run_books.proofs.Staying.{Stays, not-settling, stays-all, step-stays, does-on}
+use Rattle.run_books.specs.Stages.{Stage, stage_by, stage_of}
 
 -- ---- one after another
 
 -- the books go on in two parts
-abbrev pub go-both : (tells : Bool) (o : Outset) (b : Books) (r r1 r2 : Run) (s s1 s2 : Settler) (c1 c2 : Channel → ℕ) (w w1 w2 : World)
-    (g : BooksGoOn tells o b r r1 s s1 c1 w w1) → (h : BooksGoOn tells o g.books r1 r2 s1 s2 c2 w1 w2) → BooksGoOn tells o b r r2 s s2 c2 w w2
-go-both tells o b r r1 r2 s s1 s2 c1 c2 w w1 w2 g h = record { books = h.books; kept = h.kept; lasts = λ t head l. h.lasts t head (g.lasts t head l) }
+abbrev pub go-both : (tells : Bool) (o : Outset) (b : Books) (x y z : Stage) (g : BooksGoOn tells o b x y) → (h : BooksGoOn tells o g.books y z) → BooksGoOn tells o b x z
+go-both tells o b x y z g h = record { books = h.books; kept = h.kept; lasts = λ t head l. h.lasts t head (g.lasts t head l) }
 
 -- ---- others' events
 
@@ -70,7 +70,7 @@ others-keep-books tells o b r (x ∷ rest) settler counts now above units all ev
     let one = others-keep tells o b r x.event settler counts now above (after-units r (x ∷ rest) (basis_of o) units) (after-units r1 rest (basis_of o) units)
     (not-settling x.event (all x (inl refl))) even k in
     let more = others-keep-books tells o one.0.books r1 rest settler counts now above units (λ y i. all y (inr i)) one.1 one.0.kept in
-    (go-both tells o b r r1 (run_after r1 rest) settler settler settler counts counts now now now one.0 more.0, more.1)
+    (go-both tells o b (stage_by r settler counts now) (stage_by r1 settler counts now) (stage_by (run_after r1 rest) settler counts now) one.0 more.0, more.1)
 
 -- what workers put isn't the settler's
 pub works-leave : (rest : List Told) → AllPass is_work rest → AllPass leaves_settling rest
@@ -106,7 +106,7 @@ entry-applies w x next =
     (lt-ltb w.manager.emitted (length w.manager.settled) (slice_get_within w.manager.settled w.manager.emitted x next))
 
 module _ {H : Type 0} (tells : Bool) (world : H → World) (faults : H → Channel → ℕ) (o : Outset) (b : Books) (r : Run) (before after : Settler) (old new : H)
-    (can : CanSettle o (shape_in o.program) r) (even : AreEven before.quiet b (ends r)) (k : KeepsBooks tells o b r before (faults old) (world old)) where
+    (can : CanSettle o (shape_in o.program) r) (even : AreEven before.quiet b (ends r)) (k : KeepsBooks tells o b (stage_of world faults r before old)) where
   abbrev Does : CoreEvent → Type 0
   Does e = DoesFor tells world faults o.live e before.quiet (shape_in o.program) (ends r) before.writer after.writer old new
 
@@ -192,7 +192,7 @@ looks-behind may false mid t l = subst (Looks may mid) (sym l) (looks-none may m
 
 module _ {H : Type 0} (tells : Bool) (world : H → World) (faults : H → Channel → ℕ) (may : CoreEvent → Bool) (o : Outset) (b : Books) (s t : Sight) (before : Settler) (old : H)
     (can : CanShare o (shape_in o.program) s) (rely : MayRely o t) (going : (ends (run_seen t)).units.halt ≡ false)
-    (even : AreEven before.quiet b (ends (run_seen s))) (k : KeepsBooks tells o b (run_seen s) before (faults old) (world old)) where
+    (even : AreEven before.quiet b (ends (run_seen s))) (k : KeepsBooks tells o b (stage_of world faults (run_seen s) before old)) where
   -- a sight between
   pub record IsBetween (x : Sight) : Type 0 where
     pub since : SeesOn s x
@@ -228,7 +228,7 @@ module _ {H : Type 0} (tells : Bool) (world : H → World) (faults : H → Chann
 
   -- the books went on up to a run, and are even
   abbrev Went : Run → Settler → H → Type 0
-  Went r after new = (g : BooksGoOn tells o b (run_seen s) r before after (faults new) (world old) (world new)) × AreEven after.quiet g.books (ends r)
+  Went r after new = (g : BooksGoOn tells o b (stage_of world faults (run_seen s) before old) (stage_of world faults r after new)) × AreEven after.quiet g.books (ends r)
 
   start : Went (run_seen s) before old
   start = (record { books = b; kept = k; lasts = λ told head l. l }, even)
@@ -251,7 +251,7 @@ module _ {H : Type 0} (tells : Bool) (world : H → World) (faults : H → Chann
       let h = others-keep-books tells o g.0.books (run_seen x) l.rest after (faults new) (world new) (above-at x i) (subst (KeepsUnitRule (basis_of o)) run (relies-at y j).units)
       (works-on x y i j l) g.1 g.0.kept in
       subst (λ (r : Run). Went r after new) (sym run)
-      (go-both tells o b (run_seen s) (run_seen x) (run_after (run_seen x) l.rest) before after after (faults new) (faults new) (world old) (world new) (world new) g.0 h.0, h.1)
+      (go-both tells o b (stage_of world faults (run_seen s) before old) (stage_of world faults (run_seen x) after new) (stage_of world faults (run_after (run_seen x) l.rest) after new) g.0 h.0, h.1)
 
   -- what was shown stays
   stays-on : (x y : Sight) → IsBetween x → IsBetween y → Looks may x y → Stays (ends (run_seen x)) (ends (run_seen y))
@@ -310,7 +310,7 @@ module _ {H : Type 0} (tells : Bool) (world : H → World) (faults : H → Chann
         (does-on tells world faults o.live before.quiet (shape_in o.program) (ends (run_seen seen)) (ends (run_seen x)) before.writer after.writer old new stays e (in-slot e seen after new put.acts.does))
         put.counts (subst (KeepsUnitRule (basis_of o)) run-is (relies-at mid behind).units) in
         subst (λ (r : Run). Went r after new) (sym run-is)
-        (go-both tells o b (run_seen s) (run_seen x) (extended (run_seen x) (e ∷ [])) before before after (faults old) (faults new) (world old) (world old) (world new) up-to.0 h.0, h.1)
+        (go-both tells o b (stage_of world faults (run_seen s) before old) (stage_of world faults (run_seen x) before old) (stage_of world faults (extended (run_seen x) (e ∷ [])) after new) up-to.0 h.0, h.1)
 
     -- and others came
     pub put-moved : Looks may mid t → Went (run_seen t) after new
@@ -350,7 +350,7 @@ module _ {H : Type 0} (tells : Bool) (world : H → World) (faults : H → Chann
   -- ---- whatever it answers
 
   abbrev Answer : {E : Type 0} → Settler → H → Result Turned E → Type 0
-  Answer after new result = StepKeeps tells o b (run_seen s) (run_seen t) before after (faults new) (world old) (world new) result
+  Answer after new result = StepKeeps tells o b (stage_of world faults (run_seen s) before old) (stage_of world faults (run_seen t) after new) result
 
   pub answers : {E : Type 0} (after : Settler) (new : H) (result : Result Turned E) → TurnsAs tells world faults may (shape_in o.program) before after s t old new result → Answer after new result
   answers after new (Ok Stepped) y =
@@ -367,8 +367,8 @@ module _ {H : Type 0} (tells : Bool) (world : H → World) (faults : H → Chann
       let cut : CutsEntry tells world faults before.quiet (shape_in o.program) (ends (run_seen t)) before.writer before.writer old new =
       subst (λ (x : Settler). CutsEntry tells world faults before.quiet (shape_in o.program) (ends (run_seen t)) before.writer x.writer old new) y.settler y.cut in
       let h = cut-by tells world faults o g.0.books (run_seen t) before old (can-at t (looked-to y.looked)) g.1 g.0.kept tells refl new cut in
-      subst (λ (x : Settler). (g : BooksGoOn tells o b (run_seen s) (run_seen t) before x (faults new) (world old) (world new)) × Rose (o.faults Output) (faults new Output)) (sym y.settler)
-      (go-both tells o b (run_seen s) (run_seen t) (run_seen t) before before before (faults old) (faults new) (world old) (world old) (world new) g.0 h.0, h.1)
+      subst (λ (x : Settler). (g : BooksGoOn tells o b (stage_of world faults (run_seen s) before old) (stage_of world faults (run_seen t) x new)) × Rose (o.faults Output) (faults new Output)) (sym y.settler)
+      (go-both tells o b (stage_of world faults (run_seen s) before old) (stage_of world faults (run_seen t) before old) (stage_of world faults (run_seen t) before new) g.0 h.0, h.1)
   answers after new (Err lack) (inl y) =
       let g : Went (run_seen t) after new = same-as (run_seen t) after new y.settler y.host (looked y.looked) in
       (g.0, g.1.rest)
@@ -376,7 +376,7 @@ module _ {H : Type 0} (tells : Bool) (world : H → World) (faults : H → Chann
       let g : Went (run_seen t) before old = looked y.looked in
       let h = lacks-at tells world faults o g.0.books (run_seen t) before old (can-at t (looked-to y.looked)) g.1 g.0.kept after new y.n y.g y.votes
       (subst (λ (live : ℕ). LacksRoom tells world faults live y.n y.g (versions_to_write (ends (run_seen t)) (ends (run_seen t)).manager.batch y.g) before.writer after.writer old new) k.slot y.lacks) y.settler in
-      (go-both tells o b (run_seen s) (run_seen t) (run_seen t) before before after (faults old) (faults new) (world old) (world old) (world new) g.0 h.0, h.1.rest)
+      (go-both tells o b (stage_of world faults (run_seen s) before old) (stage_of world faults (run_seen t) before old) (stage_of world faults (run_seen t) after new) g.0 h.0, h.1.rest)
   answers after new (Err lack) (inr (inr (inl y))) = (let g = not-taken after new y.0 y.1 in (g.0, g.1.rest))
   answers after new (Err lack) (inr (inr (inr y))) =
       let g : Went (run_seen t) after new = put-moved after new y.e y.r y.mid y.put (sees-look may y.mid t y.looked) y.looked in

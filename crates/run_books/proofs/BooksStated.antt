@@ -16,17 +16,18 @@ use Rattle.run_books.specs.Beginnings.{Outset, basis_of}
 use Rattle.run_books.specs.Books.{Books}
 use Rattle.run_books.specs.Records.{KeepsBooks}
 use Rattle.run_books.specs.Settling.{AreEven, CanSettle, SaysOfStep, BooksGoOn}
+use Rattle.run_books.specs.Stages.{stage_by, stage_of}
 
 -- A step of the settler, over a core alone, with its answer.
 abbrev pub SettledKeep : Type 1
 SettledKeep = (H E : Type 0) (tells : Bool) (world : H → World) (faults : H → Channel → ℕ) (o : Outset) (b : Books) (shape : Shape) (r r' : Run) (before after : Settler) (old new : H) (result : Result Turned E)
-    → CanSettle o shape r → KeepsUnitRule (basis_of o) r' → AreEven before.quiet b (ends r) → KeepsBooks tells o b r before (faults old) (world old)
+    → CanSettle o shape r → KeepsUnitRule (basis_of o) r' → AreEven before.quiet b (ends r) → KeepsBooks tells o b (stage_of world faults r before old)
     → TurnsAs tells world faults none_comes shape before after (own_sight r) (own_sight r') old new result
-    → (g : BooksGoOn tells o b r r' before after (faults new) (world old) (world new)) × SaysOfStep o g.books r' after (faults new) result
+    → (g : BooksGoOn tells o b (stage_of world faults r before old) (stage_of world faults r' after new)) × SaysOfStep o g.books (stage_of world faults r' after new) result
 
 -- An event that isn't the settler's, put or not, with host and settler as they are.
 abbrev pub OthersKeep : Type 0
 OthersKeep = (tells : Bool) (o : Outset) (b : Books) (r : Run) (e : CoreEvent) (settler : Settler) (counts : Channel → ℕ) (now : World)
     → 0 < r.base → KeepsUnitRule (basis_of o) r → KeepsUnitRule (basis_of o) (extended r (e ∷ [])) → is_settling e ≡ false
-    → AreEven settler.quiet b (ends r) → KeepsBooks tells o b r settler counts now
-    → (g : BooksGoOn tells o b r (extended r (e ∷ [])) settler settler counts now now) × AreEven settler.quiet g.books (ends (extended r (e ∷ [])))
+    → AreEven settler.quiet b (ends r) → KeepsBooks tells o b (stage_by r settler counts now)
+    → (g : BooksGoOn tells o b (stage_by r settler counts now) (stage_by (extended r (e ∷ [])) settler counts now)) × AreEven settler.quiet g.books (ends (extended r (e ∷ [])))

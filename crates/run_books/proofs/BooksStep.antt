@@ -17,6 +17,9 @@ use Rattle.core_model.specs.Laws.{extended}
 use Rattle.core_model.specs.Legal.{Run, ends}
 use Rattle.core_model.specs.Settler.{MakesEvent, settler_step, to_commit, versions_to_write}
 use Rattle.core_laws.proofs.Split.{no_doubt}
+use Rattle.promise_spec.specs.Blocks.{Records, body_of}
+use Rattle.promise_spec.proofs.Standings.{grown_none, grown_twice}
+use Rattle.promise_spec.specs.Entries.{Log, grown}
 use Rattle.promise_spec.specs.Programs.{shape_in}
 use Rattle.promise_spec.specs.Records.{Commit}
 use Rattle.promise_spec.specs.Crashes.{Acknowledges}
@@ -24,7 +27,7 @@ use Rattle.promise_spec.specs.Cores.{how_many}
 use Rattle.promise_spec.specs.Causes.{is_unsealed}
 use Rattle.promise_spec.specs.UnitRule.{KeepsUnitRule}
 use Rattle.promise_spec.specs.Journals.{Settlement, Seals, commits_of}
-use Rattle.batch_disk.specs.Resting.{Voted, log_of}
+use Rattle.batch_disk.specs.Resting.{Voted}
 use Rattle.batch_disk.specs.Moments.{LeavesRest, KeepsLog}
 use Rattle.batch_disk.specs.Records.{commits_by}
 use Rattle.batch_disk.specs.Seals.{WriterAfter}
@@ -49,12 +52,13 @@ use Rattle.run_books.specs.Settling.{AreEven, CanSettle}
 use Rattle.run_books.proofs.BooksCore.{Moves, moves-run}
 use Rattle.run_books.proofs.BooksCounts.{doubt-ends, how-one, none-before}
 use Rattle.run_books.proofs.BooksLists.{alone}
-use Rattle.run_books.proofs.BooksGrown.{grown, grown-commits}
+use Rattle.run_books.proofs.BooksGrown.{grown_books, grown-commits}
 use Rattle.run_books.proofs.BooksImages.{vote-kept}
 use Rattle.run_books.proofs.BooksKept.{AddsBatch, books-kept, books-even}
 use Rattle.run_books.proofs.BooksEvents.{adds-none, adds-vote, adds-sealed, adds-unsealed}
 use Rattle.run_books.proofs.BooksFair.{AreOfVotes, is-fair, votes-after, fresh-batch}
 use Rattle.run_books.proofs.BooksSeals.{seals-last}
+use Rattle.run_books.specs.Stages.{stage_of}
 
 -- nothing is in doubt, and so no batch of the books
 pub none-doubted : (w : CoreState) (d : List Settlement) → AreInDoubt w d → w.manager.doubt ≡ None → d ≡ []
@@ -71,11 +75,11 @@ behind-block gate size next was now begun is torn same =
     ∙ ap (λ (n : ℕ). drop n begun) (sym two ∙ sym one)
 
 module _ {H : Type 0} (tells : Bool) (world : H → World) (faults : H → Channel → ℕ) (o : Outset) (b : Books) (r : Run) (before after : Settler) (old new : H)
-    (can : CanSettle o (shape_in o.program) r) (even : AreEven before.quiet b (ends r)) (k : KeepsBooks tells o b r before (faults old) (world old)) where
+    (can : CanSettle o (shape_in o.program) r) (even : AreEven before.quiet b (ends r)) (k : KeepsBooks tells o b (stage_of world faults r before old)) where
   -- the books with what the event adds
   pub record StepDone (e : CoreEvent) : Type 0 where
     pub books : Books
-    pub kept : KeepsBooks tells o books (extended r (e ∷ [])) after (faults new) (world new)
+    pub kept : KeepsBooks tells o books (stage_of world faults (extended r (e ∷ [])) after new)
     pub even_again : AreEven after.quiet books (ends (extended r (e ∷ [])))
     pub lasts : IsTrue tells → (head : List ℕ) → LastsSo o head b r before.writer (world old) → LastsSo o head books (extended r (e ∷ [])) after.writer (world new)
 
@@ -89,11 +93,12 @@ module _ {H : Type 0} (tells : Bool) (world : H → World) (faults : H → Chann
 
   -- what is left of the folder where no batch is in doubt
   record DiskAfter (e : CoreEvent) (head : List ℕ) (f : KeepsFolder o head b r before.writer (world old).disk) (batch : List Settlement) : Type 0 where
-    batches : List (List Commit)
-    log : log_of batches ≡ log_of f.batches ++ commits_of batch
-    keeps : KeepsDisk o.live (shape_in o.program) head batches after.writer (world new).disk
+    stood : Log
+    bodies : List (List ℕ)
+    log : stood ≡ grown f.stood (commits_of batch)
+    keeps : KeepsDisk o.live (shape_in o.program) head stood bodies after.writer (world new).disk
     votes : AreOfVotes (extended r (e ∷ [])) after.writer
-    seals : Seals o.live o.program (log_of f.batches) batch (world old) (world new)
+    seals : Seals o.live f.stood batch (world old) (world new)
     rest : Passes (LeavesRest o.live head (world old)) (world old).past (world new).past
     rest_now : LeavesRest o.live head (world old) (moment_of (world new))
     behind : how_many is_unsealed (extended r (e ∷ [])) ≡ 0 → EndsAsBegun o after.writer.gate_at ((world new).disk (Manager o.live))
@@ -119,22 +124,23 @@ module _ {H : Type 0} (tells : Bool) (world : H → World) (faults : H → Chann
         → (IsTrue tells → (head : List ℕ) (f : KeepsFolder o head b r before.writer (world old).disk) → DiskAfter e head f batch)
         → ((x : Entry) (l : Commit) → Member x (ends r).manager.settled → Member l (commits_of batch) → Acknowledges x l → ⊥) → StepDone e
     plain-done plain batch adds disk fresh = record {
-      books = grown b m.more batch b.doubted;
+      books = grown_books b m.more batch b.doubted;
       kept = kept;
       even_again = books-even tells o b r e before after (faults old) (faults new) (world old) (world new) batch b.doubted can.above can.units even k m entry adds;
       lasts = λ t head l. (
           let f = l.folder writer-sure in
           let d = disk t head f in
-          subst (λ (x : List Settlement). LastsSo o head (grown b m.more batch x) r' after.writer (world new)) (sym sure)
+          subst (λ (x : List Settlement). LastsSo o head (grown_books b m.more batch x) r' after.writer (world new)) (sym sure)
           (seals-last o head b r e before.writer after.writer (world old) (world new) m.more batch can.above can.units c.units k.booked sure even.rest (k.outside t).output.proper l adds.none
-          (subst (λ (x : List Settlement). AreBooked (grown b m.more batch x) (ends r')) sure kept.booked)
-          (subst (λ (log : List Commit). Seals o.live o.program log batch (world old) (world new)) f.log d.seals) d.rest d.rest_now
+          (subst (λ (x : List Settlement). AreBooked (grown_books b m.more batch x) (ends r')) sure kept.booked)
+          (subst (λ (log : Log). Seals o.live log batch (world old) (world new)) f.log d.seals) d.rest d.rest_now
           (λ x y said there is. fresh x y (subst (λ (xs : List Entry). Member x xs) k.booked.entries said) there is)
           (λ h. absurd (let left = doubt-ends r' h in let z : Some left.0 ≡ None = sym left.1 ∙ (m.doubt plain ∙ none) in cc))
           (λ q. record {
-            batches = d.batches;
-            log = d.log ∙ ap (λ (x : List Commit). x ++ commits_of batch) f.log ∙ append_assoc o.opening (commits_of (b.said ++ b.unsaid)) (commits_of batch)
-                ∙ ap (λ (x : List Commit). o.opening ++ x) (sym (grown-commits b m.more batch []));
+            stood = d.stood;
+            bodies = d.bodies;
+            log = d.log ∙ ap (λ (x : Log). grown x (commits_of batch)) f.log ∙ grown_twice o.opening (commits_of (b.said ++ b.unsaid)) (commits_of batch)
+                ∙ ap (grown o.opening) (sym (grown-commits b m.more batch []));
             keeps = d.keeps;
             votes = d.votes;
             behind = d.behind;
@@ -142,32 +148,33 @@ module _ {H : Type 0} (tells : Bool) (world : H → World) (faults : H → Chann
           );
     }
       where
-        kept : KeepsBooks tells o (grown b m.more batch b.doubted) (extended r (e ∷ [])) after (faults new) (world new)
+        kept : KeepsBooks tells o (grown_books b m.more batch b.doubted) (stage_of world faults (extended r (e ∷ [])) after new)
         kept = books-kept tells o b r e before after (faults old) (faults new) (world old) (world new) batch b.doubted can.above can.units even k m entry adds
 
     -- what the journal law says of it, where it is the settler's step
     journal-of : MakesEvent (settler_step (ends r)) e → (t : IsTrue tells) (head : List ℕ) (f : KeepsFolder o head b r before.writer (world old).disk) (does : DoesFor tells world faults o.live e before.quiet (shape_in o.program) (ends r) before.writer after.writer old new)
-        → JournalsAs o.live o.program head f.batches before.writer after.writer (world old) (world new) e before.quiet (ends r) (batch_made tells world faults o.live e before.quiet (shape_in o.program) (ends r) before.writer after.writer old new does)
+        → JournalsAs o.live o.program head f.stood f.bodies before.writer after.writer (world old) (world new) e before.quiet (ends r) (batch_made tells world faults o.live e before.quiet (shape_in o.program) (ends r) before.writer after.writer old new does)
     journal-of makes t head f does =
-        journals tells t world faults o.live o.program head f.batches (ends r) before.writer after.writer old new f.keeps
+        journals tells t world faults o.live o.program head f.stood f.bodies (ends r) before.writer after.writer old new f.keeps
         (is-fair o r before.writer can.above can.units can.kinds can.accepted can.numbers f.votes) before.quiet (settler_step (ends r)) e refl makes does
 
     -- without a host call no log changes
     no-call : (head : List ℕ) (f : KeepsFolder o head b r before.writer (world old).disk) → MakesNoCall tells world faults before.writer after.writer old new
-        → LeavesLogs o.live o.program head f.batches before.writer after.writer (world old) (world new)
+        → LeavesLogs o.live o.program head f.stood f.bodies before.writer after.writer (world old) (world new)
     no-call head f none =
-        let same : LeavesLogs o.live o.program head f.batches before.writer before.writer (world old) (world old) =
-        leaves o.live o.program head f.batches before.writer before.writer (world old) (world old) f.keeps refl (record { more = []; past = sym (append-nil (world old).past); last = refl })
-        (started (KeepsLog o.live (shape_in o.program) head (log_of f.batches) (world old)) (world old).past) f.keeps in
-        subst (λ (x : BatchWriter). LeavesLogs o.live o.program head f.batches before.writer x (world old) (world new)) (sym none.writer)
-        (subst (λ (h : H). LeavesLogs o.live o.program head f.batches before.writer before.writer (world old) (world h)) (sym none.host) same)
+        let same : LeavesLogs o.live o.program head f.stood f.bodies before.writer before.writer (world old) (world old) =
+        leaves o.live o.program head f.stood f.bodies before.writer before.writer (world old) (world old) f.keeps refl (record { more = []; past = sym (append-nil (world old).past); last = refl })
+        (started (KeepsLog o.live head f.stood (world old)) (world old).past) f.keeps in
+        subst (λ (x : BatchWriter). LeavesLogs o.live o.program head f.stood f.bodies before.writer x (world old) (world new)) (sym none.writer)
+        (subst (λ (h : H). LeavesLogs o.live o.program head f.stood f.bodies before.writer before.writer (world old) (world h)) (sym none.host) same)
 
     -- no log changes
-    leaves-disk : (head : List ℕ) (f : KeepsFolder o head b r before.writer (world old).disk) → LeavesLogs o.live o.program head f.batches before.writer after.writer (world old) (world new) → AreOfVotes (extended r (e ∷ [])) after.writer
+    leaves-disk : (head : List ℕ) (f : KeepsFolder o head b r before.writer (world old).disk) → LeavesLogs o.live o.program head f.stood f.bodies before.writer after.writer (world old) (world new) → AreOfVotes (extended r (e ∷ [])) after.writer
         → (how_many is_unsealed (extended r (e ∷ [])) ≡ 0 → EndsAsBegun o after.writer.gate_at ((world new).disk (Manager o.live))) → DiskAfter e head f []
     leaves-disk head f left votes behind = record {
-      batches = f.batches;
-      log = sym (append-nil (log_of f.batches));
+      stood = f.stood;
+      bodies = f.bodies;
+      log = sym (grown_none f.stood);
       keeps = left.disk;
       votes = votes;
       seals = left.seals;
@@ -281,8 +288,9 @@ module _ {H : Type 0} (tells : Bool) (world : H → World) (faults : H → Chann
       (λ t head f. (
       let s = journal-of e c refl refl makes t head f does in
       record {
-        batches = f.batches ++ batch ∷ [];
-        log = flat_push f.batches batch ∙ ap (λ (x : List Commit). log_of f.batches ++ x) (sym (append-nil batch));
+        stood = grown f.stood batch;
+        bodies = f.bodies ++ body_of (Records batch) ∷ [];
+        log = ap (grown f.stood) (sym (append-nil batch));
         keeps = s.disk;
         votes = votes-gone e c refl refl (sealed-gone n does.answer does.work.records before.writer after.writer does.event does.after_is);
         seals = s.seals;

@@ -14,8 +14,9 @@ use Rattle.core_model.specs.Legal.{Run, ends}
 use Rattle.core_model.specs.declared.events.CoreEvent.TheVariants.{Doubt}
 use Rattle.gate_block.specs.Log.{gate_of}
 use Rattle.gate_block.proofs.Logs.{logged}
+use Rattle.promise_spec.specs.Entries.{Log, grown}
 use Rattle.promise_spec.specs.Records.{Commit, AreRecordsOf}
-use Rattle.promise_spec.specs.Logs.{IsLog, body_of}
+use Rattle.promise_spec.specs.Logs.{IsLog}
 use Rattle.promise_spec.specs.Programs.{shape_in}
 use Rattle.promise_spec.specs.Outputs.{IsProper}
 use Rattle.promise_spec.specs.Crashes.{IsAside, LeavesAlone}
@@ -37,6 +38,7 @@ use Rattle.run_books.specs.Books.{Books, booked_journal, AreInDoubt}
 use Rattle.run_books.specs.Images.{LeavesAside, HasOpenBlock, LastsSo}
 use Rattle.run_books.specs.Records.{KeepsRecord}
 use Rattle.run_books.specs.Closing.{IsCourseOf}
+use Rattle.run_books.specs.Stages.{stage_by}
 
 -- a file that is left alone isn't the live manager file
 not-live : (live : ℕ) (file : FileId) → IsAside live file → file ≢ Manager live
@@ -55,13 +57,13 @@ units-named (e ∷ es) [] p = absurd p
 units-named (e ∷ es) (l ∷ ls) p = (λ i. p.0.unit i ∷ units-named es ls p.1 i)
 
 module _ (o : Outset) (head : List ℕ) (b : Books) (r : Run) (writer : BatchWriter) (seen : Observed) (c : Course)
-    (l : LastsSo o head b r writer seen.new) (is : IsCourseOf o b r seen c) (heads : head ≡ take 15 (seen_at_entry seen (Manager c.live))) (behind : IsBehind o.program seen c o.world)
+    (l : LastsSo o head b r writer seen.new) (is : IsCourseOf o b r seen c) (heads : head ≡ take 15 (seen_at_entry seen (Manager c.live))) (behind : IsBehind seen c o.world)
     (sure : how_many is_unsealed r ≡ 0 → writer.in_doubt ≡ false) where
   end : ends r ≡ core_end o.program c
   end = ap ends (sym is.run)
 
-  order-is : o.opening ++ commits_of (booked_journal b) ≡ order c
-  order-is = (λ i. sym is.opening i ++ sym is.added i)
+  order-is : grown o.opening (commits_of (booked_journal b)) ≡ order c
+  order-is = (λ i. grown (sym is.opening i) (sym is.added i))
 
   alone-at : (m : Moment) → LeavesAside o.live head o.world m → LeavesAlone c.live seen m
   alone-at m a =
@@ -71,19 +73,20 @@ module _ (o : Outset) (head : List ℕ) (b : Books) (r : Run) (writer : BatchWri
         header = λ image left. b.header image left ∙ heads;
       }
 
-  end-at : (m : Moment) → AllEnd o.live o.program (ends r) o.opening m → AllEnd c.live o.program (core_end o.program c) c.opening m
+  end-at : (m : Moment) → AllEnd o.live (ends r) o.opening m → AllEnd c.live (core_end o.program c) c.opening m
   end-at m a =
-      subst (λ (live : ℕ). AllEnd live o.program (core_end o.program c) c.opening m) (sym is.live)
-      (subst (λ (log : List Commit). AllEnd o.live o.program (core_end o.program c) log m) (sym is.opening) (subst (λ (w : CoreState). AllEnd o.live o.program w o.opening m) end a))
+      subst (λ (live : ℕ). AllEnd live (core_end o.program c) c.opening m) (sym is.live)
+      (subst (λ (log : Log). AllEnd o.live (core_end o.program c) log m) (sym is.opening) (subst (λ (w : CoreState). AllEnd o.live w o.opening m) end a))
 
-  block-of : HasOpenBlock o.live (o.opening ++ commits_of (booked_journal b)) (ends r) seen.new.disk → BlockInDoubt c.live seen c (core_end o.program c)
+  block-of : HasOpenBlock o.live (grown o.opening (commits_of (booked_journal b))) (ends r) seen.new.disk → BlockInDoubt c.live seen c (core_end o.program c)
   block-of open_block =
-      let h : HasOpenBlock c.live (o.opening ++ commits_of (booked_journal b)) (ends r) seen.new.disk =
-      subst (λ (live : ℕ). HasOpenBlock live (o.opening ++ commits_of (booked_journal b)) (ends r) seen.new.disk) (sym is.live) open_block in
+      let h : HasOpenBlock c.live (grown o.opening (commits_of (booked_journal b))) (ends r) seen.new.disk =
+      subst (λ (live : ℕ). HasOpenBlock live (grown o.opening (commits_of (booked_journal b))) (ends r) seen.new.disk) (sym is.live) open_block in
       record {
         gate = h.gate;
         batch = h.batch;
-        batches = h.batches;
+        before = h.before;
+        bodies = h.bodies;
         records = subst (λ (w : CoreState). AreRecordsOf (chosen w) h.batch) end h.records;
         log = ⊎_elim (λ q. inl (sym order-is ∙ q)) (λ q. inr (sym order-is ∙ q)) h.log_is;
         front = h.front;
@@ -96,7 +99,8 @@ module _ (o : Outset) (head : List ℕ) (b : Books) (r : Run) (writer : BatchWri
   ends-as-read none image left =
       let before : how_many is_unsealed r ≡ 0 = ap (how_many is_unsealed) (sym is.run) ∙ none in
       let f = l.folder (sure before) in
-      let gate : gate_of (image (Manager o.live)) ≡ writer.gate_at = (logged (map body_of f.batches) writer.gate_at (image (Manager o.live)) (f.keeps.images image left).blocks).1 in
+      let gate : gate_of (image (Manager o.live)) ≡ writer.gate_at = (let rest = f.keeps.images image left in
+      (logged f.bodies writer.gate_at (image (Manager o.live)) (record { blocks = rest.stands.stand; closed = rest.closed })).1) in
       let begun : (o.world.disk (Manager o.live)).seen ≡ seen_at_entry seen (Manager o.live) =
       subst (λ (live : ℕ). (o.world.disk (Manager live)).seen ≡ seen_at_entry seen (Manager live)) is.live (ap (λ (s : FileState). s.seen) behind.settled) in
       subst (λ (live : ℕ). EndsAsRead live seen image) (sym is.live)
@@ -106,7 +110,7 @@ module _ (o : Outset) (head : List ℕ) (b : Books) (r : Run) (writer : BatchWri
   carries journal q = record {
     commits = is.added ∙ ap commits_of q;
     backs = subst (λ (j : List Settlement). Backs j c.added) q (subst (Backs (booked_journal b)) (sym is.added) l.backs);
-    batches = weaker (AllEnd o.live o.program (ends r) o.opening) (AllEnd c.live o.program (core_end o.program c) c.opening) end-at l.batches;
+    batches = weaker (AllEnd o.live (ends r) o.opening) (AllEnd c.live (core_end o.program c) c.opening) end-at l.batches;
     batches_now = end-at (moment_of seen.new) l.batches_now;
     alone = weaker (LeavesAside o.live head o.world) (LeavesAlone c.live seen) alone-at l.alone;
     alone_now = alone-at (moment_of seen.new) l.alone_now;
@@ -118,20 +122,20 @@ module _ (o : Outset) (head : List ℕ) (b : Books) (r : Run) (writer : BatchWri
   cut-of doubted q =
       subst (λ (d : List Settlement). CutAt c.live o.program c.opening o.world b.said b.unsaid d c.rest seen.new) q
       (subst (λ (rest : List ℕ). CutAt c.live o.program c.opening o.world b.said b.unsaid b.doubted rest seen.new) (sym is.rest)
-      (subst (λ (log : List Commit). CutAt c.live o.program log o.world b.said b.unsaid b.doubted b.rest seen.new) (sym is.opening)
+      (subst (λ (log : Log). CutAt c.live o.program log o.world b.said b.unsaid b.doubted b.rest seen.new) (sym is.opening)
       (subst (λ (live : ℕ). CutAt live o.program o.opening o.world b.said b.unsaid b.doubted b.rest seen.new) (sym is.live) l.journal)))
 
-  module _ (opens : Opens o.program seen c) (stay : ReadsMayStay seen.new) (proper : AllByRecursion (IsProper (shape_in o.program)) (entries_of b.said)) where
+  module _ (opens : Opens seen c) (stay : ReadsMayStay seen.new) (proper : AllByRecursion (IsProper (shape_in o.program)) (entries_of b.said)) where
     lasts-by : (doubted : List Settlement) → b.doubted ≡ doubted → AreInDoubt (ends r) doubted → Lasts o.program seen c
     lasts-by [] q d =
         whole_lasts o.program seen c o.world behind b.said b.unsaid opens stay (cut-of [] q) is.entries proper
         (carries (b.said ++ b.unsaid) (ap (λ (x : List Settlement). (b.said ++ b.unsaid) ++ x) q ∙ append-nil (b.said ++ b.unsaid)))
     lasts-by (batch ∷ []) q d =
-        let some : SomeImage (λ image. IsLog o.live (shape_in o.program) image (o.opening ++ commits_of (booked_journal b))) seen.new.disk = l.some (λ none. is-some batch (sym q ∙ none)) in
+        let some : SomeImage (λ image. IsLog o.live image (grown o.opening (commits_of (booked_journal b)))) seen.new.disk = l.some (λ none. is-some batch (sym q ∙ none)) in
         doubt_lasts o.program seen c o.world behind b.said b.unsaid batch some.image d.0 opens (cut-of (batch ∷ []) q) is.entries proper
         (carries ((b.said ++ b.unsaid) ++ batch ∷ []) (ap (λ (x : List Settlement). (b.said ++ b.unsaid) ++ x) q))
         some.left
-        (subst (λ (live : ℕ). IsLog live (shape_in o.program) some.image (order c)) (sym is.live) (subst (IsLog o.live (shape_in o.program) some.image) order-is some.holds))
+        (subst (λ (live : ℕ). IsLog live some.image (order c)) (sym is.live) (subst (IsLog o.live some.image) order-is some.holds))
         (ap (λ (w : CoreState). w.manager.doubt) (sym end) ∙ d.1)
         (subst (λ (w : CoreState). AreOf (units_in_doubt w) (commits_of (batch ∷ []))) end
         (ap (map (λ (x : Commit). x.logged.unit)) (append-nil batch.commits) ∙ units-named (chosen (ends r)) batch.commits d.2))
@@ -150,8 +154,8 @@ none-doubted r none = by (ends r).manager.doubt refl
 
 -- what has to last
 pub lasts : (tells : Bool) (o : Outset) (head : List ℕ) (b : Books) (r : Run) (settler : Settler) (seen : Observed) (c : Course)
-    → tells ≡ true → KeepsRecord tells o b r settler seen.faults_after seen.new → LastsSo o head b r settler.writer seen.new → IsCourseOf o b r seen c
-    → head ≡ take 15 (seen_at_entry seen (Manager c.live)) → IsBehind o.program seen c o.world → Opens o.program seen c → ReadsMayStay seen.new
+    → tells ≡ true → KeepsRecord tells o b (stage_by r settler seen.faults_after seen.new) → LastsSo o head b r settler.writer seen.new → IsCourseOf o b r seen c
+    → head ≡ take 15 (seen_at_entry seen (Manager c.live)) → IsBehind seen c o.world → Opens seen c → ReadsMayStay seen.new
     → Lasts o.program seen c
 lasts tells o head b r settler seen c t k l is heads behind opens stay =
     lasts-by o head b r settler.writer seen c l is heads behind (λ none. k.books.unsure ∙ k.books.doubt ∙ none-doubted r none) opens stay (k.books.outside (subst IsTrue (sym t) refl)).output.proper b.doubted refl k.books.booked.doubted

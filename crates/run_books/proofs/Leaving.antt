@@ -33,6 +33,7 @@ use Rattle.settle_loop.specs.declared.settler.StopCause.TheVariants as cause
 use Rattle.run_books.specs.declared.faults.RunFault.{RunFault}
 use Rattle.run_books.specs.declared.faults.RunFault.TheVariants.{InDoubt, WriteFault, Memory}
 use Rattle.run_books.specs.Beside.{EmitsAs, IsHushed, TurnsBeside}
+use Rattle.run_books.specs.Stages.{stage_by, stage_of}
 
 -- what rose only as an answer says, from a count that was the same
 emits-from : {T : Type 0} (result : Result T RunFault) (a b c : ℕ) → b ≡ a → EmitsAs result b c → EmitsAs result a c
@@ -165,7 +166,7 @@ module _ {H : Type 0} (hush tells : Bool) (world : H → World) (faults : H → 
 -- a run that went on by these events, beside which this was left of the host
 of-leaving : {H T : Type 0} (tells : Bool) (world : H → World) (faults : H → Channel → ℕ) (r r' : Run) (more : List CoreEvent) (before after : Settler) (old new : H) (answer : Result T RunFault)
     → r' ≡ extended r more → after.quiet ≡ before.quiet → LeavesHost before.quiet tells world faults old new
-    → TurnsBeside {T = T} tells r r' before after (faults old) (faults new) (world old) (world new) answer
+    → TurnsBeside {T = T} tells (stage_of world faults r before old) (stage_of world faults r' after new) answer
 of-leaving tells world faults r r' more before after old new answer on quiet l = record {
   more = more;
   core = on;
@@ -190,8 +191,8 @@ module _ {H : Type 0} (tells : Bool) (world : H → World) (faults : H → Chann
     (before after : Settler) (old new : H) where
   -- where the output failed
   cut-beside : {T : Type 0} (answer : Result T RunFault) → answer ≡ Err WriteFault → IsBrokenOff tells world faults may shape before after s t old new
-      → TurnsBeside {T = T} tells r r' before after (faults old) (faults new) (world old) (world new) answer
-  cut-beside {T} answer is u = subst (TurnsBeside {T = T} tells r r' before after (faults old) (faults new) (world old) (world new)) (sym is) (record {
+      → TurnsBeside {T = T} tells (stage_of world faults r before old) (stage_of world faults r' after new) answer
+  cut-beside {T} answer is u = subst (TurnsBeside {T = T} tells (stage_of world faults r before old) (stage_of world faults r' after new)) (sym is) (record {
     more = more;
     core = on;
     quiet = ap (λ (x : Settler). x.quiet) u.settler;
@@ -211,7 +212,7 @@ module _ {H : Type 0} (tells : Bool) (world : H → World) (faults : H → Chann
 
   -- a step of the settler, over whatever it saw
   pub step-beside : {E T : Type 0} (answer : Result T RunFault) (result : Result Turned E) → IsAnswerTo answer result → TurnsAs tells world faults may shape before after s t old new result
-      → TurnsBeside {T = T} tells r r' before after (faults old) (faults new) (world old) (world new) answer
+      → TurnsBeside {T = T} tells (stage_of world faults r before old) (stage_of world faults r' after new) answer
   step-beside answer (Ok Stepped) is u =
       of-leaving tells world faults r r' more before after old new answer on (ap (λ (x : Settler). x.quiet) u.put.counts)
       (does-leave before.quiet tells world faults old new before.writer.slot u.e before.quiet refl shape (state_shown u.put.acts.seen) before.writer after.writer u.put.acts.does)
@@ -237,12 +238,12 @@ module _ {H : Type 0} (tells : Bool) (world : H → World) (faults : H → Chann
 
 module _ (tells : Bool) (r r' : Run) (settler settler' : Settler) (faults faults' : Channel → ℕ) (now now' : World) where
   -- what is told where all was well is so whatever is told
-  pub beside-well : {T U : Type 0} (done : T) (result : Result U RunFault) → TurnsBeside {T = T} tells r r' settler settler' faults faults' now now' (Ok done)
-      → TurnsBeside {T = U} tells r r' settler settler' faults faults' now now' result
+  pub beside-well : {T U : Type 0} (done : T) (result : Result U RunFault) → TurnsBeside {T = T} tells (stage_by r settler faults now) (stage_by r' settler' faults' now') (Ok done)
+      → TurnsBeside {T = U} tells (stage_by r settler faults now) (stage_by r' settler' faults' now') result
   beside-well {T} {U} done result b = record { more = b.more; core = b.core; quiet = b.quiet; input = b.input; past = b.past; pulled = b.pulled; emitted = emits-same {T = U} result (faults Output) (faults' Output) b.emitted; calm = b.calm; hushed = b.hushed }
 
   -- a fault is so whatever might have been told else
-  pub beside-fault : {T U : Type 0} (f : RunFault) → TurnsBeside {T = T} tells r r' settler settler' faults faults' now now' (Err f) → TurnsBeside {T = U} tells r r' settler settler' faults faults' now now' (Err f)
+  pub beside-fault : {T U : Type 0} (f : RunFault) → TurnsBeside {T = T} tells (stage_by r settler faults now) (stage_by r' settler' faults' now') (Err f) → TurnsBeside {T = U} tells (stage_by r settler faults now) (stage_by r' settler' faults' now') (Err f)
   beside-fault {T} {U} f b = record { more = b.more; core = b.core; quiet = b.quiet; input = b.input; past = b.past; pulled = b.pulled; emitted = by f b.emitted; calm = b.calm; hushed = b.hushed }
     where
       by : (x : RunFault) → EmitsAs {T = T} (Err x) (faults Output) (faults' Output) → EmitsAs {T = U} (Err x) (faults Output) (faults' Output)
@@ -256,7 +257,7 @@ run-stays r = ap (λ (es : List CoreEvent). record r { events = es }) (sym (appe
 
 -- a run that went on, and nothing else
 pub core-beside : {T : Type 0} (tells : Bool) (r r' : Run) (settler : Settler) (faults : Channel → ℕ) (now : World) (result : Result T RunFault) (more : List CoreEvent) → r' ≡ extended r more
-    → TurnsBeside {T = T} tells r r' settler settler faults faults now now result
+    → TurnsBeside {T = T} tells (stage_by r settler faults now) (stage_by r' settler faults now) result
 core-beside tells r r' settler faults now result more q = record {
   more = more;
   core = q;
@@ -271,7 +272,7 @@ core-beside tells r r' settler faults now result more q = record {
 
 -- what failed, and behind it a run that went on alone
 pub failed-on : {T : Type 0} (tells : Bool) (r r' r'' : Run) (settler settler' : Settler) (faults faults' : Channel → ℕ) (now now' : World) (f : RunFault) (more : List CoreEvent) → r'' ≡ extended r' more
-    → TurnsBeside {T = T} tells r r' settler settler' faults faults' now now' (Err f) → TurnsBeside {T = T} tells r r'' settler settler' faults faults' now now' (Err f)
+    → TurnsBeside {T = T} tells (stage_by r settler faults now) (stage_by r' settler' faults' now') (Err f) → TurnsBeside {T = T} tells (stage_by r settler faults now) (stage_by r'' settler' faults' now') (Err f)
 failed-on tells r r' r'' settler settler' faults faults' now now' f more on one = record {
   more = one.more ++ more;
   core = on ∙ ap (λ (x : Run). extended x more) one.core ∙ ap (λ (es : List CoreEvent). record r { events = es }) (append_assoc r.events one.more more);
@@ -286,8 +287,8 @@ failed-on tells r r' r'' settler settler' faults faults' now now' f more on one 
 
 -- a call that was answered by a value, and another behind it
 pub one-after-another : {T U : Type 0} (tells : Bool) (r r' r'' : Run) (settler settler' settler'' : Settler) (faults faults' faults'' : Channel → ℕ) (now now' now'' : World) (done : T) (result : Result U RunFault)
-    → TurnsBeside {T = T} tells r r' settler settler' faults faults' now now' (Ok done) → TurnsBeside {T = U} tells r' r'' settler' settler'' faults' faults'' now' now'' result
-    → TurnsBeside {T = U} tells r r'' settler settler'' faults faults'' now now'' result
+    → TurnsBeside {T = T} tells (stage_by r settler faults now) (stage_by r' settler' faults' now') (Ok done) → TurnsBeside {T = U} tells (stage_by r' settler' faults' now') (stage_by r'' settler'' faults'' now'') result
+    → TurnsBeside {T = U} tells (stage_by r settler faults now) (stage_by r'' settler'' faults'' now'') result
 one-after-another {T} {U} tells r r' r'' settler settler' settler'' faults faults' faults'' now now' now'' done result one other = record {
   more = one.more ++ other.more;
   core = other.core ∙ ap (λ (x : Run). extended x other.more) one.core ∙ ap (λ (es : List CoreEvent). record r { events = es }) (append_assoc r.events one.more other.more);

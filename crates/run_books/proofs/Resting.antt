@@ -12,6 +12,7 @@ use Rattle.run_books.specs.Records.{KeepsBooks}
 use Rattle.run_books.specs.Settling.{AreEven}
 use Rattle.run_books.proofs.BooksLists.{none-single}
 use Rattle.run_books.proofs.Showing.{whole-take, flat-both}
+use Rattle.run_books.specs.Stages.{stage_by}
 
 -- a list whose front is all of it has nothing behind
 no-more : (xs ys : List Entry) → xs ≡ xs ++ ys → ys ≡ []
@@ -22,7 +23,7 @@ no-more xs ys q = none-of ys (let e : length xs ≡ length xs + length ys = ap l
     none-of (x ∷ l) z = absurd (omega (arith, z))
 
 module _ (tells : Bool) (o : Outset) (b : Books) (r : Run) (settler : Settler) (counts : Channel → ℕ) (now : World) (written : length (ends r).manager.settled ≤ (ends r).manager.emitted) (rest : b.rest ≡ [])
-    (k : KeepsBooks tells o b r settler counts now) where
+    (k : KeepsBooks tells o b (stage_by r settler counts now)) where
   said-all : (n : ℕ) → (ends r).manager.emitted ≤ n → entries_of b.said ≡ take n (ends r).manager.settled → entries_of b.said ≡ (ends r).manager.settled
   said-all n up q = q ∙ whole-take (ends r).manager.settled n (omega (arith, written, up))
 

@@ -6,12 +6,14 @@ use mathlib.Core.List.{append_assoc}
 use Rattle.base_types.specs.declared.entries.Entry.{Entry}
 use Rattle.host_trait.specs.declared.channels.FileId.{FileId}
 use Rattle.host_trait.specs.declared.channels.FileId.TheVariants.{Manager}
+use Rattle.host_trait.specs.World.{World}
 use Rattle.host_trait.specs.declared.channels.Channel.{Channel}
 use Rattle.core_model.specs.CoreState.{CoreState}
 use Rattle.core_model.specs.declared.effects.Effect.{Effect}
 use Rattle.core_model.specs.Serial.{committed, chosen}
 use Rattle.core_model.specs.Legal.{Run, ends}
-use Rattle.promise_spec.specs.Records.{Commit, AreRecordsOf, standing_of}
+use Rattle.promise_spec.specs.Entries.{standing_of}
+use Rattle.promise_spec.specs.Records.{Commit, AreRecordsOf}
 use Rattle.promise_spec.specs.Logs.{IsPrefix}
 use Rattle.promise_spec.specs.Programs.{shape_in}
 use Rattle.promise_spec.specs.Journals.{Settlement, commits_of, entries_of}
@@ -32,6 +34,7 @@ use Rattle.request_wire.specs.Reply.{reply_line}
 use Rattle.core_laws.proofs.Lined.{once-ends}
 use Rattle.turn_rules.proofs.Lawful.{legal-run}
 use Rattle.run_books.specs.Closing.{IsCourseOf, turns_ending}
+use Rattle.run_books.specs.Stages.{stage_by}
 
 -- ---- the records
 
@@ -60,9 +63,9 @@ added-by w front (batch ∷ (other ∷ more)) are d = absurd d
 
 -- ---- how it ends
 
-module _ {T : Type 0} (o : Outset) (b : Books) (r : Run) (settler : Settler) (counts : Channel → ℕ) where
+module _ {T : Type 0} (o : Outset) (b : Books) (r : Run) (settler : Settler) (counts : Channel → ℕ) (now : World) where
   -- a file's fault ends it only with a batch in doubt
-  doubted-by : (result : Result T RunFault) → TurnsEndAs o b r settler counts result → (file : FileId) → turns_ending o.live result ≡ DiskFault file → FileMayEndInDoubt o.live r file
+  doubted-by : (result : Result T RunFault) → TurnsEndAs o b (stage_by r settler counts now) result → (file : FileId) → turns_ending o.live result ≡ DiskFault file → FileMayEndInDoubt o.live r file
   doubted-by (Ok done) e file q = absurd cc
   doubted-by (Err InDoubt) e file q = (is_file (Manager o.live) file q, e.0.doubt)
     where
@@ -72,14 +75,14 @@ module _ {T : Type 0} (o : Outset) (b : Books) (r : Run) (settler : Settler) (co
   doubted-by (Err Memory) e file q = absurd cc
 
   -- and a doubt ends it
-  ended-by : (result : Result T RunFault) → TurnsEndAs o b r settler counts result → RunHasDoubt r → EndingMayDoubt (turns_ending o.live result)
+  ended-by : (result : Result T RunFault) → TurnsEndAs o b (stage_by r settler counts now) result → RunHasDoubt r → EndingMayDoubt (turns_ending o.live result)
   ended-by (Ok done) e d = absurd (e.0.never d)
   ended-by (Err InDoubt) e d = tt
   ended-by (Err WriteFault) e d = tt
   ended-by (Err Memory) e d = tt
 
   -- all that is settled is written, where it ends so
-  written-by : (result : Result T RunFault) → TurnsEndAs o b r settler counts result → IsAllWritten (turns_ending o.live result) ⊎ (IsDiskFault (turns_ending o.live result) × RunHasDoubt r)
+  written-by : (result : Result T RunFault) → TurnsEndAs o b (stage_by r settler counts now) result → IsAllWritten (turns_ending o.live result) ⊎ (IsDiskFault (turns_ending o.live result) × RunHasDoubt r)
       → length (ends r).manager.settled ≤ (ends r).manager.emitted
   written-by (Ok done) e which = e.0.run.quiet.written
   written-by (Err InDoubt) e which = e.0.written
@@ -92,12 +95,12 @@ module _ {T : Type 0} (o : Outset) (b : Books) (r : Run) (settler : Settler) (co
 
 -- what its events explain
 pub explains : {T : Type 0} (tells : Bool) (o : Outset) (b : Books) (r : Run) (settler : Settler) (seen : Observed) (c : Course) (result : Result T RunFault)
-    → KeepsRecord tells o b r settler seen.faults_after seen.new → TurnsEndAs o b r settler seen.faults_after result → seen.ending ≡ turns_ending o.live result
+    → KeepsRecord tells o b (stage_by r settler seen.faults_after seen.new) → TurnsEndAs o b (stage_by r settler seen.faults_after seen.new) result → seen.ending ≡ turns_ending o.live result
     → (seen.manner.threaded ≡ false → KeepsTurnRule o.program.types (length o.asked) o.width o.picks r)
     → IsCourseOf o b r seen c → LeavesUnvoted c.live o.program seen c → ExplainsEvents o.program seen c
 explains {T} tells o b r settler seen c result k e q turns is unvoted =
     let run : r ≡ core_run o.program c = sym is.run in
-    let same : basis_of o ≡ basis o.program seen c = (λ i. record { types = o.program.types; lines = sym is.asked i; opening = standing_of o.program.types (sym is.opening i) }) in
+    let same : basis_of o ≡ basis o.program seen c = (λ i. record { types = o.program.types; lines = sym is.asked i; opening = standing_of (sym is.opening i) }) in
     record {
       records = subst (AreAdded (core_end o.program c)) (sym is.added)
           (subst (λ (x : Run). AreAdded (ends x) (commits_of (booked_journal b))) run (added-by (ends r) (b.said ++ b.unsaid) b.doubted k.books.booked.commits k.books.booked.doubted));
@@ -110,8 +113,8 @@ explains {T} tells o b r settler seen c result k e q turns is unvoted =
           (subst (λ (f : Channel → ℕ). AreFaults o.live (core_run o.program c) f seen.faults_after) (sym is.before)
           (subst (λ (x : Run). AreFaults o.live x o.faults seen.faults_after) run k.books.faults));
       doubted = λ file t. subst (λ (live : ℕ). FileMayEndInDoubt live (core_run o.program c) file) (sym is.live)
-          (subst (λ (x : Run). FileMayEndInDoubt o.live x file) run (doubted-by o b r settler seen.faults_after result e file (sym q ∙ t)));
-      ended = λ d. subst EndingMayDoubt (sym q) (ended-by o b r settler seen.faults_after result e (subst RunHasDoubt is.run d));
+          (subst (λ (x : Run). FileMayEndInDoubt o.live x file) run (doubted-by o b r settler seen.faults_after seen.new result e file (sym q ∙ t)));
+      ended = λ d. subst EndingMayDoubt (sym q) (ended-by o b r settler seen.faults_after seen.new result e (subst RunHasDoubt is.run d));
       unvoted = unvoted;
     }
 
@@ -149,7 +152,7 @@ put-told b w (inr q) le =
 
 -- what was written of what is settled
 pub settled : {T : Type 0} (tells : Bool) (o : Outset) (b : Books) (r : Run) (settler : Settler) (seen : Observed) (c : Course) (result : Result T RunFault)
-    → settler.quiet ≡ false → KeepsRecord tells o b r settler seen.faults_after seen.new → TurnsEndAs o b r settler seen.faults_after result
+    → settler.quiet ≡ false → KeepsRecord tells o b (stage_by r settler seen.faults_after seen.new) → TurnsEndAs o b (stage_by r settler seen.faults_after seen.new) result
     → seen.ending ≡ turns_ending o.live result → IsCourseOf o b r seen c → AreSettled o.program seen c
 settled {T} tells o b r settler seen c result loud k e q is =
     let w : CoreState = ends r in
@@ -163,7 +166,7 @@ settled {T} tells o b r settler seen c result loud k e q is =
         ap (λ (v : CoreState). v.manager.settled) end ∙ sym k.books.booked.entries ∙ flat-both (λ (s : Settlement). s.entries) b.said b.unsaid
             ∙ ap (λ (l : List Entry). l ++ entries_of b.unsaid) (sym is.entries),
       );
-      all = λ which. is.entries ∙ put-all b w put (written-by o b r settler seen.faults_after result e (which-by which)) ∙ sym (ap (λ (v : CoreState). v.manager.settled) end);
+      all = λ which. is.entries ∙ put-all b w put (written-by o b r settler seen.faults_after seen.new result e (which-by which)) ∙ sym (ap (λ (v : CoreState). v.manager.settled) end);
       told = subst (λ (v : CoreState). v.manager.emitted ≤ length c.entries) (sym end)
           (subst (λ (l : List Entry). w.manager.emitted ≤ length l) (sym is.entries) (put-told b w put told));
       cut = cut-by k.books.cut;

@@ -8,7 +8,7 @@ use Rattle.core_model.specs.Legal.{Run, ends}
 use Rattle.core_model.specs.Settler.{settler_step, Rests}
 use Rattle.script_tree.specs.Programs.{ProgramTree}
 use Rattle.promise_spec.specs.Programs.{Program}
-use Rattle.promise_spec.specs.Records.{Commit, standing_of}
+use Rattle.promise_spec.specs.Entries.{Log, standing_of}
 use Rattle.promise_spec.specs.Lines.{ReadsLineAs}
 use Rattle.promise_spec.specs.UnitRule.{Basis}
 use Rattle.turn_rules.specs.Quiet.{IsQuiet}
@@ -36,7 +36,7 @@ pub record Outset : Type 0 where
   pub live : ℕ
   pub program : Program
   pub asked : List (List ℕ)
-  pub opening : List Commit
+  pub opening : Log
   pub ruled : Bool
   pub width : ℕ
   pub picks : List ℕ
@@ -45,7 +45,7 @@ pub record Outset : Type 0 where
 
 -- what the unit rule is told
 abbrev pub basis_of : Outset → Basis
-basis_of o = record { types = o.program.types; lines = o.asked; opening = standing_of o.program.types o.opening }
+basis_of o = record { types = o.program.types; lines = o.asked; opening = standing_of o.opening }
 
 -- What the outset tells is that of a call: the core has the program's types, the width is 1 at least, and the lines that are asked
 -- are those so far and behind them these, each of which is what its text reads as.

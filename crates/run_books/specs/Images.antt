@@ -10,14 +10,15 @@ use Rattle.core_model.specs.Legal.{Run, ends}
 use Rattle.gate_block.specs.Log.{HasBlocks}
 use Rattle.promise_spec.specs.Programs.{shape_in}
 use Rattle.promise_spec.specs.Records.{Commit, AreRecordsOf}
-use Rattle.promise_spec.specs.Logs.{IsLog, body_of}
+use Rattle.promise_spec.specs.Entries.{Log, grown}
+use Rattle.promise_spec.specs.Logs.{StandsUpTo, IsLog}
 use Rattle.promise_spec.specs.Crashes.{IsAside}
 use Rattle.promise_spec.specs.Cores.{how_many}
 use Rattle.promise_spec.specs.Causes.{RunHasDoubt, is_unsealed}
 use Rattle.promise_spec.specs.Exits.{HasBlock, DifferAt}
 use Rattle.promise_spec.specs.Journals.{CutAt, Backs, commits_of}
 use Rattle.promise_laws.specs.Closings.{AllEnd}
-use Rattle.batch_disk.specs.Resting.{Voted, log_of, EachImage, SomeImage}
+use Rattle.batch_disk.specs.Resting.{Voted, EachImage, SomeImage}
 use Rattle.batch_disk.specs.Writers.{kept_of, KeepsDisk}
 use Rattle.batch_disk.specs.declared.writer.BatchWriter.{BatchWriter}
 use Rattle.settler_rules.specs.Voting.{IsOfVote}
@@ -29,15 +30,16 @@ pub record LeavesAside (live : ℕ) (head : List ℕ) (old : World) (m : Moment)
   pub aside : (file : FileId) → IsAside live file → m.disk file ≡ old.disk file
   pub header : EachImage (λ image. take 15 (image (Manager live)) ≡ head) m.disk
 
--- The block of a batch in doubt, whose records are those of its units to commit: the log is that of the batches before it, or has
--- it last. In each image those before it end at the gate, and its whole block stands behind that; images differ at most there.
-pub record HasOpenBlock (live : ℕ) (log : List Commit) (w : CoreState) (disk : Disk) : Type 0 where
+-- The block of a batch in doubt, whose records are those of its units to commit: the log is the one before it, or has it last. In
+-- each image the one before it stands up to the gate, and its whole block stands behind that; images differ at most there.
+pub record HasOpenBlock (live : ℕ) (log : Log) (w : CoreState) (disk : Disk) : Type 0 where
   pub gate : ℕ
   pub batch : List Commit
-  pub batches : List (List Commit)
+  pub before : Log
+  pub bodies : List (List ℕ)
   pub records : AreRecordsOf (chosen w) batch
-  pub log_is : (log ≡ log_of batches) ⊎ (log ≡ log_of batches ++ batch)
-  pub front : EachImage (λ image. HasBlocks (map body_of batches) gate (image (Manager live))) disk
+  pub log_is : (log ≡ before) ⊎ (log ≡ grown before batch)
+  pub front : EachImage (λ image. StandsUpTo live image before bodies gate) disk
   pub block : EachImage (HasBlock live gate batch) disk
   pub differ : (one other : Image) → IsImage disk one → IsImage disk other → DifferAt gate (one (Manager live)) (other (Manager live))
 
@@ -48,15 +50,16 @@ EndsAsBegun o gate file = (bytes : List ℕ) → MayLeave file bytes → drop (g
 -- The writer keeps the folder's log, which is the opening's and the books', and the versions that it keeps are those of the
 -- core's votes. Where no batch failed to be sealed, nothing was left behind the log.
 pub record KeepsFolder (o : Outset) (head : List ℕ) (b : Books) (r : Run) (writer : BatchWriter) (disk : Disk) : Type 0 where
-  pub batches : List (List Commit)
-  pub log : log_of batches ≡ o.opening ++ commits_of (b.said ++ b.unsaid)
-  pub keeps : KeepsDisk o.live (shape_in o.program) head batches writer disk
+  pub stood : Log
+  pub bodies : List (List ℕ)
+  pub log : stood ≡ grown o.opening (commits_of (b.said ++ b.unsaid))
+  pub keeps : KeepsDisk o.live (shape_in o.program) head stood bodies writer disk
   pub votes : (v : Voted) → Member v (kept_of writer) → IsOfVote (ends r) writer.batch v.unit v.write.grain v.state
   pub behind : how_many is_unsealed r ≡ 0 → EndsAsBegun o writer.gate_at (disk (Manager o.live))
 
 -- an image has the batch in doubt, where one may have it
 abbrev pub SomeHas : Outset → Books → Disk → Type 0
-SomeHas o b disk = b.doubted ≢ [] → SomeImage (λ image. IsLog o.live (shape_in o.program) image (o.opening ++ commits_of (booked_journal b))) disk
+SomeHas o b disk = b.doubted ≢ [] → SomeImage (λ image. IsLog o.live image (grown o.opening (commits_of (booked_journal b)))) disk
 
 -- The journal since the world behind the opening; whole batches, and other files and the header as they were, at each moment and
 -- now; what entries acknowledge stands beside them or before them; the block of a batch in doubt; and, while none is, what the
@@ -64,10 +67,10 @@ SomeHas o b disk = b.doubted ≢ [] → SomeImage (λ image. IsLog o.live (shape
 pub record LastsSo (o : Outset) (head : List ℕ) (b : Books) (r : Run) (writer : BatchWriter) (now : World) : Type 0 where
   pub journal : CutAt o.live o.program o.opening o.world b.said b.unsaid b.doubted b.rest now
   pub backs : Backs (booked_journal b) (commits_of (booked_journal b))
-  pub batches : Passes (AllEnd o.live o.program (ends r) o.opening) o.world.past now.past
-  pub batches_now : AllEnd o.live o.program (ends r) o.opening (moment_of now)
+  pub batches : Passes (AllEnd o.live (ends r) o.opening) o.world.past now.past
+  pub batches_now : AllEnd o.live (ends r) o.opening (moment_of now)
   pub alone : Passes (LeavesAside o.live head o.world) o.world.past now.past
   pub alone_now : LeavesAside o.live head o.world (moment_of now)
   pub some : SomeHas o b now.disk
-  pub block : RunHasDoubt r → HasOpenBlock o.live (o.opening ++ commits_of (booked_journal b)) (ends r) now.disk
+  pub block : RunHasDoubt r → HasOpenBlock o.live (grown o.opening (commits_of (booked_journal b))) (ends r) now.disk
   pub folder : writer.in_doubt ≡ false → KeepsFolder o head b r writer now.disk

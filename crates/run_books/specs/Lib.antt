@@ -1,4 +1,5 @@
 pub mod Beginnings
+pub mod Stages
 pub mod Books
 pub mod Images
 pub mod Records

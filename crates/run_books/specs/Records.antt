@@ -16,12 +16,12 @@ use Rattle.promise_spec.specs.UnitRule.{KeepsUnitRule}
 use Rattle.promise_spec.specs.Causes.{AreFaults, RunHasDoubt, NoneRose, is_vote, is_vote_of, is_sealed, is_unsealed}
 use Rattle.promise_spec.specs.Journals.{entries_of}
 use Rattle.turn_rules.specs.Quiet.{HasRun}
-use Rattle.settle_loop.specs.declared.settler.Settler.{Settler}
 use Rattle.run_books.specs.declared.faults.RunFault.{RunFault}
 use Rattle.run_books.specs.declared.faults.RunFault.TheVariants.{InDoubt, WriteFault, Memory}
 use Rattle.run_books.specs.Beginnings.{Outset, basis_of}
 use Rattle.run_books.specs.Books.{Books, AreBooked, IsPutOut, IsCutOff}
 use Rattle.run_books.specs.Images.{LastsSo}
+use Rattle.run_books.specs.Stages.{Stage}
 
 -- the file is as it was, at each moment and now
 pub record KeepsFile (file : FileId) (old now : World) : Type 0 where
@@ -43,33 +43,33 @@ pub record ShowsOutside (o : Outset) (b : Books) (r : Run) (faults : Channel →
 
 -- No more faults show in the events than were counted, and no count fell. The books are those of the core's last state. The
 -- settler is in the run's slot, and knows of a doubt, as its writer does, and how many entries are written.
-pub record KeepsBooks (tells : Bool) (o : Outset) (b : Books) (r : Run) (settler : Settler) (counts : Channel → ℕ) (now : World) : Type 0 where
-  pub faults : AreFaults o.live r o.faults counts
-  pub later : (c : Channel) → o.faults c ≤ counts c
-  pub booked : AreBooked b (ends r)
-  pub said : IsPutOut settler.quiet b (ends r)
-  pub cut : IsCutOff (shape_in o.program) b (ends r)
-  pub slot : settler.writer.slot ≡ o.live
-  pub doubt : settler.doubted ≡ is_some (ends r).manager.doubt
-  pub unsure : settler.writer.in_doubt ≡ settler.doubted
-  pub written : settler.written ≡ (ends r).manager.emitted
-  pub outside : IsTrue tells → ShowsOutside o b r counts now
+pub record KeepsBooks (tells : Bool) (o : Outset) (b : Books) (s : Stage) : Type 0 where
+  pub faults : AreFaults o.live s.run o.faults s.faults
+  pub later : (c : Channel) → o.faults c ≤ s.faults c
+  pub booked : AreBooked b (ends s.run)
+  pub said : IsPutOut s.settler.quiet b (ends s.run)
+  pub cut : IsCutOff (shape_in o.program) b (ends s.run)
+  pub slot : s.settler.writer.slot ≡ o.live
+  pub doubt : s.settler.doubted ≡ is_some (ends s.run).manager.doubt
+  pub unsure : s.settler.writer.in_doubt ≡ s.settler.doubted
+  pub written : s.settler.written ≡ (ends s.run).manager.emitted
+  pub outside : IsTrue tells → ShowsOutside o b s.run s.faults s.world
 
 -- Units are numbered from 1 or later. The events keep the unit rule, and the books are kept.
-pub record KeepsRecord (tells : Bool) (o : Outset) (b : Books) (r : Run) (settler : Settler) (counts : Channel → ℕ) (now : World) : Type 0 where
-  pub above : 0 < r.base
-  pub units : KeepsUnitRule (basis_of o) r
-  pub books : KeepsBooks tells o b r settler counts now
+pub record KeepsRecord (tells : Bool) (o : Outset) (b : Books) (s : Stage) : Type 0 where
+  pub above : 0 < s.run.base
+  pub units : KeepsUnitRule (basis_of o) s.run
+  pub books : KeepsBooks tells o b s
 
 -- All is settled and written, each line has its entry, nothing is or was in doubt, no stop stands, and nobody can move: no unit runs or
 -- has a lock, and the settler has nothing to do.
-pub record HasCarriedAll (o : Outset) (r : Run) (settler : Settler) : Type 0 where
-  pub run : HasRun (length o.asked) (ends r)
-  pub none : (ends r).manager.doubt ≡ None
-  pub never : RunHasDoubt r → ⊥
-  pub unstopped : (ends r).units.halt ≡ false
-  pub rests : settler_step (ends r) ≡ Rests
-  pub written : settler.written ≡ (ends r).units.lines
+pub record HasCarriedAll (o : Outset) (s : Stage) : Type 0 where
+  pub run : HasRun (length o.asked) (ends s.run)
+  pub none : (ends s.run).manager.doubt ≡ None
+  pub never : RunHasDoubt s.run → ⊥
+  pub unstopped : (ends s.run).units.halt ≡ false
+  pub rests : settler_step (ends s.run) ≡ Rests
+  pub written : s.settler.written ≡ (ends s.run).units.lines
 
 -- A batch is in doubt, all that is settled is written, and the manager file's count of faults rose.
 pub record HasDoubted (o : Outset) (r : Run) (faults : Channel → ℕ) : Type 0 where
@@ -78,16 +78,17 @@ pub record HasDoubted (o : Outset) (r : Run) (faults : Channel → ℕ) : Type 0
   pub rose : Rose (o.faults (File (Manager o.live))) (faults (File (Manager o.live)))
 
 -- What the answer says. A line is cut off only where the output failed.
-abbrev pub TurnsEndAs : Outset → Books → Run → Settler → (Channel → ℕ) → {T : Type 0} → Result T RunFault → Type 0
-TurnsEndAs o b r settler faults (Ok done) = HasCarriedAll o r settler × (b.rest ≡ [])
-TurnsEndAs o b r settler faults (Err InDoubt) = HasDoubted o r faults × (b.rest ≡ [])
-TurnsEndAs o b r settler faults (Err WriteFault) = Rose (o.faults Output) (faults Output)
-TurnsEndAs o b r settler faults (Err Memory) = b.rest ≡ []
+abbrev pub TurnsEndAs : Outset → Books → Stage → {T : Type 0} → Result T RunFault → Type 0
+TurnsEndAs o b s (Ok done) = HasCarriedAll o s × (b.rest ≡ [])
+TurnsEndAs o b s (Err InDoubt) = HasDoubted o s.run s.faults × (b.rest ≡ [])
+TurnsEndAs o b s (Err WriteFault) = Rose (o.faults Output) (s.faults Output)
+TurnsEndAs o b s (Err Memory) = b.rest ≡ []
 
 -- The record that held where the run began holds again with more in its books, and so does what the images keep, if they
 -- kept it; and the answer says how it ended.
-pub record RecordGoesOn {T : Type 0} (tells : Bool) (o : Outset) (b : Books) (r r' : Run) (settler settler' : Settler) (faults' : Channel → ℕ) (now now' : World) (result : Result T RunFault) : Type 0 where
+pub record RecordGoesOn {T : Type 0} (tells : Bool) (o : Outset) (b : Books) (before after : Stage) (result : Result T RunFault) : Type 0 where
   pub books : Books
-  pub record_kept : KeepsRecord tells o books r' settler' faults' now'
-  pub lasts : IsTrue tells → (head : List ℕ) → LastsSo o head b r settler.writer now → LastsSo o head books r' settler'.writer now'
-  pub ended : TurnsEndAs o books r' settler' faults' result
+  pub record_kept : KeepsRecord tells o books after
+  pub lasts : IsTrue tells → (head : List ℕ) → LastsSo o head b before.run before.settler.writer before.world
+      → LastsSo o head books after.run after.settler.writer after.world
+  pub ended : TurnsEndAs o books after result

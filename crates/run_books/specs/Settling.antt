@@ -2,10 +2,8 @@
 use Rattle.std.specs.Prelude.{◌≡◌, ◌≤◌, ◌<◌, ◌-◌, ◌^◌, ℕ, Bool, true, false, IsTrue, List, [], length, take, Result, Ok, Err, ⊤}
 use Rattle.std.specs.List.{AllByRecursion}
 use Rattle.base_types.specs.declared.shapes.Shape.{Shape}
-use Rattle.host_trait.specs.declared.channels.Channel.{Channel}
 use Rattle.host_trait.specs.declared.channels.Channel.TheVariants.{Output}
 use Rattle.host_trait.specs.Faults.{Rose}
-use Rattle.host_trait.specs.World.{World}
 use Rattle.core_model.specs.CoreState.{CoreState}
 use Rattle.core_model.specs.Legal.{Run, ends}
 use Rattle.core_model.specs.Settler.{settler_step, Rests}
@@ -13,7 +11,6 @@ use Rattle.script_check.specs.Accepted.{IsAcceptedProgram}
 use Rattle.promise_spec.specs.Programs.{shape_in}
 use Rattle.promise_spec.specs.UnitRule.{KeepsUnitRule}
 use Rattle.promise_spec.specs.Journals.{entries_of}
-use Rattle.settle_loop.specs.declared.settler.Settler.{Settler}
 use Rattle.settle_loop.specs.declared.settler.Turned.{Turned}
 use Rattle.settle_loop.specs.declared.settler.Turned.TheVariants.{Stepped, Nothing, Stop}
 use Rattle.settle_loop.specs.declared.settler.StopCause.TheVariants.{InDoubt, WriteFault}
@@ -21,6 +18,7 @@ use Rattle.run_books.specs.Beginnings.{Outset, basis_of}
 use Rattle.run_books.specs.Books.{Books}
 use Rattle.run_books.specs.Images.{LastsSo}
 use Rattle.run_books.specs.Records.{KeepsBooks, HasDoubted}
+use Rattle.run_books.specs.Stages.{Stage}
 
 -- what was put out is what the core was told of
 abbrev pub IsAsTold : Bool → Books → CoreState → Type 0
@@ -47,15 +45,16 @@ pub record CanSettle (o : Outset) (shape : Shape) (r : Run) : Type 0 where
   pub unstopped : (ends r).units.halt ≡ false
 
 -- what the answer of a step says of the run
-abbrev pub SaysOfStep : Outset → Books → Run → Settler → (Channel → ℕ) → {E : Type 0} → Result Turned E → Type 0
-SaysOfStep o b r settler faults (Ok Stepped) = AreEven settler.quiet b (ends r)
-SaysOfStep o b r settler faults (Ok Nothing) = AreEven settler.quiet b (ends r) × (settler_step (ends r) ≡ Rests)
-SaysOfStep o b r settler faults (Ok (Stop InDoubt)) = HasDoubted o r faults × (b.rest ≡ [])
-SaysOfStep o b r settler faults (Ok (Stop WriteFault)) = Rose (o.faults Output) (faults Output)
-SaysOfStep o b r settler faults (Err lack) = b.rest ≡ []
+abbrev pub SaysOfStep : Outset → Books → Stage → {E : Type 0} → Result Turned E → Type 0
+SaysOfStep o b s (Ok Stepped) = AreEven s.settler.quiet b (ends s.run)
+SaysOfStep o b s (Ok Nothing) = AreEven s.settler.quiet b (ends s.run) × (settler_step (ends s.run) ≡ Rests)
+SaysOfStep o b s (Ok (Stop InDoubt)) = HasDoubted o s.run s.faults × (b.rest ≡ [])
+SaysOfStep o b s (Ok (Stop WriteFault)) = Rose (o.faults Output) (s.faults Output)
+SaysOfStep o b s (Err lack) = b.rest ≡ []
 
 -- The books that were kept are kept again, with more in them, and so is what the images keep, if they kept it.
-pub record BooksGoOn (tells : Bool) (o : Outset) (b : Books) (r r' : Run) (settler settler' : Settler) (faults' : Channel → ℕ) (now now' : World) : Type 0 where
+pub record BooksGoOn (tells : Bool) (o : Outset) (b : Books) (before after : Stage) : Type 0 where
   pub books : Books
-  pub kept : KeepsBooks tells o books r' settler' faults' now'
-  pub lasts : IsTrue tells → (head : List ℕ) → LastsSo o head b r settler.writer now → LastsSo o head books r' settler'.writer now'
+  pub kept : KeepsBooks tells o books after
+  pub lasts : IsTrue tells → (head : List ℕ) → LastsSo o head b before.run before.settler.writer before.world
+      → LastsSo o head books after.run after.settler.writer after.world

@@ -18,6 +18,7 @@ use Rattle.settle_loop.specs.declared.settler.Settler.{Settler}
 use Rattle.settle_loop.specs.declared.settler.Turned.{Turned}
 use Rattle.run_books.specs.Beginnings.{Outset, basis_of}
 use Rattle.run_books.specs.Books.{Books}
+use Rattle.run_books.specs.Stages.{Stage, stage_by, stage_of}
 use Rattle.run_books.specs.Records.{KeepsBooks}
 use Rattle.run_books.specs.Settling.{AreEven, SaysOfStep, BooksGoOn}
 
@@ -49,20 +50,21 @@ pub record CanShare (o : Outset) (shape : Shape) (s : Sight) : Type 0 where
   pub counts : Counts s
 
 -- the books go on, and the answer says this of the run
-abbrev pub StepKeeps : {E : Type 0} → Bool → Outset → Books → Run → Run → Settler → Settler → (Channel → ℕ) → World → World → Result Turned E → Type 0
-StepKeeps tells o b r r' before after counts' now now' result = (g : BooksGoOn tells o b r r' before after counts' now now') × SaysOfStep o g.books r' after counts' result
+abbrev pub StepKeeps : {E : Type 0} → Bool → Outset → Books → Stage → Stage → Result Turned E → Type 0
+StepKeeps tells o b before after result = (g : BooksGoOn tells o b before after) × SaysOfStep o g.books after result
 
 -- Events that aren't the settler's keep the books, with settler, counts and world as they are.
 abbrev pub OthersKeepBooks : Type 0
 OthersKeepBooks = (tells : Bool) (o : Outset) (b : Books) (r : Run) (rest : List Told) (settler : Settler) (counts : Channel → ℕ) (now : World)
     → 0 < r.base → KeepsUnitRule (basis_of o) (run_after r rest) → AllPass leaves_settling rest
-    → AreEven settler.quiet b (ends r) → KeepsBooks tells o b r settler counts now
-    → (g : BooksGoOn tells o b r (run_after r rest) settler settler counts now now) × AreEven settler.quiet g.books (ends (run_after r rest))
+    → AreEven settler.quiet b (ends r) → KeepsBooks tells o b (stage_by r settler counts now)
+    → (g : BooksGoOn tells o b (stage_by r settler counts now) (stage_by (run_after r rest) settler counts now))
+    × AreEven settler.quiet g.books (ends (run_after r rest))
 
 -- A step of the settler of a shared core keeps the books, where the history will allow it and the run isn't stopped.
 abbrev pub SharedStepsKeep : (H E : Type 0) → Bool → (H → World) → (H → Channel → ℕ) → Type 0
 SharedStepsKeep H E tells world faults = (may : CoreEvent → Bool) (o : Outset) (b : Books) (shape : Shape) (s t : Sight) (before after : Settler) (old new : H) (result : Result Turned E)
     → CanShare o shape s → MayRely o t → (ends (run_seen t)).units.halt ≡ false
-    → AreEven before.quiet b (ends (run_seen s)) → KeepsBooks tells o b (run_seen s) before (faults old) (world old)
+    → AreEven before.quiet b (ends (run_seen s)) → KeepsBooks tells o b (stage_of world faults (run_seen s) before old)
     → TurnsAs tells world faults may shape before after s t old new result
-    → StepKeeps tells o b (run_seen s) (run_seen t) before after (faults new) (world old) (world new) result
+    → StepKeeps tells o b (stage_of world faults (run_seen s) before old) (stage_of world faults (run_seen t) after new) result

@@ -18,22 +18,26 @@ ghost use Rattle.run_books.specs.Books.{Books};
 ghost use Rattle.run_books.specs.Images.{LastsSo};
 ghost use Rattle.run_books.specs.Records.{KeepsFile, KeepsRecord, TurnsEndAs};
 ghost use Rattle.run_books.specs.Closing.{IsCourseOf, turns_ending};
+ghost use Rattle.run_books.specs.Stages.{stage_by};
 
 /// What the record of a run says, however it ended, is what a whole run has to show over any folder: that the core's events explain
 /// what it did, where those of one thread keep the turn rule; that a grain's file is written for a vote alone; that what it wrote is what is settled; and, where the images keep the
 /// books, what has to last.
 pub fn records_show<T>()
     ensures explains { (tells : Bool) (o : Outset) (b : Books) (r : Run) (settler : ASettler) (seen : Observed) (c : Course) (result : AResult T AFault)
-        → KeepsRecord tells o b r settler seen.faults_after seen.new → TurnsEndAs o b r settler seen.faults_after result → seen.ending ≡ turns_ending o.live result
+        → KeepsRecord tells o b (stage_by r settler seen.faults_after seen.new)
+        → TurnsEndAs o b (stage_by r settler seen.faults_after seen.new) result → seen.ending ≡ turns_ending o.live result
         → (seen.manner.threaded ≡ false → KeepsTurnRule o.program.types (length o.asked) o.width o.picks r)
         → IsCourseOf o b r seen c → LeavesUnvoted c.live o.program seen c → ExplainsEvents o.program seen c }
-    ensures unvoted { (p : AProgram) (seen : Observed) (c : Course) (mid : World) → IsBehind p seen c mid
+    ensures unvoted { (p : AProgram) (seen : Observed) (c : Course) (mid : World) → IsBehind seen c mid
         → ((g : GrainId) → how_many (is_vote_of g) (core_run p c) ≡ 0 → KeepsFile (Grain c.live g) mid seen.new) → LeavesUnvoted c.live p seen c }
     ensures settled { (tells : Bool) (o : Outset) (b : Books) (r : Run) (settler : ASettler) (seen : Observed) (c : Course) (result : AResult T AFault)
-        → settler.quiet ≡ false → KeepsRecord tells o b r settler seen.faults_after seen.new → TurnsEndAs o b r settler seen.faults_after result
-        → seen.ending ≡ turns_ending o.live result → IsCourseOf o b r seen c → AreSettled o.program seen c }
+        → settler.quiet ≡ false → KeepsRecord tells o b (stage_by r settler seen.faults_after seen.new)
+        → TurnsEndAs o b (stage_by r settler seen.faults_after seen.new) result → seen.ending ≡ turns_ending o.live result
+        → IsCourseOf o b r seen c → AreSettled o.program seen c }
     ensures lasts { (tells : Bool) (o : Outset) (head : AList ℕ) (b : Books) (r : Run) (settler : ASettler) (seen : Observed) (c : Course)
-        → tells ≡ true → KeepsRecord tells o b r settler seen.faults_after seen.new → LastsSo o head b r settler.writer seen.new → IsCourseOf o b r seen c
-        → head ≡ take 15 (seen_at_entry seen (Manager c.live)) → IsBehind o.program seen c o.world → Opens o.program seen c → ReadsMayStay seen.new
+        → tells ≡ true → KeepsRecord tells o b (stage_by r settler seen.faults_after seen.new)
+        → LastsSo o head b r settler.writer seen.new → IsCourseOf o b r seen c
+        → head ≡ take 15 (seen_at_entry seen (Manager c.live)) → IsBehind seen c o.world → Opens seen c → ReadsMayStay seen.new
         → Lasts o.program seen c }
 {}

@@ -25,7 +25,8 @@ use Rattle.core_model.specs.declared.events.CoreEvent.{CoreEvent}
 use Rattle.core_model.specs.declared.events.CoreEvent.TheVariants.{Vote, Sealed, NotSealed, Doubt, Emitted}
 use Rattle.core_model.specs.Settler.{versions_to_write, to_commit}
 use Rattle.promise_spec.specs.Records.{Commit}
-use Rattle.batch_disk.specs.Resting.{log_of, NotAmong, AreOfType, voted_from}
+use Rattle.promise_spec.specs.Entries.{Log}
+use Rattle.batch_disk.specs.Resting.{NotAmong, AreOfType, voted_from}
 use Rattle.batch_disk.specs.Moments.{KeepsLog}
 use Rattle.batch_disk.specs.Writers.{file_end, voted_of, KeepsDisk, HasSameEnds}
 use Rattle.batch_disk.specs.Records.{commits_by, AreRecordsFor, IsSealable, MayBeLogged, IsAsWritten}
@@ -52,10 +53,10 @@ pub record IsOnDisk (live : ℕ) (g : GrainId) (at : ℕ) (versions : List Versi
 
 -- What the images keep while a grain's versions are written, and after it: the log that they had, and the places.
 pub record KeepsImages (live n : ℕ) (g : GrainId) (versions : List Version) (before after : BatchWriter) (old new : World) : Type 0 where
-  pub still : (shape : Shape) (head : List ℕ) (batches : List (List Commit)) → NotAmong g (voted_of n before)
-      → KeepsDisk live shape head batches before old.disk → Passes (KeepsLog live shape head (log_of batches) old) old.past new.past
-  pub keeps : (shape : Shape) (head : List ℕ) (batches : List (List Commit)) → NotAmong g (voted_of n before)
-      → AreOfType shape g versions → KeepsDisk live shape head batches before old.disk → KeepsDisk live shape head batches after new.disk
+  pub still : (shape : Shape) (head : List ℕ) (log : Log) (bodies : List (List ℕ)) → NotAmong g (voted_of n before)
+      → KeepsDisk live shape head log bodies before old.disk → Passes (KeepsLog live head log old) old.past new.past
+  pub keeps : (shape : Shape) (head : List ℕ) (log : Log) (bodies : List (List ℕ)) → NotAmong g (voted_of n before)
+      → AreOfType shape g versions → KeepsDisk live shape head log bodies before old.disk → KeepsDisk live shape head log bodies after new.disk
 
 module _ {H : Type 0} (tells : Bool) (world : H → World) (faults : H → Channel → ℕ) where
   -- no host call was made, and nothing that is kept of the disk changed
@@ -92,10 +93,10 @@ module _ {H : Type 0} (tells : Bool) (world : H → World) (faults : H → Chann
     pub sealable : IsSealable before work
     pub run : IsTrue tells → RunsOnFile (Manager live) (Tears before.gate_at (length work.block + 1)) 2 (world old) (world new)
     pub twice : IsTrue tells → (next : ℕ) → answer ≡ sealing.Sealed next → (world new).syncs ≡ (world old).syncs + 2
-    pub seals : IsTrue tells → (shape : Shape) (head : List ℕ) (batches : List (List Commit))
+    pub seals : IsTrue tells → (shape : Shape) (head : List ℕ) (log : Log) (bodies : List (List ℕ))
         → AllByRecursion (MayBeLogged shape) effects → AllByRecursion (IsAsWritten (voted_of n before)) effects
-        → KeepsDisk live shape head batches before (world old).disk
-        → SealsAs live shape head batches effects work.records answer before after (world old) (world new)
+        → KeepsDisk live shape head log bodies before (world old).disk
+        → SealsAs live shape head log bodies effects work.records answer before after (world old) (world new)
     pub slot : after.slot ≡ before.slot
     pub after_is : WriterAfter answer work.records before after
     pub cause : SealHasCause live answer before.gate_at (length work.block) (faults old) (faults new)

@@ -16,7 +16,9 @@ use Rattle.promise_spec.specs.Programs.{Program, shape_in}
 use Rattle.promise_spec.specs.Records.{Commit, AreRecordsOf}
 use Rattle.promise_spec.specs.Journals.{Settlement, Seals, Doubts}
 use Rattle.promise_spec.specs.Logs.{IsLog}
-use Rattle.batch_disk.specs.Resting.{log_of, NotAmong, AreOfType, SomeImage}
+use Rattle.promise_spec.specs.Entries.{Log, grown}
+use Rattle.promise_spec.specs.Blocks.{Records, body_of}
+use Rattle.batch_disk.specs.Resting.{NotAmong, AreOfType, SomeImage}
 use Rattle.batch_disk.specs.Moments.{LeavesRest}
 use Rattle.batch_disk.specs.Writers.{voted_of, KeepsDisk}
 use Rattle.batch_disk.specs.Records.{MayBeLogged, IsAsWritten}
@@ -34,30 +36,30 @@ pub record IsFair (shape : Shape) (writer : BatchWriter) (w : CoreState) : Type 
 abbrev pub as_settled : List Commit → Settlement
 as_settled batch = record { commits = batch; entries = [] }
 
-module _ (live : ℕ) (p : Program) (head : List ℕ) (batches : List (List Commit)) (before after : BatchWriter) (old new : World) where
+module _ (live : ℕ) (p : Program) (head : List ℕ) (log : Log) (bodies : List (List ℕ)) (before after : BatchWriter) (old new : World) where
   -- Nothing is put out and no log changes, at no moment, and the writer keeps the disk.
   pub record LeavesLogs : Type 0 where
-    pub seals : Seals live p (log_of batches) [] old new
+    pub seals : Seals live log [] old new
     pub rest : Passes (LeavesRest live head old) old.past new.past
     pub rest_now : LeavesRest live head old (moment_of new)
-    pub disk : KeepsDisk live (shape_in p) head batches after new.disk
+    pub disk : KeepsDisk live (shape_in p) head log bodies after new.disk
 
   -- The batch of these units is sealed: each image has it behind the logs of before.
   pub record SealsBatch (effects : List Effect) (batch : List Commit) : Type 0 where
     pub records : AreRecordsOf effects batch
-    pub seals : Seals live p (log_of batches) (as_settled batch ∷ []) old new
+    pub seals : Seals live log (as_settled batch ∷ []) old new
     pub rest : Passes (LeavesRest live head old) old.past new.past
     pub rest_now : LeavesRest live head old (moment_of new)
-    pub disk : KeepsDisk live (shape_in p) head (batches ++ batch ∷ []) after new.disk
+    pub disk : KeepsDisk live (shape_in p) head (grown log batch) (bodies ++ body_of (Records batch) ∷ []) after new.disk
 
   -- It is in doubt. Where no crash may leave its gate open no image has it; else some has it.
   pub record DoubtsBatch (gate : ℕ) (effects : List Effect) (batch : List Commit) : Type 0 where
     pub records : AreRecordsOf effects batch
-    pub journal : ((may_open gate (new.disk (Manager live)) ≡ false) × Seals live p (log_of batches) [] old new)
+    pub journal : ((may_open gate (new.disk (Manager live)) ≡ false) × Seals live log [] old new)
         ⊎ ((may_open gate (new.disk (Manager live)) ≡ true)
-        × (Doubts live p (log_of batches) (as_settled batch) old new × SomeImage (λ image. IsLog live (shape_in p) image (log_of batches ++ batch)) new.disk))
+        × (Doubts live log (as_settled batch) old new × SomeImage (λ image. IsLog live image (grown log batch)) new.disk))
     pub rest : Passes (LeavesRest live head old) old.past new.past
-    pub doubt : IsSealInDoubt live (shape_in p) head batches batch gate old new
+    pub doubt : IsSealInDoubt live head log bodies batch gate old new
 
   -- by the event that was made, and the batch whose records were made
   abbrev pub JournalsAs : CoreEvent → Bool → CoreState → List Commit → Type 0

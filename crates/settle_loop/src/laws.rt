@@ -9,6 +9,7 @@ ghost use Rattle.core_access.specs.Sights.{Sight, run_seen, Tells};
 ghost use Rattle.settle_loop.specs.Works.{has_applied};
 ghost use Rattle.promise_spec.specs.Programs.{Program, shape_in};
 ghost use Rattle.promise_spec.specs.Records.{Commit};
+ghost use Rattle.promise_spec.specs.Entries.{Log};
 ghost use Rattle.batch_disk.specs.Writers.{KeepsDisk};
 ghost use Rattle.settle_loop.specs.HostSteps.{batch_made};
 ghost use Rattle.settle_loop.specs.Turning.{state_shown, ActsNext};
@@ -22,10 +23,10 @@ use host_trait::Host;
 /// longer by its line; each other event leaves logs and output as they are, at each moment. The writer keeps the disk again,
 /// unless the batch is in doubt.
 pub fn steps_are_journaled<H: Host>()
-    ensures { (may : AnEvent → Bool) (p : Program) (head : List ℕ) (batches : List (List Commit)) (before after : ASettler) (s : Sight) (e : AnEvent) (old new : H)
+    ensures { (may : AnEvent → Bool) (p : Program) (head : List ℕ) (log : Log) (bodies : List (List ℕ)) (before after : ASettler) (s : Sight) (e : AnEvent) (old new : H)
         → IsTrue H.tells → (a : ActsNext H.tells H.world H.faults may (shape_in p) before after s e old new)
-        → IsFair (shape_in p) before.writer (state_shown a.seen) → KeepsDisk before.writer.slot (shape_in p) head batches before.writer (H.world old).disk
-        → JournalsAs before.writer.slot p head batches before.writer after.writer (H.world old) (H.world new) e before.quiet (state_shown a.seen)
+        → IsFair (shape_in p) before.writer (state_shown a.seen) → KeepsDisk before.writer.slot (shape_in p) head log bodies before.writer (H.world old).disk
+        → JournalsAs before.writer.slot p head log bodies before.writer after.writer (H.world old) (H.world new) e before.quiet (state_shown a.seen)
         (batch_made H.tells H.world H.faults before.writer.slot e before.quiet (shape_in p) (state_shown a.seen) before.writer after.writer old new a.does) }
 {}
 

@@ -32,6 +32,7 @@ use Rattle.run_books.specs.Settling.{AreEven}
 use Rattle.run_books.specs.Sharing.{MayRely}
 use Rattle.run_books.proofs.Relying.{run-sees}
 use Rattle.shared_settling.specs.Among.{SettlesAmong, CanSettleAmong, CanSettleRest, SettledAmong}
+use Rattle.run_books.specs.Stages.{stage_by, side_by}
 
 -- ---- the settler's events
 
@@ -147,12 +148,12 @@ module _ (r r' : Run) (among : SettlesAmong (own_sight r) (own_sight r')) where
 
 module _ (tells : Bool) (o : Outset) (b : Books) (shape : Shape) (r : Run) (settler : Settler) (counts : Channel → ℕ) (now : World) (can : CanSettleRest o shape r) where
   -- what is known where it begins
-  pub can-alone : AreEven settler.quiet b (ends r) → KeepsBooks tells o b r settler counts now → CanSettleAmong tells o b shape (own_sight r) settler counts now
+  pub can-alone : AreEven settler.quiet b (ends r) → KeepsBooks tells o b (stage_by r settler counts now) → CanSettleAmong tells o b shape (own_sight r) (side_by settler counts now)
   can-alone even k = record {
     share = record { above = can.above; kinds = can.kinds; shape_is = can.shape_is; accepted = can.accepted; counts = own-counts r };
     going = ap (λ (x : Run). (ends x).units.halt) (own-run r) ∙ can.going;
     even = subst (λ (x : Run). AreEven settler.quiet b (ends x)) (sym (own-run r)) even;
-    books = subst (λ (x : Run). KeepsBooks tells o b x settler counts now) (sym (own-run r)) k;
+    books = subst (λ (x : Run). KeepsBooks tells o b (stage_by x settler counts now)) (sym (own-run r)) k;
   }
 
 -- what may be relied on, behind steps of its own
@@ -166,14 +167,14 @@ rely-alone o shape r r' can among = let counts = alone-counts r r' among in reco
 
 module _ {T : Type 0} (tells : Bool) (r r' : Run) (settler settler' : Settler) (counts counts' : Channel → ℕ) (now now' : World) (answer : Result T RunFault) where
   -- the books of the core's run
-  pub settled-alone : (o : Outset) (b : Books) → SettledAmong {T = T} tells o b (run_seen (own_sight r)) (run_seen (own_sight r')) settler settler' counts' now now' answer
-      → SettledAmong {T = T} tells o b r r' settler settler' counts' now now' answer
+  pub settled-alone : (o : Outset) (b : Books) → SettledAmong {T = T} tells o b (stage_by (run_seen (own_sight r)) settler counts now) (stage_by (run_seen (own_sight r')) settler' counts' now') answer
+      → SettledAmong {T = T} tells o b (stage_by r settler counts now) (stage_by r' settler' counts' now') answer
   settled-alone o b g =
-      subst (λ (x : Run). SettledAmong {T = T} tells o b x r' settler settler' counts' now now' answer) (own-run r)
-      (subst (λ (x : Run). SettledAmong {T = T} tells o b (run_seen (own_sight r)) x settler settler' counts' now now' answer) (own-run r') g)
+      subst (λ (x : Run). SettledAmong {T = T} tells o b (stage_by x settler counts now) (stage_by r' settler' counts' now') answer) (own-run r)
+      (subst (λ (x : Run). SettledAmong {T = T} tells o b (stage_by (run_seen (own_sight r)) settler counts now) (stage_by x settler' counts' now') answer) (own-run r') g)
 
-  pub beside-alone : TurnsBeside {T = T} tells (run_seen (own_sight r)) (run_seen (own_sight r')) settler settler' counts counts' now now' answer
-      → TurnsBeside {T = T} tells r r' settler settler' counts counts' now now' answer
+  pub beside-alone : TurnsBeside {T = T} tells (stage_by (run_seen (own_sight r)) settler counts now) (stage_by (run_seen (own_sight r')) settler' counts' now') answer
+      → TurnsBeside {T = T} tells (stage_by r settler counts now) (stage_by r' settler' counts' now') answer
   beside-alone g =
-      subst (λ (x : Run). TurnsBeside {T = T} tells x r' settler settler' counts counts' now now' answer) (own-run r)
-      (subst (λ (x : Run). TurnsBeside {T = T} tells (run_seen (own_sight r)) x settler settler' counts counts' now now' answer) (own-run r') g)
+      subst (λ (x : Run). TurnsBeside {T = T} tells (stage_by x settler counts now) (stage_by r' settler' counts' now') answer) (own-run r)
+      (subst (λ (x : Run). TurnsBeside {T = T} tells (stage_by (run_seen (own_sight r)) settler counts now) (stage_by x settler' counts' now') answer) (own-run r') g)

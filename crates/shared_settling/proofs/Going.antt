@@ -15,22 +15,20 @@ use Rattle.worker_rules.proofs.Promising.{looks-promise}
 use Rattle.settle_loop.specs.declared.settler.Settler.{Settler}
 use Rattle.run_books.specs.declared.faults.RunFault.{RunFault}
 use Rattle.run_books.specs.declared.faults.RunFault.TheVariants.{InDoubt, WriteFault, Memory}
-use Rattle.run_books.specs.Beginnings.{Outset}
 use Rattle.run_books.specs.Beside.{TurnsBeside}
-use Rattle.run_books.specs.Books.{Books}
-use Rattle.run_books.specs.Sharing.{SeesOn, MayRely}
+use Rattle.run_books.specs.Sharing.{SeesOn}
 use Rattle.run_books.proofs.Relying.{sees-look, sees-tell, sees-both, counts-on, relies-before}
-use Rattle.shared_settling.specs.Among.{SettlesAmong, StopsAmong, EndsAmong, MayStop, EndsOthers, KnowsTruly, LeavesStopped, CanSettleAmong, SettledAmong}
+use Rattle.shared_settling.specs.Among.{SettlesAmong, StopsAmong, EndsAmong, MayStop, EndsOthers, KnowsTruly, LeavesStopped, SettledAmong, BooksSettle}
 use Rattle.shared_settling.proofs.Keeping.{can-again, settled-on, settled-fault}
 use Rattle.run_books.proofs.Leaving.{one-after-another, beside-fault}
 use Rattle.shared_settling.proofs.OthersStill.{looked-on, stopped-on}
 use Rattle.shared_settling.proofs.Passing.{among-both, among-look, stop-promise}
 use Rattle.shared_settling.proofs.StepsBeside.{fault-leaves}
+use Rattle.run_books.specs.Stages.{stage_by, side_by}
 
--- the books of what was seen by now go on to those of what is seen then, once it is known what others did
+-- the books of what was seen by now go on to those of what is seen then, by the parts of what stands beside them
 abbrev pub Booked : (T : Type 0) → Bool → Shape → Sight → Sight → Settler → Settler → (Channel → ℕ) → (Channel → ℕ) → World → World → Result T RunFault → Type 0
-Booked T tells shape s t x y f g w v answer = (o : Outset) (b : Books) → CanSettleAmong tells o b shape s x f w → MayRely o t
-    → SettledAmong {T = T} tells o b (run_seen s) (run_seen t) x y g w v answer
+Booked T tells shape s t x y f g w v answer = BooksSettle {T = T} tells shape s t (side_by x f w) (side_by y g v) answer
 
 -- ---- one after another
 
@@ -42,15 +40,15 @@ module _ (tells : Bool) (shape : Shape) (s0 s1 s2 : Sight) (x0 x1 x2 : Settler) 
       let counts : Counts s1 = counts-on s0 s1 one.on can.share.counts in
       let g = books o b can (relies-before s1 s2 other.on o counts rely) in
       let k = more o g.goes.books (can-again tells o b shape s0 s1 x0 x1 f0 f1 w0 w1 true one can g) rely in
-      settled-on tells o b (run_seen s0) (run_seen s1) (run_seen s2) x0 x1 x2 f1 f2 w0 w1 w2 {T = Bool} {U = Bool} true said g
-      (subst (λ (y : Result Bool RunFault). SettledAmong {T = Bool} tells o g.goes.books (run_seen s1) (run_seen s2) x1 x2 f2 w1 w2 y) is k)
+      settled-on tells o b (stage_by (run_seen s0) x0 f0 w0) (stage_by (run_seen s1) x1 f1 w1) (stage_by (run_seen s2) x2 f2 w2) {T = Bool} {U = Bool} true said g
+      (subst (λ (y : Result Bool RunFault). SettledAmong {T = Bool} tells o g.goes.books (stage_by (run_seen s1) x1 f1 w1) (stage_by (run_seen s2) x2 f2 w2) y) is k)
 
   -- and what is left beside them
-  pub beside-on : TurnsBeside {T = Bool} tells (run_seen s0) (run_seen s1) x0 x1 f0 f1 w0 w1 (Ok true) → (answer said : Result Bool RunFault) → answer ≡ said
-      → TurnsBeside {T = Bool} tells (run_seen s1) (run_seen s2) x1 x2 f1 f2 w1 w2 answer → TurnsBeside {T = Bool} tells (run_seen s0) (run_seen s2) x0 x2 f0 f2 w0 w2 said
+  pub beside-on : TurnsBeside {T = Bool} tells (stage_by (run_seen s0) x0 f0 w0) (stage_by (run_seen s1) x1 f1 w1) (Ok true) → (answer said : Result Bool RunFault) → answer ≡ said
+      → TurnsBeside {T = Bool} tells (stage_by (run_seen s1) x1 f1 w1) (stage_by (run_seen s2) x2 f2 w2) answer → TurnsBeside {T = Bool} tells (stage_by (run_seen s0) x0 f0 w0) (stage_by (run_seen s2) x2 f2 w2) said
   beside-on one answer said is other =
       one-after-another {T = Bool} {U = Bool} tells (run_seen s0) (run_seen s1) (run_seen s2) x0 x1 x2 f0 f1 f2 w0 w1 w2 true said one
-      (subst (TurnsBeside {T = Bool} tells (run_seen s1) (run_seen s2) x1 x2 f1 f2 w1 w2) is other)
+      (subst (TurnsBeside {T = Bool} tells (stage_by (run_seen s1) x1 f1 w1) (stage_by (run_seen s2) x2 f2 w2)) is other)
 
 -- ---- a stop
 
@@ -60,7 +58,7 @@ pub record LeavesFault (may : CoreEvent → Bool) (tells : Bool) (shape : Shape)
   pub own : EndsAmong may s u {T = Unit} (Err fault)
   pub promise : (b : Basis) → KeepsPromise b s → KeepsPromise b u
   pub books : Booked Unit tells shape s u x y f g w v (Err fault)
-  pub beside : TurnsBeside {T = Unit} tells (run_seen s) (run_seen u) x y f g w v (Err fault)
+  pub beside : TurnsBeside {T = Unit} tells (stage_by (run_seen s) x f w) (stage_by (run_seen u) y g v) (Err fault)
 
 module _ (may : CoreEvent → Bool) (tells : Bool) (shape : Shape) (s t u : Sight) (x y : Settler) (f g : Channel → ℕ) (w v : World) (fault : RunFault) (stop : MayStop may t u) (among : SettlesAmong s t) where
   stop-on : SeesOn t u
@@ -74,18 +72,18 @@ module _ (may : CoreEvent → Bool) (tells : Bool) (shape : Shape) (s t u : Sigh
       let counts : Counts t = counts-on s t among.on can.share.counts in
       let above : 0 < t.first.base = subst (λ (r : Run). 0 < r.base) (sym among.on.first) can.share.above in
       let was = books o b can (relies-before t u stop-on o counts rely) in
-      settled-fault tells o b (run_seen s) (run_seen u) x y g w v {T = Bool} {U = Unit} fault
+      settled-fault tells o b (stage_by (run_seen s) x f w) (stage_by (run_seen u) y g v) {T = Bool} {U = Unit} fault
       (⊎_elim
-      (λ l. looked-on {T = Bool} tells o b (run_seen s) may t u x y g w v fault above counts rely was l)
-      (λ l. stopped-on {T = Bool} tells o b (run_seen s) may t u x y g w v fault above counts rely was l.0 l.1)
+      (λ l. looked-on {T = Bool} tells o b (run_seen s) may t u x y f g w v fault above counts rely was l)
+      (λ l. stopped-on {T = Bool} tells o b (run_seen s) may t u x y f g w v fault above counts rely was l.0 l.1)
       stop)
 
-  stop-beside : TurnsBeside {T = Bool} tells (run_seen s) (run_seen t) x y f g w v (Err fault) → TurnsBeside {T = Unit} tells (run_seen s) (run_seen u) x y f g w v (Err fault)
+  stop-beside : TurnsBeside {T = Bool} tells (stage_by (run_seen s) x f w) (stage_by (run_seen t) y g v) (Err fault) → TurnsBeside {T = Unit} tells (stage_by (run_seen s) x f w) (stage_by (run_seen u) y g v) (Err fault)
   stop-beside beside = beside-fault tells (run_seen s) (run_seen u) x y f g w v {T = Bool} {U = Unit} fault (fault-leaves {T = Bool} tells (run_seen s) t u x y f g w v fault stop-on beside)
 
   -- a fault, and the stop behind it
   stop-leaves : EndsAmong may s u {T = Unit} (Err fault) → ((b : Basis) → KeepsPromise b s → KeepsPromise b t) → Booked Bool tells shape s t x y f g w v (Err fault)
-      → TurnsBeside {T = Bool} tells (run_seen s) (run_seen t) x y f g w v (Err fault) → LeavesFault may tells shape s u x y f g w v fault
+      → TurnsBeside {T = Bool} tells (stage_by (run_seen s) x f w) (stage_by (run_seen t) y g v) (Err fault) → LeavesFault may tells shape s u x y f g w v fault
   stop-leaves own promise books beside = record {
     sees = sees-both s t u among.on stop-on;
     own = own;
@@ -119,6 +117,6 @@ module _ (may : CoreEvent → Bool) (s t u : Sight) where
 -- so what a fault leaves
 module _ (may : CoreEvent → Bool) (tells : Bool) (shape : Shape) (s t u : Sight) (x y : Settler) (f g : Channel → ℕ) (w v : World) (fault : RunFault) (among : SettlesAmong s t) (ends : EndsOthers may fault t u) where
   pub fault-ends : ((b : Basis) → KeepsPromise b s → KeepsPromise b t) → Booked Bool tells shape s t x y f g w v (Err fault)
-      → TurnsBeside {T = Bool} tells (run_seen s) (run_seen t) x y f g w v (Err fault) → LeavesFault may tells shape s u x y f g w v fault
+      → TurnsBeside {T = Bool} tells (stage_by (run_seen s) x f w) (stage_by (run_seen t) y g v) (Err fault) → LeavesFault may tells shape s u x y f g w v fault
   fault-ends promise books beside =
       stop-leaves may tells shape s t u x y f g w v fault (may-stop may s t u fault ends) among (own-ends may s t u fault ends among) promise books beside

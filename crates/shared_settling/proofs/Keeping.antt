@@ -30,6 +30,7 @@ use Rattle.run_books.specs.Sharing.{MayRely, StepKeeps, SharedStepsKeep}
 use Rattle.run_books.proofs.Relying.{counts-on}
 use Rattle.shared_settling.specs.Among.{SettlesAmong, CanSettleAmong, SaysAmong, SettledAmong}
 use Rattle.shared_settling.proofs.Passing.{step-going}
+use Rattle.run_books.specs.Stages.{Stage, stage_by, stage_of, side_of, side_by}
 
 -- ---- a doubt that stands where nothing is left to do
 
@@ -63,18 +64,18 @@ rests-written w d rests = by w.manager.batch rests
 
 module _ {H E : Type 0} (tells : Bool) (world : H → World) (faults : H → Channel → ℕ) (keep : SharedStepsKeep H E tells world faults) (may : CoreEvent → Bool) (shape : Shape) (s t : Sight) (before after : Settler)
     (old new : H) (result : Result Turned E) (turns : TurnsAs tells world faults may shape before after s t old new result)
-    (o : Outset) (b : Books) (can : CanSettleAmong tells o b shape s before (faults old) (world old)) (rely : MayRely o t) where
+    (o : Outset) (b : Books) (can : CanSettleAmong tells o b shape s (side_of world faults before old)) (rely : MayRely o t) where
   going : (ends (run_seen t)).units.halt ≡ false
   going = step-going tells world faults may shape before after s t old new result turns can.share.counts can.going rely.alone
 
   abbrev Says : Result Turned E → Type 0
-  Says x = StepKeeps tells o b (run_seen s) (run_seen t) before after (faults new) (world old) (world new) x
+  Says x = StepKeeps tells o b (stage_of world faults (run_seen s) before old) (stage_of world faults (run_seen t) after new) x
 
   said : Says result
   said = keep may o b shape s t before after old new result can.share rely going can.even can.books turns
 
   abbrev Settled : {T : Type 0} → Result T RunFault → Type 0
-  Settled {T} answer = SettledAmong {T = T} tells o b (run_seen s) (run_seen t) before after (faults new) (world old) (world new) answer
+  Settled {T} answer = SettledAmong {T = T} tells o b (stage_of world faults (run_seen s) before old) (stage_of world faults (run_seen t) after new) answer
 
   pub on-stepped : {T : Type 0} → result ≡ Ok Stepped → (done : T) → Settled (Ok done)
   on-stepped q done = let k : Says (Ok Stepped) = subst Says q said in record { goes = k.0; says = (k.1, going) }
@@ -113,8 +114,8 @@ module _ {H E : Type 0} (tells : Bool) (world : H → World) (faults : H → Cha
 
 module _ (tells : Bool) (o : Outset) (b : Books) (shape : Shape) (s t : Sight) (settler settler' : Settler) (counts counts' : Channel → ℕ) (now now' : World) where
   -- what is known where one goes on again
-  pub can-again : {T : Type 0} (done : T) → SettlesAmong s t → CanSettleAmong tells o b shape s settler counts now
-      → (g : SettledAmong {T = T} tells o b (run_seen s) (run_seen t) settler settler' counts' now now' (Ok done)) → CanSettleAmong tells o g.goes.books shape t settler' counts' now'
+  pub can-again : {T : Type 0} (done : T) → SettlesAmong s t → CanSettleAmong tells o b shape s (side_by settler counts now)
+      → (g : SettledAmong {T = T} tells o b (stage_by (run_seen s) settler counts now) (stage_by (run_seen t) settler' counts' now') (Ok done)) → CanSettleAmong tells o g.goes.books shape t (side_by settler' counts' now')
   can-again done among can g = record {
     share = record {
       above = subst (λ (x : Run). 0 < x.base) (sym among.on.first) can.share.above;
@@ -129,32 +130,32 @@ module _ (tells : Bool) (o : Outset) (b : Books) (shape : Shape) (s t : Sight) (
   }
 
   -- nothing was done
-  pub settled-none : {T : Type 0} (done : T) → CanSettleAmong tells o b shape s settler counts now → SettledAmong {T = T} tells o b (run_seen s) (run_seen s) settler settler counts now now (Ok done)
+  pub settled-none : {T : Type 0} (done : T) → CanSettleAmong tells o b shape s (side_by settler counts now) → SettledAmong {T = T} tells o b (stage_by (run_seen s) settler counts now) (stage_by (run_seen s) settler counts now) (Ok done)
   settled-none done can = record { goes = record { books = b; kept = can.books; lasts = λ told head l. l }; says = (can.even, can.going) }
 
-module _ (tells : Bool) (o : Outset) (b : Books) (r r' r'' : Run) (one two three : Settler) (counts counts' : Channel → ℕ) (now now' now'' : World) where
+module _ (tells : Bool) (o : Outset) (b : Books) (x y z : Stage) where
   -- one after another
-  pub settled-on : {T U : Type 0} (done : T) (answer : Result U RunFault) (g : SettledAmong {T = T} tells o b r r' one two counts now now' (Ok done))
-      → SettledAmong {T = U} tells o g.goes.books r' r'' two three counts' now' now'' answer → SettledAmong {T = U} tells o b r r'' one three counts' now now'' answer
+  pub settled-on : {T U : Type 0} (done : T) (answer : Result U RunFault) (g : SettledAmong {T = T} tells o b x y (Ok done))
+      → SettledAmong {T = U} tells o g.goes.books y z answer → SettledAmong {T = U} tells o b x z answer
   settled-on done answer g k = record {
     goes = record { books = k.goes.books; kept = k.goes.kept; lasts = λ told head l. k.goes.lasts told head (g.goes.lasts told head l) };
     says = k.says;
   }
 
-module _ (tells : Bool) (o : Outset) (b : Books) (r r' : Run) (settler settler' : Settler) (counts' : Channel → ℕ) (now now' : World) where
+module _ (tells : Bool) (o : Outset) (b : Books) (x y : Stage) where
   -- another value is answered
-  pub settled-ok : {T U : Type 0} (one : T) (other : U) → SettledAmong {T = T} tells o b r r' settler settler' counts' now now' (Ok one) → SettledAmong {T = U} tells o b r r' settler settler' counts' now now' (Ok other)
+  pub settled-ok : {T U : Type 0} (one : T) (other : U) → SettledAmong {T = T} tells o b x y (Ok one) → SettledAmong {T = U} tells o b x y (Ok other)
   settled-ok one other g = record { goes = g.goes; says = g.says }
 
   -- a fault is the same for any value
-  pub settled-fault : {T U : Type 0} (f : RunFault) → SettledAmong {T = T} tells o b r r' settler settler' counts' now now' (Err f) → SettledAmong {T = U} tells o b r r' settler settler' counts' now now' (Err f)
+  pub settled-fault : {T U : Type 0} (f : RunFault) → SettledAmong {T = T} tells o b x y (Err f) → SettledAmong {T = U} tells o b x y (Err f)
   settled-fault {T} {U} f g = record { goes = g.goes; says = by f g.says }
     where
-      by : (x : RunFault) → SaysAmong o g.goes.books r' settler' counts' {T = T} (Err x) → SaysAmong o g.goes.books r' settler' counts' {T = U} (Err x)
+      by : (e : RunFault) → SaysAmong o g.goes.books y {T = T} (Err e) → SaysAmong o g.goes.books y {T = U} (Err e)
       by InDoubt e = e
       by WriteFault e = e
       by Memory e = e
 
   -- want of memory between two steps
-  pub settled-lack : {T U : Type 0} (one : T) → SettledAmong {T = T} tells o b r r' settler settler' counts' now now' (Ok one) → SettledAmong {T = U} tells o b r r' settler settler' counts' now now' (Err Memory)
+  pub settled-lack : {T U : Type 0} (one : T) → SettledAmong {T = T} tells o b x y (Ok one) → SettledAmong {T = U} tells o b x y (Err Memory)
   settled-lack one g = record { goes = g.goes; says = g.says.0.rest }

@@ -33,6 +33,7 @@ use Rattle.run_books.proofs.BooksCounts.{doubt-ends}
 use Rattle.run_books.proofs.BooksOthers.{others-still}
 use Rattle.run_books.proofs.Fronts.{after-units, after-base}
 use Rattle.shared_settling.specs.Among.{SaysAmong, SettledAmong}
+use Rattle.run_books.specs.Stages.{stage_by}
 
 -- ---- one event
 
@@ -51,7 +52,7 @@ doubted-next o r e counts other d =
 
 -- The books go on, and of a line as much is cut off.
 record GoesStill (tells : Bool) (o : Outset) (b : Books) (r r' : Run) (settler : Settler) (counts : Channel → ℕ) (now : World) : Type 0 where
-  goes : BooksGoOn tells o b r r' settler settler counts now now
+  goes : BooksGoOn tells o b (stage_by r settler counts now) (stage_by r' settler counts now)
   rest : goes.books.rest ≡ b.rest
 
 -- ---- entries
@@ -72,7 +73,7 @@ doubted-on o (x ∷ rest) r counts all d =
 
 -- and the books
 goes-still : (tells : Bool) (o : Outset) (rest : List Told) (b : Books) (r : Run) (settler : Settler) (counts : Channel → ℕ) (now : World) → 0 < r.base → KeepsUnitRule (basis_of o) (run_after r rest)
-    → AllPass leaves_settling rest → KeepsBooks tells o b r settler counts now → GoesStill tells o b r (run_after r rest) settler counts now
+    → AllPass leaves_settling rest → KeepsBooks tells o b (stage_by r settler counts now) → GoesStill tells o b r (run_after r rest) settler counts now
 goes-still tells o [] b r settler counts now above units all k = record { goes = record { books = b; kept = k; lasts = λ t head l. l }; rest = refl }
 goes-still tells o (x ∷ rest) b r settler counts now above units all k =
     let one = others-still tells o b r x.event settler counts now above (after-units r (x ∷ rest) (basis_of o) units) (after-units (extended r (x.event ∷ [])) rest (basis_of o) units)
@@ -84,9 +85,9 @@ goes-still tells o (x ∷ rest) b r settler counts now above units all k =
     }
 
 -- so what a fault says of them stays
-module _ (tells : Bool) (o : Outset) (b : Books) (r r' : Run) (rest : List Told) (settler settler' : Settler) (counts' : Channel → ℕ) (now now' : World) (above : 0 < r'.base) (units : KeepsUnitRule (basis_of o) (run_after r' rest))
+module _ (tells : Bool) (o : Outset) (b : Books) (r r' : Run) (rest : List Told) (settler settler' : Settler) (counts counts' : Channel → ℕ) (now now' : World) (above : 0 < r'.base) (units : KeepsUnitRule (basis_of o) (run_after r' rest))
     (all : AllPass leaves_settling rest) where
-  pub fault-on : {T : Type 0} (f : RunFault) → SettledAmong {T = T} tells o b r r' settler settler' counts' now now' (Err f) → SettledAmong {T = T} tells o b r (run_after r' rest) settler settler' counts' now now' (Err f)
+  pub fault-on : {T : Type 0} (f : RunFault) → SettledAmong {T = T} tells o b (stage_by r settler counts now) (stage_by r' settler' counts' now') (Err f) → SettledAmong {T = T} tells o b (stage_by r settler counts now) (stage_by (run_after r' rest) settler' counts' now') (Err f)
   fault-on {T} f g =
       let more = goes-still tells o rest g.goes.books r' settler' counts' now' above units all g.goes.kept in
       record {
@@ -94,8 +95,8 @@ module _ (tells : Bool) (o : Outset) (b : Books) (r r' : Run) (rest : List Told)
         says = by f more g.says;
       }
     where
-      by : (x : RunFault) (m : GoesStill tells o g.goes.books r' (run_after r' rest) settler' counts' now') → SaysAmong o g.goes.books r' settler' counts' {T = T} (Err x)
-          → SaysAmong o m.goes.books (run_after r' rest) settler' counts' {T = T} (Err x)
+      by : (x : RunFault) (m : GoesStill tells o g.goes.books r' (run_after r' rest) settler' counts' now') → SaysAmong o g.goes.books (stage_by r' settler' counts' now') {T = T} (Err x)
+          → SaysAmong o m.goes.books (stage_by (run_after r' rest) settler' counts' now') {T = T} (Err x)
       by InDoubt m e = (doubted-on o rest r' counts' all e.0, m.rest ∙ e.1)
       by WriteFault m e = e
       by Memory m e = m.rest ∙ e
@@ -110,23 +111,23 @@ work-leaves e q = by (is_settling e) refl
     by true s = absurd (true≢false (sym s ∙ work-settles e q))
     by false s = refl
 
-module _ {T : Type 0} (tells : Bool) (o : Outset) (b : Books) (r : Run) (may : CoreEvent → Bool) (t u : Sight) (settler settler' : Settler) (counts' : Channel → ℕ) (now now' : World) (f : RunFault)
-    (above : 0 < t.first.base) (counted : Counts t) (rely : MayRely o u) (g : SettledAmong {T = T} tells o b r (run_seen t) settler settler' counts' now now' (Err f)) where
+module _ {T : Type 0} (tells : Bool) (o : Outset) (b : Books) (r : Run) (may : CoreEvent → Bool) (t u : Sight) (settler settler' : Settler) (counts counts' : Channel → ℕ) (now now' : World) (f : RunFault)
+    (above : 0 < t.first.base) (counted : Counts t) (rely : MayRely o u) (g : SettledAmong {T = T} tells o b (stage_by r settler counts now) (stage_by (run_seen t) settler' counts' now') (Err f)) where
   -- behind these entries
-  behind : (rest : List Told) → run_seen u ≡ run_after (run_seen t) rest → AllPass leaves_settling rest → SettledAmong {T = T} tells o b r (run_seen u) settler settler' counts' now now' (Err f)
+  behind : (rest : List Told) → run_seen u ≡ run_after (run_seen t) rest → AllPass leaves_settling rest → SettledAmong {T = T} tells o b (stage_by r settler counts now) (stage_by (run_seen u) settler' counts' now') (Err f)
   behind rest is all =
-      subst (λ (x : Run). SettledAmong {T = T} tells o b r x settler settler' counts' now now' (Err f)) (sym is)
-      (fault-on tells o b r (run_seen t) rest settler settler' counts' now now' (subst (λ (n : ℕ). 0 < n) (sym (after-base t.seen t.first)) above)
+      subst (λ (x : Run). SettledAmong {T = T} tells o b (stage_by r settler counts now) (stage_by x settler' counts' now') (Err f)) (sym is)
+      (fault-on tells o b r (run_seen t) rest settler settler' counts counts' now now' (subst (λ (n : ℕ). 0 < n) (sym (after-base t.seen t.first)) above)
       (subst (KeepsUnitRule (basis_of o)) is rely.units) all f g)
 
   -- behind a look
-  pub looked-on : Looks may t u → SettledAmong {T = T} tells o b r (run_seen u) settler settler' counts' now now' (Err f)
+  pub looked-on : Looks may t u → SettledAmong {T = T} tells o b (stage_by r settler counts now) (stage_by (run_seen u) settler' counts' now') (Err f)
   looked-on l =
       let was = looks-before is_work may t u counted l rely.alone in
       behind l.rest (ap run_seen l.sight ∙ run-on t.seen l.rest t.first) (λ x i. work-leaves x.event (was.1 x i))
 
   -- and behind a stop
-  pub stopped-on : (y : CoreReply) → Tells may t Halt y u → SettledAmong {T = T} tells o b r (run_seen u) settler settler' counts' now now' (Err f)
+  pub stopped-on : (y : CoreReply) → Tells may t Halt y u → SettledAmong {T = T} tells o b (stage_by r settler counts now) (stage_by (run_seen u) settler' counts' now') (Err f)
   stopped-on y l =
       let was = tells-before is_work may t u counted Halt y l rely.alone in
       let last : Told = entry t.number Halt y in

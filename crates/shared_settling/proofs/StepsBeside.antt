@@ -18,6 +18,7 @@ use Rattle.run_books.proofs.Fronts.{events_told, after-is}
 use Rattle.run_books.proofs.Relying.{run-sees}
 use Rattle.run_books.proofs.Leaving.{IsAnswerTo, step-beside, failed-on}
 use Rattle.shared_settling.proofs.Passing.{step-among}
+use Rattle.run_books.specs.Stages.{stage_by, stage_of}
 
 -- the run goes on by the events of what was seen
 pub run-goes : (s t : Sight) (on : SeesOn s t) → run_seen t ≡ extended (run_seen s) (events_told on.rest)
@@ -26,7 +27,7 @@ run-goes s t on = run-sees s t on ∙ after-is on.rest (run_seen s)
 -- by a step
 pub step-leaves : {H E T : Type 0} (tells : Bool) (world : H → World) (faults : H → Channel → ℕ) (may : CoreEvent → Bool) (shape : Shape) (before after : Settler) (s t : Sight) (old new : H)
     (result : Result Turned E) → TurnsAs tells world faults may shape before after s t old new result → (x : Result Turned E) → result ≡ x → (answer : Result T RunFault) → IsAnswerTo answer x
-    → TurnsBeside {T = T} tells (run_seen s) (run_seen t) before after (faults old) (faults new) (world old) (world new) answer
+    → TurnsBeside {T = T} tells (stage_of world faults (run_seen s) before old) (stage_of world faults (run_seen t) after new) answer
 step-leaves tells world faults may shape before after s t old new result turns x same answer is =
     let on = (step-among tells world faults may shape before after s t old new result turns).on in
     step-beside tells world faults may shape s t (run_seen s) (run_seen t) (events_told on.rest) (run-goes s t on) before after old new answer x is
@@ -34,6 +35,6 @@ step-leaves tells world faults may shape before after s t old new result turns x
 
 -- where more was seen behind a fault
 pub fault-leaves : {T : Type 0} (tells : Bool) (r : Run) (s t : Sight) (settler settler' : Settler) (faults faults' : Channel → ℕ) (now now' : World) (f : RunFault) → SeesOn s t
-    → TurnsBeside {T = T} tells r (run_seen s) settler settler' faults faults' now now' (Err f) → TurnsBeside {T = T} tells r (run_seen t) settler settler' faults faults' now now' (Err f)
+    → TurnsBeside {T = T} tells (stage_by r settler faults now) (stage_by (run_seen s) settler' faults' now') (Err f) → TurnsBeside {T = T} tells (stage_by r settler faults now) (stage_by (run_seen t) settler' faults' now') (Err f)
 fault-leaves tells r s t settler settler' faults faults' now now' f on one =
     failed-on tells r (run_seen s) (run_seen t) settler settler' faults faults' now now' f (events_told on.rest) (run-goes s t on) one

@@ -1,10 +1,8 @@
 -- A settler over a core that others have too: what it puts itself, and what it keeps of a run's books.
-use Rattle.std.specs.Prelude.{◌≡◌, ◌⊎◌, ◌<◌, ◌≤◌, ◌^◌, ◌++◌, ℕ, Bool, true, false, List, [], length, Result, Ok, Err, is_some, ⊤}
+use Rattle.std.specs.Prelude.{◌≡◌, ◌⊎◌, ◌<◌, ◌≤◌, ◌^◌, ◌++◌, Bool, true, false, List, [], length, Result, Ok, Err, is_some, ⊤}
 use Rattle.base_types.specs.declared.shapes.Shape.{Shape}
-use Rattle.host_trait.specs.declared.channels.Channel.{Channel}
 use Rattle.host_trait.specs.declared.channels.Channel.TheVariants.{Output}
 use Rattle.host_trait.specs.Faults.{Rose}
-use Rattle.host_trait.specs.World.{World}
 use Rattle.core_model.specs.Asked.{IsGoing}
 use Rattle.core_model.specs.Legal.{Run, ends}
 use Rattle.core_model.specs.declared.events.CoreEvent.{CoreEvent}
@@ -15,15 +13,18 @@ use Rattle.core_access.specs.Settling.{is_settling}
 use Rattle.core_access.specs.Sights.{Sight, run_seen, AllPass, Looks, Tells}
 use Rattle.script_check.specs.Accepted.{IsAcceptedProgram}
 use Rattle.promise_spec.specs.Programs.{shape_in}
-use Rattle.promise_spec.specs.UnitRule.{KeepsUnitRule}
+use Rattle.promise_spec.specs.UnitRule.{Basis, KeepsUnitRule}
+use Rattle.worker_rules.specs.Sharing.{KeepsPromise}
 use Rattle.settle_loop.specs.declared.settler.Settler.{Settler}
 use Rattle.run_books.specs.declared.faults.RunFault.{RunFault}
 use Rattle.run_books.specs.declared.faults.RunFault.TheVariants.{InDoubt, WriteFault, Memory}
 use Rattle.run_books.specs.Beginnings.{Outset, basis_of}
+use Rattle.run_books.specs.Beside.{TurnsBeside}
 use Rattle.run_books.specs.Books.{Books}
 use Rattle.run_books.specs.Records.{KeepsBooks, HasDoubted}
 use Rattle.run_books.specs.Settling.{AreEven, BooksGoOn}
-use Rattle.run_books.specs.Sharing.{SeesOn, CanShare}
+use Rattle.run_books.specs.Sharing.{SeesOn, CanShare, MayRely}
+use Rattle.run_books.specs.Stages.{Side, Stage, stage_with}
 
 -- More was seen, and what was put oneself is of the settler's events.
 pub record SettlesAmong (s t : Sight) : Type 0 where
@@ -75,11 +76,11 @@ LeavesStopped before s t (Err WriteFault) = HasToStop (run_seen t)
 LeavesStopped before s t (Err Memory) = HasToStop (run_seen t)
 
 -- What is known where a settler begins among others: it may share the core, no stop stands, and the books are kept and even.
-pub record CanSettleAmong (tells : Bool) (o : Outset) (b : Books) (shape : Shape) (s : Sight) (settler : Settler) (counts : Channel → ℕ) (now : World) : Type 0 where
+pub record CanSettleAmong (tells : Bool) (o : Outset) (b : Books) (shape : Shape) (s : Sight) (beside : Side) : Type 0 where
   pub share : CanShare o shape s
   pub going : (ends (run_seen s)).units.halt ≡ false
-  pub even : AreEven settler.quiet b (ends (run_seen s))
-  pub books : KeepsBooks tells o b (run_seen s) settler counts now
+  pub even : AreEven beside.settler.quiet b (ends (run_seen s))
+  pub books : KeepsBooks tells o b (stage_with (run_seen s) beside)
 
 -- What is known where a settler begins over a core that it has alone.
 pub record CanSettleRest (o : Outset) (shape : Shape) (r : Run) : Type 0 where
@@ -93,13 +94,26 @@ pub record CanSettleRest (o : Outset) (shape : Shape) (r : Run) : Type 0 where
   pub going : (ends r).units.halt ≡ false
 
 -- what an answer says of the run that is known by now, and of its books
-abbrev pub SaysAmong : Outset → Books → Run → Settler → (Channel → ℕ) → {T : Type 0} → Result T RunFault → Type 0
-SaysAmong o b r settler counts (Ok done) = AreEven settler.quiet b (ends r) × ((ends r).units.halt ≡ false)
-SaysAmong o b r settler counts (Err InDoubt) = HasDoubted o r counts × (b.rest ≡ [])
-SaysAmong o b r settler counts (Err WriteFault) = Rose (o.faults Output) (counts Output)
-SaysAmong o b r settler counts (Err Memory) = b.rest ≡ []
+abbrev pub SaysAmong : Outset → Books → Stage → {T : Type 0} → Result T RunFault → Type 0
+SaysAmong o b s (Ok done) = AreEven s.settler.quiet b (ends s.run) × ((ends s.run).units.halt ≡ false)
+SaysAmong o b s (Err InDoubt) = HasDoubted o s.run s.faults × (b.rest ≡ [])
+SaysAmong o b s (Err WriteFault) = Rose (o.faults Output) (s.faults Output)
+SaysAmong o b s (Err Memory) = b.rest ≡ []
 
 -- The books go on from one run to a later one, and the answer says so.
-pub record SettledAmong {T : Type 0} (tells : Bool) (o : Outset) (b : Books) (r r' : Run) (settler settler' : Settler) (counts' : Channel → ℕ) (now now' : World) (result : Result T RunFault) : Type 0 where
-  pub goes : BooksGoOn tells o b r r' settler settler' counts' now now'
-  pub says : SaysAmong o goes.books r' settler' counts' result
+pub record SettledAmong {T : Type 0} (tells : Bool) (o : Outset) (b : Books) (before after : Stage) (result : Result T RunFault) : Type 0 where
+  pub goes : BooksGoOn tells o b before after
+  pub says : SaysAmong o goes.books after result
+
+-- The books of what was seen by now go on to those of what is seen then, once it is known that others put events of lines and units
+-- alone.
+abbrev pub BooksSettle : {T : Type 0} → Bool → Shape → Sight → Sight → Side → Side → Result T RunFault → Type 0
+BooksSettle tells shape s t before after result = (o : Outset) (b : Books) → CanSettleAmong tells o b shape s before → MayRely o t
+    → SettledAmong tells o b (stage_with (run_seen s) before) (stage_with (run_seen t) after) result
+
+-- What settling among others leaves beside what it put: its events were promised; the run's books go on; and beside the record it
+-- leaves the run and the host as any turns do.
+pub record LeavesBeside {T : Type 0} (tells : Bool) (shape : Shape) (before after : Side) (result : Result T RunFault) (s t : Sight) : Type 0 where
+  pub promise : (basis : Basis) → KeepsPromise basis s → KeepsPromise basis t
+  pub books : BooksSettle tells shape s t before after result
+  pub beside : TurnsBeside tells (stage_with (run_seen s) before) (stage_with (run_seen t) after) result

@@ -1,16 +1,11 @@
-ghost use Rattle.std.specs.Prelude.{◌≡◌, IsTrue, IfOk};
+ghost use Rattle.std.specs.Prelude.{◌≡◌, IfOk};
 ghost use Rattle.host_trait.specs.Files.{StaysReady};
 ghost use Rattle.core_model.specs.Settler.{settler_step, Rests};
 ghost use Rattle.core_access.specs.Sights.{run_seen};
-ghost use Rattle.worker_rules.specs.Sharing.{KeepsPromise};
-ghost use Rattle.promise_spec.specs.UnitRule.{Basis};
-ghost use Rattle.batch_disk.specs.Writers.{IsInBounds, FitsDisk};
 ghost use Rattle.settle_loop.specs.Turning.{state_shown};
-ghost use Rattle.run_books.specs.Beginnings.{Outset};
-ghost use Rattle.run_books.specs.Beside.{TurnsBeside};
-ghost use Rattle.run_books.specs.Books.{Books};
-ghost use Rattle.run_books.specs.Sharing.{MayRely, SeesOn};
-ghost use Rattle.shared_settling.specs.Among.{EndsAmong, HasToStop, MayStop, EndsOthers, LeavesStopped, CanSettleAmong, SettledAmong};
+ghost use Rattle.run_books.specs.Sharing.{SeesOn};
+ghost use Rattle.shared_settling.specs.Among.{EndsAmong, HasToStop, MayStop, EndsOthers, LeavesStopped, LeavesBeside};
+ghost use Rattle.run_books.specs.Stages.{side_of, IsSafe};
 
 use crate::steps::settle_once;
 use base_types::Shape;
@@ -79,15 +74,13 @@ pub fn settle_beside<A: Access, H: Host, G: Gate, R: Wait>(
     signals: &Signals,
 ) -> Result<(), RunFault>
     requires fit { A.is_fit access.old }
-    requires bounds { IsInBounds settler.old.writer }
-    requires fits { IsTrue H.tells → FitsDisk settler.old.writer (H.world host.old).disk }
+    requires safe { IsSafe H.tells settler.old.writer (H.world host.old) }
     ensures fit { A.is_fit access.new }
     ensures aside { A.aside access.new ≡ A.aside access.old }
 
-    // What it put: the settler's events, and a stop last, perhaps, where it failed. So it keeps what one promises of a pass.
+    // What it put: the settler's events, and a stop last, perhaps, where it failed.
     ensures sees { SeesOn (A.sight access.old) (A.sight access.new) }
     ensures own { EndsAmong A.may_come (A.sight access.old) (A.sight access.new) result }
-    ensures promise { (basis : Basis) → KeepsPromise basis (A.sight access.old) → KeepsPromise basis (A.sight access.new) }
 
     // However it failed, a stop or a doubt stands behind the last that it saw, so the others end by it. An answer of doubt says
     // that one stands, unless the settler knew of one before any did.
@@ -96,16 +89,11 @@ pub fn settle_beside<A: Access, H: Host, G: Gate, R: Wait>(
     // Where all is well the last that it saw left it nothing to do.
     ensures rests { IfOk result (λ _. settler_step (state_shown (A.sight access.new)) ≡ Rests) }
 
-    // The run's books, once it is known that others put events of lines and units alone.
-    ensures books { (o : Outset) (b : Books) → CanSettleAmong H.tells o b shape.now (A.sight access.old) settler.old (H.faults host.old) (H.world host.old)
-        → MayRely o (A.sight access.new)
-        → SettledAmong H.tells o b (run_seen (A.sight access.old)) (run_seen (A.sight access.new)) settler.old settler.new (H.faults host.new) (H.world host.old) (H.world host.new) result }
+    // The run's books, once it is known that others put events of lines and units alone, and what it leaves beside them.
+    ensures leaves { LeavesBeside H.tells shape.now (side_of H.world H.faults settler.old host.old)
+        (side_of H.world H.faults settler.new host.new) result (A.sight access.old) (A.sight access.new) }
 
-    // And what it leaves beside that.
-    ensures beside { TurnsBeside H.tells (run_seen (A.sight access.old)) (run_seen (A.sight access.new)) settler.old settler.new (H.faults host.old) (H.faults host.new) (H.world host.old) (H.world host.new) result }
-
-    ensures bounds { IsInBounds settler.new.writer }
-    ensures fits { IsTrue H.tells → FitsDisk settler.new.writer (H.world host.new).disk }
+    ensures safe { IsSafe H.tells settler.new.writer (H.world host.new) }
     ensures ready { StaysReady (H.is_ready host.old) (H.is_ready host.new) }
 {
     for _ in rt.forever() {

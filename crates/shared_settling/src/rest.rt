@@ -1,17 +1,17 @@
-ghost use Rattle.std.specs.Prelude.{◌≡◌, false, IsTrue, IfOk};
+ghost use Rattle.std.specs.Prelude.{◌≡◌, false, IfOk};
 ghost use Rattle.host_trait.specs.Files.{StaysReady};
 ghost use Rattle.core_model.specs.Legal.{ends};
 ghost use Rattle.core_model.specs.Settler.{settler_step, Rests};
 ghost use Rattle.core_access.specs.OneHolder.{own_sight};
 ghost use Rattle.history_core.specs.Cores.{run_of};
 ghost use Rattle.promise_spec.specs.UnitRule.{Basis, KeepsUnitRule};
-ghost use Rattle.batch_disk.specs.Writers.{IsInBounds, FitsDisk};
 ghost use Rattle.run_books.specs.Beginnings.{Outset};
 ghost use Rattle.run_books.specs.Beside.{TurnsBeside};
 ghost use Rattle.run_books.specs.Books.{Books};
 ghost use Rattle.run_books.specs.Records.{KeepsBooks};
 ghost use Rattle.run_books.specs.Settling.{AreEven};
 ghost use Rattle.shared_settling.specs.Among.{SettlesAmong, CanSettleRest, SettledAmong};
+ghost use Rattle.run_books.specs.Stages.{stage_of, IsSafe};
 
 use crate::steps::settle_once;
 use base_types::Shape;
@@ -34,8 +34,7 @@ pub fn settle_rest<H: Host, G: Gate>(
     host: &mut H,
     gate: &G,
 ) -> Result<(), RunFault>
-    requires bounds { IsInBounds settler.old.writer }
-    requires fits { IsTrue H.tells → FitsDisk settler.old.writer (H.world host.old).disk }
+    requires safe { IsSafe H.tells settler.old.writer (H.world host.old) }
 
     // Events of the settler's alone were put, so the unit rule stays.
     ensures own { SettlesAmong (own_sight (run_of core.old)) (own_sight (run_of core.new)) }
@@ -45,15 +44,18 @@ pub fn settle_rest<H: Host, G: Gate>(
     ensures sure { IfOk result (λ _. settler.new.doubted ≡ false) }
 
     // The run's books.
-    ensures books { (o : Outset) (b : Books) → CanSettleRest o shape.now (run_of core.old) → AreEven settler.old.quiet b (ends (run_of core.old))
-        → KeepsBooks H.tells o b (run_of core.old) settler.old (H.faults host.old) (H.world host.old)
-        → SettledAmong H.tells o b (run_of core.old) (run_of core.new) settler.old settler.new (H.faults host.new) (H.world host.old) (H.world host.new) result }
+    ensures books { (o : Outset) (b : Books) → CanSettleRest o shape.now (run_of core.old)
+        → AreEven settler.old.quiet b (ends (run_of core.old))
+        → KeepsBooks H.tells o b (stage_of H.world H.faults (run_of core.old) settler.old host.old)
+        → SettledAmong H.tells o b (stage_of H.world H.faults (run_of core.old) settler.old host.old)
+        (stage_of H.world H.faults (run_of core.new) settler.new host.new) result }
 
     // And what it leaves beside that.
-    ensures beside { TurnsBeside H.tells (run_of core.old) (run_of core.new) settler.old settler.new (H.faults host.old) (H.faults host.new) (H.world host.old) (H.world host.new) result }
+    ensures beside { TurnsBeside H.tells
+        (stage_of H.world H.faults (run_of core.old) settler.old host.old)
+        (stage_of H.world H.faults (run_of core.new) settler.new host.new) result }
 
-    ensures bounds { IsInBounds settler.new.writer }
-    ensures fits { IsTrue H.tells → FitsDisk settler.new.writer (H.world host.new).disk }
+    ensures safe { IsSafe H.tells settler.new.writer (H.world host.new) }
     ensures ready { StaysReady (H.is_ready host.old) (H.is_ready host.new) }
 {
     for _step in 0..usize::MAX {

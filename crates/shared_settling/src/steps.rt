@@ -1,18 +1,11 @@
-ghost use Rattle.std.specs.Prelude.{◌≡◌, true, false, IsTrue, IfOk, IfErr};
-ghost use Rattle.base_types.specs.declared.shapes.Shape.{Shape as AShape};
+ghost use Rattle.std.specs.Prelude.{◌≡◌, true, false, IfOk, IfErr};
 ghost use Rattle.host_trait.specs.Files.{StaysReady};
 ghost use Rattle.core_model.specs.Settler.{settler_step, Rests};
 ghost use Rattle.core_access.specs.Sights.{run_seen};
-ghost use Rattle.worker_rules.specs.Sharing.{KeepsPromise};
-ghost use Rattle.promise_spec.specs.UnitRule.{Basis};
-ghost use Rattle.batch_disk.specs.Writers.{IsInBounds, FitsDisk};
 ghost use Rattle.settle_loop.specs.Turning.{state_shown};
 ghost use Rattle.run_books.specs.declared.faults.RunFault.TheVariants.{InDoubt};
-ghost use Rattle.run_books.specs.Beginnings.{Outset};
-ghost use Rattle.run_books.specs.Beside.{TurnsBeside};
-ghost use Rattle.run_books.specs.Books.{Books};
-ghost use Rattle.run_books.specs.Sharing.{MayRely};
-ghost use Rattle.shared_settling.specs.Among.{SettlesAmong, KnowsTruly, CanSettleAmong, SettledAmong};
+ghost use Rattle.shared_settling.specs.Among.{SettlesAmong, KnowsTruly, LeavesBeside};
+ghost use Rattle.run_books.specs.Stages.{side_of, IsSafe};
 
 use base_types::Shape;
 use core_access::Access;
@@ -31,21 +24,16 @@ pub(crate) fn settle_once<A: Access, H: Host, G: Gate>(
     gate: &G,
 ) -> Result<bool, RunFault>
     requires fit { A.is_fit access.old }
-    requires bounds { IsInBounds settler.old.writer }
-    requires fits { IsTrue H.tells → FitsDisk settler.old.writer (H.world host.old).disk }
+    requires safe { IsSafe H.tells settler.old.writer (H.world host.old) }
     ensures fit { A.is_fit access.new }
     ensures aside { A.aside access.new ≡ A.aside access.old }
     ensures own { SettlesAmong (A.sight access.old) (A.sight access.new) }
-    ensures promise { (basis : Basis) → KeepsPromise basis (A.sight access.old) → KeepsPromise basis (A.sight access.new) }
+    ensures leaves { LeavesBeside H.tells shape.now (side_of H.world H.faults settler.old host.old)
+        (side_of H.world H.faults settler.new host.new) result (A.sight access.old) (A.sight access.new) }
     ensures rests { IfOk result (λ more. more ≡ false → (settler_step (state_shown (A.sight access.new)) ≡ Rests) × (settler.new.doubted ≡ false)) }
     ensures knows { KnowsTruly settler.old (run_seen (A.sight access.old)) → KnowsTruly settler.new (run_seen (A.sight access.new)) }
     ensures doubted { IfErr result (λ fault. fault ≡ InDoubt → settler.new.doubted ≡ true) }
-    ensures books { (o : Outset) (b : Books) → CanSettleAmong H.tells o b shape.now (A.sight access.old) settler.old (H.faults host.old) (H.world host.old)
-        → MayRely o (A.sight access.new)
-        → SettledAmong H.tells o b (run_seen (A.sight access.old)) (run_seen (A.sight access.new)) settler.old settler.new (H.faults host.new) (H.world host.old) (H.world host.new) result }
-    ensures beside { TurnsBeside H.tells (run_seen (A.sight access.old)) (run_seen (A.sight access.new)) settler.old settler.new (H.faults host.old) (H.faults host.new) (H.world host.old) (H.world host.new) result }
-    ensures bounds { IsInBounds settler.new.writer }
-    ensures fits { IsTrue H.tells → FitsDisk settler.new.writer (H.world host.new).disk }
+    ensures safe { IsSafe H.tells settler.new.writer (H.world host.new) }
     ensures ready { StaysReady (H.is_ready host.old) (H.is_ready host.new) }
 {
     match settler.step(shape, access, host, gate)? {

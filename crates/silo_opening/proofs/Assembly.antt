@@ -20,6 +20,7 @@ use Rattle.log_reading.specs.declared.faults.FolderFault.{FolderFault}
 use Rattle.log_reading.proofs.Standing.{in_order}
 use Rattle.silo_spec.specs.Silos.{manager, program_file}
 use Rattle.promise_spec.specs.Programs.{Program, shape_in}
+use Rattle.promise_spec.specs.Entries.{new_log, grown}
 use Rattle.promise_spec.specs.Openings.{Reading, NoSilo, DamagedAt, Reads, is_silo, program_in_file, commit_of, with_versions, with_log, with_program, live_in, with_slot, opened_as}
 use Rattle.promise_spec.specs.Refusals.{IsNamedIn, IsReadBefore, MustBeRead, IsRefusedBy}
 use Rattle.promise_spec.proofs.Openings.{live_read}
@@ -87,7 +88,7 @@ module _ (image : Image) where
   manager_by (DamagedAt (ProgramFile slot) place) = inl refl
   manager_by (DamagedAt (Manager slot) place) = inl refl
   manager_by (DamagedAt (Grain slot last) place) = inl (inl refl)
-  manager_by (Reads live p log) = inl (inl refl)
+  manager_by (Reads live log) = inl (inl refl)
 
   pub manager_read : Refuses (OpenFault.DiskFault manager)
   manager_read = manager_by reading
@@ -155,5 +156,5 @@ module _ (image : Image) where
       log_refused FolderFault.Memory any = tt
 
       pub reads_log : (records : List CommitRecord) → records_in_file (shape_in p) (image (Manager live)) ≡ Ok records → first_missing live (shape_in p) image (named_by_grain (named_by records)) ≡ None
-          → opened_as image ≡ Reads live p (map (commit_of live (shape_in p) image) records)
+          → opened_as image ≡ Reads live (grown (new_log p) (map (commit_of live (shape_in p) image) records))
       reads_log records read whole = then_log ∙ ap (with_log live p image) read ∙ ap (with_versions live p image records) whole

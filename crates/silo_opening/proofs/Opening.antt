@@ -17,7 +17,9 @@ use Rattle.log_reading.specs.Steps.{seen_in}
 use Rattle.log_reading.specs.Contents.{HasContents}
 use Rattle.script_tree.specs.Programs.{program_tree}
 use Rattle.promise_spec.specs.Programs.{Program, shape_in}
-use Rattle.promise_spec.specs.Records.{new_silo}
+use Rattle.promise_spec.specs.Records.{Commit}
+use Rattle.promise_spec.specs.Entries.{Recorded, new_silo, new_log, grown}
+use Rattle.promise_spec.proofs.Standings.{in_force, records_back}
 use Rattle.promise_spec.specs.Openings.{is_silo, program_in_file, commit_of, live_in}
 use Rattle.silo_opening.specs.declared.open.Opened.{Opened}
 use Rattle.silo_opening.specs.Steps.{SyncsOnce}
@@ -56,12 +58,14 @@ is_opened image text o found silo program h =
     let slot : ℕ = o.slot in
     let p : Program = record { text = text; types = program_tree o.checked } in
     let shape = shape_in p in
-    let base = new_silo (program_tree o.checked) in
-    let logged = sym (logged_of slot shape image h.records) in
+    let base = new_silo p in
+    let commits : List Commit = map (commit_of slot shape image) h.records in
+    let logged = sym (ap (λ (cs : List Commit). map (λ (c : Commit). c.logged) cs) (records_back commits) ∙ logged_of slot shape image h.records) in
     record {
       text = text;
-      log = map (commit_of slot shape image) h.records;
+      log = grown (new_log p) commits;
       reads = reads_log image slot found p program h.records h.read h.whole;
+      program = in_force base (map Recorded commits);
       count = h.count ∙ sym (count_is slot shape image base h.records ∙ none_more (length h.records));
       next = h.next ∙ sym (next_is slot shape image base h.records);
       states = λ grain. ap (λ (s : Option (List Value)). unwrap_or s (base.states grain)) (h.states grain) ∙ counts slot shape image base.states h.records grain ∙ sym (λ i. states_are slot shape image base h.records i grain);

@@ -31,13 +31,13 @@ run_length file old new asked = run_more_syncs file Stays 0 1 old new (omega ari
 pub run_settled : (file : FileId) (old mid new : World) (ok : Bool) → Asked old mid → Synced file ok mid new → MayLeave (mid.disk file) (mid.disk file).seen → RunsOnFile file Stays 1 old new
 run_settled file old mid new ok asked synced here = run_synced file Stays 0 old mid new (run_asked file Stays 0 old old mid (run_started file Stays old (λ d. refl)) asked) ok synced here
 
--- at each moment of such a run each image is one of those at its start
-as_at_entry : (old : World) (m : Moment) → ChangesFile manager Stays old m → IsAsAtEntry old m
-as_at_entry old m changes = record {
+-- at each moment of such a run on a file each image is one of those at its start
+as_at_entry : (file : FileId) (old : World) (m : Moment) → ChangesFile file Stays old m → IsAsAtEntry old m
+as_at_entry file old m changes = record {
   quiet = changes.output;
   images = λ image is f.
-      let comes = image_from manager Stays old m changes image is in
-      let same : comes.from f ≡ image f = elim (cases_file f manager) [
+      let comes = image_from file Stays old m changes image is in
+      let same : comes.from f ≡ image f = elim (cases_file f file) [
         | inl this ↦ subst (λ (g : FileId). comes.from g ≡ image g) (sym this) (sym comes.changed)
         | inr other ↦ sym (comes.others f other)
       ] in
@@ -45,11 +45,11 @@ as_at_entry old m changes = record {
 }
 
 -- such a run left the folder untouched
-pub untouched : (most : ℕ) (old new : World) → RunsOnFile manager Stays most old new → IsUntouched old new
-untouched most old new run = record {
-  moments = weaker _ _ (as_at_entry old) run.moments;
-  now = as_at_entry old (moment_of new) run.now;
-  seen = λ f. elim (cases_file f manager) [
+pub untouched : (file : FileId) (most : ℕ) (old new : World) → RunsOnFile file Stays most old new → IsUntouched old new
+untouched file most old new run = record {
+  moments = weaker _ _ (as_at_entry file old) run.moments;
+  now = as_at_entry file old (moment_of new) run.now;
+  seen = λ f. elim (cases_file f file) [
     | inl this ↦ subst (λ (g : FileId). (new.disk g).seen ≡ (old.disk g).seen) (sym this) run.seen
     | inr other ↦ ap (λ (s : FileState). s.seen) (run.now.others f other)
   ];

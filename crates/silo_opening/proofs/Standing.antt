@@ -14,7 +14,8 @@ use Rattle.commit_log.specs.declared.records.Named.{Named}
 use Rattle.log_reading.specs.Versions.{named_by, named_by_grain, version_named, state_of}
 use Rattle.log_reading.specs.Sums.{next_after, state_after}
 use Rattle.log_reading.proofs.Standing.{in_any_order}
-use Rattle.promise_spec.specs.Records.{Commit, States, Standing, put_state, after_writes, after_record, after_records}
+use Rattle.promise_spec.specs.Records.{Commit, States, put_state, after_writes}
+use Rattle.promise_spec.specs.Entries.{Recorded, Standing, after_entry, after_entries}
 use Rattle.promise_spec.specs.Openings.{commit_of}
 
 module _ (live : ℕ) (shape : Shape) (image : Image) where
@@ -57,17 +58,17 @@ module _ (live : ℕ) (shape : Shape) (image : Image) where
 
   -- ---- a standing is three folds
 
-  pub count_is : (s : Standing) (records : List CommitRecord) → (after_records s (map (commit_of live shape image) records)).count ≡ s.count + length records
+  pub count_is : (s : Standing) (records : List CommitRecord) → (after_entries s (map Recorded (map (commit_of live shape image) records))).count ≡ s.count + length records
   count_is s [] = omega arith
-  count_is s (r ∷ rs) = let more = count_is (after_record s (commit_of live shape image r)) rs in omega (arith, more)
+  count_is s (r ∷ rs) = let more = count_is (after_entry s (Recorded (commit_of live shape image r))) rs in omega (arith, more)
 
-  pub next_is : (s : Standing) (records : List CommitRecord) → (after_records s (map (commit_of live shape image) records)).next ≡ next_after s.next records
+  pub next_is : (s : Standing) (records : List CommitRecord) → (after_entries s (map Recorded (map (commit_of live shape image) records))).next ≡ next_after s.next records
   next_is s [] = refl
-  next_is s (r ∷ rs) = next_is (after_record s (commit_of live shape image r)) rs
+  next_is s (r ∷ rs) = next_is (after_entry s (Recorded (commit_of live shape image r))) rs
 
-  pub states_are : (s : Standing) (records : List CommitRecord) → (after_records s (map (commit_of live shape image) records)).states ≡ after_log s.states records
+  pub states_are : (s : Standing) (records : List CommitRecord) → (after_entries s (map Recorded (map (commit_of live shape image) records))).states ≡ after_log s.states records
   states_are s [] = refl
-  states_are s (r ∷ rs) = states_are (after_record s (commit_of live shape image r)) rs
+  states_are s (r ∷ rs) = states_are (after_entry s (Recorded (commit_of live shape image r))) rs
 
 -- the records of commits are those that were read
 pub logged_of : (live : ℕ) (shape : Shape) (image : Image) (records : List CommitRecord) → map (λ (c : Commit). c.logged) (map (commit_of live shape image) records) ≡ records

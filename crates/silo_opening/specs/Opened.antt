@@ -11,7 +11,7 @@ use Rattle.log_reading.specs.Versions.{named_by, named_by_grain}
 use Rattle.log_reading.specs.Sums.{end_after}
 use Rattle.program_file.specs.declared.faults.ProgramFileFault.{ProgramFileFault}
 use Rattle.script_tree.specs.Programs.{program_tree}
-use Rattle.promise_spec.specs.Records.{Commit, new_silo, standing_of}
+use Rattle.promise_spec.specs.Entries.{Log, initial_states, records_of, standing_of}
 use Rattle.promise_spec.specs.Logs.{magic}
 use Rattle.promise_spec.specs.Openings.{Reads, opened_as}
 use Rattle.promise_spec.specs.Endings as ending
@@ -26,18 +26,19 @@ Stays old new = new ≡ old
 abbrev pub is_header : List ℕ → Bool
 is_header file = (slice_index file 0 == 1) && bytes_eq (take 8 (drop 1 file)) magic
 
--- The folder reads as a silo with this live slot, this program and a log. The log's standing is kept: how many records there are,
--- the number of the next unit, and each grain's state, which is its type's initial fields where it isn't kept. The ends are the
--- greatest of the places that the log names in each grain's file, and lie in the file. The gate is that at which the log ends, and
--- closed.
+-- The folder reads as a silo with this live slot and a log, whose program is this. The log's standing is kept: how many entries
+-- there are, the number of the next unit, and each grain's state, which is its type's initial fields where it isn't kept. The ends
+-- are the greatest of the places that the log names in each grain's file, and lie in the file. The gate is that at which the log
+-- ends, and closed.
 pub record IsOpenedFrom (image : Image) (o : Opened) : Type 0 where
   pub text : List ℕ
-  pub log : List Commit
-  pub reads : opened_as image ≡ Reads o.slot (record { text = text; types = program_tree o.checked }) log
-  pub count : o.count ≡ (standing_of (program_tree o.checked) log).count
-  pub next : o.next_unit.0 ≡ (standing_of (program_tree o.checked) log).next
-  pub states : (grain : GrainId) → unwrap_or (state_in o.store grain) ((new_silo (program_tree o.checked)).states grain) ≡ (standing_of (program_tree o.checked) log).states grain
-  pub ends : (grain : GrainId) → end_in o.ends grain ≡ end_after None (named_by_grain (named_by (map (λ c. c.logged) log))) grain
+  pub log : Log
+  pub reads : opened_as image ≡ Reads o.slot log
+  pub program : (standing_of log).program ≡ record { text = text; types = program_tree o.checked }
+  pub count : o.count ≡ (standing_of log).count
+  pub next : o.next_unit.0 ≡ (standing_of log).next
+  pub states : (grain : GrainId) → unwrap_or (state_in o.store grain) (initial_states (record { text = text; types = program_tree o.checked }) grain) ≡ (standing_of log).states grain
+  pub ends : (grain : GrainId) → end_in o.ends grain ≡ end_after None (named_by_grain (named_by (map (λ c. c.logged) (records_of log)))) grain
   pub within : (grain : GrainId) (end : ℕ) → end_in o.ends grain ≡ Some end → end ≤ length (image (Grain o.slot grain))
   pub gate : gate_of (image (Manager o.slot)) ≡ o.gate_at
   pub closed : IsClosedAt o.gate_at (image (Manager o.slot))

@@ -1,4 +1,4 @@
-ghost use Rattle.std.specs.Prelude.{◌≡◌, ◌+◌, ◌^◌, ◌<◌, ◌≤◌, ℕ, List, Bool, true, false, nat_le, IsTrue, length, Ok, Err, OnOk, IfOk, IfErr, IsErrOf};
+ghost use Rattle.std.specs.Prelude.{◌≡◌, ◌+◌, ◌^◌, ◌<◌, ◌≤◌, ℕ, List, Bool, true, false, nat_le, IsTrue, length, Ok, Err, OnOk, OnErr, IfOk, IfErr, IsErrOf};
 ghost use Rattle.host_trait.specs.Disk.{settled};
 ghost use Rattle.host_trait.specs.Files.{StaysReady};
 ghost use Rattle.host_trait.specs.Faults.{Counted, NoneFailed};
@@ -161,8 +161,9 @@ pub fn open_silo<H: Host>(alloc: Global, host: &mut H) -> Result<Opened, OpenFau
     ensures fault { IfErr result (λ e. OpenFaulted e (H.faults host.old) (H.faults host.new)) }
 
     // Whatever is answered, nothing was written or emitted, and no input was taken: each image of each moment is one of those at
-    // entry.
-    ensures run { IsTrue H.tells → RunsOnFile manager Stays 1 (H.world host.old) (H.world host.new) }
+    // entry. The live manager file was synced; where no silo was opened, slot 0's was looked at.
+    ensures run { IfOk result (λ o. IsTrue H.tells → RunsOnFile (Manager o.slot) Stays 1 (H.world host.old) (H.world host.new)) }
+    ensures looked { OnErr result (IsTrue H.tells → RunsOnFile manager Stays 1 (H.world host.old) (H.world host.new)) }
     ensures ready { StaysReady (H.is_ready host.old) (H.is_ready host.new) }
 {
     let Ok(is) = is_silo(host, LIVE) else {

@@ -1,6 +1,6 @@
 -- An opened folder as the settler's writer keeps it: where each image has the log that was opened, each has it up to the writer's
 -- gate, and the writer's ends are those of the places that it names.
-use Rattle.std.proofs.Common.{◌≡◌, ℕ, ◌+◌, ◌≤◌, max, Bool, true, false, if◌then◌else◌, List, [], ◌∷◌, Option, Some, None, length, unwrap_or, refl, sym, ◌∙◌, ap, subst, arith, append-nil}
+use Rattle.std.proofs.Common.{◌≡◌, ◌≢◌, slice_index, ℕ, ◌+◌, ◌≤◌, max, Bool, true, false, if◌then◌else◌, List, [], ◌∷◌, Option, Some, None, length, unwrap_or, refl, sym, ◌∙◌, ap, subst, arith, append-nil}
 use Rattle.std.specs.Prelude.{map, take, drop}
 use Rattle.std.specs.List.{AllByRecursion}
 use Rattle.base_types.specs.declared.calls.GrainId.{GrainId}
@@ -10,7 +10,7 @@ use Rattle.host_trait.specs.Disk.{FileState, MayLeave, settled}
 use Rattle.host_trait.specs.World.{Disk, Image, IsImage}
 use Rattle.host_trait.proofs.Crashes.{settled_only}
 use Rattle.gate_block.specs.Log.{LogsUpTo, gate_of}
-use Rattle.gate_block.proofs.Logs.{logged}
+use Rattle.gate_block.proofs.Logs.{logged, one_log}
 use Rattle.commit_log.specs.declared.records.Named.{Named}
 use Rattle.commit_log.specs.declared.records.Written.{Written}
 use Rattle.log_reading.specs.Versions.{named_by, named_by_grain}
@@ -19,7 +19,10 @@ use Rattle.core_model.specs.CoreState.{Member}
 use Rattle.core_model.specs.Legal.{Run}
 use Rattle.promise_spec.specs.Programs.{shape_in}
 use Rattle.promise_spec.specs.Records.{Commit}
-use Rattle.promise_spec.specs.Logs.{IsKept, IsLog, body_of}
+use Rattle.promise_spec.specs.Entries.{Log, records_of, standing_of}
+use Rattle.promise_spec.specs.Logs.{StandsUpTo, IsLog}
+use Rattle.promise_spec.proofs.Batched.{kept_are}
+use Rattle.promise_spec.proofs.Standings.{grown_none}
 use Rattle.promise_spec.specs.Journals.{AllLog}
 use Rattle.promise_spec.proofs.ReadVersions.{all_in_order, all_of_order}
 use Rattle.batch_disk.specs.Resting.{IsAtRest, StandsIn, IsBelow, AreBelow, write_end, raised_end, raised_ends, all_writes}
@@ -98,35 +101,37 @@ from_zero grain = 0
 
 -- ---- the folder
 
-module _ (o : Outset) (x : Opened) (st : Started) (seen : Image) (is : IsOpenedFrom seen x) (start : IsStartOf x st) (opening : o.opening ≡ is.log) (slot : o.live ≡ x.slot) where
+module _ (o : Outset) (x : Opened) (st : Started) (seen : Image) (is : IsOpenedFrom seen x) (start : IsStartOf x st) (opening : o.opening ≡ is.log) (in_force : (standing_of o.opening).program ≡ o.program) (slot : o.live ≡ x.slot) where
   abbrev writer : BatchWriter
   writer = st.settler.writer
 
-  ends_are : file_end writer ≡ raised_ends from_zero (places_read o.opening)
+  ends_are : file_end writer ≡ raised_ends from_zero (places_read (records_of o.opening))
   ends_are = λ i grain. (start.ends grain ∙ ap (λ (e : Option ℕ). unwrap_or e 0) (is.ends grain)
-      ∙ end_is (named_by_grain (named_by (map (λ c. c.logged) is.log))) grain None from_zero refl
-      ∙ ap (λ (l : List Commit). raised_ends from_zero (places_read l) grain) (sym opening)) i
+      ∙ end_is (named_by_grain (named_by (map (λ c. c.logged) (records_of is.log)))) grain None from_zero refl
+      ∙ ap (λ (l : Log). raised_ends from_zero (places_read (records_of l)) grain) (sym opening)) i
 
-  below : AreBelow (file_end writer) o.opening
-  below = subst (λ (e : GrainId → ℕ). AreBelow e o.opening) (sym ends_are)
-      (all_named (IsBelow (raised_ends from_zero (places_read o.opening))) o.opening (raised_each from_zero (places_read o.opening)))
+  below : AreBelow (file_end writer) (records_of o.opening)
+  below = subst (λ (e : GrainId → ℕ). AreBelow e (records_of o.opening)) (sym ends_are)
+      (all_named (IsBelow (raised_ends from_zero (places_read (records_of o.opening)))) (records_of o.opening) (raised_each from_zero (places_read (records_of o.opening))))
 
-  long : (image : Image) → AllByRecursion (IsKept o.live (shape_in o.program) image) o.opening → (grain : GrainId) → file_end writer grain ≤ length (image (Grain o.live grain))
-  long image kept grain = subst (λ (e : GrainId → ℕ). e grain ≤ length (image (Grain o.live grain))) (sym ends_are)
-      (raised_long o.live image from_zero (places_read o.opening) (λ g. omega arith)
-      (all_read (λ (w : Written). write_end w ≤ length (image (Grain o.live w.grain))) o.opening (kept_within o.live (shape_in o.program) image o.opening kept)) grain)
+  long : (image : Image) → IsLog o.live image o.opening → (grain : GrainId) → file_end writer grain ≤ length (image (Grain o.live grain))
+  long image has grain = subst (λ (e : GrainId → ℕ). e grain ≤ length (image (Grain o.live grain))) (sym ends_are)
+      (raised_long o.live image from_zero (places_read (records_of o.opening)) (λ g. omega arith)
+      (all_read (λ (w : Written). write_end w ≤ length (image (Grain o.live w.grain))) (records_of o.opening)
+      (kept_within o.live (shape_in has.is.stands.program) image (records_of o.opening) (kept_are o.live has.is.stands.program image o.opening.entries has.is.stands.kept))) grain)
 
   -- Where nothing is pending in the manager file and each image has the log, the writer keeps the folder so.
-  pub starts_resting : (r : Run) (disk : Disk) → disk (Manager o.live) ≡ settled (seen (Manager o.live)) → (o.world.disk (Manager o.live)).seen ≡ seen (Manager o.live) → IsImage disk seen → AllLog o.live o.program o.opening disk → KeepsFolder o (take 15 (seen (Manager o.live))) no_books r writer disk
+  pub starts_resting : (r : Run) (disk : Disk) → disk (Manager o.live) ≡ settled (seen (Manager o.live)) → (o.world.disk (Manager o.live)).seen ≡ seen (Manager o.live) → IsImage disk seen → AllLog o.live o.opening disk → KeepsFolder o (take 15 (seen (Manager o.live))) no_books r writer disk
   starts_resting r disk still begun left all = record {
-    batches = own.batches;
-    log = sym own.commits ∙ sym (append-nil o.opening);
+    stood = o.opening;
+    bodies = own.is.bodies;
+    log = sym (grown_none o.opening);
     keeps = record {
       named = record {
-        slot = own.is_live.slot;
-        silo = silo_begins (seen (Manager o.live)) own.is_live.silo own.header;
-        sizes = own.sizes;
-        below = subst (AreBelow (file_end writer)) own.commits below;
+        is_live = λ image silo. record { slot = own.is_live.slot; silo = silo };
+        silo = silo_begins (seen (Manager o.live)) own.is_live.silo own.is.stands.header;
+        shape_is = ap shape_in (sym in_force);
+        below = below;
       };
       images = each;
     };
@@ -134,20 +139,27 @@ module _ (o : Outset) (x : Opened) (st : Started) (seen : Image) (is : IsOpenedF
     behind = λ none bytes may. ap (drop (writer.gate_at + 1)) (settled_only (seen (Manager o.live)) bytes (subst (λ (f : FileState). MayLeave f bytes) still may) ∙ sym begun);
   }
     where
-      own : IsLog o.live (shape_in o.program) seen o.opening
+      own : IsLog o.live seen o.opening
       own = all seen left
 
       same : (image : Image) → IsImage disk image → image (Manager o.live) ≡ seen (Manager o.live)
       same image image_is = settled_only (seen (Manager o.live)) (image (Manager o.live)) (subst (λ (f : FileState). MayLeave f (image (Manager o.live))) still (image_is (Manager o.live)))
 
-      gate : own.gate ≡ writer.gate_at
-      gate = sym (logged (map body_of own.batches) own.gate (seen (Manager o.live)) own.blocks).1 ∙ ap (λ (n : ℕ). gate_of (seen (Manager n))) slot ∙ is.gate ∙ sym start.gate
+      own_logs : LogsUpTo own.is.bodies own.is.gate (seen (Manager o.live))
+      own_logs = record { blocks = own.is.stands.stand; closed = own.is.closed }
 
-      each : (image : Image) → IsImage disk image → IsAtRest o.live (shape_in o.program) (take 15 (seen (Manager o.live))) own.batches writer.gate_at (file_end writer) (kept_of writer) image
-      each image image_is = record {
-        header = ap (take 15) (same image image_is);
-        blocks = subst (λ (n : ℕ). LogsUpTo (map body_of own.batches) n (image (Manager o.live))) gate (subst (LogsUpTo (map body_of own.batches) own.gate) (sym (same image image_is)) own.blocks);
-        whole = subst (AllByRecursion (IsKept o.live (shape_in o.program) image)) own.commits (all image image_is).kept;
-        long = long image (all image image_is).kept;
-        stand = subst (AllByRecursion (StandsIn o.live (shape_in o.program) image)) (sym start.kept) tt;
-      }
+      gate : own.is.gate ≡ writer.gate_at
+      gate = sym (logged own.is.bodies own.is.gate (seen (Manager o.live)) own_logs).1 ∙ ap (λ (n : ℕ). gate_of (seen (Manager n))) slot ∙ is.gate ∙ sym start.gate
+
+      each : (image : Image) → IsImage disk image → IsAtRest o.live (shape_in o.program) (take 15 (seen (Manager o.live))) o.opening own.is.bodies writer.gate_at (file_end writer) (kept_of writer) image
+      each image image_is =
+          let has : IsLog o.live image o.opening = all image image_is in
+          let logs : LogsUpTo has.is.bodies has.is.gate (image (Manager o.live)) = record { blocks = has.is.stands.stand; closed = has.is.closed } in
+          let one = one_log has.is.bodies own.is.bodies has.is.gate own.is.gate (seen (Manager o.live)) (subst (LogsUpTo has.is.bodies has.is.gate) (same image image_is) logs) own_logs in
+          record {
+            header = ap (take 15) (same image image_is);
+            stands = subst (λ (n : ℕ). StandsUpTo o.live image o.opening own.is.bodies n) (one.1 ∙ gate) (subst (λ (bodies : List (List ℕ)). StandsUpTo o.live image o.opening bodies has.is.gate) one.0 has.is.stands);
+            closed = subst (λ (n : ℕ). slice_index (image (Manager o.live)) n ≢ 1) (one.1 ∙ gate) has.is.closed;
+            long = long image has;
+            stand = subst (AllByRecursion (StandsIn o.live (shape_in o.program) image)) (sym start.kept) tt;
+          }

@@ -22,8 +22,8 @@ use Rattle.run_books.specs.Books.{Books, IsPutOut}
 use Rattle.interleaver.specs.Turns.{KeepsTurns, IsFreshRecord}
 use Rattle.silo_top.specs.Reading.{PulledOnly}
 use Rattle.silo_top.proofs.Still.{still_file}
-use Rattle.silo_top.proofs.Read.{AreReadFrom}
-use Rattle.silo_top.proofs.Read.{as_many, go_up, read_as}
+use Rattle.silo_top.proofs.Read.{AreReadFrom, as_many, go_up, read_as}
+use Rattle.run_books.specs.Stages.{stage_by}
 
 -- a run of the core without events
 abbrev pub start_run : ℕ → ℕ → (GrainId → List Value) → Run
@@ -67,7 +67,7 @@ module _ (base kinds : ℕ) (opening : GrainId → List Value) where
   -- the record holds
   pub starts_kept : (tells : Bool) (o : Outset) (s : Settler) (counts : Channel → ℕ) (now : World) → 0 < base → ((c : Channel) → o.faults c ≤ counts c)
       → s.written ≡ 0 → s.doubted ≡ false → s.writer.in_doubt ≡ false → s.writer.slot ≡ o.live
-      → (IsTrue tells → PulledOnly o.world now) → KeepsTurns tells o no_books r s counts now
+      → (IsTrue tells → PulledOnly o.world now) → KeepsTurns tells o no_books (stage_by r s counts now)
   starts_kept tells o s counts now above later written sure sealing slot outside = record {
     above = above;
     units = λ at e a. absurd (none_applies base kinds opening at e a);

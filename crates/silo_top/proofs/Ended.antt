@@ -12,7 +12,7 @@ use Rattle.core_model.specs.CoreState.{Member}
 use Rattle.core_model.specs.Legal.{Run, ends}
 use Rattle.core_model.specs.declared.events.CoreEvent.{CoreEvent}
 use Rattle.promise_spec.specs.Programs.{Program, shape_in}
-use Rattle.promise_spec.specs.Records.{Commit, standing_of}
+use Rattle.promise_spec.specs.Entries.{Log, standing_of}
 use Rattle.promise_spec.specs.Outputs.{Grew}
 use Rattle.promise_spec.specs.Cores.{core_from, how_many}
 use Rattle.promise_spec.specs.Causes.{is_vote, is_vote_of, is_sealed, is_unsealed, syncs_of, most_syncs_of}
@@ -48,17 +48,18 @@ use Rattle.run_books.specs.Beside.{EmitsAs, TurnsBeside}
 use Rattle.silo_top.proofs.Observing.{observed_run}
 use Rattle.silo_top.proofs.Beginning.{no_books}
 use Rattle.silo_top.proofs.Promised.{behind_promised}
+use Rattle.run_books.specs.Stages.{stage_by}
 
 -- ---- what each answer says
 
-module _ {T : Type 0} (o : Outset) (b : Books) (r : Run) (s : Settler) (after : Channel → ℕ) where
-  risen_by : (result : Result T RunFault) → TurnsEndAs o b r s after result → HasRisen (turns_ending o.live result) o.faults after
+module _ {T : Type 0} (o : Outset) (b : Books) (r : Run) (s : Settler) (after : Channel → ℕ) (new : World) where
+  risen_by : (result : Result T RunFault) → TurnsEndAs o b (stage_by r s after new) result → HasRisen (turns_ending o.live result) o.faults after
   risen_by (Ok done) e = tt
   risen_by (Err InDoubt) e = e.0.rose
   risen_by (Err WriteFault) e = e
   risen_by (Err Memory) e = tt
 
-  rest_by : (result : Result T RunFault) → TurnsEndAs o b r s after result → turns_ending o.live result ≢ Unwritten → b.rest ≡ []
+  rest_by : (result : Result T RunFault) → TurnsEndAs o b (stage_by r s after new) result → turns_ending o.live result ≢ Unwritten → b.rest ≡ []
   rest_by (Ok done) e other = e.1
   rest_by (Err InDoubt) e other = e.1
   rest_by (Err WriteFault) e other = absurd (other refl)
@@ -96,10 +97,10 @@ output_by live (Err Memory) old mid new calm e other = absurd (other (e ∙ calm
 
 -- over every host
 pub turns_answer : {T : Type 0} (tells : Bool) (o : Outset) (b : Books) (r r' : Run) (s s' : Settler) (mid after : Channel → ℕ) (now now' : World) (result : Result T RunFault) → NoneFailed o.faults mid
-    → TurnsEndAs o b r' s' after result → TurnsBeside tells r r' s s' mid after now now' result → AnswersRun (turns_ending o.live result) o.faults after
+    → TurnsEndAs o b (stage_by r' s' after now') result → TurnsBeside tells (stage_by r s mid now) (stage_by r' s' after now') result → AnswersRun (turns_ending o.live result) o.faults after
 turns_answer tells o b r r' s s' mid after now now' result calm e beside = record {
   good = good_by o.live result;
-  risen = risen_by o b r' s' after result e;
+  risen = risen_by o b r' s' after now' result e;
   input = λ other. absurd (other (beside.pulled ∙ calm Input));
   output = output_by o.live result (o.faults Output) (mid Output) (after Output) (calm Output) beside.emitted;
   exact = λ unbegun. absurd (unbegun (begun_by o.live result));
@@ -121,7 +122,7 @@ module _ {T : Type 0} (m : Manner) (x : Opened) (old mid now new : World) (befor
   abbrev pub p : Program
   p = program_of is.opened
 
-  abbrev pub log : List Commit
+  abbrev pub log : Log
   log = is.opened.log
 
   abbrev pub out : Outset
@@ -131,10 +132,10 @@ module _ {T : Type 0} (m : Manner) (x : Opened) (old mid now new : World) (befor
   seen = observed_run m old new before after status
 
   abbrev pub r0 : Run
-  r0 = core_from p.types (standing_of p.types log) []
+  r0 = core_from p.types (standing_of log) []
 
   -- the turns went on from the start, and what the images keep held there, where the folder is sound
-  module _ (r' : Run) (s s' : Settler) (mid_faults : Channel → ℕ) (goes : CarriedOn true m out no_books r0 r' s s' after now new result) (beside : TurnsBeside true r0 r' s s' mid_faults after now new result) (loud : s.quiet ≡ false) where
+  module _ (r' : Run) (s s' : Settler) (mid_faults : Channel → ℕ) (goes : CarriedOn true m out no_books (stage_by r0 s mid_faults now) (stage_by r' s' after new) result) (beside : TurnsBeside true (stage_by r0 s mid_faults now) (stage_by r' s' after new) result) (loud : s.quiet ≡ false) where
     abbrev pub b : Books
     b = goes.on.books
 
@@ -145,7 +146,7 @@ module _ {T : Type 0} (m : Manner) (x : Opened) (old mid now new : World) (befor
     c = record { live = x.slot; opening = log; added = commits_of (booked_journal b); early = is.run.clock.more; late = pulled.moments.more ++ later.0; events = r'.events; entries = entries_of b.said; rest = b.rest }
 
     run_is : core_run p c ≡ r'
-    run_is = ap (λ (es : List CoreEvent). core_from p.types (standing_of p.types log) es) (ap (λ (r : Run). r.events) beside.core) ∙ sym beside.core
+    run_is = ap (λ (es : List CoreEvent). core_from p.types (standing_of log) es) (ap (λ (r : Run). r.events) beside.core) ∙ sym beside.core
 
     course : IsCourseOf out b r' seen c
     course = record {
@@ -172,13 +173,13 @@ module _ {T : Type 0} (m : Manner) (x : Opened) (old mid now new : World) (befor
       late = later.1 ∙ ap (λ (l : List Moment). l ++ later.0) pulled.moments.past ∙ append_assoc mid.past pulled.moments.more later.0;
     }
 
-    pub stands : IsBehind p seen c mid
+    pub stands : IsBehind seen c mid
     stands = behind x seen c mid is.opened follows
 
     are_settled : AreSettled p seen c
     are_settled = settled true out b r' s' seen c result (beside.quiet ∙ loud) goes.on.record_kept goes.on.ended ends_as course
 
-    is_done : (answer : Result T RunFault) → TurnsEndAs out b r' s' after answer → turns_ending x.slot answer ≡ Done → (e : c.entries ≡ (ends r').manager.settled) → IsDone seen c
+    is_done : (answer : Result T RunFault) → TurnsEndAs out b (stage_by r' s' after new) answer → turns_ending x.slot answer ≡ Done → (e : c.entries ≡ (ends r').manager.settled) → IsDone seen c
     is_done (Ok done) e q all = record {
       input = beside.input told ∙ end;
       answered = λ n low high. (let k = e.0.run.answered n low high in (k.0, subst (λ (l : List Entry). Member k.0 l) (sym all) k.1, k.2));
@@ -189,14 +190,15 @@ module _ {T : Type 0} (m : Manner) (x : Opened) (old mid now new : World) (befor
 
     answers : ShowsAnywhere p seen c
     answers = record {
+      in_force = is.opened.program;
       explains = explains true out b r' s' seen c result goes.on.record_kept goes.on.ended ends_as goes.turns course
           (unvoted_behind p seen c mid stands (λ g none. (goes.on.record_kept.books.outside told).calls.unvoted g (subst (λ (r : Run). how_many (is_vote_of g) r ≡ 0) run_is none)));
       settled = are_settled;
       output = subst (λ (l : List ℕ). Grew (shape_in p) l new.output (entries_of b.said) b.rest) is.run.now.output (goes.on.record_kept.books.outside told).output;
-      whole = λ other. rest_by out b r' s' after result goes.on.ended (λ q. other (ends_as ∙ q));
+      whole = λ other. rest_by out b r' s' after new result goes.on.ended (λ q. other (ends_as ∙ q));
       ends = record {
         given = refl;
-        risen = subst (λ (e : Ending). HasRisen e before after) (sym ends_as) (risen_by out b r' s' after result goes.on.ended);
+        risen = subst (λ (e : Ending). HasRisen e before after) (sym ends_as) (risen_by out b r' s' after new result goes.on.ended);
         carried = subst IsCarried (sym ends_as) (carried_by x.slot result);
         long = subst (λ (e : Ending). HasLength e (length old.input)) (sym ends_as) (long_by x.slot result (length old.input) short);
         begun = inr (record { ending = subst IsBegun (sym ends_as) (begun_by x.slot result); input = beside.input told ∙ end; short = short });
@@ -212,6 +214,6 @@ module _ {T : Type 0} (m : Manner) (x : Opened) (old mid now new : World) (befor
         written q = subst IsAllWritten (sym q) tt
 
     -- so the run keeps its promise, where it is known what the images keep at the start of the turns
-    pub turns_promised : (Opens p seen c → LastsSo out (take 15 (seen_at_entry seen (Manager x.slot))) no_books r0 s.writer now) → Promises m seen
+    pub turns_promised : (Opens seen c → LastsSo out (take 15 (seen_at_entry seen (Manager x.slot))) no_books r0 s.writer now) → Promises m seen
     turns_promised start = behind_promised p seen c mid stands is.stays stay_mid m refl answers
         (λ opens. lasts true out (take 15 (seen_at_entry seen (Manager x.slot))) b r' s' seen c refl goes.on.record_kept (goes.on.lasts told (take 15 (seen_at_entry seen (Manager x.slot))) (start opens)) course refl stands opens stay_new)

@@ -22,6 +22,7 @@ use Rattle.silo_top.specs.GoingOn.{CanCarry, WasCarried}
 use Rattle.silo_top.specs.Starting.{IsStartOf}
 use Rattle.silo_top.specs.declared.starting.Started.{Started}
 use Rattle.silo_top.proofs.Beginning.{starts_legal, starts_unloaded}
+use Rattle.run_books.specs.Stages.{side_by, stage_by}
 
 -- a core without events can be gone on with
 pub can_carry : (tells : Bool) (x : Opened) (s : Started) (now : World) → IsStartOf x s → 0 < x.next_unit.0 → IsInBounds s.settler.writer → (IsTrue tells → FitsDisk s.settler.writer now.disk) → CanCarry tells s now
@@ -32,18 +33,17 @@ can_carry tells x s now start above bounds fits =
     record {
       legal = subst (λ (r : Run). IsLegalRun (own_sight r).first) (sym start.run) (starts_legal base kinds opening above);
       loads = subst (λ (r : Run). NoneLoads (own_sight r).mine) (sym start.run) (starts_unloaded base kinds opening);
-      bounds = bounds;
-      fits = fits;
+      safe = record { bounds = bounds; fits = fits };
     }
 
 -- what was carried, of the program that was opened
 pub of_opened : (tells : Bool) (x : Opened) (s : Started) (lines_by : ProgramTree → List Line) (counts : Channel → ℕ) (now : World) (m : Manner) (settler' : Settler) (after : Channel → ℕ) (new : World) (result : Result Core RunFault) → IsStartOf x s
-    → WasCarried tells s (lines_by (program_tree s.checked)) counts now m settler' after new result
-    → CarriedLines tells m (program_tree x.checked) (lines_by (program_tree x.checked)) (run_of s.core) s.settler settler' counts after now new result
+    → WasCarried tells s (lines_by (program_tree s.checked)) counts now m (side_by settler' after new) result
+    → CarriedLines tells m (program_tree x.checked) (lines_by (program_tree x.checked)) (stage_by (run_of s.core) s.settler counts now) (side_by settler' after new) result
 of_opened tells x s lines_by counts now m settler' after new result start went =
-    subst (λ (k : ProgramTree). CarriedLines tells m k (lines_by k) (run_of s.core) s.settler settler' counts after now new result) (ap program_tree start.checked) went.carried
+    subst (λ (k : ProgramTree). CarriedLines tells m k (lines_by k) (stage_by (run_of s.core) s.settler counts now) (side_by settler' after new) result) (ap program_tree start.checked) went.carried
 
 -- over a host that tells
 pub told_lines : (tells : Bool) (m : Manner) (types : ProgramTree) (lines : List Line) (r : Run) (s s' : Settler) (counts counts' : Channel → ℕ) (now now' : World) (result : Result Core RunFault) → IsTrue tells
-    → CarriedLines tells m types lines r s s' counts counts' now now' result → CarriedLines true m types lines r s s' counts counts' now now' result
-told_lines tells m types lines r s s' counts counts' now now' result told carried = subst (λ (t : Bool). CarriedLines t m types lines r s s' counts counts' now now' result) told carried
+    → CarriedLines tells m types lines (stage_by r s counts now) (side_by s' counts' now') result → CarriedLines true m types lines (stage_by r s counts now) (side_by s' counts' now') result
+told_lines tells m types lines r s s' counts counts' now now' result told carried = subst (λ (t : Bool). CarriedLines t m types lines (stage_by r s counts now) (side_by s' counts' now') result) told carried

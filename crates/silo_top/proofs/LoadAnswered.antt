@@ -9,6 +9,7 @@ use Rattle.request_wire.specs.declared.requests.Line.{Line}
 use Rattle.script_tree.specs.Programs.{program_tree}
 use Rattle.core_model.specs.Legal.{Run}
 use Rattle.history_core.specs.Cores.{run_of}
+use Rattle.promise_spec.specs.Entries.{new_log}
 use Rattle.promise_spec.specs.Endings as ending
 use Rattle.promise_spec.specs.Endings.{Ending, HasRisen, HasFailedAs, IsBegun, BadUse, ReadFault, WriteFault as Unwritten}
 use Rattle.settle_loop.specs.declared.settler.Settler.{Settler}
@@ -29,6 +30,7 @@ use Rattle.silo_top.proofs.Beginning.{no_books}
 use Rattle.silo_top.proofs.Answered.{start_fresh}
 use Rattle.silo_top.proofs.Still.{still_none}
 use Rattle.silo_top.proofs.LoadServed.{load_risen}
+use Rattle.run_books.specs.Stages.{stage_by}
 
 -- a load whose turns ended by a fault names it, and nothing of the input or the output failed
 faulted_answers : (live : ℕ) (fault : RunFault) (old new : Channel → ℕ) → HasRisen (load_ending live fault) old new → new Input ≡ old Input → new Output ≡ old Output → AnswersRun (load_ending live fault) old new
@@ -53,14 +55,14 @@ faulted_answers live fault old new risen pulled calm = record {
 -- so it is over every host
 pub turns_faulted : {T : Type 0} (tells : Bool) (m : Manner) (x : Opened) (st : Started) (texts : List (List ℕ)) (lines : List Line) (w1 w2 : World) (f1 f2 : Channel → ℕ) (result : Result T RunFault) (r' : Run) (s' : Settler)
     → IsStartOf x st → st.settler.quiet ≡ true → 0 < m.width → 0 < x.next_unit.0 → AreReadFrom (program_tree x.checked) 0 texts lines
-    → CarriesOn tells m (program_tree x.checked) lines (run_of st.core) r' st.settler s' f1 f2 w1 w2 result
-    → TurnsBeside tells (run_of st.core) r' st.settler s' f1 f2 w1 w2 result → (fault : RunFault) → result ≡ Err fault → AnswersRun (load_ending x.slot fault) f1 f2
+    → CarriesOn tells m (program_tree x.checked) lines (stage_by (run_of st.core) st.settler f1 w1) (stage_by r' s' f2 w2) result
+    → TurnsBeside tells (stage_by (run_of st.core) st.settler f1 w1) (stage_by r' s' f2 w2) result → (fault : RunFault) → result ≡ Err fault → AnswersRun (load_ending x.slot fault) f1 f2
 turns_faulted {T} tells m x st texts lines w1 w2 f1 f2 result r' s' start hush wide above are carries beside fault q =
-    let o : Outset = record { live = x.slot; program = record { text = []; types = program_tree x.checked }; asked = texts; opening = []; ruled = not m.threaded; width = m.width; picks = m.picks; faults = f1; world = w1 } in
-    let goes : CarriedOn {T = T} tells m o no_books (run_of st.core) r' st.settler s' f2 w1 w2 result =
+    let o : Outset = record { live = x.slot; program = record { text = []; types = program_tree x.checked }; asked = texts; opening = new_log (record { text = []; types = program_tree x.checked }); ruled = not m.threaded; width = m.width; picks = m.picks; faults = f1; world = w1 } in
+    let goes : CarriedOn {T = T} tells m o no_books (stage_by (run_of st.core) st.settler f1 w1) (stage_by r' s' f2 w2) result =
     carries o no_books (start_fresh tells m x st texts lines w1 w1 f1 f1 start (λ told. still_none w1) (λ c. omega arith) wide above are) in
-    let ended : TurnsEndAs o goes.on.books r' s' f2 {T = T} (Err fault) = subst (TurnsEndAs o goes.on.books r' s' f2) q goes.on.ended in
-    faulted_answers x.slot fault f1 f2 (load_risen T o goes.on.books r' s' f2 fault ended) beside.pulled (beside.calm hush)
+    let ended : TurnsEndAs o goes.on.books (stage_by r' s' f2 w2) {T = T} (Err fault) = subst (TurnsEndAs o goes.on.books (stage_by r' s' f2 w2)) q goes.on.ended in
+    faulted_answers x.slot fault f1 f2 (load_risen T o goes.on.books r' s' f2 w2 fault ended) beside.pulled (beside.calm hush)
 
 -- where the summary was to be printed
 pub summary_answers : (e : Ending) (old mid new : Channel → ℕ) → MaySaySummary e → HasFailedAs e mid new → mid Input ≡ old Input → mid Output ≡ old Output → AnswersRun e old new

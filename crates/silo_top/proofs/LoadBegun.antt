@@ -8,14 +8,14 @@ use Rattle.program_file.specs.Programs.{program_in}
 use Rattle.script_tree.specs.Programs.{ProgramTree, program_tree}
 use Rattle.silo_spec.specs.Silos.{IsNewSilo}
 use Rattle.promise_spec.specs.Programs.{Program, IsChecked}
-use Rattle.promise_spec.specs.Records.{new_silo, standing_of}
+use Rattle.promise_spec.specs.Entries.{Log, initial_states, standing_of, new_log}
 use Rattle.promise_spec.specs.Logs.{magic}
 use Rattle.promise_spec.specs.Openings.{Reads, opened_as}
 use Rattle.promise_spec.specs.Images.{IsWholeFolder}
 use Rattle.promise_spec.specs.Loads.{bank_text}
 use Rattle.promise_spec.proofs.Openings.{program_checked, log_is_read, reads_is}
 use Rattle.promise_spec.proofs.WholeFolders.{whole_folder}
-use Rattle.promise_laws.proofs.SoundFolders.{new_log, new_folder}
+use Rattle.promise_laws.proofs.SoundFolders.{fresh, new_folder}
 use Rattle.promise_laws.specs.Closings.{ReadsMayStay}
 use Rattle.opening_rules.specs.Behind.{program_of}
 use Rattle.script_tree.specs.declared.programs.Program.{Program as Tree}
@@ -33,17 +33,17 @@ module _ (types : ProgramTree) (reads : program_in bank_text ≡ Ok types) where
   bank_checked = program_checked bank_text types (lit≤ tt) reads
 
   -- a new silo of it reads as it, with no record
-  pub reads_new : (seen : Image) → IsNewSilo magic bank_text seen → opened_as seen ≡ Reads 0 (bank_of types) []
-  reads_new seen new = log_is_read seen 0 (bank_of types) [] bank_checked new.program (new_log (bank_of types) seen new)
+  pub reads_new : (seen : Image) → IsNewSilo magic bank_text seen → opened_as seen ≡ Reads 0 (new_log (bank_of types))
+  reads_new seen new = log_is_read seen 0 (new_log (bank_of types)) (fresh (bank_of types) seen bank_checked new)
 
-  pub bank_whole : (w : World) → IsNewBank w → IsWholeFolder (bank_of types) w
-  bank_whole w new = whole_folder (bank_of types) w (new_folder (bank_of types) w (λ image left silo. new image left))
+  pub bank_whole : (w : World) → IsNewBank w → IsWholeFolder w
+  bank_whole w new = whole_folder w (new_folder (bank_of types) w bank_checked (λ image left silo. new image left))
 
   -- what was opened is it
-  pub opened_same : (x : Opened) (seen : Image) → IsNewSilo magic bank_text seen → (is : IsOpenedFrom seen x) → (program_of is ≡ bank_of types) × (is.log ≡ [])
+  pub opened_same : (x : Opened) (seen : Image) → IsNewSilo magic bank_text seen → (is : IsOpenedFrom seen x) → (program_of is ≡ bank_of types) × (is.log ≡ new_log (bank_of types))
   opened_same x seen new is =
-      let same = reads_is x.slot 0 (program_of is) (bank_of types) is.log [] (sym is.reads ∙ reads_new seen new) in
-      (same.1, same.2)
+      let same = reads_is x.slot 0 is.log (new_log (bank_of types)) (sym is.reads ∙ reads_new seen new) in
+      (sym is.program ∙ ap (λ (l : Log). (standing_of l).program) same.1, same.1)
 
 -- ---- with the program that was accepted
 
@@ -55,10 +55,11 @@ pub same_opened : (x : Opened) (bank : Tree) (seen : Image) → program_tree x.c
 same_opened x bank seen same is = record {
   text = is.text;
   log = is.log;
-  reads = is.reads ∙ ap (λ (t : ProgramTree). Reads x.slot (record { text = is.text; types = t }) is.log) same;
-  count = is.count ∙ ap (λ (t : ProgramTree). (standing_of t is.log).count) same;
-  next = is.next ∙ ap (λ (t : ProgramTree). (standing_of t is.log).next) same;
-  states = subst (λ (t : ProgramTree). (grain : GrainId) → unwrap_or (state_in x.store grain) ((new_silo t).states grain) ≡ (standing_of t is.log).states grain) same is.states;
+  reads = is.reads;
+  program = is.program ∙ ap (λ (t : ProgramTree). record { text = is.text; types = t }) same;
+  count = is.count;
+  next = is.next;
+  states = subst (λ (t : ProgramTree). (grain : GrainId) → unwrap_or (state_in x.store grain) (initial_states (record { text = is.text; types = t }) grain) ≡ (standing_of is.log).states grain) same is.states;
   ends = is.ends;
   within = is.within;
   gate = is.gate;

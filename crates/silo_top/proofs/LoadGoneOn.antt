@@ -31,11 +31,12 @@ use Rattle.silo_top.proofs.Observing.{observed_call}
 use Rattle.silo_top.proofs.LoadAnswered.{turns_faulted, summary_answers}
 use Rattle.silo_top.proofs.LoadServed.{failed_carries, summed_carries}
 use Rattle.silo_top.proofs.Read.{AreReadFrom}
+use Rattle.run_books.specs.Stages.{side_by, stage_by}
 
 -- over a host that tells
 pub load_carries : (n seed : ℕ) (m : Manner) (x : Opened) (st : Started) (old mid new : World) (before between after : Channel → ℕ) (result : Result Core RunFault) → IsBehindOpening old mid x → IsStartOf x st
     → program_in bank_text ≡ Ok (program_tree x.checked) → IsNewBank old → ReadsMayStay mid → ReadsMayStay new → st.settler.quiet ≡ true → (lines : List Line) → AreReadFrom (program_tree x.checked) 0 (load_texts n seed) lines
-    → 0 < m.width → 0 < x.next_unit.0 → NoneFailed before between → (settler' : Settler) → CarriedLines true m (program_tree x.checked) lines (run_of st.core) st.settler settler' between after mid new result
+    → 0 < m.width → 0 < x.next_unit.0 → NoneFailed before between → (settler' : Settler) → CarriedLines true m (program_tree x.checked) lines (stage_by (run_of st.core) st.settler between mid) (side_by settler' after new) result
     → AskFor (program_tree x.checked) (load_texts n seed) (load_calls n seed) → (requests : ℕ) → requests ≡ length (load_texts n seed) → (status : Status) (final : Channel → ℕ) (last : World)
     → LoadCounts x.slot result status after final → LoadSays result requests status new last → CarriesLoad n seed (observed_call m (load_texts n seed) old last before final status)
 load_carries n seed m x st old mid new before between after (Err fault) behind start bank_is bank stay_mid stay_new quiet lines are wide above none settler' carried asks requests many status final last counts says =
@@ -50,7 +51,7 @@ load_carries n seed m x st old mid new before between after (Ok core) behind sta
 -- over any host
 pub load_answers : (tells : Bool) (n seed : ℕ) (m : Manner) (x : Opened) (st : Started) (mid new : World) (between after : Channel → ℕ) (result : Result Core RunFault) → IsStartOf x st → st.settler.quiet ≡ true → (lines : List Line)
     → AreReadFrom (program_tree x.checked) 0 (load_texts n seed) lines → 0 < m.width → 0 < x.next_unit.0 → (settler' : Settler)
-    → CarriedLines tells m (program_tree x.checked) lines (run_of st.core) st.settler settler' between after mid new result → (status : Status) (final : Channel → ℕ) → LoadCounts x.slot result status after final → AnswersRun (status_ending status) between final
+    → CarriedLines tells m (program_tree x.checked) lines (stage_by (run_of st.core) st.settler between mid) (side_by settler' after new) result → (status : Status) (final : Channel → ℕ) → LoadCounts x.slot result status after final → AnswersRun (status_ending status) between final
 load_answers tells n seed m x st mid new between after (Err fault) start quiet lines are wide above settler' carried status final counts =
     subst (λ (f : Channel → ℕ). AnswersRun (status_ending status) between f) (sym counts.1)
     (subst (λ (e : Ending). AnswersRun e between after) (sym counts.0)

@@ -34,7 +34,7 @@ use Rattle.silo_top.specs.Loading.{IsNewBank, IsMadeFrom, CarriesLoad, LiesWithi
 use Rattle.silo_top.specs.Serving.{IsBehindOpening}
 use Rattle.silo_top.proofs.Observing.{observed_call}
 use Rattle.silo_top.proofs.Counted.{exactly_answers, open_failed, open_good}
-use Rattle.silo_top.proofs.LoadBegun.{bank_of, bank_checked, with_checked}
+use Rattle.silo_top.proofs.LoadBegun.{with_checked}
 use Rattle.silo_top.proofs.Unopened.{asked_untouched, refused_unopened}
 
 -- an answer that is this fault, or none
@@ -109,9 +109,6 @@ made_loads n seed m asked old made new before between after status is none carri
       answers = inr (record {
         made = made;
         has = record { absent = is.absent; beside = is.beside; makes = is.makes; new = is.new; syncs = is.syncs };
-        program = k.program;
-        checked = k.checked;
-        text = k.text;
         carried = k.carried;
       });
     }
@@ -121,9 +118,6 @@ made_loads n seed m asked old made new before between after status is none carri
 pub unopened_carries : (n seed : ℕ) (m : Manner) (asked : List (List ℕ)) (bank : Tree) (old new : World) (before after : Channel → ℕ) (e : OpenFault) (status : Status) → program_in bank_text ≡ Ok (program_tree bank) → status_ending status ≡ ending_of e
     → RunsOnFile manager Stays 1 old new → IsRefusedBy (seen_in old.disk) (opened_as (seen_in old.disk)) (ending_of e) → OpenFaulted e before after → CarriesLoad n seed (observed_call m asked old new before after status)
 unopened_carries n seed m asked bank old new before after e status reads is run refused faulted = record {
-  program = bank_of (program_tree bank);
-  checked = bank_checked (program_tree bank) reads;
-  text = refl;
   carried = inl (refused_unopened m asked old new before after e status is run refused faulted);
 }
 
@@ -134,14 +128,11 @@ unopened_answers e status before after is faulted = subst (λ (y : Ending). Answ
 pub starved_carries : (n seed : ℕ) (m : Manner) (asked : List (List ℕ)) (x : Opened) (old mid : World) (before after : Channel → ℕ) → program_in bank_text ≡ Ok (program_tree x.checked) → IsBehindOpening old mid x → NoneFailed before after
     → CarriesLoad n seed (observed_call m asked old mid before after Status.Memory)
 starved_carries n seed m asked x old mid before after reads is none = record {
-  program = bank_of (program_tree x.checked);
-  checked = bank_checked (program_tree x.checked) reads;
-  text = refl;
-  carried = inl (record { untouched = asked_untouched old mid is.run; unread = is.run.input; syncs = is.run.syncs; refused = tt; failed = none });
+  carried = inl (record { untouched = asked_untouched x.slot old mid is.run; unread = is.run.input; syncs = is.run.syncs; refused = tt; failed = none });
 }
 
 -- what was opened lies in the files as they read behind the opening
 pub lies_within : (x : Opened) (bank : Tree) (old mid : World) → IsBehindOpening old mid x → LiesWithin (seen_in mid.disk) (with_checked x bank)
 lies_within x bank old mid is =
-    subst (λ (image : Image). LiesWithin image (with_checked x bank)) (λ i file. sym ((asked_untouched old mid is.run).seen file) i)
+    subst (λ (image : Image). LiesWithin image (with_checked x bank)) (λ i file. sym ((asked_untouched x.slot old mid is.run).seen file) i)
     (record { within = is.opened.within; closed = is.opened.closed })

@@ -21,7 +21,7 @@ use Rattle.log_reading.specs.Steps.{seen_in}
 use Rattle.program_file.specs.Programs.{program_in}
 use Rattle.promise_spec.specs.Logs.{IsLog, IsPrefix}
 use Rattle.promise_spec.specs.Programs.{Program, IsChecked, shape_in}
-use Rattle.promise_spec.specs.Records.{Commit, standing_of}
+use Rattle.promise_spec.specs.Entries.{Log, standing_of, new_log, grown}
 use Rattle.promise_spec.specs.Outputs.{reply_lines}
 use Rattle.promise_spec.specs.Cores.{core_from, how_many}
 use Rattle.promise_spec.specs.Causes.{NoneRose, AreFaults, RoseBy, RunHasDoubt, is_vote, is_vote_of, is_no, is_unsealed, is_sealed, syncs_of, most_syncs_of}
@@ -31,7 +31,7 @@ use Rattle.promise_spec.specs.Endings.{Ending, HasRisen, HasFailedAs, IsBegun, E
 use Rattle.promise_spec.specs.Promise.{IsAnswered}
 use Rattle.promise_spec.specs.Journals.{Settlement, AllLog, commits_of, entries_of}
 use Rattle.promise_spec.specs.Courses.{Observed, Course, core_run, core_end}
-use Rattle.promise_spec.specs.Loads.{bank_text, load_calls, summary_text, AskFor}
+use Rattle.promise_spec.specs.Loads.{bank_text, load_calls, summary_text, AskFor, KeepsLoad}
 use Rattle.promise_spec.proofs.Lists.{all_of, each_of}
 use Rattle.promise_laws.specs.Closings.{ReadsMayStay, IsBehind}
 use Rattle.promise_laws.specs.Obligations.{ExplainsEvents, Opens, Lasts}
@@ -61,6 +61,7 @@ use Rattle.bank_load.specs.Summaries.{summary_line, total_kept}
 use Rattle.load_rules.specs.Loading.{HasWhole, ShowsLoad}
 use Rattle.load_rules.proofs.LoadKept.{kept_load}
 use Rattle.load_rules.proofs.Balances.{totals_kept}
+use Rattle.promise_laws.proofs.Bases.{reads_above}
 use Rattle.promise_laws.proofs.ShownRuns.{explained}
 use Rattle.silo_top.specs.declared.status.Status.{Status}
 use Rattle.silo_top.specs.Statuses.{status_ending}
@@ -78,6 +79,7 @@ use Rattle.silo_top.proofs.LoadBegun.{bank_of, bank_checked, bank_whole, opened_
 use Rattle.silo_top.proofs.OpensWith.{start_is}
 use Rattle.silo_top.proofs.Still.{still_none}
 use Rattle.silo_top.proofs.Unopened.{asked_untouched}
+use Rattle.run_books.specs.Stages.{stage_by}
 
 -- what a list of books that are none says
 rest_by : (b : Books) (mid new : World) → new.output ≡ mid.output ++ b.rest → new.output ≡ mid.output → b.rest ≡ []
@@ -151,21 +153,21 @@ load_file live InDoubt file t = t
 load_file live WriteFault file t = absurd (cc t)
 load_file live Memory file t = absurd (cc t)
 
-pub load_risen : (T : Type 0) (o : Outset) (b : Books) (r : Run) (s : Settler) (counts : Channel → ℕ) (fault : RunFault) → TurnsEndAs o b r s counts {T = T} (Err fault) → HasRisen (load_ending o.live fault) o.faults counts
-load_risen T o b r s counts InDoubt e = e.0.rose
-load_risen T o b r s counts WriteFault e = tt
-load_risen T o b r s counts Memory e = tt
+pub load_risen : (T : Type 0) (o : Outset) (b : Books) (r : Run) (s : Settler) (counts : Channel → ℕ) (now : World) (fault : RunFault) → TurnsEndAs o b (stage_by r s counts now) {T = T} (Err fault) → HasRisen (load_ending o.live fault) o.faults counts
+load_risen T o b r s counts now InDoubt e = e.0.rose
+load_risen T o b r s counts now WriteFault e = tt
+load_risen T o b r s counts now Memory e = tt
 
 module _ {T : Type 0} (n seed : ℕ) (m : Manner) (x : Opened) (st : Started) (old mid new : World) (before between after : Channel → ℕ) (result : Result T RunFault) (is : IsBehindOpening old mid x) (start : IsStartOf x st)
     (reads : program_in bank_text ≡ Ok (program_tree x.checked)) (bank : IsNewBank old) (stay_mid : ReadsMayStay mid) (stay_new : ReadsMayStay new) (hush : st.settler.quiet ≡ true) where
   abbrev pub p : Program
   p = program_of is.opened
 
-  abbrev pub log : List Commit
+  abbrev pub log : Log
   log = is.opened.log
 
   -- it opened the bank program, with an empty log
-  pub same : (p ≡ bank_of (program_tree x.checked)) × (log ≡ [])
+  pub same : (p ≡ bank_of (program_tree x.checked)) × (log ≡ new_log (bank_of (program_tree x.checked)))
   same = opened_same (program_tree x.checked) reads x (seen_in old.disk) (bank (seen_in old.disk) is.stays) is.opened
 
   pub checked : IsChecked p
@@ -178,7 +180,7 @@ module _ {T : Type 0} (n seed : ℕ) (m : Manner) (x : Opened) (st : Started) (o
   out = record { live = x.slot; program = p; asked = load_texts n seed; opening = log; ruled = not m.threaded; width = m.width; picks = m.picks; faults = before; world = mid }
 
   abbrev pub r0 : Run
-  r0 = core_from p.types (standing_of p.types log) []
+  r0 = core_from p.types (standing_of log) []
 
   abbrev head : List ℕ
   head = take 15 (old.disk (Manager x.slot)).seen
@@ -186,18 +188,18 @@ module _ {T : Type 0} (n seed : ℕ) (m : Manner) (x : Opened) (st : Started) (o
   -- ---- the turns begin
 
   module _ (lines : List Line) (are : AreReadFrom (program_tree x.checked) 0 (load_texts n seed) lines) (wide : 0 < m.width) (above : 0 < x.next_unit.0) (none : NoneFailed before between) (r' : Run) (s' : Settler)
-      (carried : CarriesOn true m (program_tree x.checked) lines (run_of st.core) r' st.settler s' between after mid new result)
-      (aside : TurnsBeside true (run_of st.core) r' st.settler s' between after mid new result) where
+      (carried : CarriesOn true m (program_tree x.checked) lines (stage_by (run_of st.core) st.settler between mid) (stage_by r' s' after new) result)
+      (aside : TurnsBeside true (stage_by (run_of st.core) st.settler between mid) (stage_by r' s' after new) result) where
     began : run_of st.core ≡ r0
     began = start_is (seen_in old.disk) x st is.opened start
 
     base : 0 < r0.base
     base = subst (λ (k : ℕ). 0 < k) is.opened.next above
 
-    kept_first : KeepsTurns true out no_books r0 st.settler between mid
+    kept_first : KeepsTurns true out no_books (stage_by r0 st.settler between mid)
     kept_first = starts_kept r0.base r0.kinds r0.opening true out st.settler between mid base (λ c. let e = none c in omega (arith, e)) start.written start.doubted start.sealing start.settles (λ told. still_none mid)
 
-    first : StartsRun true m out no_books (program_tree x.checked) r0 st.settler lines between mid
+    first : StartsRun true m out no_books (program_tree x.checked) lines (stage_by r0 st.settler between mid)
     first = record {
       outset = starts_outset r0.base r0.kinds r0.opening out (program_tree x.checked) (load_texts n seed) lines m.width m.picks are refl refl refl refl wide refl;
       can = starts_quiet r0.base r0.kinds r0.opening (program_tree x.checked) (load_texts n seed) lines st.settler are start.doubted start.written;
@@ -206,12 +208,12 @@ module _ {T : Type 0} (n seed : ℕ) (m : Manner) (x : Opened) (st : Started) (o
       kept = kept_first;
     }
 
-    pub goes : CarriedOn true m out no_books r0 r' st.settler s' after mid new result
-    goes = subst (λ (r : Run). CarriedOn true m out no_books r r' st.settler s' after mid new result) began
-        (carried out no_books (subst (λ (r : Run). StartsRun true m out no_books (program_tree x.checked) r st.settler lines between mid) (sym began) first))
+    pub goes : CarriedOn true m out no_books (stage_by r0 st.settler between mid) (stage_by r' s' after new) result
+    goes = subst (λ (r : Run). CarriedOn true m out no_books (stage_by r st.settler between mid) (stage_by r' s' after new) result) began
+        (carried out no_books (subst (λ (r : Run). StartsRun true m out no_books (program_tree x.checked) lines (stage_by r st.settler between mid)) (sym began) first))
 
-    pub beside : TurnsBeside true r0 r' st.settler s' between after mid new result
-    beside = subst (λ (r : Run). TurnsBeside true r r' st.settler s' between after mid new result) began aside
+    pub beside : TurnsBeside true (stage_by r0 st.settler between mid) (stage_by r' s' after new) result
+    beside = subst (λ (r : Run). TurnsBeside true (stage_by r st.settler between mid) (stage_by r' s' after new) result) began aside
 
     -- ---- what they wrote: nothing
 
@@ -250,7 +252,7 @@ module _ {T : Type 0} (n seed : ℕ) (m : Manner) (x : Opened) (st : Started) (o
     seen = record { manner = m; asked = load_texts n seed; old = old; new = new; faults_before = before; faults_after = after; ending = turns_ending x.slot result }
 
     pub run_is : core_run p c0 ≡ r'
-    run_is = ap (λ (es : List CoreEvent). core_from p.types (standing_of p.types log) es) (ap (λ (r : Run). r.events) beside.core) ∙ sym beside.core
+    run_is = ap (λ (es : List CoreEvent). core_from p.types (standing_of log) es) (ap (λ (r : Run). r.events) beside.core) ∙ sym beside.core
 
     course : IsCourseOf out b r' seen c0
     course = record {
@@ -270,33 +272,33 @@ module _ {T : Type 0} (n seed : ℕ) (m : Manner) (x : Opened) (st : Started) (o
     follows : FollowsOpening seen c0 mid x.slot log
     follows = record { live = refl; opening = refl; run = is.run; settled = is.settled; early = is.run.clock.past; late = later.1 }
 
-    stands : IsBehind p seen c0 mid
+    stands : IsBehind seen c0 mid
     stands = behind x seen c0 mid is.opened follows
 
-    opens : Opens p seen c0
-    opens = opens_whole p seen c0 mid stands (bank_of (program_tree x.checked)) (bank_checked (program_tree x.checked) reads) (bank_whole (program_tree x.checked) reads old bank) is.stays stay_mid
+    opens : Opens seen c0
+    opens = opens_whole p seen c0 mid stands (bank_whole (program_tree x.checked) reads old bank) is.stays stay_mid
 
     -- ---- what lasts
 
-    all : AllLog x.slot p log mid.disk
-    all = subst (λ (m : Moment). AllLog x.slot p log m.disk) stands.last opens.opened
+    all : AllLog x.slot log mid.disk
+    all = subst (λ (m : Moment). AllLog x.slot log m.disk) stands.last opens.opened
 
     seen_left : IsImage mid.disk (seen_in old.disk)
-    seen_left file = subst (MayLeave (mid.disk file)) ((asked_untouched old mid is.run).seen file) (stay_mid file)
+    seen_left file = subst (MayLeave (mid.disk file)) ((asked_untouched x.slot old mid is.run).seen file) (stay_mid file)
 
     lasting : LastsSo out head b r' s'.writer new
     lasting = goes.on.lasts told head (starts_lasting out head r0.base r0.kinds r0.opening st.settler.writer mid (still_none mid) all base
         (λ image image_is. ap (take 15) (settled_only (old.disk (Manager x.slot)).seen (image (Manager x.slot)) (subst (λ (f : FileState). MayLeave f (image (Manager x.slot))) is.settled (image_is (Manager x.slot)))))
-        (λ sure. starts_resting out x st (seen_in old.disk) is.opened start refl refl r0 mid.disk is.settled (ap (λ (f : FileState). f.seen) is.settled) seen_left all))
+        (λ sure. starts_resting out x st (seen_in old.disk) is.opened start refl is.opened.program refl r0 mid.disk is.settled (ap (λ (f : FileState). f.seen) is.settled) seen_left all))
 
     pub lasts_so : Lasts p seen c0
     lasts_so = lasts true out head b r' s' seen c0 refl goes.on.record_kept lasting course refl stands opens stay_new
 
     -- an image at the end has the whole order
-    pub has_whole : HasWhole p c0 new
+    pub has_whole : HasWhole c0 new
     has_whole = by b.doubted refl
       where
-        by : (d : List Settlement) → b.doubted ≡ d → HasWhole p c0 new
+        by : (d : List Settlement) → b.doubted ≡ d → HasWhole c0 new
         by [] q =
             let image : Image = λ file. (new.disk file).seen in
             let whole : booked_journal b ≡ b.said ++ b.unsaid = ap (λ (l : List Settlement). (b.said ++ b.unsaid) ++ l) q ∙ append-nil (b.said ++ b.unsaid) in
@@ -304,12 +306,12 @@ module _ {T : Type 0} (n seed : ℕ) (m : Manner) (x : Opened) (st : Started) (o
               image = image;
               left = stay_new;
               has = elim (lasting.journal.log image stay_new) [
-                | inl was ↦ subst (λ (l : List Settlement). IsLog x.slot (shape_in p) image (log ++ commits_of l)) (sym whole) was
+                | inl was ↦ subst (λ (l : List Settlement). IsLog x.slot image (grown log (commits_of l))) (sym whole) was
                 | inr has ↦ has
               ];
             }
         by (batch ∷ more) q =
-            let some : SomeImage (λ image. IsLog x.slot (shape_in p) image (log ++ commits_of (booked_journal b))) new.disk = lasting.some (λ none. is_some batch more (sym q ∙ none)) in
+            let some : SomeImage (λ image. IsLog x.slot image (grown log (commits_of (booked_journal b)))) new.disk = lasting.some (λ none. is_some batch more (sym q ∙ none)) in
             record { image = some.image; left = some.left; has = some.holds }
           where
             is_some : (y : Settlement) (ys : List Settlement) → y ∷ ys ≡ [] → ⊥
@@ -336,7 +338,7 @@ module _ {T : Type 0} (n seed : ℕ) (m : Manner) (x : Opened) (st : Started) (o
       c = record c0 { late = later.0 ++ behind_turns; entries = (core_end p c0).manager.settled }
 
       -- it stands behind the opening, and the files are as the turns left them
-      still_behind : IsBehind p r c mid
+      still_behind : IsBehind r c mid
       still_behind = behind x r c mid is.opened (record {
         live = refl;
         opening = refl;
@@ -375,10 +377,11 @@ module _ {T : Type 0} (n seed : ℕ) (m : Manner) (x : Opened) (st : Started) (o
       asked = asks
 
       -- what it has to show, but how it ended
-      shows : ExplainsEvents p r c → ((behind_turns ≡ []) × (last.output ≡ old.output)) ⊎ (RunHasDoubt (core_run p c) → ⊥) → Prints (summary_text p r c) r → (e ≢ ending.Done → e ≢ ending.WriteFault → last.output ≡ old.output)
+      shows : ExplainsEvents p r c → ((behind_turns ≡ []) × (last.output ≡ old.output)) ⊎ (RunHasDoubt (core_run p c) → ⊥) → Prints (summary_text r c) r → (e ≢ ending.Done → e ≢ ending.WriteFault → last.output ≡ old.output)
           → IsBegun e → HasRisen e before final → ((e ≡ ending.Done) ⊎ (e ≡ ending.WriteFault) → IsAnswered r c) → (e ≡ ending.WriteFault → RunHasDoubt (core_run p c) → ⊥)
           → (NoneRose before final → e ≡ ending.Done → last.syncs ≡ old.syncs + syncs_of (core_run p c)) → last.syncs ≡ new.syncs → ShowsLoad p n seed r c new after (turns_ending x.slot result) later.0 behind_turns
       shows explains_r printed output silent begun risen done undoubted syncs said = record {
+        in_force = is.opened.program;
         asked = asked;
         lasts = lasts_so;
         whole = record { image = has_whole.image; left = has_whole.left; has = has_whole.has };
@@ -402,13 +405,16 @@ module _ {T : Type 0} (n seed : ℕ) (m : Manner) (x : Opened) (st : Started) (o
       }
 
       carries : ShowsLoad p n seed r c new after (turns_ending x.slot result) later.0 behind_turns → CarriesLoad n seed r
-      carries s = record { program = p; checked = checked; text = text; carried = inr (c, kept_load p n seed r c new after (turns_ending x.slot result) later.0 behind_turns s) }
+      carries s = record {
+        carried = inr (c, ap (λ (q : Program). q.text) is.opened.program ∙ text,
+            subst (λ (q : Program). KeepsLoad q n seed r c) (sym is.opened.program) (kept_load p n seed r c new after (turns_ending x.slot result) later.0 behind_turns s));
+      }
 
     -- the turns ended by a fault
     pub failed_carries : AskFor (program_tree x.checked) (load_texts n seed) (load_calls n seed) → (fault : RunFault) → result ≡ Err fault → (status : Status) → status_ending status ≡ load_ending x.slot fault
         → CarriesLoad n seed (observed_call (m) (load_texts n seed) old new before after status)
     failed_carries asks fault q status ends_as =
-        let ended : TurnsEndAs out b r' s' after {T = T} (Err fault) = subst (TurnsEndAs out b r' s' after) q goes.on.ended in
+        let ended : TurnsEndAs out b (stage_by r' s' after new) {T = T} (Err fault) = subst (TurnsEndAs out b (stage_by r' s' after new)) q goes.on.ended in
         let past : new.past ≡ new.past ++ [] = sym (append-nil new.past) in
         carries asks new after status [] past refl (λ m there. absurd there) refl (λ file. refl)
         (shows asks new after status [] past refl (λ m there. absurd there) refl (λ file. refl)
@@ -418,7 +424,7 @@ module _ {T : Type 0} (n seed : ℕ) (m : Manner) (x : Opened) (st : Started) (o
         (record { added = []; output = same_output ∙ sym (append-nil old.output); front = (_, refl); whole = λ t. absurd (load_undone x.slot fault (sym ends_as ∙ t)); none = inl refl })
         (λ one other. same_output)
         (subst IsBegun (sym ends_as) (load_begun x.slot fault))
-        (subst (λ (y : Ending). HasRisen y before after) (sym ends_as) (load_risen T out b r' s' after fault ended))
+        (subst (λ (y : Ending). HasRisen y before after) (sym ends_as) (load_risen T out b r' s' after new fault ended))
         (λ which. elim which [ inl t ↦ absurd (load_undone x.slot fault (sym ends_as ∙ t)) | inr t ↦ absurd (load_unwritten x.slot fault (sym ends_as ∙ t)) ])
         (λ t d. load_unwritten x.slot fault (sym ends_as ∙ t))
         (λ calm t. absurd (load_undone x.slot fault (sym ends_as ∙ t))) refl)
@@ -428,15 +434,17 @@ module _ {T : Type 0} (n seed : ℕ) (m : Manner) (x : Opened) (st : Started) (o
         → SaysSummary (summary_line (ends r').manager.settled requests (total_kept (ends r') 64)) (status_ending status) new last → HasFailedAs (status_ending status) after final → MaySaySummary (status_ending status)
         → CarriesLoad n seed (observed_call (m) (load_texts n seed) old last before final status)
     summed_carries asks done q status last final requests many says failed may =
-        let ended : HasCarriedAll out r' s' = (subst (TurnsEndAs out b r' s' after) q goes.on.ended).0 in
+        let ended : HasCarriedAll out (stage_by r' s' after new) = (subst (TurnsEndAs out b (stage_by r' s' after new)) q goes.on.ended).0 in
         let same_files : (file : FileId) → final (File file) ≡ after (File file) = files_same (status_ending status) after final may failed in
         let sure : RunHasDoubt (core_run p c0) → ⊥ = λ d. ended.never (subst RunHasDoubt run_is d) in
         let explains_r = explains_at asks last final status says.told says.past says.disk says.left says.input same_files (λ file t. absurd (summary_no_file (status_ending status) may file t)) (λ d. absurd (sure d)) in
+        let opens_above : 0 < log.base.next = reads_above x.slot (seen_in old.disk) log is.opened.reads in
+        let opening_is : log ≡ new_log p = same.1 ∙ ap new_log (sym same.0) in
         let rr : Observed = observed_call (m) (load_texts n seed) old last before final status in
         let cc0 : Course = record c0 { late = later.0 ++ says.told; entries = (core_end p c0).manager.settled } in
-        let text_is : summary_line (ends r').manager.settled requests (total_kept (ends r') 64) ≡ summary_text p rr cc0 =
+        let text_is : summary_line (ends r').manager.settled requests (total_kept (ends r') 64) ≡ summary_text rr cc0 =
         (λ i. summary_line (ends (run_is' i)).manager.settled (many i) (total_kept (ends (run_is' i)) 64))
-        ∙ ap (λ z. summary_line (core_end p c0).manager.settled (length (load_texts n seed)) z) (sym (totals_kept p rr cc0 (explained p rr cc0 explains_r) checked text same.1 sure)) in
+        ∙ ap (λ z. summary_line (core_end p c0).manager.settled (length (load_texts n seed)) z) (sym (totals_kept p rr cc0 (explained p rr cc0 opens_above explains_r) checked text opening_is sure)) in
         carries asks last final status says.told says.past says.disk says.left says.input same_files
         (shows asks last final status says.told says.past says.disk says.left says.input same_files
         explains_r

@@ -16,7 +16,7 @@ use Rattle.cell_table.specs.Table.{opening_state, initial_fields, state_or}
 use Rattle.script_tree.specs.Programs.{TypeTree, ProgramTree, program_tree}
 use Rattle.script_check.specs.Shapes.{type_shape, type_shapes}
 use Rattle.script_meaning.specs.Play.{initial_of}
-use Rattle.promise_spec.specs.Records.{standing_of}
+use Rattle.promise_spec.specs.Entries.{standing_of}
 use Rattle.promise_spec.specs.Cores.{core_from}
 use Rattle.history_core.specs.Cores.{run_of}
 use Rattle.silo_opening.specs.Opened.{IsOpenedFrom}
@@ -40,7 +40,7 @@ kept_or (Some state) initial = refl
 
 -- the core opens with what the log stands for
 states_are : (image : Image) (o : Opened) (is : IsOpenedFrom image o) (g : GrainId)
-    → opening_state (record { types = type_shapes (program_tree o.checked) }) o.store g ≡ (standing_of (program_tree o.checked) is.log).states g
+    → opening_state (record { types = type_shapes (program_tree o.checked) }) o.store g ≡ (standing_of is.log).states g
 states_are image o is g =
     kept_or (state_in o.store g) (initial_fields (slice_get (type_shapes (program_tree o.checked)) g.kind))
     ∙ ap (λ (initial : List Value). unwrap_or (state_in o.store g) initial) (ap initial_fields (slice_get-map type_shape (program_tree o.checked) g.kind) ∙ initial_at (slice_get (program_tree o.checked) g.kind))
@@ -51,7 +51,7 @@ many_types [] = refl
 many_types (t ∷ types) = ap suc (many_types types)
 
 -- so its run is that of the log's standing
-pub start_is : (image : Image) (o : Opened) (s : Started) → (is : IsOpenedFrom image o) → IsStartOf o s → run_of s.core ≡ core_from (program_tree o.checked) (standing_of (program_tree o.checked) is.log) []
+pub start_is : (image : Image) (o : Opened) (s : Started) → (is : IsOpenedFrom image o) → IsStartOf o s → run_of s.core ≡ core_from (program_tree o.checked) (standing_of is.log) []
 start_is image o s is start = start.run ∙ (λ i. record {
   base = is.next i;
   kinds = many_types (program_tree o.checked) i;

@@ -12,7 +12,8 @@ use Rattle.host_trait.proofs.Moments.{weaker}
 use Rattle.gate_block.specs.Log.{gate_of}
 use Rattle.promise_spec.specs.Logs.{IsLog}
 use Rattle.promise_spec.specs.Programs.{Program, shape_in}
-use Rattle.promise_spec.specs.Records.{Commit}
+use Rattle.promise_spec.specs.Entries.{Log, grown}
+use Rattle.promise_spec.proofs.Standings.{grown_none}
 use Rattle.promise_spec.specs.Words.{Manner}
 use Rattle.promise_spec.specs.Endings.{Ending, Done, DiskFault, HasRisen, IsCarried, HasLength}
 use Rattle.promise_spec.specs.Causes.{RunHasDoubt}
@@ -73,7 +74,7 @@ module _ (m : Manner) (o : Opened) (old mid new : World) (before after : Channel
   follows : FollowsOpening r c mid o.slot is.opened.log
   follows = record { live = refl; opening = refl; run = is.run; settled = is.settled; early = is.run.clock.past; late = pulled.moments.past }
 
-  stands : IsBehind p r c mid
+  stands : IsBehind r c mid
   stands = behind o r c mid is.opened follows
 
   no_doubt : RunHasDoubt (core_run p c) → ⊥
@@ -81,6 +82,7 @@ module _ (m : Manner) (o : Opened) (old mid new : World) (before after : Channel
 
   answers : ShowsAnywhere p r c
   answers = record {
+    in_force = is.opened.program;
     explains = record {
       records = inl tt;
       units = λ at e a. absurd (none_applies (core_run p c).base (core_run p c).kinds (core_run p c).opening at e a);
@@ -110,35 +112,35 @@ module _ (m : Manner) (o : Opened) (old mid new : World) (before after : Channel
 
   -- ---- what lasts
 
-  abbrev IsLogOf : List Commit → Image → Type 0
-  IsLogOf l image = IsLog o.slot (shape_in p) image l
+  abbrev IsLogOf : Log → Image → Type 0
+  IsLogOf l image = IsLog o.slot image l
 
-  module _ (opens : Opens p r c) where
-    all_mid : AllLog o.slot p c.opening mid.disk
-    all_mid = subst (λ (x : Moment). AllLog o.slot p c.opening x.disk) stands.last opens.opened
+  module _ (opens : Opens r c) where
+    all_mid : AllLog o.slot c.opening mid.disk
+    all_mid = subst (λ (x : Moment). AllLog o.slot c.opening x.disk) stands.last opens.opened
 
-    seals : Seals o.slot p (c.opening ++ []) [] mid new
+    seals : Seals o.slot (grown c.opening []) [] mid new
     seals = record {
-      moments = weaker (λ (x : Moment). x ≡ moment_of mid) (IsSealing o.slot p (c.opening ++ []) [] mid) at pulled.moments;
+      moments = weaker (λ (x : Moment). x ≡ moment_of mid) (IsSealing o.slot (grown c.opening []) [] mid) at pulled.moments;
       output = pulled.output;
-      log = λ image left. subst (λ (l : List Commit). IsLogOf l image) (sym (append-nil (c.opening ++ []) ∙ append-nil c.opening)) (all_mid image (subst (λ (d : Disk). IsImage d image) pulled.disk left));
+      log = λ image left. subst (λ (l : Log). IsLogOf l image) (sym (grown_none (grown c.opening []) ∙ grown_none c.opening)) (all_mid image (subst (λ (d : Disk). IsImage d image) pulled.disk left));
     }
       where
-        at : (x : Moment) → x ≡ moment_of mid → IsSealing o.slot p (c.opening ++ []) [] mid x
+        at : (x : Moment) → x ≡ moment_of mid → IsSealing o.slot (grown c.opening []) [] mid x
         at x e = record {
           output = ap (λ (y : Moment). y.output) e;
-          log = λ image left. inl (subst (λ (l : List Commit). IsLogOf l image) (sym (append-nil c.opening)) (all_mid image (subst (λ (y : Moment). IsImage y.disk image) e left)));
+          log = λ image left. inl (subst (λ (l : Log). IsLogOf l image) (sym (grown_none c.opening)) (all_mid image (subst (λ (y : Moment). IsImage y.disk image) e left)));
         }
 
     cut : CutAt o.slot p c.opening mid [] [] [] [] new
     cut = whole_cut o.slot p c.opening mid [] [] new (stays_on o.slot p c.opening mid [] [] mid new tt (begins_at o.slot p c.opening mid mid refl refl all_mid) seals)
 
     ends_batch : EndsABatch (core_end p c) c.opening c.opening
-    ends_batch = subst (EndsABatch (core_end p c) c.opening) (append-nil c.opening)
+    ends_batch = subst (EndsABatch (core_end p c) c.opening) (grown_none c.opening)
         (records-end (basis p r c) (core_run p c) c.opening [] (subst (λ (n : ℕ). 0 < n) is.opened.next above) answers.explains.units (inl tt))
 
-    batch_at : (x : Moment) → x ≡ moment_of mid → AllEnd o.slot p (core_end p c) c.opening x
-    batch_at x e = logged_ends o.slot p (core_end p c) c.opening c.opening x (subst (λ (y : Moment). AllLog o.slot p c.opening y.disk) (sym e) all_mid) ends_batch
+    batch_at : (x : Moment) → x ≡ moment_of mid → AllEnd o.slot (core_end p c) c.opening x
+    batch_at x e = logged_ends o.slot (core_end p c) c.opening c.opening x (subst (λ (y : Moment). AllLog o.slot c.opening y.disk) (sym e) all_mid) ends_batch
 
     alone_at : (x : Moment) → x ≡ moment_of mid → LeavesAlone o.slot r x
     alone_at x e = record {
@@ -154,7 +156,7 @@ module _ (m : Manner) (o : Opened) (old mid new : World) (before after : Channel
     carries = record {
       commits = refl;
       backs = λ e l s front back q es la ack. absurd la;
-      batches = weaker (λ (x : Moment). x ≡ moment_of mid) (AllEnd o.slot p (core_end p c) c.opening) batch_at pulled.moments;
+      batches = weaker (λ (x : Moment). x ≡ moment_of mid) (AllEnd o.slot (core_end p c) c.opening) batch_at pulled.moments;
       batches_now = batch_at (moment_of new) now_is;
       alone = weaker (λ (x : Moment). x ≡ moment_of mid) (LeavesAlone o.slot r) alone_at pulled.moments;
       alone_now = alone_at (moment_of new) now_is;

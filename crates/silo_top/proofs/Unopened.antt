@@ -30,40 +30,40 @@ use Rattle.silo_top.proofs.Counted.{open_failed}
 -- ---- nothing but asking
 
 -- where no byte changed, no outcome of a crash was added
-unchanged : (old : World) (m : Moment) → ChangesFile (Manager 0) Stays old m → IsAsAtEntry old m
-unchanged old m changes = record { quiet = changes.output; images = images }
+unchanged : (live : ℕ) (old : World) (m : Moment) → ChangesFile (Manager live) Stays old m → IsAsAtEntry old m
+unchanged live old m changes = record { quiet = changes.output; images = images }
   where
     images : (image : Image) → IsImage m.disk image → IsImage old.disk image
-    images image is file = elim (cases_file (Manager 0) file) [
+    images image is file = elim (cases_file (Manager live) file) [
       | inl same ↦
-          let crash = changes.crash (image (Manager 0)) (is (Manager 0)) in
-          let left : MayLeave (old.disk (Manager 0)) (image (Manager 0)) = subst (λ (d : List ℕ). MayLeave (old.disk (Manager 0)) d) (sym crash.2) crash.1 in
+          let crash = changes.crash (image (Manager live)) (is (Manager live)) in
+          let left : MayLeave (old.disk (Manager live)) (image (Manager live)) = subst (λ (d : List ℕ). MayLeave (old.disk (Manager live)) d) (sym crash.2) crash.1 in
           subst (λ (f : FileId). MayLeave (old.disk f) (image f)) same left
       | inr other ↦ subst (λ (s : FileState). MayLeave s (image file)) (changes.others file (λ e. other (sym e))) (is file)
     ]
 
-pub asked_untouched : (old new : World) → RunsOnFile (Manager 0) Stays 1 old new → IsUntouched old new
-asked_untouched old new run = record {
-  moments = weaker (ChangesFile (Manager 0) Stays old) (IsAsAtEntry old) (unchanged old) run.moments;
-  now = unchanged old (moment_of new) run.now;
+pub asked_untouched : (live : ℕ) (old new : World) → RunsOnFile (Manager live) Stays 1 old new → IsUntouched old new
+asked_untouched live old new run = record {
+  moments = weaker (ChangesFile (Manager live) Stays old) (IsAsAtEntry old) (unchanged live old) run.moments;
+  now = unchanged live old (moment_of new) run.now;
   seen = seen;
 }
   where
     seen : (file : FileId) → (new.disk file).seen ≡ (old.disk file).seen
-    seen file = elim (cases_file (Manager 0) file) [
+    seen file = elim (cases_file (Manager live) file) [
       | inl same ↦ subst (λ (f : FileId). (new.disk f).seen ≡ (old.disk f).seen) same run.seen
       | inr other ↦ ap (λ (s : FileState). s.seen) (run.now.others file (λ e. other (sym e)))
     ]
 
 -- a run that didn't open its folder keeps its promise
 pub unopened_promised : (m : Manner) (r : Observed) → r.manner ≡ m → IsUnopened r → Promises m r
-unopened_promised m r is u = record { manner = is; answers = inl u; over_whole = λ p checked whole. inl u }
+unopened_promised m r is u = record { manner = is; answers = inl u; over_whole = λ whole. inl u }
 
 -- so does one whose opening answered a fault
 pub refused_promised : (m : Manner) (old new : World) (before after : Channel → ℕ) (e : OpenFault) (status : Status) → status_ending status ≡ ending_of e → RunsOnFile (Manager 0) Stays 1 old new
     → IsRefusedBy (seen_in old.disk) (opened_as (seen_in old.disk)) (ending_of e) → OpenFaulted e before after → Promises m (observed_run m old new before after status)
 refused_promised m old new before after e status is run refused faulted = unopened_promised m (observed_run m old new before after status) refl (record {
-  untouched = asked_untouched old new run;
+  untouched = asked_untouched 0 old new run;
   unread = run.input;
   syncs = run.syncs;
   refused = subst (λ (x : Ending). IsRefusedBy (seen_in old.disk) (opened_as (seen_in old.disk)) x) (sym is) refused;
@@ -115,7 +115,7 @@ starved_unmade m asked w counts = record {
 pub refused_unopened : (m : Manner) (asked : List (List ℕ)) (old new : World) (before after : Channel → ℕ) (e : OpenFault) (status : Status) → status_ending status ≡ ending_of e → RunsOnFile (Manager 0) Stays 1 old new
     → IsRefusedBy (seen_in old.disk) (opened_as (seen_in old.disk)) (ending_of e) → OpenFaulted e before after → IsUnopened (observed_call m asked old new before after status)
 refused_unopened m asked old new before after e status is run refused faulted = record {
-  untouched = asked_untouched old new run;
+  untouched = asked_untouched 0 old new run;
   unread = run.input;
   syncs = run.syncs;
   refused = subst (λ (x : Ending). IsRefusedBy (seen_in old.disk) (opened_as (seen_in old.disk)) x) (sym is) refused;

@@ -1,5 +1,5 @@
 -- What follows, however the lines are carried of a run or a load that has begun.
-use Rattle.std.specs.Prelude.{◌≡◌, ◌<◌, ◌≤◌, ℕ, Bool, IsTrue, List, length, Result, Ok, Err}
+use Rattle.std.specs.Prelude.{◌≡◌, ◌<◌, ◌≤◌, ℕ, Bool, List, length, Result, Ok, Err}
 use Rattle.host_trait.specs.declared.channels.Channel.{Channel}
 use Rattle.host_trait.specs.World.{World}
 use Rattle.core_access.specs.OneHolder.{own_sight}
@@ -11,7 +11,6 @@ use Rattle.run_lines.specs.Reading.{input_lines}
 use Rattle.script_tree.specs.Programs.{program_tree}
 use Rattle.txn_agent.specs.Linked.{IsLegalRun}
 use Rattle.worker_rules.specs.Stories.{NoneLoads}
-use Rattle.batch_disk.specs.Writers.{IsInBounds, FitsDisk}
 use Rattle.settle_loop.specs.declared.settler.Settler.{Settler}
 use Rattle.promise_laws.specs.Closings.{ReadsMayStay}
 use Rattle.promise_spec.specs.Words.{Manner, Run, Load}
@@ -20,6 +19,7 @@ use Rattle.promise_spec.specs.Promise.{Promises}
 use Rattle.promise_spec.specs.Loads.{Loads}
 use Rattle.bank_load.specs.Summaries.{summary_line, total_kept}
 use Rattle.run_books.specs.Closing.{turns_ending}
+use Rattle.run_books.specs.Stages.{Side, stage_by, side_by, IsSafe}
 use Rattle.run_books.specs.declared.faults.RunFault.{RunFault}
 use Rattle.silo_top.specs.declared.starting.Started.{Started}
 use Rattle.silo_top.specs.declared.status.Status.{Status}
@@ -32,13 +32,12 @@ use Rattle.silo_top.specs.Loading.{load_ending, SaysSummary, MaySaySummary}
 pub record CanCarry (tells : Bool) (s : Started) (now : World) : Type 0 where
   pub legal : IsLegalRun (own_sight (run_of s.core)).first
   pub loads : NoneLoads (own_sight (run_of s.core)).mine
-  pub bounds : IsInBounds s.settler.writer
-  pub fits : IsTrue tells → FitsDisk s.settler.writer now.disk
+  pub safe : IsSafe tells s.settler.writer now
 
 -- they were, in this manner, and ended so
-pub record WasCarried (tells : Bool) (s : Started) (lines : List Line) (counts : Channel → ℕ) (now : World) (m : Manner) (settler' : Settler) (counts' : Channel → ℕ) (now' : World) (result : Result Core RunFault) : Type 0 where
+pub record WasCarried (tells : Bool) (s : Started) (lines : List Line) (counts : Channel → ℕ) (now : World) (m : Manner) (after : Side) (result : Result Core RunFault) : Type 0 where
   pub wide : 0 < m.width
-  pub carried : CarriedLines tells m (program_tree s.checked) lines (run_of s.core) s.settler settler' counts counts' now now' result
+  pub carried : CarriedLines tells m (program_tree s.checked) lines (stage_by (run_of s.core) s.settler counts now) after result
 
 -- ---- a run
 
@@ -50,14 +49,14 @@ lines_over s input = input_lines (program_tree s.checked) input
 abbrev pub KeepsOn : Bool → Started → List ℕ → (Channel → ℕ) → World → (Channel → ℕ) → World → Type 0
 KeepsOn tells s input before old counts now =
     (m : Manner) (settler' : Settler) (after : Channel → ℕ) (new : World) (result : Result Core RunFault) (status : Status)
-    → WasCarried tells s (lines_over s input) counts now m settler' after new result → ReadsMayStay new → length input ≤ input_limit → status_ending status ≡ turns_ending s.slot result
+    → WasCarried tells s (lines_over s input) counts now m (side_by settler' after new) result → ReadsMayStay new → length input ≤ input_limit → status_ending status ≡ turns_ending s.slot result
     → Promises m (shown old new before after status (Run m))
 
 -- over any host, what it answers is right
 abbrev pub AnswersOn : Bool → Started → List ℕ → (Channel → ℕ) → (Channel → ℕ) → World → Type 0
 AnswersOn tells s input before counts now =
     (m : Manner) (settler' : Settler) (after : Channel → ℕ) (new : World) (result : Result Core RunFault)
-    → WasCarried tells s (lines_over s input) counts now m settler' after new result → AnswersRun (turns_ending s.slot result) before after
+    → WasCarried tells s (lines_over s input) counts now m (side_by settler' after new) result → AnswersRun (turns_ending s.slot result) before after
 
 -- ---- a load
 
@@ -76,11 +75,11 @@ LoadSays (Err fault) requests status new last = last ≡ new
 abbrev pub LoadsOn : ℕ → ℕ → Bool → Started → List Line → (Channel → ℕ) → World → (Channel → ℕ) → World → Type 0
 LoadsOn n seed tells s lines before old counts now =
     (m : Manner) (settler' : Settler) (after : Channel → ℕ) (new : World) (result : Result Core RunFault) (requests : ℕ) (status : Status) (final : Channel → ℕ) (last : World)
-    → WasCarried tells s lines counts now m settler' after new result → ReadsMayStay new → LoadCounts s.slot result status after final → LoadSays result requests status new last
+    → WasCarried tells s lines counts now m (side_by settler' after new) result → ReadsMayStay new → LoadCounts s.slot result status after final → LoadSays result requests status new last
     → requests ≡ length lines → Loads n seed m (shown old last before final status (Load n seed m))
 
 -- over any host, what it answers is right
 abbrev pub LoadAnswersOn : Bool → Started → List Line → (Channel → ℕ) → (Channel → ℕ) → World → Type 0
 LoadAnswersOn tells s lines before counts now =
     (m : Manner) (settler' : Settler) (after : Channel → ℕ) (new : World) (result : Result Core RunFault) (status : Status) (final : Channel → ℕ)
-    → WasCarried tells s lines counts now m settler' after new result → LoadCounts s.slot result status after final → AnswersRun (status_ending status) before final
+    → WasCarried tells s lines counts now m (side_by settler' after new) result → LoadCounts s.slot result status after final → AnswersRun (status_ending status) before final

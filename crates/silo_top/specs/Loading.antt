@@ -10,10 +10,9 @@ use Rattle.silo_opening.specs.declared.open.Opened.{Opened}
 use Rattle.host_trait.specs.World.{World, Moment, Image, IsImage}
 use Rattle.silo_spec.specs.Silos.{manager, IsSilo, IsNewSilo}
 use Rattle.silo_spec.specs.Making.{StaysBeside, IsNewAt, FromFirstSync}
-use Rattle.promise_spec.specs.Programs.{Program, IsChecked}
 use Rattle.promise_spec.specs.Logs.{magic, IsPrefix}
 use Rattle.promise_spec.specs.Endings as ending
-use Rattle.promise_spec.specs.Courses.{Observed, Course}
+use Rattle.promise_spec.specs.Courses.{Observed, Course, program_in_force}
 use Rattle.run_books.specs.declared.faults.RunFault.{RunFault}
 use Rattle.run_books.specs.declared.faults.RunFault.TheVariants.{InDoubt, WriteFault, Memory}
 use Rattle.promise_spec.specs.Refusals.{IsUnopened}
@@ -31,12 +30,10 @@ pub record IsMadeFrom (old made : World) : Type 0 where
   pub new : IsNewBank made
   pub syncs : (old.syncs + 4 ≤ made.syncs) × (made.syncs ≤ old.syncs + 5)
 
--- What a load does behind the making of its silo: it doesn't open it, or takes a course that keeps the promise of a load.
+-- What a load does behind the making of its silo: it doesn't open it, or takes a course that keeps the promise of a load, of the
+-- bank program.
 pub record CarriesLoad (n seed : ℕ) (r : Observed) : Type 0 where
-  pub program : Program
-  pub checked : IsChecked program
-  pub text : program.text ≡ bank_text
-  pub carried : IsUnopened r ⊎ ((c : Course) × KeepsLoad program n seed r c)
+  pub carried : IsUnopened r ⊎ ((c : Course) × ((program_in_force c).text ≡ bank_text) × KeepsLoad (program_in_force c) n seed r c)
 
 -- a summary is printed, or the output failed, or there was no memory
 abbrev pub MaySaySummary : ending.Ending → Type 0

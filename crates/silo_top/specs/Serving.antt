@@ -17,7 +17,7 @@ pub record IsBehindOpening (old mid : World) (o : Opened) : Type 0 where
   pub opened : IsOpenedFrom (seen_in old.disk) o
   pub settled : mid.disk (Manager o.slot) ≡ settled (old.disk (Manager o.slot)).seen
   pub count : mid.syncs ≡ old.syncs + 1
-  pub run : RunsOnFile (Manager 0) Stays 1 old mid
+  pub run : RunsOnFile (Manager o.slot) Stays 1 old mid
   pub stays : ReadsMayStay old
 
 -- how a run in this slot ends whose turns ended by this fault

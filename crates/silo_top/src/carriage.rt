@@ -1,13 +1,13 @@
-ghost use Rattle.std.specs.Prelude.{◌≤◌, IsTrue};
+ghost use Rattle.std.specs.Prelude.{◌≤◌};
 ghost use Rattle.host_trait.specs.Files.{StaysReady};
 ghost use Rattle.core_access.specs.OneHolder.{own_sight};
 ghost use Rattle.history_core.specs.Cores.{run_of};
 ghost use Rattle.script_tree.specs.Programs.{program_tree};
 ghost use Rattle.txn_agent.specs.Linked.{IsLegalRun};
 ghost use Rattle.worker_rules.specs.Stories.{NoneLoads};
-ghost use Rattle.batch_disk.specs.Writers.{IsInBounds, FitsDisk};
 ghost use Rattle.silo_top.specs.Answering.{turns_manner, workers_manner};
 ghost use Rattle.silo_top.specs.Carrying.{CarriedLines};
+ghost use Rattle.run_books.specs.Stages.{side_of, stage_of, IsSafe};
 
 use base_types::List;
 use history_core::Core;
@@ -36,11 +36,10 @@ pub(crate) fn carry_in_turns<H: Host, G: Gate, L: Lines + Copy>(
 ) -> Result<Core, RunFault>
     requires legal { IsLegalRun (own_sight (run_of core)).first }
     requires loads { NoneLoads (own_sight (run_of core)).mine }
-    requires bounds { IsInBounds settler.old.writer }
-    requires fits { IsTrue H.tells → FitsDisk settler.old.writer (H.world host.old).disk }
-    ensures carried { CarriedLines H.tells (turns_manner width picks.now) (program_tree checked.now) (L.lines lines) (run_of core) settler.old settler.new (H.faults host.old) (H.faults host.new) (H.world host.old) (H.world host.new) result }
-    ensures bounds { IsInBounds settler.new.writer }
-    ensures fits { IsTrue H.tells → FitsDisk settler.new.writer (H.world host.new).disk }
+    requires safe { IsSafe H.tells settler.old.writer (H.world host.old) }
+    ensures carried { CarriedLines H.tells (turns_manner width picks.now) (program_tree checked.now) (L.lines lines)
+        (stage_of H.world H.faults (run_of core) settler.old host.old) (side_of H.world H.faults settler.new host.new) result }
+    ensures safe { IsSafe H.tells settler.new.writer (H.world host.new) }
     ensures ready { StaysReady (H.is_ready host.old) (H.is_ready host.new) }
 {
     let mut core = core;
@@ -74,11 +73,10 @@ pub(crate) fn carry_by_workers<
     requires few { workers ≤ 16 }
     requires legal { IsLegalRun (own_sight (run_of core)).first }
     requires loads { NoneLoads (own_sight (run_of core)).mine }
-    requires bounds { IsInBounds settler.old.writer }
-    requires fits { IsTrue H.tells → FitsDisk settler.old.writer (H.world host.old).disk }
-    ensures carried { CarriedLines H.tells workers_manner (program_tree checked.now) (L.lines lines) (run_of core) settler.old settler.new (H.faults host.old) (H.faults host.new) (H.world host.old) (H.world host.new) result }
-    ensures bounds { IsInBounds settler.new.writer }
-    ensures fits { IsTrue H.tells → FitsDisk settler.new.writer (H.world host.new).disk }
+    requires safe { IsSafe H.tells settler.old.writer (H.world host.old) }
+    ensures carried { CarriedLines H.tells workers_manner (program_tree checked.now) (L.lines lines)
+        (stage_of H.world H.faults (run_of core) settler.old host.old) (side_of H.world H.faults settler.new host.new) result }
+    ensures safe { IsSafe H.tells settler.new.writer (H.world host.new) }
     ensures ready { StaysReady (H.is_ready host.old) (H.is_ready host.new) }
 {
     let (back, ended) = run_with_workers(

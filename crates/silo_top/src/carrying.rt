@@ -4,8 +4,7 @@ ghost use Rattle.host_trait.specs.Files.{StaysReady};
 ghost use Rattle.run_books.specs.Closing.{turns_ending};
 ghost use Rattle.promise_spec.specs.Words as command;
 ghost use Rattle.promise_spec.specs.Promise.{Promises};
-ghost use Rattle.silo_top.specs.Answering.{AnswersRun, shown};
-ghost use Rattle.silo_top.specs.Answering.{turns_manner, workers_manner};
+ghost use Rattle.silo_top.specs.Answering.{AnswersRun, shown, turns_manner, workers_manner};
 ghost use Rattle.silo_opening.specs.Opened.{ending_of};
 ghost use Rattle.silo_top.specs.GoingOn.{CanCarry, KeepsOn, AnswersOn};
 ghost use Rattle.silo_top.specs.Reading.{input_ending};
@@ -83,13 +82,16 @@ pub(crate) struct Begun {
 /// Opens the silo, and reads the input to its end.
 fn begin_run<H: Host>(alloc: Global, host: &mut H) -> Result<Begun, Status>
     // However its lines are carried from there on, the run keeps its promise.
-    ensures keeps { IfOk result (λ begun. IsTrue H.tells → KeepsOn H.tells begun.started begun.input.items (H.faults host.old) (H.world host.old) (H.faults host.new) (H.world host.new)) }
-    ensures answers_on { IfOk result (λ begun. AnswersOn H.tells begun.started begun.input.items (H.faults host.old) (H.faults host.new) (H.world host.new)) }
+    ensures keeps { IfOk result (λ begun. IsTrue H.tells → KeepsOn H.tells begun.started begun.input.items
+        (H.faults host.old) (H.world host.old) (H.faults host.new) (H.world host.new)) }
+    ensures answers_on { IfOk result (λ begun. AnswersOn H.tells begun.started begun.input.items
+        (H.faults host.old) (H.faults host.new) (H.world host.new)) }
     ensures can { IfOk result (λ begun. CanCarry H.tells begun.started (H.world host.new)) }
     ensures within { IfOk result (λ begun. vec_len begun.input ≤ INPUT_LIMIT) }
 
     // Where it didn't begin, it has kept it.
-    ensures promises { IfErr result (λ status. IsTrue H.tells → (m : Manner) → Promises m (shown (H.world host.old) (H.world host.new) (H.faults host.old) (H.faults host.new) status (command.Run m))) }
+    ensures promises { IfErr result (λ status. IsTrue H.tells → (m : Manner) → Promises m
+        (shown (H.world host.old) (H.world host.new) (H.faults host.old) (H.faults host.new) status (command.Run m))) }
     ensures answers { IfErr result (λ status. AnswersRun (status_ending status) (H.faults host.old) (H.faults host.new)) }
     ensures ready { StaysReady (H.is_ready host.old) (H.is_ready host.new) }
 {
@@ -116,7 +118,8 @@ pub(crate) fn run_in_turns<H: Host, G: Gate>(
     picks: &List<u32>,
 ) -> Status
     requires wide { 0 < width }
-    ensures promises { IsTrue H.tells → Promises (turns_manner width picks.now) (shown (H.world host.old) (H.world host.new) (H.faults host.old) (H.faults host.new) result (command.Run (turns_manner width picks.now))) }
+    ensures promises { IsTrue H.tells → Promises (turns_manner width picks.now)
+        (shown (H.world host.old) (H.world host.new) (H.faults host.old) (H.faults host.new) result (command.Run (turns_manner width picks.now))) }
     ensures answers { AnswersRun (status_ending result) (H.faults host.old) (H.faults host.new) }
     ensures ready { StaysReady (H.is_ready host.old) (H.is_ready host.new) }
 {
@@ -154,7 +157,8 @@ pub(crate) fn run_by_workers<R: Threads + Wait + Sync, H: Host, G: Gate + Sync>(
     workers: u32,
 ) -> Status
     requires few { workers ≤ 16 }
-    ensures promises { IsTrue H.tells → Promises workers_manner (shown (H.world host.old) (H.world host.new) (H.faults host.old) (H.faults host.new) result (command.Run workers_manner)) }
+    ensures promises { IsTrue H.tells → Promises workers_manner
+        (shown (H.world host.old) (H.world host.new) (H.faults host.old) (H.faults host.new) result (command.Run workers_manner)) }
     ensures answers { AnswersRun (status_ending result) (H.faults host.old) (H.faults host.new) }
     ensures ready { StaysReady (H.is_ready host.old) (H.is_ready host.new) }
 {

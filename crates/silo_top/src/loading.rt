@@ -7,8 +7,7 @@ ghost use Rattle.promise_spec.specs.Words as command;
 ghost use Rattle.promise_spec.specs.Endings.{HasFailedAs};
 ghost use Rattle.promise_spec.specs.Loads.{Loads};
 ghost use Rattle.bank_load.specs.Summaries.{summary_line, total_kept};
-ghost use Rattle.silo_top.specs.Answering.{AnswersRun, shown};
-ghost use Rattle.silo_top.specs.Answering.{turns_manner, workers_manner};
+ghost use Rattle.silo_top.specs.Answering.{AnswersRun, shown, turns_manner, workers_manner};
 ghost use Rattle.silo_top.specs.GoingOn.{CanCarry, LoadCounts, LoadSays, LoadsOn, LoadAnswersOn};
 ghost use Rattle.silo_top.specs.Loading.{creation_ending, load_ending, SaysSummary, MaySaySummary};
 ghost use Rattle.silo_top.specs.Statuses.{status_ending};
@@ -33,7 +32,9 @@ use std::thread::Threads;
 
 /// Prints the summary of a load whose lines are all carried and settled.
 fn print_summary<H: Host>(alloc: Global, core: &Core, requests: usize, host: &mut H) -> Status
-    ensures says { IsTrue H.tells → SaysSummary (summary_line (ends (run_of core.now)).manager.settled requests (total_kept (ends (run_of core.now)) 64)) (status_ending result) (H.world host.old) (H.world host.new) }
+    ensures says { IsTrue H.tells → SaysSummary
+        (summary_line (ends (run_of core.now)).manager.settled requests (total_kept (ends (run_of core.now)) 64))
+        (status_ending result) (H.world host.old) (H.world host.new) }
     ensures exact { HasFailedAs (status_ending result) (H.faults host.old) (H.faults host.new) }
     ensures may { MaySaySummary (status_ending result) }
     ensures ready { StaysReady (H.is_ready host.old) (H.is_ready host.new) }
@@ -107,12 +108,15 @@ fn begin_load<H: Host>(
     requires many { transfers ≤ 100000 }
 
     // However its lines are carried from there on, the load keeps its promise.
-    ensures keeps { IfOk result (λ begun. IsTrue H.tells → LoadsOn transfers seed H.tells begun.started begun.lines (H.faults host.old) (H.world host.old) (H.faults host.new) (H.world host.new)) }
-    ensures answers_on { IfOk result (λ begun. LoadAnswersOn H.tells begun.started begun.lines (H.faults host.old) (H.faults host.new) (H.world host.new)) }
+    ensures keeps { IfOk result (λ begun. IsTrue H.tells → LoadsOn transfers seed H.tells begun.started begun.lines
+        (H.faults host.old) (H.world host.old) (H.faults host.new) (H.world host.new)) }
+    ensures answers_on { IfOk result (λ begun. LoadAnswersOn H.tells begun.started begun.lines
+        (H.faults host.old) (H.faults host.new) (H.world host.new)) }
     ensures can { IfOk result (λ begun. CanCarry H.tells begun.started (H.world host.new)) }
 
     // Where it didn't begin, it has kept it.
-    ensures loads { IfErr result (λ status. IsTrue H.tells → (m : Manner) → Loads transfers seed m (shown (H.world host.old) (H.world host.new) (H.faults host.old) (H.faults host.new) status (command.Load transfers seed m))) }
+    ensures loads { IfErr result (λ status. IsTrue H.tells → (m : Manner) → Loads transfers seed m
+        (shown (H.world host.old) (H.world host.new) (H.faults host.old) (H.faults host.new) status (command.Load transfers seed m))) }
     ensures answers { IfErr result (λ status. AnswersRun (status_ending status) (H.faults host.old) (H.faults host.new)) }
     ensures ready { StaysReady (H.is_ready host.old) (H.is_ready host.new) }
 {
@@ -157,7 +161,9 @@ pub(crate) fn load_in_turns<H: Host, G: Gate>(
 ) -> Status
     requires wide { 0 < width }
     requires many { transfers ≤ 100000 }
-    ensures loads { IsTrue H.tells → Loads transfers seed (turns_manner width picks.now) (shown (H.world host.old) (H.world host.new) (H.faults host.old) (H.faults host.new) result (command.Load transfers seed (turns_manner width picks.now))) }
+    ensures loads { IsTrue H.tells → Loads transfers seed (turns_manner width picks.now)
+        (shown (H.world host.old) (H.world host.new) (H.faults host.old) (H.faults host.new) result
+        (command.Load transfers seed (turns_manner width picks.now))) }
     ensures answers { AnswersRun (status_ending result) (H.faults host.old) (H.faults host.new) }
     ensures ready { StaysReady (H.is_ready host.old) (H.is_ready host.new) }
 {
@@ -199,7 +205,8 @@ pub(crate) fn load_by_workers<R: Threads + Wait + Sync, H: Host, G: Gate + Sync>
 ) -> Status
     requires few { workers ≤ 16 }
     requires many { transfers ≤ 100000 }
-    ensures loads { IsTrue H.tells → Loads transfers seed workers_manner (shown (H.world host.old) (H.world host.new) (H.faults host.old) (H.faults host.new) result (command.Load transfers seed workers_manner)) }
+    ensures loads { IsTrue H.tells → Loads transfers seed workers_manner
+        (shown (H.world host.old) (H.world host.new) (H.faults host.old) (H.faults host.new) result (command.Load transfers seed workers_manner)) }
     ensures answers { AnswersRun (status_ending result) (H.faults host.old) (H.faults host.new) }
     ensures ready { StaysReady (H.is_ready host.old) (H.is_ready host.new) }
 {

@@ -25,7 +25,8 @@ use std::thread::Threads;
 
 /// Makes a silo of the program that is the input.
 fn make<H: Host>(alloc: Global, host: &mut H) -> Status
-    ensures makes { IsTrue H.tells → MakesSilo (shown (H.world host.old) (H.world host.new) (H.faults host.old) (H.faults host.new) result command.Init) }
+    ensures makes { IsTrue H.tells → MakesSilo
+        (shown (H.world host.old) (H.world host.new) (H.faults host.old) (H.faults host.new) result command.Init) }
     ensures exact { HasFailedAs (status_ending result) (H.faults host.old) (H.faults host.new) }
     ensures good { status_ending result ≡ BadUse → ⊥ }
     ensures ready { StaysReady (H.is_ready host.old) (H.is_ready host.new) }
@@ -69,7 +70,8 @@ pub fn run_alone<H: Host, G: Gate>(
     gate: &G,
 ) -> Result<Status, ByWorkers>
     // What the command promises that the words say, and that all other words are bad use.
-    ensures serves { IfOk result (λ status. IsTrue H.tells → Serves (texts_of words.now) (shown (H.world host.old) (H.world host.new) (H.faults host.old) (H.faults host.new) status)) }
+    ensures serves { IfOk result (λ status. IsTrue H.tells → Serves (texts_of words.now)
+        (shown (H.world host.old) (H.world host.new) (H.faults host.old) (H.faults host.new) status)) }
 
     // What the counts of faults say of the answer, over every host.
     ensures answers { IfOk result (λ status. AnswersAs (texts_of words.now) (status_ending status) (H.faults host.old) (H.faults host.new)) }
@@ -149,7 +151,8 @@ pub fn run_silo<Rt: Threads + Wait + Sync, H: Host, G: Gate + Sync>(
     gate: &G,
 ) -> Status
     // What the command promises that the words say, and that all other words are bad use.
-    ensures serves { IsTrue H.tells → Serves (texts_of words.now) (shown (H.world host.old) (H.world host.new) (H.faults host.old) (H.faults host.new) result) }
+    ensures serves { IsTrue H.tells → Serves (texts_of words.now)
+        (shown (H.world host.old) (H.world host.new) (H.faults host.old) (H.faults host.new) result) }
 
     // What the counts of faults say of the answer, over every host.
     ensures answers { AnswersAs (texts_of words.now) (status_ending result) (H.faults host.old) (H.faults host.new) }

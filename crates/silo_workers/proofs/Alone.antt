@@ -8,23 +8,21 @@ use Rattle.script_tree.specs.Programs.{ProgramTree}
 use Rattle.core_model.specs.Legal.{Run}
 use Rattle.settle_loop.specs.declared.settler.Settler.{Settler}
 use Rattle.run_books.specs.declared.faults.RunFault.{RunFault}
-use Rattle.run_books.specs.Beginnings.{Outset, IsOutset, CanTurn}
+use Rattle.run_books.specs.Beginnings.{IsOutset, CanTurn}
 use Rattle.run_books.specs.Beside.{TurnsBeside}
-use Rattle.run_books.specs.Books.{Books}
 use Rattle.run_books.specs.Records.{RecordGoesOn}
-use Rattle.interleaver.specs.Turns.{IsFreshRecord, KeepsTurns, TurnsGoOn}
+use Rattle.interleaver.specs.Turns.{IsFreshRecord, KeepsTurns, TurnsGoOn, WhereTurnsBegin}
 use Rattle.interleaver.proofs.Unstopped.{turns-record}
+use Rattle.run_books.specs.Stages.{stage_by}
 
 -- what turns say of their record goes over to what is equal, without the turn rule
 pub turned : {T : Type 0} {tells : Bool} {types : ProgramTree} {lines : List Line} {r r0 left : Run} {before before0 after : Settler} {counts counts0 counts' : Channel → ℕ} {now now0 now' : World}
     {result : Result T RunFault} → r0 ≡ r → before0 ≡ before → counts0 ≡ counts → now0 ≡ now
-    → ((o : Outset) (b : Books) → IsOutset o types r0 lines 1 [] → CanTurn r0 before0 lines → IsFreshRecord o b 0 r0 → KeepsTurns tells o b r0 before0 counts0 now0
-    → TurnsGoOn {T = T} tells o b r0 left before0 after counts' now0 now' result)
-    → (o : Outset) (b : Books) → IsOutset o types r lines 1 [] → CanTurn r before lines → IsFreshRecord o b 0 r → KeepsTurns tells o b r before counts now
-    → RecordGoesOn {T = T} tells o b r left before after counts' now now' result
+    → WhereTurnsBegin tells types lines 1 [] 0 (stage_by r0 before0 counts0 now0) (λ o b. TurnsGoOn {T = T} tells o b (stage_by r0 before0 counts0 now0) (stage_by left after counts' now') result)
+    → WhereTurnsBegin tells types lines 1 [] 0 (stage_by r before counts now) (λ o b. RecordGoesOn {T = T} tells o b (stage_by r before counts now) (stage_by left after counts' now') result)
 turned {T} {tells} {types} {lines} {r} {r0} {left} {before} {before0} {after} {counts} {counts0} {counts'} {now} {now0} {now'} {result} run settler faults world says o b is can fresh kept =
-    let Says : Run → Settler → (Channel → ℕ) → World → Type 0 = λ x s c w. IsOutset o types x lines 1 [] → CanTurn x s lines → IsFreshRecord o b 0 x → KeepsTurns tells o b x s c w
-    → TurnsGoOn {T = T} tells o b x left s after counts' w now' result in
+    let Says : Run → Settler → (Channel → ℕ) → World → Type 0 = λ x s c w. IsOutset o types x lines 1 [] → CanTurn x s lines → IsFreshRecord o b 0 x → KeepsTurns tells o b (stage_by x s c w)
+    → TurnsGoOn {T = T} tells o b (stage_by x s c w) (stage_by left after counts' now') result in
     let said : Says r before counts now =
     subst (λ (x : Run). Says x before counts now) run
     (subst (λ (x : Settler). Says r0 x counts now) settler
@@ -35,9 +33,9 @@ turned {T} {tells} {types} {lines} {r} {r0} {left} {before} {before0} {after} {c
 -- and what they leave beside it
 pub turned-beside : {T : Type 0} {tells : Bool} {r r0 left : Run} {before before0 after : Settler} {counts counts0 counts' : Channel → ℕ} {now now0 now' : World} {result : Result T RunFault}
     → r0 ≡ r → before0 ≡ before → counts0 ≡ counts → now0 ≡ now
-    → TurnsBeside {T = T} tells r0 left before0 after counts0 counts' now0 now' result → TurnsBeside {T = T} tells r left before after counts counts' now now' result
+    → TurnsBeside {T = T} tells (stage_by r0 before0 counts0 now0) (stage_by left after counts' now') result → TurnsBeside {T = T} tells (stage_by r before counts now) (stage_by left after counts' now') result
 turned-beside {T} {tells} {r} {r0} {left} {before} {before0} {after} {counts} {counts0} {counts'} {now} {now0} {now'} {result} run settler faults world says =
-    subst (λ (x : Run). TurnsBeside tells x left before after counts counts' now now' result) run
-    (subst (λ (x : Settler). TurnsBeside tells r0 left x after counts counts' now now' result) settler
-    (subst (λ (x : Channel → ℕ). TurnsBeside tells r0 left before0 after x counts' now now' result) faults
-    (subst (λ (x : World). TurnsBeside tells r0 left before0 after counts0 counts' x now' result) world says)))
+    subst (λ (x : Run). TurnsBeside tells (stage_by x before counts now) (stage_by left after counts' now') result) run
+    (subst (λ (x : Settler). TurnsBeside tells (stage_by r0 x counts now) (stage_by left after counts' now') result) settler
+    (subst (λ (x : Channel → ℕ). TurnsBeside tells (stage_by r0 before0 x now) (stage_by left after counts' now') result) faults
+    (subst (λ (x : World). TurnsBeside tells (stage_by r0 before0 counts0 x) (stage_by left after counts' now') result) world says)))

@@ -27,6 +27,7 @@ use Rattle.unit_crew.specs.Crews.{IsBasisOf}
 use Rattle.closing_rules.specs.Gathering.{sight_by}
 use Rattle.silo_workers.specs.Ending.{IsOfProgram}
 use Rattle.std.specs.Prelude.{slice_get, Some, ◌+◌}
+use Rattle.run_books.specs.Stages.{side_by, stage_by}
 
 -- a core's run is legal, where it began so and no grain was loaded
 legal-after : (log : List Told) (r : Run) → IsLegalRun r → NoneLoads log → IsLegalRun (run_after r log)
@@ -58,7 +59,7 @@ module _ {o : Outset} {types : ProgramTree} {lines : List Line} {r : Run} {settl
   )
 
   module _ {tells : Bool} {b : Books} {shape : Shape} {counts : Channel → ℕ} {now : World} (accepted : IsAcceptedProgram types) (shaped : shape.types ≡ type_shapes types) (rest : b.rest ≡ [])
-      (k : KeepsRecord tells o b r settler counts now) where
+      (k : KeepsRecord tells o b (stage_by r settler counts now)) where
     pub of-program : IsOfProgram o shape r
     of-program = record {
       above = k.above;
@@ -67,7 +68,7 @@ module _ {o : Outset} {types : ProgramTree} {lines : List Line} {r : Run} {settl
       accepted = subst IsAcceptedProgram (sym is.types_are) accepted;
     }
 
-    pub can-among : CanSettleAmong tells o b shape (sight_by r [] [] []) settler counts now
+    pub can-among : CanSettleAmong tells o b shape (sight_by r [] [] []) (side_by settler counts now)
     can-among = record {
       share = record { above = k.above; kinds = of-program.kinds; shape_is = of-program.shape_is; accepted = of-program.accepted; counts = omega arith };
       going = can.going.1;

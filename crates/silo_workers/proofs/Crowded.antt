@@ -34,6 +34,7 @@ use Rattle.silo_workers.specs.Working.{CorePass, HasWorked, SaysOfUnits, SaysOfL
 use Rattle.silo_workers.specs.declared.work.WorkEnd.{WorkEnd}
 use Rattle.silo_workers.specs.declared.work.WorkEnd.TheVariants.{Idle, Through, Lacking}
 use Rattle.silo_workers.proofs.Returned.{nothing-done}
+use Rattle.run_books.specs.Stages.{Side, side_by, stage_by}
 
 -- ---- two ends
 
@@ -99,16 +100,16 @@ brought-together Own cell types before lines a b v l k r w u is_l is_k g h own j
 
 -- ---- the cell is closed
 
-pub is-gathered : {T : Type 0} {cell : TableId} {started tells : Bool} {shape : Shape} {own settler after : Settler} {counts counts' : Channel → ℕ} {now now' : World} {result : Result T RunFault}
+pub is-gathered : {T : Type 0} {cell : TableId} {started tells : Bool} {shape : Shape} {own settler : Settler} {counts : Channel → ℕ} {now : World} {after : Side} {result : Result T RunFault}
     {types : ProgramTree} {end : WorkEnd} {closed : CoreData} (before : ℕ) (lines : List Line) (v w : CorePass)
-    → BringsTogether cell (HasSettled {T = T} started tells shape own after counts counts' now now' result (sight_of run_of (pass_view v))) types before lines end v w
+    → BringsTogether cell (HasSettled {T = T} started tells shape (side_by own counts now) after result (sight_of run_of (pass_view v))) types before lines end v w
     → own ≡ settler → pass_view v ≡ view (pass_view v).first [] false first_hand → Closes run_of (λ x e. extended x (e ∷ [])) reply_in (pass_view w) closed
-    → IsGathered end (before + length lines) (HasSettled {T = T} started tells shape settler after counts counts' now now' result (sight_by (run_of (pass_view v).first) [] [] [])) (HasWorked (IsBasisOf types before lines) end)
+    → IsGathered end (before + length lines) (HasSettled {T = T} started tells shape (side_by settler counts now) after result (sight_by (run_of (pass_view v).first) [] [] [])) (HasWorked (IsBasisOf types before lines) end)
     (run_of (pass_view v).first) (run_of closed)
-is-gathered {T} {cell} {started} {tells} {shape} {own} {settler} {after} {counts} {counts'} {now} {now'} {result} {types} {end} {closed} before lines v w g same first all =
+is-gathered {T} {cell} {started} {tells} {shape} {own} {settler} {counts} {now} {after} {result} {types} {end} {closed} before lines v w g same first all =
     let n = before + length lines in
     let r = run_of (pass_view v).first in
-    let Own : Settler → Sight → Sight → Type 0 = λ x s. HasSettled {T = T} started tells shape x after counts counts' now now' result s in
+    let Own : Settler → Sight → Sight → Type 0 = λ x s. HasSettled {T = T} started tells shape (side_by x counts now) after result s in
     let hand = ap (λ (z : View CoreData CoreEvent CoreReply). z.hand) first in
     let known = closes-known run_of (Own own (sight_of run_of (pass_view v))) (HasWorked (IsBasisOf types before lines) end) (pass_view v) (pass_view w) closed hand g.1 all in
     record {
@@ -121,7 +122,7 @@ is-gathered {T} {cell} {started} {tells} {shape} {own} {settler} {after} {counts
 -- ---- nobody settles
 
 module _ (tells : Bool) (r : Run) (settler : Settler) (faults : Channel → ℕ) (now : World) where
-  pub beside-none : {T : Type 0} (done : T) → TurnsBeside {T = T} tells r r settler settler faults faults now now (Ok done)
+  pub beside-none : {T : Type 0} (done : T) → TurnsBeside {T = T} tells (stage_by r settler faults now) (stage_by r settler faults now) (Ok done)
   beside-none done = record {
     more = [];
     core = λ i. record r { events = sym (append-nil r.events) i };
@@ -134,12 +135,13 @@ module _ (tells : Bool) (r : Run) (settler : Settler) (faults : Channel → ℕ)
     hushed = λ q t. record { output = refl; moments = record { more = []; past = sym (append-nil now.past); each = tt } };
   }
 
-pub settles-none : {T : Type 0} (done : T) (tells : Bool) (shape : Shape) (settler : Settler) (counts : Channel → ℕ) (now : World) (s : Sight)
-    → SettlesBeside {T = T} tells shape settler settler counts counts now now (Ok done) s s
-settles-none done tells shape settler counts now s = record {
+pub settles-none : {T : Type 0} (done : T) (tells : Bool) (shape : Shape) (beside : Side) (s : Sight) → SettlesBeside {T = T} tells shape beside beside (Ok done) s s
+settles-none done tells shape beside s = record {
   sees = sees-none s;
   own = record { on = sees-none s; own = []; mine = sym (append-nil s.mine); settling = λ x i. absurd i };
-  promise = λ b p. p;
-  books = λ o b can rely. record { goes = record { books = b; kept = can.books; lasts = λ told head l. l }; says = (can.even, can.going) };
-  beside = beside-none tells (run_seen s) settler counts now done;
+  leaves = record {
+    promise = λ b p. p;
+    books = λ o b can rely. record { goes = record { books = b; kept = can.books; lasts = λ told head l. l }; says = (can.even, can.going) };
+    beside = beside-none tells (run_seen s) beside.settler beside.faults beside.world done;
+  };
 }

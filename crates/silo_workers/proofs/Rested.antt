@@ -34,6 +34,7 @@ use Rattle.closing_rules.proofs.Stories.{Story, begun-after, none-began, reply-t
 use Rattle.silo_workers.specs.Ending.{HasGathered}
 use Rattle.silo_workers.specs.declared.work.WorkEnd.{WorkEnd}
 use Rattle.silo_workers.specs.declared.work.WorkEnd.TheVariants.{Through}
+use Rattle.run_books.specs.Stages.{Stage, stage_by}
 
 -- nothing is not something
 some-not : {A : Type 0} (x : Option A) → false ≡ is_some x → x ≡ None
@@ -79,9 +80,9 @@ module _ (r r' : Run) (among : SettlesAmong (own_sight r) (own_sight r')) where
 
 -- ---- how it ends
 
-module _ {T : Type 0} (tells : Bool) (o : Outset) (b : Books) (shape : Shape) (r r' : Run) (before after : Settler) (counts' : Channel → ℕ) (now now' : World) where
+module _ {T : Type 0} (tells : Bool) (o : Outset) (b : Books) (shape : Shape) (s : Stage) (r' : Run) (after : Settler) (counts' : Channel → ℕ) (now' : World) where
   -- where a fault was told, or memory was wanting
-  pub fault-ends : {U : Type 0} (end : WorkEnd) (f : RunFault) → HasGathered {T = T} tells o b shape r r' before after counts' now now' end (Err f) → RecordGoesOn {T = U} tells o b r r' before after counts' now now' (Err f)
+  pub fault-ends : {U : Type 0} (end : WorkEnd) (f : RunFault) → HasGathered {T = T} tells o b shape s (stage_by r' after counts' now') end (Err f) → RecordGoesOn {T = U} tells o b s (stage_by r' after counts' now') (Err f)
   fault-ends {U} end f h = record {
     books = h.books.goes.books;
     record_kept = record { above = h.program.above; units = h.units; books = h.books.goes.kept };
@@ -89,12 +90,12 @@ module _ {T : Type 0} (tells : Bool) (o : Outset) (b : Books) (shape : Shape) (r
     ended = by f h.books.says;
   }
     where
-      by : (x : RunFault) → SaysAmong o h.books.goes.books r' after counts' {T = T} (Err x) → TurnsEndAs o h.books.goes.books r' after counts' {T = U} (Err x)
+      by : (x : RunFault) → SaysAmong o h.books.goes.books (stage_by r' after counts' now') {T = T} (Err x) → TurnsEndAs o h.books.goes.books (stage_by r' after counts' now') {T = U} (Err x)
       by InDoubt e = e
       by WriteFault e = e
       by Memory e = e
 
-  pub lacking-ends : {U : Type 0} (end : WorkEnd) (done : T) → HasGathered {T = T} tells o b shape r r' before after counts' now now' end (Ok done) → RecordGoesOn {T = U} tells o b r r' before after counts' now now' (Err Memory)
+  pub lacking-ends : {U : Type 0} (end : WorkEnd) (done : T) → HasGathered {T = T} tells o b shape s (stage_by r' after counts' now') end (Ok done) → RecordGoesOn {T = U} tells o b s (stage_by r' after counts' now') (Err Memory)
   lacking-ends end done h = record {
     books = h.books.goes.books;
     record_kept = record { above = h.program.above; units = h.units; books = h.books.goes.kept };
@@ -103,7 +104,7 @@ module _ {T : Type 0} (tells : Bool) (o : Outset) (b : Books) (shape : Shape) (r
   }
 
   -- where what is left is settled
-  module _ (done : T) (r'' : Run) (last : Settler) (counts'' : Channel → ℕ) (now'' : World) (h : HasGathered {T = T} tells o b shape r r' before after counts' now now' Through (Ok done)) (few : HasFewNumbers (ends r')) where
+  module _ (done : T) (r'' : Run) (last : Settler) (counts'' : Channel → ℕ) (now'' : World) (h : HasGathered {T = T} tells o b shape s (stage_by r' after counts' now') Through (Ok done)) (few : HasFewNumbers (ends r')) where
     pub can-rest : CanSettleRest o shape r'
     can-rest = record {
       above = h.program.above;
@@ -117,7 +118,7 @@ module _ {T : Type 0} (tells : Bool) (o : Outset) (b : Books) (shape : Shape) (r
     }
 
     module _ {U : Type 0} (result : Result U RunFault) (among : SettlesAmong (own_sight r') (own_sight r'')) (units : KeepsUnitRule (basis_of o) r'')
-        (g : SettledAmong {T = U} tells o h.books.goes.books r' r'' after last counts'' now' now'' result) (rests : (x : U) → result ≡ Ok x → (settler_step (ends r'') ≡ Rests) × (last.doubted ≡ false)) where
+        (g : SettledAmong {T = U} tells o h.books.goes.books (stage_by r' after counts' now') (stage_by r'' last counts'' now'') result) (rests : (x : U) → result ≡ Ok x → (settler_step (ends r'') ≡ Rests) × (last.doubted ≡ false)) where
       above' : 0 < r''.base
       above' = subst (λ (x : Run). 0 < x.base) (sym (rest-is r' r'' among)) (subst (λ (n : ℕ). 0 < n) (sym (base-on among.own r')) h.program.above)
         where
@@ -125,12 +126,12 @@ module _ {T : Type 0} (tells : Bool) (o : Outset) (b : Books) (shape : Shape) (r
           base-on [] x = refl
           base-on (y ∷ l) x = base-on l (with_event x y.event)
 
-      carried : (x : U) → result ≡ Ok x → HasCarriedAll o r'' last
+      carried : (x : U) → result ≡ Ok x → HasCarriedAll o (stage_by r'' last counts'' now'')
       carried x is =
-          let says : SaysAmong o g.goes.books r'' last counts'' {T = U} (Ok x) = subst (SaysAmong o g.goes.books r'' last counts'') is g.says in
+          let says : SaysAmong o g.goes.books (stage_by r'' last counts'' now'') {T = U} (Ok x) = subst (SaysAmong o g.goes.books (stage_by r'' last counts'' now'')) is g.says in
           let sure : (ends r'').manager.doubt ≡ None = some-not (ends r'').manager.doubt (sym (rests x is).1 ∙ g.goes.kept.doubt) in
           let going : IsGoing (ends r'') = (sure, says.1) in
-          carried-all tells o g.goes.books r'' last counts'' now'' above' units g.goes.kept record {
+          carried-all tells o g.goes.books (stage_by r'' last counts'' now'') above' units g.goes.kept record {
             units = λ u born. rest-done r' r'' among (basis_of o) h.program.above h.units u (h.done refl u (rest-begun r' r'' among (basis_of o) h.program.above h.units u born)) going;
             lines = (let le = h.lines refl (rest-going r' r'' among (basis_of o) h.program.above h.units going) in let more = rest-lines r' r'' among (basis_of o) h.program.above h.units in omega (arith, le, more));
             going = says.1;
@@ -138,13 +139,13 @@ module _ {T : Type 0} (tells : Bool) (o : Outset) (b : Books) (shape : Shape) (r
             rests = (rests x is).0;
           }
 
-      ended : (x : Result U RunFault) → result ≡ x → SaysAmong o g.goes.books r'' last counts'' x → TurnsEndAs o g.goes.books r'' last counts'' x
+      ended : (x : Result U RunFault) → result ≡ x → SaysAmong o g.goes.books (stage_by r'' last counts'' now'') x → TurnsEndAs o g.goes.books (stage_by r'' last counts'' now'') x
       ended (Ok x) is e = (carried x is, e.0.rest)
       ended (Err InDoubt) is e = e
       ended (Err WriteFault) is e = e
       ended (Err Memory) is e = e
 
-      pub rest-ends : RecordGoesOn {T = U} tells o b r r'' before last counts'' now now'' result
+      pub rest-ends : RecordGoesOn {T = U} tells o b s (stage_by r'' last counts'' now'') result
       rest-ends = record {
         books = g.goes.books;
         record_kept = record { above = above'; units = units; books = g.goes.kept };

@@ -3,8 +3,6 @@ use Rattle.std.proofs.Common.{◌≡◌, ◌⊎◌, inl, inr, ⊎_elim, ℕ, ◌
 use Rattle.std.specs.Prelude.{Result, Ok, Err}
 use mathlib.Core.List.{append_assoc}
 use Rattle.base_types.specs.declared.shapes.Shape.{Shape}
-use Rattle.host_trait.specs.declared.channels.Channel.{Channel}
-use Rattle.host_trait.specs.World.{World}
 use Rattle.core_model.specs.declared.events.CoreEvent.{CoreEvent}
 use Rattle.core_model.specs.declared.events.CoreReply.{CoreReply}
 use Rattle.core_model.specs.declared.events.CoreEvent.TheVariants.{Halt}
@@ -27,7 +25,6 @@ use Rattle.worker_rules.specs.Sharing.{KeepsPromise}
 use Rattle.worker_rules.specs.Work.{OnlyWorks}
 use Rattle.worker_rules.proofs.Own.{promise-none}
 use Rattle.worker_rules.proofs.Workers.{work-stops}
-use Rattle.settle_loop.specs.declared.settler.Settler.{Settler}
 use Rattle.run_books.specs.declared.faults.RunFault.{RunFault}
 use Rattle.run_books.specs.declared.faults.RunFault.TheVariants.{InDoubt, WriteFault, Memory}
 use Rattle.run_books.specs.Beginnings.{Outset, basis_of}
@@ -48,6 +45,7 @@ use Rattle.silo_workers.specs.Ending.{IsOfProgram, HasGathered}
 use Rattle.silo_workers.specs.Working.{HasWorked, SaysOfUnits, IsGathered}
 use Rattle.silo_workers.specs.declared.work.WorkEnd.{WorkEnd}
 use Rattle.silo_workers.specs.declared.work.WorkEnd.TheVariants.{Idle, Through}
+use Rattle.run_books.specs.Stages.{Side, stage_with}
 
 -- ---- what the one who settles put
 
@@ -70,21 +68,21 @@ ends-settle s t (Err Memory) none a = settles-or-stops s t none a
 -- ---- the closed core
 
 -- what is known of it, by the core that the cell was made with
-pub closed-from : {T : Type 0} {tells : Bool} {shape : Shape} {before after : Settler} {counts counts' : Channel → ℕ} {now now' : World} {result : Result T RunFault} {started : Bool} {end : WorkEnd}
+pub closed-from : {T : Type 0} {tells : Bool} {shape : Shape} {before after : Side} {result : Result T RunFault} {started : Bool} {end : WorkEnd}
     {lines : ℕ} {Asked : Basis → Type 0} {r' : Run} {v : View CoreData CoreEvent CoreReply} {core : CoreData} → v ≡ view core [] false first_hand
-    → IsGathered end lines (HasSettled {T = T} started tells shape before after counts counts' now now' result (sight_by (run_of v.first) [] [] [])) (HasWorked Asked end) (run_of v.first) r'
-    → IsGathered end lines (HasSettled {T = T} started tells shape before after counts counts' now now' result (sight_by (run_of core) [] [] [])) (HasWorked Asked end) (run_of core) r'
-closed-from {T} {tells} {shape} {before} {after} {counts} {counts'} {now} {now'} {result} {started} {end} {lines} {Asked} {r'} first g =
-    subst (λ (z : View CoreData CoreEvent CoreReply). IsGathered end lines (HasSettled {T = T} started tells shape before after counts counts' now now' result (sight_by (run_of z.first) [] [] [])) (HasWorked Asked end) (run_of z.first) r') first g
+    → IsGathered end lines (HasSettled {T = T} started tells shape before after result (sight_by (run_of v.first) [] [] [])) (HasWorked Asked end) (run_of v.first) r'
+    → IsGathered end lines (HasSettled {T = T} started tells shape before after result (sight_by (run_of core) [] [] [])) (HasWorked Asked end) (run_of core) r'
+closed-from {T} {tells} {shape} {before} {after} {result} {started} {end} {lines} {Asked} {r'} first g =
+    subst (λ (z : View CoreData CoreEvent CoreReply). IsGathered end lines (HasSettled {T = T} started tells shape before after result (sight_by (run_of z.first) [] [] [])) (HasWorked Asked end) (run_of z.first) r') first g
 
-module _ {T : Type 0} {tells : Bool} {shape : Shape} {before after : Settler} {counts counts' : Channel → ℕ} {now now' : World} {result : Result T RunFault} {started : Bool} {end : WorkEnd}
+module _ {T : Type 0} {tells : Bool} {shape : Shape} {before after : Side} {result : Result T RunFault} {started : Bool} {end : WorkEnd}
     {lines : ℕ} {Asked : Basis → Type 0} {r r' : Run}
-    (g : IsGathered end lines (HasSettled {T = T} started tells shape before after counts counts' now now' result (sight_by r [] [] [])) (HasWorked Asked end) r r') where
+    (g : IsGathered end lines (HasSettled {T = T} started tells shape before after result (sight_by r [] [] [])) (HasWorked Asked end) r r') where
   -- the calling thread's pass, before it was used
   abbrev s : Sight
   s = sight_by r [] [] []
 
-  abbrev c : IsClosed (HasSettled {T = T} started tells shape before after counts counts' now now' result s) (HasWorked Asked end) r r'
+  abbrev c : IsClosed (HasSettled {T = T} started tells shape before after result s) (HasWorked Asked end) r r'
   c = g.closed
 
   none-first : (basis : Basis) → KeepsPromise basis s
@@ -94,7 +92,7 @@ module _ {T : Type 0} {tells : Bool} {shape : Shape} {before after : Settler} {c
   counts-first = omega arith
 
   abbrev shared : IsClosed Counts (λ z. OnlyWorks z.mine) r r'
-  shared = closed-less (HasSettled {T = T} started tells shape before after counts counts' now now' result s) Counts (HasWorked Asked end) (λ z. OnlyWorks z.mine)
+  shared = closed-less (HasSettled {T = T} started tells shape before after result s) Counts (HasWorked Asked end) (λ z. OnlyWorks z.mine)
       (λ z h. counts-on s z h.beside.sees counts-first) (λ z h. h.works) r r' c
 
   -- what the calling thread had seen, and what came since
@@ -110,15 +108,15 @@ module _ {T : Type 0} {tells : Bool} {shape : Shape} {before after : Settler} {c
   -- where nothing was put the run is as it was
   pub gathered-same : started ≡ false → end ≡ Idle → r' ≡ r
   gathered-same none-started idle = closed-same r r'
-      (closed-less (HasSettled {T = T} started tells shape before after counts counts' now now' result s) PutsNothing (HasWorked Asked end) PutsNothing
+      (closed-less (HasSettled {T = T} started tells shape before after result s) PutsNothing (HasWorked Asked end) PutsNothing
       (λ z h. h.none none-started) (λ z h. subst (λ (e : WorkEnd). SaysOfUnits e z) idle h.units) r r' c)
 
-  module _ (o : Outset) (b : Books) (asked : Asked (basis_of o)) (program : IsOfProgram o shape r) (units : KeepsUnitRule (basis_of o) r) (can : CanSettleAmong tells o b shape s before counts now)
+  module _ (o : Outset) (b : Books) (asked : Asked (basis_of o)) (program : IsOfProgram o shape r) (units : KeepsUnitRule (basis_of o) r) (can : CanSettleAmong tells o b shape s before)
       (few : (ends r').units.next ≤ 2 ^ 63) (small : (ends r').units.lines < 2 ^ 32) where
     -- each pass kept its promise
     abbrev promised : IsClosed (KeepsPromise (basis_of o)) (KeepsPromise (basis_of o)) r r'
-    promised = closed-less (HasSettled {T = T} started tells shape before after counts counts' now now' result s) (KeepsPromise (basis_of o)) (HasWorked Asked end) (KeepsPromise (basis_of o))
-        (λ z h. h.beside.promise (basis_of o) (none-first (basis_of o))) (λ z h. h.promise (basis_of o) asked) r r' c
+    promised = closed-less (HasSettled {T = T} started tells shape before after result s) (KeepsPromise (basis_of o)) (HasWorked Asked end) (KeepsPromise (basis_of o))
+        (λ z h. h.beside.leaves.promise (basis_of o) (none-first (basis_of o))) (λ z h. h.promise (basis_of o) asked) r r' c
 
     ruled : KeepsUnitRule (basis_of o) r'
     ruled = closed-rule (basis_of o) r r' promised program.above units
@@ -138,8 +136,8 @@ module _ {T : Type 0} {tells : Bool} {shape : Shape} {before after : Settler} {c
     relied : MayRely o seen
     relied = relies-before seen (sight_by r [] c.log (entries_of [] c.log)) on o (shared.own.holds) relies
 
-    settled : SettledAmong {T = T} tells o b r (run_seen seen) before after counts' now now' result
-    settled = c.own.holds.beside.books o b can relied
+    settled : SettledAmong {T = T} tells o b (stage_with r before) (stage_with (run_seen seen) after) result
+    settled = c.own.holds.beside.leaves.books o b can relied
 
     above-seen : 0 < (run_seen seen).base
     above-seen = subst (λ (n : ℕ). 0 < n) (sym (after-base c.own.shown r)) program.above
@@ -148,23 +146,23 @@ module _ {T : Type 0} {tells : Bool} {shape : Shape} {before after : Settler} {c
     ruled-on = subst (KeepsUnitRule (basis_of o)) last-is ruled
 
     -- the books go on behind what came since
-    on-by : (x : Result T RunFault) → SettledAmong {T = T} tells o b r (run_seen seen) before after counts' now now' x → SettledAmong {T = T} tells o b r (run_after (run_seen seen) came) before after counts' now now' x
-    on-by (Err f) p = fault-on tells o b r (run_seen seen) came before after counts' now now' above-seen ruled-on (works-leave came (works-since r r' shared)) f p
+    on-by : (x : Result T RunFault) → SettledAmong {T = T} tells o b (stage_with r before) (stage_with (run_seen seen) after) x → SettledAmong {T = T} tells o b (stage_with r before) (stage_with (run_after (run_seen seen) came) after) x
+    on-by (Err f) p = fault-on tells o b r (run_seen seen) came before.settler after.settler before.faults after.faults before.world after.world above-seen ruled-on (works-leave came (works-since r r' shared)) f p
     on-by (Ok done) p =
-        let more = others-keep-books tells o p.goes.books (run_seen seen) came after counts' now' above-seen ruled-on (works-leave came (works-since r r' shared)) p.says.0 p.goes.kept in
+        let more = others-keep-books tells o p.goes.books (run_seen seen) came after.settler after.faults after.world above-seen ruled-on (works-leave came (works-since r r' shared)) p.says.0 p.goes.kept in
         record {
           goes = record { books = more.0.books; kept = more.0.kept; lasts = λ t head l. more.0.lasts t head (p.goes.lasts t head l) };
           says = (more.1, going-all came (run_seen seen) (λ x i. work-stops x.event (works-since r r' shared x i)) ∙ p.says.1);
         }
 
-    pub gathered-books : SettledAmong {T = T} tells o b r r' before after counts' now now' result
-    gathered-books = subst (λ (x : Run). SettledAmong {T = T} tells o b r x before after counts' now now' result) (sym last-is) (on-by result settled)
+    pub gathered-books : SettledAmong {T = T} tells o b (stage_with r before) (stage_with r' after) result
+    gathered-books = subst (λ (x : Run). SettledAmong {T = T} tells o b (stage_with r before) (stage_with x after) result) (sym last-is) (on-by result settled)
 
     -- the units
     abbrev carried : end ≡ Through → IsClosed (λ z. SettlesOrStops z.mine × KeepsPromise (basis_of o) z) (λ z. KeepsPromise (basis_of o) z × AreOverAndFree z) r r'
-    carried through = closed-less (HasSettled {T = T} started tells shape before after counts counts' now now' result s) (λ z. SettlesOrStops z.mine × KeepsPromise (basis_of o) z)
+    carried through = closed-less (HasSettled {T = T} started tells shape before after result s) (λ z. SettlesOrStops z.mine × KeepsPromise (basis_of o) z)
         (HasWorked Asked end) (λ z. KeepsPromise (basis_of o) z × AreOverAndFree z)
-        (λ z h. (ends-settle s z result refl h.beside.own, h.beside.promise (basis_of o) (none-first (basis_of o))))
+        (λ z h. (ends-settle s z result refl h.beside.own, h.beside.leaves.promise (basis_of o) (none-first (basis_of o))))
         (λ z h. (h.promise (basis_of o) asked, subst (λ (e : WorkEnd). SaysOfUnits e z) through h.units)) r r' c
 
     program-on : IsOfProgram o shape r'
@@ -176,7 +174,7 @@ module _ {T : Type 0} {tells : Bool} {shape : Shape} {before after : Settler} {c
     }
 
     -- all that is known of the closed core
-    pub has-gathered : IsQuiet (ends r) → lines ≡ length o.asked → HasGathered {T = T} tells o b shape r r' before after counts' now now' end result
+    pub has-gathered : IsQuiet (ends r) → lines ≡ length o.asked → HasGathered {T = T} tells o b shape (stage_with r before) (stage_with r' after) end result
     has-gathered quiet all = record {
       program = program-on;
       units = ruled;
@@ -187,9 +185,9 @@ module _ {T : Type 0} {tells : Bool} {shape : Shape} {before after : Settler} {c
 
   -- ---- and beside
 
-  pub gathered-beside : TurnsBeside {T = T} tells r r' before after counts counts' now now' result
+  pub gathered-beside : TurnsBeside {T = T} tells (stage_with r before) (stage_with r' after) result
   gathered-beside =
-      let one : TurnsBeside {T = T} tells r (run_seen seen) before after counts counts' now now' result = c.own.holds.beside.beside in
+      let one : TurnsBeside {T = T} tells (stage_with r before) (stage_with (run_seen seen) after) result = c.own.holds.beside.leaves.beside in
       record {
         more = one.more ++ events_told came;
         core = last-is ∙ after-is came (run_seen seen) ∙ ap (λ (x : Run). extended x (events_told came)) one.core ∙ ap (λ (es : List CoreEvent). record r { events = es }) (append_assoc r.events one.more (events_told came));

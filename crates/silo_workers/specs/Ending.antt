@@ -1,18 +1,16 @@
 -- What is known of a core when its cell is closed, and how a run with workers ends.
-use Rattle.std.specs.Prelude.{◌≡◌, ◌<◌, ℕ, Bool, length, Result}
+use Rattle.std.specs.Prelude.{◌≡◌, ◌<◌, Bool, length, Result}
 use Rattle.base_types.specs.declared.shapes.Shape.{Shape}
-use Rattle.host_trait.specs.declared.channels.Channel.{Channel}
-use Rattle.host_trait.specs.World.{World}
 use Rattle.core_model.specs.CoreState.{UnitNo}
 use Rattle.core_model.specs.Legal.{Run, ends}
 use Rattle.script_check.specs.Accepted.{IsAcceptedProgram}
 use Rattle.promise_spec.specs.Cores.{HasBegun}
 use Rattle.promise_spec.specs.Programs.{shape_in}
 use Rattle.promise_spec.specs.UnitRule.{KeepsUnitRule}
-use Rattle.settle_loop.specs.declared.settler.Settler.{Settler}
 use Rattle.run_books.specs.declared.faults.RunFault.{RunFault}
 use Rattle.run_books.specs.Beginnings.{Outset, basis_of}
 use Rattle.run_books.specs.Books.{Books}
+use Rattle.run_books.specs.Stages.{Stage}
 use Rattle.shared_settling.specs.Among.{SettledAmong}
 use Rattle.closing_rules.specs.Closed.{IsOverAndFree, HasBegunLines}
 use Rattle.silo_workers.specs.declared.work.WorkEnd.{WorkEnd}
@@ -27,9 +25,9 @@ pub record IsOfProgram (o : Outset) (shape : Shape) (r : Run) : Type 0 where
 
 -- The closed core's run keeps the unit rule, and the books go on to it; where the work is through, each unit that began is done and
 -- each line has begun.
-pub record HasGathered {T : Type 0} (tells : Bool) (o : Outset) (b : Books) (shape : Shape) (r r' : Run) (before after : Settler) (counts' : Channel → ℕ) (now now' : World) (end : WorkEnd) (settled : Result T RunFault) : Type 0 where
-  pub program : IsOfProgram o shape r'
-  pub units : KeepsUnitRule (basis_of o) r'
-  pub books : SettledAmong tells o b r r' before after counts' now now' settled
-  pub done : end ≡ Through → (u : UnitNo) → HasBegun (ends r') u → IsOverAndFree u r'
-  pub lines : end ≡ Through → HasBegunLines (length o.asked) r'
+pub record HasGathered {T : Type 0} (tells : Bool) (o : Outset) (b : Books) (shape : Shape) (before after : Stage) (end : WorkEnd) (settled : Result T RunFault) : Type 0 where
+  pub program : IsOfProgram o shape after.run
+  pub units : KeepsUnitRule (basis_of o) after.run
+  pub books : SettledAmong tells o b before after settled
+  pub done : end ≡ Through → (u : UnitNo) → HasBegun (ends after.run) u → IsOverAndFree u after.run
+  pub lines : end ≡ Through → HasBegunLines (length o.asked) after.run

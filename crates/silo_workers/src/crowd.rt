@@ -1,8 +1,7 @@
 // The threads.
 ghost use Rattle.std.specs.Thread.{IsSync};
-ghost use Rattle.std.specs.Prelude.{◌≡◌, ◌+◌, ◌≤◌, [], false, length, IsTrue};
+ghost use Rattle.std.specs.Prelude.{◌≡◌, ◌+◌, ◌≤◌, [], false, length};
 ghost use Rattle.host_trait.specs.Files.{StaysReady};
-ghost use Rattle.batch_disk.specs.Writers.{IsInBounds, FitsDisk};
 ghost use Rattle.core_access.specs.ByPass.{sight_of};
 ghost use Rattle.history_core.specs.Cores.{run_of};
 ghost use Rattle.script_tree.specs.Programs.{program_tree};
@@ -12,6 +11,7 @@ ghost use Rattle.unit_crew.specs.Crews.{IsBasisOf};
 ghost use Rattle.closing_rules.specs.Gathering.{sight_by};
 ghost use Rattle.silo_workers.specs.Beside.{HasSettled};
 ghost use Rattle.silo_workers.specs.Working.{HasWorked, IsFreshPass, BringsBack, BringsTogether, IsGathered, both_ends};
+ghost use Rattle.run_books.specs.Stages.{side_of, IsSafe};
 
 use crate::settling::settle_by_pass;
 use crate::team::Team;
@@ -77,14 +77,13 @@ fn settle_for<R: Wait, H: Host, G: Gate, L: Lines>(
     started: bool,
 ) -> (Pass<Core>, Gathered)
     requires fresh { IsFreshPass team.now.cell team.now.before pass }
-    requires bounds { IsInBounds settler.old.writer }
-    requires fits { IsTrue H.tells → FitsDisk settler.old.writer (H.world host.old).disk }
+    requires safe { IsSafe H.tells settler.old.writer (H.world host.old) }
     ensures together { BringsTogether team.now.cell
-        (HasSettled result.1.started H.tells shape.now settler.old settler.new (H.faults host.old) (H.faults host.new) (H.world host.old) (H.world host.new) result.1.settled (sight_of run_of (pass_view pass)))
+        (HasSettled result.1.started H.tells shape.now (side_of H.world H.faults settler.old host.old)
+        (side_of H.world H.faults settler.new host.new) result.1.settled (sight_of run_of (pass_view pass)))
         (program_tree team.now.checked.now) team.now.before (L.lines team.now.lines.now) result.1.end pass result.0 }
     ensures none { result.1.started ≡ false → (settler.new ≡ settler.old) × (host.new ≡ host.old) }
-    ensures bounds { IsInBounds settler.new.writer }
-    ensures fits { IsTrue H.tells → FitsDisk settler.new.writer (H.world host.new).disk }
+    ensures safe { IsSafe H.tells settler.new.writer (H.world host.new) }
     ensures ready { StaysReady (H.is_ready host.old) (H.is_ready host.new) }
 {
     let _named: PhantomData<(CoreQuestion, CoreAnswer)> = PhantomData;
@@ -119,14 +118,13 @@ fn crowd<'s, E, R: Threads + Wait + Sync, H: Host, G: Gate + Sync, L: Lines + Co
 ) -> (Pass<Core>, Gathered)
     requires shared { IsSync R.row × IsSync G.row × IsSync L.row }
     requires fresh { IsFreshPass team.now.cell team.now.before pass }
-    requires bounds { IsInBounds settler.old.writer }
-    requires fits { IsTrue H.tells → FitsDisk settler.old.writer (H.world host.old).disk }
+    requires safe { IsSafe H.tells settler.old.writer (H.world host.old) }
     ensures together { BringsTogether team.now.cell
-        (HasSettled result.1.started H.tells shape.now settler.old settler.new (H.faults host.old) (H.faults host.new) (H.world host.old) (H.world host.new) result.1.settled (sight_of run_of (pass_view pass)))
+        (HasSettled result.1.started H.tells shape.now (side_of H.world H.faults settler.old host.old)
+        (side_of H.world H.faults settler.new host.new) result.1.settled (sight_of run_of (pass_view pass)))
         (program_tree team.now.checked.now) team.now.before (L.lines team.now.lines.now) result.1.end pass result.0 }
     ensures none { result.1.started ≡ false → (settler.new ≡ settler.old) × (host.new ≡ host.old) }
-    ensures bounds { IsInBounds settler.new.writer }
-    ensures fits { IsTrue H.tells → FitsDisk settler.new.writer (H.world host.new).disk }
+    ensures safe { IsSafe H.tells settler.new.writer (H.world host.new) }
     ensures ready { StaysReady (H.is_ready host.old) (H.is_ready host.new) }
 {
     let named: PhantomData<(CoreQuestion, CoreAnswer)> = PhantomData;
@@ -177,14 +175,13 @@ fn in_scope<R: Threads + Wait + Sync, H: Host, G: Gate + Sync, L: Lines + Copy +
     host: &mut H,
 ) -> (Pass<Core>, Gathered, Settler)
     requires fresh { IsFreshPass team.now.cell team.now.before pass }
-    requires bounds { IsInBounds settler.writer }
-    requires fits { IsTrue H.tells → FitsDisk settler.writer (H.world host.old).disk }
+    requires safe { IsSafe H.tells settler.writer (H.world host.old) }
     ensures together { BringsTogether team.now.cell
-        (HasSettled result.1.started H.tells shape.now settler result.2 (H.faults host.old) (H.faults host.new) (H.world host.old) (H.world host.new) result.1.settled (sight_of run_of (pass_view pass)))
+        (HasSettled result.1.started H.tells shape.now (side_of H.world H.faults settler host.old)
+        (side_of H.world H.faults result.2 host.new) result.1.settled (sight_of run_of (pass_view pass)))
         (program_tree team.now.checked.now) team.now.before (L.lines team.now.lines.now) result.1.end pass result.0 }
     ensures none { result.1.started ≡ false → (result.2 ≡ settler) × (host.new ≡ host.old) }
-    ensures bounds { IsInBounds result.2.writer }
-    ensures fits { IsTrue H.tells → FitsDisk result.2.writer (H.world host.new).disk }
+    ensures safe { IsSafe H.tells result.2.writer (H.world host.new) }
     ensures ready { StaysReady (H.is_ready host.old) (H.is_ready host.new) }
 {
     let named: PhantomData<(CoreQuestion, CoreAnswer)> = PhantomData;
@@ -194,14 +191,13 @@ fn in_scope<R: Threads + Wait + Sync, H: Host, G: Gate + Sync, L: Lines + Copy +
         move |scope| -> (Pass<Core>, Gathered, Settler, &mut H)
             requires shared { IsSync R.row × IsSync G.row × IsSync L.row }
             requires fresh { IsFreshPass team.now.cell team.now.before pass }
-            requires bounds { IsInBounds settler.writer }
-            requires fits { IsTrue H.tells → FitsDisk settler.writer (H.world host.now).disk }
+            requires safe { IsSafe H.tells settler.writer (H.world host.now) }
             ensures together { BringsTogether team.entry.now.cell
-                (HasSettled result.1.started H.tells shape.entry.now settler result.2 (H.faults host.entry.now) (H.faults result.3.now) (H.world host.entry.now) (H.world result.3.now) result.1.settled (sight_of run_of (pass_view pass)))
+                (HasSettled result.1.started H.tells shape.entry.now (side_of H.world H.faults settler host.entry.now)
+                (side_of H.world H.faults result.2 result.3.now) result.1.settled (sight_of run_of (pass_view pass)))
                 (program_tree team.entry.now.checked.now) team.entry.now.before (L.lines team.entry.now.lines.now) result.1.end pass result.0 }
             ensures none { result.1.started ≡ false → (result.2 ≡ settler) × (result.3.now ≡ host.entry.now) }
-            ensures bounds { IsInBounds result.2.writer }
-            ensures fits { IsTrue H.tells → FitsDisk result.2.writer (H.world result.3.now).disk }
+            ensures safe { IsSafe H.tells result.2.writer (H.world result.3.now) }
             ensures ready { StaysReady (H.is_ready host.entry.now) (H.is_ready result.3.now) }
             ensures host { result.3.ghost_name ≡ host.entry.ghost_name }
         {
@@ -237,14 +233,14 @@ pub(crate) fn gather<R: Threads + Wait + Sync, H: Host, G: Gate + Sync, L: Lines
     requires few { workers ≤ 16 }
     requires first { pass_view pass ≡ view (pass_view pass).first [] false first_hand }
     requires fresh { IsFreshPass team.cell team.before pass }
-    requires bounds { IsInBounds settler.old.writer }
-    requires fits { IsTrue H.tells → FitsDisk settler.old.writer (H.world host.old).disk }
+    requires safe { IsSafe H.tells settler.old.writer (H.world host.old) }
     ensures closed { IsGathered result.1.end (team.entry.before + length (L.lines team.entry.lines.now))
-        (HasSettled result.1.started H.tells shape.now settler.old settler.new (H.faults host.old) (H.faults host.new) (H.world host.old) (H.world host.new) result.1.settled (sight_by (run_of (pass_view pass).first) [] [] []))
-        (HasWorked (IsBasisOf (program_tree team.entry.checked.now) team.entry.before (L.lines team.entry.lines.now)) result.1.end) (run_of (pass_view pass).first) (run_of result.0) }
+        (HasSettled result.1.started H.tells shape.now (side_of H.world H.faults settler.old host.old)
+        (side_of H.world H.faults settler.new host.new) result.1.settled (sight_by (run_of (pass_view pass).first) [] [] []))
+        (HasWorked (IsBasisOf (program_tree team.entry.checked.now) team.entry.before (L.lines team.entry.lines.now)) result.1.end)
+        (run_of (pass_view pass).first) (run_of result.0) }
     ensures none { result.1.started ≡ false → (settler.new ≡ settler.old) × (host.new ≡ host.old) }
-    ensures bounds { IsInBounds settler.new.writer }
-    ensures fits { IsTrue H.tells → FitsDisk settler.new.writer (H.world host.new).disk }
+    ensures safe { IsSafe H.tells settler.new.writer (H.world host.new) }
     ensures ready { StaysReady (H.is_ready host.old) (H.is_ready host.new) }
 {
     let _named: PhantomData<(CoreQuestion, CoreAnswer)> = PhantomData;

@@ -1,17 +1,12 @@
 // How a run with workers ends.
-ghost use Rattle.std.specs.Prelude.{IsTrue, ℕ};
-ghost use Rattle.host_trait.specs.declared.channels.Channel.{Channel};
 ghost use Rattle.host_trait.specs.Files.{StaysReady};
-ghost use Rattle.host_trait.specs.World.{World};
-ghost use Rattle.batch_disk.specs.Writers.{IsInBounds, FitsDisk};
-ghost use Rattle.core_model.specs.Legal.{Run};
 ghost use Rattle.history_core.specs.Cores.{run_of};
-ghost use Rattle.settle_loop.specs.declared.settler.Settler.{Settler as ASettler};
 ghost use Rattle.run_books.specs.Beginnings.{Outset};
 ghost use Rattle.run_books.specs.Beside.{TurnsBeside};
 ghost use Rattle.run_books.specs.Books.{Books};
 ghost use Rattle.run_books.specs.Records.{RecordGoesOn};
 ghost use Rattle.silo_workers.specs.Ending.{HasGathered};
+ghost use Rattle.run_books.specs.Stages.{Stage, stage_of, IsSafe};
 
 use crate::crowd::Gathered;
 use crate::work::WorkEnd;
@@ -31,16 +26,14 @@ pub(crate) fn end_run<H: Host, G: Gate>(
     gate: &G,
     gathered: Gathered,
 ) -> Result<(), RunFault>
-    requires bounds { IsInBounds settler.old.writer }
-    requires fits { IsTrue H.tells → FitsDisk settler.old.writer (H.world host.old).disk }
-    ensures record_kept { (o : Outset) (b : Books) (r : Run) (before : ASettler) (now : World)
-        → HasGathered H.tells o b shape.now r (run_of core.old) before settler.old (H.faults host.old) now (H.world host.old) gathered.end gathered.settled
-        → RecordGoesOn H.tells o b r (run_of core.new) before settler.new (H.faults host.new) now (H.world host.new) result }
-    ensures beside { (r : Run) (before : ASettler) (counts : Channel → ℕ) (now : World)
-        → TurnsBeside H.tells r (run_of core.old) before settler.old counts (H.faults host.old) now (H.world host.old) gathered.settled
-        → TurnsBeside H.tells r (run_of core.new) before settler.new counts (H.faults host.new) now (H.world host.new) result }
-    ensures bounds { IsInBounds settler.new.writer }
-    ensures fits { IsTrue H.tells → FitsDisk settler.new.writer (H.world host.new).disk }
+    requires safe { IsSafe H.tells settler.old.writer (H.world host.old) }
+    ensures record_kept { (o : Outset) (b : Books) (s : Stage)
+        → HasGathered H.tells o b shape.now s (stage_of H.world H.faults (run_of core.old) settler.old host.old) gathered.end gathered.settled
+        → RecordGoesOn H.tells o b s (stage_of H.world H.faults (run_of core.new) settler.new host.new) result }
+    ensures beside { (s : Stage)
+        → TurnsBeside H.tells s (stage_of H.world H.faults (run_of core.old) settler.old host.old) gathered.settled
+        → TurnsBeside H.tells s (stage_of H.world H.faults (run_of core.new) settler.new host.new) result }
+    ensures safe { IsSafe H.tells settler.new.writer (H.world host.new) }
     ensures ready { StaysReady (H.is_ready host.old) (H.is_ready host.new) }
 {
     let Gathered {

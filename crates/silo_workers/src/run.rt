@@ -1,19 +1,17 @@
-ghost use Rattle.std.specs.Prelude.{◌≡◌, ◌≤◌, [], None, Err, true, false, IsTrue, IfOk, IfSome};
+ghost use Rattle.std.specs.Prelude.{◌≡◌, ◌≤◌, [], None, Err, true, false, IfOk, IfSome};
 ghost use Rattle.host_trait.specs.Files.{StaysReady};
-ghost use Rattle.batch_disk.specs.Writers.{IsInBounds, FitsDisk};
 ghost use Rattle.core_model.specs.Legal.{ends};
 ghost use Rattle.core_access.specs.OneHolder.{own_sight};
 ghost use Rattle.history_core.specs.Cores.{run_of};
 ghost use Rattle.script_tree.specs.Programs.{program_tree};
 ghost use Rattle.txn_agent.specs.Linked.{IsLegalRun};
 ghost use Rattle.worker_rules.specs.Stories.{NoneLoads};
-ghost use Rattle.run_books.specs.Beginnings.{Outset, IsOutset, CanTurn};
 ghost use Rattle.run_books.specs.Beside.{TurnsBeside};
-ghost use Rattle.run_books.specs.Books.{Books};
 ghost use Rattle.run_books.specs.Records.{RecordGoesOn};
-ghost use Rattle.interleaver.specs.Turns.{IsFreshRecord, KeepsTurns, TurnsGoOn};
+ghost use Rattle.interleaver.specs.Turns.{TurnsCarry, WhereTurnsBegin};
 ghost use Rattle.run_books.specs.declared.faults.RunFault.TheVariants.{Memory};
 ghost use Rattle.silo_workers.specs.declared.work.WorkEnd.TheVariants.{Idle};
+ghost use Rattle.run_books.specs.Stages.{stage_of, IsSafe};
 
 use crate::crowd::{Gathered, gather};
 use crate::ending::end_run;
@@ -68,15 +66,11 @@ fn carry_in_turns<H: Host, G: Gate, L: Lines + Copy>(
 ) -> Result<(), RunFault>
     requires legal { IsLegalRun (own_sight (run_of core.old)).first }
     requires loads { NoneLoads (own_sight (run_of core.old)).mine }
-    requires bounds { IsInBounds settler.old.writer }
-    requires fits { IsTrue H.tells → FitsDisk settler.old.writer (H.world host.old).disk }
-    ensures record_kept { (o : Outset) (b : Books) → IsOutset o (program_tree checked.now) (run_of core.old) (L.lines lines.now) 1 []
-        → CanTurn (run_of core.old) settler.old (L.lines lines.now) → IsFreshRecord o b 0 (run_of core.old)
-        → KeepsTurns H.tells o b (run_of core.old) settler.old (H.faults host.old) (H.world host.old)
-        → TurnsGoOn H.tells o b (run_of core.old) (run_of core.new) settler.old settler.new (H.faults host.new) (H.world host.old) (H.world host.new) result }
-    ensures beside { TurnsBeside H.tells (run_of core.old) (run_of core.new) settler.old settler.new (H.faults host.old) (H.faults host.new) (H.world host.old) (H.world host.new) result }
-    ensures bounds { IsInBounds settler.new.writer }
-    ensures fits { IsTrue H.tells → FitsDisk settler.new.writer (H.world host.new).disk }
+    requires safe { IsSafe H.tells settler.old.writer (H.world host.old) }
+    ensures carries { TurnsCarry H.tells (program_tree checked.now) (L.lines lines.now) 1 [] 0
+        (stage_of H.world H.faults (run_of core.old) settler.old host.old)
+        (stage_of H.world H.faults (run_of core.new) settler.new host.new) result }
+    ensures safe { IsSafe H.tells settler.new.writer (H.world host.new) }
     ensures ready { StaysReady (H.is_ready host.old) (H.is_ready host.new) }
 {
     let mut lines = *lines;
@@ -125,21 +119,21 @@ pub fn run_with_workers<R: Threads + Wait + Sync, H: Host, G: Gate + Sync, L: Li
     requires few { workers ≤ 16 }
     requires legal { IsLegalRun (own_sight (run_of core)).first }
     requires loads { NoneLoads (own_sight (run_of core)).mine }
-    requires bounds { IsInBounds settler.old.writer }
-    requires fits { IsTrue H.tells → FitsDisk settler.old.writer (H.world host.old).disk }
+    requires safe { IsSafe H.tells settler.old.writer (H.world host.old) }
 
     // The run's record, however it ends.
-    ensures record_kept { (o : Outset) (b : Books) → IsOutset o (program_tree checked.now) (run_of core) (L.lines lines.now) 1 []
-        → CanTurn (run_of core) settler.old (L.lines lines.now) → IsFreshRecord o b 0 (run_of core)
-        → KeepsTurns H.tells o b (run_of core) settler.old (H.faults host.old) (H.world host.old)
-        → IfSome result.0 (λ c. RecordGoesOn H.tells o b (run_of core) (run_of c) settler.old settler.new (H.faults host.new) (H.world host.old) (H.world host.new) result.1) }
+    ensures record_kept { WhereTurnsBegin H.tells (program_tree checked.now) (L.lines lines.now) 1 [] 0
+        (stage_of H.world H.faults (run_of core) settler.old host.old)
+        (λ o b. IfSome result.0 (λ c. RecordGoesOn H.tells o b (stage_of H.world H.faults (run_of core) settler.old host.old)
+        (stage_of H.world H.faults (run_of c) settler.new host.new) result.1)) }
 
     // And what it leaves beside that.
-    ensures beside { IfSome result.0 (λ c. TurnsBeside H.tells (run_of core) (run_of c) settler.old settler.new (H.faults host.old) (H.faults host.new) (H.world host.old) (H.world host.new) result.1) }
+    ensures beside { IfSome result.0 (λ c. TurnsBeside H.tells
+        (stage_of H.world H.faults (run_of core) settler.old host.old)
+        (stage_of H.world H.faults (run_of c) settler.new host.new) result.1) }
     ensures lost { result.0 ≡ None → (result.1 ≡ Err Memory) × (settler.new ≡ settler.old) × (host.new ≡ host.old) }
 
-    ensures bounds { IsInBounds settler.new.writer }
-    ensures fits { IsTrue H.tells → FitsDisk settler.new.writer (H.world host.new).disk }
+    ensures safe { IsSafe H.tells settler.new.writer (H.world host.new) }
     ensures ready { StaysReady (H.is_ready host.old) (H.is_ready host.new) }
 {
     let _named: PhantomData<(CoreQuestion, CoreAnswer)> = PhantomData;

@@ -1,12 +1,12 @@
 // What the calling thread does with its pass.
-ghost use Rattle.std.specs.Prelude.{◌≡◌, IsTrue};
+ghost use Rattle.std.specs.Prelude.{◌≡◌};
 ghost use Rattle.host_trait.specs.Files.{StaysReady};
-ghost use Rattle.batch_disk.specs.Writers.{IsInBounds, FitsDisk};
 ghost use Rattle.core_access.specs.ByPass.{sight_of};
 ghost use Rattle.history_core.specs.Cores.{run_of};
 ghost use Rattle.turn_cell.specs.Passes.{IsPassOf, pass_view};
 ghost use Rattle.closing_rules.specs.Gathering.{Returns};
 ghost use Rattle.silo_workers.specs.Beside.{SettlesBeside};
+ghost use Rattle.run_books.specs.Stages.{side_of, IsSafe};
 
 use crate::reach::Reach;
 use crate::team::Team;
@@ -31,12 +31,13 @@ pub(crate) fn settle_by_pass<R: Wait, H: Host, G: Gate, L: Lines>(
     host: &mut H,
 ) -> (Pass<Core>, Result<(), RunFault>)
     requires own { IsPassOf team.now.cell pass }
-    requires bounds { IsInBounds settler.old.writer }
-    requires fits { IsTrue H.tells → FitsDisk settler.old.writer (H.world host.old).disk }
+    requires safe { IsSafe H.tells settler.old.writer (H.world host.old) }
     ensures own { IsPassOf team.now.cell result.0 }
-    ensures returns { Returns run_of (SettlesBeside H.tells shape.now settler.old settler.new (H.faults host.old) (H.faults host.new) (H.world host.old) (H.world host.new) result.1 (sight_of run_of (pass_view pass))) (pass_view pass) (pass_view result.0) }
-    ensures bounds { IsInBounds settler.new.writer }
-    ensures fits { IsTrue H.tells → FitsDisk settler.new.writer (H.world host.new).disk }
+    ensures returns { Returns run_of
+        (SettlesBeside H.tells shape.now (side_of H.world H.faults settler.old host.old)
+        (side_of H.world H.faults settler.new host.new) result.1 (sight_of run_of (pass_view pass)))
+        (pass_view pass) (pass_view result.0) }
+    ensures safe { IsSafe H.tells settler.new.writer (H.world host.new) }
     ensures ready { StaysReady (H.is_ready host.old) (H.is_ready host.new) }
 {
     let _named: PhantomData<(CoreQuestion, CoreAnswer)> = PhantomData;

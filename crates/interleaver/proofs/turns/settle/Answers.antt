@@ -98,3 +98,24 @@ pub returns-in-Stop-WriteFault-clause-beside : goal.returns-in-Stop-WriteFault-c
 returns-in-Stop-WriteFault-clause-beside g c =
     step-beside g.H.Host.tells g.H.Host.world g.H.Host.faults c.args.shape.now (run_of c.args.core.now) (run_of c.step.new.access) c.args.settler.now c.step.new.self c.args.host.now c.step.new.host tt c.step.result c.step.ensures.turns
     (Ok (Stop cause.WriteFault)) (c.in_ok-step.was ∙ ap Ok (c.in-Stop-WriteFault.is ∙ ap Stop c.in-Stop-WriteFault.field-0-is)) (Err fault.WriteFault) refl
+
+pub step-requires-clause-bounds : goal.step-requires-clause-bounds
+step-requires-clause-bounds g c = c.requires.safe.bounds
+
+pub step-requires-clause-fits : goal.step-requires-clause-fits
+step-requires-clause-fits g c = c.requires.safe.fits
+
+pub returns-in_err-step-clause-safe : goal.returns-in_err-step-clause-safe
+returns-in_err-step-clause-safe g c = record { bounds = c.step.ensures.bounds; fits = c.step.ensures.fits }
+
+pub returns-in-Stepped-clause-safe : goal.returns-in-Stepped-clause-safe
+returns-in-Stepped-clause-safe g c = record { bounds = c.step.ensures.bounds; fits = c.step.ensures.fits }
+
+pub returns-in-Nothing-clause-safe : goal.returns-in-Nothing-clause-safe
+returns-in-Nothing-clause-safe g c = record { bounds = c.step.ensures.bounds; fits = c.step.ensures.fits }
+
+pub returns-in-Stop-InDoubt-clause-safe : goal.returns-in-Stop-InDoubt-clause-safe
+returns-in-Stop-InDoubt-clause-safe g c = record { bounds = c.step.ensures.bounds; fits = c.step.ensures.fits }
+
+pub returns-in-Stop-WriteFault-clause-safe : goal.returns-in-Stop-WriteFault-clause-safe
+returns-in-Stop-WriteFault-clause-safe g c = record { bounds = c.step.ensures.bounds; fits = c.step.ensures.fits }

@@ -1,8 +1,9 @@
-use Rattle.std.proofs.Common.{◌≡◌, ℕ, List, Ok, sym, ◌∙◌, ap, subst}
+use Rattle.std.proofs.Common.{◌≡◌, ℕ, List, map, Ok, sym, ◌∙◌, ap, subst}
 use Rattle.base_types.specs.declared.shapes.Shape.{Shape}
 use Rattle.host_trait.specs.declared.channels.Channel.{Channel}
 use Rattle.host_trait.specs.Disk.{settled}
 use Rattle.host_trait.specs.World.{Disk, Image}
+use Rattle.host_trait.specs.Runs.{RunsOnFile}
 use Rattle.host_trait.proofs.Counts.{none_then}
 use Rattle.log_reading.specs.Blocks.{records_in_file}
 use Rattle.host_trait.specs.declared.channels.FileId.TheVariants.{Manager}
@@ -10,22 +11,23 @@ use Rattle.log_reading.specs.Steps.{seen_in}
 use Rattle.script_tree.specs.Programs.{program_tree}
 use Rattle.silo_spec.specs.Slots.{IsLive}
 use Rattle.silo_opening.specs.Counts.{OpenFaulted}
-use Rattle.silo_opening.specs.Opened.{ending_of}
+use Rattle.silo_opening.specs.Opened.{Stays, ending_of}
 use Rattle.silo_opening.specs.declared.faults.OpenFault.{OpenFault}
 use Rattle.silo_opening.proofs.Opening.{seen_same}
 use Rattle.silo_opening.proofs.Runs.{run_only_asked}
 use Rattle.promise_spec.specs.Programs.{shape_in}
-use Rattle.promise_spec.specs.Records.{Commit, log_start}
+use Rattle.promise_spec.specs.Records.{Commit}
+use Rattle.promise_spec.specs.Entries.{Log, new_log, grown, records_of}
 use Rattle.promise_spec.specs.Logs.{magic}
-use Rattle.promise_spec.specs.Openings.{opened_as}
+use Rattle.promise_spec.specs.Openings.{commit_of, opened_as}
 use Rattle.promise_spec.specs.Refusals.{IsRefusedBy}
 use Rattle.promise_spec.proofs.Openings.{reads_is_live}
-use Rattle.log_audit.specs.Endings.{program_opened}
-use Rattle.log_audit.specs.Replaying.{as_commits, IsFirstFailure}
+use Rattle.promise_spec.proofs.Standings.{records_back}
+use Rattle.log_audit.specs.Replaying.{first_states, as_commits, IsFirstFailure}
 use Rattle.log_audit.specs.Unread.{IsRereadFault}
 use Rattle.log_audit.proofs.Reread.{open_faulted}
 use Rattle.log_audit.proofs.Refused.{refused_again}
-use Rattle.log_audit.proofs.Shown.{parts, count_of}
+use Rattle.log_audit.proofs.Shown.{program_opened, parts}
 use Rattle.log_audit.proofs.audits.audit.Goals as goal
 
 pub returns-in-Ok-replay_log-clause-audited : goal.returns-in-Ok-replay_log-clause-audited
@@ -37,18 +39,21 @@ returns-in-Ok-replay_log-clause-audited g c told =
     let image = seen_in old.disk in
     let o = c.in-Ok.ensures.opened told in
     let p = program_opened image opened o in
-    let same : seen_in mid.disk ≡ image = seen_same _ old mid (c.open_silo.ensures.run told) in
+    let same : seen_in mid.disk ≡ image = seen_same _ old mid (c.in-Ok.ensures.run told) in
     let shape : c.in-Ok-shape.shape ≡ shape_in p = (λ i. record { types = c.in-Ok-shape.ensures i }) in
     let whole = parts image opened o in
     let read : records_in_file c.in-Ok-shape.shape ((mid.disk (Manager opened.slot)).seen) ≡ Ok whole.records = (λ i. records_in_file (shape i) (same i (Manager opened.slot))) ∙ whole.read in
-    let log : as_commits opened.slot c.in-Ok-shape.shape (seen_in mid.disk) whole.records ≡ o.log = (λ i. as_commits opened.slot (shape i) (same i) whole.records) ∙ whole.commits in
+    let bad = c.in-Ok-replay_log.first_bad in
+    let commits : List Commit = map (commit_of opened.slot (shape_in p) image) whole.records in
+    let seen : as_commits opened.slot c.in-Ok-shape.shape (seen_in mid.disk) whole.records ≡ commits = (λ i. as_commits opened.slot (shape i) (same i) whole.records) in
+    let first : IsFirstFailure types (first_states types) (records_of (grown (new_log p) commits)) bad =
+    subst (λ (l : List Commit). IsFirstFailure types (first_states types) l bad) (seen ∙ sym (records_back commits)) (c.in-Ok-replay_log.ensures.replays told whole.records read) in
     record {
       live = opened.slot;
-      program = p;
       log = o.log;
       reads = o.reads;
-      count = o.count ∙ count_of types o.log;
-      first = subst (λ (l : List Commit). IsFirstFailure types (log_start types).states l c.in-Ok-replay_log.first_bad) log (c.in-Ok-replay_log.ensures.replays told whole.records read);
+      count = o.count;
+      first = subst (λ (l : Log). IsFirstFailure l.base.program.types l.base.states (records_of l) bad) whole.are first;
     }
 
 pub returns-in-Ok-replay_log-clause-settled : goal.returns-in-Ok-replay_log-clause-settled
@@ -57,7 +62,7 @@ returns-in-Ok-replay_log-clause-settled g c told live is =
     let new = g.H.Host.world c.replay_log.new.host in
     let opened = c.in-Ok.opened in
     let o = c.in-Ok.ensures.opened told in
-    let read : IsLive magic opened.slot (seen_in old.disk) = reads_is_live (seen_in old.disk) opened.slot (program_opened (seen_in old.disk) opened o) o.log o.reads in
+    let read : IsLive magic opened.slot (seen_in old.disk) = reads_is_live (seen_in old.disk) opened.slot o.log o.reads in
     let here : new.disk (Manager opened.slot) ≡ settled (old.disk (Manager opened.slot)).seen = ap (λ (d : Disk). d (Manager opened.slot)) (c.replay_log.ensures.asked told).disk ∙ c.in-Ok.ensures.settled told in
     subst (λ (slot : ℕ). new.disk (Manager slot) ≡ settled (old.disk (Manager slot)).seen) (read.slot ∙ sym is.slot) here
 
@@ -65,10 +70,32 @@ pub returns-in-Ok-replay_log-clause-calm : goal.returns-in-Ok-replay_log-clause-
 returns-in-Ok-replay_log-clause-calm g c = none_then _ _ _ c.in-Ok.ensures.calm c.in-Ok-replay_log.ensures.calm
 
 pub returns-in-Ok-replay_log-clause-run : goal.returns-in-Ok-replay_log-clause-run
-returns-in-Ok-replay_log-clause-run g c told = run_only_asked _ _ _ _ _ _ (c.open_silo.ensures.run told) (c.replay_log.ensures.asked told)
+returns-in-Ok-replay_log-clause-run g c told live is =
+    let old = g.H.Host.world c.args.host.now in
+    let new = g.H.Host.world c.replay_log.new.host in
+    let opened = c.in-Ok.opened in
+    let o = c.in-Ok.ensures.opened told in
+    let read : IsLive magic opened.slot (seen_in old.disk) = reads_is_live (seen_in old.disk) opened.slot o.log o.reads in
+    let here : RunsOnFile (Manager opened.slot) Stays 1 old new = run_only_asked _ _ _ _ _ _ (c.in-Ok.ensures.run told) (c.replay_log.ensures.asked told) in
+    subst (λ (slot : ℕ). RunsOnFile (Manager slot) Stays 1 old new) (read.slot ∙ sym is.slot) here
 
-pub returns-clause-run : goal.returns-clause-run
-returns-clause-run g c told = run_only_asked _ _ _ _ _ _ (c.open_silo.ensures.run told) (c.replay_log.ensures.asked told)
+pub returns-in-Err-shape-clause-looked : goal.returns-in-Err-shape-clause-looked
+returns-in-Err-shape-clause-looked g c told =
+    let old = g.H.Host.world c.args.host.now in
+    let opened = c.in-Ok.opened in
+    let o = c.in-Ok.ensures.opened told in
+    let read : IsLive magic opened.slot (seen_in old.disk) = reads_is_live (seen_in old.disk) opened.slot o.log o.reads in
+    subst (λ (slot : ℕ). RunsOnFile (Manager slot) Stays 1 old (g.H.Host.world c.open_silo.new.host)) read.slot (c.in-Ok.ensures.run told)
+
+pub returns-clause-looked : goal.returns-clause-looked
+returns-clause-looked g c told =
+    let old = g.H.Host.world c.args.host.now in
+    let new = g.H.Host.world c.replay_log.new.host in
+    let opened = c.in-Ok.opened in
+    let o = c.in-Ok.ensures.opened told in
+    let read : IsLive magic opened.slot (seen_in old.disk) = reads_is_live (seen_in old.disk) opened.slot o.log o.reads in
+    let here : RunsOnFile (Manager opened.slot) Stays 1 old new = run_only_asked _ _ _ _ _ _ (c.in-Ok.ensures.run told) (c.replay_log.ensures.asked told) in
+    subst (λ (slot : ℕ). RunsOnFile (Manager slot) Stays 1 old new) read.slot here
 
 pub returns-clause-refused : goal.returns-clause-refused
 returns-clause-refused g c told =
@@ -78,7 +105,7 @@ returns-clause-refused g c told =
     let image = seen_in old.disk in
     let o = c.in-Ok.ensures.opened told in
     let p = program_opened image opened o in
-    let same : seen_in mid.disk ≡ image = seen_same _ old mid (c.open_silo.ensures.run told) in
+    let same : seen_in mid.disk ≡ image = seen_same _ old mid (c.in-Ok.ensures.run told) in
     let shape : c.in-Ok-shape.shape ≡ shape_in p = (λ i. record { types = c.in-Ok-shape.ensures i }) in
     let whole = parts image opened o in
     let read : records_in_file c.in-Ok-shape.shape ((mid.disk (Manager opened.slot)).seen) ≡ Ok whole.records = (λ i. records_in_file (shape i) (same i (Manager opened.slot))) ∙ whole.read in

@@ -6,7 +6,6 @@ use Rattle.silo_opening.proofs.Opening.{seen_same}
 use Rattle.promise_spec.specs.Openings.{opened_as}
 use Rattle.promise_spec.specs.Endings.{Ending, HasFailedAs}
 use Rattle.promise_spec.specs.Reports.{history_text}
-use Rattle.log_audit.specs.Endings.{program_opened}
 use Rattle.log_audit.proofs.Reported.{failed_then, open_failed, never_bad_use, not_opened, is_reported}
 use Rattle.log_audit.proofs.records.history.Goals as goal
 
@@ -15,10 +14,10 @@ returns-in-Ok-clause-reports g c told manner asked =
     let old = g.H.Host.world c.args.host.now in
     let mid = g.H.Host.world c.open_silo.new.host in
     let opened = c.in-Ok.opened in
-    let run = c.open_silo.ensures.run told in
+    let run = c.in-Ok.ensures.run told in
     let same : seen_in mid.disk ≡ seen_in old.disk = seen_same _ old mid run in
     let o : IsOpenedFrom (seen_in mid.disk) opened = subst (λ (image : Image). IsOpenedFrom image opened) (sym same) (c.in-Ok.ensures.opened told) in
-    inr (is_reported opened.slot old mid (c.in-Ok.ensures.settled told) run history_text (program_opened (seen_in mid.disk) opened o) o.log manner asked (g.H.Host.world c.write_history.new.host) (g.H.Host.faults c.args.host.now) (g.H.Host.faults c.write_history.new.host) c.write_history.result
+    inr (is_reported opened.slot old mid (c.in-Ok.ensures.settled told) run history_text o.log manner asked (g.H.Host.world c.write_history.new.host) (g.H.Host.faults c.args.host.now) (g.H.Host.faults c.write_history.new.host) c.write_history.result
     (ap (λ (image : Image). opened_as image) (sym same) ∙ o.reads) (c.write_history.ensures.puts told o) (c.write_history.ensures.ended told o)
     (failed_then _ _ _ _ c.in-Ok.ensures.calm c.write_history.ensures.exact))
 
@@ -31,7 +30,7 @@ returns-in-Ok-clause-good g c = never_bad_use c.write_history.result
 pub returns-in-Err-clause-reports : goal.returns-in-Err-clause-reports
 returns-in-Err-clause-reports g c told manner asked =
     inl (not_opened {A = Unit {0}} manner asked (g.H.Host.world c.args.host.now) (g.H.Host.world c.open_silo.new.host) (g.H.Host.faults c.args.host.now) (g.H.Host.faults c.open_silo.new.host) (Err c.unopened.result) c.in-Err.fault c.unopened.ensures
-    (c.open_silo.ensures.run told) (c.in-Err.ensures.refused told) c.in-Err.ensures.fault)
+    (c.in-Err.ensures.looked told) (c.in-Err.ensures.refused told) c.in-Err.ensures.fault)
 
 pub returns-in-Err-clause-exact : goal.returns-in-Err-clause-exact
 returns-in-Err-clause-exact g c = subst (λ (e : Ending). HasFailedAs e (g.H.Host.faults c.args.host.now) (g.H.Host.faults c.open_silo.new.host)) (sym c.unopened.ensures) (open_failed _ _ c.in-Err.fault c.in-Err.ensures.fault)

@@ -10,8 +10,7 @@ use Rattle.log_reading.specs.Steps.{next_in, seen_in}
 use Rattle.log_reading.proofs.Following.{follows_on, follows_breaks}
 use Rattle.script_tree.specs.Programs.{program_tree}
 use Rattle.script_meaning.specs.Play.{found_in}
-use Rattle.promise_spec.specs.Records.{log_start}
-use Rattle.log_audit.specs.Replaying.{as_commits, AllReplayTo}
+use Rattle.log_audit.specs.Replaying.{first_states, as_commits, AllReplayTo}
 use Rattle.log_audit.specs.Unread.{IsVersionFault}
 use Rattle.log_audit.proofs.Gathering.{clean_of, log_fault, rest_of}
 use Rattle.log_audit.proofs.Refused.{fault_among}
@@ -23,7 +22,7 @@ loop-store-init g c =
     let types = program_tree c.args.checked.now in
     record {
       bound = omega arith;
-      audited = λ told. audit_begun types c.args.slot c.args.shape.now (seen_in (g.H.Host.world c.args.host.now).disk) ((g.H.Host.world c.args.host.now).disk (Manager c.args.slot)).seen (log_start types).states _ (none_kept types c.new-store.result c.new-store.ensures);
+      audited = λ told. audit_begun types c.args.slot c.args.shape.now (seen_in (g.H.Host.world c.args.host.now).disk) ((g.H.Host.world c.args.host.now).disk (Manager c.args.slot)).seen (first_states types) _ (none_kept types c.new-store.result c.new-store.ensures);
       asked = search rules;
       calm = λ channel. refl;
       ready = λ file was. was;

@@ -1,5 +1,12 @@
-use Rattle.promise_spec.proofs.OneLog.{one_log}
+use Rattle.promise_spec.proofs.OneLog.{one_log, one_in}
+use Rattle.promise_spec.proofs.Chains.{begins_above}
 use Rattle.promise_spec.proofs.laws.one_log.Goals as goal
 
-pub returns : goal.returns
-returns c = one_log
+pub returns-clause-image : goal.returns-clause-image
+returns-clause-image c = one_log
+
+pub returns-clause-slot : goal.returns-clause-slot
+returns-clause-slot c = one_in
+
+pub returns-clause-begins : goal.returns-clause-begins
+returns-clause-begins c = begins_above

@@ -7,6 +7,7 @@ use Rattle.shared_settling.proofs.Keeping.{settled-none, settled-ok, settled-lac
 use Rattle.run_books.proofs.Leaving.{run-stays, core-beside, beside-well}
 use Rattle.shared_settling.proofs.Passing.{among-none, among-both, among-seen}
 use Rattle.shared_settling.proofs.beside.settle_beside.Goals as goal
+use Rattle.run_books.specs.Stages.{stage_of}
 
 pub loop-init : goal.loop-init
 loop-init g c =
@@ -18,8 +19,7 @@ loop-init g c =
       knows = λ truly. truly;
       books = λ o b can rely. settled-none g.H.Host.tells o b c.args.shape.now (g.A.Access.sight c.args.access.now) (g.A.Access.sight c.args.access.now) c.args.settler.now c.args.settler.now (g.H.Host.faults c.args.host.now) (g.H.Host.faults c.args.host.now) (g.H.Host.world c.args.host.now) (g.H.Host.world c.args.host.now) {T = Bool} true can;
       beside = core-beside {T = Bool} g.H.Host.tells (run_seen (g.A.Access.sight c.args.access.now)) (run_seen (g.A.Access.sight c.args.access.now)) c.args.settler.now (g.H.Host.faults c.args.host.now) (g.H.Host.world c.args.host.now) (Ok true) [] (run-stays (run_seen (g.A.Access.sight c.args.access.now)));
-      bounds = c.requires.bounds;
-      fits = c.requires.fits;
+      safe = c.requires.safe;
       ready = λ file was. was;
     }
 
@@ -29,18 +29,17 @@ loop-preserved-in-Ok-true g c =
       fit = c.settle_once.ensures.fit;
       aside = c.settle_once.ensures.aside ∙ c.loop.invariant.aside;
       own = (among-both (g.A.Access.sight c.args.access.now) (g.A.Access.sight c.loop.access) (g.A.Access.sight c.settle_once.new.access) c.loop.invariant.own c.settle_once.ensures.own);
-      promise = λ basis p. c.settle_once.ensures.promise basis (c.loop.invariant.promise basis p);
+      promise = λ basis p. c.settle_once.ensures.leaves.promise basis (c.loop.invariant.promise basis p);
       knows = λ truly. c.settle_once.ensures.knows (c.loop.invariant.knows truly);
       books = (booked-on g.H.Host.tells c.args.shape.now (g.A.Access.sight c.args.access.now) (g.A.Access.sight c.loop.access) (g.A.Access.sight c.settle_once.new.access) c.args.settler.now c.loop.settler c.settle_once.new.settler
           (g.H.Host.faults c.args.host.now) (g.H.Host.faults c.loop.host) (g.H.Host.faults c.settle_once.new.host)
           (g.H.Host.world c.args.host.now) (g.H.Host.world c.loop.host) (g.H.Host.world c.settle_once.new.host)
-          c.loop.invariant.own c.settle_once.ensures.own c.loop.invariant.books c.settle_once.result (Ok true) (c.in-Ok-true.is ∙ ap Ok c.in-Ok-true.field-0-test) c.settle_once.ensures.books);
+          c.loop.invariant.own c.settle_once.ensures.own c.loop.invariant.books c.settle_once.result (Ok true) (c.in-Ok-true.is ∙ ap Ok c.in-Ok-true.field-0-test) c.settle_once.ensures.leaves.books);
       beside = (beside-on g.H.Host.tells c.args.shape.now (g.A.Access.sight c.args.access.now) (g.A.Access.sight c.loop.access) (g.A.Access.sight c.settle_once.new.access) c.args.settler.now c.loop.settler c.settle_once.new.settler
           (g.H.Host.faults c.args.host.now) (g.H.Host.faults c.loop.host) (g.H.Host.faults c.settle_once.new.host)
           (g.H.Host.world c.args.host.now) (g.H.Host.world c.loop.host) (g.H.Host.world c.settle_once.new.host)
-          c.loop.invariant.beside c.settle_once.result (Ok true) (c.in-Ok-true.is ∙ ap Ok c.in-Ok-true.field-0-test) c.settle_once.ensures.beside);
-      bounds = c.settle_once.ensures.bounds;
-      fits = c.settle_once.ensures.fits;
+          c.loop.invariant.beside c.settle_once.result (Ok true) (c.in-Ok-true.is ∙ ap Ok c.in-Ok-true.field-0-test) c.settle_once.ensures.leaves.beside);
+      safe = c.settle_once.ensures.safe;
       ready = λ file was. c.settle_once.ensures.ready file (c.loop.invariant.ready file was);
     }
 
@@ -50,18 +49,17 @@ loop-preserved g c =
       fit = c.settle_once.ensures.fit;
       aside = c.settle_once.ensures.aside ∙ c.loop.invariant.aside;
       own = (among-both (g.A.Access.sight c.args.access.now) (g.A.Access.sight c.loop.access) (g.A.Access.sight c.settle_once.new.access) c.loop.invariant.own c.settle_once.ensures.own);
-      promise = λ basis p. c.settle_once.ensures.promise basis (c.loop.invariant.promise basis p);
+      promise = λ basis p. c.settle_once.ensures.leaves.promise basis (c.loop.invariant.promise basis p);
       knows = λ truly. c.settle_once.ensures.knows (c.loop.invariant.knows truly);
-      books = (λ o b can rely. settled-ok g.H.Host.tells o b (run_seen (g.A.Access.sight c.args.access.now)) (run_seen (g.A.Access.sight c.settle_once.new.access)) c.args.settler.now c.settle_once.new.settler (g.H.Host.faults c.settle_once.new.host) (g.H.Host.world c.args.host.now) (g.H.Host.world c.settle_once.new.host) {T = Bool} {U = Bool} false true (booked-on g.H.Host.tells c.args.shape.now (g.A.Access.sight c.args.access.now) (g.A.Access.sight c.loop.access) (g.A.Access.sight c.settle_once.new.access) c.args.settler.now c.loop.settler c.settle_once.new.settler
+      books = (λ o b can rely. settled-ok g.H.Host.tells o b (stage_of g.H.Host.world g.H.Host.faults (run_seen (g.A.Access.sight c.args.access.now)) c.args.settler.now c.args.host.now) (stage_of g.H.Host.world g.H.Host.faults (run_seen (g.A.Access.sight c.settle_once.new.access)) c.settle_once.new.settler c.settle_once.new.host) {T = Bool} {U = Bool} false true (booked-on g.H.Host.tells c.args.shape.now (g.A.Access.sight c.args.access.now) (g.A.Access.sight c.loop.access) (g.A.Access.sight c.settle_once.new.access) c.args.settler.now c.loop.settler c.settle_once.new.settler
           (g.H.Host.faults c.args.host.now) (g.H.Host.faults c.loop.host) (g.H.Host.faults c.settle_once.new.host)
           (g.H.Host.world c.args.host.now) (g.H.Host.world c.loop.host) (g.H.Host.world c.settle_once.new.host)
-          c.loop.invariant.own c.settle_once.ensures.own c.loop.invariant.books c.settle_once.result (Ok false) (c.in-Ok-false.is ∙ ap Ok c.in-Ok-false.field-0-test) c.settle_once.ensures.books o b can rely));
+          c.loop.invariant.own c.settle_once.ensures.own c.loop.invariant.books c.settle_once.result (Ok false) (c.in-Ok-false.is ∙ ap Ok c.in-Ok-false.field-0-test) c.settle_once.ensures.leaves.books o b can rely));
       beside = (beside-well g.H.Host.tells (run_seen (g.A.Access.sight c.args.access.now)) (run_seen (g.A.Access.sight c.settle_once.new.access)) c.args.settler.now c.settle_once.new.settler (g.H.Host.faults c.args.host.now) (g.H.Host.faults c.settle_once.new.host) (g.H.Host.world c.args.host.now) (g.H.Host.world c.settle_once.new.host) {T = Bool} {U = Bool} false (Ok true) (beside-on g.H.Host.tells c.args.shape.now (g.A.Access.sight c.args.access.now) (g.A.Access.sight c.loop.access) (g.A.Access.sight c.settle_once.new.access) c.args.settler.now c.loop.settler c.settle_once.new.settler
           (g.H.Host.faults c.args.host.now) (g.H.Host.faults c.loop.host) (g.H.Host.faults c.settle_once.new.host)
           (g.H.Host.world c.args.host.now) (g.H.Host.world c.loop.host) (g.H.Host.world c.settle_once.new.host)
-          c.loop.invariant.beside c.settle_once.result (Ok false) (c.in-Ok-false.is ∙ ap Ok c.in-Ok-false.field-0-test) c.settle_once.ensures.beside));
-      bounds = c.settle_once.ensures.bounds;
-      fits = c.settle_once.ensures.fits;
+          c.loop.invariant.beside c.settle_once.result (Ok false) (c.in-Ok-false.is ∙ ap Ok c.in-Ok-false.field-0-test) c.settle_once.ensures.leaves.beside));
+      safe = c.settle_once.ensures.safe;
       ready = λ file was. c.settle_once.ensures.ready file (c.loop.invariant.ready file was);
     }
 
@@ -70,20 +68,17 @@ returns-then-has_failed g c =
     let left =
     fault-ends g.A.Access.may_come g.H.Host.tells c.args.shape.now (g.A.Access.sight c.args.access.now) (g.A.Access.sight c.loop.access) (g.A.Access.sight c.stop.new.access) c.args.settler.now c.loop.settler
     (g.H.Host.faults c.args.host.now) (g.H.Host.faults c.loop.host) (g.H.Host.world c.args.host.now) (g.H.Host.world c.loop.host) Memory c.loop.invariant.own (c.stop.ensures.stops, c.stop.ensures.stopped) c.loop.invariant.promise
-    (λ o b can rely. settled-lack g.H.Host.tells o b (run_seen (g.A.Access.sight c.args.access.now)) (run_seen (g.A.Access.sight c.loop.access)) c.args.settler.now c.loop.settler (g.H.Host.faults c.loop.host) (g.H.Host.world c.args.host.now) (g.H.Host.world c.loop.host) {T = Bool} {U = Bool} true (c.loop.invariant.books o b can rely))
+    (λ o b can rely. settled-lack g.H.Host.tells o b (stage_of g.H.Host.world g.H.Host.faults (run_seen (g.A.Access.sight c.args.access.now)) c.args.settler.now c.args.host.now) (stage_of g.H.Host.world g.H.Host.faults (run_seen (g.A.Access.sight c.loop.access)) c.loop.settler c.loop.host) {T = Bool} {U = Bool} true (c.loop.invariant.books o b can rely))
     (beside-well g.H.Host.tells (run_seen (g.A.Access.sight c.args.access.now)) (run_seen (g.A.Access.sight c.loop.access)) c.args.settler.now c.loop.settler (g.H.Host.faults c.args.host.now) (g.H.Host.faults c.loop.host) (g.H.Host.world c.args.host.now) (g.H.Host.world c.loop.host) {T = Bool} {U = Bool} true (Err Memory) c.loop.invariant.beside) in
     record {
       fit = c.stop.ensures.fit;
       aside = c.stop.ensures.aside ∙ c.loop.invariant.aside;
       sees = left.sees;
       own = left.own;
-      promise = left.promise;
       stopped = c.stop.ensures.stopped;
       rests = tt;
-      books = left.books;
-      beside = left.beside;
-      bounds = c.loop.invariant.bounds;
-      fits = c.loop.invariant.fits;
+      leaves = record { promise = left.promise; books = left.books; beside = left.beside };
+      safe = c.loop.invariant.safe;
       ready = c.loop.invariant.ready;
     }
 
@@ -95,25 +90,20 @@ pub returns-then-working-eq0-clause-own : goal.returns-then-working-eq0-clause-o
 returns-then-working-eq0-clause-own g c =
     among-both (g.A.Access.sight c.args.access.now) (g.A.Access.sight c.loop.access) (g.A.Access.sight c.settle_once.new.access) c.loop.invariant.own c.settle_once.ensures.own
 
-pub returns-then-working-eq0-clause-promise : goal.returns-then-working-eq0-clause-promise
-returns-then-working-eq0-clause-promise g c =
-    λ basis p. c.settle_once.ensures.promise basis (c.loop.invariant.promise basis p)
-
-pub returns-then-working-eq0-clause-books : goal.returns-then-working-eq0-clause-books
-returns-then-working-eq0-clause-books g c =
-    λ o b can rely. settled-ok g.H.Host.tells o b (run_seen (g.A.Access.sight c.args.access.now)) (run_seen (g.A.Access.sight c.settle_once.new.access)) c.args.settler.now c.settle_once.new.settler (g.H.Host.faults c.settle_once.new.host) (g.H.Host.world c.args.host.now) (g.H.Host.world c.settle_once.new.host) {T = Bool} {U = Unit} false tt
-    (booked-on g.H.Host.tells c.args.shape.now (g.A.Access.sight c.args.access.now) (g.A.Access.sight c.loop.access) (g.A.Access.sight c.settle_once.new.access) c.args.settler.now c.loop.settler c.settle_once.new.settler
-    (g.H.Host.faults c.args.host.now) (g.H.Host.faults c.loop.host) (g.H.Host.faults c.settle_once.new.host)
-    (g.H.Host.world c.args.host.now) (g.H.Host.world c.loop.host) (g.H.Host.world c.settle_once.new.host)
-    c.loop.invariant.own c.settle_once.ensures.own c.loop.invariant.books c.settle_once.result (Ok false) (c.in-Ok-false.is ∙ ap Ok c.in-Ok-false.field-0-test) c.settle_once.ensures.books o b can rely)
-
-pub returns-then-working-eq0-clause-beside : goal.returns-then-working-eq0-clause-beside
-returns-then-working-eq0-clause-beside g c =
-    beside-well g.H.Host.tells (run_seen (g.A.Access.sight c.args.access.now)) (run_seen (g.A.Access.sight c.settle_once.new.access)) c.args.settler.now c.settle_once.new.settler (g.H.Host.faults c.args.host.now) (g.H.Host.faults c.settle_once.new.host) (g.H.Host.world c.args.host.now) (g.H.Host.world c.settle_once.new.host) {T = Bool} {U = Unit} false (Ok tt)
-    (beside-on g.H.Host.tells c.args.shape.now (g.A.Access.sight c.args.access.now) (g.A.Access.sight c.loop.access) (g.A.Access.sight c.settle_once.new.access) c.args.settler.now c.loop.settler c.settle_once.new.settler
-    (g.H.Host.faults c.args.host.now) (g.H.Host.faults c.loop.host) (g.H.Host.faults c.settle_once.new.host)
-    (g.H.Host.world c.args.host.now) (g.H.Host.world c.loop.host) (g.H.Host.world c.settle_once.new.host)
-    c.loop.invariant.beside c.settle_once.result (Ok false) (c.in-Ok-false.is ∙ ap Ok c.in-Ok-false.field-0-test) c.settle_once.ensures.beside)
+pub returns-then-working-eq0-clause-leaves : goal.returns-then-working-eq0-clause-leaves
+returns-then-working-eq0-clause-leaves g c = record {
+  promise = λ basis p. c.settle_once.ensures.leaves.promise basis (c.loop.invariant.promise basis p);
+  books = λ o b can rely. settled-ok g.H.Host.tells o b (stage_of g.H.Host.world g.H.Host.faults (run_seen (g.A.Access.sight c.args.access.now)) c.args.settler.now c.args.host.now) (stage_of g.H.Host.world g.H.Host.faults (run_seen (g.A.Access.sight c.settle_once.new.access)) c.settle_once.new.settler c.settle_once.new.host) {T = Bool} {U = Unit} false tt
+      (booked-on g.H.Host.tells c.args.shape.now (g.A.Access.sight c.args.access.now) (g.A.Access.sight c.loop.access) (g.A.Access.sight c.settle_once.new.access) c.args.settler.now c.loop.settler c.settle_once.new.settler
+      (g.H.Host.faults c.args.host.now) (g.H.Host.faults c.loop.host) (g.H.Host.faults c.settle_once.new.host)
+      (g.H.Host.world c.args.host.now) (g.H.Host.world c.loop.host) (g.H.Host.world c.settle_once.new.host)
+      c.loop.invariant.own c.settle_once.ensures.own c.loop.invariant.books c.settle_once.result (Ok false) (c.in-Ok-false.is ∙ ap Ok c.in-Ok-false.field-0-test) c.settle_once.ensures.leaves.books o b can rely);
+  beside = beside-well g.H.Host.tells (run_seen (g.A.Access.sight c.args.access.now)) (run_seen (g.A.Access.sight c.settle_once.new.access)) c.args.settler.now c.settle_once.new.settler (g.H.Host.faults c.args.host.now) (g.H.Host.faults c.settle_once.new.host) (g.H.Host.world c.args.host.now) (g.H.Host.world c.settle_once.new.host) {T = Bool} {U = Unit} false (Ok tt)
+      (beside-on g.H.Host.tells c.args.shape.now (g.A.Access.sight c.args.access.now) (g.A.Access.sight c.loop.access) (g.A.Access.sight c.settle_once.new.access) c.args.settler.now c.loop.settler c.settle_once.new.settler
+      (g.H.Host.faults c.args.host.now) (g.H.Host.faults c.loop.host) (g.H.Host.faults c.settle_once.new.host)
+      (g.H.Host.world c.args.host.now) (g.H.Host.world c.loop.host) (g.H.Host.world c.settle_once.new.host)
+      c.loop.invariant.beside c.settle_once.result (Ok false) (c.in-Ok-false.is ∙ ap Ok c.in-Ok-false.field-0-test) c.settle_once.ensures.leaves.beside);
+}
 
 pub returns-in-Err : goal.returns-in-Err
 returns-in-Err g c =
@@ -121,22 +111,19 @@ returns-in-Err g c =
     let left =
     fault-ends g.A.Access.may_come g.H.Host.tells c.args.shape.now (g.A.Access.sight c.args.access.now) (g.A.Access.sight c.settle_once.new.access) (g.A.Access.sight c.end_others.new.access) c.args.settler.now c.settle_once.new.settler
     (g.H.Host.faults c.args.host.now) (g.H.Host.faults c.settle_once.new.host) (g.H.Host.world c.args.host.now) (g.H.Host.world c.settle_once.new.host) c.in-Err.fault among c.end_others.ensures.ends
-    (λ basis p. c.settle_once.ensures.promise basis (c.loop.invariant.promise basis p))
+    (λ basis p. c.settle_once.ensures.leaves.promise basis (c.loop.invariant.promise basis p))
     (booked-on g.H.Host.tells c.args.shape.now (g.A.Access.sight c.args.access.now) (g.A.Access.sight c.loop.access) (g.A.Access.sight c.settle_once.new.access) c.args.settler.now c.loop.settler c.settle_once.new.settler (g.H.Host.faults c.args.host.now) (g.H.Host.faults c.loop.host) (g.H.Host.faults c.settle_once.new.host) (g.H.Host.world c.args.host.now) (g.H.Host.world c.loop.host) (g.H.Host.world c.settle_once.new.host)
-    c.loop.invariant.own c.settle_once.ensures.own c.loop.invariant.books c.settle_once.result (Err c.in-Err.fault) c.in-Err.is c.settle_once.ensures.books)
-    (beside-on g.H.Host.tells c.args.shape.now (g.A.Access.sight c.args.access.now) (g.A.Access.sight c.loop.access) (g.A.Access.sight c.settle_once.new.access) c.args.settler.now c.loop.settler c.settle_once.new.settler (g.H.Host.faults c.args.host.now) (g.H.Host.faults c.loop.host) (g.H.Host.faults c.settle_once.new.host) (g.H.Host.world c.args.host.now) (g.H.Host.world c.loop.host) (g.H.Host.world c.settle_once.new.host) c.loop.invariant.beside c.settle_once.result (Err c.in-Err.fault) c.in-Err.is c.settle_once.ensures.beside) in
+    c.loop.invariant.own c.settle_once.ensures.own c.loop.invariant.books c.settle_once.result (Err c.in-Err.fault) c.in-Err.is c.settle_once.ensures.leaves.books)
+    (beside-on g.H.Host.tells c.args.shape.now (g.A.Access.sight c.args.access.now) (g.A.Access.sight c.loop.access) (g.A.Access.sight c.settle_once.new.access) c.args.settler.now c.loop.settler c.settle_once.new.settler (g.H.Host.faults c.args.host.now) (g.H.Host.faults c.loop.host) (g.H.Host.faults c.settle_once.new.host) (g.H.Host.world c.args.host.now) (g.H.Host.world c.loop.host) (g.H.Host.world c.settle_once.new.host) c.loop.invariant.beside c.settle_once.result (Err c.in-Err.fault) c.in-Err.is c.settle_once.ensures.leaves.beside) in
     record {
       fit = c.end_others.ensures.fit;
       aside = c.end_others.ensures.aside ∙ c.settle_once.ensures.aside ∙ c.loop.invariant.aside;
       sees = left.sees;
       own = left.own;
-      promise = left.promise;
       stopped = fault-stopped g.A.Access.may_come (g.A.Access.sight c.args.access.now) (g.A.Access.sight c.settle_once.new.access) (g.A.Access.sight c.end_others.new.access) c.in-Err.fault c.end_others.ensures.ends c.args.settler.now c.settle_once.new.settler
           (λ truly. c.settle_once.ensures.knows (c.loop.invariant.knows truly)) c.in-Err.ensures.doubted;
       rests = tt;
-      books = left.books;
-      beside = left.beside;
-      bounds = c.settle_once.ensures.bounds;
-      fits = c.settle_once.ensures.fits;
+      leaves = record { promise = left.promise; books = left.books; beside = left.beside };
+      safe = c.settle_once.ensures.safe;
       ready = λ file was. c.settle_once.ensures.ready file (c.loop.invariant.ready file was);
     }

@@ -2,4 +2,4 @@ use Rattle.shared_settling.proofs.Ended.{carried-all}
 use Rattle.shared_settling.proofs.laws.who_rests_has_carried_all.Goals as goal
 
 pub returns : goal.returns
-returns c = λ tells o b r settler counts now above units books n. carried-all tells o b r settler counts now above units books n
+returns c = λ tells o b s above units books n. carried-all tells o b s above units books n

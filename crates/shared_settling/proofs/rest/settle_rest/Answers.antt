@@ -14,6 +14,7 @@ use Rattle.shared_settling.proofs.Keeping.{settled-none, settled-ok, settled-fau
 use Rattle.run_books.proofs.Leaving.{run-stays, core-beside, beside-well, beside-fault}
 use Rattle.shared_settling.proofs.Passing.{among-none, among-both}
 use Rattle.shared_settling.proofs.rest.settle_rest.Goals as goal
+use Rattle.run_books.specs.Stages.{stage_of}
 
 pub loop-step-init : goal.loop-step-init
 loop-step-init g c =
@@ -21,8 +22,7 @@ loop-step-init g c =
       own = among-none (own_sight (run_of c.args.core.now));
       books = λ o b can rely. settled-none g.H.Host.tells o b c.args.shape.now (own_sight (run_of c.args.core.now)) (own_sight (run_of c.args.core.now)) c.args.settler.now c.args.settler.now (g.H.Host.faults c.args.host.now) (g.H.Host.faults c.args.host.now) (g.H.Host.world c.args.host.now) (g.H.Host.world c.args.host.now) {T = Bool} true can;
       beside = core-beside {T = Bool} g.H.Host.tells (run_seen (own_sight (run_of c.args.core.now))) (run_seen (own_sight (run_of c.args.core.now))) c.args.settler.now (g.H.Host.faults c.args.host.now) (g.H.Host.world c.args.host.now) (Ok true) [] (run-stays (run_seen (own_sight (run_of c.args.core.now))));
-      bounds = c.requires.bounds;
-      fits = c.requires.fits;
+      safe = c.requires.safe;
       ready = λ file was. was;
     }
 
@@ -33,13 +33,12 @@ loop-step-preserved g c =
       books = (booked-on g.H.Host.tells c.args.shape.now (own_sight (run_of c.args.core.now)) (own_sight (run_of c.loop-step.core)) (own_sight (run_of c.settle_once.new.access)) c.args.settler.now c.loop-step.settler c.settle_once.new.settler
           (g.H.Host.faults c.args.host.now) (g.H.Host.faults c.loop-step.host) (g.H.Host.faults c.settle_once.new.host)
           (g.H.Host.world c.args.host.now) (g.H.Host.world c.loop-step.host) (g.H.Host.world c.settle_once.new.host)
-          c.loop-step.invariant.own c.settle_once.ensures.own c.loop-step.invariant.books c.settle_once.result (Ok true) (c.in_ok-settle_once.was ∙ ap Ok c.if-not-branch.false) c.settle_once.ensures.books);
+          c.loop-step.invariant.own c.settle_once.ensures.own c.loop-step.invariant.books c.settle_once.result (Ok true) (c.in_ok-settle_once.was ∙ ap Ok c.if-not-branch.false) c.settle_once.ensures.leaves.books);
       beside = (beside-on g.H.Host.tells c.args.shape.now (own_sight (run_of c.args.core.now)) (own_sight (run_of c.loop-step.core)) (own_sight (run_of c.settle_once.new.access)) c.args.settler.now c.loop-step.settler c.settle_once.new.settler
           (g.H.Host.faults c.args.host.now) (g.H.Host.faults c.loop-step.host) (g.H.Host.faults c.settle_once.new.host)
           (g.H.Host.world c.args.host.now) (g.H.Host.world c.loop-step.host) (g.H.Host.world c.settle_once.new.host)
-          c.loop-step.invariant.beside c.settle_once.result (Ok true) (c.in_ok-settle_once.was ∙ ap Ok c.if-not-branch.false) c.settle_once.ensures.beside);
-      bounds = c.settle_once.ensures.bounds;
-      fits = c.settle_once.ensures.fits;
+          c.loop-step.invariant.beside c.settle_once.result (Ok true) (c.in_ok-settle_once.was ∙ ap Ok c.if-not-branch.false) c.settle_once.ensures.leaves.beside);
+      safe = c.settle_once.ensures.safe;
       ready = λ file was. c.settle_once.ensures.ready file (c.loop-step.invariant.ready file was);
     }
 
@@ -56,11 +55,11 @@ returns-in_err-settle_once-clause-books g c =
     λ o b can even kept.
     let p = err_from_is_err_and c.from_residual.result c.from_residual.ensures.1 in
     rw p.1 (settled-alone {T = Unit} g.H.Host.tells (run_of c.args.core.now) (run_of c.settle_once.new.access) c.args.settler.now c.settle_once.new.settler (g.H.Host.faults c.args.host.now) (g.H.Host.faults c.settle_once.new.host) (g.H.Host.world c.args.host.now) (g.H.Host.world c.settle_once.new.host) (Err p.0) o b
-    (settled-fault g.H.Host.tells o b (run_seen (own_sight (run_of c.args.core.now))) (run_seen (own_sight (run_of c.settle_once.new.access))) c.args.settler.now c.settle_once.new.settler (g.H.Host.faults c.settle_once.new.host) (g.H.Host.world c.args.host.now) (g.H.Host.world c.settle_once.new.host) {T = Bool} {U = Unit} p.0
+    (settled-fault g.H.Host.tells o b (stage_of g.H.Host.world g.H.Host.faults (run_seen (own_sight (run_of c.args.core.now))) c.args.settler.now c.args.host.now) (stage_of g.H.Host.world g.H.Host.faults (run_seen (own_sight (run_of c.settle_once.new.access))) c.settle_once.new.settler c.settle_once.new.host) {T = Bool} {U = Unit} p.0
     (booked-on g.H.Host.tells c.args.shape.now (own_sight (run_of c.args.core.now)) (own_sight (run_of c.loop-step.core)) (own_sight (run_of c.settle_once.new.access)) c.args.settler.now c.loop-step.settler c.settle_once.new.settler
     (g.H.Host.faults c.args.host.now) (g.H.Host.faults c.loop-step.host) (g.H.Host.faults c.settle_once.new.host)
     (g.H.Host.world c.args.host.now) (g.H.Host.world c.loop-step.host) (g.H.Host.world c.settle_once.new.host)
-    c.loop-step.invariant.own c.settle_once.ensures.own c.loop-step.invariant.books c.settle_once.result (Err p.0) (c.in_err-settle_once.was ∙ ap Err (sym p.2)) c.settle_once.ensures.books o b (can-alone g.H.Host.tells o b c.args.shape.now (run_of c.args.core.now) c.args.settler.now (g.H.Host.faults c.args.host.now) (g.H.Host.world c.args.host.now) can even kept) (rely-alone o c.args.shape.now (run_of c.args.core.now) (run_of c.settle_once.new.access) can (among-both (own_sight (run_of c.args.core.now)) (own_sight (run_of c.loop-step.core)) (own_sight (run_of c.settle_once.new.access)) c.loop-step.invariant.own c.settle_once.ensures.own)))))
+    c.loop-step.invariant.own c.settle_once.ensures.own c.loop-step.invariant.books c.settle_once.result (Err p.0) (c.in_err-settle_once.was ∙ ap Err (sym p.2)) c.settle_once.ensures.leaves.books o b (can-alone g.H.Host.tells o b c.args.shape.now (run_of c.args.core.now) c.args.settler.now (g.H.Host.faults c.args.host.now) (g.H.Host.world c.args.host.now) can even kept) (rely-alone o c.args.shape.now (run_of c.args.core.now) (run_of c.settle_once.new.access) can (among-both (own_sight (run_of c.args.core.now)) (own_sight (run_of c.loop-step.core)) (own_sight (run_of c.settle_once.new.access)) c.loop-step.invariant.own c.settle_once.ensures.own)))))
 
 pub returns-in_err-settle_once-clause-beside : goal.returns-in_err-settle_once-clause-beside
 returns-in_err-settle_once-clause-beside g c =
@@ -70,7 +69,7 @@ returns-in_err-settle_once-clause-beside g c =
     (beside-on g.H.Host.tells c.args.shape.now (own_sight (run_of c.args.core.now)) (own_sight (run_of c.loop-step.core)) (own_sight (run_of c.settle_once.new.access)) c.args.settler.now c.loop-step.settler c.settle_once.new.settler
     (g.H.Host.faults c.args.host.now) (g.H.Host.faults c.loop-step.host) (g.H.Host.faults c.settle_once.new.host)
     (g.H.Host.world c.args.host.now) (g.H.Host.world c.loop-step.host) (g.H.Host.world c.settle_once.new.host)
-    c.loop-step.invariant.beside c.settle_once.result (Err p.0) (c.in_err-settle_once.was ∙ ap Err (sym p.2)) c.settle_once.ensures.beside)))
+    c.loop-step.invariant.beside c.settle_once.result (Err p.0) (c.in_err-settle_once.was ∙ ap Err (sym p.2)) c.settle_once.ensures.leaves.beside)))
 
 pub returns-then-not-branch-clause-own : goal.returns-then-not-branch-clause-own
 returns-then-not-branch-clause-own g c =
@@ -84,11 +83,11 @@ pub returns-then-not-branch-clause-books : goal.returns-then-not-branch-clause-b
 returns-then-not-branch-clause-books g c =
     λ o b can even kept.
     settled-alone {T = Unit} g.H.Host.tells (run_of c.args.core.now) (run_of c.settle_once.new.access) c.args.settler.now c.settle_once.new.settler (g.H.Host.faults c.args.host.now) (g.H.Host.faults c.settle_once.new.host) (g.H.Host.world c.args.host.now) (g.H.Host.world c.settle_once.new.host) (Ok tt) o b
-    (settled-ok g.H.Host.tells o b (run_seen (own_sight (run_of c.args.core.now))) (run_seen (own_sight (run_of c.settle_once.new.access))) c.args.settler.now c.settle_once.new.settler (g.H.Host.faults c.settle_once.new.host) (g.H.Host.world c.args.host.now) (g.H.Host.world c.settle_once.new.host) {T = Bool} {U = Unit} false tt
+    (settled-ok g.H.Host.tells o b (stage_of g.H.Host.world g.H.Host.faults (run_seen (own_sight (run_of c.args.core.now))) c.args.settler.now c.args.host.now) (stage_of g.H.Host.world g.H.Host.faults (run_seen (own_sight (run_of c.settle_once.new.access))) c.settle_once.new.settler c.settle_once.new.host) {T = Bool} {U = Unit} false tt
     (booked-on g.H.Host.tells c.args.shape.now (own_sight (run_of c.args.core.now)) (own_sight (run_of c.loop-step.core)) (own_sight (run_of c.settle_once.new.access)) c.args.settler.now c.loop-step.settler c.settle_once.new.settler
     (g.H.Host.faults c.args.host.now) (g.H.Host.faults c.loop-step.host) (g.H.Host.faults c.settle_once.new.host)
     (g.H.Host.world c.args.host.now) (g.H.Host.world c.loop-step.host) (g.H.Host.world c.settle_once.new.host)
-    c.loop-step.invariant.own c.settle_once.ensures.own c.loop-step.invariant.books c.settle_once.result (Ok false) (c.in_ok-settle_once.was ∙ ap Ok c.if-not-branch.true) c.settle_once.ensures.books o b (can-alone g.H.Host.tells o b c.args.shape.now (run_of c.args.core.now) c.args.settler.now (g.H.Host.faults c.args.host.now) (g.H.Host.world c.args.host.now) can even kept) (rely-alone o c.args.shape.now (run_of c.args.core.now) (run_of c.settle_once.new.access) can (among-both (own_sight (run_of c.args.core.now)) (own_sight (run_of c.loop-step.core)) (own_sight (run_of c.settle_once.new.access)) c.loop-step.invariant.own c.settle_once.ensures.own))))
+    c.loop-step.invariant.own c.settle_once.ensures.own c.loop-step.invariant.books c.settle_once.result (Ok false) (c.in_ok-settle_once.was ∙ ap Ok c.if-not-branch.true) c.settle_once.ensures.leaves.books o b (can-alone g.H.Host.tells o b c.args.shape.now (run_of c.args.core.now) c.args.settler.now (g.H.Host.faults c.args.host.now) (g.H.Host.world c.args.host.now) can even kept) (rely-alone o c.args.shape.now (run_of c.args.core.now) (run_of c.settle_once.new.access) can (among-both (own_sight (run_of c.args.core.now)) (own_sight (run_of c.loop-step.core)) (own_sight (run_of c.settle_once.new.access)) c.loop-step.invariant.own c.settle_once.ensures.own))))
 
 pub returns-then-not-branch-clause-beside : goal.returns-then-not-branch-clause-beside
 returns-then-not-branch-clause-beside g c =
@@ -97,7 +96,7 @@ returns-then-not-branch-clause-beside g c =
     (beside-on g.H.Host.tells c.args.shape.now (own_sight (run_of c.args.core.now)) (own_sight (run_of c.loop-step.core)) (own_sight (run_of c.settle_once.new.access)) c.args.settler.now c.loop-step.settler c.settle_once.new.settler
     (g.H.Host.faults c.args.host.now) (g.H.Host.faults c.loop-step.host) (g.H.Host.faults c.settle_once.new.host)
     (g.H.Host.world c.args.host.now) (g.H.Host.world c.loop-step.host) (g.H.Host.world c.settle_once.new.host)
-    c.loop-step.invariant.beside c.settle_once.result (Ok false) (c.in_ok-settle_once.was ∙ ap Ok c.if-not-branch.true) c.settle_once.ensures.beside))
+    c.loop-step.invariant.beside c.settle_once.result (Ok false) (c.in_ok-settle_once.was ∙ ap Ok c.if-not-branch.true) c.settle_once.ensures.leaves.beside))
 
 pub returns-then-not-branch-clause-rests : goal.returns-then-not-branch-clause-rests
 returns-then-not-branch-clause-rests g c =
@@ -115,7 +114,7 @@ pub returns-clause-books : goal.returns-clause-books
 returns-clause-books g c =
     λ o b can even kept.
     settled-alone {T = Unit} g.H.Host.tells (run_of c.args.core.now) (run_of c.loop-step.core) c.args.settler.now c.loop-step.settler (g.H.Host.faults c.args.host.now) (g.H.Host.faults c.loop-step.host) (g.H.Host.world c.args.host.now) (g.H.Host.world c.loop-step.host) (Err Memory) o b
-    (settled-lack g.H.Host.tells o b (run_seen (own_sight (run_of c.args.core.now))) (run_seen (own_sight (run_of c.loop-step.core))) c.args.settler.now c.loop-step.settler (g.H.Host.faults c.loop-step.host) (g.H.Host.world c.args.host.now) (g.H.Host.world c.loop-step.host) {T = Bool} {U = Unit} true (c.loop-step.invariant.books o b (can-alone g.H.Host.tells o b c.args.shape.now (run_of c.args.core.now) c.args.settler.now (g.H.Host.faults c.args.host.now) (g.H.Host.world c.args.host.now) can even kept) (rely-alone o c.args.shape.now (run_of c.args.core.now) (run_of c.loop-step.core) can c.loop-step.invariant.own)))
+    (settled-lack g.H.Host.tells o b (stage_of g.H.Host.world g.H.Host.faults (run_seen (own_sight (run_of c.args.core.now))) c.args.settler.now c.args.host.now) (stage_of g.H.Host.world g.H.Host.faults (run_seen (own_sight (run_of c.loop-step.core))) c.loop-step.settler c.loop-step.host) {T = Bool} {U = Unit} true (c.loop-step.invariant.books o b (can-alone g.H.Host.tells o b c.args.shape.now (run_of c.args.core.now) c.args.settler.now (g.H.Host.faults c.args.host.now) (g.H.Host.world c.args.host.now) can even kept) (rely-alone o c.args.shape.now (run_of c.args.core.now) (run_of c.loop-step.core) can c.loop-step.invariant.own)))
 
 pub returns-clause-beside : goal.returns-clause-beside
 returns-clause-beside g c =

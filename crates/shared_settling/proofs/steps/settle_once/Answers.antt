@@ -14,110 +14,116 @@ use Rattle.shared_settling.proofs.steps.settle_once.Goals as goal
 pub returns-in_err-step-clause-own : goal.returns-in_err-step-clause-own
 returns-in_err-step-clause-own g c = step-among g.H.Host.tells g.H.Host.world g.H.Host.faults g.A.Access.may_come c.args.shape.now c.args.settler.now c.step.new.self (g.A.Access.sight c.args.access.now) (g.A.Access.sight c.step.new.access) c.args.host.now c.step.new.host c.step.result c.step.ensures.turns
 
-pub returns-in_err-step-clause-promise : goal.returns-in_err-step-clause-promise
-returns-in_err-step-clause-promise g c = λ basis. step-promise g.H.Host.tells g.H.Host.world g.H.Host.faults g.A.Access.may_come c.args.shape.now c.args.settler.now c.step.new.self (g.A.Access.sight c.args.access.now) (g.A.Access.sight c.step.new.access) c.args.host.now c.step.new.host c.step.result c.step.ensures.turns basis
+pub returns-in_err-step-clause-leaves : goal.returns-in_err-step-clause-leaves
+returns-in_err-step-clause-leaves g c = record {
+  promise = λ basis. step-promise g.H.Host.tells g.H.Host.world g.H.Host.faults g.A.Access.may_come c.args.shape.now c.args.settler.now c.step.new.self (g.A.Access.sight c.args.access.now) (g.A.Access.sight c.step.new.access) c.args.host.now c.step.new.host c.step.result c.step.ensures.turns basis;
+  books = λ o b can rely.
+      on-lack g.H.Host.tells g.H.Host.world g.H.Host.faults (shared-keep _ _ g.H.Host.tells g.H.Host.world g.H.Host.faults) g.A.Access.may_come c.args.shape.now (g.A.Access.sight c.args.access.now) (g.A.Access.sight c.step.new.access) c.args.settler.now c.step.new.self c.args.host.now c.step.new.host
+      c.step.result c.step.ensures.turns o b can rely c.in_err-step.field-0.0 c.in_err-step.was c.from_residual.result (let p = err_from_is_err_and c.from_residual.result c.from_residual.ensures.1 in p.1 ∙ ap Err p.2);
+  beside = step-leaves {T = Bool} g.H.Host.tells g.H.Host.world g.H.Host.faults g.A.Access.may_come c.args.shape.now c.args.settler.now c.step.new.self (g.A.Access.sight c.args.access.now) (g.A.Access.sight c.step.new.access) c.args.host.now c.step.new.host c.step.result c.step.ensures.turns
+      (Err c.in_err-step.field-0.0) c.in_err-step.was c.from_residual.result (let p = err_from_is_err_and c.from_residual.result c.from_residual.ensures.1 in p.1 ∙ ap Err p.2);
+}
 
 pub returns-in_err-step-clause-knows : goal.returns-in_err-step-clause-knows
 returns-in_err-step-clause-knows g c = λ truly. step-knows g.H.Host.tells g.H.Host.world g.H.Host.faults g.A.Access.may_come c.args.shape.now c.args.settler.now c.step.new.self (g.A.Access.sight c.args.access.now) (g.A.Access.sight c.step.new.access) c.args.host.now c.step.new.host truly c.step.result c.step.ensures.turns
 
-pub returns-in_err-step-clause-books : goal.returns-in_err-step-clause-books
-returns-in_err-step-clause-books g c = λ o b can rely.
-    on-lack g.H.Host.tells g.H.Host.world g.H.Host.faults (shared-keep _ _ g.H.Host.tells g.H.Host.world g.H.Host.faults) g.A.Access.may_come c.args.shape.now (g.A.Access.sight c.args.access.now) (g.A.Access.sight c.step.new.access) c.args.settler.now c.step.new.self c.args.host.now c.step.new.host
-    c.step.result c.step.ensures.turns o b can rely c.in_err-step.field-0.0 c.in_err-step.was c.from_residual.result (let p = err_from_is_err_and c.from_residual.result c.from_residual.ensures.1 in p.1 ∙ ap Err p.2)
-
-pub returns-in_err-step-clause-beside : goal.returns-in_err-step-clause-beside
-returns-in_err-step-clause-beside g c =
-    step-leaves {T = Bool} g.H.Host.tells g.H.Host.world g.H.Host.faults g.A.Access.may_come c.args.shape.now c.args.settler.now c.step.new.self (g.A.Access.sight c.args.access.now) (g.A.Access.sight c.step.new.access) c.args.host.now c.step.new.host c.step.result c.step.ensures.turns
-    (Err c.in_err-step.field-0.0) c.in_err-step.was c.from_residual.result (let p = err_from_is_err_and c.from_residual.result c.from_residual.ensures.1 in p.1 ∙ ap Err p.2)
-
 pub returns-then-doubted-clause-own : goal.returns-then-doubted-clause-own
 returns-then-doubted-clause-own g c = step-among g.H.Host.tells g.H.Host.world g.H.Host.faults g.A.Access.may_come c.args.shape.now c.args.settler.now c.step.new.self (g.A.Access.sight c.args.access.now) (g.A.Access.sight c.step.new.access) c.args.host.now c.step.new.host c.step.result c.step.ensures.turns
 
-pub returns-then-doubted-clause-promise : goal.returns-then-doubted-clause-promise
-returns-then-doubted-clause-promise g c = λ basis. step-promise g.H.Host.tells g.H.Host.world g.H.Host.faults g.A.Access.may_come c.args.shape.now c.args.settler.now c.step.new.self (g.A.Access.sight c.args.access.now) (g.A.Access.sight c.step.new.access) c.args.host.now c.step.new.host c.step.result c.step.ensures.turns basis
+pub returns-then-doubted-clause-leaves : goal.returns-then-doubted-clause-leaves
+returns-then-doubted-clause-leaves g c = record {
+  promise = λ basis. step-promise g.H.Host.tells g.H.Host.world g.H.Host.faults g.A.Access.may_come c.args.shape.now c.args.settler.now c.step.new.self (g.A.Access.sight c.args.access.now) (g.A.Access.sight c.step.new.access) c.args.host.now c.step.new.host c.step.result c.step.ensures.turns basis;
+  books = λ o b can rely.
+      on-idle-doubt g.H.Host.tells g.H.Host.world g.H.Host.faults (shared-keep _ _ g.H.Host.tells g.H.Host.world g.H.Host.faults) g.A.Access.may_come c.args.shape.now (g.A.Access.sight c.args.access.now) (g.A.Access.sight c.step.new.access) c.args.settler.now c.step.new.self c.args.host.now c.step.new.host
+      c.step.result c.step.ensures.turns o b can rely Bool (c.in_ok-step.was ∙ ap Ok c.in-Nothing.is) (sym c.doubted.ensures ∙ c.if-doubted.true);
+  beside = step-leaves {T = Bool} g.H.Host.tells g.H.Host.world g.H.Host.faults g.A.Access.may_come c.args.shape.now c.args.settler.now c.step.new.self (g.A.Access.sight c.args.access.now) (g.A.Access.sight c.step.new.access) c.args.host.now c.step.new.host c.step.result c.step.ensures.turns
+      (Ok Nothing) (c.in_ok-step.was ∙ ap Ok c.in-Nothing.is) (Err InDoubt) (inr refl);
+}
 
 pub returns-then-doubted-clause-knows : goal.returns-then-doubted-clause-knows
 returns-then-doubted-clause-knows g c = λ truly. step-knows g.H.Host.tells g.H.Host.world g.H.Host.faults g.A.Access.may_come c.args.shape.now c.args.settler.now c.step.new.self (g.A.Access.sight c.args.access.now) (g.A.Access.sight c.step.new.access) c.args.host.now c.step.new.host truly c.step.result c.step.ensures.turns
 
-pub returns-then-doubted-clause-books : goal.returns-then-doubted-clause-books
-returns-then-doubted-clause-books g c = λ o b can rely.
-    on-idle-doubt g.H.Host.tells g.H.Host.world g.H.Host.faults (shared-keep _ _ g.H.Host.tells g.H.Host.world g.H.Host.faults) g.A.Access.may_come c.args.shape.now (g.A.Access.sight c.args.access.now) (g.A.Access.sight c.step.new.access) c.args.settler.now c.step.new.self c.args.host.now c.step.new.host
-    c.step.result c.step.ensures.turns o b can rely Bool (c.in_ok-step.was ∙ ap Ok c.in-Nothing.is) (sym c.doubted.ensures ∙ c.if-doubted.true)
-
-pub returns-then-doubted-clause-beside : goal.returns-then-doubted-clause-beside
-returns-then-doubted-clause-beside g c =
-    step-leaves {T = Bool} g.H.Host.tells g.H.Host.world g.H.Host.faults g.A.Access.may_come c.args.shape.now c.args.settler.now c.step.new.self (g.A.Access.sight c.args.access.now) (g.A.Access.sight c.step.new.access) c.args.host.now c.step.new.host c.step.result c.step.ensures.turns
-    (Ok Nothing) (c.in_ok-step.was ∙ ap Ok c.in-Nothing.is) (Err InDoubt) (inr refl)
-
 pub returns-in-Stepped-clause-own : goal.returns-in-Stepped-clause-own
 returns-in-Stepped-clause-own g c = step-among g.H.Host.tells g.H.Host.world g.H.Host.faults g.A.Access.may_come c.args.shape.now c.args.settler.now c.step.new.self (g.A.Access.sight c.args.access.now) (g.A.Access.sight c.step.new.access) c.args.host.now c.step.new.host c.step.result c.step.ensures.turns
 
-pub returns-in-Stepped-clause-promise : goal.returns-in-Stepped-clause-promise
-returns-in-Stepped-clause-promise g c = λ basis. step-promise g.H.Host.tells g.H.Host.world g.H.Host.faults g.A.Access.may_come c.args.shape.now c.args.settler.now c.step.new.self (g.A.Access.sight c.args.access.now) (g.A.Access.sight c.step.new.access) c.args.host.now c.step.new.host c.step.result c.step.ensures.turns basis
+pub returns-in-Stepped-clause-leaves : goal.returns-in-Stepped-clause-leaves
+returns-in-Stepped-clause-leaves g c = record {
+  promise = λ basis. step-promise g.H.Host.tells g.H.Host.world g.H.Host.faults g.A.Access.may_come c.args.shape.now c.args.settler.now c.step.new.self (g.A.Access.sight c.args.access.now) (g.A.Access.sight c.step.new.access) c.args.host.now c.step.new.host c.step.result c.step.ensures.turns basis;
+  books = λ o b can rely.
+      on-stepped g.H.Host.tells g.H.Host.world g.H.Host.faults (shared-keep _ _ g.H.Host.tells g.H.Host.world g.H.Host.faults) g.A.Access.may_come c.args.shape.now (g.A.Access.sight c.args.access.now) (g.A.Access.sight c.step.new.access) c.args.settler.now c.step.new.self c.args.host.now c.step.new.host
+      c.step.result c.step.ensures.turns o b can rely (c.in_ok-step.was ∙ ap Ok c.in-Stepped.is) true;
+  beside = step-leaves {T = Bool} g.H.Host.tells g.H.Host.world g.H.Host.faults g.A.Access.may_come c.args.shape.now c.args.settler.now c.step.new.self (g.A.Access.sight c.args.access.now) (g.A.Access.sight c.step.new.access) c.args.host.now c.step.new.host c.step.result c.step.ensures.turns
+      (Ok Stepped) (c.in_ok-step.was ∙ ap Ok c.in-Stepped.is) (Ok true) (true, refl);
+}
 
 pub returns-in-Stepped-clause-knows : goal.returns-in-Stepped-clause-knows
 returns-in-Stepped-clause-knows g c = λ truly. step-knows g.H.Host.tells g.H.Host.world g.H.Host.faults g.A.Access.may_come c.args.shape.now c.args.settler.now c.step.new.self (g.A.Access.sight c.args.access.now) (g.A.Access.sight c.step.new.access) c.args.host.now c.step.new.host truly c.step.result c.step.ensures.turns
 
-pub returns-in-Stepped-clause-books : goal.returns-in-Stepped-clause-books
-returns-in-Stepped-clause-books g c = λ o b can rely.
-    on-stepped g.H.Host.tells g.H.Host.world g.H.Host.faults (shared-keep _ _ g.H.Host.tells g.H.Host.world g.H.Host.faults) g.A.Access.may_come c.args.shape.now (g.A.Access.sight c.args.access.now) (g.A.Access.sight c.step.new.access) c.args.settler.now c.step.new.self c.args.host.now c.step.new.host
-    c.step.result c.step.ensures.turns o b can rely (c.in_ok-step.was ∙ ap Ok c.in-Stepped.is) true
-
-pub returns-in-Stepped-clause-beside : goal.returns-in-Stepped-clause-beside
-returns-in-Stepped-clause-beside g c =
-    step-leaves {T = Bool} g.H.Host.tells g.H.Host.world g.H.Host.faults g.A.Access.may_come c.args.shape.now c.args.settler.now c.step.new.self (g.A.Access.sight c.args.access.now) (g.A.Access.sight c.step.new.access) c.args.host.now c.step.new.host c.step.result c.step.ensures.turns
-    (Ok Stepped) (c.in_ok-step.was ∙ ap Ok c.in-Stepped.is) (Ok true) (true, refl)
-
 pub returns-else-doubted-clause-own : goal.returns-else-doubted-clause-own
 returns-else-doubted-clause-own g c = step-among g.H.Host.tells g.H.Host.world g.H.Host.faults g.A.Access.may_come c.args.shape.now c.args.settler.now c.step.new.self (g.A.Access.sight c.args.access.now) (g.A.Access.sight c.step.new.access) c.args.host.now c.step.new.host c.step.result c.step.ensures.turns
 
-pub returns-else-doubted-clause-promise : goal.returns-else-doubted-clause-promise
-returns-else-doubted-clause-promise g c = λ basis. step-promise g.H.Host.tells g.H.Host.world g.H.Host.faults g.A.Access.may_come c.args.shape.now c.args.settler.now c.step.new.self (g.A.Access.sight c.args.access.now) (g.A.Access.sight c.step.new.access) c.args.host.now c.step.new.host c.step.result c.step.ensures.turns basis
-
-pub returns-else-doubted-clause-books : goal.returns-else-doubted-clause-books
-returns-else-doubted-clause-books g c = λ o b can rely.
-    on-idle g.H.Host.tells g.H.Host.world g.H.Host.faults (shared-keep _ _ g.H.Host.tells g.H.Host.world g.H.Host.faults) g.A.Access.may_come c.args.shape.now (g.A.Access.sight c.args.access.now) (g.A.Access.sight c.step.new.access) c.args.settler.now c.step.new.self c.args.host.now c.step.new.host
-    c.step.result c.step.ensures.turns o b can rely (c.in_ok-step.was ∙ ap Ok c.in-Nothing.is) false
-
-pub returns-else-doubted-clause-beside : goal.returns-else-doubted-clause-beside
-returns-else-doubted-clause-beside g c =
-    step-leaves {T = Bool} g.H.Host.tells g.H.Host.world g.H.Host.faults g.A.Access.may_come c.args.shape.now c.args.settler.now c.step.new.self (g.A.Access.sight c.args.access.now) (g.A.Access.sight c.step.new.access) c.args.host.now c.step.new.host c.step.result c.step.ensures.turns
-    (Ok Nothing) (c.in_ok-step.was ∙ ap Ok c.in-Nothing.is) (Ok false) (inl (false, refl))
+pub returns-else-doubted-clause-leaves : goal.returns-else-doubted-clause-leaves
+returns-else-doubted-clause-leaves g c = record {
+  promise = λ basis. step-promise g.H.Host.tells g.H.Host.world g.H.Host.faults g.A.Access.may_come c.args.shape.now c.args.settler.now c.step.new.self (g.A.Access.sight c.args.access.now) (g.A.Access.sight c.step.new.access) c.args.host.now c.step.new.host c.step.result c.step.ensures.turns basis;
+  books = λ o b can rely.
+      on-idle g.H.Host.tells g.H.Host.world g.H.Host.faults (shared-keep _ _ g.H.Host.tells g.H.Host.world g.H.Host.faults) g.A.Access.may_come c.args.shape.now (g.A.Access.sight c.args.access.now) (g.A.Access.sight c.step.new.access) c.args.settler.now c.step.new.self c.args.host.now c.step.new.host
+      c.step.result c.step.ensures.turns o b can rely (c.in_ok-step.was ∙ ap Ok c.in-Nothing.is) false;
+  beside = step-leaves {T = Bool} g.H.Host.tells g.H.Host.world g.H.Host.faults g.A.Access.may_come c.args.shape.now c.args.settler.now c.step.new.self (g.A.Access.sight c.args.access.now) (g.A.Access.sight c.step.new.access) c.args.host.now c.step.new.host c.step.result c.step.ensures.turns
+      (Ok Nothing) (c.in_ok-step.was ∙ ap Ok c.in-Nothing.is) (Ok false) (inl (false, refl));
+}
 
 pub returns-in-Stop-InDoubt-clause-own : goal.returns-in-Stop-InDoubt-clause-own
 returns-in-Stop-InDoubt-clause-own g c = step-among g.H.Host.tells g.H.Host.world g.H.Host.faults g.A.Access.may_come c.args.shape.now c.args.settler.now c.step.new.self (g.A.Access.sight c.args.access.now) (g.A.Access.sight c.step.new.access) c.args.host.now c.step.new.host c.step.result c.step.ensures.turns
 
-pub returns-in-Stop-InDoubt-clause-promise : goal.returns-in-Stop-InDoubt-clause-promise
-returns-in-Stop-InDoubt-clause-promise g c = λ basis. step-promise g.H.Host.tells g.H.Host.world g.H.Host.faults g.A.Access.may_come c.args.shape.now c.args.settler.now c.step.new.self (g.A.Access.sight c.args.access.now) (g.A.Access.sight c.step.new.access) c.args.host.now c.step.new.host c.step.result c.step.ensures.turns basis
+pub returns-in-Stop-InDoubt-clause-leaves : goal.returns-in-Stop-InDoubt-clause-leaves
+returns-in-Stop-InDoubt-clause-leaves g c = record {
+  promise = λ basis. step-promise g.H.Host.tells g.H.Host.world g.H.Host.faults g.A.Access.may_come c.args.shape.now c.args.settler.now c.step.new.self (g.A.Access.sight c.args.access.now) (g.A.Access.sight c.step.new.access) c.args.host.now c.step.new.host c.step.result c.step.ensures.turns basis;
+  books = λ o b can rely.
+      on-doubt g.H.Host.tells g.H.Host.world g.H.Host.faults (shared-keep _ _ g.H.Host.tells g.H.Host.world g.H.Host.faults) g.A.Access.may_come c.args.shape.now (g.A.Access.sight c.args.access.now) (g.A.Access.sight c.step.new.access) c.args.settler.now c.step.new.self c.args.host.now c.step.new.host
+      c.step.result c.step.ensures.turns o b can rely Bool (c.in_ok-step.was ∙ ap Ok (c.in-Stop-InDoubt.is ∙ ap Stop c.in-Stop-InDoubt.field-0-is));
+  beside = step-leaves {T = Bool} g.H.Host.tells g.H.Host.world g.H.Host.faults g.A.Access.may_come c.args.shape.now c.args.settler.now c.step.new.self (g.A.Access.sight c.args.access.now) (g.A.Access.sight c.step.new.access) c.args.host.now c.step.new.host c.step.result c.step.ensures.turns
+      (Ok (Stop cause.InDoubt)) (c.in_ok-step.was ∙ ap Ok (c.in-Stop-InDoubt.is ∙ ap Stop c.in-Stop-InDoubt.field-0-is)) (Err InDoubt) refl;
+}
 
 pub returns-in-Stop-InDoubt-clause-knows : goal.returns-in-Stop-InDoubt-clause-knows
 returns-in-Stop-InDoubt-clause-knows g c = λ truly. step-knows g.H.Host.tells g.H.Host.world g.H.Host.faults g.A.Access.may_come c.args.shape.now c.args.settler.now c.step.new.self (g.A.Access.sight c.args.access.now) (g.A.Access.sight c.step.new.access) c.args.host.now c.step.new.host truly c.step.result c.step.ensures.turns
 
-pub returns-in-Stop-InDoubt-clause-books : goal.returns-in-Stop-InDoubt-clause-books
-returns-in-Stop-InDoubt-clause-books g c = λ o b can rely.
-    on-doubt g.H.Host.tells g.H.Host.world g.H.Host.faults (shared-keep _ _ g.H.Host.tells g.H.Host.world g.H.Host.faults) g.A.Access.may_come c.args.shape.now (g.A.Access.sight c.args.access.now) (g.A.Access.sight c.step.new.access) c.args.settler.now c.step.new.self c.args.host.now c.step.new.host
-    c.step.result c.step.ensures.turns o b can rely Bool (c.in_ok-step.was ∙ ap Ok (c.in-Stop-InDoubt.is ∙ ap Stop c.in-Stop-InDoubt.field-0-is))
-
-pub returns-in-Stop-InDoubt-clause-beside : goal.returns-in-Stop-InDoubt-clause-beside
-returns-in-Stop-InDoubt-clause-beside g c =
-    step-leaves {T = Bool} g.H.Host.tells g.H.Host.world g.H.Host.faults g.A.Access.may_come c.args.shape.now c.args.settler.now c.step.new.self (g.A.Access.sight c.args.access.now) (g.A.Access.sight c.step.new.access) c.args.host.now c.step.new.host c.step.result c.step.ensures.turns
-    (Ok (Stop cause.InDoubt)) (c.in_ok-step.was ∙ ap Ok (c.in-Stop-InDoubt.is ∙ ap Stop c.in-Stop-InDoubt.field-0-is)) (Err InDoubt) refl
-
 pub returns-in-Stop-WriteFault-clause-own : goal.returns-in-Stop-WriteFault-clause-own
 returns-in-Stop-WriteFault-clause-own g c = step-among g.H.Host.tells g.H.Host.world g.H.Host.faults g.A.Access.may_come c.args.shape.now c.args.settler.now c.step.new.self (g.A.Access.sight c.args.access.now) (g.A.Access.sight c.step.new.access) c.args.host.now c.step.new.host c.step.result c.step.ensures.turns
 
-pub returns-in-Stop-WriteFault-clause-promise : goal.returns-in-Stop-WriteFault-clause-promise
-returns-in-Stop-WriteFault-clause-promise g c = λ basis. step-promise g.H.Host.tells g.H.Host.world g.H.Host.faults g.A.Access.may_come c.args.shape.now c.args.settler.now c.step.new.self (g.A.Access.sight c.args.access.now) (g.A.Access.sight c.step.new.access) c.args.host.now c.step.new.host c.step.result c.step.ensures.turns basis
+pub returns-in-Stop-WriteFault-clause-leaves : goal.returns-in-Stop-WriteFault-clause-leaves
+returns-in-Stop-WriteFault-clause-leaves g c = record {
+  promise = λ basis. step-promise g.H.Host.tells g.H.Host.world g.H.Host.faults g.A.Access.may_come c.args.shape.now c.args.settler.now c.step.new.self (g.A.Access.sight c.args.access.now) (g.A.Access.sight c.step.new.access) c.args.host.now c.step.new.host c.step.result c.step.ensures.turns basis;
+  books = λ o b can rely.
+      on-cut g.H.Host.tells g.H.Host.world g.H.Host.faults (shared-keep _ _ g.H.Host.tells g.H.Host.world g.H.Host.faults) g.A.Access.may_come c.args.shape.now (g.A.Access.sight c.args.access.now) (g.A.Access.sight c.step.new.access) c.args.settler.now c.step.new.self c.args.host.now c.step.new.host
+      c.step.result c.step.ensures.turns o b can rely Bool (c.in_ok-step.was ∙ ap Ok (c.in-Stop-WriteFault.is ∙ ap Stop c.in-Stop-WriteFault.field-0-is));
+  beside = step-leaves {T = Bool} g.H.Host.tells g.H.Host.world g.H.Host.faults g.A.Access.may_come c.args.shape.now c.args.settler.now c.step.new.self (g.A.Access.sight c.args.access.now) (g.A.Access.sight c.step.new.access) c.args.host.now c.step.new.host c.step.result c.step.ensures.turns
+      (Ok (Stop cause.WriteFault)) (c.in_ok-step.was ∙ ap Ok (c.in-Stop-WriteFault.is ∙ ap Stop c.in-Stop-WriteFault.field-0-is)) (Err WriteFault) refl;
+}
 
 pub returns-in-Stop-WriteFault-clause-knows : goal.returns-in-Stop-WriteFault-clause-knows
 returns-in-Stop-WriteFault-clause-knows g c = λ truly. step-knows g.H.Host.tells g.H.Host.world g.H.Host.faults g.A.Access.may_come c.args.shape.now c.args.settler.now c.step.new.self (g.A.Access.sight c.args.access.now) (g.A.Access.sight c.step.new.access) c.args.host.now c.step.new.host truly c.step.result c.step.ensures.turns
 
-pub returns-in-Stop-WriteFault-clause-books : goal.returns-in-Stop-WriteFault-clause-books
-returns-in-Stop-WriteFault-clause-books g c = λ o b can rely.
-    on-cut g.H.Host.tells g.H.Host.world g.H.Host.faults (shared-keep _ _ g.H.Host.tells g.H.Host.world g.H.Host.faults) g.A.Access.may_come c.args.shape.now (g.A.Access.sight c.args.access.now) (g.A.Access.sight c.step.new.access) c.args.settler.now c.step.new.self c.args.host.now c.step.new.host
-    c.step.result c.step.ensures.turns o b can rely Bool (c.in_ok-step.was ∙ ap Ok (c.in-Stop-WriteFault.is ∙ ap Stop c.in-Stop-WriteFault.field-0-is))
+pub step-requires-clause-bounds : goal.step-requires-clause-bounds
+step-requires-clause-bounds g c = c.requires.safe.bounds
 
-pub returns-in-Stop-WriteFault-clause-beside : goal.returns-in-Stop-WriteFault-clause-beside
-returns-in-Stop-WriteFault-clause-beside g c =
-    step-leaves {T = Bool} g.H.Host.tells g.H.Host.world g.H.Host.faults g.A.Access.may_come c.args.shape.now c.args.settler.now c.step.new.self (g.A.Access.sight c.args.access.now) (g.A.Access.sight c.step.new.access) c.args.host.now c.step.new.host c.step.result c.step.ensures.turns
-    (Ok (Stop cause.WriteFault)) (c.in_ok-step.was ∙ ap Ok (c.in-Stop-WriteFault.is ∙ ap Stop c.in-Stop-WriteFault.field-0-is)) (Err WriteFault) refl
+pub step-requires-clause-fits : goal.step-requires-clause-fits
+step-requires-clause-fits g c = c.requires.safe.fits
+
+pub returns-in_err-step-clause-safe : goal.returns-in_err-step-clause-safe
+returns-in_err-step-clause-safe g c = record { bounds = c.step.ensures.bounds; fits = c.step.ensures.fits }
+
+pub returns-then-doubted-clause-safe : goal.returns-then-doubted-clause-safe
+returns-then-doubted-clause-safe g c = record { bounds = c.step.ensures.bounds; fits = c.step.ensures.fits }
+
+pub returns-in-Stepped-clause-safe : goal.returns-in-Stepped-clause-safe
+returns-in-Stepped-clause-safe g c = record { bounds = c.step.ensures.bounds; fits = c.step.ensures.fits }
+
+pub returns-else-doubted-clause-safe : goal.returns-else-doubted-clause-safe
+returns-else-doubted-clause-safe g c = record { bounds = c.step.ensures.bounds; fits = c.step.ensures.fits }
+
+pub returns-in-Stop-InDoubt-clause-safe : goal.returns-in-Stop-InDoubt-clause-safe
+returns-in-Stop-InDoubt-clause-safe g c = record { bounds = c.step.ensures.bounds; fits = c.step.ensures.fits }
+
+pub returns-in-Stop-WriteFault-clause-safe : goal.returns-in-Stop-WriteFault-clause-safe
+returns-in-Stop-WriteFault-clause-safe g c = record { bounds = c.step.ensures.bounds; fits = c.step.ensures.fits }

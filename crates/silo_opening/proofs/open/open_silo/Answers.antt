@@ -16,17 +16,17 @@ use Rattle.silo_opening.proofs.Opening.{once_more, is_opened}
 use Rattle.silo_opening.proofs.Refused.{program_refused}
 use Rattle.silo_opening.proofs.open.open_silo.Goals as goal
 
-pub returns-in-Err-clause-run : goal.returns-in-Err-clause-run
-returns-in-Err-clause-run g c told = run_only_asked _ _ _ _ _ _ (c.is_silo.ensures.run told) (c.read_program.ensures.asked told)
+pub returns-in-Err-clause-looked : goal.returns-in-Err-clause-looked
+returns-in-Err-clause-looked g c told = run_only_asked _ _ _ _ _ _ (c.is_silo.ensures.run told) (c.read_program.ensures.asked told)
 
-pub returns-in-Err-shape-clause-run : goal.returns-in-Err-shape-clause-run
-returns-in-Err-shape-clause-run g c told = run_only_asked _ _ _ _ _ _ (c.is_silo.ensures.run told) (c.read_program.ensures.asked told)
+pub returns-in-Err-shape-clause-looked : goal.returns-in-Err-shape-clause-looked
+returns-in-Err-shape-clause-looked g c told = run_only_asked _ _ _ _ _ _ (c.is_silo.ensures.run told) (c.read_program.ensures.asked told)
 
 pub returns-in-Ok-read_contents-clause-run : goal.returns-in-Ok-read_contents-clause-run
 returns-in-Ok-read_contents-clause-run g c told = run_only_asked _ _ _ _ _ _ (run_only_asked _ _ _ _ _ _ (c.is_silo.ensures.run told) (c.read_program.ensures.asked told)) (c.read_contents.ensures.asked told)
 
-pub returns-in-Err-read_contents-clause-run : goal.returns-in-Err-read_contents-clause-run
-returns-in-Err-read_contents-clause-run g c told = run_only_asked _ _ _ _ _ _ (run_only_asked _ _ _ _ _ _ (c.is_silo.ensures.run told) (c.read_program.ensures.asked told)) (c.read_contents.ensures.asked told)
+pub returns-in-Err-read_contents-clause-looked : goal.returns-in-Err-read_contents-clause-looked
+returns-in-Err-read_contents-clause-looked g c told = run_only_asked _ _ _ _ _ _ (run_only_asked _ _ _ _ _ _ (c.is_silo.ensures.run told) (c.read_program.ensures.asked told)) (c.read_contents.ensures.asked told)
 
 pub returns-in-Err-clause-refused : goal.returns-in-Err-clause-refused
 returns-in-Err-clause-refused g c told =

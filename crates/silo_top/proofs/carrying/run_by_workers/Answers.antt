@@ -9,6 +9,7 @@ use Rattle.script_tree.specs.Programs.{program_tree}
 use Rattle.silo_top.specs.Answering.{workers_manner, AnswersRun}
 use Rattle.silo_top.specs.Carrying.{CarriedLines}
 use Rattle.silo_top.proofs.carrying.run_by_workers.Goals as goal
+use Rattle.run_books.specs.Stages.{side_of, stage_of}
 
 pub returns-in-Err-clause-promises : goal.returns-in-Err-clause-promises
 returns-in-Err-clause-promises g c = λ told. c.in-Err.ensures.promises told workers_manner
@@ -17,7 +18,7 @@ pub returns-clause-promises : goal.returns-clause-promises
 returns-clause-promises g c = λ told. c.in-Ok.ensures.keeps told workers_manner c.carry_by_workers-ended.new.settler (g.H.Host.faults c.carry_by_workers-ended.new.host) (g.H.Host.world c.carry_by_workers-ended.new.host) c.carry_by_workers-ended.result c.turns_status.result
     (record {
       wide = omega arith;
-      carried = subst (λ (ls : List Line). CarriedLines g.H.Host.tells workers_manner (program_tree c.in-Ok.begun.started.checked) ls (run_of c.in-Ok.begun.started.core) c.in-Ok.begun.started.settler c.carry_by_workers-ended.new.settler (g.H.Host.faults c.begin_run.new.host) (g.H.Host.faults c.carry_by_workers-ended.new.host) (g.H.Host.world c.begin_run.new.host) (g.H.Host.world c.carry_by_workers-ended.new.host) c.carry_by_workers-ended.result)
+      carried = subst (λ (ls : List Line). CarriedLines g.H.Host.tells workers_manner (program_tree c.in-Ok.begun.started.checked) ls (stage_of g.H.Host.world g.H.Host.faults (run_of c.in-Ok.begun.started.core) c.in-Ok.begun.started.settler c.begin_run.new.host) (side_of g.H.Host.world g.H.Host.faults c.carry_by_workers-ended.new.settler c.carry_by_workers-ended.new.host) c.carry_by_workers-ended.result)
           (c.new-lines.ensures ∙ ap (input_lines (program_tree c.in-Ok.begun.started.checked)) c.as_slice.ensures.value) c.carry_by_workers-ended.ensures.carried;
     })
     (λ file. g.met.H.Host.seen_may_stay c.carry_by_workers-ended.new.host file told) (omega (arith, ap length c.as_slice.ensures.value, c.as_slice.ensures.len, c.in-Ok.ensures.within)) c.turns_status.ensures
@@ -27,7 +28,7 @@ returns-clause-answers g c = subst (λ (e : Ending). AnswersRun e (g.H.Host.faul
     (c.in-Ok.ensures.answers_on workers_manner c.carry_by_workers-ended.new.settler (g.H.Host.faults c.carry_by_workers-ended.new.host) (g.H.Host.world c.carry_by_workers-ended.new.host) c.carry_by_workers-ended.result
     (record {
       wide = omega arith;
-      carried = subst (λ (ls : List Line). CarriedLines g.H.Host.tells workers_manner (program_tree c.in-Ok.begun.started.checked) ls (run_of c.in-Ok.begun.started.core) c.in-Ok.begun.started.settler c.carry_by_workers-ended.new.settler (g.H.Host.faults c.begin_run.new.host) (g.H.Host.faults c.carry_by_workers-ended.new.host) (g.H.Host.world c.begin_run.new.host) (g.H.Host.world c.carry_by_workers-ended.new.host) c.carry_by_workers-ended.result)
+      carried = subst (λ (ls : List Line). CarriedLines g.H.Host.tells workers_manner (program_tree c.in-Ok.begun.started.checked) ls (stage_of g.H.Host.world g.H.Host.faults (run_of c.in-Ok.begun.started.core) c.in-Ok.begun.started.settler c.begin_run.new.host) (side_of g.H.Host.world g.H.Host.faults c.carry_by_workers-ended.new.settler c.carry_by_workers-ended.new.host) c.carry_by_workers-ended.result)
           (c.new-lines.ensures ∙ ap (input_lines (program_tree c.in-Ok.begun.started.checked)) c.as_slice.ensures.value) c.carry_by_workers-ended.ensures.carried;
     }))
 

@@ -18,6 +18,7 @@ use Rattle.silo_workers.specs.Beside.{HasSettled}
 use Rattle.silo_workers.specs.Working.{BringsBack, BringsTogether}
 use Rattle.silo_workers.proofs.Crowded.{brought-together}
 use Rattle.silo_workers.proofs.crowd.+crowd.Goals as goal
+use Rattle.run_books.specs.Stages.{side_of}
 
 pub returns-in-Ok-clause-together : goal.returns-in-Ok-clause-together
 returns-in-Ok-clause-together g t c =
@@ -26,7 +27,7 @@ returns-in-Ok-clause-together g t c =
     let lines = g.L.Lines.lines all.lines.now in
     let v = c.args.pass in
     let u = c.join.result in
-    let own : Gathered → Sight → Sight → Type 0 = λ x. HasSettled x.started g.H.Host.tells c.args.shape.now c.args.settler.now c.crowd-pass.new.settler (g.H.Host.faults c.args.host.now) (g.H.Host.faults c.crowd-pass.new.host) (g.H.Host.world c.args.host.now) (g.H.Host.world c.crowd-pass.new.host) x.settled in
+    let own : Gathered → Sight → Sight → Type 0 = λ x. HasSettled x.started g.H.Host.tells c.args.shape.now (side_of g.H.Host.world g.H.Host.faults c.args.settler.now c.args.host.now) (side_of g.H.Host.world g.H.Host.faults c.crowd-pass.new.settler c.crowd-pass.new.host) x.settled in
     let back : BringsBack types all.before lines c.join-other.result.1 c.split-pass.result.1 c.join-other.result.0 = search rules in
     subst (λ (x : Gathered). BringsTogether all.cell (own x (sight_of run_of v.me.0)) types all.before lines x.end v u) (sym c.and.ensures)
     (brought-together (own c.crowd-pass.result.1) all.cell types all.before lines c.join-other.result.1 c.crowd-pass.result.1.end v c.split-pass.result.0 c.split-pass.result.1 c.join-other.result.0 c.crowd-pass.result.0 u
@@ -39,7 +40,7 @@ returns-in-Err-clause-together g t c =
     let lines = g.L.Lines.lines all.lines.now in
     let v = c.args.pass in
     let u = c.join-in-Err.result in
-    let own : Gathered → Sight → Sight → Type 0 = λ x. HasSettled x.started g.H.Host.tells c.args.shape.now c.args.settler.now c.crowd-pass-in-Err.new.settler (g.H.Host.faults c.args.host.now) (g.H.Host.faults c.crowd-pass-in-Err.new.host) (g.H.Host.world c.args.host.now) (g.H.Host.world c.crowd-pass-in-Err.new.host) x.settled in
+    let own : Gathered → Sight → Sight → Type 0 = λ x. HasSettled x.started g.H.Host.tells c.args.shape.now (side_of g.H.Host.world g.H.Host.faults c.args.settler.now c.args.host.now) (side_of g.H.Host.world g.H.Host.faults c.crowd-pass-in-Err.new.settler c.crowd-pass-in-Err.new.host) x.settled in
     let back : BringsBack types all.before lines c.job-other.result.1 c.split-pass.result.1 c.job-other.result.0 = search rules in
     subst (λ (x : Gathered). BringsTogether all.cell (own x (sight_of run_of v.me.0)) types all.before lines x.end v u) (sym c.and-in-Err.ensures)
     (brought-together (own c.crowd-pass-in-Err.result.1) all.cell types all.before lines c.job-other.result.1 c.crowd-pass-in-Err.result.1.end v c.split-pass.result.0 c.split-pass.result.1 c.job-other.result.0 c.crowd-pass-in-Err.result.0 u

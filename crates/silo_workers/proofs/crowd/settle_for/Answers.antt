@@ -8,6 +8,7 @@ use Rattle.silo_workers.specs.declared.work.WorkEnd.TheVariants.{Idle}
 use Rattle.silo_workers.proofs.Returned.{returned-same}
 use Rattle.silo_workers.proofs.Crowded.{settles-none}
 use Rattle.silo_workers.proofs.crowd.settle_for.Goals as goal
+use Rattle.run_books.specs.Stages.{side_of}
 
 pub returns-then-not-started-clause-together : goal.returns-then-not-started-clause-together
 returns-then-not-started-clause-together g c =
@@ -15,6 +16,6 @@ returns-then-not-started-clause-together g c =
     let v = c.args.pass.me.0 in (
       c.requires.fresh.0,
       gathers-returns run_of _ (HasWorked asked Idle) v v (returned-same run_of _ v
-          record { beside = settles-none tt g.H.Host.tells c.args.shape.now c.args.settler.now (g.H.Host.faults c.args.host.now) (g.H.Host.world c.args.host.now) (sight_of run_of v); none = λ q. c.requires.fresh.3 }),
+          record { beside = settles-none tt g.H.Host.tells c.args.shape.now (side_of g.H.Host.world g.H.Host.faults c.args.settler.now c.args.host.now) (sight_of run_of v); none = λ q. c.requires.fresh.3 }),
       tt,
     )

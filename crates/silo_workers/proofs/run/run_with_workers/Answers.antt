@@ -35,7 +35,7 @@ returns-in-Ok-new-2-clause-record_kept g c = λ o b is can fresh turns.
     let accepted = c.program-program.ensures.checked in
     let shaped = c.in-Ok-shape.ensures in
     let kept = turns-record turns in
-    c.end_run-ended.ensures.record_kept o b _ _ _
+    c.end_run-ended.ensures.record_kept o b _
     (has-gathered closed o b
     (reads-lines is can c.in-Ok.before c.in-Ok.ensures)
     (of-program is can accepted shaped fresh.rest kept)
@@ -45,7 +45,7 @@ returns-in-Ok-new-2-clause-record_kept g c = λ o b is can fresh turns.
     (ap (λ (k : ℕ). k + length (g.L.Lines.lines c.args.lines.now)) c.in-Ok.ensures ∙ sym is.all))
 
 pub returns-in-Ok-new-2-clause-beside : goal.returns-in-Ok-new-2-clause-beside
-returns-in-Ok-new-2-clause-beside g c = c.end_run-ended.ensures.beside _ _ _ _ (gathered-beside (closed-from c.in-Ok-new-2.ensures.first c.gather-core.ensures.closed))
+returns-in-Ok-new-2-clause-beside g c = c.end_run-ended.ensures.beside _ (gathered-beside (closed-from c.in-Ok-new-2.ensures.first c.gather-core.ensures.closed))
 
 pub carry_in_turns-ended-requires-clause-loads : goal.carry_in_turns-ended-requires-clause-loads
 carry_in_turns-ended-requires-clause-loads g c =
@@ -58,11 +58,11 @@ returns-then-has_none-clause-record_kept g c =
     let none = c.has_none.ensures c.if-has_none.true in
     let still = gathered-same (closed-from c.in-Ok-new-2.ensures.first c.gather-core.ensures.closed) none.0 none.1 in
     let left = c.gather-core.ensures.none none.0 in
-    turned still left.0 (ap g.H.Host.faults left.1) (ap g.H.Host.world left.1) c.carry_in_turns-ended.ensures.record_kept
+    turned still left.0 (ap g.H.Host.faults left.1) (ap g.H.Host.world left.1) c.carry_in_turns-ended.ensures.carries.kept
 
 pub returns-then-has_none-clause-beside : goal.returns-then-has_none-clause-beside
 returns-then-has_none-clause-beside g c =
     let none = c.has_none.ensures c.if-has_none.true in
     let still = gathered-same (closed-from c.in-Ok-new-2.ensures.first c.gather-core.ensures.closed) none.0 none.1 in
     let left = c.gather-core.ensures.none none.0 in
-    turned-beside still left.0 (ap g.H.Host.faults left.1) (ap g.H.Host.world left.1) c.carry_in_turns-ended.ensures.beside
+    turned-beside still left.0 (ap g.H.Host.faults left.1) (ap g.H.Host.world left.1) c.carry_in_turns-ended.ensures.carries.beside

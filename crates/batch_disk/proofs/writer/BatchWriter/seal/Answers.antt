@@ -6,7 +6,7 @@ use Rattle.host_trait.specs.Disk.{MayLeave}
 use Rattle.commit_log.specs.declared.records.CommitRecord.{CommitRecord}
 use Rattle.commit_log.specs.declared.gate.Sealing.TheVariants.{Sealed, NotSealed, InDoubt}
 use Rattle.commit_log.specs.Spelling.{spelling_of_body, spelling_of_block}
-use Rattle.promise_spec.specs.Logs.{body_of}
+use Rattle.promise_spec.specs.Blocks.{Records, body_of}
 use Rattle.batch_disk.specs.Resting.{raised_ends}
 use Rattle.batch_disk.specs.Writers.{file_end, voted_by, kept_of, HasSameEnds}
 use Rattle.batch_disk.specs.declared.writer.BatchWriter.{BatchWriter}
@@ -36,13 +36,13 @@ returns-in-Sealed-clause-seals g c =
     let ends : (q : GrainId) → file_end d q ≡ raised_ends (file_end a) (flat_map (λ r. r.writes) rs) q =
     λ q. c.count_records.ensures.ends q ∙ ap (λ (l : List CommitRecord). raised_ends (file_end a) (flat_map (λ r. r.writes) l) q) c.as_slice-in-Sealed.ensures in
     let none : kept_of d ≡ [] = ap (map voted_by) c.clear.ensures.items in
-    λ told shape head batches batch es are logged true_of keeps.
+    λ told shape head log bodies batch es are logged true_of keeps.
     let seen : (f : FileId) → MayLeave (w0.disk f) (w0.disk f).seen = λ f. g.met.H.Host.seen_may_stay c.args.host.now f told in
-    let bodies = map body_of batches in
-    let body = body_of (commits_by es rs) in
-    let next = is_next a.slot shape head batches batch es a rs block c.requires.work.fits c.requires.work.small is are logged true_of w0 w2 keeps seen in
-    seals_as a.slot shape head batches batch es a rs block c.requires.work.fits c.requires.work.small is are logged true_of w0 w2 keeps seen (c.seal.ensures.run told) (Sealed c.in-Sealed.next_gate) d (c.seal.ensures.moments told bodies body next)
-    (stands_sealed a.slot shape head batches batch es a rs block c.requires.work.fits c.requires.work.small is are logged true_of w0 w2 keeps seen (c.seal.ensures.run told) c.in-Sealed.next_gate d (c.in-Sealed.ensures.logs told bodies body next) c.count_records.ensures.gate none ends)
+    let bodies = bodies in
+    let body = body_of (Records (commits_by es rs)) in
+    let next = is_next a.slot shape head log bodies batch es a rs block c.requires.work.fits c.requires.work.small is are logged true_of w0 w2 keeps seen in
+    seals_as a.slot shape head log bodies batch es a rs block c.requires.work.fits c.requires.work.small is are logged true_of w0 w2 keeps seen (c.seal.ensures.run told) (Sealed c.in-Sealed.next_gate) d (c.seal.ensures.moments told bodies body next)
+    (stands_sealed a.slot shape head log bodies batch es a rs block c.requires.work.fits c.requires.work.small is are logged true_of w0 w2 keeps seen (c.seal.ensures.run told) c.in-Sealed.next_gate d (c.in-Sealed.ensures.logs told bodies body next) c.count_records.ensures.gate none ends)
 
 pub returns-in-Sealed-clause-after : goal.returns-in-Sealed-clause-after
 returns-in-Sealed-clause-after g c =
@@ -84,13 +84,13 @@ returns-in-NotSealed-clause-seals g c =
     let d : BatchWriter = record { slot = a.slot; gate_at = a.gate_at; ends = a.ends; batch = a.batch; kept = c.clear-in-NotSealed.new.self; in_doubt = a.in_doubt } in
     let same : HasSameEnds a d = record { slot = refl; gate = refl; ends = λ q. refl; doubt = refl } in
     let none : kept_of d ≡ [] = ap (map voted_by) c.clear-in-NotSealed.ensures.items in
-    λ told shape head batches batch es are logged true_of keeps.
+    λ told shape head log bodies batch es are logged true_of keeps.
     let seen : (f : FileId) → MayLeave (w0.disk f) (w0.disk f).seen = λ f. g.met.H.Host.seen_may_stay c.args.host.now f told in
-    let bodies = map body_of batches in
-    let body = body_of (commits_by es rs) in
-    let next = is_next a.slot shape head batches batch es a rs block c.requires.work.fits c.requires.work.small is are logged true_of w0 w2 keeps seen in
-    seals_as a.slot shape head batches batch es a rs block c.requires.work.fits c.requires.work.small is are logged true_of w0 w2 keeps seen (c.seal.ensures.run told) NotSealed d (c.seal.ensures.moments told bodies body next)
-    (stands_unsealed a.slot shape head batches batch es a rs block c.requires.work.fits c.requires.work.small is are logged true_of w0 w2 keeps seen (c.seal.ensures.run told) d (c.in-NotSealed.ensures.logs told bodies body next) same none)
+    let bodies = bodies in
+    let body = body_of (Records (commits_by es rs)) in
+    let next = is_next a.slot shape head log bodies batch es a rs block c.requires.work.fits c.requires.work.small is are logged true_of w0 w2 keeps seen in
+    seals_as a.slot shape head log bodies batch es a rs block c.requires.work.fits c.requires.work.small is are logged true_of w0 w2 keeps seen (c.seal.ensures.run told) NotSealed d (c.seal.ensures.moments told bodies body next)
+    (stands_unsealed a.slot shape head log bodies batch es a rs block c.requires.work.fits c.requires.work.small is are logged true_of w0 w2 keeps seen (c.seal.ensures.run told) d (c.in-NotSealed.ensures.logs told bodies body next) same none)
 
 pub returns-in-NotSealed-clause-fits : goal.returns-in-NotSealed-clause-fits
 returns-in-NotSealed-clause-fits g c =
@@ -114,13 +114,13 @@ returns-clause-seals g c =
     let w0 = g.H.Host.world c.args.host.now in
     let w2 = g.H.Host.world c.seal.new.host in
     let d : BatchWriter = record { slot = a.slot; gate_at = a.gate_at; ends = a.ends; batch = a.batch; kept = a.kept; in_doubt = true } in
-    λ told shape head batches batch es are logged true_of keeps.
+    λ told shape head log bodies batch es are logged true_of keeps.
     let seen : (f : FileId) → MayLeave (w0.disk f) (w0.disk f).seen = λ f. g.met.H.Host.seen_may_stay c.args.host.now f told in
-    let bodies = map body_of batches in
-    let body = body_of (commits_by es rs) in
-    let next = is_next a.slot shape head batches batch es a rs block c.requires.work.fits c.requires.work.small is are logged true_of w0 w2 keeps seen in
-    seals_as a.slot shape head batches batch es a rs block c.requires.work.fits c.requires.work.small is are logged true_of w0 w2 keeps seen (c.seal.ensures.run told) InDoubt d (c.seal.ensures.moments told bodies body next)
-    (stands_in_doubt a.slot shape head batches batch es a rs block c.requires.work.fits c.requires.work.small is are logged true_of w0 w2 keeps seen (c.seal.ensures.run told) d (λ f. g.met.H.Host.seen_may_stay c.seal.new.host f told) (c.in-InDoubt.ensures.end told) (c.in-InDoubt.ensures.logs told bodies body next) (c.in-InDoubt.ensures.which told bodies body next))
+    let bodies = bodies in
+    let body = body_of (Records (commits_by es rs)) in
+    let next = is_next a.slot shape head log bodies batch es a rs block c.requires.work.fits c.requires.work.small is are logged true_of w0 w2 keeps seen in
+    seals_as a.slot shape head log bodies batch es a rs block c.requires.work.fits c.requires.work.small is are logged true_of w0 w2 keeps seen (c.seal.ensures.run told) InDoubt d (c.seal.ensures.moments told bodies body next)
+    (stands_in_doubt a.slot shape head log bodies batch es a rs block c.requires.work.fits c.requires.work.small is are logged true_of w0 w2 keeps seen (c.seal.ensures.run told) d (λ f. g.met.H.Host.seen_may_stay c.seal.new.host f told) (c.in-InDoubt.ensures.end told) (c.in-InDoubt.ensures.logs told bodies body next) (c.in-InDoubt.ensures.which told bodies body next))
 
 pub returns-clause-fits : goal.returns-clause-fits
 returns-clause-fits g c =

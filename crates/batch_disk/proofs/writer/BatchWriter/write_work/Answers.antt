@@ -15,7 +15,7 @@ returns-in_err-make_room-clause-keeps g c =
     let m = c.go_to.new.self in
     let b = c.make_room.new.self in
     let r : IsReadyFor batch a b = ready_for batch a m b c.go_to.ensures.same c.go_to.ensures.kept c.go_to.ensures.batch c.go_to.ensures.ends c.make_room.ensures.same c.make_room.ensures.kept c.make_room.ensures.batch c.make_room.ensures.room in
-    λ told shape head batches fresh typed keeps. keeps_some a.slot shape head batches a b batch (g.H.Host.world c.args.host.now).disk r.same r.kept keeps
+    λ told shape head log bodies fresh typed keeps. keeps_some a.slot shape head log bodies a b batch (g.H.Host.world c.args.host.now).disk r.same r.kept keeps
 
 pub returns-in_err-make_room-clause-bounds : goal.returns-in_err-make_room-clause-bounds
 returns-in_err-make_room-clause-bounds g c =
@@ -41,7 +41,7 @@ returns-in-Err-Failed-clause-still g c =
     let r : IsReadyFor batch a b = ready_for batch a m b c.go_to.ensures.same c.go_to.ensures.kept c.go_to.ensures.batch c.go_to.ensures.ends c.make_room.ensures.same c.make_room.ensures.kept c.make_room.ensures.batch c.make_room.ensures.room in
     let w0 = g.H.Host.world c.args.host.now in
     let w2 = g.H.Host.world c.write_versions.new.host in
-    λ told shape head batches fresh keeps. vote_keeps_log a.slot shape head batches a batch grain size w0 w2 fresh keeps (run_at a.slot grain c.file_end-at.result (file_end a grain) size w0 w2 c.file_end-at.ensures (c.write_versions.ensures.run told))
+    λ told shape head log bodies fresh keeps. vote_keeps_log a.slot shape head log bodies a batch grain size w0 w2 fresh keeps (run_at a.slot grain c.file_end-at.result (file_end a grain) size w0 w2 c.file_end-at.ensures (c.write_versions.ensures.run told))
 
 pub returns-in-Err-Failed-clause-keeps : goal.returns-in-Err-Failed-clause-keeps
 returns-in-Err-Failed-clause-keeps g c =
@@ -55,7 +55,7 @@ returns-in-Err-Failed-clause-keeps g c =
     let r : IsReadyFor batch a b = ready_for batch a m b c.go_to.ensures.same c.go_to.ensures.kept c.go_to.ensures.batch c.go_to.ensures.ends c.make_room.ensures.same c.make_room.ensures.kept c.make_room.ensures.batch c.make_room.ensures.room in
     let w0 = g.H.Host.world c.args.host.now in
     let w2 = g.H.Host.world c.write_versions.new.host in
-    λ told shape head batches fresh typed keeps. keeps_no a.slot shape head batches a batch grain size w0 w2 fresh keeps (run_at a.slot grain c.file_end-at.result (file_end a grain) size w0 w2 c.file_end-at.ensures (c.write_versions.ensures.run told)) b r.same r.kept
+    λ told shape head log bodies fresh typed keeps. keeps_no a.slot shape head log bodies a batch grain size w0 w2 fresh keeps (run_at a.slot grain c.file_end-at.result (file_end a grain) size w0 w2 c.file_end-at.ensures (c.write_versions.ensures.run told)) b r.same r.kept
 
 pub returns-in-Err-Failed-clause-bounds : goal.returns-in-Err-Failed-clause-bounds
 returns-in-Err-Failed-clause-bounds g c =
@@ -95,7 +95,7 @@ returns-in-Err-Memory-clause-keeps g c =
     let r : IsReadyFor batch a b = ready_for batch a m b c.go_to.ensures.same c.go_to.ensures.kept c.go_to.ensures.batch c.go_to.ensures.ends c.make_room.ensures.same c.make_room.ensures.kept c.make_room.ensures.batch c.make_room.ensures.room in
     let w0 = g.H.Host.world c.args.host.now in
     let w2 = g.H.Host.world c.write_versions.new.host in
-    λ told shape head batches fresh typed keeps. keeps_no a.slot shape head batches a batch grain size w0 w2 fresh keeps (run_at a.slot grain c.file_end-at.result (file_end a grain) size w0 w2 c.file_end-at.ensures (c.write_versions.ensures.run told)) b r.same r.kept
+    λ told shape head log bodies fresh typed keeps. keeps_no a.slot shape head log bodies a batch grain size w0 w2 fresh keeps (run_at a.slot grain c.file_end-at.result (file_end a grain) size w0 w2 c.file_end-at.ensures (c.write_versions.ensures.run told)) b r.same r.kept
 
 pub returns-in-Err-Memory-clause-bounds : goal.returns-in-Err-Memory-clause-bounds
 returns-in-Err-Memory-clause-bounds g c =
@@ -121,7 +121,7 @@ returns-in-Ok-clause-still g c =
     let r : IsReadyFor batch a b = ready_for batch a m b c.go_to.ensures.same c.go_to.ensures.kept c.go_to.ensures.batch c.go_to.ensures.ends c.make_room.ensures.same c.make_room.ensures.kept c.make_room.ensures.batch c.make_room.ensures.room in
     let w0 = g.H.Host.world c.args.host.now in
     let w2 = g.H.Host.world c.write_versions.new.host in
-    λ told shape head batches fresh keeps. vote_keeps_log a.slot shape head batches a batch grain size w0 w2 fresh keeps (run_at a.slot grain c.file_end-at.result (file_end a grain) size w0 w2 c.file_end-at.ensures (c.write_versions.ensures.run told))
+    λ told shape head log bodies fresh keeps. vote_keeps_log a.slot shape head log bodies a batch grain size w0 w2 fresh keeps (run_at a.slot grain c.file_end-at.result (file_end a grain) size w0 w2 c.file_end-at.ensures (c.write_versions.ensures.run told))
 
 pub returns-in-Ok-clause-keeps : goal.returns-in-Ok-clause-keeps
 returns-in-Ok-clause-keeps g c =
@@ -138,7 +138,7 @@ returns-in-Ok-clause-keeps g c =
     let d = c.keep.new.self in
     let k : KeepsMore batch grain (file_end a grain) vs a d = keeps_more batch grain (file_end a grain) vs c.in-Ok.places a b d r
     (c.in-Ok.ensures.places ∙ ap (λ (n : ℕ). places_from n vs) c.file_end-at.ensures) (c.keep.ensures.kept ∙ (λ i. kept_of b ++ voted_at grain (c.as_slice-placed.ensures i) (c.as_slice-written.ensures i))) c.keep.ensures.slot c.keep.ensures.gate c.keep.ensures.doubt c.keep.ensures.batch c.keep.ensures.ends in
-    λ told shape head batches fresh typed keeps. keeps_yes a.slot shape head batches a batch grain vs w0 w2 fresh keeps (run_at a.slot grain c.file_end-at.result (file_end a grain) size w0 w2 c.file_end-at.ensures (c.write_versions.ensures.run told)) d k.same k.kept
+    λ told shape head log bodies fresh typed keeps. keeps_yes a.slot shape head log bodies a batch grain vs w0 w2 fresh keeps (run_at a.slot grain c.file_end-at.result (file_end a grain) size w0 w2 c.file_end-at.ensures (c.write_versions.ensures.run told)) d k.same k.kept
     (λ image left. subst (λ (n : ℕ). VersionsStand image n vs) c.file_end-at.ensures (c.in-Ok.ensures.stand told image left)) typed c.in-Ok.ensures.fits (subst (λ (n : ℕ). n + size < 2 ^ 63) c.file_end-at.ensures c.in-Ok.ensures.bound)
 
 pub returns-in-Ok-clause-bounds : goal.returns-in-Ok-clause-bounds

@@ -27,13 +27,13 @@ returns-in-Goes-clause-ok c told =
     let taken = c.args.self.now.taken in
     let n = c.min-n.result in
     let shown : c.deref.result.now ≡ items = c.deref.ensures.value in
-    let least : n ≡ min (length c.args.into.now) (length (drop taken items)) = grind (arith, common_steps) in
+    let least : n ≡ min (min (length c.args.into.now) (length (drop taken items))) c.args.self.now.most = grind (arith, common_steps) in
     let copied : c.copy_from_slice.new.self ≡ take n (drop taken items) = grind (arith, common_steps) in
     let size : length (take n (drop taken items)) ≡ n = omega (arith, least, length-take n (drop taken items)) in
     record {
       bytes = ap (λ (l : List ℕ). take n (l ++ drop n c.args.into.now)) copied ∙ take_at (take n (drop taken items)) (drop n c.args.into.now) n size;
       count = omega (arith, least);
-      end = λ none some. drop_all taken items (pull_end n taken c.args.into.now c.copy_from_slice.new.self items least copied none some);
+      end = λ none some. drop_all taken items (pull_end n taken c.args.self.now.most c.args.into.now c.copy_from_slice.new.self items c.args.self.now.moves least copied none some);
       input = sym (drop-drop n taken items);
       output = refl;
       disk = refl;

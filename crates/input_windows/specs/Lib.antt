@@ -1,0 +1,4 @@
+pub mod Lines
+pub mod Pulls
+pub mod Scans
+pub mod Windows

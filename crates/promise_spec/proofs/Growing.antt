@@ -1,0 +1,111 @@
+-- What a log becomes by a sealed batch, and which grains have their type's initial fields.
+use Rattle.std.proofs.Common.{◌≡◌, ℕ, ◌≤◌, Bool, true, false, ◌||◌, if◌then◌else◌, List, [], ◌∷◌, ◌++◌, length, map, fold, refl, sym, ap, subst, ◌∙◌, append_assoc, append-nil}
+use Rattle.std.specs.List.{flat_map, AllByRecursion}
+use Rattle.std.proofs.lemmas.Bool.{false≢true}
+use Rattle.std.proofs.lemmas.List.{map-append}
+use Rattle.base_types.specs.declared.calls.GrainId.{GrainId}
+use Rattle.base_types.specs.declared.calls.Value.{Value}
+use Rattle.host_trait.specs.declared.channels.FileId.TheVariants.{Manager}
+use Rattle.host_trait.specs.World.{Image}
+use Rattle.gate_block.specs.Log.{HasBlocks}
+use Rattle.script_holding.specs.Holding.{same_grain}
+use Rattle.promise_spec.specs.Programs.{Program, shape_in}
+use Rattle.promise_spec.specs.Records.{Commit, States, written, put_state}
+use Rattle.promise_spec.specs.Entries.{LogEntry, Recorded, records_among, Standing, initial_states, is_among, new_silo, after_entry, after_entries, Log, standing_of, grown}
+use Rattle.promise_spec.specs.Versions.{IsKept}
+use Rattle.promise_spec.specs.Blocks.{Block, Records, entries_in, body_of, BlockFits, AreKept}
+use Rattle.promise_spec.specs.Logs.{StandsUpTo}
+use Rattle.promise_spec.proofs.Lists.{both_parts}
+use Rattle.promise_spec.proofs.Standings.{in_force}
+
+-- ---- a sealed batch
+
+entries_more : (blocks : List Block) (b : Block) → flat_map entries_in (blocks ++ b ∷ []) ≡ flat_map entries_in blocks ++ entries_in b
+entries_more [] b = append-nil (entries_in b)
+entries_more (x ∷ blocks) b = ap (λ (l : List LogEntry). entries_in x ++ l) (entries_more blocks b) ∙ sym (append_assoc (entries_in x) (flat_map entries_in blocks) (entries_in b))
+
+module _ (slot : ℕ) (image : Image) (p : Program) where
+  records_kept : (batch : List Commit) → AllByRecursion (IsKept slot (shape_in p) image) batch → AreKept slot image p (map Recorded batch)
+  records_kept [] all = tt
+  records_kept (c ∷ batch) all = (all.0, records_kept batch all.1)
+
+  kept_more : (entries : List LogEntry) (batch : List Commit) → AreKept slot image p entries → AllByRecursion (IsKept slot (shape_in p) image) batch → AreKept slot image p (entries ++ map Recorded batch)
+  kept_more [] batch kept all = records_kept batch all
+  kept_more (Recorded c ∷ entries) batch kept all = (kept.0, kept_more entries batch kept.1 all)
+
+-- the block of a batch stands behind the log, and its records are kept under the program in force
+pub sealed : (slot : ℕ) (image : Image) (log : Log) (bodies : List (List ℕ)) (gate : ℕ) → StandsUpTo slot image log bodies gate
+    → (batch : List Commit) (next : ℕ) → length batch ≤ 64 → AllByRecursion (IsKept slot (shape_in (standing_of log).program) image) batch
+    → HasBlocks (bodies ++ body_of (Records batch) ∷ []) next (image (Manager slot))
+    → StandsUpTo slot image (grown log batch) (bodies ++ body_of (Records batch) ∷ []) next
+sealed slot image log bodies gate is batch next few kept there =
+    let block : Block = Records batch in
+    let program : (standing_of log).program ≡ is.program = in_force log.base log.entries ∙ ap (λ (s : Standing). s.program) is.base in
+    record {
+      header = is.header;
+      program = is.program;
+      checked = is.checked;
+      text = is.text;
+      base = is.base;
+      blocks = is.blocks ++ block ∷ [];
+      fit = both_parts BlockFits is.blocks (block ∷ []) is.fit (few, tt);
+      spelled = ap (λ (l : List (List ℕ)). l ++ body_of block ∷ []) is.spelled ∙ sym (map-append body_of is.blocks (block ∷ []));
+      stand = there;
+      entries = ap (λ (l : List LogEntry). l ++ map Recorded batch) is.entries ∙ sym (entries_more is.blocks block);
+      kept = kept_more slot image is.program log.entries batch is.kept (subst (λ (p : Program). AllByRecursion (IsKept slot (shape_in p) image) batch) program kept);
+    }
+
+-- ---- grains without a state in the store
+
+abbrev IsPlain : Standing → Type 0
+IsPlain s = (grain : GrainId) → s.held grain ≡ false → s.states grain ≡ initial_states s.program grain
+
+-- of two tests, neither
+neither : (a b : Bool) → (a || b) ≡ false → (a ≡ false) × (b ≡ false)
+neither true b e = absurd (false≢true (sym e))
+neither false b e = (refl, e)
+
+-- writes leave each grain that isn't among them
+others_stay : (ws : List (GrainId × List Value)) (states : States) (grain : GrainId) → is_among ws grain ≡ false → fold put_state states ws grain ≡ states grain
+others_stay [] states grain none = refl
+others_stay (w ∷ ws) states grain none =
+    let parts = neither (same_grain w.0 grain) (is_among ws grain) none in
+    others_stay ws (put_state states w) grain parts.1 ∙ ap (λ (b : Bool). if b then w.1 else states grain) parts.0
+
+or_assoc : (t a b : Bool) → (t || (a || b)) ≡ ((t || a) || b)
+or_assoc true a b = refl
+or_assoc false a b = refl
+
+-- a grain among some writes or others
+among_either : (a b : List (GrainId × List Value)) (grain : GrainId) → is_among (a ++ b) grain ≡ (is_among a grain || is_among b grain)
+among_either [] b grain = refl
+among_either (w ∷ a) b grain =
+    ap (λ (t : Bool). same_grain w.0 grain || t) (among_either a b grain) ∙ or_assoc (same_grain w.0 grain) (is_among a grain) (is_among b grain)
+
+first_last : (a b h : Bool) → ((a || b) || h) ≡ (b || (a || h))
+first_last true true h = refl
+first_last true false h = refl
+first_last false b h = refl
+
+-- the grains that are held are those that some record writes, and those that were held before
+pub held_are : (before : Standing) (entries : List LogEntry) (grain : GrainId)
+    → (after_entries before entries).held grain ≡ (is_among (flat_map written (records_among entries)) grain || before.held grain)
+held_are before [] grain = refl
+held_are before (Recorded c ∷ entries) grain =
+    let later : List (GrainId × List Value) = flat_map written (records_among entries) in
+    held_are (after_entry before (Recorded c)) entries grain
+    ∙ sym (first_last (is_among (written c) grain) (is_among later grain) (before.held grain))
+    ∙ ap (λ (b : Bool). b || before.held grain) (sym (among_either (written c) later grain))
+
+plain_entry : (before : Standing) (entry : LogEntry) → IsPlain before → IsPlain (after_entry before entry)
+plain_entry before (Recorded c) plain grain none =
+    let parts = neither (is_among (written c) grain) (before.held grain) none in
+    others_stay (written c) before.states grain parts.0 ∙ plain grain parts.1
+
+pub plain_entries : (before : Standing) (entries : List LogEntry) → IsPlain before → IsPlain (after_entries before entries)
+plain_entries before [] plain = plain
+plain_entries before (e ∷ entries) plain = plain_entries (after_entry before e) entries (plain_entry before e plain)
+
+pub unheld : (p : Program) (entries : List LogEntry) (grain : GrainId) → (after_entries (new_silo p) entries).held grain ≡ false → (after_entries (new_silo p) entries).states grain ≡ initial_states p grain
+unheld p entries grain none =
+    plain_entries (new_silo p) entries (λ g no. refl) grain none ∙ ap (λ (q : Program). initial_states q grain) (in_force (new_silo p) entries)
