@@ -7,11 +7,11 @@ use Rattle.core_model.specs.Changes.{swept, swept_by}
 use Rattle.core_model.specs.declared.events.CoreEvent.{CoreEvent}
 use Rattle.core_model.specs.declared.events.CoreEvent.TheVariants.{Bad, Begin, Grant, Refuse, Finish, EndPlain, EndSnapshot, Release, Take, Vote, Decide, Sealed, NotSealed, Doubt, Learn, Emitted, Halt, Want, Load}
 use Rattle.core_model.specs.Events.{applies, does, step}
-use Rattle.core_model.specs.Legal.{Run, begins, ends}
+use Rattle.core_model.specs.LegalRuns.{Run, begins, ends}
 use Rattle.core_model.specs.Laws.{extended}
-use Rattle.core_laws.proofs.Further.{run-append}
+use Rattle.core_laws.proofs.FurtherLaws.{run-append}
 use Rattle.access_tests.specs.declared.line_core.LineCore.{LineCore}
-use Rattle.access_tests.specs.Lines.{line_run, is_carried, applies_to, counted_if, may_apply, lines_with, written_with, halted_with, Stands, IsFit}
+use Rattle.access_tests.specs.Lines.{line_run, is_carried, applies_to, counted_if, may_apply, lines_with, written_with, halted_with, OnlyBadLines, IsFit}
 
 -- ---- tests
 
@@ -29,7 +29,7 @@ and-same false = refl
 
 -- ---- events
 
-module _ (b k : ℕ) (h : Bool) (w : CoreState) (s : Stands b k h w) where
+module _ (b k : ℕ) (h : Bool) (w : CoreState) (s : OnlyBadLines b k h w) where
   -- without a doubt and by the mark of a stop
   allowed-but : (x : Bool) → ((is_none w.manager.doubt || false) && (not w.units.halt || false) && x) ≡ (not h && x)
   allowed-but x =
@@ -68,7 +68,7 @@ module _ (b k : ℕ) (h : Bool) (w : CoreState) (s : Stands b k h w) where
   step-is e a none = ap (λ (x : Bool). if x then swept (does w e) else w) a ∙ ap (swept_by (does w e)) none
 
   -- what it does leaves the counts with it
-  pub does-stands : (e : CoreEvent) → is_carried e ≡ true → may_apply b k h e ≡ true → Stands (lines_with b e) (written_with k e) (halted_with h e) (does w e)
+  pub does-stands : (e : CoreEvent) → is_carried e ≡ true → may_apply b k h e ≡ true → OnlyBadLines (lines_with b e) (written_with k e) (halted_with h e) (does w e)
   does-stands (Bad n why) c a =
       let is : n ≡ b + 1 = eqb-true n (b + 1) (and_parts (not h) (n == b + 1) a).1 in record {
         lines = ap (λ (m : ℕ). m + 1) s.lines ∙ sym is;
@@ -131,19 +131,19 @@ module _ (b k : ℕ) (h : Bool) (w : CoreState) (s : Stands b k h w) where
 
   -- a step leaves the counts with the event, where it applies
   pub step-stands : (e : CoreEvent) → is_carried e ≡ true → (a : Bool) → may_apply b k h e ≡ a →
-      Stands (if a then lines_with b e else b) (if a then written_with k e else k) (if a then halted_with h e else h) (step w e)
+      OnlyBadLines (if a then lines_with b e else b) (if a then written_with k e else k) (if a then halted_with h e else h) (step w e)
   step-stands e c true a =
       let stands = does-stands e c a in
-      subst (Stands (lines_with b e) (written_with k e) (halted_with h e)) (sym (step-is e (applies-is e c ∙ a) stands.capacity)) stands
-  step-stands e c false a = subst (Stands b k h) (sym (ap (λ (x : Bool). if x then swept (does w e) else w) (applies-is e c ∙ a))) s
+      subst (OnlyBadLines (lines_with b e) (written_with k e) (halted_with h e)) (sym (step-is e (applies-is e c ∙ a) stands.capacity)) stands
+  step-stands e c false a = subst (OnlyBadLines b k h) (sym (ap (λ (x : Bool). if x then swept (does w e) else w) (applies-is e c ∙ a))) s
 
 -- ---- of a run
 
 -- one event more
-pub run-stands : (b k : ℕ) (h : Bool) (r : Run) (e : CoreEvent) → Stands b k h (ends r) → is_carried e ≡ true → (a : Bool) → may_apply b k h e ≡ a →
-    Stands (if a then lines_with b e else b) (if a then written_with k e else k) (if a then halted_with h e else h) (ends (extended r (e ∷ [])))
+pub run-stands : (b k : ℕ) (h : Bool) (r : Run) (e : CoreEvent) → OnlyBadLines b k h (ends r) → is_carried e ≡ true → (a : Bool) → may_apply b k h e ≡ a →
+    OnlyBadLines (if a then lines_with b e else b) (if a then written_with k e else k) (if a then halted_with h e else h) (ends (extended r (e ∷ [])))
 run-stands b k h r e s c a is =
-    subst (Stands (if a then lines_with b e else b) (if a then written_with k e else k) (if a then halted_with h e else h))
+    subst (OnlyBadLines (if a then lines_with b e else b) (if a then written_with k e else k) (if a then halted_with h e else h))
     (sym (run-append (begins r) r.events (e ∷ []))) (step-stands b k h (ends r) s e c a is)
 
 -- ---- of the core's value
@@ -154,11 +154,11 @@ run-at es = record { base = 1; kinds = 0; capacity = None; opening = λ g. []; e
 
 -- an event that was counted, where it applies, and noted leaves the counts with it
 pub carried-fit : (old mid : LineCore) (e : CoreEvent) (es : List CoreEvent) → IsFit old → is_carried e ≡ true → mid ≡ counted_if (applies_to old e) old e
-    → es ≡ mid.history.events ++ (e ∷ []) → Stands mid.lines mid.written mid.halted (ends (run-at es))
+    → es ≡ mid.history.events ++ (e ∷ []) → OnlyBadLines mid.lines mid.written mid.halted (ends (run-at es))
 carried-fit old mid e es fit c is noted =
-    subst (λ (l : List CoreEvent). Stands mid.lines mid.written mid.halted (ends (run-at l))) (sym noted)
-    (subst (λ (m : LineCore). Stands m.lines m.written m.halted (ends (run-at (m.history.events ++ (e ∷ []))))) (sym is) (all (applies_to old e) refl))
+    subst (λ (l : List CoreEvent). OnlyBadLines mid.lines mid.written mid.halted (ends (run-at l))) (sym noted)
+    (subst (λ (m : LineCore). OnlyBadLines m.lines m.written m.halted (ends (run-at (m.history.events ++ (e ∷ []))))) (sym is) (all (applies_to old e) refl))
   where
-    all : (a : Bool) → applies_to old e ≡ a → Stands (counted_if a old e).lines (counted_if a old e).written (counted_if a old e).halted (ends (run-at ((counted_if a old e).history.events ++ (e ∷ []))))
+    all : (a : Bool) → applies_to old e ≡ a → OnlyBadLines (counted_if a old e).lines (counted_if a old e).written (counted_if a old e).halted (ends (run-at ((counted_if a old e).history.events ++ (e ∷ []))))
     all true a = run-stands old.lines old.written old.halted (line_run old) e fit c true a
     all false a = run-stands old.lines old.written old.halted (line_run old) e fit c false a

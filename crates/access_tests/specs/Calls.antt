@@ -4,7 +4,7 @@ use Rattle.base_types.specs.declared.entries.BadRequest.TheVariants.{Json}
 use Rattle.core_model.specs.declared.events.CoreEvent.{CoreEvent}
 use Rattle.core_model.specs.declared.events.CoreEvent.TheVariants.{Bad}
 use Rattle.core_model.specs.declared.events.CoreReply.{CoreReply}
-use Rattle.core_model.specs.Legal.{ends}
+use Rattle.core_model.specs.LegalRuns.{ends}
 use Rattle.core_access.specs.Sights.{Sight, run_seen, Looks, Tells}
 
 -- One look showed the next line's number, and then that line was put as a bad one.

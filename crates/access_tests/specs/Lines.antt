@@ -12,7 +12,7 @@ use Rattle.core_model.specs.declared.questions.CoreAnswer.{CoreAnswer}
 use Rattle.core_model.specs.declared.questions.CoreAnswer.TheVariants as answer
 use Rattle.core_model.specs.declared.questions.AskAnswer.TheVariants.{NotActive}
 use Rattle.core_model.specs.declared.questions.KnownOutcome.TheVariants.{Undecided}
-use Rattle.core_model.specs.Legal.{Run, ends}
+use Rattle.core_model.specs.LegalRuns.{Run, ends}
 use Rattle.access_tests.specs.declared.line_core.LineCore.{LineCore}
 
 -- its run: no type, no limit of memory, and all events that it took
@@ -80,7 +80,7 @@ shown_by lines halted (question.IsDecided u) = Some (answer.IsDecided false)
 
 -- What the counters say of a state: so many lines are bad and settled, so many of their entries written, and nothing else was
 -- done, but that the run may have stopped.
-pub record Stands (bad told : ℕ) (stopped : Bool) (w : CoreState) : Type 0 where
+pub record OnlyBadLines (bad told : ℕ) (stopped : Bool) (w : CoreState) : Type 0 where
   pub lines : w.units.lines ≡ bad
   pub halt : w.units.halt ≡ stopped
   pub phase : (u : UnitNo) → w.units.phase u ≡ Unborn
@@ -96,4 +96,4 @@ pub record Stands (bad told : ℕ) (stopped : Bool) (w : CoreState) : Type 0 whe
 
 -- the counters say so of the core's run
 abbrev pub IsFit : LineCore → Type 0
-IsFit c = Stands c.lines c.written c.halted (ends (line_run c))
+IsFit c = OnlyBadLines c.lines c.written c.halted (ends (line_run c))

@@ -2,9 +2,9 @@ ghost use Rattle.std.specs.Prelude.{◌≡◌, [], ◌∷◌, true, false, ⊤, 
 ghost use Rattle.core_model.specs.Answers.{answer_to};
 ghost use Rattle.core_model.specs.declared.events.CoreReply.TheVariants.{Done, Unapplied};
 ghost use Rattle.core_model.specs.Laws.{extended};
-ghost use Rattle.core_model.specs.Legal.{ends};
+ghost use Rattle.core_model.specs.LegalRuns.{ends};
 ghost use Rattle.core_access.specs.Histories.{reply_in};
-ghost use Rattle.core_access.specs.Spared.{is_spared, is_plain};
+ghost use Rattle.core_access.specs.CallsWithoutMemory.{is_spared, is_plain};
 ghost use Rattle.core_access.specs.OneHolder.{own_sight, none_comes};
 ghost use Rattle.access_tests.specs.Lines.{line_run, is_carried, applies_to, counted, counted_if, shown_by, IsFit};
 

@@ -1,9 +1,9 @@
 ghost use Rattle.std.specs.Prelude.{◌≡◌, true, IfOk, IfSome};
-ghost use Rattle.core_access.specs.Settling.{is_settling};
+ghost use Rattle.core_access.specs.SettlerEvents.{is_settling};
 ghost use Rattle.script_tree.specs.Programs.{program_tree};
-ghost use Rattle.agent_tests.specs.Carrying.{IsCarrying};
+ghost use Rattle.agent_tests.specs.BenchState.{IsCarrying};
 
-use crate::told::Told;
+use crate::event_texts::Told;
 use crate::told_core::ToldCore;
 use base_types::{BadRequest, Call, Store, UnitNo};
 use core_access::Access;

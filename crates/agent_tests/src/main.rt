@@ -18,15 +18,15 @@
 
 mod bench;
 mod deeds;
-mod playing;
+mod event_texts;
+mod line_plays;
 mod program;
-mod racing;
+mod races;
 mod shared_core;
 mod texts;
-mod told;
 mod told_core;
 
-use playing::play;
+use line_plays::play;
 use program::program;
 use std::io;
 

@@ -1,10 +1,10 @@
 ghost use Rattle.std.specs.Prelude.{◌≡◌, ⊤};
-ghost use Rattle.core_access.specs.ByPass.{sight_of, all_come};
+ghost use Rattle.core_access.specs.PassSights.{sight_of, all_come};
 ghost use Rattle.history_core.specs.Cores.{run_of};
 ghost use Rattle.turn_cell.specs.Passes.{IsPassOf, pass_view};
 
 use crate::deeds::{Deed, Planned, event_of};
-use crate::told::Told;
+use crate::event_texts::Told;
 use core_access::Access;
 use core_model::{CoreAnswer, CoreEvent, CoreQuestion, CoreReply};
 use history_core::Core;

@@ -1,10 +1,10 @@
 ghost use Rattle.std.specs.Prelude.{◌≡◌, true, IfOk, ⊤};
 ghost use Rattle.core_access.specs.OneHolder.{none_comes, own_sight};
-ghost use Rattle.core_access.specs.Settling.{is_settling};
+ghost use Rattle.core_access.specs.SettlerEvents.{is_settling};
 ghost use Rattle.core_access.specs.Sights.{Tells};
 ghost use Rattle.history_core.specs.Cores.{run_of};
 
-use crate::told::Told;
+use crate::event_texts::Told;
 use core_access::Access;
 use core_model::{CoreAnswer, CoreEvent, CoreQuestion, CoreReply};
 use history_core::Core;

@@ -7,7 +7,7 @@ use Rattle.json.proofs.Printed.Utf8.{IsUtf8-are_ascii}
 use Rattle.script_lexer.specs.declared.faults.ParseFault.{ParseFault}
 use Rattle.script_lexer.specs.declared.faults.ParseFault.TheVariants.{Unexpected}
 use Rattle.script_lexer.specs.Lexemes.{name_lexeme, number_lexeme, text_lexeme, symbol_lexeme, lexeme}
-use Rattle.script_lexer.specs.Lexing.{TokensAndStop, lex, lexed, end_of}
+use Rattle.script_lexer.specs.Lexer.{TokensAndStop, lex, lexed, end_of}
 use Rattle.script_tree.specs.Programs.{ProgramTree}
 use Rattle.script_expressions.specs.Tokens.{expected, expected_word, name_at, spelling_at, taken, taken_word}
 use Rattle.script_expressions.specs.Calls.{parenthesised, place_at, listed, arguments, call_at}
@@ -28,7 +28,7 @@ use Rattle.script_meaning.specs.Play.{initial_of}
 use Rattle.promise_spec.specs.Entries.{new_silo}
 use Rattle.promise_spec.specs.Loads.{account, bank_text}
 use Rattle.bank_load.specs.Banks.{bank_names}
-use Rattle.core_laws.proofs.Decoded.{none-true}
+use Rattle.core_laws.proofs.EventCases.{none-true}
 
 size_is : length bank_text ≡ 1130
 size_is = refl

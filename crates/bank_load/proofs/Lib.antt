@@ -1,6 +1,6 @@
 pub mod BankText
-pub mod Printed
-pub mod Asked
+pub mod PrintedRequests
+pub mod LoadTexts
 pub mod Numbering
-pub mod Said
+pub mod SummaryText
 pub mod Bounds

@@ -5,7 +5,7 @@ use Rattle.base_types.specs.declared.calls.Value.{Value}
 use Rattle.base_types.specs.declared.calls.Value.TheVariants.{Int}
 use Rattle.base_types.specs.declared.entries.Entry.{Entry}
 use Rattle.core_model.specs.CoreState.{CoreState}
-use Rattle.history_core.specs.Closing.{last_state}
+use Rattle.history_core.specs.ClosedUnits.{last_state}
 use Rattle.request_wire.specs.Reply.{value_data, counted}
 use Rattle.serde_json.specs.Data.{object, member, no_members}
 use Rattle.promise_spec.specs.Loads.{account, balance_in, line_valued, is_faulted, line_aborted, how_many_lines}

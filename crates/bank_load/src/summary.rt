@@ -1,6 +1,6 @@
 ghost use Rattle.std.specs.Prelude.{◌≡◌, ◌^◌, ◌≤ℤ◌, pos, neg_ℤ, IfOk, string_bytes};
-ghost use Rattle.core_model.specs.Legal.{ends};
-ghost use Rattle.history_core.specs.Closing.{last_state};
+ghost use Rattle.core_model.specs.LegalRuns.{ends};
+ghost use Rattle.history_core.specs.ClosedUnits.{last_state};
 ghost use Rattle.history_core.specs.Cores.{run_of};
 ghost use Rattle.promise_spec.specs.Loads.{account, balance_in, line_valued, is_faulted, line_aborted, how_many_lines};
 ghost use Rattle.bank_load.specs.Summaries.{said_line, summary_line, kept_balance, total_kept};

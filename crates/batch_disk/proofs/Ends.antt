@@ -17,7 +17,7 @@ use Rattle.commit_log.specs.declared.records.CommitRecord.{CommitRecord}
 use Rattle.host_trait.specs.declared.channels.FileId.TheVariants.{Grain}
 use Rattle.promise_spec.specs.Records.{Commit}
 use Rattle.promise_spec.specs.Versions.{IsKept, WriteStands, WritesStand}
-use Rattle.batch_disk.specs.Resting.{write_end, IsBelow, raised_end, raised_ends, all_writes}
+use Rattle.batch_disk.specs.ImagesAtRest.{write_end, IsBelow, raised_end, raised_ends, all_writes}
 use Rattle.batch_disk.proofs.Lists.{both_parts}
 
 -- ---- ends

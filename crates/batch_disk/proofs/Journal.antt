@@ -7,7 +7,7 @@ use Rattle.promise_spec.specs.Entries.{Log, grown}
 use Rattle.promise_spec.specs.Logs.{IsLog}
 use Rattle.promise_spec.specs.Journals.{Settlement, IsSealing, Seals, Doubts, commits_of}
 use Rattle.promise_spec.proofs.Standings.{grown_none}
-use Rattle.batch_disk.specs.Resting.{EachImage, SomeImage}
+use Rattle.batch_disk.specs.ImagesAtRest.{EachImage, SomeImage}
 use Rattle.batch_disk.specs.Moments.{KeepsLog, IsSeam}
 use Rattle.batch_disk.specs.Seals.{NoneHas}
 

@@ -21,10 +21,10 @@ use Rattle.commit_log.specs.declared.records.Written.{Written}
 use Rattle.promise_spec.specs.Records.{Commit}
 use Rattle.promise_spec.specs.Crashes.{IsAside}
 use Rattle.promise_spec.specs.Entries.{Log, records_of}
-use Rattle.batch_disk.specs.Resting.{EachImage, IsBelow, AreBelow, PlacesAreNamed, Voted, StandsIn, NotAmong, IsAtRest, voted_from, AreOfType}
+use Rattle.batch_disk.specs.ImagesAtRest.{EachImage, IsBelow, AreBelow, PlacesAreNamed, Voted, StandsIn, NotAmong, IsAtRest, voted_from, AreOfType}
 use Rattle.batch_disk.specs.Moments.{KeepsLog}
 use Rattle.batch_disk.proofs.Lists.{each_leads, each_both, both_parts}
-use Rattle.batch_disk.proofs.Keeping.{IsSameAt, stands_same, below_same, stands_up_same, rests_log}
+use Rattle.batch_disk.proofs.ImagePlaces.{IsSameAt, stands_same, below_same, stands_up_same, rests_log}
 
 -- the grain of a grain file, another for any other file
 abbrev grain_in : GrainId → FileId → GrainId

@@ -1,4 +1,4 @@
-pub mod Resting
+pub mod ImagesAtRest
 pub mod Moments
 pub mod Writers
 pub mod Records

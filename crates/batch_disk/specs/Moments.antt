@@ -7,7 +7,7 @@ use Rattle.promise_spec.specs.Records.{Commit}
 use Rattle.promise_spec.specs.Entries.{Log, grown}
 use Rattle.promise_spec.specs.Logs.{IsLog}
 use Rattle.promise_spec.specs.Crashes.{IsAside}
-use Rattle.batch_disk.specs.Resting.{EachImage}
+use Rattle.batch_disk.specs.ImagesAtRest.{EachImage}
 
 -- nothing is put out, the files that a run leaves alone are as they were, and each image has this header
 pub record LeavesRest (live : ℕ) (head : List ℕ) (old : World) (m : Moment) : Type 0 where

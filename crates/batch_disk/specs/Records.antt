@@ -16,9 +16,9 @@ use Rattle.commit_log.specs.declared.records.CommitRecord.{CommitRecord}
 use Rattle.commit_log.specs.Bodies.{IsCallIn, IsShapeType}
 use Rattle.commit_log.specs.Spelling.{spelling_of_body, spelling_of_block, RecordsFit}
 use Rattle.promise_spec.specs.Records.{Commit}
-use Rattle.batch_disk.specs.Resting.{Voted}
+use Rattle.batch_disk.specs.ImagesAtRest.{Voted}
 use Rattle.batch_disk.specs.Writers.{kept_of}
-use Rattle.batch_disk.specs.declared.recording.SealWork.{SealWork}
+use Rattle.batch_disk.specs.declared.records.SealWork.{SealWork}
 use Rattle.batch_disk.specs.declared.writer.BatchWriter.{BatchWriter}
 
 -- a unit's version of a grain

@@ -15,7 +15,7 @@ use Rattle.promise_spec.specs.Blocks.{Records, body_of}
 use Rattle.promise_spec.specs.Logs.{StandsUpTo, IsLog}
 use Rattle.promise_spec.specs.Exits.{HasBlock, DifferAt}
 use Rattle.std.specs.List.{flat_map}
-use Rattle.batch_disk.specs.Resting.{EachImage, SomeImage, raised_ends}
+use Rattle.batch_disk.specs.ImagesAtRest.{EachImage, SomeImage, raised_ends}
 use Rattle.batch_disk.specs.Moments.{LeavesRest, KeepsLog, IsSeam}
 use Rattle.batch_disk.specs.Writers.{file_end, kept_of, HasSameEnds, KeepsDisk}
 use Rattle.batch_disk.specs.Records.{commits_by}

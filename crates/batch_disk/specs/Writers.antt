@@ -8,7 +8,7 @@ use Rattle.host_trait.specs.World.{Disk}
 use Rattle.gate_block.specs.Gates.{IsClosedAt}
 use Rattle.host_trait.specs.declared.channels.FileId.TheVariants.{Manager, Grain}
 use Rattle.promise_spec.specs.Entries.{Log}
-use Rattle.batch_disk.specs.Resting.{EachImage, write_end, Voted, PlacesAreNamed, IsAtRest}
+use Rattle.batch_disk.specs.ImagesAtRest.{EachImage, write_end, Voted, PlacesAreNamed, IsAtRest}
 use Rattle.batch_disk.specs.declared.writer.BatchWriter.{BatchWriter}
 use Rattle.batch_disk.specs.declared.writer.KeptVersion.{KeptVersion}
 

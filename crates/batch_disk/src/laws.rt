@@ -10,7 +10,7 @@ ghost use Rattle.core_model.specs.declared.effects.Effect.{Effect};
 ghost use Rattle.promise_spec.specs.Entries.{Log, grown};
 ghost use Rattle.promise_spec.specs.Logs.{IsLog};
 ghost use Rattle.promise_spec.specs.Journals.{Settlement, Seals, Doubts, commits_of};
-ghost use Rattle.batch_disk.specs.Resting.{EachImage, SomeImage};
+ghost use Rattle.batch_disk.specs.ImagesAtRest.{EachImage, SomeImage};
 ghost use Rattle.batch_disk.specs.Moments.{KeepsLog};
 ghost use Rattle.batch_disk.specs.Writers.{FitsDisk, KeepsDisk};
 ghost use Rattle.batch_disk.specs.Seals.{may_open, SealsAs};

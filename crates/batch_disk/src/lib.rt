@@ -7,9 +7,9 @@
 #![tactic(auto)]
 
 mod laws;
-mod recording;
+mod records;
 mod writer;
 
 pub use laws::{batches_go_on_the_journal, writers_know_the_log};
-pub use recording::SealWork;
+pub use records::SealWork;
 pub use writer::BatchWriter;

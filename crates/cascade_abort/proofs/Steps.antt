@@ -7,7 +7,7 @@ use Rattle.cell_model.specs.declared.outcomes.Decision.{Decision}
 use Rattle.cell_model.specs.Units.{UnitNo}
 use Rattle.cell_model.specs.Decisions.{decision, all_decided, and_itself}
 use Rattle.cell_model.proofs.Decisions.{decided-length}
-use Rattle.cascade_abort.specs.Dead.{has_fallen, dead_by}
+use Rattle.cascade_abort.specs.DeadUnits.{has_fallen, dead_by}
 
 or_swap : (a b c : Bool) → (b || (a || c)) ≡ ((a || b) || c)
 or_swap true true c = refl

@@ -1,5 +1,5 @@
 pub mod Units
 pub mod Stacks
-pub mod Asking
+pub mod LockAnswers
 pub mod Sources
 pub mod Decisions

@@ -2,7 +2,7 @@
 //! has written, so a cell is made only where a lock is given. Contracts see the model's cell of each grain.
 #![tactic(auto)]
 
-mod opening;
+mod opening_states;
 mod table;
 
 pub use table::CellTable;

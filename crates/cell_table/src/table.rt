@@ -7,11 +7,11 @@ ghost use Rattle.cell_model.specs.Stacks.{top};
 ghost use Rattle.cell_model.specs.Locks.{ask, covers, holds_lock};
 ghost use Rattle.cell_model.specs.Cells.{opened, cell_granted, cell_released, cell_learned};
 ghost use Rattle.core_model.specs.CoreState.{put_grain};
-ghost use Rattle.rw_locks.specs.Locked.{holds_alone};
+ghost use Rattle.rw_locks.specs.LockView.{holds_alone};
 ghost use Rattle.grain_cell.specs.Room.{without_aborted};
 ghost use Rattle.cell_table.specs.Table.{opening_state, opens_with, cell_in, has_cell, spare_in};
 
-use crate::opening::opening_state;
+use crate::opening_states::opening_state;
 use base_types::{GrainId, Mode, Shape, State, Store, UnitNo, Version};
 use cell_model::Ask;
 use grain_cell::{Cell, Granted};

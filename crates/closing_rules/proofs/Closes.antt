@@ -1,38 +1,38 @@
 -- What follows of a closed core.
 use Rattle.std.proofs.Common.{◌≡◌, ◌⊎◌, inl, inr, ⊎_elim, ℕ, ◌≤◌, ◌<◌, List, [], ◌∷◌, true, false, refl, sym, ap, ◌∙◌, subst, arith}
 use Rattle.std.proofs.lemmas.Bool.{cases_Bool}
-use Rattle.core_model.specs.Asked.{IsGoing}
+use Rattle.core_model.specs.LockAnswers.{IsGoing}
 use Rattle.core_model.specs.CoreState.{UnitNo}
 use Rattle.core_model.specs.declared.effects.Effect.{Effect}
 use Rattle.core_model.specs.declared.events.CoreEvent.TheVariants.{Halt}
 use Rattle.core_model.specs.declared.events.CoreReply.TheVariants.{Began}
-use Rattle.core_model.specs.Legal.{Run, IsLegal, ends}
+use Rattle.core_model.specs.LegalRuns.{Run, IsLegal, ends}
 use Rattle.core_model.specs.Lines.{IsSettled}
 use Rattle.core_model.specs.Tests.{is_over, is_free}
-use Rattle.core_laws.proofs.Batching.{unfree-holds}
+use Rattle.core_laws.proofs.BatchPrefix.{unfree-holds}
 use Rattle.core_laws.proofs.Ends.{kept-ends}
 use Rattle.promise_spec.specs.Cores.{HasBegun}
 use Rattle.promise_spec.specs.UnitRule.{Basis, KeepsUnitRule}
 use Rattle.turn_cell.specs.History.{In, entries_of}
 use Rattle.turn_cell.proofs.Histories.{in_entries}
-use Rattle.turn_rules.specs.Going.{is_begin, is_own, MayCome}
-use Rattle.turn_rules.specs.Quiet.{IsQuiet}
+use Rattle.turn_rules.specs.NextEvent.{is_begin, is_own, MayCome}
+use Rattle.turn_rules.specs.QuietRun.{IsQuiet}
 use Rattle.core_access.specs.Histories.{Told, run_after}
 use Rattle.core_access.specs.Sights.{Sight, saw, AllPass, Counts, IsAlone}
 use Rattle.core_access.proofs.Entries.{run-on}
 use Rattle.core_access.proofs.Sights.{saw-before, saw-harmless}
-use Rattle.worker_rules.specs.Sharing.{leaves_unit, KeepsPromise}
-use Rattle.worker_rules.specs.Stories.{AllPromise, Keeps}
+use Rattle.worker_rules.specs.UnitOwnership.{leaves_unit, KeepsPromise}
+use Rattle.worker_rules.specs.SharedHistories.{AllPromise, Keeps}
 use Rattle.worker_rules.specs.Work.{is_work, OnlyWorks}
 use Rattle.worker_rules.proofs.Numbers.{began-above}
-use Rattle.worker_rules.proofs.Own.{of-log}
-use Rattle.worker_rules.proofs.Promising.{leaves-is}
-use Rattle.worker_rules.proofs.Whole.{all-ruled, alone-with}
-use Rattle.closing_rules.specs.Gathering.{sight_by, Knew, WasShown}
-use Rattle.closing_rules.specs.Closed.{IsClosed, PutsNothing, SettlesOrStops, IsOverAndFree, AreOverAndFree, HasBegunLines}
-use Rattle.closing_rules.proofs.Gathered.{knew-less}
-use Rattle.closing_rules.proofs.Onwards.{going-before, lines-after}
-use Rattle.closing_rules.proofs.Stories.{Story, story-rest, story-end, story-sound, begun-after, reply-there, none-began, settles-no-begin, done-after}
+use Rattle.worker_rules.proofs.OwnEntries.{of-log}
+use Rattle.worker_rules.proofs.CallPromises.{leaves-is}
+use Rattle.worker_rules.proofs.WholeHistories.{all-ruled, alone-with}
+use Rattle.closing_rules.specs.JoinedPasses.{sight_by, Knew, WasShown}
+use Rattle.closing_rules.specs.ClosedCore.{IsClosed, PutsNothing, SettlesOrStops, IsOverAndFree, AreOverAndFree, HasBegunLines}
+use Rattle.closing_rules.proofs.JoinedPasses.{knew-less}
+use Rattle.closing_rules.proofs.Growth.{going-before, lines-after}
+use Rattle.closing_rules.proofs.SharedHistories.{Story, story-rest, story-end, story-sound, begun-after, reply-there, none-began, settles-no-begin, done-after}
 
 -- less is known
 abbrev pub closed-less : (Own Own' Their Their' : Sight → Type 0) → ((s : Sight) → Own s → Own' s) → ((s : Sight) → Their s → Their' s) → (first last : Run) → IsClosed Own Their first last → IsClosed Own' Their' first last

@@ -1,4 +1,4 @@
-pub mod Gathered
-pub mod Onwards
-pub mod Stories
+pub mod JoinedPasses
+pub mod Growth
+pub mod SharedHistories
 pub mod Closes

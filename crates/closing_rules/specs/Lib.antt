@@ -1,2 +1,2 @@
-pub mod Gathering
-pub mod Closed
+pub mod JoinedPasses
+pub mod ClosedCore

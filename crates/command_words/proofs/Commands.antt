@@ -12,10 +12,10 @@ use Rattle.command_words.specs.Options.{Chosen, Ask, AreLoadNumbers, AreCheckNum
 use Rattle.command_words.specs.declared.words.RunOptions.{RunOptions}
 use Rattle.command_words.specs.declared.words.LoadOptions.{LoadOptions}
 use Rattle.command_words.specs.declared.words.Words.TheVariants as words
-use Rattle.command_words.proofs.Usual.{same_parts}
-use Rattle.command_words.proofs.Spelled.{parts_spell}
-use Rattle.command_words.proofs.Choosing.{options_of, no_number, two_numbers, agrees, are_options, right_manner}
-use Rattle.command_words.proofs.Asking.{chosen_in, run_asks, load_asks}
+use Rattle.command_words.proofs.CutFacts.{same_parts}
+use Rattle.command_words.proofs.WordParts.{parts_spell}
+use Rattle.command_words.proofs.ChosenOptions.{options_of, no_number, two_numbers, agrees, are_options, right_manner}
+use Rattle.command_words.proofs.SpelledOptions.{chosen_in, run_asks, load_asks}
 
 abbrev Texts : Type 0
 Texts = List (List ℕ)

@@ -1,8 +1,8 @@
 pub mod Rows
 pub mod ClapWalk
-pub mod Usual
+pub mod CutFacts
 pub mod Picks
-pub mod Spelled
-pub mod Choosing
-pub mod Asking
+pub mod WordParts
+pub mod ChosenOptions
+pub mod SpelledOptions
 pub mod Commands

@@ -11,6 +11,7 @@ use Rattle.command_words.specs.Parts.{OptionName, bare_name, WordPart, option_va
 abbrev pub option_rule : List ℕ → Rule
 option_rule name = record (new_rule name) { long = Some name; action = Some Append }
 
+-- the words that are no option: as many as there are, each kept
 abbrev pub number_rule : Rule
 number_rule = record (new_rule (codes "number")) { action = Some Append }
 
@@ -18,6 +19,7 @@ number_rule = record (new_rule (codes "number")) { action = Some Append }
 abbrev pub no_help : Shape → Shape
 no_help s = record s { disable_help_flag = true }
 
+-- the command `silo`, with its three options and the words that are none
 abbrev pub silo_app : App
 silo_app = with_rule (with_rule (with_rule (with_rule (on_top no_help (new_app (codes "silo")))
     (option_rule (codes "width"))) (option_rule (codes "turns"))) (option_rule (codes "workers"))) number_rule

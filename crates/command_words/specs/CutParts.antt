@@ -4,7 +4,7 @@ use Rattle.std.specs.List.{AllByRecursion}
 use Rattle.std.specs.declared.alloc.Global.{Global}
 use Rattle.std.specs.Borrow.{Bor}
 use Rattle.command_words.specs.Parts.{OptionName, WidthName, TurnsName, WorkersName, WordPart, is_stray, word_parts_from, option_values, number_words}
-use Rattle.command_words.specs.declared.cutting.CutWords.{CutWords}
+use Rattle.command_words.specs.declared.word_parts.CutWords.{CutWords}
 
 -- the texts of words
 abbrev pub texts_of : List (String Global) → List (List ℕ)
@@ -29,6 +29,7 @@ abbrev pub one_value : Option (Bor (List ℕ)) → List (List ℕ)
 one_value None = []
 one_value (Some value) = value.now ∷ []
 
+-- the values of a pair of references, or none
 abbrev pub two_values : Option (Bor (List ℕ) × Bor (List ℕ)) → List (List ℕ)
 two_values None = []
 two_values (Some pair) = pair.0.now ∷ pair.1.now ∷ []

@@ -5,7 +5,7 @@ use Rattle.std.specs.Str.{bytes_eq}
 use Rattle.std.specs.Fmt.{decimal}
 use Rattle.std.specs.declared.alloc.Global.{Global}
 use Rattle.promise_spec.specs.Words.{Choice, Width, Turns, Workers, GivenOption, Manner, IsWithin, list_text, Command, Init, Run, Show, History, Audit, Load, Check}
-use Rattle.command_words.specs.declared.cutting.CutWords.{CutWords}
+use Rattle.command_words.specs.declared.word_parts.CutWords.{CutWords}
 use Rattle.command_words.specs.declared.words.RunOptions.{RunOptions}
 use Rattle.command_words.specs.declared.words.LoadOptions.{LoadOptions}
 use Rattle.command_words.specs.declared.words.Words.{Words}
@@ -24,6 +24,7 @@ abbrev pub number_text : Option ℕ → List (List ℕ)
 number_text None = []
 number_text (Some n) = decimal n ∷ []
 
+-- the text of a list of picks, or none
 abbrev pub picks_text : Option (List ℕ) → List (List ℕ)
 picks_text None = []
 picks_text (Some picks) = list_text picks ∷ []
@@ -80,9 +81,11 @@ is_choice_asked workers (Workers n) = option_map_or (λ k. k == n) workers false
 
 -- ---- the answers
 
+-- the values that a run's options have
 abbrev pub run_chosen : RunOptions → Chosen
 run_chosen options = record { width = options.width; turns = option_map (λ (picks : Vec ℕ Global). picks.items) options.turns; workers = options.workers }
 
+-- the values that a load's options have: it takes no picks
 abbrev pub load_chosen : LoadOptions → Chosen
 load_chosen options = record { width = options.width; turns = None; workers = options.workers }
 
@@ -102,5 +105,6 @@ workers_of (words.Run options) = options.workers
 workers_of (words.Load options) = options.workers
 workers_of _ = None
 
+-- the answer of these words may stem from this option
 abbrev pub has_option : Words → GivenOption → Bool
 has_option w given = is_choice_asked (workers_of w) given.what

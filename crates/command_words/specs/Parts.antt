@@ -17,6 +17,7 @@ bare_name WidthName = codes "width"
 bare_name TurnsName = codes "turns"
 bare_name WorkersName = codes "workers"
 
+-- its name behind two dashes, as it stands in a word
 abbrev pub dashed_name : OptionName → List ℕ
 dashed_name WidthName = codes "--width"
 dashed_name TurnsName = codes "--turns"
@@ -38,6 +39,7 @@ abbrev pub part_words : WordPart → List (List ℕ)
 part_words (OptionPart name form value) = words_in form (dashed_name name) value
 part_words (NumberPart word) = word ∷ []
 
+-- the words of these parts, one part's behind the other's
 abbrev pub parts_words : List WordPart → List (List ℕ)
 parts_words parts = flat_map part_words parts
 
@@ -66,10 +68,12 @@ cut_option None value rest waiting = None
 cut_option (Some name) None rest waiting = waiting name
 cut_option (Some name) (Some value) rest waiting = onto_parts (OptionPart name Joined value) rest
 
+-- a word more: an option's, where it begins with two dashes, or one that is no option
 abbrev pub cut_word : Option (List ℕ × Option (List ℕ)) → List ℕ → Option (List WordPart) → (OptionName → Option (List WordPart)) → Option (List WordPart)
 cut_word None word rest waiting = onto_parts (NumberPart word) rest
 cut_word (Some long) word rest waiting = cut_option (option_of_name long.0) long.1 rest waiting
 
+-- the word begins with two dashes and a name
 abbrev pub is_long : Option (List ℕ × Option (List ℕ)) → Bool
 is_long None = false
 is_long (Some long) = true
@@ -91,6 +95,7 @@ is_same_name TurnsName TurnsName = true
 is_same_name WorkersName WorkersName = true
 is_same_name _ _ = false
 
+-- the values that these parts give an option, in order
 abbrev pub option_values : OptionName → List WordPart → List (List ℕ)
 option_values name [] = []
 option_values name (OptionPart other form value ∷ parts) = if is_same_name name other then value ∷ option_values name parts else option_values name parts

@@ -4,9 +4,9 @@ ghost use Rattle.promise_spec.specs.Words.{Turns, IsWithin};
 ghost use Rattle.command_words.specs.CutParts.{one_value};
 ghost use Rattle.command_words.specs.Options.{Chosen, AreChosen, MayStand, number_text, picks_text, run_chosen};
 
-use crate::cutting::CutWords;
 use crate::faults::WordsFault;
 use crate::numbers::{read_picks, read_small};
+use crate::word_parts::CutWords;
 use crate::words::RunOptions;
 use std::alloc::Global;
 

@@ -10,7 +10,7 @@ use Rattle.field_codec.specs.declared.faults.CodecFault.{CodecFault}
 use Rattle.field_codec.specs.declared.faults.CodecFault.TheVariants.{Short, BadTag, Unknown, Trailing}
 use Rattle.field_codec.specs.declared.units.Numbers.TheVariants.{Free, Logged}
 use Rattle.field_codec.specs.Units.{may_be_unit, may_be_parent}
-use Rattle.field_codec.specs.Reading.{Reader, and_then, whole, refused, field, choice, chain, number_at, count_at, list_at}
+use Rattle.field_codec.specs.Readers.{Reader, and_then, whole, refused, field, choice, chain, number_at, count_at, list_at}
 use Rattle.field_codec.specs.Fields.{unit_at, parent_at, origin_at, result_at}
 use Rattle.field_codec.specs.Results.{place_of}
 use Rattle.field_codec.proofs.Readers.{Reads, past, ok_is}

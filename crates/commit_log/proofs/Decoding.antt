@@ -4,7 +4,7 @@ use Rattle.base_types.specs.declared.shapes.Shape.{Shape}
 use Rattle.field_codec.specs.declared.faults.CodecFault.{CodecFault}
 use Rattle.field_codec.specs.declared.units.Numbers.{Numbers}
 use Rattle.field_codec.specs.Results.{GivesRead, place_of}
-use Rattle.field_codec.specs.Reading.{AreBytes}
+use Rattle.field_codec.specs.Readers.{AreBytes}
 use Rattle.field_codec.proofs.Wholes.{whole_takes, whole_again, whole_within}
 use Rattle.commit_log.specs.declared.records.CommitRecord.{CommitRecord}
 use Rattle.commit_log.specs.Spelling.{spelling_of_body}

@@ -8,8 +8,8 @@ use Rattle.base_types.specs.declared.calls.Call.{Call}
 use Rattle.base_types.specs.declared.shapes.Shape.{Shape}
 use Rattle.field_codec.specs.declared.faults.CodecFault.TheVariants.{BadOrder, Unknown}
 use Rattle.field_codec.specs.Spelling.{spelling_of_values, spelling_of_origin, spelling_of_call, CallFits, spelling_of_outcome, AnswerFits, ResultFits}
-use Rattle.field_codec.specs.Chained.{Chained}
-use Rattle.field_codec.specs.Reading.{whole, refused, field, choice, when_known, number_at, count_at}
+use Rattle.field_codec.specs.Chains.{Chained}
+use Rattle.field_codec.specs.Readers.{whole, refused, field, choice, when_known, number_at, count_at}
 use Rattle.field_codec.specs.declared.units.Numbers.{Numbers}
 use Rattle.field_codec.specs.Units.{may_be_unit}
 use Rattle.field_codec.specs.Fields.{exactly_at, unit_at, origin_at, answer_at, result_at}

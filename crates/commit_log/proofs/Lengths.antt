@@ -7,7 +7,7 @@ use Rattle.field_codec.specs.Spelling.{spelling_of_origin, spelling_of_call, spe
 use Rattle.field_codec.proofs.Lengths.{flat_short, call_short, origin_short, outcome_short}
 use Rattle.commit_log.specs.declared.records.CommitRecord.{CommitRecord}
 use Rattle.commit_log.specs.Spelling.{spelling_of_write, spelling_of_record, RecordFits, spelling_of_body, RecordsFit}
-use Rattle.commit_log.specs.Encodable.{IsNoAbort}
+use Rattle.commit_log.specs.EncodableRecords.{IsNoAbort}
 
 -- nothing is asked of any
 all_any : {A : Type 0} (xs : List A) → AllByRecursion (λ x. Unit {0}) xs

@@ -2,5 +2,5 @@ pub mod Fields
 pub mod Decoding
 pub mod Agreement
 pub mod Lengths
-pub mod Apart
+pub mod SpellingsApart
 pub mod Seals

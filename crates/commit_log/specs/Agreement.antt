@@ -5,7 +5,7 @@ use Rattle.field_codec.specs.declared.faults.CodecFault.{CodecFault}
 use Rattle.field_codec.specs.declared.faults.CodecFault.TheVariants.{Unknown}
 use Rattle.field_codec.specs.declared.units.Numbers.TheVariants.{Logged}
 use Rattle.field_codec.specs.Units.{may_be_unit}
-use Rattle.field_codec.specs.Reading.{number_at}
+use Rattle.field_codec.specs.Readers.{number_at}
 use Rattle.field_codec.specs.Results.{place_of}
 
 -- a number that no unit of a log has stands at this place

@@ -14,6 +14,7 @@ abbrev pub params_of : Option TypeShape → ℕ → Option ℕ
 params_of None method = None
 params_of (Some type) method = slice_get type.params method
 
+-- the number of parameters of a type's method in a shape, none where there is no such method
 abbrev pub params_in : Shape → ℕ → ℕ → Option ℕ
 params_in shape kind method = params_of (slice_get shape.types kind) method
 

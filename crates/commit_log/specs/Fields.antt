@@ -8,7 +8,7 @@ use Rattle.base_types.specs.declared.shapes.Shape.{Shape}
 use Rattle.field_codec.specs.declared.faults.CodecFault.{CodecFault}
 use Rattle.field_codec.specs.declared.faults.CodecFault.TheVariants.{BadOrder, Unknown}
 use Rattle.field_codec.specs.declared.units.Numbers.{Numbers}
-use Rattle.field_codec.specs.Reading.{Reader, whole_text, whole, refused, field, choice, when_known, chain, number_at, count_at, list_at}
+use Rattle.field_codec.specs.Readers.{Reader, whole_text, whole, refused, field, choice, when_known, chain, number_at, count_at, list_at}
 use Rattle.field_codec.specs.Fields.{exactly_at, unit_at, origin_at, answer_at, result_at}
 use Rattle.commit_log.specs.declared.records.Written.{Written}
 use Rattle.commit_log.specs.declared.records.CommitRecord.{CommitRecord}
@@ -34,9 +34,11 @@ write_in shape last = field (grain_in shape) λ grain place. choice (is_above la
 abbrev pub writes_behind : Shape → Option GrainId → ℕ → Reader (List Written)
 writes_behind shape last n = chain (write_in shape) grain_after last n
 
+-- the writes of a record, at most 64, each of a grain above the one before
 unfoldable pub writes_in : Shape → Reader (List Written)
 writes_in shape = field (count_at w16 64) λ n place. writes_behind shape None n
 
+-- the answers of a record's children, at most 64
 abbrev pub answers_at : Reader (List outcome.Outcome)
 answers_at = list_at w16 64 answer_at
 
@@ -45,6 +47,7 @@ unfoldable pub record_in : Numbers → Shape → Reader CommitRecord
 record_in numbers shape = field (unit_at numbers) λ unit p0. field (origin_at numbers) λ origin p1. field (call_in shape) λ call p2. field answers_at λ answers p3. field result_at λ result p4. field (writes_in shape) λ writes p5.
     whole (record { unit = record { 0 = unit }; origin = origin; call = call; answers = answers; result = result; writes = writes })
 
+-- the records of a body, at most 64
 abbrev pub records_in : Numbers → Shape → Reader (List CommitRecord)
 records_in numbers shape = list_at w32 64 (record_in numbers shape)
 

@@ -3,6 +3,6 @@ pub mod Spelling
 pub mod Bodies
 pub mod Fields
 pub mod Agreement
-pub mod Encodable
+pub mod EncodableRecords
 pub mod Examples
-pub mod Sealing
+pub mod SealImages

@@ -18,6 +18,7 @@ spelling_of_grain grain = to_le_bytes w16 grain.kind ++ to_le_bytes w32 grain.ke
 abbrev pub spelling_of_write : Written → List ℕ
 spelling_of_write write = spelling_of_grain write.grain ++ (to_le_bytes w64 write.place.offset ++ to_le_bytes w32 write.place.len)
 
+-- each number of a write fits its field
 pub record WriteFits (write : Written) : Type 0 where
   pub kind : write.grain.kind < 2 ^ 16
   pub key : write.grain.key < 2 ^ 32
@@ -28,6 +29,7 @@ pub record WriteFits (write : Written) : Type 0 where
 abbrev pub WritesFit : List Written → Type 0
 WritesFit writes = (length writes ≤ 64) × (AllByRecursion WriteFits writes × IsAscending None writes)
 
+-- there are at most 64 answers, and each has a spelling
 abbrev pub AnswersFit : List outcome.Outcome → Type 0
 AnswersFit answers = (length answers ≤ 64) × AllByRecursion AnswerFits answers
 
@@ -37,6 +39,7 @@ spelling_of_record r = to_le_bytes w64 r.unit.0 ++ (spelling_of_origin r.origin 
     ++ ((to_le_bytes w16 (length r.answers) ++ flat_map spelling_of_outcome r.answers)
     ++ (spelling_of_outcome r.result ++ (to_le_bytes w16 (length r.writes) ++ flat_map spelling_of_write r.writes)))))
 
+-- each part of a record has a spelling
 pub record RecordFits (r : CommitRecord) : Type 0 where
   pub unit : r.unit.0 < 2 ^ 64
   pub origin : OriginFits r.origin
@@ -49,6 +52,7 @@ pub record RecordFits (r : CommitRecord) : Type 0 where
 abbrev pub spelling_of_body : List CommitRecord → List ℕ
 spelling_of_body records = to_le_bytes w32 (length records) ++ flat_map spelling_of_record records
 
+-- there are at most 64 records, and each has a spelling
 abbrev pub RecordsFit : List CommitRecord → Type 0
 RecordsFit records = (length records ≤ 64) × AllByRecursion RecordFits records
 

@@ -1,6 +1,6 @@
 ghost use Rattle.std.specs.Prelude.{◌≡◌, ◌≤◌, List, length, IfOk, IfErr, Ok};
 ghost use Rattle.std.specs.Int.{w32};
-ghost use Rattle.field_codec.specs.Reading.{times, count_at};
+ghost use Rattle.field_codec.specs.Readers.{times, count_at};
 ghost use Rattle.field_codec.specs.Fields.{answer_at};
 ghost use Rattle.field_codec.specs.Results.{GivesRead, place_of};
 ghost use Rattle.field_codec.specs.declared.units.Numbers.TheVariants.{Free, Logged};
@@ -37,7 +37,7 @@ fn answers_there(
 }
 
 // The answers that stand at a place, at most 64.
-#[tactic(auto, unfolding(field_codec::specs::Reading::list_at, field_codec::specs::Reading::field))]
+#[tactic(auto, unfolding(field_codec::specs::Readers::list_at, field_codec::specs::Readers::field))]
 fn get_answers(alloc: Global, bytes: &[u8], at: usize) -> Result<(List<Outcome>, usize), CodecFault>
     ensures { GivesRead result (answers_at bytes.now at) }
 {
@@ -47,7 +47,7 @@ fn get_answers(alloc: Global, bytes: &[u8], at: usize) -> Result<(List<Outcome>,
 }
 
 // The record that stands at a place.
-#[tactic(auto, unfolding(crate::specs::Fields::record_in, field_codec::specs::Reading::field, field_codec::specs::Reading::whole))]
+#[tactic(auto, unfolding(crate::specs::Fields::record_in, field_codec::specs::Readers::field, field_codec::specs::Readers::whole))]
 fn get_record(
     alloc: Global,
     bytes: &[u8],
@@ -97,7 +97,7 @@ fn records_there(
 }
 
 // How many records the body has, at most 64.
-#[tactic(auto, unfolding(field_codec::specs::Reading::count_at, field_codec::specs::Reading::field, field_codec::specs::Reading::choice, field_codec::specs::Reading::refused, field_codec::specs::Reading::whole))]
+#[tactic(auto, unfolding(field_codec::specs::Readers::count_at, field_codec::specs::Readers::field, field_codec::specs::Readers::choice, field_codec::specs::Readers::refused, field_codec::specs::Readers::whole))]
 fn record_count(body: &[u8]) -> Result<(u32, usize), CodecFault>
     ensures { GivesRead result (count_at w32 64 body.now 0) }
 {
@@ -111,7 +111,7 @@ fn record_count(body: &[u8]) -> Result<(u32, usize), CodecFault>
     Ok((count, after))
 }
 
-#[tactic(auto, unfolding(field_codec::specs::Reading::list_at, field_codec::specs::Reading::field))]
+#[tactic(auto, unfolding(field_codec::specs::Readers::list_at, field_codec::specs::Readers::field))]
 fn get_body(
     alloc: Global,
     body: &[u8],

@@ -3,7 +3,7 @@ ghost use Rattle.std.specs.Int.{w16, w32, to_le_bytes};
 ghost use Rattle.std.specs.List.{flat_map, AllByRecursion};
 ghost use Rattle.field_codec.specs.Spelling.{spelling_of_outcome};
 ghost use Rattle.commit_log.specs.Spelling.{spelling_of_write, spelling_of_body, spelling_of_block, AnswersFit, WriteFits, RecordsFit};
-ghost use Rattle.commit_log.specs.Encodable.{MaySpell};
+ghost use Rattle.commit_log.specs.EncodableRecords.{MaySpell};
 
 use crate::records::{CommitRecord, Written};
 use base_types::{List, Outcome};
@@ -54,7 +54,7 @@ fn append_writes(into: &mut Vec<u8>, writes: &[Written]) -> Result<(), AllocErro
 
 impl Spelled for CommitRecord {
     ghost use Rattle.commit_log.specs.Spelling.{spelling_of_record, RecordFits};
-    ghost use Rattle.commit_log.specs.Encodable.{MaySpell};
+    ghost use Rattle.commit_log.specs.EncodableRecords.{MaySpell};
 
     ghost may_spell = { MaySpell };
 

@@ -8,7 +8,7 @@ use field_codec::{CodecFault, get_exactly, get_u16, get_u32};
 use std::alloc::Global;
 
 /// The grain that stands at a place. `Unknown` names the type's place where the program has no such type.
-#[tactic(auto, unfolding(crate::specs::Fields::grain_in, field_codec::specs::Reading::field, field_codec::specs::Reading::choice, field_codec::specs::Reading::refused, field_codec::specs::Reading::whole))]
+#[tactic(auto, unfolding(crate::specs::Fields::grain_in, field_codec::specs::Readers::field, field_codec::specs::Readers::choice, field_codec::specs::Readers::refused, field_codec::specs::Readers::whole))]
 pub fn get_grain(bytes: &[u8], at: usize, shape: &Shape) -> Result<(GrainId, usize), CodecFault>
     ensures { GivesRead result (grain_in shape.now bytes.now at) }
 {
@@ -31,7 +31,7 @@ fn params_in(shape: &Shape, grain: GrainId, method: u16) -> Option<u16>
 }
 
 /// The call that stands at a place, of one of the program's methods.
-#[tactic(auto, unfolding(crate::specs::Fields::call_in, field_codec::specs::Reading::field, field_codec::specs::Reading::when_known, field_codec::specs::Reading::whole))]
+#[tactic(auto, unfolding(crate::specs::Fields::call_in, field_codec::specs::Readers::field, field_codec::specs::Readers::when_known, field_codec::specs::Readers::whole))]
 pub fn get_call_in(
     alloc: Global,
     bytes: &[u8],

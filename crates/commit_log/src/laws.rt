@@ -1,7 +1,7 @@
 ghost use Rattle.std.specs.Prelude.{◌≡◌, ℕ, List, [], ◌∷◌};
 ghost use Rattle.std.specs.List.{AllByRecursion};
 ghost use Rattle.base_types.specs.declared.shapes.Shape.{Shape};
-ghost use Rattle.field_codec.specs.Apart.{AreApart};
+ghost use Rattle.field_codec.specs.SpellingsApart.{AreApart};
 ghost use Rattle.field_codec.specs.declared.units.Numbers.TheVariants.{Free, Logged};
 ghost use Rattle.commit_log.specs.Spelling.{spelling_of_write, WriteFits, spelling_of_record, RecordFits, spelling_of_body, spelling_of_block, RecordsFit};
 ghost use Rattle.commit_log.specs.Bodies.{HasNumbers, IsBlockBody};

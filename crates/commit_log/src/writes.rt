@@ -21,7 +21,7 @@ fn is_above(last: Option<GrainId>, grain: GrainId) -> bool
     }
 }
 
-#[tactic(auto, unfolding(crate::specs::Fields::write_in, field_codec::specs::Reading::field, field_codec::specs::Reading::choice, field_codec::specs::Reading::refused, field_codec::specs::Reading::whole))]
+#[tactic(auto, unfolding(crate::specs::Fields::write_in, field_codec::specs::Readers::field, field_codec::specs::Readers::choice, field_codec::specs::Readers::refused, field_codec::specs::Readers::whole))]
 fn get_write(
     bytes: &[u8],
     at: usize,
@@ -63,7 +63,7 @@ fn writes_there(
 }
 
 /// The writes that stand at a place, at most 64 and in ascending grain order.
-#[tactic(auto, unfolding(crate::specs::Fields::writes_in, field_codec::specs::Reading::field))]
+#[tactic(auto, unfolding(crate::specs::Fields::writes_in, field_codec::specs::Readers::field))]
 pub fn get_writes(
     alloc: Global,
     bytes: &[u8],

@@ -2,7 +2,7 @@
 use Rattle.std.proofs.Common.{◌≡◌, [], ◌∷◌, ◌++◌, refl, ap, subst}
 use Rattle.core_model.specs.declared.events.CoreEvent.{CoreEvent}
 use Rattle.core_model.specs.declared.events.CoreReply.{CoreReply}
-use Rattle.core_model.specs.Legal.{Run}
+use Rattle.core_model.specs.LegalRuns.{Run}
 use Rattle.core_model.specs.Laws.{extended}
 use Rattle.turn_cell.specs.declared.view.View.{View}
 use Rattle.turn_cell.specs.History.{entry}
@@ -10,7 +10,7 @@ use Rattle.turn_cell.specs.Passes.{Adds, Sees}
 use Rattle.turn_cell.proofs.Histories.{legal_back}
 use Rattle.core_access.specs.Histories.{reply_in}
 use Rattle.core_access.specs.Sights.{saw, told, IsHistory, Looks, Tells}
-use Rattle.core_access.specs.ByPass.{sight_of, all_come}
+use Rattle.core_access.specs.PassSights.{sight_of, all_come}
 
 -- the run with one more event
 abbrev onward : Run → CoreEvent → Run

@@ -1,7 +1,7 @@
 pub mod Entries
 pub mod Sights
-pub mod Knowing
+pub mod Knowledge
 pub mod OneHolder
 pub mod ByPass
-pub mod Growing
-pub mod Settling
+pub mod Growth
+pub mod SettlerEvents

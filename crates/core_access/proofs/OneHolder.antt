@@ -7,8 +7,8 @@ use Rattle.core_model.specs.declared.events.CoreReply.{CoreReply}
 use Rattle.core_model.specs.declared.questions.CoreQuestion.{CoreQuestion}
 use Rattle.core_model.specs.declared.questions.CoreAnswer.{CoreAnswer}
 use Rattle.core_model.specs.Answers.{answer_to}
-use Rattle.core_model.specs.Legal.{Run, ends}
-use Rattle.core_access.specs.Spared.{is_spared}
+use Rattle.core_model.specs.LegalRuns.{Run, ends}
+use Rattle.core_access.specs.CallsWithoutMemory.{is_spared}
 use Rattle.core_model.specs.Laws.{extended}
 use Rattle.turn_cell.specs.History.{In, entries_of, entry}
 use Rattle.core_access.specs.Histories.{Told, IsTrue, run_after, reply_in}

@@ -1,6 +1,6 @@
 pub mod Histories
 pub mod Sights
-pub mod Spared
-pub mod Settling
+pub mod CallsWithoutMemory
+pub mod SettlerEvents
 pub mod OneHolder
-pub mod ByPass
+pub mod PassSights

@@ -1,7 +1,7 @@
 -- What is known of a core by the one who has it alone: all of its events, each put by itself.
 use Rattle.std.specs.Prelude.{List, [], ◌∷◌, Bool, false}
 use Rattle.core_model.specs.declared.events.CoreEvent.{CoreEvent}
-use Rattle.core_model.specs.Legal.{Run}
+use Rattle.core_model.specs.LegalRuns.{Run}
 use Rattle.core_model.specs.Laws.{extended}
 use Rattle.turn_cell.specs.History.{entry}
 use Rattle.core_access.specs.Histories.{Told, reply_in}

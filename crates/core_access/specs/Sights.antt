@@ -2,7 +2,7 @@
 use Rattle.std.specs.Prelude.{◌≡◌, ◌⊎◌, ◌≤◌, ℕ, List, [], ◌∷◌, ◌++◌, length, Bool, true}
 use Rattle.core_model.specs.declared.events.CoreEvent.{CoreEvent}
 use Rattle.core_model.specs.declared.events.CoreReply.{CoreReply}
-use Rattle.core_model.specs.Legal.{Run}
+use Rattle.core_model.specs.LegalRuns.{Run}
 use Rattle.turn_cell.specs.History.{In, entry, entries_of}
 use Rattle.core_access.specs.Histories.{Told, reply_in, run_after, IsTrue}
 

@@ -1,9 +1,9 @@
 ghost use Rattle.std.specs.Prelude.{◌≡◌, Bool, false, IfOk, IfErr};
 ghost use Rattle.core_model.specs.Answers.{answer_to};
 ghost use Rattle.core_model.specs.declared.events.CoreEvent.{CoreEvent as AnEvent};
-ghost use Rattle.core_model.specs.Legal.{ends};
+ghost use Rattle.core_model.specs.LegalRuns.{ends};
 ghost use Rattle.core_access.specs.Sights.{Sight, run_seen, IsHistory, Looks, Tells};
-ghost use Rattle.core_access.specs.Spared.{is_spared, is_plain};
+ghost use Rattle.core_access.specs.CallsWithoutMemory.{is_spared, is_plain};
 
 use core_model::{CoreAnswer, CoreEvent, CoreQuestion, CoreReply};
 use std::alloc::AllocError;

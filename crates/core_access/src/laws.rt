@@ -1,16 +1,16 @@
 ghost use Rattle.std.specs.Prelude.{◌≡◌, Bool, false, List, [], ◌∷◌};
 ghost use Rattle.core_model.specs.declared.events.CoreEvent.{CoreEvent};
 ghost use Rattle.core_model.specs.declared.events.CoreReply.{CoreReply};
-ghost use Rattle.core_model.specs.Legal.{Run, ends};
+ghost use Rattle.core_model.specs.LegalRuns.{Run, ends};
 ghost use Rattle.core_model.specs.Laws.{extended};
 ghost use Rattle.core_model.specs.Replies.{OnlyExtends};
 ghost use Rattle.turn_cell.specs.declared.view.View.{View};
 ghost use Rattle.turn_cell.specs.Passes.{Adds, Sees, state_seen};
 ghost use Rattle.core_access.specs.Histories.{reply_in};
 ghost use Rattle.core_access.specs.Sights.{Sight, run_seen, IsHistory, saw, told, AllPass, Looks, Tells, Counts, IsAlone};
-ghost use Rattle.core_access.specs.Settling.{is_settling, LeavesBatches};
+ghost use Rattle.core_access.specs.SettlerEvents.{is_settling, LeavesBatches};
 ghost use Rattle.core_access.specs.OneHolder.{own_sight, none_comes};
-ghost use Rattle.core_access.specs.ByPass.{sight_of, all_come};
+ghost use Rattle.core_access.specs.PassSights.{sight_of, all_come};
 
 /// No call is a look, two looks are one, and a look before an event is part of it.
 pub fn calls_follow_one_another()

@@ -9,22 +9,22 @@ use Rattle.core_model.specs.declared.phases.Verdict.TheVariants.{Open, Chosen, C
 use Rattle.cell_model.specs.declared.outcomes.Decision.{Decision}
 use Rattle.core_model.specs.CoreState.{UnitNo, GrainId, Value, Write, Batch, CoreState, Member}
 use Rattle.core_model.specs.Tests.{is_bad, is_final, members}
-use Rattle.core_model.specs.Serial.{IsTrueLoad, batch_begin}
+use Rattle.core_model.specs.SerialOrder.{IsTrueLoad, batch_begin}
 use Rattle.core_model.specs.Changes.{seal, spoil, leave, verdict_of}
 use Rattle.core_model.specs.Events.{step}
-use Rattle.core_model.specs.Legal.{Run, IsLegal, begins}
-use Rattle.core_laws.proofs.Kept.{Kept, kept-step, inv-open, inv-judged, size-open}
+use Rattle.core_model.specs.LegalRuns.{Run, IsLegal, begins}
+use Rattle.core_laws.proofs.KeptInvariant.{Kept, kept-step, inv-open, inv-judged, size-open}
 use Rattle.core_laws.proofs.Dependencies.{Depends, depends-step}
 use Rattle.core_laws.proofs.Batches.{Batched, batched-step}
 use Rattle.core_laws.proofs.Reasons.{Argued, argued-step, Reason, Reasons}
-use Rattle.core_laws.proofs.Held.{Tidy, tidy-step}
-use Rattle.core_laws.proofs.Split.{Split, split-step}
+use Rattle.core_laws.proofs.HeldLocks.{Tidy, tidy-step}
+use Rattle.core_laws.proofs.CommitOrder.{Split, split-step}
 use Rattle.core_laws.proofs.Verdicts.{Turned, turned-step}
-use Rattle.core_laws.proofs.Batching.{Unheld, unheld-step}
+use Rattle.core_laws.proofs.BatchPrefix.{Unheld, unheld-step}
 use Rattle.core_laws.proofs.Ends.{kept-begins}
 use Rattle.core_laws.proofs.Orders.{in_part}
-use Rattle.core_laws.proofs.Caused.{member-place}
-use Rattle.core_history.proofs.Placed.{placed-member}
+use Rattle.core_laws.proofs.EntryCauses.{member-place}
+use Rattle.core_history.proofs.BatchPlaces.{placed-member}
 
 -- what the core model keeps along a legal run
 pub record Core (opening : GrainId → List Value) (w : CoreState) : Type 0 where

@@ -5,7 +5,7 @@ use Rattle.core_model.specs.CoreState.{put, put_grain}
 use Rattle.core_model.specs.ComputedRuns.{account, unit, state, found}
 use Rattle.core_history.specs.Histories.{Happened}
 use Rattle.core_history.specs.Fates.{IsDeadIn, voted_down, not_sealed, by_source}
-use Rattle.core_history.specs.Gone.{not_on_disk, itself, IsGone}
+use Rattle.core_history.specs.GoneVersions.{not_on_disk, itself, IsGone}
 use Rattle.core_history.specs.ComputedHistories.{told, failed_vote, two_sources, one_learnt, learns, HistoriesAreRead}
 
 vote-kills : IsDeadIn (told failed_vote) (unit 2)

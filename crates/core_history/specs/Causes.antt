@@ -13,7 +13,7 @@ use Rattle.core_history.specs.Units.{BeganFor, held, reads_in, result_in, WroteI
 use Rattle.core_history.specs.Batches.{InBatch}
 use Rattle.core_history.specs.Fates.{IsDeadIn}
 use Rattle.core_history.specs.Dependencies.{IsDependency}
-use Rattle.core_history.specs.Gone.{IsGone}
+use Rattle.core_history.specs.GoneVersions.{IsGone}
 
 -- another unit holds the grain, and one of the two modes is for one unit alone
 pub record IsRival (h : List Applied) (u : UnitNo) (g : GrainId) (mode : Mode) (v : UnitNo) : Type 0 where

@@ -13,7 +13,7 @@ use Rattle.core_history.specs.Histories.{Applied, history_from}
 use Rattle.core_history.specs.Units.{finish_order, runs, held, reads_in}
 use Rattle.core_history.specs.Batches.{batches_in}
 use Rattle.core_history.specs.Fates.{IsDeadIn}
-use Rattle.core_history.specs.Gone.{IsGone}
+use Rattle.core_history.specs.GoneVersions.{IsGone}
 
 -- what a bank's history tells
 abbrev pub told : List CoreEvent → List Applied

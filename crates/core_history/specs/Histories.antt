@@ -4,7 +4,7 @@ use Rattle.core_model.specs.declared.events.CoreReply.{CoreReply}
 use Rattle.core_model.specs.CoreState.{CoreState}
 use Rattle.core_model.specs.declared.events.CoreEvent.{CoreEvent}
 use Rattle.core_model.specs.Events.{applies, reply_to, step}
-use Rattle.core_model.specs.Legal.{Run, begins}
+use Rattle.core_model.specs.LegalRuns.{Run, begins}
 
 -- an event that applied, and its reply
 pub record Applied : Type 0 where

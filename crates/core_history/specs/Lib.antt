@@ -3,7 +3,7 @@ pub mod Units
 pub mod Batches
 pub mod Fates
 pub mod Dependencies
-pub mod Gone
+pub mod GoneVersions
 pub mod Causes
 pub mod States
 pub mod ComputedHistories

@@ -6,14 +6,14 @@ ghost use Rattle.core_model.specs.declared.phases.Verdict.TheVariants.{Committed
 ghost use Rattle.core_model.specs.CoreState.{UnitNo, GrainId, Entry, Settled, Batch, Member};
 ghost use Rattle.core_model.specs.Tests.{is_running, is_gone, members};
 ghost use Rattle.core_model.specs.Lines.{HasBegunFor};
-ghost use Rattle.core_model.specs.Dead.{IsDead};
-ghost use Rattle.core_model.specs.Legal.{Run, IsLegal, ends};
+ghost use Rattle.core_model.specs.DeadUnits.{IsDead};
+ghost use Rattle.core_model.specs.LegalRuns.{Run, IsLegal, ends};
 ghost use Rattle.core_history.specs.Histories.{history_of};
 ghost use Rattle.core_history.specs.Units.{finish_order, runs, BeganFor, held, reads_in, writes_in, result_in};
 ghost use Rattle.core_history.specs.Batches.{batches_in, InBatch};
 ghost use Rattle.core_history.specs.Fates.{IsDeadIn, IsCommittedIn};
 ghost use Rattle.core_history.specs.Dependencies.{IsDependency};
-ghost use Rattle.core_history.specs.Gone.{IsDecidedDead, IsGone};
+ghost use Rattle.core_history.specs.GoneVersions.{IsDecidedDead, IsGone};
 ghost use Rattle.core_history.specs.Causes.{IsCausedIn, IsAbortedIn};
 ghost use Rattle.core_history.specs.States.{mode_of, batches_of};
 ghost use Rattle.core_history.specs.ComputedHistories.{HistoriesAreRead};

@@ -2,7 +2,7 @@
 use Rattle.std.proofs.Common.{◌≡◌, ℕ, List, true, false, ◌⊎◌, inl, inr, sym, ap, ◌∙◌, subst}
 use Rattle.core_model.specs.CoreState.{UnitNo, GrainId, nobody, Member, Value, CoreState}
 use Rattle.core_model.specs.Tests.{is_bad, is_good}
-use Rattle.core_model.specs.Dead.{Dead}
+use Rattle.core_model.specs.DeadUnits.{Dead}
 use Rattle.core_laws.proofs.Basics.{Dead-not, not_both}
 use Rattle.core_laws.proofs.Invariant.{Inv}
 

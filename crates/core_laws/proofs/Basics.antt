@@ -15,7 +15,7 @@ use Rattle.core_model.specs.declared.phases.Verdict.{Verdict}
 use Rattle.core_model.specs.declared.phases.Verdict.TheVariants.{Open, Chosen, Condemned, Committed, Aborted}
 use Rattle.core_model.specs.declared.effects.Read.{Read}
 use Rattle.core_model.specs.Tests.{is_running, is_over, is_bad, is_good, is_aborted, is_committed, is_final, state_written}
-use Rattle.core_model.specs.Dead.{Dead, itself, by_source}
+use Rattle.core_model.specs.DeadUnits.{Dead, itself, by_source}
 
 pub is_running-true : (p : Phase) → is_running p ≡ true → p ≡ Running
 is_running-true Unborn e = cc

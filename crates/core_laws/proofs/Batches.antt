@@ -13,17 +13,17 @@ use Rattle.std.proofs.Common.{take, length-take}
 use Rattle.base_types.specs.declared.entries.Settled.TheVariants as settled
 use Rattle.cell_model.specs.declared.outcomes.Decision.TheVariants as decision
 use Rattle.core_model.specs.Tests.{members, waiting}
-use Rattle.core_model.specs.Serial.{batch_begin}
+use Rattle.core_model.specs.SerialOrder.{batch_begin}
 use Rattle.core_model.specs.Changes.{new_batch, new_unit, verdict_of, judged, decisions_of, with_decisions, closed, result_told, seal, spoil, leave, swept, swept_by}
 use Rattle.core_model.specs.Events.{batch_size}
 use Rattle.core_model.specs.Events.{applies, can, does, step, run, is_allowed}
 use Rattle.core_model.specs.declared.events.CoreEvent.{CoreEvent}
 use Rattle.core_model.specs.declared.events.CoreEvent.TheVariants.{Decide, Sealed, NotSealed}
-use Rattle.core_model.specs.Serial.{IsTrueLoad, AllLoadsTrue}
-use Rattle.core_laws.proofs.Decoded.{Change, bad, begin, lock, raise, refuse, finish, end_plain, end_snapshot, release, take_batch, vote, decide_some, decide_none, seal_batch, spoil_batch, doubt_batch, learn, emit, halt_run, want, load, decode}
+use Rattle.core_model.specs.SerialOrder.{IsTrueLoad, AllLoadsTrue}
+use Rattle.core_laws.proofs.EventCases.{Change, bad, begin, lock, raise, refuse, finish, end_plain, end_snapshot, release, take_batch, vote, decide_some, decide_none, seal_batch, spoil_batch, doubt_batch, learn, emit, halt_run, want, load, decode}
 use Rattle.core_laws.proofs.Orders.{free_prefix-length, in_part, judged-other}
-use Rattle.core_laws.proofs.Split.{begin_of, no_doubt}
-use Rattle.core_laws.proofs.Kept.{Kept, kept-step, inv-open, inv-judged, inv-decided}
+use Rattle.core_laws.proofs.CommitOrder.{begin_of, no_doubt}
+use Rattle.core_laws.proofs.KeptInvariant.{Kept, kept-step, inv-open, inv-judged, inv-decided}
 
 -- an open batch has 1 to 64 units; who stands after the closed batches isn't decided for good; who stands in the batch in
 -- doubt is to commit or aborted

@@ -16,13 +16,13 @@ use Rattle.core_model.specs.Changes.{begun, new_unit, kids_with, swept, swept_by
 use Rattle.core_model.specs.Events.{can_begin}
 use Rattle.core_model.specs.Events.{applies, can, does, step, run, is_allowed}
 use Rattle.core_model.specs.declared.events.CoreEvent.{CoreEvent}
-use Rattle.core_model.specs.Serial.{IsTrueLoad, AllLoadsTrue}
-use Rattle.core_laws.proofs.Decoded.{Change, bad, begin, lock, raise, refuse, finish, end_plain, end_snapshot, release, take_batch, vote, decide_some, decide_none, seal_batch, spoil_batch, doubt_batch, learn, emit, halt_run, want, load, decode}
+use Rattle.core_model.specs.SerialOrder.{IsTrueLoad, AllLoadsTrue}
+use Rattle.core_laws.proofs.EventCases.{Change, bad, begin, lock, raise, refuse, finish, end_plain, end_snapshot, release, take_batch, vote, decide_some, decide_none, seal_batch, spoil_batch, doubt_batch, learn, emit, halt_run, want, load, decode}
 use Rattle.core_laws.proofs.Basics.{is_running-true, same_outcome-true}
 use Rattle.core_laws.proofs.LoadlessEvents.{get_or-before, get_or-end, length-push}
-use Rattle.core_laws.proofs.Played.{parts-of}
+use Rattle.core_laws.proofs.UnitPlays.{parts-of}
 use Rattle.core_laws.proofs.Growth.{Grows, grows-change, grows-outcome}
-use Rattle.core_laws.proofs.Kept.{Kept, kept-step}
+use Rattle.core_laws.proofs.KeptInvariant.{Kept, kept-step}
 
 -- a child is known by its parent and index, and is younger
 abbrev pub Kin : CoreState → Type 0

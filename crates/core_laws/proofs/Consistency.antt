@@ -7,19 +7,19 @@ use Rattle.core_model.specs.declared.phases.Phase.TheVariants.{Finished}
 use Rattle.core_model.specs.declared.phases.Verdict.TheVariants.{Committed}
 use Rattle.core_model.specs.declared.effects.Effect.{Effect}
 use Rattle.core_model.specs.Tests.{is_good, state_written}
-use Rattle.core_model.specs.Dead.{Dead}
+use Rattle.core_model.specs.DeadUnits.{Dead}
 use Rattle.core_model.specs.Chains.{Chain, WroteGrain, IsBottom, IsLink}
 use Rattle.core_laws.proofs.Invariant.{Inv, same_place, wrote-finished}
-use Rattle.core_model.specs.Legal.{Run, IsLegal, begins, ends}
-use Rattle.core_model.specs.Serial.{IsLastVersion}
-use Rattle.core_model.specs.Consistent.{IsConsistent, bottom, size_of}
+use Rattle.core_model.specs.LegalRuns.{Run, IsLegal, begins, ends}
+use Rattle.core_model.specs.SerialOrder.{IsLastVersion}
+use Rattle.core_model.specs.Consistency.{IsConsistent, bottom, size_of}
 use Rattle.core_laws.proofs.Alive.{good-alive}
-use Rattle.core_laws.proofs.Kept.{Kept, open_size}
-use Rattle.core_laws.proofs.Released.{Gone, gone-run}
+use Rattle.core_laws.proofs.KeptInvariant.{Kept, open_size}
+use Rattle.core_laws.proofs.ReleasedGrains.{Gone, gone-run}
 use Rattle.core_laws.proofs.Dependencies.{Depends, depends-run}
 use Rattle.core_laws.proofs.Batches.{Batched, batched-run}
-use Rattle.core_laws.proofs.Split.{Split}
-use Rattle.core_laws.proofs.Played.{Valid}
+use Rattle.core_laws.proofs.CommitOrder.{Split}
+use Rattle.core_laws.proofs.UnitPlays.{Valid}
 use Rattle.core_laws.proofs.Ends.{kept-begins, kept-ends, valid-ends, split-ends}
 
 -- A released writer that isn't dead is in the stack, or stands before the bottom's unit.

@@ -11,9 +11,9 @@ use Rattle.cell_model.proofs.Sources.{with-only, with-ascending}
 use Rattle.core_model.specs.Changes.{restacked, cleaned, after_lock, deps_with, is_sure, read_of, swept, swept_by}
 use Rattle.core_model.specs.Events.{applies, can, does, step, run, is_allowed}
 use Rattle.core_model.specs.declared.events.CoreEvent.{CoreEvent}
-use Rattle.core_model.specs.Serial.{IsTrueLoad, AllLoadsTrue}
-use Rattle.core_laws.proofs.Decoded.{Change, bad, begin, lock, raise, refuse, finish, end_plain, end_snapshot, release, take_batch, vote, decide_some, decide_none, seal_batch, spoil_batch, doubt_batch, learn, emit, halt_run, want, load, decode}
-use Rattle.core_laws.proofs.Kept.{Kept, kept-step}
+use Rattle.core_model.specs.SerialOrder.{IsTrueLoad, AllLoadsTrue}
+use Rattle.core_laws.proofs.EventCases.{Change, bad, begin, lock, raise, refuse, finish, end_plain, end_snapshot, release, take_batch, vote, decide_some, decide_none, seal_batch, spoil_batch, doubt_batch, learn, emit, halt_run, want, load, decode}
+use Rattle.core_laws.proofs.KeptInvariant.{Kept, kept-step}
 
 abbrev pub Depends : CoreState → Type 0
 Depends w =

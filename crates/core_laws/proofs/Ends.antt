@@ -1,11 +1,11 @@
 -- What holds after a legal run.
 use Rattle.std.proofs.Common.{◌++◌, Bool, subst, arith}
 use Rattle.core_model.specs.declared.effects.Effect.{Effect}
-use Rattle.core_model.specs.Legal.{Run, IsLegal, begins, ends}
-use Rattle.core_model.specs.Serial.{IsSerialOrder, committed, chosen}
-use Rattle.core_laws.proofs.Kept.{Kept, kept-start, kept-run}
-use Rattle.core_laws.proofs.Played.{Valid, valid-run}
-use Rattle.core_laws.proofs.Split.{Split, split-run, split-order}
+use Rattle.core_model.specs.LegalRuns.{Run, IsLegal, begins, ends}
+use Rattle.core_model.specs.SerialOrder.{IsSerialOrder, committed, chosen}
+use Rattle.core_laws.proofs.KeptInvariant.{Kept, kept-start, kept-run}
+use Rattle.core_laws.proofs.UnitPlays.{Valid, valid-run}
+use Rattle.core_laws.proofs.CommitOrder.{Split, split-run, split-order}
 use Rattle.core_laws.proofs.SerialOrder.{serial-committed, serial-good}
 
 pub kept-begins : (plays : Effect → Bool) (r : Run) → IsLegal plays r → Kept r.opening (begins r)

@@ -9,7 +9,7 @@ use Rattle.core_model.specs.declared.phases.Verdict.{Verdict}
 use Rattle.core_model.specs.declared.phases.Verdict.TheVariants.{Open, Chosen, Condemned, Committed, Aborted}
 use Rattle.core_model.specs.declared.effects.Read.{Read}
 use Rattle.core_model.specs.Tests.{is_bad, is_final}
-use Rattle.core_model.specs.Dead.{Dead}
+use Rattle.core_model.specs.DeadUnits.{Dead}
 use Rattle.core_laws.proofs.Puts.{put-at, put-other}
 use Rattle.core_laws.proofs.Basics.{Dead-more}
 use Rattle.core_model.specs.CoreState.{Outcome, Call, Units}
@@ -22,10 +22,10 @@ use Rattle.base_types.specs.declared.calls.Origin.TheVariants.{Line, Child}
 use Rattle.core_model.specs.Events.{can_begin}
 use Rattle.core_model.specs.Events.{applies, can, does, step, run, is_allowed}
 use Rattle.core_model.specs.declared.events.CoreEvent.{CoreEvent}
-use Rattle.core_model.specs.Serial.{AllLoadsTrue}
-use Rattle.core_laws.proofs.Decoded.{Change, bad, begin, lock, raise, refuse, finish, end_plain, end_snapshot, release, take_batch, vote, decide_some, decide_none, seal_batch, spoil_batch, doubt_batch, learn, emit, halt_run, want, load, decode}
+use Rattle.core_model.specs.SerialOrder.{AllLoadsTrue}
+use Rattle.core_laws.proofs.EventCases.{Change, bad, begin, lock, raise, refuse, finish, end_plain, end_snapshot, release, take_batch, vote, decide_some, decide_none, seal_batch, spoil_batch, doubt_batch, learn, emit, halt_run, want, load, decode}
 use Rattle.core_laws.proofs.Orders.{judged-other}
-use Rattle.core_laws.proofs.Kept.{Kept, kept-step, inv-open, members-open}
+use Rattle.core_laws.proofs.KeptInvariant.{Kept, kept-step, inv-open, members-open}
 
 -- Bad verdicts stay bad, final ones stay, reads stay, and a unit that is over stays as it is.
 abbrev pub Grows : CoreState → CoreState → Type 0

@@ -9,7 +9,7 @@ use Rattle.core_model.specs.declared.phases.Verdict.{Verdict}
 use Rattle.core_model.specs.declared.phases.Verdict.TheVariants.{Open, Committed}
 use Rattle.core_model.specs.declared.effects.Read.{Read}
 use Rattle.core_model.specs.Tests.{is_good, state_written}
-use Rattle.core_model.specs.Dead.{Dead}
+use Rattle.core_model.specs.DeadUnits.{Dead}
 use Rattle.core_model.specs.Chains.{Chain, WroteGrain, IsBottom, IsLink}
 use Rattle.core_laws.proofs.Loadless.{LoadlessAt}
 

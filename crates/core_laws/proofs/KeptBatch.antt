@@ -9,11 +9,11 @@ use Rattle.core_model.specs.declared.phases.Verdict.{Verdict}
 use Rattle.core_model.specs.declared.phases.Verdict.TheVariants.{Open, Chosen, Condemned, Committed, Aborted}
 use Rattle.core_model.specs.declared.effects.Read.{Read}
 use Rattle.core_model.specs.Tests.{is_bad, is_good}
-use Rattle.core_model.specs.Dead.{Dead}
+use Rattle.core_model.specs.DeadUnits.{Dead}
 use Rattle.core_model.specs.Chains.{IsBottom, IsLink}
 use Rattle.core_laws.proofs.Puts.{put-at, put-from, put-is, put-other}
 use Rattle.core_laws.proofs.Basics.{Dead-more, good_from}
-use Rattle.core_laws.proofs.Chained.{Chain-more}
+use Rattle.core_laws.proofs.StackChains.{Chain-more}
 use Rattle.core_laws.proofs.Invariant.{Inv}
 use Rattle.std.proofs.Common.{map}
 use Rattle.cell_model.specs.declared.outcomes.Decision.TheVariants as decision

@@ -6,7 +6,7 @@ use Rattle.core_model.specs.declared.effects.Read.{Read}
 use Rattle.core_model.specs.Changes.{begun, new_unit}
 use Rattle.core_model.specs.Chains.{IsBottom, IsLink}
 use Rattle.core_laws.proofs.Puts.{put-at}
-use Rattle.core_laws.proofs.Chained.{Chain-more}
+use Rattle.core_laws.proofs.StackChains.{Chain-more}
 use Rattle.core_laws.proofs.Invariant.{Inv}
 use Rattle.core_laws.proofs.Invariant.{loadless-of}
 use Rattle.core_laws.proofs.LoadlessEvents.{loadless-begun}

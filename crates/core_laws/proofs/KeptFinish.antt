@@ -11,7 +11,7 @@ use Rattle.core_model.specs.Tests.{any, all, state_written}
 use Rattle.core_model.specs.Chains.{WroteGrain, IsVersion, IsBottom, IsLink}
 use Rattle.core_laws.proofs.Puts.{put-at, put-from, put-other}
 use Rattle.core_laws.proofs.Basics.{written-member}
-use Rattle.core_laws.proofs.Chained.{Chain-more, Chain-top}
+use Rattle.core_laws.proofs.StackChains.{Chain-more, Chain-top}
 use Rattle.core_laws.proofs.Invariant.{Inv}
 use Rattle.core_model.specs.Changes.{finished}
 use Rattle.core_model.specs.Events.{holds_alone}

@@ -6,15 +6,15 @@ use Rattle.core_model.specs.CoreState.{UnitNo, GrainId, nobody, put, put_grain, 
 use Rattle.core_model.specs.declared.phases.Phase.TheVariants.{Running, Finished}
 use Rattle.core_model.specs.declared.effects.Read.{Read}
 use Rattle.core_model.specs.Tests.{is_good, state_written}
-use Rattle.core_model.specs.Dead.{Dead}
+use Rattle.core_model.specs.DeadUnits.{Dead}
 use Rattle.core_model.specs.Chains.{WroteGrain, IsBottom, IsLink}
 use Rattle.core_laws.proofs.Puts.{put-at, put-from, grain-at, grain-from, grain-other}
 use Rattle.core_laws.proofs.Basics.{Dead-more}
-use Rattle.core_laws.proofs.Chained.{Chain-more, Chain-top}
+use Rattle.core_laws.proofs.StackChains.{Chain-more, Chain-top}
 use Rattle.core_laws.proofs.Invariant.{Inv}
 use Rattle.cell_model.specs.Locks.{granted}
 use Rattle.cell_model.specs.Cells.{with_reading}
-use Rattle.cell_model.proofs.Asking.{no_conflict, granted-stays}
+use Rattle.cell_model.proofs.LockAnswers.{no_conflict, granted-stays}
 use Rattle.core_model.specs.Changes.{after_lock, after_raise, read_of}
 use Rattle.core_laws.proofs.Readings.{with_reading-member, with_reading-same}
 use Rattle.core_laws.proofs.Invariant.{loadless-of}

@@ -5,14 +5,14 @@ use Rattle.core_model.specs.CoreState.{UnitNo, GrainId, put_grain, Member, Value
 use Rattle.core_model.specs.declared.phases.Phase.TheVariants.{Finished}
 use Rattle.core_model.specs.declared.phases.Verdict.TheVariants.{Committed}
 use Rattle.core_model.specs.Tests.{is_good, state_written}
-use Rattle.core_model.specs.Dead.{Dead}
+use Rattle.core_model.specs.DeadUnits.{Dead}
 use Rattle.core_model.specs.Chains.{Chain, WroteGrain, IsBottom, IsLink}
 use Rattle.core_laws.proofs.Puts.{grain-at}
 use Rattle.core_laws.proofs.Invariant.{Inv, same_place, wrote-finished}
 use Rattle.std.proofs.lemmas.Bool.{and_cases}
 use Rattle.core_model.specs.Tests.{is_empty, is_single, is_idle, is_recent}
 use Rattle.core_model.specs.Changes.{restacked, loaded, stays, swept_by, swept}
-use Rattle.core_model.specs.Serial.{IsLastVersion}
+use Rattle.core_model.specs.SerialOrder.{IsLastVersion}
 use Rattle.core_laws.proofs.KeptStack.{kept-restacked}
 use Rattle.core_laws.proofs.Alive.{good-alive}
 

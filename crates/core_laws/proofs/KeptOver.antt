@@ -5,11 +5,11 @@ use Rattle.core_model.specs.declared.phases.Phase.{Phase}
 use Rattle.core_model.specs.declared.phases.Phase.TheVariants.{Unborn, Running, Finished, Refused}
 use Rattle.core_model.specs.declared.phases.Verdict.TheVariants.{Open, Committed, Aborted}
 use Rattle.core_model.specs.Tests.{is_bad, is_good}
-use Rattle.core_model.specs.Dead.{Dead}
+use Rattle.core_model.specs.DeadUnits.{Dead}
 use Rattle.core_model.specs.Chains.{IsBottom, IsLink}
 use Rattle.core_laws.proofs.Puts.{put-at, put-from, put-same, put-other}
 use Rattle.core_laws.proofs.Basics.{Dead-more}
-use Rattle.core_laws.proofs.Chained.{Chain-more}
+use Rattle.core_laws.proofs.StackChains.{Chain-more}
 use Rattle.core_laws.proofs.Invariant.{Inv}
 use Rattle.core_model.specs.Changes.{after_refusal}
 use Rattle.core_laws.proofs.Invariant.{loadless-of}

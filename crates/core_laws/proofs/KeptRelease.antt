@@ -7,14 +7,14 @@ use Rattle.core_model.specs.CoreState.{UnitNo, GrainId, put_grain, Member, Value
 use Rattle.core_model.specs.declared.phases.Phase.TheVariants.{Running, Finished}
 use Rattle.core_model.specs.declared.effects.Read.{Read}
 use Rattle.core_model.specs.Tests.{state_written}
-use Rattle.core_model.specs.Dead.{Dead, by_source}
+use Rattle.core_model.specs.DeadUnits.{Dead, by_source}
 use Rattle.core_model.specs.Chains.{Chain, WroteGrain, IsBottom, IsLink}
 use Rattle.core_laws.proofs.Puts.{grain-at, grain-from, grain-other}
-use Rattle.core_laws.proofs.Chained.{Chain-push}
+use Rattle.core_laws.proofs.StackChains.{Chain-push}
 use Rattle.core_laws.proofs.Invariant.{Inv, wrote-finished}
 use Rattle.cell_model.specs.Stacks.{pushed}
 use Rattle.cell_model.specs.Cells.{stacked, reads_top, without_reading}
-use Rattle.cell_model.proofs.Asking.{dropped-member, dropped-stays}
+use Rattle.cell_model.proofs.LockAnswers.{dropped-member, dropped-stays}
 use Rattle.core_model.specs.Changes.{after_release}
 use Rattle.core_laws.proofs.Readings.{without_reading-member, reads_top-true, reads_top-has}
 use Rattle.core_laws.proofs.Invariant.{loadless-of}

@@ -5,11 +5,11 @@ use Rattle.core_model.specs.CoreState.{UnitNo, GrainId, nobody, Value, Version, 
 use Rattle.core_model.specs.declared.phases.Phase.TheVariants.{Finished}
 use Rattle.core_model.specs.declared.phases.Verdict.TheVariants.{Open, Committed, Aborted}
 use Rattle.core_model.specs.Tests.{is_bad, is_aborted, is_committed, is_final}
-use Rattle.core_model.specs.Dead.{Dead, itself, by_source}
+use Rattle.core_model.specs.DeadUnits.{Dead, itself, by_source}
 use Rattle.core_model.specs.Chains.{Chain, WroteGrain, IsBottom, IsLink}
 use Rattle.core_laws.proofs.Puts.{grain-at}
 use Rattle.core_laws.proofs.Basics.{is_aborted-true, is_final-cases}
-use Rattle.core_laws.proofs.Chained.{cut-top, cut-Chain, committed-Chain, cut-single, committed-single}
+use Rattle.core_laws.proofs.StackChains.{cut-top, cut-Chain, committed-Chain, cut-single, committed-single}
 use Rattle.core_laws.proofs.Invariant.{Inv, down-latest}
 use Rattle.core_model.specs.Changes.{restacked, cleaned}
 use Rattle.cell_model.specs.Stacks.{is_of, committed_stack}

@@ -4,7 +4,7 @@ use Rattle.std.proofs.lemmas.Bool.{and_parts, cases_lt}
 use Rattle.cell_model.specs.Locks.{is_update, is_hold_of, holds_lock, conflicts, dropped, granted}
 use Rattle.cell_model.specs.Cells.{with_reading, without_reading}
 use Rattle.cell_model.proofs.Units.{same_unit-true, same_unit-false, cases_unit, any-true, any-false, all-true, Member-append, Member-left, Member-last}
-use Rattle.cell_model.proofs.Asking.{no_conflict, granted-member, granted-new, granted-stays, dropped-member, dropped-stays}
+use Rattle.cell_model.proofs.LockAnswers.{no_conflict, granted-member, granted-new, granted-stays, dropped-member, dropped-stays}
 use Rattle.core_model.specs.CoreState.{UnitNo, GrainId, nobody, put, put_grain, Member, Value, Call, Origin, Write, top, Hold, Mode, Reading, Settled, CoreState}
 use Rattle.core_model.specs.declared.phases.Phase.{Phase}
 use Rattle.core_model.specs.declared.phases.Phase.TheVariants.{Unborn, Running, Finished, Refused}

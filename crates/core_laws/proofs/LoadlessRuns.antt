@@ -12,21 +12,21 @@ use Rattle.core_model.specs.declared.phases.Phase.TheVariants.{Running, Finished
 use Rattle.core_model.specs.declared.phases.Verdict.{Verdict}
 use Rattle.core_model.specs.declared.phases.Verdict.TheVariants.{Open, Chosen, Condemned, Committed, Aborted}
 use Rattle.core_model.specs.Tests.{is_bad, is_final, members, waiting, prepared}
-use Rattle.core_model.specs.Told.{IsSteady, OnlyTheBatchIsJudged}
+use Rattle.core_model.specs.ToldOutcomes.{IsSteady, OnlyTheBatchIsJudged}
 use Rattle.core_model.specs.Changes.{new_unit, restacked, cleaned, new_batch, result_told, verdict_of, judged, decisions_of, with_decisions, closed, seal, spoil, leave}
 use Rattle.core_model.specs.Events.{applies, batch_size}
 use Rattle.core_model.specs.declared.events.CoreEvent.{CoreEvent}
-use Rattle.core_model.specs.Legal.{Run, begins, ends}
+use Rattle.core_model.specs.LegalRuns.{Run, begins, ends}
 use Rattle.core_laws.proofs.Puts.{put-is, put-other, put-from}
 use Rattle.core_laws.proofs.Basics.{is_over-not}
 use Rattle.core_laws.proofs.Loadless.{LoadlessAt}
 use Rattle.core_laws.proofs.LoadlessEvents.{with_verdict, length-push, loadless-begun, loadless-over, loadless-refused, loadless-finished, loadless-locked, loadless-raised, loadless-released, loadless-judged, loadless-mapped}
 use Rattle.core_laws.proofs.Orders.{free_prefix-length, at_part, take_length, Member-at, Member-get, judged-other}
-use Rattle.core_laws.proofs.Decoded.{Change, bad, begin, lock, raise, refuse, finish, end_plain, end_snapshot, release, take_batch, vote, decide_some, decide_none, seal_batch, spoil_batch, doubt_batch, learn, emit, halt_run, want, load}
-use Rattle.core_laws.proofs.Kept.{decided_size, open_size}
+use Rattle.core_laws.proofs.EventCases.{Change, bad, begin, lock, raise, refuse, finish, end_plain, end_snapshot, release, take_batch, vote, decide_some, decide_none, seal_batch, spoil_batch, doubt_batch, learn, emit, halt_run, want, load}
+use Rattle.core_laws.proofs.KeptInvariant.{decided_size, open_size}
 use Rattle.core_laws.proofs.KeptBatch.{verdict_of-open}
-use Rattle.core_laws.proofs.Everywhere.{run-keeps}
-use Rattle.core_laws.proofs.Split.{seal-final, spoil-final}
+use Rattle.core_laws.proofs.AnyEvents.{run-keeps}
+use Rattle.core_laws.proofs.CommitOrder.{seal-final, spoil-final}
 use Rattle.core_laws.proofs.Verdicts.{Turned, member-or-not, turned-phase, turned-refused, turned-mapped}
 
 -- with as many units decided as stand in closed batches and in a decided open one

@@ -4,7 +4,7 @@ use Rattle.std.proofs.lemmas.Bool.{and_parts, ltb-true}
 use Rattle.base_types.specs.declared.calls.Origin.TheVariants.{Line}
 use Rattle.cell_model.specs.Locks.{dropped, granted, is_hold_of, is_update}
 use Rattle.cell_model.proofs.Units.{any-true, all-true}
-use Rattle.cell_model.proofs.Asking.{dropped-member}
+use Rattle.cell_model.proofs.LockAnswers.{dropped-member}
 use Rattle.core_model.specs.CoreState.{UnitNo, GrainId, put, put_grain, Member, Value, Mode, Write, Hold, CoreState}
 use Rattle.core_model.specs.declared.phases.Phase.{Phase}
 use Rattle.core_model.specs.declared.phases.Phase.TheVariants.{Unborn, Running, Finished, Refused, Ended}
@@ -14,11 +14,11 @@ use Rattle.core_model.specs.Changes.{new_unit}
 use Rattle.core_model.specs.Events.{applies, can, run, is_allowed, holds_alone}
 use Rattle.core_model.specs.declared.events.CoreEvent.{CoreEvent}
 use Rattle.core_model.specs.declared.events.CoreEvent.TheVariants.{Grant}
-use Rattle.core_model.specs.Legal.{Run, begins, ends}
+use Rattle.core_model.specs.LegalRuns.{Run, begins, ends}
 use Rattle.core_laws.proofs.Puts.{put-from, put-other, grain-from}
 use Rattle.core_laws.proofs.Basics.{written-member}
-use Rattle.core_laws.proofs.Decoded.{Change, bad, begin, lock, raise, refuse, finish, end_plain, end_snapshot, release, take_batch, vote, decide_some, decide_none, seal_batch, spoil_batch, doubt_batch, learn, emit, halt_run, want, load, ask-granted}
-use Rattle.core_laws.proofs.Everywhere.{run-keeps}
+use Rattle.core_laws.proofs.EventCases.{Change, bad, begin, lock, raise, refuse, finish, end_plain, end_snapshot, release, take_batch, vote, decide_some, decide_none, seal_batch, spoil_batch, doubt_batch, learn, emit, halt_run, want, load, ask-granted}
+use Rattle.core_laws.proofs.AnyEvents.{run-keeps}
 
 -- ---- units are numbered from the base on, and who hasn't begun has no line
 

@@ -14,16 +14,16 @@ use Rattle.core_model.specs.Events.{applies, batch_size, can, does, step, run, i
 use Rattle.core_model.specs.declared.events.CoreEvent.{CoreEvent}
 use Rattle.core_model.specs.declared.events.CoreEvent.TheVariants.{Take}
 use Rattle.core_model.specs.Steps.{AreAscending, IsPlan}
-use Rattle.core_model.specs.Legal.{Run, IsLegal, begins, ends}
-use Rattle.core_model.specs.Serial.{AllLoadsTrue}
+use Rattle.core_model.specs.LegalRuns.{Run, IsLegal, begins, ends}
+use Rattle.core_model.specs.SerialOrder.{AllLoadsTrue}
 use Rattle.core_laws.proofs.Puts.{put-other}
 use Rattle.core_laws.proofs.Failures.{before-true, before-false, named-written, written-named}
-use Rattle.core_laws.proofs.Decoded.{Change, bad, begin, lock, raise, refuse, finish, end_plain, end_snapshot, release, take_batch, vote, decide_some, decide_none, seal_batch, spoil_batch, doubt_batch, learn, emit, halt_run, want, load, decode}
+use Rattle.core_laws.proofs.EventCases.{Change, bad, begin, lock, raise, refuse, finish, end_plain, end_snapshot, release, take_batch, vote, decide_some, decide_none, seal_batch, spoil_batch, doubt_batch, learn, emit, halt_run, want, load, decode}
 use Rattle.core_laws.proofs.Reasons.{take-drop-push, member-finished}
 use Rattle.core_laws.proofs.Dependencies.{Depends, depends-step}
 use Rattle.core_laws.proofs.Consistency.{depends-earlier}
 use Rattle.core_laws.proofs.Ends.{kept-begins}
-use Rattle.core_laws.proofs.Kept.{Kept, kept-step, size-open}
+use Rattle.core_laws.proofs.KeptInvariant.{Kept, kept-step, size-open}
 
 -- ---- grains in order
 

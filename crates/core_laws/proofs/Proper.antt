@@ -11,19 +11,19 @@ use Rattle.core_model.specs.declared.effects.Effect.{Effect}
 use Rattle.core_model.specs.Tests.{is_empty, is_running, state_written}
 use Rattle.core_model.specs.Equality.{same_outcome}
 use Rattle.core_model.specs.Causes.{EndsWith, HasCause, HasLine, IsCaused, decided_state}
-use Rattle.core_model.specs.Proper.{NeverAborts, HasUnitOf, MaySettle, IsProperEntry}
+use Rattle.core_model.specs.ProperEntries.{NeverAborts, HasUnitOf, MaySettle, IsProperEntry}
 use Rattle.core_model.specs.Events.{applies, can, run, step, is_allowed}
 use Rattle.core_model.specs.declared.events.CoreEvent.{CoreEvent}
 use Rattle.core_model.specs.declared.events.CoreEvent.TheVariants.{Bad, Begin, Grant, Refuse, Finish, EndPlain, EndSnapshot, Release, Take, Vote, Decide, Sealed, NotSealed, Doubt, Learn, Emitted, Halt, Want, Load}
-use Rattle.core_model.specs.Serial.{Plays, AllPlay}
-use Rattle.core_model.specs.Legal.{Run, IsLegal, begins, ends}
+use Rattle.core_model.specs.SerialOrder.{Plays, AllPlay}
+use Rattle.core_model.specs.LegalRuns.{Run, IsLegal, begins, ends}
 use Rattle.core_laws.proofs.Invariant.{Inv}
 use Rattle.core_laws.proofs.Ends.{kept-ends, valid-ends}
 use Rattle.core_laws.proofs.Consistency.{depends-ends}
-use Rattle.core_laws.proofs.Further.{run-append, legal-front}
+use Rattle.core_laws.proofs.FurtherLaws.{run-append, legal-front}
 use Rattle.core_laws.proofs.Reasons.{member-finished}
-use Rattle.core_laws.proofs.Caused.{caused-ends}
-use Rattle.core_laws.proofs.Lined.{once-ends}
+use Rattle.core_laws.proofs.EntryCauses.{caused-ends}
+use Rattle.core_laws.proofs.LineEntries.{once-ends}
 use Rattle.core_laws.proofs.Numbers.{numbered-ends, lineless-ends, grown-run, in-kinds-ends}
 
 -- the run as far as its first events

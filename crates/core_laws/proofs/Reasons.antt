@@ -21,12 +21,12 @@ use Rattle.core_model.specs.Tests.{members, waiting, failed_in}
 use Rattle.core_model.specs.Changes.{finished, voted, verdict_of, judged, decisions_of, swept, swept_by}
 use Rattle.core_model.specs.Events.{applies, can, does, step, is_allowed}
 use Rattle.core_model.specs.declared.events.CoreEvent.{CoreEvent}
-use Rattle.core_laws.proofs.Decoded.{Change, bad, begin, lock, raise, refuse, finish, end_plain, end_snapshot, release, take_batch, vote, decide_some, decide_none, seal_batch, spoil_batch, doubt_batch, learn, emit, halt_run, want, load, decode}
+use Rattle.core_laws.proofs.EventCases.{Change, bad, begin, lock, raise, refuse, finish, end_plain, end_snapshot, release, take_batch, vote, decide_some, decide_none, seal_batch, spoil_batch, doubt_batch, learn, emit, halt_run, want, load, decode}
 use Rattle.core_laws.proofs.Orders.{judged-other, at_part, take_length, Member-at, in_part}
 use Rattle.core_laws.proofs.KeptBatch.{prepare, dead-agrees}
 use Rattle.core_laws.proofs.Dependencies.{Depends}
 use Rattle.core_laws.proofs.Consistency.{depends-earlier}
-use Rattle.core_laws.proofs.Kept.{Kept, inv-open, members-open, size-open}
+use Rattle.core_laws.proofs.KeptInvariant.{Kept, inv-open, members-open, size-open}
 
 -- what a decision says of the unit's files and dependencies
 abbrev pub Reason : List (GrainId × Bool) → List Write → List UnitNo → (UnitNo → Verdict) → Decision → Type 0

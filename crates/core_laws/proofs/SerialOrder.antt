@@ -12,10 +12,10 @@ use Rattle.core_laws.proofs.Basics.{is_committed-true}
 use Rattle.core_laws.proofs.Invariant.{Inv, same_place}
 use Rattle.std.proofs.Common.{map, filter, unwrap_or}
 use Rattle.core_model.specs.Answers.{effect_of}
-use Rattle.core_model.specs.Serial.{IsSerialOrder, after, committed}
+use Rattle.core_model.specs.SerialOrder.{IsSerialOrder, after, committed}
 use Rattle.core_laws.proofs.Alive.{good-alive}
-use Rattle.core_laws.proofs.Kept.{Kept}
-use Rattle.core_laws.proofs.Played.{Valid}
+use Rattle.core_laws.proofs.KeptInvariant.{Kept}
+use Rattle.core_laws.proofs.UnitPlays.{Valid}
 
 -- A test of verdicts that holds of a unit's sources where it holds of the unit, and of no unit that is bad.
 pub record Closed (w : CoreState) (t : Verdict → Bool) : Type 0 where

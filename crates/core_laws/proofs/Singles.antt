@@ -14,25 +14,25 @@ use Rattle.core_model.specs.declared.phases.Verdict.TheVariants.{Committed}
 use Rattle.core_model.specs.declared.effects.Effect.{Effect}
 use Rattle.core_model.specs.Tests.{any, is_final, is_good, is_aborted, is_committed, state_written}
 use Rattle.core_model.specs.Chains.{Chain, WroteGrain, IsBottom, IsLink}
-use Rattle.core_model.specs.Learning.{to_learn, next_learn}
-use Rattle.core_model.specs.Asked.{IsSettledGrain, SettledStacksAreSingle}
+use Rattle.core_model.specs.LearnQueue.{to_learn, next_learn}
+use Rattle.core_model.specs.LockAnswers.{IsSettledGrain, SettledStacksAreSingle}
 use Rattle.core_model.specs.Changes.{cleaned, swept, swept_by}
 use Rattle.core_model.specs.Events.{applies, can, does, step, run, is_allowed}
 use Rattle.core_model.specs.declared.events.CoreEvent.{CoreEvent}
-use Rattle.core_model.specs.Legal.{Run, IsLegal, begins, ends}
-use Rattle.core_model.specs.Serial.{AllLoadsTrue, IsLastVersion}
+use Rattle.core_model.specs.LegalRuns.{Run, IsLegal, begins, ends}
+use Rattle.core_model.specs.SerialOrder.{AllLoadsTrue, IsLastVersion}
 use Rattle.core_laws.proofs.Puts.{put-is, put-other, grain-at, grain-other}
 use Rattle.core_laws.proofs.Failures.{written-named}
 use Rattle.core_laws.proofs.Alive.{good-alive}
-use Rattle.core_laws.proofs.Decoded.{Change, bad, begin, lock, raise, refuse, finish, end_plain, end_snapshot, release, take_batch, vote, decide_some, decide_none, seal_batch, spoil_batch, doubt_batch, learn, emit, halt_run, want, load, decode}
+use Rattle.core_laws.proofs.EventCases.{Change, bad, begin, lock, raise, refuse, finish, end_plain, end_snapshot, release, take_batch, vote, decide_some, decide_none, seal_batch, spoil_batch, doubt_batch, learn, emit, halt_run, want, load, decode}
 use Rattle.core_laws.proofs.Invariant.{wrote-finished}
 use Rattle.core_laws.proofs.Orders.{Member-get, at_take}
-use Rattle.core_laws.proofs.Kept.{Kept, kept-step}
+use Rattle.core_laws.proofs.KeptInvariant.{Kept, kept-step}
 use Rattle.core_laws.proofs.Batches.{Batched, batched-step}
-use Rattle.core_laws.proofs.Batching.{Unheld, unheld-step}
-use Rattle.core_laws.proofs.Held.{Knows, knows-step}
+use Rattle.core_laws.proofs.BatchPrefix.{Unheld, unheld-step}
+use Rattle.core_laws.proofs.HeldLocks.{Knows, knows-step}
 use Rattle.core_laws.proofs.Plans.{member-flat}
-use Rattle.core_laws.proofs.Stepped.{find-none}
+use Rattle.core_laws.proofs.SettlerSteps.{find-none}
 use Rattle.core_laws.proofs.Ends.{kept-begins}
 
 -- no version but the bottom is the unit's

@@ -13,9 +13,9 @@ use Rattle.core_model.specs.Changes.{new_unit, lines_with}
 use Rattle.core_model.specs.Events.{can_begin}
 use Rattle.core_model.specs.declared.events.CoreEvent.{CoreEvent}
 use Rattle.core_laws.proofs.Puts.{put-is, put-other}
-use Rattle.core_laws.proofs.Decoded.{Change, bad, begin, lock, raise, refuse, finish, end_plain, end_snapshot, release, take_batch, vote, decide_some, decide_none, seal_batch, spoil_batch, doubt_batch, learn, emit, halt_run, want, load}
-use Rattle.core_laws.proofs.Keeping.{born-put}
-use Rattle.core_laws.proofs.Kept.{Kept}
+use Rattle.core_laws.proofs.EventCases.{Change, bad, begin, lock, raise, refuse, finish, end_plain, end_snapshot, release, take_batch, vote, decide_some, decide_none, seal_batch, spoil_batch, doubt_batch, learn, emit, halt_run, want, load}
+use Rattle.core_laws.proofs.KeptLocks.{born-put}
+use Rattle.core_laws.proofs.KeptInvariant.{Kept}
 
 -- what is taken stays so where units stay begun, and entries are added
 taken-on : (w : CoreState) (v : CoreState) (new : List Entry) → v.units.lines ≡ w.units.lines → v.manager.settled ≡ w.manager.settled ++ new → ((u : UnitNo) (n : ℕ) → HasBegunFor w u n → HasBegunFor v u n) → LinesAreTaken w → LinesAreTaken v

@@ -18,12 +18,12 @@ use Rattle.core_model.specs.Events.{can_begin}
 use Rattle.core_model.specs.Changes.{begun, after_refusal, new_unit, kids_with, decisions_of, with_decisions, closed, result_told, seal, spoil, leave, swept, swept_by}
 use Rattle.core_model.specs.Events.{applies, can, does, step, run, is_allowed}
 use Rattle.core_model.specs.declared.events.CoreEvent.{CoreEvent}
-use Rattle.core_model.specs.Serial.{IsTrueLoad, AllLoadsTrue}
-use Rattle.core_laws.proofs.Decoded.{Change, bad, begin, lock, raise, refuse, finish, end_plain, end_snapshot, release, take_batch, vote, decide_some, decide_none, seal_batch, spoil_batch, doubt_batch, learn, emit, halt_run, want, load, decode}
+use Rattle.core_model.specs.SerialOrder.{IsTrueLoad, AllLoadsTrue}
+use Rattle.core_laws.proofs.EventCases.{Change, bad, begin, lock, raise, refuse, finish, end_plain, end_snapshot, release, take_batch, vote, decide_some, decide_none, seal_batch, spoil_batch, doubt_batch, learn, emit, halt_run, want, load, decode}
 use Rattle.core_laws.proofs.Basics.{is_running-true}
 use Rattle.core_laws.proofs.Orders.{judged-other}
 use Rattle.core_laws.proofs.Children.{Kin, kin-step, answered-step}
-use Rattle.core_laws.proofs.Kept.{Kept, kept-step, inv-open, members-open}
+use Rattle.core_laws.proofs.KeptInvariant.{Kept, kept-step, inv-open, members-open}
 
 abbrev pub Turned : CoreState → Type 0
 Turned w =

@@ -7,9 +7,9 @@ use Rattle.core_model.specs.Changes.{swept, swept_by}
 use Rattle.core_model.specs.Events.{applies, can, does, step, is_allowed}
 use Rattle.core_model.specs.declared.events.CoreEvent.{CoreEvent}
 use Rattle.core_model.specs.declared.events.CoreEvent.TheVariants.{Bad, Begin, Grant, Refuse, Finish, EndPlain, EndSnapshot, Release, Take, Vote, Decide, Sealed, NotSealed, Doubt, Learn, Emitted, Halt, Want, Load}
-use Rattle.core_model.specs.Legal.{Run, begins}
-use Rattle.core_model.specs.Serial.{IsTrueLoad, AllLoadsTrue}
-use Rattle.core_laws.proofs.Decoded.{Change, bad, begin, lock, raise, refuse, finish, end_plain, end_snapshot, release, take_batch, vote, decide_some, decide_none, seal_batch, spoil_batch, doubt_batch, learn, emit, halt_run, want, load, decode}
+use Rattle.core_model.specs.LegalRuns.{Run, begins}
+use Rattle.core_model.specs.SerialOrder.{IsTrueLoad, AllLoadsTrue}
+use Rattle.core_laws.proofs.EventCases.{Change, bad, begin, lock, raise, refuse, finish, end_plain, end_snapshot, release, take_batch, vote, decide_some, decide_none, seal_batch, spoil_batch, doubt_batch, learn, emit, halt_run, want, load, decode}
 
 -- memory has no limit, and each grain is in it
 abbrev pub AllHere : CoreState → Type 0

@@ -11,7 +11,7 @@ use Rattle.cell_model.specs.Sources.{with_source}
 use Rattle.core_model.specs.CoreState.{UnitNo, GrainId, Outcome, Batch, CoreState}
 use Rattle.core_model.specs.Tests.{is_aborted, is_decided, outcome_of, ask_answer, members, first_grain}
 pub use Rattle.core_model.specs.Effects.{effect_of}
-pub use Rattle.core_model.specs.Learning.{next_learn}
+pub use Rattle.core_model.specs.LearnQueue.{next_learn}
 use Rattle.core_model.specs.Settler.{settler_step, work_in}
 use Rattle.core_model.specs.Events.{applies, Take}
 

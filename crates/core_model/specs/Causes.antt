@@ -5,11 +5,11 @@ use Rattle.base_types.specs.declared.entries.Settled.TheVariants as settled
 use Rattle.cell_model.specs.Laws.{IsOldestRival}
 use Rattle.core_model.specs.CoreState.{UnitNo, GrainId, nobody, Member, Mode, Outcome, Read, Version, Running, Entry, Settled, Batch, CoreState}
 use Rattle.core_model.specs.Tests.{is_gone, is_before, has_failed, members, outcome_of}
-use Rattle.core_model.specs.Dead.{IsDead}
+use Rattle.core_model.specs.DeadUnits.{IsDead}
 use Rattle.core_model.specs.Chains.{WroteGrain}
 use Rattle.core_model.specs.Changes.{with_decisions, decisions_of}
 use Rattle.core_model.specs.Events.{CoreEvent, Bad, Refuse, EndPlain, EndSnapshot, Decide, Sealed, NotSealed, Doubt, applies, step, run, Begin, Grant, Finish, Release, Take, Vote, Learn, Emitted, Halt, Want, Load}
-use Rattle.core_model.specs.Legal.{Run, begins}
+use Rattle.core_model.specs.LegalRuns.{Run, begins}
 
 -- The unit wrote the grain, whose file failed, and it is the first such grain.
 pub record IsVotedDown (w : CoreState) (b : Batch) (u : UnitNo) (g : GrainId) : Type 0 where

@@ -121,6 +121,7 @@ shown_steps w (e ∷ es) = work_in w (settler_step w) ∷ shown_steps (step w e)
 abbrev pub stack_in : List CoreEvent → ℕ → List Version
 stack_in es k = (run bank es).cells.stack (account k)
 
+-- the grains to be voted on by the open batch after these events, if there is one
 abbrev pub plan_in : List CoreEvent → Option (List GrainId)
 plan_in es = option_map (λ b. b.plan) (run bank es).manager.batch
 

@@ -4,7 +4,7 @@ use Rattle.base_types.specs.declared.calls.Origin.TheVariants.{Child}
 use Rattle.core_model.specs.CoreState.{UnitNo, GrainId, nobody, Member, Unborn, Finished, Ended, Committed, Hold, Batch, CoreState}
 use Rattle.core_model.specs.Tests.{waiting, members, outcome_of}
 use Rattle.core_model.specs.Events.{CoreEvent}
-use Rattle.core_model.specs.Legal.{Run}
+use Rattle.core_model.specs.LegalRuns.{Run}
 
 -- the unit holds no lock
 abbrev pub HoldsNothing : CoreState → UnitNo → Type 0

@@ -4,7 +4,7 @@ use Rattle.std.specs.List.{list_any as any}
 use Rattle.core_model.specs.CoreState.{UnitNo, GrainId, Value, Version, Effect, Entry, Batch, CoreState}
 use Rattle.core_model.specs.Tests.{is_good, state_written, members, has_bad_source, is_vote_on}
 use Rattle.core_model.specs.Effects.{effect_of}
-use Rattle.core_model.specs.Learning.{next_learn}
+use Rattle.core_model.specs.LearnQueue.{next_learn}
 use Rattle.core_model.specs.Events.{CoreEvent, Take, Vote, Decide, Sealed, NotSealed, Doubt, Learn, Emitted, applies}
 use Rattle.core_model.specs.declared.questions.SettlerWork.{SettlerWork}
 use Rattle.core_model.specs.declared.questions.SettlerWork.TheVariants as work

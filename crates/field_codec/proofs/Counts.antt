@@ -10,9 +10,9 @@ use Rattle.std.proofs.lemmas.List.{length-take, length-drop, get_or-drop, get_or
 use Rattle.field_codec.specs.declared.faults.CodecFault.{CodecFault}
 use Rattle.field_codec.specs.declared.faults.CodecFault.TheVariants.{Short, NotUtf8, Over}
 use Rattle.field_codec.specs.Spelling.{Stands, spelling_of_text, TextFits}
-use Rattle.field_codec.specs.Reading.{AreBytes, Reader, whole, refused, field, choice, number_at, count_at, letters, text_at, times, list_at}
+use Rattle.field_codec.specs.Readers.{AreBytes, Reader, whole, refused, field, choice, number_at, count_at, letters, text_at, times, list_at}
 use Rattle.field_codec.specs.Results.{place_of}
-use Rattle.field_codec.proofs.Standing.{stands_end, stands_within}
+use Rattle.field_codec.proofs.TextPlaces.{stands_end, stands_within}
 use Rattle.field_codec.proofs.Readers.{Reads, Any, then, done, choose, never, said, past, chosen, ok_is}
 use Rattle.field_codec.proofs.Chains.{times_reads}
 

@@ -1,10 +1,10 @@
-pub mod Appending
-pub mod Standing
+pub mod ByteGrowth
+pub mod TextPlaces
 pub mod Readers
 pub mod Chains
 pub mod Counts
 pub mod Things
-pub mod Looping
+pub mod ReaderLoops
 pub mod Wholes
 pub mod Lengths
-pub mod Apart
+pub mod TextsApart

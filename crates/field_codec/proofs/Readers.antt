@@ -3,10 +3,10 @@ use Rattle.std.proofs.Common.{◌≡◌, ℕ, ◌+◌, ◌≤◌, ◌⊎◌, inl
 use Rattle.std.proofs.lemmas.List.{take_at, drop_at}
 use Rattle.field_codec.specs.declared.faults.CodecFault.{CodecFault}
 use Rattle.field_codec.specs.Spelling.{Stands}
-use Rattle.field_codec.specs.Reading.{AreBytes, and_then, Reader, whole, refused, field, choice, when_known}
+use Rattle.field_codec.specs.Readers.{AreBytes, and_then, Reader, whole, refused, field, choice, when_known}
 use Rattle.field_codec.specs.Results.{place_of, GivesRead, FindsSpelling, Only}
-use Rattle.field_codec.specs.Apart.{AreApart}
-use Rattle.field_codec.proofs.Standing.{stands_both, stands_first, stands_second, stands_empty, stands_end}
+use Rattle.field_codec.specs.SpellingsApart.{AreApart}
+use Rattle.field_codec.proofs.TextPlaces.{stands_both, stands_first, stands_second, stands_empty, stands_end}
 
 -- Where P is known of the value, and a field stood at `low`: what is read stands there, what stands there is read, a fault is
 -- named within the bytes, and reading only goes on: nothing ends, and no fault is named, before it.

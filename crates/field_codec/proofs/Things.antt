@@ -17,7 +17,7 @@ use Rattle.field_codec.specs.declared.units.Numbers.{Numbers}
 use Rattle.field_codec.specs.declared.units.Numbers.TheVariants.{Free}
 use Rattle.field_codec.specs.Units.{may_be_unit, may_be_parent, HasParent}
 use Rattle.field_codec.specs.Spelling.{spelling_of_text, TextFits, spelling_of_value, ValueFits, spelling_of_values, ValuesFit, spelling_of_call, CallFits, spelling_of_version, VersionFits, spelling_of_origin, OriginFits, spelling_of_outcome, AnswerFits, ResultFits}
-use Rattle.field_codec.specs.Reading.{whole, refused, field, choice, number_at, count_at, text_at, times}
+use Rattle.field_codec.specs.Readers.{whole, refused, field, choice, number_at, count_at, text_at, times}
 use Rattle.field_codec.specs.Fields.{value_at, values_at, exactly_at, call_at, version_at, unit_at, parent_at, origin_at, ended, answer_at, result_at}
 use Rattle.field_codec.proofs.Readers.{Reads, Any, then, done, choose, never, put_in, said}
 use Rattle.field_codec.proofs.Counts.{wide16, wide64, byte_reads, reads16, reads32, reads64, tested_reads, count_reads, list_reads, text_reads}

@@ -11,8 +11,9 @@ use Rattle.base_types.specs.declared.stores.Version.{Version}
 use Rattle.field_codec.specs.declared.faults.CodecFault.TheVariants.{BadTag, Unknown}
 use Rattle.field_codec.specs.declared.units.Numbers.{Numbers}
 use Rattle.field_codec.specs.Units.{may_be_unit, may_be_parent}
-use Rattle.field_codec.specs.Reading.{Reader, whole, refused, field, choice, number_at, count_at, text_at, times, list_at}
+use Rattle.field_codec.specs.Readers.{Reader, whole, refused, field, choice, number_at, count_at, text_at, times, list_at}
 
+-- a value: its tag, and then a signed number of 64 bits or a text
 unfoldable pub value_at : Reader Value
 value_at = field (number_at w8) λ tag place.
     choice (tag == 0) (field (number_at w64) λ n here. whole (Int (cast_signed w64 n)))
@@ -27,9 +28,11 @@ values_at limit = list_at w16 limit value_at
 unfoldable pub exactly_at : ℕ → ℕ → Reader (List Value)
 exactly_at limit many = field (count_at w16 limit) λ n place. choice (n == many) (times value_at n) (refused (Unknown place))
 
+-- a version: its unit, and then at most 16 values of a state
 unfoldable pub version_at : Reader Version
 version_at = field (number_at w64) λ unit place. field (values_at 16) λ state here. whole (record { unit = record { 0 = unit }; state = state })
 
+-- a call: its grain's type and key, its method, and at most 8 arguments
 unfoldable pub call_at : Reader Call
 call_at = field (number_at w16) λ kind place. field (number_at w32) λ key here. field (number_at w16) λ method there. field (values_at 8) λ args end.
     whole (record { grain = record { kind = kind; key = key }; method = method; args = args })
@@ -38,9 +41,11 @@ call_at = field (number_at w16) λ kind place. field (number_at w32) λ key here
 unfoldable pub unit_at : Numbers → Reader ℕ
 unit_at numbers = field (number_at w64) λ n place. choice (may_be_unit numbers n) (whole n) (refused (Unknown place))
 
+-- the number of a parent, where these numbers may be a parent's
 unfoldable pub parent_at : Numbers → Reader ℕ
 parent_at numbers = field (number_at w64) λ n place. choice (may_be_parent numbers n) (whole n) (refused (Unknown place))
 
+-- an origin: its tag, and then a line, or a parent with the child's index and depth
 unfoldable pub origin_at : Numbers → Reader Origin
 origin_at numbers = field (number_at w8) λ tag place.
     choice (tag == 0) (field (number_at w32) λ line here. whole (Line line))
@@ -54,8 +59,10 @@ ended tag place =
     (choice (tag == 2) (field text_at λ text here. whole (outcome.TheVariants.Fault text))
     (refused (BadTag place tag)))
 
+-- a unit's result: its tag, and then a value or a fault's text
 unfoldable pub result_at : Reader outcome.Outcome
 result_at = field (number_at w8) λ tag place. ended tag place
 
+-- a child's outcome: an abort, or a result
 unfoldable pub answer_at : Reader outcome.Outcome
 answer_at = field (number_at w8) λ tag place. choice (tag == 0) (whole outcome.TheVariants.Aborted) (ended tag place)

@@ -1,8 +1,8 @@
-pub mod Reading
-pub mod Chained
+pub mod Readers
+pub mod Chains
 pub mod Spelling
 pub mod Units
 pub mod Examples
 pub mod Fields
 pub mod Results
-pub mod Apart
+pub mod SpellingsApart

@@ -20,6 +20,7 @@ pub record Stands (bytes : List ℕ) (at : ℕ) (text : List ℕ) (end : ℕ) : 
 abbrev pub spelling_of_text : List ℕ → List ℕ
 spelling_of_text text = to_le_bytes w16 (length text) ++ text
 
+-- a text of at most 256 bytes, in UTF-8
 abbrev pub TextFits : List ℕ → Type 0
 TextFits text = (length text ≤ 256) × IsUtf8 text
 
@@ -28,6 +29,7 @@ abbrev pub spelling_of_value : Value → List ℕ
 spelling_of_value (Int z) = 0 ∷ to_le_bytes w64 (cast_unsigned w64 z)
 spelling_of_value (Text text) = 1 ∷ spelling_of_text text
 
+-- a value whose number has 64 bits, or whose text has a spelling
 abbrev pub ValueFits : Value → Type 0
 ValueFits (Int z) = FitsSigned w64 z
 ValueFits (Text text) = TextFits text
@@ -36,6 +38,7 @@ ValueFits (Text text) = TextFits text
 abbrev pub spelling_of_values : List Value → List ℕ
 spelling_of_values values = to_le_bytes w16 (length values) ++ flat_map spelling_of_value values
 
+-- at most so many values, each with a spelling
 abbrev pub ValuesFit : ℕ → List Value → Type 0
 ValuesFit limit values = (length values ≤ limit) × AllByRecursion ValueFits values
 
@@ -43,6 +46,7 @@ ValuesFit limit values = (length values ≤ limit) × AllByRecursion ValueFits v
 abbrev pub spelling_of_version : Version → List ℕ
 spelling_of_version version = to_le_bytes w64 version.unit.0 ++ spelling_of_values version.state
 
+-- a version whose unit's number has 64 bits, and whose state has a spelling
 pub record VersionFits (version : Version) : Type 0 where
   pub unit : version.unit.0 < 2 ^ 64
   pub state : ValuesFit 16 version.state
@@ -51,6 +55,7 @@ pub record VersionFits (version : Version) : Type 0 where
 abbrev pub spelling_of_call : Call → List ℕ
 spelling_of_call call = to_le_bytes w16 call.grain.kind ++ (to_le_bytes w32 call.grain.key ++ (to_le_bytes w16 call.method ++ spelling_of_values call.args))
 
+-- each number of a call fits its field, and its arguments have a spelling
 pub record CallFits (call : Call) : Type 0 where
   pub kind : call.grain.kind < 2 ^ 16
   pub key : call.grain.key < 2 ^ 32
@@ -62,6 +67,7 @@ abbrev pub spelling_of_origin : Origin → List ℕ
 spelling_of_origin (Line line) = 0 ∷ to_le_bytes w32 line
 spelling_of_origin (Child parent index depth) = 1 ∷ (to_le_bytes w64 parent.0 ++ (to_le_bytes w32 index ++ to_le_bytes w16 depth))
 
+-- each number of an origin fits its field
 abbrev pub OriginFits : Origin → Type 0
 OriginFits (Line line) = line < 2 ^ 32
 OriginFits (Child parent index depth) = (parent.0 < 2 ^ 64) × (index < 2 ^ 32) × (depth < 2 ^ 16)
@@ -88,5 +94,6 @@ ResultFits (outcome.TheVariants.Fault text) = TextFits text
 abbrev pub spelling_of_program : List ℕ → List ℕ
 spelling_of_program text = to_le_bytes w32 (length text) ++ text
 
+-- a program's text of at most 262,144 bytes
 abbrev pub ProgramFits : List ℕ → Type 0
 ProgramFits text = length text ≤ 262144

@@ -5,7 +5,7 @@ ghost use Rattle.field_codec.specs.Spelling.{spelling_of_call, CallFits};
 
 use crate::faults::CodecFault;
 use crate::numbers::{get_u16, get_u32, put_u16, put_u32};
-use crate::spelled::{Spelled, put};
+use crate::spelling::{Spelled, put};
 use crate::values::{append_values, values_there};
 use base_types::{Call, GrainId};
 use std::alloc::{AllocError, Global};
@@ -37,7 +37,7 @@ pub fn put_call(into: &mut Vec<u8>, call: &Call) -> Result<(), AllocError>
     put(into, call)
 }
 
-#[tactic(auto, unfolding(crate::specs::Fields::call_at, crate::specs::Reading::field, crate::specs::Reading::whole))]
+#[tactic(auto, unfolding(crate::specs::Fields::call_at, crate::specs::Readers::field, crate::specs::Readers::whole))]
 fn call_there(alloc: Global, bytes: &[u8], at: usize) -> Result<(Call, usize), CodecFault>
     ensures { GivesRead result (call_at bytes.now at) }
 {

@@ -1,5 +1,5 @@
 ghost use Rattle.std.specs.Prelude.{◌≡◌, ℕ, List, ◌++◌};
-ghost use Rattle.field_codec.specs.Apart.{AreApart};
+ghost use Rattle.field_codec.specs.SpellingsApart.{AreApart};
 ghost use Rattle.field_codec.specs.Examples.{first_version, first_bytes};
 ghost use Rattle.field_codec.specs.Spelling.{spelling_of_value, ValueFits, spelling_of_values, ValuesFit, spelling_of_call, CallFits, spelling_of_version, VersionFits, spelling_of_origin, OriginFits, spelling_of_outcome, AnswerFits, spelling_of_text, TextFits, spelling_of_program, ProgramFits};
 

@@ -4,7 +4,7 @@ ghost use Rattle.field_codec.specs.Spelling.{spelling_of_outcome, AnswerFits, Re
 
 use crate::faults::CodecFault;
 use crate::numbers::get_u8;
-use crate::spelled::Spelled;
+use crate::spelling::Spelled;
 use crate::texts::{append_text, get_text};
 use crate::values::get_value;
 use base_types::Outcome;
@@ -40,7 +40,7 @@ impl Spelled for Outcome {
 }
 
 // What stands behind a tag that isn't 0. `place` is the tag's.
-#[tactic(auto, unfolding(crate::specs::Reading::field, crate::specs::Reading::choice, crate::specs::Reading::refused, crate::specs::Reading::whole))]
+#[tactic(auto, unfolding(crate::specs::Readers::field, crate::specs::Readers::choice, crate::specs::Readers::refused, crate::specs::Readers::whole))]
 fn get_ended(
     alloc: Global,
     bytes: &[u8],
@@ -61,7 +61,7 @@ fn get_ended(
     Err(CodecFault::BadTag { place, byte: tag })
 }
 
-#[tactic(auto, unfolding(crate::specs::Fields::answer_at, crate::specs::Reading::field, crate::specs::Reading::choice, crate::specs::Reading::whole))]
+#[tactic(auto, unfolding(crate::specs::Fields::answer_at, crate::specs::Readers::field, crate::specs::Readers::choice, crate::specs::Readers::whole))]
 fn answer_there(alloc: Global, bytes: &[u8], at: usize) -> Result<(Outcome, usize), CodecFault>
     ensures { GivesRead result (answer_at bytes.now at) }
 {
@@ -82,7 +82,7 @@ pub fn get_answer(alloc: Global, bytes: &[u8], at: usize) -> Result<(Outcome, us
     answer_there(alloc, bytes, at)
 }
 
-#[tactic(auto, unfolding(crate::specs::Fields::result_at, crate::specs::Reading::field))]
+#[tactic(auto, unfolding(crate::specs::Fields::result_at, crate::specs::Readers::field))]
 fn result_there(alloc: Global, bytes: &[u8], at: usize) -> Result<(Outcome, usize), CodecFault>
     ensures { GivesRead result (result_at bytes.now at) }
 {

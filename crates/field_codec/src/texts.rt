@@ -1,6 +1,6 @@
 ghost use Rattle.std.specs.Prelude.{◌≡◌, ◌++◌, length, take, IfSome, IfNone, OnOk, true, false};
 ghost use Rattle.std.specs.Str.{is_utf8};
-ghost use Rattle.field_codec.specs.Reading.{text_at};
+ghost use Rattle.field_codec.specs.Readers.{text_at};
 ghost use Rattle.field_codec.specs.Results.{GivesRead};
 ghost use Rattle.field_codec.specs.Spelling.{spelling_of_text, TextFits};
 
@@ -21,7 +21,7 @@ fn as_text(bytes: &[u8]) -> Option<&str>
 }
 
 /// The text that stands at a place, and the place behind it.
-#[tactic(auto, unfolding(crate::specs::Reading::text_at, crate::specs::Reading::field, crate::specs::Reading::letters))]
+#[tactic(auto, unfolding(crate::specs::Readers::text_at, crate::specs::Readers::field, crate::specs::Readers::letters))]
 pub fn get_text(alloc: Global, bytes: &[u8], at: usize) -> Result<(Text, usize), CodecFault>
     ensures { GivesRead result (text_at bytes.now at) }
 {

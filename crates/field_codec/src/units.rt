@@ -35,7 +35,7 @@ fn may_be_parent(numbers: Numbers, number: u64) -> bool
 }
 
 /// The number of a unit that stands at a place, and the place behind it. `Unknown` where it is none that is taken.
-#[tactic(auto, unfolding(crate::specs::Fields::unit_at, crate::specs::Reading::field, crate::specs::Reading::choice, crate::specs::Reading::refused, crate::specs::Reading::whole))]
+#[tactic(auto, unfolding(crate::specs::Fields::unit_at, crate::specs::Readers::field, crate::specs::Readers::choice, crate::specs::Readers::refused, crate::specs::Readers::whole))]
 pub fn get_unit(bytes: &[u8], at: usize, numbers: Numbers) -> Result<(u64, usize), CodecFault>
     ensures exact { GivesRead result (unit_at numbers bytes.now at) }
     ensures quiet { IsErrOf result Fault.Memory → ⊥ }
@@ -48,7 +48,7 @@ pub fn get_unit(bytes: &[u8], at: usize, numbers: Numbers) -> Result<(u64, usize
 }
 
 /// The number of a parent that stands at a place, and the place behind it. `Unknown` where it is none that is taken.
-#[tactic(auto, unfolding(crate::specs::Fields::parent_at, crate::specs::Reading::field, crate::specs::Reading::choice, crate::specs::Reading::refused, crate::specs::Reading::whole))]
+#[tactic(auto, unfolding(crate::specs::Fields::parent_at, crate::specs::Readers::field, crate::specs::Readers::choice, crate::specs::Readers::refused, crate::specs::Readers::whole))]
 pub fn get_parent(bytes: &[u8], at: usize, numbers: Numbers) -> Result<(u64, usize), CodecFault>
     ensures exact { GivesRead result (parent_at numbers bytes.now at) }
     ensures quiet { IsErrOf result Fault.Memory → ⊥ }

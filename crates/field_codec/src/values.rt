@@ -1,12 +1,12 @@
 ghost use Rattle.std.specs.Prelude.{◌≡◌, ◌≤◌, ◌++◌, length, take, is_ok, if◌then◌else◌, IfOk, OnOk};
-ghost use Rattle.field_codec.specs.Reading.{times};
+ghost use Rattle.field_codec.specs.Readers.{times};
 ghost use Rattle.field_codec.specs.Fields.{value_at, values_at, exactly_at};
 ghost use Rattle.field_codec.specs.Results.{GivesRead, FindsSpelling, Only};
 ghost use Rattle.field_codec.specs.Spelling.{spelling_of_value, spelling_of_values, ValueFits, ValuesFit};
 
 use crate::faults::CodecFault;
 use crate::numbers::{get_count, get_u8, get_u64, put_u16, put_u64};
-use crate::spelled::{Spelled, append_all, put};
+use crate::spelling::{Spelled, append_all, put};
 use crate::texts::{append_text, get_text};
 use base_types::{List, State, Value};
 use std::alloc::{AllocError, Global};
@@ -78,7 +78,7 @@ pub fn put_state(into: &mut Vec<u8>, state: &State) -> Result<(), AllocError>
     put(into, state)
 }
 
-#[tactic(auto, unfolding(crate::specs::Fields::value_at, crate::specs::Reading::field, crate::specs::Reading::choice, crate::specs::Reading::refused, crate::specs::Reading::whole))]
+#[tactic(auto, unfolding(crate::specs::Fields::value_at, crate::specs::Readers::field, crate::specs::Readers::choice, crate::specs::Readers::refused, crate::specs::Readers::whole))]
 fn value_there(alloc: Global, bytes: &[u8], at: usize) -> Result<(Value, usize), CodecFault>
     ensures { GivesRead result (value_at bytes.now at) }
 {
@@ -118,7 +118,7 @@ pub fn get_values(
 }
 
 /// A count of at most `limit`, and so many values.
-#[tactic(auto, unfolding(crate::specs::Reading::list_at, crate::specs::Reading::field))]
+#[tactic(auto, unfolding(crate::specs::Readers::list_at, crate::specs::Readers::field))]
 pub fn values_there(
     alloc: Global,
     bytes: &[u8],
@@ -135,7 +135,7 @@ pub fn values_there(
 
 /// A count of at most `limit`, and so many values, which are as many as are wanted. `Unknown` names the count where it is
 /// another number.
-#[tactic(auto, unfolding(crate::specs::Fields::exactly_at, crate::specs::Reading::field, crate::specs::Reading::choice, crate::specs::Reading::refused))]
+#[tactic(auto, unfolding(crate::specs::Fields::exactly_at, crate::specs::Readers::field, crate::specs::Readers::choice, crate::specs::Readers::refused))]
 pub fn get_exactly(
     alloc: Global,
     bytes: &[u8],

@@ -1,5 +1,5 @@
 use crate::numbers::put_u64;
-use crate::spelled::Spelled;
+use crate::spelling::Spelled;
 use crate::values::append_values;
 use base_types::Version;
 use std::alloc::AllocError;

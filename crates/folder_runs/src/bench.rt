@@ -1,4 +1,4 @@
-use crate::carrying::{Asked, carry};
+use crate::command_runs::{Asked, carry};
 use crate::ends::text_of;
 use crate::sweep::add_sweep;
 use std::alloc::{AllocError, Global};

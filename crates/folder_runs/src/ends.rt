@@ -1,5 +1,5 @@
 // What is untrue of a command's end, whatever stands in the folder then.
-use crate::carrying::{Asked, Ended, count_lines};
+use crate::command_runs::{Asked, Ended, count_lines};
 use crate::records::answers_all;
 use silo_top::Status;
 use std::alloc::{AllocError, Global};

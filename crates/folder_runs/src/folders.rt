@@ -1,5 +1,5 @@
 // What is untrue of a folder that is opened again.
-use crate::carrying::{Asked, Ended, carry, count_lines};
+use crate::command_runs::{Asked, Ended, carry, count_lines};
 use crate::money::{balances_behind, balances_in};
 use crate::records::{Said, has_value, untruth_of_records};
 use silo_top::Status;

@@ -24,7 +24,7 @@
 #![tactic(auto)]
 
 mod bench;
-mod carrying;
+mod command_runs;
 mod ends;
 mod folders;
 mod money;

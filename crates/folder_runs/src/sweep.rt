@@ -1,5 +1,5 @@
 // A command over copies of a folder, in each of which another call of the system fails.
-use crate::carrying::{Asked, Ended, carry, carry_with, count_lines};
+use crate::command_runs::{Asked, Ended, carry, carry_with, count_lines};
 use crate::ends::{Kind, are_same, is_same, kind_of, text_of, untruth_of_end};
 use crate::folders::{untruth_of_making, untruth_of_silo};
 use crate::records::Said;

@@ -1,10 +1,10 @@
 ghost use Rattle.std.specs.Prelude.{ℕ, ◌≤◌, IsTrue};
 ghost use Rattle.host_trait.specs.Files.{HasSlot};
 
+use crate::host_answers::add_told;
 use crate::steps::{Step, add_answer, bytes_of, file_of};
 use crate::streams::{add_machine_streams, add_standard, add_streams};
 use crate::sweep::add_sweep;
-use crate::told::add_told;
 use host_files::FolderHost;
 use host_trait::{Channel, FileId};
 use std::alloc::{AllocError, Global};

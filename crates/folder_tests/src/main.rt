@@ -22,10 +22,10 @@
 #![tactic(auto)]
 
 mod bench;
+mod host_answers;
 mod steps;
 mod streams;
 mod sweep;
-mod told;
 
 use crate::bench::Bench;
 use std::io;

@@ -31,6 +31,7 @@ then_gate gate behind shut = gate
 then_gate gate behind bad = gate
 then_gate gate behind (whole body) = behind (length body)
 
+-- the gate at which the log ends, from this gate on, behind at most so many blocks
 abbrev pub gate_from : ℕ → ℕ → List ℕ → ℕ
 gate_from zero gate file = gate
 gate_from (suc most) gate file = then_gate gate (λ size. gate_from most (gate + 5 + size) file) (found_at gate file)

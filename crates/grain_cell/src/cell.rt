@@ -5,7 +5,7 @@ ghost use Rattle.base_types.specs.declared.calls.Mode.TheVariants.{Update};
 ghost use Rattle.cell_model.specs.Stacks.{top};
 ghost use Rattle.cell_model.specs.Locks.{ask, covers, holds_lock};
 ghost use Rattle.cell_model.specs.Cells.{opened, cell_granted, cell_released, cell_learned, learnt, stacked, is_reading_of, with_reading, without_reading};
-ghost use Rattle.rw_locks.specs.Locked.{holds_alone};
+ghost use Rattle.rw_locks.specs.LockView.{holds_alone};
 ghost use Rattle.grain_cell.specs.Room.{needs, was_read, without_aborted};
 
 use base_types::{Mode, State, UnitNo, Version};

@@ -1,3 +1,3 @@
-pub mod Placing
+pub mod VersionPlaces
 pub mod Versions
-pub mod Owned
+pub mod VersionUnits

@@ -8,7 +8,7 @@ use Rattle.base_types.specs.declared.stores.Version.{Version}
 use Rattle.field_codec.specs.declared.faults.CodecFault.{CodecFault}
 use Rattle.field_codec.specs.declared.faults.CodecFault.TheVariants as codec
 use Rattle.field_codec.specs.Spelling.{spelling_of_values, spelling_of_version, VersionFits}
-use Rattle.field_codec.specs.Reading.{AreBytes, number_at}
+use Rattle.field_codec.specs.Readers.{AreBytes, number_at}
 use Rattle.field_codec.specs.Fields.{exactly_at}
 use Rattle.field_codec.specs.Results.{GivesRead, Faults, named_place, place_of}
 use Rattle.field_codec.proofs.Readers.{Reads, Any, then, done, said, past}

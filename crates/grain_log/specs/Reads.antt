@@ -9,7 +9,7 @@ use Rattle.base_types.specs.declared.stores.Version.{Version}
 use Rattle.host_trait.specs.declared.channels.FileId.{FileId}
 use Rattle.host_trait.specs.declared.channels.FileId.TheVariants.{Program, Manager, Grain}
 use Rattle.field_codec.specs.declared.faults.CodecFault.{CodecFault}
-use Rattle.field_codec.specs.Reading.{Reader, whole_text, whole, field, number_at}
+use Rattle.field_codec.specs.Readers.{Reader, whole_text, whole, field, number_at}
 use Rattle.field_codec.specs.Fields.{exactly_at}
 use Rattle.field_codec.specs.Results.{place_of}
 use Rattle.grain_log.specs.declared.faults.VersionFault.{VersionFault}

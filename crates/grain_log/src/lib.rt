@@ -5,9 +5,9 @@
 #![tactic(auto)]
 
 mod faults;
-mod reading;
-mod writing;
+mod reads;
+mod writes;
 
 pub use faults::{LogFault, VersionFault};
-pub use reading::{named_in, read_named, read_version};
-pub use writing::write_versions;
+pub use reads::{named_in, read_named, read_version};
+pub use writes::write_versions;

@@ -12,12 +12,12 @@ use Rattle.core_model.specs.declared.effects.Effect.{Effect}
 use Rattle.core_model.specs.declared.phases.Verdict.{Verdict}
 use Rattle.core_model.specs.declared.events.CoreEvent.TheVariants.{Decide}
 use Rattle.core_model.specs.declared.events.CoreReply.TheVariants as reply
-use Rattle.core_model.specs.Told.{IsSteady}
+use Rattle.core_model.specs.ToldOutcomes.{IsSteady}
 use Rattle.core_model.specs.Tests.{is_bad, is_final, is_committed, is_over, is_voted, is_empty, members, waiting, prepared}
 use Rattle.core_model.specs.Answers.{effect_of}
 use Rattle.core_model.specs.Changes.{closed, sealed, seal, verdict_of, judged, decisions_of, with_decisions, decided, decided_by, on_batch}
 use Rattle.core_model.specs.Events.{applies, does, is_open, decided_reply}
-use Rattle.core_laws.proofs.Decoded.{Change, decide_some, decide_none, decode, none-true}
+use Rattle.core_laws.proofs.EventCases.{Change, decide_some, decide_none, decode, none-true}
 use Rattle.core_laws.proofs.Orders.{Member-take, judged-other}
 use Rattle.core_laws.proofs.Verdicts.{member-or-not}
 use Rattle.core_lists.specs.Room.{EntriesInRoom, PairsInRoom}
@@ -27,28 +27,28 @@ use Rattle.unit_table.specs.Table.{units_of, verdict_in, result_in, phase_in}
 use Rattle.unit_table.specs.declared.table.UnitTable.{UnitTable}
 use Rattle.open_batch.specs.declared.members.FinishedUnit.{FinishedUnit}
 use Rattle.open_batch.specs.Members.{effect_in, sources_in, decisions_by}
-use Rattle.open_batch.specs.Taken as taken
-use Rattle.open_batch.specs.Taken.{TakenBatch, IsOf, commits_in}
-use Rattle.open_batch.specs.Shown.{ShowsBatch, AreUnits}
-use Rattle.open_batch.proofs.Linked.{units-taken, decisions-link}
+use Rattle.open_batch.specs.TakenBatch as taken
+use Rattle.open_batch.specs.TakenBatch.{TakenBatch, IsOf, commits_in}
+use Rattle.open_batch.specs.ShownBatch.{ShowsBatch, AreUnits}
+use Rattle.open_batch.proofs.ModelBatch.{units-taken, decisions-link}
 use Rattle.open_batch.proofs.Stages.{shows-decided, voted-link, commits-some}
 use Rattle.history_core.specs.declared.parts.Parts.{Parts}
 use Rattle.history_core.specs.Batches.{may_decide_in}
-use Rattle.history_core.specs.declared.closing.Closing.TheVariants as how
-use Rattle.history_core.specs.Closes.{Closes, IsReadyToClose, decisions_in}
-use Rattle.history_core.specs.Deciding.{judged_after, decisions_now, IsUndecided}
-use Rattle.history_core.specs.Closing.{unlearnt, last_state}
+use Rattle.history_core.specs.declared.batch_closing.Closing.TheVariants as how
+use Rattle.history_core.specs.BatchClosing.{Closes, IsReadyToClose, decisions_in}
+use Rattle.history_core.specs.Decisions.{judged_after, decisions_now, IsUndecided}
+use Rattle.history_core.specs.ClosedUnits.{unlearnt, last_state}
 use Rattle.history_core.specs.Fronts.{AreOver}
-use Rattle.history_core.specs.Kept.{PartsStand, IsCoreReached, HasRoom, ShowsOpen, ShowsTakenBatch, AllPlaced, EachPlaced, cells_of, owed_in, writes_in}
+use Rattle.history_core.specs.KeptParts.{PartsStand, IsCoreReached, HasRoom, ShowsOpen, ShowsTakenBatch, AllPlaced, EachPlaced, cells_of, owed_in, writes_in}
 use Rattle.history_core.specs.Steps.{CanDo, Does}
-use Rattle.history_core.proofs.Shows.{to-cases, from-cases, each-placed, placed-each}
-use Rattle.history_core.proofs.Stepping.{can-is, allowed-is, allowed-going}
-use Rattle.history_core.proofs.Closed.{CanClose, stands-closed}
+use Rattle.history_core.proofs.OpenBatches.{to-cases, from-cases, each-placed, placed-each}
+use Rattle.history_core.proofs.OneEvent.{can-is, allowed-is, allowed-going}
+use Rattle.history_core.proofs.BatchClosing.{CanClose, stands-closed}
 use Rattle.history_core.proofs.Lists.{filter-agree, last-agree}
 use Rattle.history_core.proofs.Finishes.{owed-within}
 use Rattle.history_core.proofs.Takes.{are-units}
-use Rattle.history_core.proofs.Sealing.{is-ready, are-over, size-within, members-length, members-fresh}
-use Rattle.history_core.proofs.Reached.{rests, waits, closes, closes-final}
+use Rattle.history_core.proofs.Seals.{is-ready, are-over, size-within, members-length, members-fresh}
+use Rattle.history_core.proofs.CoreStates.{rests, waits, closes, closes-final}
 
 -- whether it can be decided
 pub may-decide-is : (o : Option TakenBatch) (ms : List FinishedUnit) (b : Option Batch) (n : ℕ) → ShowsOpen o ms b → may_decide_in o n ≡ is_open n is_voted b

@@ -16,7 +16,7 @@ use Rattle.core_model.specs.Answers.{effect_of}
 use Rattle.core_model.specs.Changes.{after_refusal, refused_by, refusal, after_end, entry_for}
 use Rattle.core_model.specs.Events.{applies, does}
 use Rattle.core_laws.proofs.Basics.{is_running-true}
-use Rattle.core_laws.proofs.Decoded.{Change, refuse, end_plain, end_snapshot, decode}
+use Rattle.core_laws.proofs.EventCases.{Change, refuse, end_plain, end_snapshot, decode}
 use Rattle.core_laws.proofs.Puts.{put-from, put-other}
 use Rattle.core_lists.specs.Room.{EntriesInRoom}
 use Rattle.core_lists.specs.States.{handed_in}
@@ -24,14 +24,14 @@ use Rattle.unit_table.specs.Parts.{units_over}
 use Rattle.unit_table.specs.Table.{units_of, verdict_in, result_in, phase_in, origin_in}
 use Rattle.unit_table.specs.declared.table.UnitTable.{UnitTable}
 use Rattle.history_core.specs.declared.parts.Parts.{Parts}
-use Rattle.history_core.specs.Asked.{ask_in}
-use Rattle.history_core.proofs.Locking.{ask-is}
-use Rattle.history_core.specs.Closing.{unlearnt, last_state}
-use Rattle.history_core.specs.Kept.{PartsStand, IsCoreReached, owed_in}
+use Rattle.history_core.specs.LockAnswers.{ask_in}
+use Rattle.history_core.proofs.Grants.{ask-is}
+use Rattle.history_core.specs.ClosedUnits.{unlearnt, last_state}
+use Rattle.history_core.specs.KeptParts.{PartsStand, IsCoreReached, owed_in}
 use Rattle.history_core.specs.Steps.{CanDo, Does}
-use Rattle.history_core.proofs.Stepping.{can-is}
+use Rattle.history_core.proofs.OneEvent.{can-is}
 use Rattle.history_core.proofs.Lists.{map-agree, filter-agree, last-agree}
-use Rattle.history_core.proofs.Reached.{waits-not, closes-not}
+use Rattle.history_core.proofs.CoreStates.{waits-not, closes-not}
 
 unlearnt-refused : (w : CoreState) (u : UnitNo) (why : Settled) → IsCoreReached w → w.units.phase u ≡ Running → unlearnt w ≡ unlearnt (after_refusal w u why)
 unlearnt-refused w u why r p =

@@ -13,12 +13,12 @@ use Rattle.core_model.specs.declared.phases.Phase.TheVariants.{Running, Finished
 use Rattle.core_model.specs.declared.events.CoreEvent.TheVariants.{Finish}
 use Rattle.core_model.specs.declared.events.CoreReply.TheVariants as reply
 use Rattle.core_model.specs.Tests.{is_final, is_committed, is_running, waiting, state_written}
-use Rattle.core_model.specs.Learning.{to_learn}
+use Rattle.core_model.specs.LearnQueue.{to_learn}
 use Rattle.core_model.specs.Answers.{effect_of}
 use Rattle.core_model.specs.Changes.{finished}
 use Rattle.core_laws.proofs.Puts.{put-at, put-is, put-from, put-same, put-other}
-use Rattle.core_laws.proofs.Decoded.{Change, finish, decode}
-use Rattle.core_laws.proofs.Played.{parts-of}
+use Rattle.core_laws.proofs.EventCases.{Change, finish, decode}
+use Rattle.core_laws.proofs.UnitPlays.{parts-of}
 use Rattle.core_model.specs.Events.{applies, does}
 use Rattle.core_laws.proofs.Basics.{is_running-true}
 use Rattle.core_lists.specs.States.{handed_in, has_place}
@@ -28,17 +28,17 @@ use Rattle.unit_table.specs.Table.{units_of, verdict_in, result_in, deps_in, pha
 use Rattle.unit_table.specs.declared.table.UnitTable.{UnitTable}
 use Rattle.open_batch.specs.declared.members.FinishedUnit.{FinishedUnit}
 use Rattle.open_batch.specs.Members.{effect_in, sources_in}
-use Rattle.open_batch.specs.Taken.{TakenBatch}
-use Rattle.open_batch.specs.Shown.{ShowsBatch}
+use Rattle.open_batch.specs.TakenBatch.{TakenBatch}
+use Rattle.open_batch.specs.ShownBatch.{ShowsBatch}
 use Rattle.history_core.specs.declared.parts.Parts.{Parts}
-use Rattle.history_core.specs.Closing.{unlearnt, last_state, last_among}
-use Rattle.history_core.specs.Handing.{put_handed, cleared, with_writes}
-use Rattle.history_core.specs.Kept.{PartsStand, IsCoreReached, ShowsOpen, ShowsTakenBatch, HasRoom, AllPlaced, EachPlaced, owed_in, members_in, writes_in}
+use Rattle.history_core.specs.ClosedUnits.{unlearnt, last_state, last_among}
+use Rattle.history_core.specs.HandedWrites.{put_handed, cleared, with_writes}
+use Rattle.history_core.specs.KeptParts.{PartsStand, IsCoreReached, ShowsOpen, ShowsTakenBatch, HasRoom, AllPlaced, EachPlaced, owed_in, members_in, writes_in}
 use Rattle.history_core.specs.Steps.{CanDo, KeepsMeaning, Does}
-use Rattle.history_core.proofs.Stepping.{can-is}
-use Rattle.history_core.proofs.Shows.{to-cases, from-cases, each-placed, placed-each}
+use Rattle.history_core.proofs.OneEvent.{can-is}
+use Rattle.history_core.proofs.OpenBatches.{to-cases, from-cases, each-placed, placed-each}
 use Rattle.history_core.proofs.Lists.{map-agree, flat-agree, filter-in, map-last, drop-last, take-last, last-agree}
-use Rattle.history_core.proofs.Reached.{rests, waits, waits-not, closes-not, closed-within}
+use Rattle.history_core.proofs.CoreStates.{rests, waits, waits-not, closes-not, closed-within}
 
 -- ---- what is kept of the writes
 

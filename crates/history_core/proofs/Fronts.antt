@@ -11,9 +11,9 @@ use Rattle.core_model.specs.Tests.{is_final, is_committed, is_over, state_writte
 use Rattle.core_model.specs.Answers.{effect_of}
 use Rattle.core_model.specs.Changes.{entries_in, entry_for, told, seal, spoil, leave}
 use Rattle.core_laws.proofs.Puts.{put-at, put-is, put-other}
-use Rattle.history_core.specs.declared.closing.Closing.{Closing}
-use Rattle.history_core.specs.declared.closing.Closing.TheVariants as how
-use Rattle.history_core.specs.Closing.{state_after, last_among, grains_with, mapped}
+use Rattle.history_core.specs.declared.batch_closing.Closing.{Closing}
+use Rattle.history_core.specs.declared.batch_closing.Closing.TheVariants as how
+use Rattle.history_core.specs.ClosedUnits.{state_after, last_among, grains_with, mapped}
 use Rattle.history_core.specs.Fronts.{ends_as, told_as, pairs_of, verdicts_after, entries_after, pairs_after, last_after}
 
 -- ---- what becomes of verdicts

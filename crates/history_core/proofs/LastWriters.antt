@@ -4,12 +4,12 @@ use Rattle.core_model.specs.CoreState.{UnitNo, GrainId, nobody, Member, Value, W
 use Rattle.core_model.specs.declared.phases.Verdict.{Verdict}
 use Rattle.core_model.specs.declared.phases.Verdict.TheVariants.{Open, Chosen, Condemned, Committed, Aborted}
 use Rattle.core_model.specs.Tests.{is_committed, state_written}
-use Rattle.core_model.specs.Legal.{Run, ends}
+use Rattle.core_model.specs.LegalRuns.{Run, ends}
 use Rattle.core_laws.proofs.Orders.{Member-at, Member-get, take_length}
-use Rattle.history_core.specs.Closing.{state_after, last_among, last_state}
-use Rattle.history_core.specs.Kept.{IsCoreReached}
+use Rattle.history_core.specs.ClosedUnits.{state_after, last_among, last_state}
+use Rattle.history_core.specs.KeptParts.{IsCoreReached}
 use Rattle.history_core.specs.LastWriters.{IsLastOf}
-use Rattle.history_core.proofs.Reached.{rests, closed-within, committed-closed}
+use Rattle.history_core.proofs.CoreStates.{rests, closed-within, committed-closed}
 
 -- no committed unit of these wrote the grain
 abbrev NoneOf : (UnitNo → Verdict) → (UnitNo → List Write) → GrainId → List UnitNo → Type 0

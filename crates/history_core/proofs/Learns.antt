@@ -13,7 +13,7 @@ use Rattle.core_model.specs.declared.phases.Phase.{Phase}
 use Rattle.core_model.specs.declared.phases.Phase.TheVariants.{Unborn, Running, Finished, Refused, Ended}
 use Rattle.core_model.specs.declared.phases.Verdict.{Verdict}
 use Rattle.core_model.specs.Tests.{is_final, is_committed, state_written}
-use Rattle.core_model.specs.Learning.{to_learn}
+use Rattle.core_model.specs.LearnQueue.{to_learn}
 use Rattle.core_model.specs.Events.{can_learn}
 use Rattle.core_model.specs.declared.events.CoreEvent.TheVariants.{Learn}
 use Rattle.core_model.specs.declared.events.CoreReply.TheVariants as reply
@@ -28,13 +28,13 @@ use Rattle.cell_table.specs.Table.{cell_in, opens_with, cell_at, cell_or, has_ce
 use Rattle.cell_table.specs.declared.table.CellTable.{CellTable}
 use Rattle.unit_table.specs.Table.{verdict_in}
 use Rattle.history_core.specs.declared.parts.Parts.{Parts}
-use Rattle.history_core.specs.Closing.{unlearnt}
-use Rattle.history_core.specs.Kept.{PartsStand, IsCoreReached, cells_of, writes_in, members_in}
+use Rattle.history_core.specs.ClosedUnits.{unlearnt}
+use Rattle.history_core.specs.KeptParts.{PartsStand, IsCoreReached, cells_of, writes_in, members_in}
 use Rattle.history_core.specs.Steps.{CanDo, Does}
-use Rattle.history_core.proofs.Stepping.{can-is}
+use Rattle.history_core.proofs.OneEvent.{can-is}
 use Rattle.history_core.proofs.Lists.{filter-agree}
-use Rattle.history_core.proofs.Reached.{rests, unwritten, late-not-final, steady, closed-within}
-use Rattle.history_core.proofs.Locking.{of-put}
+use Rattle.history_core.proofs.CoreStates.{rests, unwritten, late-not-final, steady, closed-within}
+use Rattle.history_core.proofs.Grants.{of-put}
 
 -- two tests that imply one another are one
 same-tests : (a b : Bool) → (a ≡ true → b ≡ true) → (b ≡ true → a ≡ true) → a ≡ b

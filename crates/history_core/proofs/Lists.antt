@@ -4,7 +4,7 @@ use Rattle.std.specs.Prelude.{if◌then◌else◌, flat_map}
 use Rattle.core_model.specs.CoreState.{UnitNo, GrainId, Member, Value, Write, put}
 use Rattle.core_model.specs.declared.phases.Verdict.{Verdict}
 use Rattle.core_model.specs.Tests.{is_committed, is_final, state_written}
-use Rattle.history_core.specs.Closing.{last_among, state_after}
+use Rattle.history_core.specs.ClosedUnits.{last_among, state_after}
 
 -- functions that agree on a list map it alike
 pub map-agree : {A B : Type 0} (f h : A → B) (us : List A) → ((x : A) → Member x us → f x ≡ h x) → map f us ≡ map h us

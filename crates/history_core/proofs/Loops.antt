@@ -13,9 +13,9 @@ use Rattle.core_lists.specs.declared.handed_states.HandedStates.{HandedStates}
 use Rattle.core_lists.specs.declared.last_states.LastStates.{LastStates}
 use Rattle.open_batch.specs.declared.members.FinishedUnit.{FinishedUnit}
 use Rattle.open_batch.specs.Members.{effect_in}
-use Rattle.history_core.specs.Closing.{ArePlaced, or_else}
-use Rattle.history_core.specs.Handing.{put_handed}
-use Rattle.history_core.specs.Kept.{AllPlaced}
+use Rattle.history_core.specs.ClosedUnits.{ArePlaced, or_else}
+use Rattle.history_core.specs.HandedWrites.{put_handed}
+use Rattle.history_core.specs.KeptParts.{AllPlaced}
 use Rattle.history_core.proofs.Finishes.{put-handed-is, put-handed-grain, put-handed-unit}
 
 -- the item at an index, and those behind it

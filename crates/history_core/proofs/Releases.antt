@@ -8,7 +8,7 @@ use Rattle.cell_model.specs.Locks.{holds_lock, is_hold_of, is_update, covers, dr
 use Rattle.cell_model.specs.Cells as cells
 use Rattle.cell_model.specs.Cells.{Cell, stacked, without_reading}
 use Rattle.cell_model.specs.declared.locks.Hold.{Hold}
-use Rattle.cell_model.proofs.Asking.{dropped-member, dropped-none}
+use Rattle.cell_model.proofs.LockAnswers.{dropped-member, dropped-none}
 use Rattle.cell_model.proofs.Units.{any-true, any-member, same_unit-true, same_unit-is, cases_unit, cases_grain}
 use Rattle.core_model.specs.CoreState.{UnitNo, GrainId, Value, Write, Cells, Units, CoreState, put_grain}
 use Rattle.core_model.specs.declared.phases.Phase.{Phase}
@@ -24,12 +24,12 @@ use Rattle.cell_table.specs.Table.{cell_in}
 use Rattle.cell_table.specs.declared.table.CellTable.{CellTable}
 use Rattle.unit_table.specs.Table.{phase_in}
 use Rattle.history_core.specs.declared.parts.Parts.{Parts}
-use Rattle.history_core.specs.Kept.{PartsStand, IsCoreReached, cells_of}
-use Rattle.history_core.specs.Releasing.{if_finished}
+use Rattle.history_core.specs.KeptParts.{PartsStand, IsCoreReached, cells_of}
+use Rattle.history_core.specs.Releases.{if_finished}
 use Rattle.history_core.specs.Steps.{CanDo, Does}
-use Rattle.history_core.proofs.Stepping.{can-is}
-use Rattle.history_core.proofs.Reached.{rests, unwritten}
-use Rattle.history_core.proofs.Locking.{put-cells}
+use Rattle.history_core.proofs.OneEvent.{can-is}
+use Rattle.history_core.proofs.CoreStates.{rests, unwritten}
+use Rattle.history_core.proofs.Grants.{put-cells}
 
 -- what is given is what the unit wrote
 given-is : (p : Parts) (w : CoreState) (u : UnitNo) (g : GrainId) → PartsStand p w → IsCoreReached w → holds_lock u (w.cells.holds g) ≡ true →

@@ -14,7 +14,7 @@ use Rattle.core_model.specs.Tests.{is_free, free_prefix, waiting, is_bad}
 use Rattle.core_model.specs.Answers.{effect_of}
 use Rattle.core_model.specs.Changes.{new_batch}
 use Rattle.core_model.specs.Events.{batch_size, applies, does, reply_with}
-use Rattle.core_laws.proofs.Decoded.{none-true}
+use Rattle.core_laws.proofs.EventCases.{none-true}
 use Rattle.core_lists.specs.Room.{EntriesInRoom, PairsInRoom}
 use Rattle.core_lists.specs.States.{last_in, has_place}
 use Rattle.core_lists.specs.declared.last_states.LastStates.{LastStates}
@@ -22,16 +22,16 @@ use Rattle.cell_table.specs.Table.{cell_in}
 use Rattle.unit_table.specs.Table.{verdict_in}
 use Rattle.open_batch.specs.declared.members.FinishedUnit.{FinishedUnit}
 use Rattle.open_batch.specs.Members.{effect_in, sources_in}
-use Rattle.open_batch.specs.Taken.{TakenBatch, first_batch}
-use Rattle.open_batch.specs.Shown.{AreUnits, ShowsBatch}
-use Rattle.open_batch.proofs.Linked.{units-taken}
+use Rattle.open_batch.specs.TakenBatch.{TakenBatch, first_batch}
+use Rattle.open_batch.specs.ShownBatch.{AreUnits, ShowsBatch}
+use Rattle.open_batch.proofs.ModelBatch.{units-taken}
 use Rattle.open_batch.proofs.Stages.{shows-taken}
 use Rattle.history_core.specs.declared.parts.Parts.{Parts}
-use Rattle.history_core.specs.Kept.{PartsStand, IsCoreReached, ShowsOpen, ShowsTakenBatch, HasRoom, AllPlaced, EachPlaced, owed_in, members_in, writes_in}
-use Rattle.history_core.specs.Taking.{is_free_by, front_by}
+use Rattle.history_core.specs.KeptParts.{PartsStand, IsCoreReached, ShowsOpen, ShowsTakenBatch, HasRoom, AllPlaced, EachPlaced, owed_in, members_in, writes_in}
+use Rattle.history_core.specs.UnitsWithoutLocks.{is_free_by, front_by}
 use Rattle.history_core.specs.Steps.{CanDo, KeepsMeaning, Does}
-use Rattle.history_core.proofs.Shows.{to-cases, from-cases, each-placed, placed-each}
-use Rattle.history_core.proofs.Stepping.{can-is}
+use Rattle.history_core.proofs.OpenBatches.{to-cases, from-cases, each-placed, placed-each}
+use Rattle.history_core.proofs.OneEvent.{can-is}
 
 pub are-units : (p : Parts) (w : CoreState) → PartsStand p w → AreUnits p.waiting.items w (waiting w)
 are-units p w s = record { effects = s.effects; sources = s.sources }

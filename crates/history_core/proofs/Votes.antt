@@ -12,15 +12,15 @@ use Rattle.core_model.specs.Changes.{on_batch, voted}
 use Rattle.core_model.specs.Events.{can, does, is_open}
 use Rattle.open_batch.specs.declared.members.FinishedUnit.{FinishedUnit}
 use Rattle.core_lists.specs.States.{has_place}
-use Rattle.open_batch.specs.Taken.{TakenBatch, with_vote}
-use Rattle.open_batch.specs.Shown.{ShowsBatch}
+use Rattle.open_batch.specs.TakenBatch.{TakenBatch, with_vote}
+use Rattle.open_batch.specs.ShownBatch.{ShowsBatch}
 use Rattle.open_batch.proofs.Stages.{shows-vote, may_vote-link}
 use Rattle.history_core.specs.declared.parts.Parts.{Parts}
 use Rattle.history_core.specs.Batches.{may_vote_in}
-use Rattle.history_core.specs.Kept.{PartsStand, IsCoreReached, ShowsOpen, ShowsTakenBatch, AllPlaced, EachPlaced, owed_in, writes_in}
+use Rattle.history_core.specs.KeptParts.{PartsStand, IsCoreReached, ShowsOpen, ShowsTakenBatch, AllPlaced, EachPlaced, owed_in, writes_in}
 use Rattle.history_core.specs.Steps.{CanDo, Does}
-use Rattle.history_core.proofs.Shows.{to-cases, from-cases, each-placed, placed-each}
-use Rattle.history_core.proofs.Stepping.{can-is}
+use Rattle.history_core.proofs.OpenBatches.{to-cases, from-cases, each-placed, placed-each}
+use Rattle.history_core.proofs.OneEvent.{can-is}
 
 pub may-vote-is : (o : Option TakenBatch) (ms : List FinishedUnit) (b : Option Batch) (n : ℕ) (g : GrainId) → ShowsOpen o ms b →
     may_vote_in o n g ≡ is_open n (λ c. is_planned c g && not (any (is_vote_on g) c.votes)) b

@@ -4,7 +4,7 @@ use Rattle.std.specs.List.{list_any as any}
 use Rattle.cell_model.specs.Units.{same_grain}
 use Rattle.core_model.specs.CoreState.{GrainId}
 use Rattle.core_model.specs.Tests.{is_empty}
-use Rattle.open_batch.specs.Taken.{TakenBatch}
+use Rattle.open_batch.specs.TakenBatch.{TakenBatch}
 
 -- a vote on that grain
 abbrev pub may_vote_in : Option TakenBatch → ℕ → GrainId → Bool

@@ -6,9 +6,9 @@ use Rattle.core_model.specs.CoreState.{UnitNo, Outcome, same_unit}
 use Rattle.core_model.specs.declared.effects.Effect.{Effect}
 use Rattle.core_model.specs.Equality.{same_origin, same_call, same_reads, same_outcome}
 use Rattle.core_model.specs.Tests.{is_answer, is_empty, is_running}
-use Rattle.rw_locks.specs.Locked.{holds_alone}
+use Rattle.rw_locks.specs.LockView.{holds_alone}
 use Rattle.cell_table.specs.Table.{cell_in}
-use Rattle.unit_table.specs.Known.{KnownUnit}
+use Rattle.unit_table.specs.KnownUnits.{KnownUnit}
 use Rattle.unit_table.specs.Table.{outcome_known}
 use Rattle.history_core.specs.declared.parts.Parts.{Parts}
 

@@ -6,9 +6,9 @@ use Rattle.core_model.specs.declared.effects.Effect.{Effect}
 use Rattle.core_model.specs.declared.phases.Verdict.{Verdict}
 use Rattle.core_model.specs.Tests.{is_final, is_committed, state_written}
 use Rattle.core_model.specs.Changes.{seal, spoil, leave, told, entry_for}
-use Rattle.history_core.specs.declared.closing.Closing.{Closing}
-use Rattle.history_core.specs.declared.closing.Closing.TheVariants as how
-use Rattle.history_core.specs.Closing.{state_after, grains_with, ArePlaced}
+use Rattle.history_core.specs.declared.batch_closing.Closing.{Closing}
+use Rattle.history_core.specs.declared.batch_closing.Closing.TheVariants as how
+use Rattle.history_core.specs.ClosedUnits.{state_after, grains_with, ArePlaced}
 
 -- what becomes of a verdict
 abbrev pub ends_as : Closing → Verdict → Verdict

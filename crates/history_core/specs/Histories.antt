@@ -1,7 +1,7 @@
 -- The run of a core, by what it keeps.
 use Rattle.std.specs.Prelude.{ℕ, List, None}
 use Rattle.core_model.specs.declared.events.CoreEvent.{CoreEvent}
-use Rattle.core_model.specs.Legal.{Run}
+use Rattle.core_model.specs.LegalRuns.{Run}
 use Rattle.cell_table.specs.Table.{opens_with}
 use Rattle.cell_table.specs.declared.table.CellTable.{CellTable}
 

@@ -7,7 +7,7 @@ use Rattle.core_model.specs.declared.questions.CoreQuestion.{CoreQuestion}
 use Rattle.core_model.specs.declared.questions.CoreAnswer.{CoreAnswer}
 use Rattle.core_model.specs.declared.questions.SettlerWork.{SettlerWork}
 use Rattle.history_core.specs.declared.parts.Parts.{Parts}
-use Rattle.history_core.specs.Kept.{PartsStand, IsCoreReached}
+use Rattle.history_core.specs.KeptParts.{PartsStand, IsCoreReached}
 
 -- whatever state is stood for, that is the answer there
 abbrev pub AnswersQuestion : Parts → CoreQuestion → CoreAnswer → Type 0

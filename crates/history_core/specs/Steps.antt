@@ -9,7 +9,7 @@ use Rattle.core_model.specs.Events.{applies, does, step, reply_to, reply_with, r
 use Rattle.core_model.specs.declared.events.CoreEvent.{CoreEvent}
 use Rattle.core_model.specs.declared.events.CoreReply.{CoreReply}
 use Rattle.history_core.specs.declared.parts.Parts.{Parts}
-use Rattle.history_core.specs.Kept.{PartsStand, IsCoreReached}
+use Rattle.history_core.specs.KeptParts.{PartsStand, IsCoreReached}
 
 -- no stop stands: no batch is in doubt, and the run isn't to stop
 abbrev pub is_going : CoreState → Bool

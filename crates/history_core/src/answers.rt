@@ -1,16 +1,16 @@
 // What a core answers.
 ghost use Rattle.std.specs.Prelude.{◌≡◌, ◌||◌, false, is_some, slice_get, IfOk, OnErr};
 ghost use Rattle.std.specs.Option.{option_copied};
-ghost use Rattle.core_access.specs.Spared.{is_plain};
+ghost use Rattle.core_access.specs.CallsWithoutMemory.{is_plain};
 ghost use Rattle.core_model.specs.Answers.{answer_to};
-ghost use Rattle.core_model.specs.Legal.{ends};
+ghost use Rattle.core_model.specs.LegalRuns.{ends};
 ghost use Rattle.core_model.specs.Settler.{has_step, settler_step};
 ghost use Rattle.core_model.specs.Tests.{ask_answer, is_decided};
 ghost use Rattle.core_model.specs.Events.{applies};
 ghost use Rattle.core_model.specs.declared.events.CoreEvent.TheVariants.{Take};
 ghost use Rattle.history_core.specs.Cores.{run_of};
 
-use crate::whole::Core;
+use crate::whole_core::Core;
 use base_types::{Entry, GrainId, Mode, UnitNo};
 use core_model::{AskAnswer, CoreAnswer, CoreQuestion};
 use std::alloc::AllocError;

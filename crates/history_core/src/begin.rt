@@ -6,8 +6,8 @@ ghost use Rattle.core_model.specs.CoreState.{CoreState};
 ghost use Rattle.core_model.specs.Events.{can_begin};
 ghost use Rattle.core_model.specs.declared.events.CoreEvent.TheVariants.{Begin};
 ghost use Rattle.cell_table.specs.Table.{opens_with};
-ghost use Rattle.history_core.specs.Asked.{is_decided_in, is_next_child_in};
-ghost use Rattle.history_core.specs.Kept.{PartsStand};
+ghost use Rattle.history_core.specs.LockAnswers.{is_decided_in, is_next_child_in};
+ghost use Rattle.history_core.specs.KeptParts.{PartsStand};
 ghost use Rattle.history_core.specs.Steps.{CanDo, KeepsMeaning, Tells, Does};
 
 use crate::parts::Parts;

@@ -7,13 +7,13 @@ ghost use Rattle.core_model.specs.declared.events.CoreEvent.TheVariants.{Decide}
 ghost use Rattle.cell_table.specs.Table.{opens_with};
 ghost use Rattle.unit_table.specs.Table.{units_of, verdict_in, result_in, phase_in};
 ghost use Rattle.open_batch.specs.Members.{effect_in};
-ghost use Rattle.open_batch.specs.Taken.{TakenBatch, with_decisions, commits_in};
-ghost use Rattle.history_core.specs.Deciding.{judged_after, decisions_now, IsUndecided};
+ghost use Rattle.open_batch.specs.TakenBatch.{TakenBatch, with_decisions, commits_in};
+ghost use Rattle.history_core.specs.Decisions.{judged_after, decisions_now, IsUndecided};
 ghost use Rattle.history_core.specs.Fronts.{AreOver};
 ghost use Rattle.history_core.specs.Batches.{may_decide_in};
 ghost use Rattle.history_core.specs.Steps.{CanDo, Tells, Does};
 
-use crate::closing::Closing;
+use crate::batch_closing::Closing;
 use crate::parts::Parts;
 use cell_model::Decision;
 use core_model::{CoreReply, Verdict};

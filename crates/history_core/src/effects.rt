@@ -3,7 +3,7 @@ ghost use Rattle.std.specs.Prelude.{◌≡◌, true};
 ghost use Rattle.core_model.specs.Equality.{same_outcome};
 ghost use Rattle.core_model.specs.Tests.{is_answer, is_over};
 ghost use Rattle.unit_table.specs.Table.{outcome_known, phase_in, result_in};
-ghost use Rattle.unit_table.specs.Known.{known_running};
+ghost use Rattle.unit_table.specs.KnownUnits.{known_running};
 ghost use Rattle.history_core.specs.Effects.{is_of_call_in, answered_in};
 
 use crate::parts::Parts;

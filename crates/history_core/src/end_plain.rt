@@ -5,11 +5,11 @@ ghost use Rattle.core_model.specs.CoreState.{CoreState};
 ghost use Rattle.core_model.specs.Changes.{after_end};
 ghost use Rattle.core_model.specs.declared.events.CoreEvent.TheVariants.{EndPlain};
 ghost use Rattle.core_model.specs.Tests.{is_running};
-ghost use Rattle.unit_table.specs.Known.{known_running};
+ghost use Rattle.unit_table.specs.KnownUnits.{known_running};
 ghost use Rattle.history_core.specs.Effects.{ends_as_plain};
 ghost use Rattle.cell_table.specs.Table.{opens_with};
 ghost use Rattle.unit_table.specs.Table.{known_in, phase_in};
-ghost use Rattle.history_core.specs.Kept.{PartsStand, IsCoreReached, owed_in};
+ghost use Rattle.history_core.specs.KeptParts.{PartsStand, IsCoreReached, owed_in};
 ghost use Rattle.history_core.specs.Steps.{CanDo, KeepsMeaning, Tells, Does};
 
 use crate::parts::Parts;

@@ -1,7 +1,7 @@
 // A plain run that read a snapshot has come to its end.
 ghost use Rattle.std.specs.Prelude.{◌≡◌, ℕ, IfOk, IfErr, OnErr};
 ghost use Rattle.core_model.specs.declared.events.CoreEvent.TheVariants.{EndSnapshot};
-ghost use Rattle.unit_table.specs.Known.{known_running};
+ghost use Rattle.unit_table.specs.KnownUnits.{known_running};
 ghost use Rattle.unit_table.specs.Table.{known_in};
 ghost use Rattle.history_core.specs.Effects.{ends_as_snapshot};
 ghost use Rattle.cell_table.specs.Table.{opens_with};

@@ -5,13 +5,13 @@ ghost use Rattle.base_types.specs.declared.calls.GrainId.{GrainId};
 ghost use Rattle.core_model.specs.declared.events.CoreEvent.TheVariants.{Finish};
 ghost use Rattle.core_model.specs.Tests.{is_running};
 ghost use Rattle.std.specs.List.{list_all};
-ghost use Rattle.rw_locks.specs.Locked.{holds_alone};
+ghost use Rattle.rw_locks.specs.LockView.{holds_alone};
 ghost use Rattle.cell_table.specs.Table.{cell_in, opens_with};
 ghost use Rattle.core_lists.specs.States.{handed_in};
 ghost use Rattle.unit_table.specs.Table.{known_in, phase_in};
-ghost use Rattle.unit_table.specs.Known.{known_running};
+ghost use Rattle.unit_table.specs.KnownUnits.{known_running};
 ghost use Rattle.history_core.specs.Effects.{finishes_as};
-ghost use Rattle.history_core.specs.Handing.{cleared, with_writes};
+ghost use Rattle.history_core.specs.HandedWrites.{cleared, with_writes};
 ghost use Rattle.history_core.specs.Steps.{CanDo, KeepsMeaning, Tells, Does};
 
 use crate::parts::Parts;

@@ -11,7 +11,7 @@ ghost use Rattle.core_model.specs.Events.{is_free_answer};
 ghost use Rattle.core_model.specs.declared.events.CoreEvent.TheVariants.{Grant};
 ghost use Rattle.cell_table.specs.Table.{cell_in, has_cell, spare_in, opens_with};
 ghost use Rattle.unit_table.specs.Table.{verdict_in};
-ghost use Rattle.history_core.specs.Granting.{cell_without, is_sure_in};
+ghost use Rattle.history_core.specs.Grants.{cell_without, is_sure_in};
 ghost use Rattle.history_core.specs.Steps.{CanDo, KeepsMeaning, Tells, Does, Refuses};
 
 use crate::parts::Parts;

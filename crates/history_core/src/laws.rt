@@ -1,7 +1,7 @@
 ghost use Rattle.std.specs.Prelude.{◌≡◌, ◌<◌, None};
 ghost use Rattle.core_model.specs.CoreState.{GrainId};
-ghost use Rattle.core_model.specs.Legal.{Run, ends};
-ghost use Rattle.history_core.specs.Closing.{last_state};
+ghost use Rattle.core_model.specs.LegalRuns.{Run, ends};
+ghost use Rattle.history_core.specs.ClosedUnits.{last_state};
 ghost use Rattle.history_core.specs.LastWriters.{IsLastOf};
 
 /// The state that a core says was written last in a grain is the one of the grain's last committed writer in the finish order:

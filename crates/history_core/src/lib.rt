@@ -6,14 +6,13 @@
 #![tactic(auto)]
 
 mod answers;
-mod applying;
-mod asking;
-mod bad;
+mod bad_lines;
+mod batch_closing;
 mod begin;
-mod closing;
 mod decide;
+mod dispatch;
 mod effects;
-mod emitted;
+mod emitted_entries;
 mod end_plain;
 mod end_snapshot;
 mod finish;
@@ -21,6 +20,7 @@ mod grant;
 mod halt;
 mod laws;
 mod learn;
+mod lock_answers;
 mod looks;
 mod opening;
 mod parts;
@@ -30,14 +30,14 @@ mod release;
 mod room;
 mod seal;
 mod settler;
-mod shared;
+mod shared_core;
 mod steps;
 mod stops;
 mod take;
 mod vote;
 mod want;
-mod whole;
+mod whole_core;
 
 pub use laws::last_states_are_the_last_writers;
 pub use opening::Opening;
-pub use whole::Core;
+pub use whole_core::Core;

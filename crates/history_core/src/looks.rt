@@ -1,11 +1,11 @@
 // What a core has settled, and the last states.
 ghost use Rattle.std.specs.Prelude.{◌≡◌};
 ghost use Rattle.std.specs.Option.{option_copied};
-ghost use Rattle.core_model.specs.Legal.{ends};
-ghost use Rattle.history_core.specs.Closing.{last_state};
+ghost use Rattle.core_model.specs.LegalRuns.{ends};
+ghost use Rattle.history_core.specs.ClosedUnits.{last_state};
 ghost use Rattle.history_core.specs.Cores.{run_of};
 
-use crate::whole::Core;
+use crate::whole_core::Core;
 use base_types::{Entry, GrainId, State};
 
 impl Core {

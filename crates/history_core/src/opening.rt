@@ -4,7 +4,7 @@ ghost use Rattle.cell_table.specs.Table.{opening_state};
 ghost use Rattle.history_core.specs.Cores.{run_of};
 
 use crate::parts::Parts;
-use crate::whole::Core;
+use crate::whole_core::Core;
 use base_types::{Shape, Store, UnitNo};
 use cell_table::CellTable;
 use core_lists::{EntryList, HandedStates, LastStates, LearnQueue};

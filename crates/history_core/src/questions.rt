@@ -2,9 +2,9 @@
 ghost use Rattle.std.specs.Prelude.{◌≡◌, ◌<◌, ◌^◌, ◌||◌, false, is_some, option_map, slice_get, IfOk, OnErr};
 ghost use Rattle.core_model.specs.CoreState.{CoreState};
 ghost use Rattle.core_model.specs.Answers.{known, view};
-ghost use Rattle.core_access.specs.Spared.{is_plain};
+ghost use Rattle.core_access.specs.CallsWithoutMemory.{is_plain};
 ghost use Rattle.unit_table.specs.Table.{lines_in};
-ghost use Rattle.history_core.specs.Kept.{PartsStand, StandsForReached, members_in};
+ghost use Rattle.history_core.specs.KeptParts.{PartsStand, StandsForReached, members_in};
 ghost use Rattle.history_core.specs.Questions.{AnswersQuestion};
 
 use crate::parts::Parts;

@@ -2,7 +2,7 @@
 ghost use Rattle.std.specs.Prelude.{◌≡◌};
 ghost use Rattle.core_model.specs.declared.events.CoreEvent.TheVariants.{Release};
 ghost use Rattle.cell_table.specs.Table.{opens_with};
-ghost use Rattle.history_core.specs.Releasing.{if_finished};
+ghost use Rattle.history_core.specs.Releases.{if_finished};
 ghost use Rattle.history_core.specs.Steps.{CanDo, Tells, Does};
 
 use crate::parts::Parts;

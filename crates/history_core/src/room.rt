@@ -1,6 +1,6 @@
 // The room that the open batch was promised.
 ghost use Rattle.std.specs.Prelude.{◌≡◌, ◌≤◌};
-ghost use Rattle.history_core.specs.Kept.{owed_in};
+ghost use Rattle.history_core.specs.KeptParts.{owed_in};
 
 use crate::parts::Parts;
 

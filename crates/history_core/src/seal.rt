@@ -5,7 +5,7 @@ ghost use Rattle.cell_table.specs.Table.{opens_with};
 ghost use Rattle.history_core.specs.Batches.{is_judged_in};
 ghost use Rattle.history_core.specs.Steps.{CanDo, Tells, Does};
 
-use crate::closing::Closing;
+use crate::batch_closing::Closing;
 use crate::parts::Parts;
 use core_model::CoreReply;
 

@@ -4,7 +4,7 @@ ghost use Rattle.core_model.specs.Events.{applies};
 ghost use Rattle.core_model.specs.declared.events.CoreEvent.TheVariants.{Take};
 ghost use Rattle.core_model.specs.CoreState.{CoreState};
 ghost use Rattle.core_model.specs.Settler.{Takes, Rests, later_step, last_step, settler_step, has_step};
-ghost use Rattle.history_core.specs.Kept.{PartsStand, IsCoreReached, StandsForReached};
+ghost use Rattle.history_core.specs.KeptParts.{PartsStand, IsCoreReached, StandsForReached};
 ghost use Rattle.history_core.specs.Questions.{ShowsStep};
 
 use crate::parts::Parts;

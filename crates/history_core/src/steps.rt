@@ -1,13 +1,13 @@
 // The step of a core.
 ghost use Rattle.std.specs.Prelude.{◌≡◌, ◌∷◌, [], true, IfOk, IfErr};
-ghost use Rattle.core_model.specs.Legal.{ends};
+ghost use Rattle.core_model.specs.LegalRuns.{ends};
 ghost use Rattle.core_model.specs.Laws.{extended};
 ghost use Rattle.core_model.specs.Events.{reply_to};
-ghost use Rattle.history_core.specs.Asked.{FitsLine, FitsEvent};
+ghost use Rattle.history_core.specs.LockAnswers.{FitsLine, FitsEvent};
 ghost use Rattle.history_core.specs.Steps.{takes_memory};
 ghost use Rattle.history_core.specs.Cores.{run_of, HasFewNumbers};
 
-use crate::whole::Core;
+use crate::whole_core::Core;
 use base_types::Origin;
 use core_model::{CoreEvent, CoreReply};
 use event_history::History;

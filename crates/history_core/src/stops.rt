@@ -1,7 +1,7 @@
 // Which stops stand.
 ghost use Rattle.std.specs.Prelude.{◌≡◌, is_none};
 ghost use Rattle.core_model.specs.CoreState.{CoreState};
-ghost use Rattle.history_core.specs.Kept.{PartsStand};
+ghost use Rattle.history_core.specs.KeptParts.{PartsStand};
 ghost use Rattle.history_core.specs.Steps.{is_going};
 
 use crate::parts::Parts;

@@ -6,9 +6,9 @@ ghost use Rattle.core_model.specs.Events.{batch_size};
 ghost use Rattle.cell_table.specs.Table.{opens_with};
 ghost use Rattle.core_lists.specs.States.{last_in, has_place, KeepsPlaces};
 ghost use Rattle.open_batch.specs.Members.{effect_in};
-ghost use Rattle.history_core.specs.Kept.{PartsStand, writes_in, AllPlaced};
-ghost use Rattle.history_core.specs.Closing.{ArePlaced};
-ghost use Rattle.history_core.specs.Taking.{is_free_by, front_by};
+ghost use Rattle.history_core.specs.KeptParts.{PartsStand, writes_in, AllPlaced};
+ghost use Rattle.history_core.specs.ClosedUnits.{ArePlaced};
+ghost use Rattle.history_core.specs.UnitsWithoutLocks.{is_free_by, front_by};
 ghost use Rattle.history_core.specs.Steps.{CanDo, KeepsMeaning, Tells, Does};
 ghost use Rattle.base_types.specs.declared.calls.GrainId.{GrainId as AGrain};
 

@@ -7,7 +7,7 @@ ghost use Rattle.core_model.specs.Events.{can_want};
 ghost use Rattle.core_model.specs.declared.events.CoreEvent.TheVariants.{Want};
 ghost use Rattle.cell_table.specs.Table.{opens_with};
 ghost use Rattle.unit_table.specs.Table.{wants_in};
-ghost use Rattle.history_core.specs.Kept.{PartsStand};
+ghost use Rattle.history_core.specs.KeptParts.{PartsStand};
 ghost use Rattle.history_core.specs.Steps.{CanDo, KeepsMeaning, Tells, Does};
 
 use crate::parts::Parts;

@@ -14,22 +14,27 @@ use Rattle.host_trait.specs.Files.{name_of}
 abbrev pub file_cmp : FileId → FileId → Ordering
 file_cmp = (file_ord.ghosts).cmp
 
+-- the name of a file's entry, none where it has no entry
 abbrev pub name_in_entry : Option Named → Option (List ℕ)
 name_in_entry None = None
 name_in_entry (Some named) = Some (string_bytes named.name)
 
+-- how often calls on the entry's file have failed, 0 where there is no entry
 abbrev pub faults_in_entry : Option Named → ℕ
 faults_in_entry None = 0
 faults_in_entry (Some named) = named.faults
 
+-- a sync of the entry's file has failed
 abbrev pub is_lost_entry : Option Named → Bool
 is_lost_entry None = false
 is_lost_entry (Some named) = named.is_lost
 
+-- the entry's file was seen to have bytes
 abbrev pub had_bytes_entry : Option Named → Bool
 had_bytes_entry None = false
 had_bytes_entry (Some named) = named.had_bytes
 
+-- there is a name
 abbrev pub is_name : Option (List ℕ) → Bool
 is_name None = false
 is_name (Some name) = true
@@ -64,6 +69,7 @@ is_always (Program slot) = nat_le slot 1
 is_always (Manager slot) = nat_le slot 1
 is_always (Grain slot grain) = false
 
+-- each file that is ready from the start has an entry
 abbrev pub AreAlwaysNamed : BTreeMap FileId Named → Type 0
 AreAlwaysNamed files = (file : FileId) → IsTrue (is_always file) → IsTrue (is_named files file)
 

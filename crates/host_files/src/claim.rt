@@ -1,7 +1,7 @@
 // A process's hold on a folder.
 ghost use Rattle.std.specs.Prelude.{◌≡◌, ◌<◌, IfSome, OnOk, OnErr, IfOk, IsTrue, IsOk, Some, is_some, false, None};
 ghost use Rattle.system_calls.specs.System.{HasNoBytes};
-ghost use Rattle.host_files.specs.Clear.{WentWell, WasObeyed};
+ghost use Rattle.host_files.specs.UnfailingCalls.{WentWell, WasObeyed};
 
 use system_calls::{Refused, SystemCalls};
 

@@ -7,7 +7,7 @@ ghost use Rattle.host_trait.specs.World.{Pulled, Emitted, Filled, Written, Synce
 ghost use Rattle.host_trait.specs.declared.channels.FileId.{FileId};
 ghost use Rattle.system_calls.specs.System.{NoSyncRefused, HasNoBytes};
 ghost use Rattle.host_files.specs.Told.{SameButEntries, SyncsFile};
-ghost use Rattle.host_files.specs.Clear.{WentWell, WasObeyed, IsInPlace};
+ghost use Rattle.host_files.specs.UnfailingCalls.{WentWell, WasObeyed, IsInPlace};
 ghost use Rattle.host_files.specs.declared.folder.Entries.{Entries};
 
 use crate::claim::Claim;

@@ -91,7 +91,7 @@ impl<S: SystemCalls + Drop> Host for FolderHost<S> {
     ghost use Rattle.host_trait.specs.declared.channels.Channel.{Channel};
     ghost use Rattle.host_trait.specs.declared.channels.Channel.TheVariants.{Input, Output, File};
     ghost use Rattle.host_files.specs.Table.{is_named, is_lost, had_bytes_in, counts_of, SameLost};
-    ghost use Rattle.host_files.specs.Clear.{WentWell, IsInPlace};
+    ghost use Rattle.host_files.specs.UnfailingCalls.{WentWell, IsInPlace};
 
     ghost tells = { S.tells };
 

@@ -3,7 +3,7 @@ ghost use Rattle.std.specs.Prelude.{◌≡◌, ◌+◌, ◌^◌, ◌<◌, ◌≤
 ghost use Rattle.host_trait.specs.Disk.{Overwrote};
 ghost use Rattle.host_trait.specs.World.{Pulled, Emitted, Filled, Written};
 ghost use Rattle.system_calls.specs.System.{SameEntries};
-ghost use Rattle.host_files.specs.Clear.{WentWell, WasObeyed};
+ghost use Rattle.host_files.specs.UnfailingCalls.{WentWell, WasObeyed};
 
 use system_calls::{Refused, SystemCalls};
 

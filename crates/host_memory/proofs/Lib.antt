@@ -1,6 +1,6 @@
 pub mod Tables
-pub mod Counting
+pub mod Countdown
 pub mod Worlds
 pub mod SeenFiles
-pub mod Drawing
-pub mod Failing
+pub mod CrashDraws
+pub mod FailedCalls

@@ -7,6 +7,7 @@ use Rattle.host_trait.specs.declared.channels.Channel.TheVariants.{Input, Output
 use Rattle.host_memory.specs.declared.files.Stored.{Stored}
 use Rattle.host_memory.specs.Table.{is_kept, faults_in}
 
+-- how often each channel has failed
 abbrev pub counts_of : ℕ → ℕ → List Stored → Channel → ℕ
 counts_of input output files Input = input
 counts_of input output files Output = output
@@ -18,5 +19,6 @@ is_always (Program slot) = nat_le slot 1
 is_always (Manager slot) = nat_le slot 1
 is_always (Grain slot grain) = false
 
+-- each file that is ready from the start is in the list
 abbrev pub AreAlwaysKept : List Stored → Type 0
 AreAlwaysKept files = (file : FileId) → IsTrue (is_always file) → IsTrue (is_kept files file)

@@ -3,6 +3,7 @@ use Rattle.std.specs.Prelude.{◌≡◌, ◌≤◌, max, length}
 use Rattle.host_trait.specs.Disk.{FileState}
 use Rattle.host_memory.specs.declared.crash.Draft.{Draft}
 
+-- the state of a file that a draft stands for
 abbrev pub drafted : Draft → FileState
 drafted d = record { base = d.base.items; seen = d.seen.items; ranges = d.ranges.items; longest = max (length d.base.items) d.longest }
 

@@ -7,6 +7,7 @@ use Rattle.host_memory.specs.declared.events.Event.{Event}
 use Rattle.host_memory.specs.declared.events.Noted.{Noted}
 use Rattle.host_memory.specs.Replay.{is_on, after_some, state_at}
 
+-- whether an event is on a file, or an earlier one was
 abbrev pub touch : FileId → Event → Bool → Bool
 touch f e b = is_on f e || b
 

@@ -5,7 +5,7 @@ use Rattle.host_trait.specs.Faults.{Rose}
 use Rattle.host_trait.specs.World.{Asked}
 use Rattle.host_memory.specs.declared.host.MemoryHost.{MemoryHost}
 use Rattle.host_memory.specs.Replay.{IsTorn}
-use Rattle.host_memory.specs.Shown.{world_in, starved_in}
+use Rattle.host_memory.specs.ShownState.{world_in, starved_in}
 
 -- a call that did nothing, and didn't want for memory
 pub record DidNothing (old new : MemoryHost) : Type 0 where

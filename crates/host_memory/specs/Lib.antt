@@ -2,10 +2,10 @@ pub mod Table
 pub mod Entries
 pub mod Plans
 pub mod Replay
-pub mod Stays
+pub mod ReadLaws
 pub mod Counts
 pub mod Drafts
 pub mod Bytes
 pub mod Drawings
-pub mod Shown
+pub mod ShownState
 pub mod Failures

@@ -9,6 +9,7 @@ use Rattle.host_memory.specs.declared.plan.Planned.{Planned}
 use Rattle.host_memory.specs.declared.plan.Turn.{Turn}
 use Rattle.host_memory.specs.declared.plan.Turn.TheVariants.{Goes, Fails, Stopped}
 
+-- two calls are of one kind
 abbrev pub same_kind : CallKind → CallKind → Bool
 same_kind Pull Pull = true
 same_kind Emit Emit = true
@@ -18,6 +19,7 @@ same_kind Write Write = true
 same_kind Sync Sync = true
 same_kind _ _ = false
 
+-- two channels are one
 abbrev pub same_channel : Channel → Channel → Bool
 same_channel Input Input = true
 same_channel Output Output = true
@@ -37,10 +39,10 @@ abbrev pub counted : CallKind → Channel → Planned → Planned
 counted what channel planned = if is_of what channel planned then record { what = planned.what; channel = planned.channel; left = planned.left - 1 } else planned
 
 -- the calls after one more: it is counted, unless the host has stopped
-abbrev pub Ticks : Turn → ℕ → ℕ → Type 0
-Ticks Goes old new = (new ≡ old + 1) × (old < 2 ^ 62)
-Ticks Fails old new = (new ≡ old + 1) × (old < 2 ^ 62)
-Ticks Stopped old new = new ≡ old
+abbrev pub CallsAfter : Turn → ℕ → ℕ → Type 0
+CallsAfter Goes old new = (new ≡ old + 1) × (old < 2 ^ 62)
+CallsAfter Fails old new = (new ≡ old + 1) × (old < 2 ^ 62)
+CallsAfter Stopped old new = new ≡ old
 
 -- whether a turn makes its call fail
 abbrev pub is_failing : Turn → Bool

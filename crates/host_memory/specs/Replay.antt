@@ -46,13 +46,16 @@ gives_bytes (Put file bytes) = true
 abbrev pub state_step : FileId → Event → FileState → FileState
 state_step f e s = if is_on f e then changed e s else s
 
+-- whether a file was ever written, after one event more
 abbrev pub written_step : FileId → Event → Bool → Bool
 written_step f e b = if is_on f e then gives_bytes e || b else b
 
+-- the output after one event more
 abbrev pub output_step : Event → List ℕ → List ℕ
 output_step (Emitted bytes) output = output ++ bytes.items
 output_step _ output = output
 
+-- how many syncs were asked for, after one event more
 abbrev pub syncs_step : Event → ℕ → ℕ
 syncs_step (Synced file ok) n = n + 1
 syncs_step _ n = n
@@ -62,22 +65,28 @@ abbrev pub after_all : {S : Type 0} → (Event → S → S) → S → List Noted
 after_all step s [] = s
 after_all step s (noted ∷ events) = after_all step (step noted.event s) events
 
+-- what the events up to a stamp make
 abbrev pub after_some : {S : Type 0} → (Event → S → S) → ℕ → S → List Noted → S
 after_some step until s [] = s
 after_some step until s (noted ∷ events) = after_some step until (if nat_le noted.stamp until then step noted.event s else s) events
 
+-- the state of a file after all events
 abbrev pub state_of : List Noted → FileId → FileState
 state_of events f = after_all (state_step f) (settled []) events
 
+-- whether a file was written by these events
 abbrev pub written_by : List Noted → FileId → Bool
 written_by events f = after_all (written_step f) false events
 
+-- the output after all events
 abbrev pub output_of : List Noted → List ℕ
 output_of events = after_all output_step [] events
 
+-- how many syncs these events are
 abbrev pub syncs_of : List Noted → ℕ
 syncs_of events = after_all syncs_step 0 events
 
+-- the state of a file by the events up to a stamp
 abbrev pub state_at : ℕ → List Noted → FileId → FileState
 state_at until events f = after_some (state_step f) until (settled []) events
 
@@ -105,6 +114,7 @@ abbrev pub are_by : ℕ → List Noted → Bool
 are_by until [] = true
 are_by until (noted ∷ events) = nat_le noted.stamp until && are_by until events
 
+-- each event has at most this stamp
 abbrev pub AreBy : ℕ → List Noted → Type 0
 AreBy until events = IsTrue (are_by until events)
 

@@ -8,7 +8,7 @@ ghost use Rattle.host_trait.specs.declared.channels.Channel.{Channel};
 ghost use Rattle.host_memory.specs.Replay.{AreBy, AreSeen, output_of, world_of};
 ghost use Rattle.host_memory.specs.Counts.{AreAlwaysKept};
 ghost use Rattle.host_memory.specs.Table.{faults_in};
-ghost use Rattle.host_memory.specs.Stays.{stays};
+ghost use Rattle.host_memory.specs.ReadLaws.{stays};
 
 use crate::crash::outcome_of;
 use crate::events::{Noted, count_syncs, file_of, flush, place, put_out, tear, write};
@@ -55,7 +55,7 @@ fn first_files(alloc: Global) -> Result<Vec<Stored>, AllocError>
 }
 
 impl MemoryHost {
-    ghost use Rattle.host_memory.specs.Shown.{world_in, counts_in, starved_in, calls_in, left_in, planned_in, most_in, is_written, image_in, IsCrashOf, SameWorld, SamePlan, SameButFiles, PutsFile, IsFresh};
+    ghost use Rattle.host_memory.specs.ShownState.{world_in, counts_in, starved_in, calls_in, left_in, planned_in, most_in, is_written, image_in, IsCrashOf, SameWorld, SamePlan, SameButFiles, PutsFile, IsFresh};
     ghost use Rattle.host_memory.specs.Drawings.{IsDrawing};
     ghost use Rattle.host_memory.specs.declared.events.Noted.{Noted};
 
@@ -259,7 +259,7 @@ impl MemoryHost {
 }
 
 impl Host for MemoryHost {
-    ghost use Rattle.host_memory.specs.Shown.{world_in, counts_in, ready_in, starved_in, most_in, is_stopped, is_planned, is_named, TakesTurn};
+    ghost use Rattle.host_memory.specs.ShownState.{world_in, counts_in, ready_in, starved_in, most_in, is_stopped, is_planned, is_named, TakesTurn};
     ghost use Rattle.host_memory.specs.Failures.{DidNothing, HasTorn, HasNotSynced, FailedAs};
     ghost use Rattle.host_memory.specs.declared.plan.CallKind.{CallKind};
     ghost use Rattle.host_trait.specs.declared.channels.Channel.TheVariants.{Input, Output, File};

@@ -108,7 +108,7 @@ fn count_down(faults: &mut Vec<Planned>, what: CallKind, channel: Channel) -> bo
 }
 
 impl Plan {
-    ghost use Rattle.host_memory.specs.Plans.{Ticks, is_failing};
+    ghost use Rattle.host_memory.specs.Plans.{CallsAfter, is_failing};
     ghost use Rattle.host_memory.specs.declared.events.Noted.{Noted};
     ghost use Rattle.host_memory.specs.Replay.{AreBy, world_of};
 
@@ -150,7 +150,7 @@ impl Plan {
 
     // Counts one call, and answers how it goes. After the stop nothing is counted.
     pub fn turn(&mut self, what: CallKind, channel: Channel) -> Turn
-        ensures ticks { Ticks result self.old.calls self.new.calls }
+        ensures ticks { CallsAfter result self.old.calls self.new.calls }
         ensures named { result ≡ (if self.old.left == 0 then Turn.Stopped else
             (if list_any (is_due what channel) self.old.faults.items then Turn.Fails else Turn.Goes)) }
         ensures fails { is_failing result ≡ ((self.old.left == 0) || list_any (is_due what channel) self.old.faults.items) }

@@ -25,6 +25,7 @@ same_file (Grain a x) (Program b) = false
 same_file (Grain a x) (Manager b) = false
 same_file (Grain a x) (Grain b y) = (a == b) && same_grain x y
 
+-- the slot of a file
 abbrev pub slot_of : FileId → ℕ
 slot_of (Program slot) = slot
 slot_of (Manager slot) = slot
@@ -44,6 +45,7 @@ MayAsk is_ready (Grain slot grain) = (slot ≤ 1) × IsTrue (is_ready (Grain slo
 abbrev pub StaysReady : (FileId → Bool) → (FileId → Bool) → Type 0
 StaysReady old new = (file : FileId) → IsTrue (old file) → IsTrue (new file)
 
+-- the file is a manager file
 abbrev pub IsManager : FileId → Type 0
 IsManager (Program slot) = ⊥
 IsManager (Manager slot) = Unit {0}

@@ -9,11 +9,11 @@ use Rattle.core_model.specs.declared.events.CoreEvent.{CoreEvent}
 use Rattle.core_model.specs.declared.events.CoreEvent.TheVariants.{Bad, Begin, Take, Vote, Decide, Sealed, NotSealed, Doubt, Learn, Emitted, Halt}
 use Rattle.core_model.specs.declared.events.CoreReply.TheVariants.{Done, Began}
 use Rattle.core_model.specs.Changes.{swept, swept_by, new_unit}
-use Rattle.core_laws.proofs.Decoded.{Change, bad, begin, lock, raise, refuse, finish, end_plain, end_snapshot, release, take_batch, vote, decide_some, decide_none, seal_batch, spoil_batch, doubt_batch, learn, emit, halt_run, want, load, decode}
+use Rattle.core_laws.proofs.EventCases.{Change, bad, begin, lock, raise, refuse, finish, end_plain, end_snapshot, release, take_batch, vote, decide_some, decide_none, seal_batch, spoil_batch, doubt_batch, learn, emit, halt_run, want, load, decode}
 use Rattle.core_model.specs.Events.{applies, can, does, is_allowed, step, reply_to, reply_with, reply_without}
-use Rattle.core_access.specs.Settling.{is_settling}
+use Rattle.core_access.specs.SettlerEvents.{is_settling}
 use Rattle.promise_spec.specs.TurnRule.{OfLine, OfUnit, OfSettler, mover_of}
-use Rattle.turn_rules.specs.Going.{is_begin}
+use Rattle.turn_rules.specs.NextEvent.{is_begin}
 
 -- no line is taken by an event that isn't a line's
 lines-change : (w : CoreState) (e : CoreEvent) (w' : CoreState) → Change w e w' → (mover_of e ≡ OfLine → ⊥) → w'.units.lines ≡ w.units.lines

@@ -12,29 +12,29 @@ use Rattle.core_model.specs.declared.events.CoreEvent.{CoreEvent}
 use Rattle.core_model.specs.declared.events.CoreEvent.TheVariants.{Bad, Begin, Halt}
 use Rattle.core_model.specs.Changes.{new_unit}
 use Rattle.core_model.specs.Events.{applies, reply_to, reply_with, reply_without}
-use Rattle.core_model.specs.Legal.{Run, ends}
+use Rattle.core_model.specs.LegalRuns.{Run, ends}
 use Rattle.core_access.specs.OneHolder.{own_sight}
-use Rattle.core_access.specs.Settling.{is_settling}
+use Rattle.core_access.specs.SettlerEvents.{is_settling}
 use Rattle.core_access.proofs.OneHolder.{own-run}
 use Rattle.core_access.proofs.Sights.{reply-alone}
 use Rattle.promise_spec.specs.Lines.{ReadsLineAs}
 use Rattle.promise_spec.specs.UnitRule.{KeepsUnitRule}
-use Rattle.turn_rules.specs.Going.{with_event, MayCome}
-use Rattle.turn_rules.specs.Turning.{IsTurning, TurnLoop, has_room, with_new}
+use Rattle.turn_rules.specs.NextEvent.{with_event, MayCome}
+use Rattle.turn_rules.specs.TurnLoop.{IsTurning, TurnLoop, has_room, with_new}
 use Rattle.turn_rules.proofs.Growth.{ends-more}
 use Rattle.turn_rules.proofs.Turns.{turn-bad, turn-line}
 use Rattle.settle_loop.specs.declared.settler.Settler.{Settler}
-use Rattle.unit_carrier.specs.Carrying.{units_carried}
+use Rattle.unit_carrier.specs.CarriedUnits.{units_carried}
 use Rattle.unit_carrier.specs.Lines.{IsEventOf, began_by, with_begun}
 use Rattle.run_books.specs.Beginnings.{Outset, IsOutset, GoUpFrom, basis_of}
 use Rattle.run_books.specs.Books.{Books}
 use Rattle.interleaver.specs.Flights.{loop_at}
 use Rattle.run_books.specs.Images.{LastsSo}
 use Rattle.run_books.specs.Records.{KeepsBooks}
-use Rattle.run_books.specs.Settling.{AreEven}
-use Rattle.interleaver.specs.UnderWay.{TurnStage, IsUnderWay, WentOn, BeganOn}
-use Rattle.interleaver.proofs.Unstopped.{way-unstopped}
-use Rattle.interleaver.proofs.Alone.{own-told}
+use Rattle.run_books.specs.BooksSteps.{AreEven}
+use Rattle.interleaver.specs.TurnStages.{TurnStage, IsUnderWay, WentOn, BeganOn}
+use Rattle.interleaver.proofs.RunningTurns.{way-unstopped}
+use Rattle.interleaver.proofs.LonePasses.{own-told}
 use Rattle.run_books.proofs.BooksStated.{OthersKeep}
 use Rattle.interleaver.proofs.Frames.{lines-begun, lines-bad, same-number}
 use Rattle.interleaver.proofs.OtherTurns.{loop-into}

@@ -5,19 +5,19 @@ use Rattle.request_wire.specs.declared.requests.Line.{Line}
 use Rattle.core_model.specs.CoreState.{UnitNo, CoreState}
 use Rattle.core_model.specs.declared.events.CoreEvent.{CoreEvent}
 use Rattle.core_model.specs.Events.{applies, is_after_halt}
-use Rattle.core_model.specs.Legal.{Run, ends}
+use Rattle.core_model.specs.LegalRuns.{Run, ends}
 use Rattle.core_model.specs.Settler.{settler_step, MakesEvent}
-use Rattle.core_laws.proofs.Stepped.{step-applies}
+use Rattle.core_laws.proofs.SettlerSteps.{step-applies}
 use Rattle.script_tree.specs.Programs.{ProgramTree}
 use Rattle.promise_spec.specs.Lines.{ReadsLineAs}
 use Rattle.promise_spec.specs.TurnRule.{OfSettler, KeepsTurnRule}
-use Rattle.turn_rules.specs.Going.{with_event}
-use Rattle.turn_rules.specs.Turning.{IsTurning, IsPicked, TurnLoop}
+use Rattle.turn_rules.specs.NextEvent.{with_event}
+use Rattle.turn_rules.specs.TurnLoop.{IsTurning, IsPicked, TurnLoop}
 use Rattle.turn_rules.proofs.Growth.{ends-more}
 use Rattle.turn_rules.proofs.Numbers.{next-stays}
 use Rattle.turn_rules.proofs.Settlers.{settlers}
 use Rattle.turn_rules.proofs.Turns.{turn-settler}
-use Rattle.unit_carrier.specs.Carrying.{units_carried}
+use Rattle.unit_carrier.specs.CarriedUnits.{units_carried}
 use Rattle.run_books.specs.declared.faults.RunFault.{RunFault}
 use Rattle.run_books.specs.declared.faults.RunFault.TheVariants.{InDoubt, WriteFault, Memory}
 use Rattle.run_books.specs.Beginnings.{Outset, IsOutset, GoUpFrom, basis_of}
@@ -25,10 +25,10 @@ use Rattle.run_books.specs.Books.{Books}
 use Rattle.interleaver.specs.Flights.{loop_at}
 use Rattle.run_books.specs.Records.{TurnsEndAs}
 use Rattle.interleaver.specs.Turns.{TurnsGoOn as RecordGoesOn}
-use Rattle.interleaver.specs.UnderWay.{TurnStage, IsUnderWay, WentOn, SettlesBy, SettledSays, SettledOn}
-use Rattle.interleaver.proofs.Unstopped.{way-unstopped}
+use Rattle.interleaver.specs.TurnStages.{TurnStage, IsUnderWay, WentOn, SettlesBy, SettledSays, SettledOn}
+use Rattle.interleaver.proofs.RunningTurns.{way-unstopped}
 use Rattle.interleaver.proofs.Frames.{lines-stay, settler-no-line}
-use Rattle.interleaver.proofs.Settles.{settles-rule}
+use Rattle.interleaver.proofs.SettlerTurns.{settles-rule}
 
 -- what is left of the lines stays where no line is taken
 pub outset-stays : (o : Outset) (types : ProgramTree) (r r' : Run) (lines : List Line) (width : ℕ) (picks : List ℕ) → r'.kinds ≡ r.kinds → (ends r').units.lines ≡ (ends r).units.lines

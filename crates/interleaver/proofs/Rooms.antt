@@ -5,31 +5,31 @@ use Rattle.std.specs.List.{AllByRecursion}
 use Rattle.std.proofs.lemmas.Bool.{cases_Bool, ltb-true, lt-ltb}
 use Rattle.request_wire.specs.declared.requests.Line.{Line}
 use Rattle.core_model.specs.declared.events.CoreReply.{CoreReply}
-use Rattle.core_model.specs.Legal.{Run, ends}
+use Rattle.core_model.specs.LegalRuns.{Run, ends}
 use Rattle.core_access.specs.OneHolder.{none_comes, own_sight}
 use Rattle.core_access.specs.Sights.{Looks}
 use Rattle.core_access.proofs.OneHolder.{own-run}
 use Rattle.script_tree.specs.Programs.{ProgramTree}
-use Rattle.turn_rules.specs.Carried.{is_flying, is_kept}
-use Rattle.turn_rules.specs.Turning.{IsTurning, has_room}
-use Rattle.turn_rules.proofs.Lawful.{legal-run}
-use Rattle.txn_agent.specs.Linked.{IsLegalRun}
+use Rattle.turn_rules.specs.CarriedUnits.{is_flying, is_kept}
+use Rattle.turn_rules.specs.TurnLoop.{IsTurning, has_room}
+use Rattle.turn_rules.proofs.LegalRuns.{legal-run}
+use Rattle.txn_agent.specs.CoreLink.{IsLegalRun}
 use Rattle.txn_agent.specs.declared.agent.Agent.{Agent}
-use Rattle.unit_carrier.specs.Carrying.{AreCarried, units_carried}
+use Rattle.unit_carrier.specs.CarriedUnits.{AreCarried, units_carried}
 use Rattle.unit_carrier.specs.Lines.{PutsLine}
-use Rattle.unit_carrier.proofs.Known.{drops-carried}
+use Rattle.unit_carrier.proofs.CarriedUnits.{drops-carried}
 use Rattle.run_books.specs.declared.faults.RunFault.{RunFault}
 use Rattle.run_books.specs.declared.faults.RunFault.TheVariants.{Memory}
 use Rattle.run_books.specs.Beginnings.{Outset, basis_of}
 use Rattle.run_books.specs.Books.{Books}
 use Rattle.interleaver.specs.Flights.{flown_unless, is_flown, lines_carried, loop_at, next_line_by}
 use Rattle.interleaver.specs.Turns.{TurnsGoOn as RecordGoesOn}
-use Rattle.interleaver.specs.UnderWay.{BeganOn, IsUnderWay, TurnSays, TurnStage, WentOn}
-use Rattle.interleaver.proofs.Unstopped.{way-unstopped}
+use Rattle.interleaver.specs.TurnStages.{BeganOn, IsUnderWay, TurnSays, TurnStage, WentOn}
+use Rattle.interleaver.proofs.RunningTurns.{way-unstopped}
 use Rattle.run_books.proofs.BooksStated.{OthersKeep}
-use Rattle.interleaver.proofs.Choosing.{at-outset}
-use Rattle.interleaver.proofs.Flying.{kept-flown, lines-flying}
-use Rattle.interleaver.proofs.Lacking.{lacks-none, line-lacks}
+use Rattle.interleaver.proofs.PickedTurns.{at-outset}
+use Rattle.interleaver.proofs.UnitsInFlight.{kept-flown, lines-flying}
+use Rattle.interleaver.proofs.MemoryEnds.{lacks-none, line-lacks}
 use Rattle.interleaver.proofs.LineTurns.{drop-at, line-went}
 use Rattle.run_books.specs.Stages.{stage_by}
 

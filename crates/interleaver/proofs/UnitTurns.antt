@@ -4,40 +4,40 @@ use Rattle.std.specs.Prelude.{if◌then◌else◌, is_some, slice_get, filter, d
 use Rattle.base_types.specs.declared.calls.Origin.TheVariants.{Child}
 use Rattle.request_wire.specs.declared.requests.Line.{Line}
 use Rattle.core_model.specs.CoreState.{UnitNo, Call, CoreState}
-use Rattle.core_model.specs.Asked.{IsGoing}
+use Rattle.core_model.specs.LockAnswers.{IsGoing}
 use Rattle.core_model.specs.declared.events.CoreEvent.{CoreEvent}
 use Rattle.core_model.specs.declared.events.CoreEvent.TheVariants as event
 use Rattle.core_model.specs.declared.events.CoreReply.{CoreReply}
 use Rattle.core_model.specs.declared.events.CoreReply.TheVariants as reply
 use Rattle.core_model.specs.Changes.{new_unit}
 use Rattle.core_model.specs.Events.{applies, reply_to}
-use Rattle.core_model.specs.Legal.{Run, ends}
+use Rattle.core_model.specs.LegalRuns.{Run, ends}
 use Rattle.core_access.specs.OneHolder.{none_comes, own_sight}
 use Rattle.core_access.specs.Sights.{Sight, run_seen, saw, IsAlone}
 use Rattle.core_access.proofs.OneHolder.{own-run, own-alone}
 use Rattle.core_access.proofs.Sights.{reply-alone, run-alone, looks-alone}
-use Rattle.worker_rules.specs.Sharing.{leaves_unit}
+use Rattle.worker_rules.specs.UnitOwnership.{leaves_unit}
 use Rattle.promise_spec.specs.UnitRule.{KeepsUnitRule}
 use Rattle.promise_spec.specs.TurnRule.{OfUnit, OfSettler, mover_of, can_move, picked, Mover}
-use Rattle.turn_rules.specs.Going.{with_event, is_begin, MayCome}
-use Rattle.turn_rules.specs.Carried.{movers_of}
-use Rattle.turn_rules.specs.Turning.{IsTurning, IsPicked, turned, with_new, TurnLoop}
+use Rattle.turn_rules.specs.NextEvent.{with_event, is_begin, MayCome}
+use Rattle.turn_rules.specs.CarriedUnits.{movers_of}
+use Rattle.turn_rules.specs.TurnLoop.{IsTurning, IsPicked, turned, with_new, TurnLoop}
 use Rattle.turn_rules.proofs.Growth.{ends-more}
-use Rattle.turn_rules.proofs.Lawful.{legal-run}
+use Rattle.turn_rules.proofs.LegalRuns.{legal-run}
 use Rattle.turn_rules.proofs.Turns.{turn-unit, turn-child}
 use Rattle.txn_agent.specs.declared.agent.Advanced.{Advanced}
 use Rattle.txn_agent.specs.declared.agent.Advanced.TheVariants as advanced
-use Rattle.txn_agent.specs.Linked.{IsLegalRun}
-use Rattle.txn_agent.specs.Stepping.{Puts, AnswerSays, is_move}
-use Rattle.txn_agent.proofs.Going.{puts-applied, missed-not}
-use Rattle.txn_agent.proofs.Telling.{alone-tells}
-use Rattle.unit_carrier.specs.Carrying.{StepsOn, units_carried, with_child}
+use Rattle.txn_agent.specs.CoreLink.{IsLegalRun}
+use Rattle.txn_agent.specs.AgentStep.{Puts, AnswerSays, is_move}
+use Rattle.txn_agent.proofs.LoneSteps.{puts-applied, missed-not}
+use Rattle.txn_agent.proofs.MoveAnswers.{alone-tells}
+use Rattle.unit_carrier.specs.CarriedUnits.{StepsOn, units_carried, with_child}
 use Rattle.unit_carrier.specs.declared.agents.Went.{Went}
 use Rattle.run_books.specs.Beginnings.{Outset, GoUpFrom, basis_of}
 use Rattle.run_books.specs.Books.{Books}
 use Rattle.interleaver.specs.Flights.{loop_at}
-use Rattle.run_books.specs.Settling.{AreEven}
-use Rattle.interleaver.specs.UnderWay.{TurnStage, IsUnderWay, WentOn}
+use Rattle.run_books.specs.BooksSteps.{AreEven}
+use Rattle.interleaver.specs.TurnStages.{TurnStage, IsUnderWay, WentOn}
 use Rattle.interleaver.proofs.Frames.{lines-stay, unit-others, unit-no-line, done-begins-none, began-is-new}
 use Rattle.run_books.proofs.BooksStated.{OthersKeep}
 use Rattle.core_model.specs.Settler.{has_step, settler_step}
@@ -45,7 +45,7 @@ use Rattle.host_trait.specs.World.{World}
 use Rattle.host_trait.specs.declared.channels.Channel.{Channel}
 use Rattle.settle_loop.specs.declared.settler.Settler.{Settler}
 use Rattle.script_tree.specs.Programs.{ProgramTree}
-use Rattle.promise_spec.specs.Gotten.{got_in}
+use Rattle.promise_spec.specs.UnitAnswers.{got_in}
 use Rattle.promise_spec.specs.Lines.{ReadsLineAs}
 use Rattle.run_books.specs.Images.{LastsSo}
 use Rattle.run_books.specs.Records.{KeepsBooks}

@@ -3,14 +3,14 @@ use Rattle.std.specs.Prelude.{◌≡◌, ◌<◌, ℕ, nat_lt, Bool, ◌&&◌, �
 use Rattle.request_wire.specs.declared.requests.Line.{Line}
 use Rattle.core_model.specs.CoreState.{UnitNo, CoreState}
 use Rattle.core_model.specs.Tests.{is_decided}
-use Rattle.core_model.specs.Legal.{Run}
+use Rattle.core_model.specs.LegalRuns.{Run}
 use Rattle.script_tree.specs.Programs.{ProgramTree}
 use Rattle.promise_spec.specs.TurnRule.{OfUnit, OfSettler, is_line, picked}
-use Rattle.turn_rules.specs.Carried.{movers_of}
-use Rattle.turn_rules.specs.Turning.{TurnLoop}
+use Rattle.turn_rules.specs.CarriedUnits.{movers_of}
+use Rattle.turn_rules.specs.TurnLoop.{TurnLoop}
 use Rattle.txn_agent.specs.declared.agent.Agent.{Agent}
-use Rattle.txn_agent.specs.Stepping.{has_freed_all}
-use Rattle.unit_carrier.specs.Carrying.{units_carried}
+use Rattle.txn_agent.specs.AgentStep.{has_freed_all}
+use Rattle.unit_carrier.specs.CarriedUnits.{units_carried}
 use Rattle.run_books.specs.Beginnings.{Outset, basis_of}
 use Rattle.interleaver.specs.declared.movers.NextMover.{NextMover}
 use Rattle.interleaver.specs.declared.movers.NextMover.TheVariants.{Unit as OfIndex, Settler as TheSettler, Nobody}

@@ -1,4 +1,4 @@
 pub mod Flights
-pub mod Looking
+pub mod LastLook
 pub mod Turns
-pub mod UnderWay
+pub mod TurnStages

@@ -1,13 +1,13 @@
 -- The record of a run of turns: what holds where it begins, and again where it ends, however it ends.
 use Rattle.std.specs.Prelude.{◌≡◌, ◌<◌, ℕ, Bool, true, IsTrue, List, [], length, Result}
 use Rattle.request_wire.specs.declared.requests.Line.{Line}
-use Rattle.core_model.specs.Legal.{Run}
+use Rattle.core_model.specs.LegalRuns.{Run}
 use Rattle.script_tree.specs.Programs.{ProgramTree}
 use Rattle.promise_spec.specs.UnitRule.{KeepsUnitRule}
 use Rattle.promise_spec.specs.TurnRule.{KeepsTurnRule, picks_used}
 use Rattle.run_books.specs.declared.faults.RunFault.{RunFault}
 use Rattle.run_books.specs.Beginnings.{Outset, IsOutset, CanTurn, basis_of}
-use Rattle.run_books.specs.Beside.{TurnsBeside}
+use Rattle.run_books.specs.RecordFrame.{TurnsBeside}
 use Rattle.run_books.specs.Books.{Books}
 use Rattle.run_books.specs.Images.{LastsSo}
 use Rattle.run_books.specs.Records.{KeepsBooks, TurnsEndAs}

@@ -1,14 +1,14 @@
 ghost use Rattle.std.specs.Prelude.{◌≡◌, true, filter, count_by};
 ghost use Rattle.std.specs.List.{list_all};
 ghost use Rattle.core_access.specs.OneHolder.{none_comes, own_sight};
-ghost use Rattle.core_model.specs.Legal.{ends};
+ghost use Rattle.core_model.specs.LegalRuns.{ends};
 ghost use Rattle.history_core.specs.Cores.{run_of};
 ghost use Rattle.promise_spec.specs.TurnRule.{is_line};
 ghost use Rattle.txn_agent.specs.declared.agent.Agent.{Agent as AnAgent};
 ghost use Rattle.script_tree.specs.Programs.{ProgramTree};
-ghost use Rattle.unit_carrier.specs.Carrying.{AreCarried, AreFreed, units_carried};
+ghost use Rattle.unit_carrier.specs.CarriedUnits.{AreCarried, AreFreed, units_carried};
 ghost use Rattle.interleaver.specs.Flights.{flown_unless, is_flown, is_open_line};
-ghost use Rattle.interleaver.specs.Looking.{IsLooked, IsNow, NothingSince};
+ghost use Rattle.interleaver.specs.LastLook.{IsLooked, IsNow, NothingSince};
 
 use history_core::Core;
 use settle_loop::Settler;

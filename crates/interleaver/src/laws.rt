@@ -1,10 +1,10 @@
 ghost use Rattle.std.specs.Prelude.{◌≡◌, ◌<◌, ℕ, Bool, true, List, [], length};
 ghost use Rattle.request_wire.specs.declared.requests.Line.{Line as ALine};
-ghost use Rattle.core_model.specs.Legal.{Run, ends};
+ghost use Rattle.core_model.specs.LegalRuns.{Run, ends};
 ghost use Rattle.script_tree.specs.Programs.{ProgramTree};
 ghost use Rattle.promise_spec.specs.TurnRule.{picks_used};
 ghost use Rattle.promise_spec.specs.UnitRule.{KeepsUnitRule};
-ghost use Rattle.turn_rules.specs.Going.{movers_in};
+ghost use Rattle.turn_rules.specs.NextEvent.{movers_in};
 ghost use Rattle.settle_loop.specs.declared.settler.Settler.{Settler as ASettler};
 ghost use Rattle.run_books.specs.Beginnings.{Outset, CanTurn, GoUpFrom, basis_of};
 ghost use Rattle.run_books.specs.Books.{Books};

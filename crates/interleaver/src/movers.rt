@@ -1,11 +1,11 @@
 ghost use Rattle.std.specs.Prelude.{◌≡◌, false, get_or, if◌then◌else◌, is_some, length, IfOk};
-ghost use Rattle.core_model.specs.Asked.{IsGoing};
-ghost use Rattle.core_model.specs.Legal.{ends};
+ghost use Rattle.core_model.specs.LockAnswers.{IsGoing};
+ghost use Rattle.core_model.specs.LegalRuns.{ends};
 ghost use Rattle.core_model.specs.Settler.{has_step, settler_step};
 ghost use Rattle.core_access.specs.OneHolder.{none_comes, own_sight};
 ghost use Rattle.history_core.specs.Cores.{run_of};
 ghost use Rattle.script_tree.specs.Programs.{program_tree};
-ghost use Rattle.unit_carrier.specs.Carrying.{AreCarried, AreFreed, as_carried, units_carried};
+ghost use Rattle.unit_carrier.specs.CarriedUnits.{AreCarried, AreFreed, as_carried, units_carried};
 ghost use Rattle.interleaver.specs.Flights.{IsNextMover, MovesWithin};
 
 use history_core::Core;

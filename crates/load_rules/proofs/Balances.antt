@@ -6,12 +6,12 @@ use Rattle.core_model.specs.declared.phases.Verdict.{Verdict}
 use Rattle.core_model.specs.declared.phases.Verdict.TheVariants.{Committed}
 use Rattle.core_model.specs.Effects.{effect_of}
 use Rattle.core_model.specs.Tests.{is_committed, state_written}
-use Rattle.core_model.specs.Serial as model
+use Rattle.core_model.specs.SerialOrder as model
 use Rattle.core_laws.proofs.Ends.{serial-ends}
 use Rattle.core_laws.proofs.Orders.{Member-at}
-use Rattle.history_core.specs.Closing.{or_else, state_after, last_among, last_state}
-use Rattle.history_core.specs.Kept.{IsCoreReached}
-use Rattle.history_core.proofs.Reached.{rests, closed-within, committed-closed}
+use Rattle.history_core.specs.ClosedUnits.{or_else, state_after, last_among, last_state}
+use Rattle.history_core.specs.KeptParts.{IsCoreReached}
+use Rattle.history_core.proofs.CoreStates.{rests, closed-within, committed-closed}
 use Rattle.script_tree.specs.Programs.{ProgramTree}
 use Rattle.promise_spec.specs.Programs.{Program, IsChecked}
 use Rattle.promise_spec.specs.Records.{Commit, States, after_writes, AreRecordsOf}
@@ -19,12 +19,12 @@ use Rattle.promise_spec.specs.Entries.{Recorded, Standing, Log, after_entry, aft
 use Rattle.promise_spec.specs.UnitRule.{IsPlayOf}
 use Rattle.promise_spec.specs.Causes.{RunHasDoubt}
 use Rattle.promise_spec.specs.Courses.{Observed, Course, basis, order, core_run, core_end}
-use Rattle.promise_spec.specs.Explained.{IsExplained}
+use Rattle.promise_spec.specs.Explanation.{IsExplained}
 use Rattle.promise_spec.specs.Loads.{account, balance_in, total_of, bank_text}
 use Rattle.promise_spec.proofs.Standings as standings
 use Rattle.promise_spec.proofs.Doubts.{doubt_left}
 use Rattle.promise_laws.specs.Legality.{is_play, applied_run}
-use Rattle.promise_laws.proofs.Legal.{is_play-true, ends_alike, legal}
+use Rattle.promise_laws.proofs.LegalRuns.{is_play-true, ends_alike, legal}
 use Rattle.promise_laws.proofs.SerialRecords.{next-states, above_entries}
 use Rattle.bank_load.specs.Summaries.{kept_balance, total_kept}
 use Rattle.bank_load.proofs.BankText.{bank_is_empty}

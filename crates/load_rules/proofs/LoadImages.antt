@@ -6,7 +6,7 @@ use Rattle.host_trait.specs.World.{World, Disk, Moment, Image, IsImage, moment_o
 use Rattle.promise_spec.specs.Programs.{Program}
 use Rattle.promise_spec.specs.Records.{Commit}
 use Rattle.promise_spec.specs.Entries.{Log, grown, records_of, standing_of}
-use Rattle.promise_spec.specs.Serial.{IsSerialFrom}
+use Rattle.promise_spec.specs.SerialExecution.{IsSerialFrom}
 use Rattle.promise_spec.specs.Logs.{IsLog}
 use Rattle.promise_spec.specs.Images.{AreNumbered, IsSoundFolder}
 use Rattle.promise_spec.specs.Moments.{IsImageOf, IsLongest}
@@ -15,13 +15,13 @@ use Rattle.promise_spec.specs.Endings.{Ending}
 use Rattle.promise_spec.specs.Courses.{Observed, Course, order, moments, lines, seen_at_entry, core_run, core_end}
 use Rattle.promise_spec.specs.Orders.{IsOrdered}
 use Rattle.promise_spec.specs.Crashes.{SurvivesCrashes, StaySound}
-use Rattle.promise_spec.specs.Explained.{ComeOfEvents, IsExplained}
+use Rattle.promise_spec.specs.Explanation.{ComeOfEvents, IsExplained}
 use Rattle.promise_spec.specs.Exits.{ImagesMayDiffer, IsExit}
 use Rattle.promise_spec.specs.Journals.{KeepsJournal, commits_of}
 use Rattle.promise_spec.proofs.Lists.{either_in, in_append}
 use Rattle.promise_spec.proofs.OneLog.{one_log}
 use Rattle.promise_spec.proofs.Standings.{grown_records}
-use Rattle.promise_laws.proofs.Journaled as journaled
+use Rattle.promise_laws.proofs.JournalCrashes as journaled
 use Rattle.promise_spec.proofs.Doubts.{doubt_left}
 use Rattle.promise_laws.specs.Obligations.{Opens, Journals}
 use Rattle.promise_laws.proofs.Bases.{begins_above}
@@ -30,8 +30,8 @@ use Rattle.promise_laws.proofs.OneFamily.{explained_family}
 use Rattle.promise_laws.proofs.TrueReplies.{known_of}
 use Rattle.promise_laws.proofs.ShownOrder.{order_serial, order_numbered}
 use Rattle.promise_laws.proofs.ShownRuns.{explained, at_entry, opening_numbered, opening_serial}
-use Rattle.promise_laws.proofs.Doubted.{doubt-rose, doubt-told}
-use Rattle.load_rules.specs.Loading.{at_turns_end, turned_course, ShowsLoad}
+use Rattle.promise_laws.proofs.DoubtedBatches.{doubt-rose, doubt-told}
+use Rattle.load_rules.specs.LoadObligations.{at_turns_end, turned_course, ShowsLoad}
 
 -- one of these moments has the disk of this one
 pub record HasDiskIn (moments : List Moment) (m : Moment) : Type 0 where

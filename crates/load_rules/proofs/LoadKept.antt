@@ -13,9 +13,9 @@ use Rattle.promise_spec.specs.Endings as ending
 use Rattle.promise_spec.specs.Endings.{Ending, HasRisen, IsBegun, IsCalm}
 use Rattle.promise_spec.specs.Courses.{Observed, Course, order, moments, core_end}
 use Rattle.promise_spec.specs.Loads.{HasLoaded, KeepsLoad}
-use Rattle.promise_laws.proofs.Undisturbed.{calm_undisturbed}
-use Rattle.promise_laws.proofs.Unlocked.{single_unlocked}
-use Rattle.load_rules.specs.Loading.{ShowsLoad}
+use Rattle.promise_laws.proofs.CalmRuns.{calm_undisturbed}
+use Rattle.promise_laws.proofs.SingleRuns.{single_unlocked}
+use Rattle.load_rules.specs.LoadObligations.{ShowsLoad}
 use Rattle.load_rules.proofs.LoadImages.{based, is, part_of, ordered, crashes, sound, records, exit, whole_order}
 
 -- the last of some moments that wrote nothing hasn't either

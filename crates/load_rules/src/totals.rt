@@ -3,7 +3,7 @@ ghost use Rattle.promise_spec.specs.Programs.{Program, IsChecked};
 ghost use Rattle.promise_spec.specs.Entries.{new_log, standing_of};
 ghost use Rattle.promise_spec.specs.Causes.{RunHasDoubt};
 ghost use Rattle.promise_spec.specs.Courses.{Observed, Course, order, core_run, core_end};
-ghost use Rattle.promise_spec.specs.Explained.{IsExplained};
+ghost use Rattle.promise_spec.specs.Explanation.{IsExplained};
 ghost use Rattle.promise_spec.specs.Loads.{bank_text, total_of};
 ghost use Rattle.bank_load.specs.Summaries.{total_kept};
 

@@ -19,7 +19,7 @@ use Rattle.script_tree.specs.declared.programs.FieldDecl.{FieldDecl}
 use Rattle.script_tree.specs.Programs.{ProgramTree}
 use Rattle.serde_json.specs.Data.{Data, Members, no_members, member, put}
 use Rattle.serde_json.specs.Written.{has_float, items_have_float, members_have_float}
-use Rattle.log_reading.proofs.Cutting.{weaker_ok}
+use Rattle.log_reading.proofs.FilePieces.{weaker_ok}
 use Rattle.promise_spec.specs.Reports.{line_of, fields_data, items_of, ended_as}
 use Rattle.log_audit.specs.Lines.{fields_of_kind, grain_data, count_data, record_data, audit_data}
 

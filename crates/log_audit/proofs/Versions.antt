@@ -16,7 +16,7 @@ use Rattle.core_model.specs.CoreState.{Member}
 use Rattle.log_reading.specs.Versions.{named_by, version_named, state_of}
 use Rattle.log_reading.specs.declared.faults.FolderFault.{FolderFault}
 use Rattle.log_reading.proofs.Errors.{failed}
-use Rattle.log_audit.specs.Unread.{IsVersionFault}
+use Rattle.log_audit.specs.RereadFaults.{IsVersionFault}
 
 abbrev pub named_as : UnitNo → Written → Named
 named_as unit w = record { unit = unit; written = w }

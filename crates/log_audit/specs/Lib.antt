@@ -1,7 +1,7 @@
 pub mod Lines
-pub mod Written
-pub mod Unread
-pub mod Writing
+pub mod WrittenGrains
+pub mod RereadFaults
+pub mod ReportOutput
 pub mod Endings
-pub mod Replaying
-pub mod Auditing
+pub mod Replays
+pub mod AuditAnswers

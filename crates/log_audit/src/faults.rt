@@ -1,5 +1,5 @@
 ghost use Rattle.std.specs.Prelude.{◌≡◌};
-ghost use Rattle.silo_opening.specs.Opened.{ending_of};
+ghost use Rattle.silo_opening.specs.OpenedSilo.{ending_of};
 ghost use Rattle.log_audit.specs.Endings.{fault_ending, from_folder};
 
 use host_trait::FileId;

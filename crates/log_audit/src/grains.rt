@@ -8,8 +8,8 @@ ghost use Rattle.host_trait.specs.declared.channels.FileId.TheVariants.{Manager}
 ghost use Rattle.commit_log.specs.declared.records.CommitRecord.{CommitRecord as ARecord};
 ghost use Rattle.log_reading.specs.Blocks.{records_in_file};
 ghost use Rattle.log_reading.specs.Counts.{ReadFaulted};
-ghost use Rattle.log_audit.specs.Unread.{IsLogFault};
-ghost use Rattle.log_audit.specs.Written.{grains_recorded, grains_added};
+ghost use Rattle.log_audit.specs.RereadFaults.{IsLogFault};
+ghost use Rattle.log_audit.specs.WrittenGrains.{grains_recorded, grains_added};
 
 use base_types::{GrainId, Shape};
 use commit_log::{CommitRecord, Written};

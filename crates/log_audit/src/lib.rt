@@ -6,12 +6,12 @@
 mod audits;
 mod faults;
 mod grains;
+mod line_writer;
 mod lines;
 mod parts;
 mod records;
 mod replay;
 mod states;
-mod writing;
 
 pub use audits::{AuditReport, audit, print_audit};
 pub use faults::ReportFault;

@@ -2,7 +2,7 @@
 
 ghost use Rattle.std.specs.Prelude.{◌≡◌, false, codes, map, IfOk, string_bytes};
 ghost use Rattle.script_tree.specs.Programs.{type_tree};
-ghost use Rattle.script_check.specs.Accepted.{IsAcceptedProgram};
+ghost use Rattle.script_check.specs.AcceptedPrograms.{IsAcceptedProgram};
 ghost use Rattle.request_wire.specs.Reply.{counted};
 ghost use Rattle.serde_json.specs.Data.{string, object, member, no_members};
 ghost use Rattle.serde_json.specs.View.{view};

@@ -2,7 +2,7 @@
 
 ghost use Rattle.std.specs.Prelude.{◌≡◌, map, slice_get, IfOk, string_bytes};
 ghost use Rattle.script_tree.specs.Programs.{type_tree};
-ghost use Rattle.script_check.specs.Accepted.{IsAcceptedProgram};
+ghost use Rattle.script_check.specs.AcceptedPrograms.{IsAcceptedProgram};
 ghost use Rattle.request_wire.specs.Reply.{value_data};
 ghost use Rattle.script_meaning.specs.Calls.{numbered};
 ghost use Rattle.serde_json.specs.Data.{array, object};

@@ -6,19 +6,19 @@ ghost use Rattle.commit_log.specs.declared.records.CommitRecord.{CommitRecord as
 ghost use Rattle.log_reading.specs.Blocks.{records_in_file};
 ghost use Rattle.log_reading.specs.Steps.{next_in, seen_in};
 ghost use Rattle.script_tree.specs.Programs.{program_tree};
-ghost use Rattle.silo_opening.specs.Opened.{IsOpenedFrom};
+ghost use Rattle.silo_opening.specs.OpenedSilo.{IsOpenedFrom};
 ghost use Rattle.promise_spec.specs.Words.{Manner};
 ghost use Rattle.promise_spec.specs.Reports.{history_text};
 ghost use Rattle.promise_spec.specs.Commands.{Reports};
 ghost use Rattle.promise_spec.specs.Endings.{HasFailedAs, BadUse};
 ghost use Rattle.log_audit.specs.Lines.{record_lines};
-ghost use Rattle.log_audit.specs.Writing.{PutsPart};
-ghost use Rattle.log_audit.specs.Unread.{IsBlockFault};
+ghost use Rattle.log_audit.specs.ReportOutput.{PutsPart};
+ghost use Rattle.log_audit.specs.RereadFaults.{IsBlockFault};
 ghost use Rattle.log_audit.specs.Endings.{report_ending, reported_as, MayEnd};
 
 use crate::faults::{ReportFault, unopened, unread};
+use crate::line_writer::write_line;
 use crate::lines::record_line;
-use crate::writing::write_line;
 use base_types::{List, Shape};
 use commit_log::CommitRecord;
 use host_trait::Host;

@@ -13,9 +13,9 @@ ghost use Rattle.script_tree.specs.Programs.{ProgramTree, program_tree};
 ghost use Rattle.script_meaning.specs.Play.{found_in};
 ghost use Rattle.promise_spec.specs.Records.{written, put_state};
 ghost use Rattle.promise_spec.specs.Openings.{commit_of};
-ghost use Rattle.promise_spec.specs.Serial.{depth_of};
-ghost use Rattle.log_audit.specs.Unread.{IsVersionFault, IsRereadFault};
-ghost use Rattle.log_audit.specs.Replaying.{same_write, agree, first_states, as_commits, ReplaysTo, AllReplayTo, IsFirstFailure};
+ghost use Rattle.promise_spec.specs.SerialExecution.{depth_of};
+ghost use Rattle.log_audit.specs.RereadFaults.{IsVersionFault, IsRereadFault};
+ghost use Rattle.log_audit.specs.Replays.{same_write, agree, first_states, as_commits, ReplaysTo, AllReplayTo, IsFirstFailure};
 
 use base_types::{GrainId, Origin, Outcome, Shape, State, Store, UnitNo};
 use commit_log::{CommitRecord, Named};

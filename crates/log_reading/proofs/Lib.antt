@@ -1,9 +1,9 @@
-pub mod Following
-pub mod Summing
+pub mod LogBlocks
+pub mod RecordSums
 pub mod Orders
-pub mod Reading
+pub mod BlockLoop
 pub mod Errors
-pub mod Naming
-pub mod Standing
-pub mod Unread
-pub mod Cutting
+pub mod NamedVersions
+pub mod GrainVersions
+pub mod StepFaults
+pub mod FilePieces

@@ -1,6 +1,6 @@
 ghost use Rattle.std.specs.Prelude.{◌≤◌, length, IfOk};
 ghost use Rattle.std.specs.List.{AllByRecursion};
-ghost use Rattle.commit_log.specs.Encodable.{MaySpell};
+ghost use Rattle.commit_log.specs.EncodableRecords.{MaySpell};
 ghost use Rattle.gate_block.specs.Blocks.{IsBlockOfBody};
 
 use crate::printing::add_record;

@@ -1,6 +1,6 @@
-use crate::entering::entering;
+use crate::compared_plays::{asked, done, done_by_body, done_by_value};
 use crate::holdings::told_of_holding;
-use crate::played::{asked, done, done_by_body, done_by_value};
+use crate::option_entries::entering;
 use crate::scopes::told_in_scope;
 use crate::settings::program_of;
 use crate::trouble::Trouble;

@@ -3,7 +3,7 @@ ghost use Rattle.script_tree.specs.Programs.{ProgramTree};
 ghost use Rattle.script_meaning.specs.Play.{asks};
 ghost use Rattle.script_machine.specs.Machines.{AnswersRequest, has_begun, pause_for, rest};
 
-use crate::printing::{Deeds, add_call, add_grain, line_of, list_of, outcome_text};
+use crate::printer::{Deeds, add_call, add_grain, line_of, list_of, outcome_text};
 use crate::settings::Setting;
 use crate::trouble::Trouble;
 use base_types::{Call, GrainId, Mode, Outcome, State};

@@ -16,11 +16,11 @@
 #![tactic(auto)]
 
 mod bench;
+mod compared_plays;
 mod driver;
-mod entering;
 mod holdings;
-mod played;
-mod printing;
+mod option_entries;
+mod printer;
 mod scopes;
 mod settings;
 mod trouble;

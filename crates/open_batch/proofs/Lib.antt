@@ -1,7 +1,7 @@
 pub mod Steps
-pub mod Planned
-pub mod Named
-pub mod Agreed
-pub mod Linked
+pub mod GrainPlan
+pub mod UnitNames
+pub mod DecisionInputs
+pub mod ModelBatch
 pub mod Stages
-pub mod Yes
+pub mod YesVotes

@@ -16,9 +16,9 @@ use Rattle.core_model.specs.Tests.{waiting, planned, is_bad, is_vote_on, is_plan
 use Rattle.core_model.specs.Changes.{new_batch}
 use Rattle.core_model.specs.Settler.{first_unvoted}
 use Rattle.open_batch.specs.declared.members.FinishedUnit.{FinishedUnit}
-use Rattle.open_batch.specs.Taken.{TakenBatch, first_batch, with_vote, with_decisions, without_grain}
-use Rattle.open_batch.specs.Shown.{AreUnits, ShowsBatch}
-use Rattle.open_batch.proofs.Linked.{plan-link}
+use Rattle.open_batch.specs.TakenBatch.{TakenBatch, first_batch, with_vote, with_decisions, without_grain}
+use Rattle.open_batch.specs.ShownBatch.{AreUnits, ShowsBatch}
+use Rattle.open_batch.proofs.ModelBatch.{plan-link}
 
 filter-all : {A : Type 0} (xs : List A) → xs ≡ filter (λ x. true) xs
 filter-all [] = refl

@@ -1,3 +1,3 @@
 pub mod Members
-pub mod Taken
-pub mod Shown
+pub mod TakenBatch
+pub mod ShownBatch

@@ -5,14 +5,14 @@ ghost use Rattle.cell_model.specs.Units.{same_grain};
 ghost use Rattle.cell_model.specs.Decisions.{is_commit};
 ghost use Rattle.core_model.specs.Tests.{is_bad, is_good, is_aborted, is_empty};
 ghost use Rattle.open_batch.specs.Members.{decisions_by, versions_by, to_commit_by};
-ghost use Rattle.open_batch.specs.Taken.{IsOf, first_batch, with_vote, with_decisions, without_grain, commits_in, view_by};
+ghost use Rattle.open_batch.specs.TakenBatch.{IsOf, first_batch, with_vote, with_decisions, without_grain, commits_in, view_by};
 ghost use Rattle.unit_table.specs.Table.{verdict_in};
 
-use crate::deciding::{against, decide_members};
+use crate::decisions::{against, decide_members};
 use crate::members::FinishedUnit;
-use crate::planning::{is_same, plan_of};
-use crate::showing::{aborted_of, effects_of, to_commit_of, versions_of};
-use crate::taking::{prepared_of, sources_of};
+use crate::outcomes::{aborted_of, effects_of, to_commit_of, versions_of};
+use crate::plan::{is_same, plan_of};
+use crate::unit_parts::{prepared_of, sources_of};
 use base_types::{GrainId, List, UnitNo, Version};
 use cell_model::{Decision, Prepared};
 use core_model::{BatchView, Effect};
@@ -41,7 +41,7 @@ pub struct OpenBatch {
 
 impl Model for OpenBatch {
     ghost use Rattle.std.specs.Prelude.{◌≡◌, ◌≤◌, ◌+◌, vec_len, vec_capacity};
-    ghost use Rattle.open_batch.specs.Taken.{TakenBatch, decisions_if};
+    ghost use Rattle.open_batch.specs.TakenBatch.{TakenBatch, decisions_if};
 
     ghost Value = { TakenBatch };
 

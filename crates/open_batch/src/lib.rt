@@ -3,11 +3,11 @@
 #![tactic(auto)]
 
 mod batch;
-mod deciding;
+mod decisions;
 mod members;
-mod planning;
-mod showing;
-mod taking;
+mod outcomes;
+mod plan;
+mod unit_parts;
 
 pub use batch::OpenBatch;
 pub use members::FinishedUnit;

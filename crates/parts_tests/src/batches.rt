@@ -12,11 +12,11 @@
 
 ghost use Rattle.std.specs.Prelude.{◌≡◌, List as Items};
 ghost use Rattle.open_batch.specs.declared.members.FinishedUnit.{FinishedUnit as Finished};
-ghost use Rattle.open_batch.specs.Taken.{IsOf};
+ghost use Rattle.open_batch.specs.TakenBatch.{IsOf};
 
 use crate::cases::{Part, carry, no_step};
 use crate::effects::{effect, grain, one_write};
-use crate::printing::{add_count, add_versions};
+use crate::printer::{add_count, add_versions};
 use crate::steps::{Step, state_of};
 use crate::units::call;
 use base_types::{List, Origin, Outcome, UnitNo};

@@ -15,7 +15,7 @@ ghost use Rattle.cell_model.specs.declared.locks.Ask.TheVariants.{Free};
 ghost use Rattle.cell_model.specs.Locks.{ask};
 
 use crate::cases::{Part, carry, no_step};
-use crate::printing::{add_found, add_versions};
+use crate::printer::{add_found, add_versions};
 use crate::steps::{Step, state_of};
 use base_types::{Mode, UnitNo};
 use cell_model::Ask;

@@ -12,7 +12,7 @@
 
 use crate::cases::{Part, carry, no_step};
 use crate::effects::{one_write, outcome_of};
-use crate::printing::{add_flag, add_known, add_units};
+use crate::printer::{add_flag, add_known, add_units};
 use crate::steps::Step;
 use base_types::{Call, Entry, GrainId, List, Settled, State, Text, Value};
 use core_model::CoreEvent;

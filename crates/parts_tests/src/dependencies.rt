@@ -7,7 +7,7 @@
 //! | `aborted UNIT ..` | tells the oldest source that is one of these |
 
 use crate::cases::{Part, carry, no_step};
-use crate::printing::add_units;
+use crate::printer::add_units;
 use crate::steps::Step;
 use dependency_sets::DepSet;
 use std::alloc::{AllocError, Global};

@@ -7,7 +7,7 @@
 //! | `emit` | the next entry is emitted |
 
 use crate::cases::{Part, carry, no_step};
-use crate::printing::{add_count, add_flag};
+use crate::printer::{add_count, add_flag};
 use crate::steps::Step;
 use base_types::{BadRequest, Entry, Settled, UnitNo};
 use core_lists::EntryList;

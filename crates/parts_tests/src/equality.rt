@@ -8,7 +8,7 @@
 
 use crate::cases::{Part, carry, no_step};
 use crate::effects::{effect, one_read, one_write, outcome_of};
-use crate::printing::add_flag;
+use crate::printer::add_flag;
 use crate::steps::{Step, state_of};
 use base_types::{List, Outcome, UnitNo, Value};
 use core_equality::Same;

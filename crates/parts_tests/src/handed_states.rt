@@ -6,7 +6,7 @@
 //! | `take UNIT GRAIN` | hands the state out, and tells it |
 
 use crate::cases::{Part, carry, no_step};
-use crate::printing::add_state;
+use crate::printer::add_state;
 use crate::steps::Step;
 use core_lists::HandedStates;
 use std::alloc::{AllocError, Global};

@@ -6,7 +6,7 @@
 //! | `get GRAIN` | tells the grain's last state |
 
 use crate::cases::{Part, carry, no_step};
-use crate::printing::add_state;
+use crate::printer::add_state;
 use crate::steps::Step;
 use core_lists::LastStates;
 use std::alloc::{AllocError, Global};

@@ -20,7 +20,7 @@ mod handed_states;
 mod last_states;
 mod locks;
 mod plans;
-mod printing;
+mod printer;
 mod queue;
 mod stacks;
 mod steps;

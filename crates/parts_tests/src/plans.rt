@@ -9,7 +9,7 @@
 
 use crate::cases::{Part, carry, no_step};
 use crate::effects::{effect, grain, one_read};
-use crate::printing::add_each;
+use crate::printer::add_each;
 use crate::steps::{Step, state_of};
 use base_types::{Ends, GrainId, List, State, UnitNo};
 use core_model::Effect;

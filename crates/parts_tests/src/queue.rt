@@ -7,7 +7,7 @@
 //! | `remove UNIT GRAIN` | takes the pair off |
 
 use crate::cases::{Part, carry, no_step};
-use crate::printing::add_flag;
+use crate::printer::add_flag;
 use crate::steps::Step;
 use core_lists::LearnQueue;
 use std::alloc::{AllocError, Global};

@@ -9,7 +9,7 @@
 //! | `versions` | tells the versions, oldest first |
 
 use crate::cases::{Part, carry, no_step};
-use crate::printing::{add_flag, add_found, add_versions};
+use crate::printer::{add_flag, add_found, add_versions};
 use crate::steps::{Step, state_of};
 use std::alloc::{AllocError, Global};
 use version_stack::Stack;

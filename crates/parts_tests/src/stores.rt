@@ -6,7 +6,7 @@
 //! | `get GRAIN` | tells the grain's state |
 
 use crate::cases::{Part, carry, no_step};
-use crate::printing::add_state;
+use crate::printer::add_state;
 use crate::steps::Step;
 use base_types::{Store, Value};
 use std::alloc::{AllocError, Global};

@@ -9,7 +9,7 @@
 //! | `top GRAIN` | tells who wrote the newest version |
 
 use crate::cases::{Part, carry, no_step};
-use crate::printing::add_found;
+use crate::printer::add_found;
 use crate::steps::{Step, state_of};
 use base_types::{GrainId, List, Shape, Store, Text, TypeShape};
 use cell_model::Ask;

@@ -19,7 +19,7 @@
 //! | `shared` | tells that a table may be shared by threads, which is so where this is built |
 
 use crate::cases::{Part, carry, no_step};
-use crate::printing::{add_flag, add_known, add_numbers, add_units};
+use crate::printer::{add_flag, add_known, add_numbers, add_units};
 use crate::steps::Step;
 use base_types::{Call, GrainId, List, Origin, Outcome, State, UnitNo};
 use core_model::{Read, Verdict};

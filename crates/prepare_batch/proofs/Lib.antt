@@ -1,4 +1,4 @@
 pub mod Orders
-pub mod Joined
-pub mod Gathered
-pub mod Tied
+pub mod JoinedPieces
+pub mod GatheredPieces
+pub mod CoreWork

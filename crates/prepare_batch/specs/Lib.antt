@@ -1,3 +1,3 @@
 pub mod Work
 pub mod Pieces
-pub mod Planned
+pub mod CoreWork

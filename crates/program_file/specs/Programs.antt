@@ -59,6 +59,7 @@ abbrev pub unless_fault : ProgramTree → Option CheckFault → Result ProgramTr
 unless_fault types None = Ok types
 unless_fault types (Some fault) = Err (Unchecked fault)
 
+-- the types that were parsed, where nothing is at fault in them, or else the first fault
 abbrev pub checked_in : Result ProgramTree ParseFault → Result ProgramTree ProgramFault
 checked_in (Ok types) = unless_fault types (program_fault types)
 checked_in (Err fault) = Err (Unparsed fault)

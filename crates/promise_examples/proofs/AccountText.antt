@@ -11,7 +11,7 @@ use Rattle.script_lexer.specs.declared.tokens.Token.TheVariants as token
 use Rattle.script_lexer.specs.declared.tokens.Symbol.TheVariants as symbol
 use Rattle.script_lexer.specs.declared.tokens.Word.TheVariants as word
 use Rattle.script_lexer.specs.Lexemes.{name_lexeme, number_lexeme, text_lexeme, symbol_lexeme, lexeme}
-use Rattle.script_lexer.specs.Lexing.{TokensAndStop, lex, lexed, end_of}
+use Rattle.script_lexer.specs.Lexer.{TokensAndStop, lex, lexed, end_of}
 use Rattle.script_expressions.specs.Tokens.{expected, name_at, taken, taken_word}
 use Rattle.script_expressions.specs.Calls.{listed}
 use Rattle.script_expressions.specs.Expressions.{operator_at, operand_chain, tiers, expression_over, operand, expression}

@@ -6,7 +6,7 @@ use Rattle.std.proofs.lemmas.List.{take_all}
 use Rattle.std.proofs.lemmas.Str.{utf8_valid_len-IsUtf8}
 use Rattle.json.proofs.Printed.Utf8.{are_ascii, IsUtf8-are_ascii}
 use Rattle.script_lexer.specs.Lexemes.{name_lexeme, number_lexeme, text_lexeme, symbol_lexeme, lexeme}
-use Rattle.script_lexer.specs.Lexing.{TokensAndStop, lex, lexed, end_of}
+use Rattle.script_lexer.specs.Lexer.{TokensAndStop, lex, lexed, end_of}
 use Rattle.script_expressions.specs.Tokens.{expected, name_at, taken, taken_word}
 use Rattle.script_expressions.specs.Calls.{listed}
 use Rattle.script_expressions.specs.Expressions.{operator_at, operand_chain, tiers, expression_over, operand, expression}

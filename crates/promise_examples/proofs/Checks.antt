@@ -5,7 +5,7 @@ use Rattle.host_trait.specs.declared.channels.Channel.TheVariants.{Output}
 use Rattle.host_trait.specs.declared.channels.FileId.{FileId}
 use Rattle.host_trait.specs.Faults.{Rose}
 use Rattle.host_trait.specs.World.{World, Moment, moment_of}
-use Rattle.two_silos.specs.Generated.{checked}
+use Rattle.two_silos.specs.GeneratedEvents.{checked}
 use Rattle.two_silos.specs.Summaries.{summary_of, line_of}
 use Rattle.promise_spec.specs.Endings as ending
 use Rattle.promise_spec.specs.Courses.{Observed}

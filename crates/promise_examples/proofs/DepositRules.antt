@@ -10,13 +10,13 @@ use Rattle.core_model.specs.declared.events.CoreEvent.{CoreEvent}
 use Rattle.base_types.specs.declared.calls.UnitNo.{UnitNo}
 use Rattle.cell_model.specs.declared.locks.Hold.{Hold}
 use Rattle.cell_model.specs.Locks.{holds_lock}
-use Rattle.core_model.specs.Legal.{Run, begins, ends}
+use Rattle.core_model.specs.LegalRuns.{Run, begins, ends}
 use Rattle.core_model.specs.Tests.{is_before}
 use Rattle.core_model.specs.CoreState.{same_grain, put, put_grain}
 use Rattle.script_meaning.specs.Play.{unit, next, play_over, IsTransaction}
 use Rattle.promise_spec.specs.Lines.{IsLineCall}
 use Rattle.promise_spec.specs.Cores.{state_before}
-use Rattle.promise_spec.specs.Gotten.{got_from}
+use Rattle.promise_spec.specs.UnitAnswers.{got_from}
 use Rattle.promise_spec.specs.UnitRule.{IsDue, KeepsUnitRule}
 use Rattle.promise_spec.specs.TurnRule.{Mover, OfLine, OfUnit, OfSettler, IsTurn, KeepsTurnRule, line_can_begin, picked, movers, picks_used, mover_of}
 use Rattle.promise_examples.specs.Examples.{accounts, account_1, deposit_call, unit_no, deposit_events, conflict_events, conflict_entries, account_run, account_basis, AskDeposits, vote_events, vote_entries, AskBoth}

@@ -9,8 +9,8 @@ use Rattle.core_model.specs.declared.events.CoreEvent.{CoreEvent}
 use Rattle.core_model.specs.declared.events.CoreEvent.TheVariants as event
 use Rattle.core_model.specs.declared.phases.Verdict.TheVariants as verdict
 use Rattle.core_model.specs.Changes.{seal}
-use Rattle.core_model.specs.Legal.{Run, IsLegal}
-use Rattle.core_laws.proofs.Caused.{caused-ends}
+use Rattle.core_model.specs.LegalRuns.{Run, IsLegal}
+use Rattle.core_laws.proofs.EntryCauses.{caused-ends}
 use Rattle.core_model.specs.CoreState.{Member, same_unit, same_grain, put, put_grain}
 use Rattle.host_trait.specs.declared.channels.Channel.{Channel}
 use Rattle.host_trait.specs.declared.channels.Channel.TheVariants.{File}
@@ -33,7 +33,7 @@ use Rattle.promise_spec.specs.Replies.{AreReplies, IsTrueOf, HasNoRecord}
 use Rattle.promise_spec.specs.Crashes.{LeavesAlone, SurvivesCrashes, StaySound, HoldsReplies}
 use Rattle.promise_spec.specs.Batches.{EndsABatch}
 use Rattle.promise_spec.specs.Exits.{IsExit, IsNowhere}
-use Rattle.promise_spec.specs.Explained.{ComeOfEvents, AreAdded, AreSettled, IsExplained}
+use Rattle.promise_spec.specs.Explanation.{ComeOfEvents, AreAdded, AreSettled, IsExplained}
 use Rattle.promise_spec.specs.Journals.{Settlement, KeepsJournal, Backs, commits_of, entries_of}
 use Rattle.promise_spec.specs.Promise.{IsSoundFolder, IsUndisturbed, IsNoLock, HasEnded, Keeps}
 use Rattle.promise_laws.specs.Obligations.{Shows}
@@ -41,11 +41,11 @@ use Rattle.promise_examples.specs.Examples.{account_log, accounts, account_progr
 use Rattle.promise_examples.specs.DepositRuns.{MayHaveDeposit, LeavesOthers, IsBetween, IsDepositRun, deposit_course}
 use Rattle.promise_spec.proofs.Lists.{none_is}
 use Rattle.promise_spec.proofs.OneLog.{one_log}
-use Rattle.promise_laws.proofs.Journaled.{commits_of-append, chained, longest, holds, whole as all_whole, sound}
+use Rattle.promise_laws.proofs.JournalCrashes.{commits_of-append, chained, longest, holds, whole as all_whole, sound}
 use Rattle.promise_examples.proofs.FirstDeposit.{five}
-use Rattle.promise_examples.proofs.Between.{at_each, exit_there, all_less}
+use Rattle.promise_examples.proofs.MomentParts.{at_each, exit_there, all_less}
 use Rattle.promise_examples.proofs.WholeBatches.{no_batch}
-use Rattle.promise_examples.proofs.Showing.{shows}
+use Rattle.promise_examples.proofs.ShownRuns.{shows}
 use Rattle.promise_examples.proofs.FirstFamily.{only, only_at, serial, numbered, none_of, none_counted, family_of}
 use Rattle.promise_examples.proofs.DepositRules.{Each, each_from_0, one_unit_rule, one_turn_rule}
 

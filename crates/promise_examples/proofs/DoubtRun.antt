@@ -13,10 +13,10 @@ use Rattle.core_model.specs.declared.events.CoreEvent.{CoreEvent}
 use Rattle.core_model.specs.declared.phases.Verdict.TheVariants as verdict
 use Rattle.core_model.specs.Causes.{IsCaused}
 use Rattle.core_model.specs.Changes.{leave}
-use Rattle.core_model.specs.Legal.{Run, IsLegal}
-use Rattle.core_model.specs.Serial.{chosen}
+use Rattle.core_model.specs.LegalRuns.{Run, IsLegal}
+use Rattle.core_model.specs.SerialOrder.{chosen}
 use Rattle.core_model.specs.CoreState.{Member, same_grain, put, put_grain}
-use Rattle.core_laws.proofs.Caused.{caused-ends}
+use Rattle.core_laws.proofs.EntryCauses.{caused-ends}
 use Rattle.host_trait.specs.Faults.{Rose}
 use Rattle.host_trait.specs.declared.channels.Channel.TheVariants.{File}
 use Rattle.host_trait.specs.declared.channels.FileId.{FileId}
@@ -40,7 +40,7 @@ use Rattle.promise_spec.specs.Replies.{AreReplies, IsTrueOf, HasNoRecord}
 use Rattle.promise_spec.specs.Crashes.{HasOutcome, LeavesAlone, SurvivesCrashes, StaySound, HoldsReplies}
 use Rattle.promise_spec.specs.Batches.{EndsABatch}
 use Rattle.promise_spec.specs.Exits.{IsExit, ImagesMayDiffer, HasLogAtExit, IsNowhere, units_in_doubt}
-use Rattle.promise_spec.specs.Explained.{ComeOfEvents, AreAdded, AreSettled, IsExplained}
+use Rattle.promise_spec.specs.Explanation.{ComeOfEvents, AreAdded, AreSettled, IsExplained}
 use Rattle.promise_spec.specs.Journals.{Settlement, KeepsJournal, Backs, commits_of, entries_of}
 use Rattle.promise_spec.specs.Promise.{IsSoundFolder, HasEnded, Keeps}
 use Rattle.promise_laws.specs.Obligations.{Shows}
@@ -49,10 +49,10 @@ use Rattle.promise_examples.specs.DepositRuns.{HasNone, HasDeposit, MayHaveDepos
 use Rattle.promise_examples.specs.DoubtRuns.{IsDoubtRun, doubt_course, first_told}
 use Rattle.promise_spec.proofs.Lists.{none_at, some_is, in_append, both_parts}
 use Rattle.promise_spec.proofs.OneLog.{one_log}
-use Rattle.promise_laws.proofs.Journaled.{commits_of-append, chained, longest, holds, whole as all_whole, sound}
-use Rattle.promise_examples.proofs.Between.{at_each, exit_there, all_less}
+use Rattle.promise_laws.proofs.JournalCrashes.{commits_of-append, chained, longest, holds, whole as all_whole, sound}
+use Rattle.promise_examples.proofs.MomentParts.{at_each, exit_there, all_less}
 use Rattle.promise_examples.proofs.WholeBatches.{no_batch}
-use Rattle.promise_examples.proofs.Showing.{shows}
+use Rattle.promise_examples.proofs.ShownRuns.{shows}
 use Rattle.promise_examples.proofs.FirstFamily.{only, either_of, serial, numbered, none_of, none_counted, family_of}
 use Rattle.promise_examples.proofs.DepositRules.{two_unit_rule, two_turn_rule, two_settled}
 

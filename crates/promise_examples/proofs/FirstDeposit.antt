@@ -10,7 +10,7 @@ use Rattle.field_codec.specs.Spelling.{spelling_of_version}
 use Rattle.request_wire.specs.Reply.{reply_line}
 use Rattle.script_meaning.specs.Play.{unit, play_over}
 use Rattle.promise_spec.specs.Programs.{shape_in}
-use Rattle.promise_spec.specs.Serial.{IsSerial}
+use Rattle.promise_spec.specs.SerialExecution.{IsSerial}
 use Rattle.promise_spec.specs.Blocks.{Records, body_of}
 use Rattle.promise_spec.specs.Logs.{IsLog}
 use Rattle.base_types.specs.declared.calls.Value.{Value}

@@ -7,7 +7,7 @@ use Rattle.core_model.specs.CoreState.{Member, CoreState}
 use Rattle.script_tree.specs.Programs.{ProgramTree}
 use Rattle.script_meaning.specs.Play.{unit, play_over}
 use Rattle.promise_spec.specs.Records.{Commit, States}
-use Rattle.promise_spec.specs.Serial.{IsSerial}
+use Rattle.promise_spec.specs.SerialExecution.{IsSerial}
 use Rattle.promise_spec.specs.Images.{AreNumbered}
 use Rattle.promise_spec.specs.Lines.{IsLineCall}
 use Rattle.promise_spec.specs.Cores.{HasBegun}

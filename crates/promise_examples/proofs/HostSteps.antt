@@ -14,7 +14,7 @@ use Rattle.host_trait.proofs.Crashes.{Tears-overlaid}
 use Rattle.cell_model.specs.Units.{same_grain}
 use Rattle.silo_spec.specs.Silos.{manager}
 use Rattle.promise_examples.specs.Examples.{account_1}
-use Rattle.promise_examples.specs.HostCalls.{Held, IsStep, Pull, Emit, Write, FailedWrite, Sync, FailedSync}
+use Rattle.promise_examples.specs.HostCalls.{HostState, IsStep, Pull, Emit, Write, FailedWrite, Sync, FailedSync}
 use Rattle.promise_examples.specs.WrittenRun.{disk_of, moment}
 
 -- ---- the files that a call leaves alone
@@ -56,7 +56,7 @@ beside_log log later grain (Grain (suc slot) g) other = refl
 -- ---- the steps
 
 -- what is held, after these moments
-abbrev pub held : List ℕ → List ℕ → Disk → ℕ → List Moment → (Channel → ℕ) → Held
+abbrev pub held : List ℕ → List ℕ → Disk → ℕ → List Moment → (Channel → ℕ) → HostState
 held input output disk syncs past faults = record {
   world = record { input = input; output = output; disk = disk; syncs = syncs; past = past };
   faults = faults;
@@ -87,7 +87,7 @@ module _ (output : List ℕ) (disk : Disk) (syncs : ℕ) (past : List Moment) (f
   }
 
 module _ (output : List ℕ) (log grain : FileState) (syncs : ℕ) (past : List Moment) where
-  abbrev at_log : FileState → Held
+  abbrev at_log : FileState → HostState
   at_log later = held [] output (disk_of later grain) syncs (past ++ moment output (disk_of later grain) ∷ []) (λ channel. 0)
 
   -- a write to the manager file

@@ -2,13 +2,13 @@ pub mod AccountLogs
 pub mod FirstDeposit
 pub mod AccountText
 pub mod FirstFamily
-pub mod Between
+pub mod MomentParts
 pub mod WholeBatches
 pub mod DepositRules
 pub mod EmptyRun
 pub mod DepositRun
-pub mod Emitting
-pub mod Showing
+pub mod EmittedReplies
+pub mod ShownRuns
 pub mod WrongRuns
 pub mod NewSilo
 pub mod SealingDisks

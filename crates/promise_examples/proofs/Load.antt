@@ -5,7 +5,7 @@ use Rattle.std.specs.Fmt.{digits}
 use Rattle.serde_json.proofs.OnLiterals.{serde_json_on_literals}
 use Rattle.core_model.specs.CoreState.{Member}
 use Rattle.host_trait.specs.World.{Moment, Image, IsImage}
-use Rattle.script_meaning.specs.Worked.{at, int, call}
+use Rattle.script_meaning.specs.WorkedExamples.{at, int, call}
 use Rattle.promise_spec.specs.Programs.{Program}
 use Rattle.promise_spec.specs.Logs.{IsLog}
 use Rattle.promise_spec.specs.Causes.{RunHasDoubt, NoneRose, syncs_of}

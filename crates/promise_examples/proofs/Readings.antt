@@ -4,7 +4,7 @@ use Rattle.std.proofs.lemmas.Bool.{ne_eqb}
 use Rattle.std.proofs.lemmas.List.{take_at}
 use Rattle.host_trait.specs.declared.channels.FileId.TheVariants.{Grain}
 use Rattle.host_trait.specs.World.{Image}
-use Rattle.field_codec.specs.Reading.{whole, refused, field, choice, when_known, chain, count_at, list_at}
+use Rattle.field_codec.specs.Readers.{whole, refused, field, choice, when_known, chain, count_at, list_at}
 use Rattle.field_codec.specs.Fields.{value_at, exactly_at, unit_at, origin_at, answer_at, result_at}
 use Rattle.gate_block.specs.Blocks.{found_at}
 use Rattle.gate_block.specs.Log.{bodies_of, gate_of}

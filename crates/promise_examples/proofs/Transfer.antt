@@ -8,7 +8,7 @@ use Rattle.base_types.specs.declared.calls.Value.{Value}
 use Rattle.base_types.specs.declared.calls.Value.TheVariants.{Int}
 use Rattle.field_codec.specs.Spelling.{spelling_of_version}
 use Rattle.script_meaning.specs.Play.{unit, play_over}
-use Rattle.script_meaning.specs.Worked.{bank, at, int}
+use Rattle.script_meaning.specs.WorkedExamples.{bank, at, int}
 use Rattle.gate_block.specs.Log.{LogsUpTo}
 use Rattle.log_reading.specs.Blocks.{header_damage}
 use Rattle.silo_spec.specs.Silos.{manager}
@@ -16,7 +16,7 @@ use Rattle.silo_spec.specs.Slots.{IsLive}
 use Rattle.promise_spec.specs.Programs.{shape_in}
 use Rattle.promise_spec.specs.Logs.{magic}
 use Rattle.promise_spec.specs.Records.{written}
-use Rattle.promise_spec.specs.Serial.{IsSerial}
+use Rattle.promise_spec.specs.SerialExecution.{IsSerial}
 use Rattle.promise_spec.specs.Blocks.{Records, body_of, AreKept}
 use Rattle.promise_examples.specs.Transfers.{bank_program, paid_in, moved, balance, version_of_source, version_of_target, transfer_body, bank_folder, bank_log}
 use Rattle.promise_spec.specs.Entries.{new_silo, standing_of}

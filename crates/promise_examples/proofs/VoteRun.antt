@@ -13,10 +13,10 @@ use Rattle.core_model.specs.declared.events.CoreEvent.TheVariants as event
 use Rattle.core_model.specs.declared.phases.Verdict.TheVariants as verdict
 use Rattle.core_model.specs.Causes.{IsCaused}
 use Rattle.core_model.specs.Changes.{seal}
-use Rattle.core_model.specs.Legal.{Run, IsLegal}
-use Rattle.core_model.specs.Serial.{committed}
+use Rattle.core_model.specs.LegalRuns.{Run, IsLegal}
+use Rattle.core_model.specs.SerialOrder.{committed}
 use Rattle.core_model.specs.CoreState.{Member, same_grain, put, put_grain}
-use Rattle.core_laws.proofs.Caused.{caused-ends}
+use Rattle.core_laws.proofs.EntryCauses.{caused-ends}
 use Rattle.host_trait.specs.declared.channels.Channel.TheVariants.{File}
 use Rattle.host_trait.specs.declared.channels.FileId.TheVariants.{Manager, Grain}
 use Rattle.host_trait.specs.World.{Moment, Image, IsImage, moment_of}
@@ -36,7 +36,7 @@ use Rattle.promise_spec.specs.Replies.{AreReplies, IsTrueOf}
 use Rattle.promise_spec.specs.Crashes.{LeavesAlone, SurvivesCrashes, StaySound, HoldsReplies}
 use Rattle.promise_spec.specs.Batches.{EndsABatch}
 use Rattle.promise_spec.specs.Exits.{IsExit}
-use Rattle.promise_spec.specs.Explained.{ComeOfEvents, AreSettled, IsExplained}
+use Rattle.promise_spec.specs.Explanation.{ComeOfEvents, AreSettled, IsExplained}
 use Rattle.promise_spec.specs.Journals.{Settlement, KeepsJournal, Backs, commits_of, entries_of}
 use Rattle.promise_spec.specs.Promise.{IsSoundFolder, HasEnded, Keeps}
 use Rattle.promise_laws.specs.Obligations.{Shows}
@@ -45,10 +45,10 @@ use Rattle.promise_examples.specs.DepositRuns.{HasNone, LeavesOthers, IsBetween}
 use Rattle.promise_examples.specs.VoteRuns.{IsVoteRun, vote_course}
 use Rattle.promise_spec.proofs.Lists.{none_at, both_parts}
 use Rattle.promise_spec.proofs.OneLog.{one_log}
-use Rattle.promise_laws.proofs.Journaled.{commits_of-append, chained, longest, holds, whole as all_whole, sound}
-use Rattle.promise_examples.proofs.Between.{at_each, exit_there, all_less}
+use Rattle.promise_laws.proofs.JournalCrashes.{commits_of-append, chained, longest, holds, whole as all_whole, sound}
+use Rattle.promise_examples.proofs.MomentParts.{at_each, exit_there, all_less}
 use Rattle.promise_examples.proofs.WholeBatches.{no_batch}
-use Rattle.promise_examples.proofs.Showing.{shows}
+use Rattle.promise_examples.proofs.ShownRuns.{shows}
 use Rattle.promise_examples.proofs.FirstFamily.{only, either_of, none_counted, no_family}
 use Rattle.promise_examples.proofs.DepositRules.{Each, each_from_0, vote_unit_rule, vote_turn_rule, vote_settled}
 

@@ -34,7 +34,7 @@ use Rattle.promise_spec.specs.Causes.{RoseBy, most_syncs_of}
 use Rattle.promise_spec.specs.Courses.{moments, core_run, core_end}
 use Rattle.promise_spec.specs.Crashes.{Acknowledges, LeavesAlone}
 use Rattle.promise_spec.specs.Batches.{EndsABatch}
-use Rattle.promise_spec.specs.Explained.{AreSettled}
+use Rattle.promise_spec.specs.Explanation.{AreSettled}
 use Rattle.promise_spec.specs.Exits.{IsNowhere}
 use Rattle.promise_spec.specs.Replies.{HasNoRecord}
 use Rattle.promise_spec.specs.Journals.{Settlement, Backs, commits_of}
@@ -57,7 +57,7 @@ use Rattle.promise_examples.proofs.FirstFamily.{only, either_of}
 use Rattle.promise_examples.proofs.NewSilo.{ends_there, gate_is_silo, shut_has_none, gate_only, has_none, new_images, seen_possible, new_folder, has_program}
 use Rattle.promise_examples.proofs.SealingDisks.{sealed_front, gate_front, alone_of, apart_of, between_of, at_new, at_block, at_staged}
 use Rattle.promise_examples.proofs.HostSteps.{pulled, ended, wrote_grain, wrote_log, synced_grain, synced_log, emitted}
-use Rattle.promise_examples.proofs.Between.{at_each, exit_there, all_less}
+use Rattle.promise_examples.proofs.MomentParts.{at_each, exit_there, all_less}
 use Rattle.promise_examples.proofs.WholeBatches.{no_batch}
 use Rattle.promise_examples.proofs.BatchRules.{batch_unit_rule, batch_turn_rule, settled_is, emitted_is, records_are, both_end, no_doubt, no_votes, no_seals, voted_on, four_most, four_syncs}
 use Rattle.promise_examples.proofs.WrittenDoubt.{asks, sound_at_entry}

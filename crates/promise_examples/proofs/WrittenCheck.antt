@@ -1,7 +1,7 @@
 -- The call of `check` that is written out keeps what is promised of it.
 use Rattle.std.proofs.Common.{◌≡◌, inl, inr, true, [], refl, sym, subst, lit<, lit≤}
 use Rattle.std.specs.Fmt.{digits}
-use Rattle.two_silos.specs.Generated.{checked}
+use Rattle.two_silos.specs.GeneratedEvents.{checked}
 use Rattle.two_silos.specs.Summaries.{summary_of, line_of}
 use Rattle.promise_spec.specs.Words.{Command, Check, Say}
 use Rattle.promise_spec.specs.Checks.{Checks}

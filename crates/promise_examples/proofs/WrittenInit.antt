@@ -12,7 +12,7 @@ use Rattle.cell_model.specs.Units.{same_grain}
 use Rattle.gate_block.specs.Log.{bodies_of, IsWhole}
 use Rattle.silo_spec.specs.Silos.{manager, program_file, IsSilo, IsNewSilo, HasProgram}
 use Rattle.silo_spec.specs.Moments.{IsUntouched}
-use Rattle.silo_spec.specs.Making.{IsBeside, IsEarly, IsNewAt}
+use Rattle.silo_spec.specs.Creation.{IsBeside, IsEarly, IsNewAt}
 use Rattle.promise_spec.specs.Programs.{text_limit, program_in}
 use Rattle.promise_spec.specs.Logs.{magic}
 use Rattle.promise_spec.specs.Words.{Command, Init, Run, Show, History, Audit, Load, Check, Say}

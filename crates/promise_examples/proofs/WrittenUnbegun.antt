@@ -11,7 +11,7 @@ use Rattle.host_trait.specs.declared.channels.FileId.TheVariants.{Grain}
 use Rattle.host_trait.specs.Disk.{settled}
 use Rattle.host_trait.specs.World.{Image, IsImage, Moment, moment_of}
 use Rattle.host_trait.proofs.Crashes.{settled_only}
-use Rattle.core_model.specs.Serial.{chosen}
+use Rattle.core_model.specs.SerialOrder.{chosen}
 use Rattle.core_model.specs.CoreState.{GrainId, Member, put, put_grain}
 use Rattle.gate_block.specs.Log.{HasBlocks}
 use Rattle.silo_spec.specs.Silos.{manager, program_file}
@@ -25,7 +25,7 @@ use Rattle.promise_spec.specs.Endings.{DiskFault}
 use Rattle.promise_spec.specs.Courses.{moments, core_run, core_end}
 use Rattle.promise_spec.specs.Crashes.{LeavesAlone}
 use Rattle.promise_spec.specs.Batches.{EndsABatch}
-use Rattle.promise_spec.specs.Explained.{AreAdded, AreSettled}
+use Rattle.promise_spec.specs.Explanation.{AreAdded, AreSettled}
 use Rattle.promise_spec.specs.Exits.{HasBlock, DifferAt, BlockInDoubt}
 use Rattle.promise_spec.specs.Journals.{Settlement, Backs}
 use Rattle.promise_spec.specs.Promise.{Keeps, Promises}
@@ -43,7 +43,7 @@ use Rattle.promise_examples.specs.WrittenUnbegun.{gate_failing, unbegun_after, u
 use Rattle.promise_examples.proofs.NewSilo.{new_images, seen_possible, new_folder, has_program}
 use Rattle.promise_examples.proofs.SealingDisks.{at_new, at_block, at_staged}
 use Rattle.promise_examples.proofs.HostSteps.{pulled, ended, wrote_grain, wrote_log, unbegun_log, synced_grain, synced_log, emitted}
-use Rattle.promise_examples.proofs.Between.{at_each, exit_there, all_less}
+use Rattle.promise_examples.proofs.MomentParts.{at_each, exit_there, all_less}
 use Rattle.promise_examples.proofs.WholeBatches.{no_batch}
 use Rattle.promise_examples.proofs.FirstFamily.{only}
 use Rattle.promise_examples.proofs.DepositRules.{two_unit_rule, two_turn_rule, two_settled}

@@ -29,7 +29,7 @@ use Rattle.promise_spec.specs.Courses.{Observed, seen_at_entry}
 use Rattle.promise_spec.specs.Refusals.{IsHead, IsNamedIn, IsReadFor, IsRefusedBy, MustBeRead, IsUnopened}
 use Rattle.promise_spec.specs.Reports.{show_text, history_text}
 use Rattle.promise_spec.specs.Promise.{Promises}
-use Rattle.promise_laws.specs.Answered.{HasOpened}
+use Rattle.promise_laws.specs.AnsweredRuns.{HasOpened}
 use Rattle.promise_laws.proofs.OpenedRuns.{anywhere_opened}
 use Rattle.promise_spec.specs.Commands.{MakesAs, MakesSilo, MayCut, IsReported, Reports, Audits}
 use Rattle.promise_spec.specs.Loads.{IsUnmadeBy, from_there, Loads}

@@ -27,9 +27,9 @@ use Rattle.core_model.specs.declared.events.CoreEvent.{CoreEvent}
 use Rattle.core_model.specs.declared.events.CoreEvent.TheVariants as event
 use Rattle.core_model.specs.Causes.{HasCause, IsCaused, IsRefusedLock}
 use Rattle.core_model.specs.Events.{applies, run, step}
-use Rattle.core_model.specs.Legal.{begins, ends}
+use Rattle.core_model.specs.LegalRuns.{begins, ends}
 use Rattle.core_model.specs.Lines.{DifferInLine}
-use Rattle.core_model.specs.Serial.{committed, chosen}
+use Rattle.core_model.specs.SerialOrder.{committed, chosen}
 use Rattle.core_model.specs.CoreState.{Member, Mode}
 use Rattle.gate_block.proofs.Logs as blocks
 use Rattle.gate_block.specs.Log.{LogsUpTo, gate_of}
@@ -44,29 +44,29 @@ use Rattle.script_meaning.specs.Play.{IsTransaction}
 use Rattle.promise_spec.specs.Programs.{Program, shape_in}
 use Rattle.promise_spec.specs.Entries.{Log, Standing, standing_of, grown, records_of}
 use Rattle.promise_spec.specs.Records.{Commit, States, after_writes, AreRecordsOf}
-use Rattle.promise_spec.specs.Serial.{IsSerial, played}
+use Rattle.promise_spec.specs.SerialExecution.{IsSerial, played}
 use Rattle.promise_spec.specs.Logs.{magic, IsLog, IsPrefix, StandsUpTo}
 use Rattle.promise_spec.specs.Moments.{IsImageOf}
 use Rattle.promise_spec.specs.Lines.{ReadsLineAs, IsLineCall}
 use Rattle.promise_spec.specs.Outputs.{reply_lines}
 use Rattle.promise_spec.specs.Cores.{AppliesAt, how_many, state_before, core_from}
 use Rattle.promise_spec.specs.Causes.{RunHasDoubt, NoneRose, is_vote_of, is_unsealed, syncs_of, most_syncs_of}
-use Rattle.promise_examples.specs.Alive.{IsAlive}
+use Rattle.promise_examples.specs.AliveUnits.{IsAlive}
 use Rattle.promise_spec.specs.Family.{states_after}
 use Rattle.promise_spec.specs.Endings as ending
 use Rattle.promise_spec.specs.Courses.{Observed, Course, order, moments, seen_at_entry, lines, core_run, core_end}
 use Rattle.promise_spec.specs.Replies.{IsEntryOf, IsTrueOf, HasNoRecord}
 use Rattle.promise_spec.specs.Crashes.{Acknowledges, IsAside}
 use Rattle.promise_spec.specs.Batches.{kept_by}
-use Rattle.promise_spec.specs.Explained.{AreAdded}
+use Rattle.promise_spec.specs.Explanation.{AreAdded}
 use Rattle.promise_spec.specs.Exits.{HasBlock, IsExit}
 use Rattle.promise_spec.specs.Promise.{Keeps, KeepsAnywhere, HasReadAll}
 use Rattle.promise_spec.specs.Loads.{KeepsLoad}
 use Rattle.promise_spec.proofs.Lists.{head_of, none_is, none_at, some_is, each_of, in_append, either_in, get_seam, member_at}
-use Rattle.promise_spec.proofs.Opened.{in_settled, no_events}
+use Rattle.promise_spec.proofs.OpenedRuns.{in_settled, no_events}
 use Rattle.promise_spec.proofs.CountedSyncs.{long_syncs}
 use Rattle.promise_examples.proofs.WholeBatches.{not_between}
-use Rattle.promise_examples.proofs.Emitting.{emitted_before, nothing_unwritten}
+use Rattle.promise_examples.proofs.EmittedReplies.{emitted_before, nothing_unwritten}
 use Rattle.promise_spec.proofs.OneLog.{one_log}
 use Rattle.silo_spec.specs.Slots.{IsLive}
 use Rattle.promise_spec.specs.Blocks.{body_of, Block, Records, BlockFits}

@@ -21,6 +21,7 @@ use Rattle.promise_examples.specs.Examples.{account_log, accounts, account_progr
 abbrev pub HasNone : Image → Type 0
 HasNone image = IsLog 0 image (account_log []) × HasProgram account_program.text (image program_file)
 
+-- the image is one of the program, and has the deposit's record as its log
 abbrev pub HasDeposit : Image → Type 0
 HasDeposit image =
     IsLog 0 image (account_log (first_commit ∷ [])) × HasProgram account_program.text (image program_file)

@@ -24,7 +24,7 @@ use Rattle.commit_log.specs.declared.records.CommitRecord.{CommitRecord}
 use Rattle.core_model.specs.declared.effects.Effect.{Effect}
 use Rattle.core_model.specs.declared.events.CoreEvent.{CoreEvent}
 use Rattle.core_model.specs.declared.events.CoreEvent.TheVariants as event
-use Rattle.core_model.specs.Legal.{Run}
+use Rattle.core_model.specs.LegalRuns.{Run}
 use Rattle.promise_spec.specs.Programs.{Program}
 use Rattle.promise_spec.specs.Records.{Commit}
 use Rattle.promise_spec.specs.Entries.{new_silo, Log, new_log, grown}
@@ -112,6 +112,7 @@ deposit = record {
   writes = record { grain = account_1; place = record { offset = 0; len = 19 } } ∷ [];
 }
 
+-- that record with the state that it left, a balance of 5
 abbrev pub first_commit : Commit
 first_commit = record { logged = deposit; states = (Int (pos 5) ∷ []) ∷ [] }
 
@@ -133,6 +134,7 @@ next_commit n sum = record {
 abbrev pub first_version : Version
 first_version = record { unit = record { 0 = 1 }; state = Int (pos 5) ∷ [] }
 
+-- the 19 bytes of the grain's file: unit 1, and a state of one number, 5
 abbrev pub grain_bytes : List ℕ
 grain_bytes = 1 ∷ 0 ∷ 0 ∷ 0 ∷ 0 ∷ 0 ∷ 0 ∷ 0 ∷ 1 ∷ 0 ∷ 0 ∷ 5 ∷ 0 ∷ 0 ∷ 0 ∷ 0 ∷ 0 ∷ 0 ∷ 0 ∷ []
 
@@ -211,9 +213,11 @@ conflict_events =
 abbrev pub locked_entry : Entry
 locked_entry = record { line = 2; unit = unit_no 2; what = Lock (unit_no 1) account_1 }
 
+-- line 1 is told that nobody knows
 abbrev pub doubt_entry : Entry
 doubt_entry = record { line = 1; unit = unit_no 1; what = InDoubt }
 
+-- what both lines of the conflict are told, in the order of their writing
 abbrev pub conflict_entries : List Entry
 conflict_entries = locked_entry ∷ doubt_entry ∷ []
 
@@ -246,9 +250,11 @@ vote_events =
 abbrev pub voted_entry : Entry
 voted_entry = record { line = 1; unit = unit_no 1; what = VotedDown account_1 }
 
+-- line 2 is told on what it depends
 abbrev pub dependent_entry : Entry
 dependent_entry = record { line = 2; unit = unit_no 2; what = Dependency (unit_no 1) }
 
+-- what both lines are told where the file wasn't written
 abbrev pub vote_entries : List Entry
 vote_entries = voted_entry ∷ dependent_entry ∷ []
 

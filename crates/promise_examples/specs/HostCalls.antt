@@ -42,22 +42,22 @@ CallCounts (Sync file) old new = NoneFailed old new
 CallCounts (FailedSync file) old new = FailedOn (File file) old new
 
 -- what a host holds, and its counts
-pub record Held : Type 0 where
+pub record HostState : Type 0 where
   pub world : World
   pub faults : Channel → ℕ
 
 -- a call, and what is held after it
 pub record HostStep : Type 0 where
   pub call : HostCall
-  pub after : Held
+  pub after : HostState
 
 -- the call may lead from the one to the other
-pub record IsStep (call : HostCall) (old new : Held) : Type 0 where
+pub record IsStep (call : HostCall) (old new : HostState) : Type 0 where
   pub says : CallSays call old.world new.world
   pub counts : CallCounts call old.faults new.faults
 
 -- the steps lead, one after another, from what is held before to what is held after
-abbrev pub Lead : Held → List HostStep → Held → Type 0
+abbrev pub Lead : HostState → List HostStep → HostState → Type 0
 Lead old [] new = old ≡ new
 Lead old (step ∷ steps) new = IsStep step.call old step.after × Lead step.after steps new
 

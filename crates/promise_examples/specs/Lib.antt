@@ -14,4 +14,4 @@ pub mod Readings
 pub mod WrittenRefusal
 pub mod WrittenInit
 pub mod WrittenCheck
-pub mod Alive
+pub mod AliveUnits

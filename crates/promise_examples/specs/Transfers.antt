@@ -6,12 +6,13 @@ use Rattle.base_types.specs.declared.stores.Version.{Version}
 use Rattle.commit_log.specs.declared.records.CommitRecord.{CommitRecord}
 use Rattle.host_trait.specs.declared.channels.FileId.TheVariants.{Manager, Program as ProgramFile, Grain}
 use Rattle.host_trait.specs.World.{Image}
-use Rattle.script_meaning.specs.Worked.{bank, at, int, call}
+use Rattle.script_meaning.specs.WorkedExamples.{bank, at, int, call}
 use Rattle.promise_spec.specs.Programs.{Program}
 use Rattle.promise_spec.specs.Records.{Commit}
 use Rattle.promise_spec.specs.Logs.{magic}
 use Rattle.promise_spec.specs.Entries.{Log, new_log, grown}
 
+-- the bank's program: no text is needed, as only its types are looked at
 abbrev pub bank_program : Program
 bank_program = record { text = []; types = bank }
 
@@ -58,9 +59,11 @@ balance unit n = record { unit = record { 0 = unit }; state = int n ∷ [] }
 abbrev pub version_of_deposit : List ℕ
 version_of_deposit = 1 ∷ 0 ∷ 0 ∷ 0 ∷ 0 ∷ 0 ∷ 0 ∷ 0 ∷ 1 ∷ 0 ∷ 0 ∷ 100 ∷ 0 ∷ 0 ∷ 0 ∷ 0 ∷ 0 ∷ 0 ∷ 0 ∷ []
 
+-- the transfer's version of account 1: unit 2, and a balance of 70
 abbrev pub version_of_source : List ℕ
 version_of_source = 2 ∷ 0 ∷ 0 ∷ 0 ∷ 0 ∷ 0 ∷ 0 ∷ 0 ∷ 1 ∷ 0 ∷ 0 ∷ 70 ∷ 0 ∷ 0 ∷ 0 ∷ 0 ∷ 0 ∷ 0 ∷ 0 ∷ []
 
+-- the transfer's version of account 2: unit 2, and a balance of 30
 abbrev pub version_of_target : List ℕ
 version_of_target = 2 ∷ 0 ∷ 0 ∷ 0 ∷ 0 ∷ 0 ∷ 0 ∷ 0 ∷ 1 ∷ 0 ∷ 0 ∷ 30 ∷ 0 ∷ 0 ∷ 0 ∷ 0 ∷ 0 ∷ 0 ∷ 0 ∷ []
 

@@ -16,7 +16,7 @@ use Rattle.promise_spec.specs.Endings.{Done}
 use Rattle.promise_spec.specs.Records.{Commit}
 use Rattle.promise_spec.specs.Courses.{Observed, Course}
 use Rattle.promise_examples.specs.Examples.{account_log, account_1, unit_no, deposited, begin_deposit, first_commit, next_commit, first_entry, grain_bytes, manager_of}
-use Rattle.promise_examples.specs.HostCalls.{Held, HostStep, Pull, Emit, Write, Sync}
+use Rattle.promise_examples.specs.HostCalls.{HostState, HostStep, Pull, Emit, Write, Sync}
 use Rattle.promise_examples.specs.WrittenRun.{new_manager, disk_of, new_disk, pending_block, pending_gate, request_line, reply_text, moment, opened}
 use Rattle.promise_examples.specs.WrittenDoubt.{second_line, pair_before}
 use Rattle.promise_examples.specs.WrittenVote.{reading_manner}
@@ -41,6 +41,7 @@ both_commits = first_commit ∷ next_commit 4 9 ∷ []
 abbrev pub second_entry : Entry
 second_entry = record { line = 2; unit = unit_no 2; what = Told (outcome.Value (Int (pos 9))) }
 
+-- what both lines are told
 abbrev pub both_entries : List Entry
 both_entries = first_entry ∷ second_entry ∷ []
 
@@ -50,6 +51,7 @@ both_entries = first_entry ∷ second_entry ∷ []
 abbrev pub second_version : List ℕ
 second_version = 2 ∷ 0 ∷ 0 ∷ 0 ∷ 0 ∷ 0 ∷ 0 ∷ 0 ∷ 1 ∷ 0 ∷ 0 ∷ 9 ∷ 0 ∷ 0 ∷ 0 ∷ 0 ∷ 0 ∷ 0 ∷ 0 ∷ []
 
+-- the grain's file with both versions
 abbrev pub both_versions : List ℕ
 both_versions = grain_bytes ++ second_version
 
@@ -130,7 +132,7 @@ batch_course = record {
 -- ---- the host's calls
 
 -- what is held between: this input is left, this is written, on this disk, after so many syncs and so many of the moments
-abbrev pub batch_at : List ℕ → List ℕ → Disk → ℕ → ℕ → Held
+abbrev pub batch_at : List ℕ → List ℕ → Disk → ℕ → ℕ → HostState
 batch_at input output disk syncs many = record {
   world = record { input = input; output = output; disk = disk; syncs = syncs; past = opened ∷ take many batching };
   faults = λ channel. 0;

@@ -10,7 +10,7 @@ use Rattle.promise_spec.specs.Words.{Manner}
 use Rattle.promise_spec.specs.Endings.{DiskFault}
 use Rattle.promise_spec.specs.Courses.{Observed}
 use Rattle.promise_examples.specs.Examples.{account_1, grain_bytes, block_bytes}
-use Rattle.promise_examples.specs.HostCalls.{Held, HostStep, Pull, Emit, Write, Sync, FailedSync}
+use Rattle.promise_examples.specs.HostCalls.{HostState, HostStep, Pull, Emit, Write, Sync, FailedSync}
 use Rattle.promise_examples.specs.WrittenRun.{new_disk, version_disk, voted_disk, block_disk, staged_disk, sealing_disk, request_line, moment, opened}
 
 -- two lines may be in flight, and of what can take a turn it is the first, then twice the second
@@ -81,14 +81,14 @@ doubted = record {
 -- ---- the host's calls
 
 -- what is held once the opening has synced: this input is left
-abbrev pub pair_opened : List ℕ → Held
+abbrev pub pair_opened : List ℕ → HostState
 pair_opened input = record {
   world = record { input = input; output = []; disk = new_disk; syncs = 1; past = opened ∷ [] };
   faults = λ channel. 0;
 }
 
 -- what is held between the replies: this disk, after so many syncs and so many of the moments, with these counts
-abbrev pub pair_at : Disk → ℕ → ℕ → (Channel → ℕ) → Held
+abbrev pub pair_at : Disk → ℕ → ℕ → (Channel → ℕ) → HostState
 pair_at disk syncs many faults = record {
   world = record { input = []; output = locked_text; disk = disk; syncs = syncs; past = opened ∷ take many (told ++ doubting) };
   faults = faults;

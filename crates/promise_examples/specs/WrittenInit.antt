@@ -12,7 +12,7 @@ use Rattle.promise_spec.specs.Words.{plain_manner}
 use Rattle.promise_spec.specs.Endings.{Done, BadUse, DiskFault, AlreadyASilo, BadProgram}
 use Rattle.promise_spec.specs.Courses.{Observed}
 use Rattle.promise_examples.specs.Examples.{account_text, program_bytes}
-use Rattle.promise_examples.specs.HostCalls.{Held, HostStep, Pull, Write, Sync, FailedSync}
+use Rattle.promise_examples.specs.HostCalls.{HostState, HostStep, Pull, Write, Sync, FailedSync}
 use Rattle.promise_examples.specs.WrittenRun.{new_manager, moment}
 use Rattle.promise_examples.specs.WrittenDoubt.{one_fault}
 
@@ -42,6 +42,7 @@ length_field = 179 ∷ 0 ∷ 0 ∷ 0 ∷ []
 abbrev pub length_pending : FileState
 length_pending = record { base = []; seen = length_field; ranges = (0, 4) ∷ []; longest = 4 }
 
+-- writes of the program file's length field and of its text are pending
 abbrev pub text_pending : FileState
 text_pending = record { base = []; seen = program_bytes; ranges = (4, 179) ∷ (0, 4) ∷ []; longest = 183 }
 
@@ -61,6 +62,7 @@ opening_gate = record { base = 0 ∷ header_bytes; seen = new_manager; ranges = 
 abbrev pub empty_disk : Disk
 empty_disk = head_disk (settled []) (settled [])
 
+-- the disk of the new silo
 abbrev pub made_disk : Disk
 made_disk = head_disk (settled program_bytes) (settled new_manager)
 
@@ -103,7 +105,7 @@ made = record {
 }
 
 -- what is held between: this input is left, on this disk, after so many syncs and so many of the moments; no call has failed
-abbrev pub init_at : List ℕ → Disk → ℕ → ℕ → Held
+abbrev pub init_at : List ℕ → Disk → ℕ → ℕ → HostState
 init_at input disk syncs many = record {
   world = record { input = input; output = []; disk = disk; syncs = syncs; past = take many (unsynced ∷ filling) };
   faults = λ channel. 0;
@@ -151,7 +153,7 @@ made_again = record {
 }
 
 -- what is held between: nothing has happened but that the input was read
-abbrev pub again_read : Held
+abbrev pub again_read : HostState
 again_read = record { world = record again_before { input = [] }; faults = λ channel. 0 }
 
 -- the input and its end, and the sync
@@ -174,6 +176,7 @@ cut_fault = Unparsed (Unexpected 8)
 abbrev pub cut_before : World
 cut_before = record { input = cut_text; output = []; disk = empty_disk; syncs = 0; past = [] }
 
+-- what the host holds after it: the input was read, and nothing else has happened
 abbrev pub cut_after : World
 cut_after = record { input = []; output = []; disk = empty_disk; syncs = 0; past = [] }
 

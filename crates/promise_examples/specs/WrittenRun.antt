@@ -10,7 +10,7 @@ use Rattle.promise_spec.specs.Words.{plain_manner}
 use Rattle.promise_spec.specs.Endings.{Done}
 use Rattle.promise_spec.specs.Courses.{Observed}
 use Rattle.promise_examples.specs.Examples.{account_1, program_bytes, grain_bytes, block_bytes, manager_of, manager_bytes}
-use Rattle.promise_examples.specs.HostCalls.{Held, HostStep, Pull, Emit, Write, Sync}
+use Rattle.promise_examples.specs.HostCalls.{HostState, HostStep, Pull, Emit, Write, Sync}
 
 -- the manager file of a new silo: its 16 bytes
 abbrev pub new_manager : List ℕ
@@ -48,6 +48,7 @@ pending_gate block =
 abbrev pub block_pending : FileState
 block_pending = pending_block block_bytes
 
+-- the deposit's block stands behind its gate, and a write of the gate is pending
 abbrev pub gate_pending : FileState
 gate_pending = pending_gate block_bytes
 
@@ -55,6 +56,7 @@ gate_pending = pending_gate block_bytes
 abbrev pub version_disk : Disk
 version_disk = disk_of (settled new_manager) version_pending
 
+-- the disk once the version is synced
 abbrev pub voted_disk : Disk
 voted_disk = disk_of (settled new_manager) (settled grain_bytes)
 
@@ -62,6 +64,7 @@ voted_disk = disk_of (settled new_manager) (settled grain_bytes)
 abbrev pub block_disk : Disk
 block_disk = disk_of block_pending (settled grain_bytes)
 
+-- the disk once the block is synced behind its closed gate
 abbrev pub staged_disk : Disk
 staged_disk = disk_of (settled (manager_bytes 0)) (settled grain_bytes)
 
@@ -69,6 +72,7 @@ staged_disk = disk_of (settled (manager_bytes 0)) (settled grain_bytes)
 abbrev pub sealing_disk : Disk
 sealing_disk = disk_of gate_pending (settled grain_bytes)
 
+-- the disk once the open gate is synced
 abbrev pub sealed_disk : Disk
 sealed_disk = disk_of (settled (manager_bytes 1)) (settled grain_bytes)
 
@@ -128,7 +132,7 @@ written_run = record {
 
 -- what is held between, while nothing is written: this input is left, on this disk, after so many syncs and so many of
 -- the moments of `sealing`; no call has failed
-abbrev pub held_at : List ℕ → Disk → ℕ → ℕ → Held
+abbrev pub held_at : List ℕ → Disk → ℕ → ℕ → HostState
 held_at input disk syncs many = record {
   world = record { input = input; output = []; disk = disk; syncs = syncs; past = opened ∷ take many sealing };
   faults = λ channel. 0;

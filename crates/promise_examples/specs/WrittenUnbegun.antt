@@ -7,7 +7,7 @@ use Rattle.silo_spec.specs.Silos.{manager}
 use Rattle.promise_spec.specs.Endings.{DiskFault}
 use Rattle.promise_spec.specs.Courses.{Observed, Course}
 use Rattle.promise_examples.specs.Examples.{account_log, account_1, grain_bytes, block_bytes, conflict_entries, conflict_events}
-use Rattle.promise_examples.specs.HostCalls.{Held, HostStep, Pull, Emit, Write, FailedWrite, Sync}
+use Rattle.promise_examples.specs.HostCalls.{HostState, HostStep, Pull, Emit, Write, FailedWrite, Sync}
 use Rattle.promise_examples.specs.WrittenRun.{new_disk, version_disk, voted_disk, block_disk, staged_disk, request_line, moment, opened}
 use Rattle.promise_examples.specs.WrittenDoubt.{pair_manner, second_line, locked_text, doubt_text, told, pair_before, one_fault, pair_opened, pair_at}
 
@@ -57,7 +57,7 @@ unbegun_course = record {
 -- ---- the host's calls
 
 -- what is held once the write of the gate has failed
-abbrev pub gate_failed : Held
+abbrev pub gate_failed : HostState
 gate_failed = record {
   world = record { input = []; output = locked_text; disk = staged_disk; syncs = 3; past = opened ∷ gate_failing };
   faults = one_fault;

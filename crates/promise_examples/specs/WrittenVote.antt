@@ -12,7 +12,7 @@ use Rattle.promise_spec.specs.Words.{Manner}
 use Rattle.promise_spec.specs.Endings.{Done}
 use Rattle.promise_spec.specs.Courses.{Observed}
 use Rattle.promise_examples.specs.Examples.{account_1, grain_bytes}
-use Rattle.promise_examples.specs.HostCalls.{Held, HostStep, Pull, Emit, FailedWrite, Sync}
+use Rattle.promise_examples.specs.HostCalls.{HostState, HostStep, Pull, Emit, FailedWrite, Sync}
 use Rattle.promise_examples.specs.WrittenRun.{new_manager, disk_of, new_disk, request_line, moment, opened}
 
 -- two lines may be in flight, and the first of what can take a turn takes it
@@ -89,14 +89,14 @@ voted = record {
 -- ---- the host's calls
 
 -- what is held before the first reply: this input is left, on this disk, after so many of the moments, with these counts
-abbrev pub reading_at : List ℕ → Disk → ℕ → (Channel → ℕ) → Held
+abbrev pub reading_at : List ℕ → Disk → ℕ → (Channel → ℕ) → HostState
 reading_at input disk many faults = record {
   world = record { input = input; output = []; disk = disk; syncs = 1; past = opened ∷ take many failing };
   faults = faults;
 }
 
 -- what is held between the replies
-abbrev pub reading_told : Held
+abbrev pub reading_told : HostState
 reading_told = record {
   world = record { input = []; output = voted_text; disk = cut_disk; syncs = 1; past = opened ∷ (failing ++ vote_told) };
   faults = grain_fault;

@@ -4,13 +4,13 @@ use Rattle.base_types.specs.declared.entries.Settled.{Settled}
 use Rattle.core_model.specs.CoreState.{UnitNo, CoreState}
 use Rattle.core_model.specs.declared.phases.Verdict.TheVariants.{Aborted}
 use Rattle.core_model.specs.Events.{applies, step}
-use Rattle.core_model.specs.Legal.{Run, begins, ends}
+use Rattle.core_model.specs.LegalRuns.{Run, begins, ends}
 use Rattle.core_model.specs.Causes.{HasCause}
-use Rattle.core_laws.proofs.Aborting.{StoppedFrom, stops-ends}
+use Rattle.core_laws.proofs.AbortCauses.{StoppedFrom, stops-ends}
 use Rattle.promise_spec.specs.Causes.{IsAbortedFor, AreCaused}
 use Rattle.promise_spec.specs.UnitRule.{Basis, KeepsUnitRule}
 use Rattle.promise_laws.specs.Legality.{is_play, applied_run}
-use Rattle.promise_laws.proofs.Legal.{ends_alike, legal}
+use Rattle.promise_laws.proofs.LegalRuns.{ends_alike, legal}
 use Rattle.promise_laws.proofs.SerialCauses.{PutBack, put_back, explained_causes}
 
 -- each unit that ended aborted was aborted by an event of the run, with its cause

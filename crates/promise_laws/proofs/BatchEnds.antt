@@ -16,34 +16,34 @@ use Rattle.core_model.specs.CoreState.{UnitNo, GrainId, Member, Value, put, Batc
 use Rattle.core_model.specs.Tests.{is_good, is_committed, is_final}
 use Rattle.core_model.specs.Answers.{effect_of}
 use Rattle.core_model.specs.Batches.{sizes}
-use Rattle.core_model.specs.Serial.{batch_begin, committed, chosen}
+use Rattle.core_model.specs.SerialOrder.{batch_begin, committed, chosen}
 use Rattle.core_model.specs.Changes.{new_unit, swept, swept_by}
 use Rattle.core_model.specs.Events.{applies, can, does, step, run, is_allowed, is_after_doubt}
-use Rattle.core_model.specs.Legal.{Run, IsLegal, begins, ends}
+use Rattle.core_model.specs.LegalRuns.{Run, IsLegal, begins, ends}
 use Rattle.core_model.specs.Replies.{OnlyExtends}
 use Rattle.core_laws.proofs.Puts.{put-other}
-use Rattle.core_laws.proofs.Decoded.{Change, bad, begin, lock, raise, refuse, finish, end_plain, end_snapshot, release, take_batch, vote, decide_some, decide_none, seal_batch, spoil_batch, doubt_batch, learn, emit, halt_run, want, load, decode}
+use Rattle.core_laws.proofs.EventCases.{Change, bad, begin, lock, raise, refuse, finish, end_plain, end_snapshot, release, take_batch, vote, decide_some, decide_none, seal_batch, spoil_batch, doubt_batch, learn, emit, halt_run, want, load, decode}
 use Rattle.core_laws.proofs.Orders.{in_take, in_drop}
-use Rattle.core_laws.proofs.Kept.{Kept, decided_size}
+use Rattle.core_laws.proofs.KeptInvariant.{Kept, decided_size}
 use Rattle.core_laws.proofs.Growth.{grows-step}
-use Rattle.core_laws.proofs.Split.{Split, no_doubt, split-order}
+use Rattle.core_laws.proofs.CommitOrder.{Split, no_doubt, split-order}
 use Rattle.core_model.specs.Laws.{extended}
-use Rattle.core_laws.proofs.Further.{run-append}
-use Rattle.core_laws.proofs.Replied.{extends-ends}
+use Rattle.core_laws.proofs.FurtherLaws.{run-append}
+use Rattle.core_laws.proofs.Replies.{extends-ends}
 use Rattle.core_laws.proofs.Ends.{kept-ends, split-ends}
 use Rattle.core_laws.proofs.Consistency.{consistent-ends}
-use Rattle.core_laws.proofs.Voted.{follows-ends}
+use Rattle.core_laws.proofs.Votes.{follows-ends}
 use Rattle.promise_spec.specs.Records.{Commit, AreRecordsOf}
 use Rattle.promise_spec.specs.UnitRule.{Basis, IsDue, KeepsUnitRule}
 use Rattle.promise_laws.specs.Legality.{is_play, applied_run}
-use Rattle.promise_laws.proofs.Legal.{ends_alike, legal}
+use Rattle.promise_laws.proofs.LegalRuns.{ends_alike, legal}
 use Rattle.host_trait.specs.World.{Moment, Passes}
 use Rattle.host_trait.proofs.Moments.{weaker}
 use Rattle.promise_spec.specs.Programs.{Program}
-use Rattle.promise_spec.specs.Gotten.{got_from}
+use Rattle.promise_spec.specs.UnitAnswers.{got_from}
 use Rattle.promise_spec.proofs.Lists.{none_at}
 use Rattle.promise_laws.specs.Closings.{AllEnd}
-use Rattle.promise_spec.specs.Explained.{AreAdded}
+use Rattle.promise_spec.specs.Explanation.{AreAdded}
 use Rattle.promise_spec.specs.Entries.{Log, grown}
 use Rattle.promise_spec.specs.Batches.{units_in, kept_by, EndsABatch}
 

@@ -16,14 +16,14 @@ use Rattle.core_model.specs.Causes.{HasCause, IsCaused}
 use Rattle.core_model.specs.declared.events.CoreEvent.{CoreEvent}
 use Rattle.core_model.specs.declared.events.CoreEvent.TheVariants.{Bad}
 use Rattle.core_model.specs.Events.{applies, run, step}
-use Rattle.core_model.specs.Legal.{Run, begins}
+use Rattle.core_model.specs.LegalRuns.{Run, begins}
 use Rattle.core_model.specs.Lines.{DifferInLine}
 use Rattle.script_tree.specs.Programs.{ProgramTree}
 use Rattle.script_meaning.proofs.Plays.{plays_are_orderly_lem}
 use Rattle.promise_spec.specs.Programs.{Program, shape_in}
 use Rattle.promise_spec.specs.Records.{Commit, States, after_writes}
 use Rattle.promise_spec.specs.Entries.{Log, new_silo, records_of, standing_of}
-use Rattle.promise_spec.specs.Serial.{depth_of, IsSerial}
+use Rattle.promise_spec.specs.SerialExecution.{depth_of, IsSerial}
 use Rattle.promise_spec.specs.Logs.{IsPrefix}
 use Rattle.promise_spec.specs.Images.{IsWholeSilo, AreNumbered}
 use Rattle.promise_spec.specs.Lines.{IsBadLine}
@@ -31,7 +31,7 @@ use Rattle.promise_spec.specs.Cores.{AppliesAt}
 use Rattle.promise_spec.specs.Causes.{RunHasDoubt}
 use Rattle.promise_spec.specs.Endings as ending
 use Rattle.promise_spec.specs.Courses.{Observed, Course, order, lines, seen_at_entry, core_run, core_end}
-use Rattle.promise_spec.specs.Explained.{IsExplained}
+use Rattle.promise_spec.specs.Explanation.{IsExplained}
 use Rattle.promise_spec.specs.Promise.{IsAnswered}
 use Rattle.promise_spec.specs.Replies.{IsTrueOf}
 use Rattle.promise_spec.specs.Loads.{load_calls, line_valued, is_faulted, line_aborted, how_many_lines, KeepsLoad}
@@ -39,8 +39,8 @@ use Rattle.promise_spec.proofs.Lists.{get_seam}
 use Rattle.promise_spec.proofs.OneLog.{one_log}
 use Rattle.promise_spec.proofs.Standings.{grown_records}
 use Rattle.promise_laws.proofs.Bases.{begins_above}
-use Rattle.promise_laws.proofs.Journaled.{numbered_front}
-use Rattle.promise_laws.proofs.Doubted.{not-both}
+use Rattle.promise_laws.proofs.JournalCrashes.{numbered_front}
+use Rattle.promise_laws.proofs.DoubtedBatches.{not-both}
 use Rattle.promise_laws.proofs.TrueReplies.{replies_within, replies_once, replies_true}
 
 -- ---- counts

@@ -29,7 +29,7 @@ use Rattle.promise_spec.proofs.Lists.{each_of, in_append, either_in}
 use Rattle.promise_spec.proofs.OneLog.{one_log}
 use Rattle.promise_spec.proofs.Openings.{reads_is_live, log_is_read, reads_is}
 use Rattle.promise_laws.proofs.SettledLogs.{settled_logs}
-use Rattle.promise_laws.proofs.Stepping.{entries_of-append, joined_logs, begins_at, now_says, keep_more, say_more, cut_says}
+use Rattle.promise_laws.proofs.JournalSteps.{entries_of-append, joined_logs, begins_at, now_says, keep_more, say_more, cut_says}
 use Rattle.promise_laws.specs.Closings.{ReadsMayStay, IsBehind, AllEnd, Carries}
 use Rattle.promise_laws.specs.Obligations.{ShowsAnywhere, Opens, SaysIn, Journals, Lasts}
 use Rattle.promise_laws.proofs.OpenedRuns.{answered_promised}

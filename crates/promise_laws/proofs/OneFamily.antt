@@ -17,11 +17,11 @@ use Rattle.core_model.specs.Answers.{effect_of}
 use Rattle.core_model.specs.Laws.{ChildrenAreKnown, AnswersAreOutcomes}
 use Rattle.core_model.specs.Lines.{EntriesAreOnce}
 use Rattle.core_model.specs.Holders.{HoldersHaveRead}
-use Rattle.core_model.specs.Legal.{Run, IsLegal, ends}
+use Rattle.core_model.specs.LegalRuns.{Run, IsLegal, ends}
 use Rattle.core_laws.proofs.Orders.{Member-get}
-use Rattle.core_laws.proofs.Further.{children-ends, answers-ends}
-use Rattle.core_laws.proofs.Held.{holders-ends}
-use Rattle.core_laws.proofs.Lined.{once-ends}
+use Rattle.core_laws.proofs.FurtherLaws.{children-ends, answers-ends}
+use Rattle.core_laws.proofs.HeldLocks.{holders-ends}
+use Rattle.core_laws.proofs.LineEntries.{once-ends}
 use Rattle.script_tree.specs.Programs.{ProgramTree}
 use Rattle.script_meaning.specs.Play.{GrainState, play_over}
 use Rattle.script_holding.specs.Holding.{same_grain}
@@ -30,23 +30,23 @@ use Rattle.script_meaning.specs.Trails.{answers_of, reads_of, Has, states_of}
 use Rattle.promise_spec.specs.Programs.{Program}
 use Rattle.promise_spec.specs.Records.{Commit, States, IsRecordOf}
 use Rattle.promise_spec.specs.Entries.{records_of, standing_of}
-use Rattle.promise_spec.specs.Serial.{depth_of, played}
+use Rattle.promise_spec.specs.SerialExecution.{depth_of, played}
 use Rattle.promise_spec.specs.Lines.{IsLineCall}
 use Rattle.promise_spec.specs.Images.{IsAboveParent, AreNumbered}
 use Rattle.promise_spec.specs.Cores.{HasBegun}
 use Rattle.promise_spec.specs.Family.{is_child, answer_of, AreAnswers, HasGranted, LeadsTo, IsReached, by_line, by_parent, states_after, IsAskedBefore, IsUnitOf, IsFamily}
 use Rattle.promise_spec.specs.Courses.{Observed, Course, order, lines, basis, core_run, core_end}
-use Rattle.promise_spec.specs.Explained.{AreAdded, IsExplained}
+use Rattle.promise_spec.specs.Explanation.{AreAdded, IsExplained}
 use Rattle.promise_spec.proofs.Lists.{head_of, tail_of, none_is, none_at, some_is}
 use Rattle.promise_laws.specs.Legality.{is_play, applied_run}
-use Rattle.promise_laws.proofs.Legal.{ends_alike, legal}
+use Rattle.promise_laws.proofs.LegalRuns.{ends_alike, legal}
 use Rattle.promise_laws.proofs.SerialRecords.{above_entries}
-use Rattle.promise_laws.proofs.AskedFor.{asks_child}
-use Rattle.promise_laws.proofs.Handed.{outcome-at}
-use Rattle.promise_laws.specs.Handed.{found}
-use Rattle.promise_laws.proofs.Told.{HasOutcome, Led, Known}
+use Rattle.promise_laws.proofs.AskedChildren.{asks_child}
+use Rattle.promise_laws.proofs.UnitAnswers.{outcome-at}
+use Rattle.promise_laws.specs.UnitAnswers.{found}
+use Rattle.promise_laws.proofs.UnitOrigins.{HasOutcome, Led, Known}
 use Rattle.promise_laws.proofs.ToldRuns.{known-ends}
-use Rattle.promise_laws.proofs.Added.{AreSerialOf, added-of, record-unit, unit-record, one-record, StandsAfter, stands-after, reads-stand}
+use Rattle.promise_laws.proofs.AddedRecords.{AreSerialOf, added-of, record-unit, unit-record, one-record, StandsAfter, stands-after, reads-stand}
 use Rattle.promise_spec.proofs.Standings.{grown_records}
 use Rattle.promise_laws.proofs.TrueReplies.{below-next}
 

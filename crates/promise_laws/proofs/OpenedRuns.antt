@@ -3,7 +3,7 @@ use Rattle.std.proofs.Common.{◌≡◌, inl, inr, ℕ, ◌≤◌, List, [], ◌
 use Rattle.std.proofs.lemmas.List.{append-nil}
 use Rattle.base_types.specs.declared.entries.Entry.{Entry}
 use Rattle.core_model.specs.declared.events.CoreEvent.{CoreEvent}
-use Rattle.core_model.specs.Legal.{ends}
+use Rattle.core_model.specs.LegalRuns.{ends}
 use Rattle.core_model.specs.CoreState.{Member}
 use Rattle.promise_spec.specs.Programs.{Program, shape_in}
 use Rattle.promise_spec.specs.Images.{IsWholeFolder}
@@ -16,7 +16,7 @@ use Rattle.promise_spec.specs.Entries.{standing_of}
 use Rattle.promise_spec.specs.Words.{Manner}
 use Rattle.promise_spec.specs.Promise.{Keeps, KeepsAnywhere, Promises}
 use Rattle.promise_spec.proofs.Lists.{in_append}
-use Rattle.promise_laws.specs.Answered.{HasAnswered, HasOpened}
+use Rattle.promise_laws.specs.AnsweredRuns.{HasAnswered, HasOpened}
 use Rattle.promise_laws.specs.Obligations.{ShowsAnywhere, Lasts, Shows}
 use Rattle.promise_laws.proofs.Bases.{reads_above}
 use Rattle.promise_laws.proofs.OneFamily.{explained_family}

@@ -20,17 +20,17 @@ use Rattle.core_model.specs.Causes.{HasCause, HasLine, IsCaused, decided_state}
 use Rattle.core_model.specs.Chains.{WroteGrain}
 use Rattle.core_model.specs.Changes.{new_unit, swept, swept_by}
 use Rattle.core_model.specs.Events.{applies, can, does, step, run, is_allowed}
-use Rattle.core_model.specs.Legal.{Run, IsLegal, begins, ends}
+use Rattle.core_model.specs.LegalRuns.{Run, IsLegal, begins, ends}
 use Rattle.core_model.specs.Laws.{extended}
 use Rattle.core_model.specs.Tests.{is_over, state_written}
 use Rattle.core_model.specs.CoreState.{UnitNo, GrainId, Value, Write, Member, same_grain, put, Units, Batch, CoreState}
-use Rattle.core_laws.proofs.Caused.{caused-ends}
+use Rattle.core_laws.proofs.EntryCauses.{caused-ends}
 use Rattle.core_laws.proofs.Consistency.{depends-ends}
-use Rattle.core_laws.proofs.Decoded.{Change, bad, begin, lock, raise, refuse, finish, end_plain, end_snapshot, release, take_batch, vote, decide_some, decide_none, seal_batch, spoil_batch, doubt_batch, learn, emit, halt_run, want, load, decode}
+use Rattle.core_laws.proofs.EventCases.{Change, bad, begin, lock, raise, refuse, finish, end_plain, end_snapshot, release, take_batch, vote, decide_some, decide_none, seal_batch, spoil_batch, doubt_batch, learn, emit, halt_run, want, load, decode}
 use Rattle.core_laws.proofs.Ends.{kept-ends}
-use Rattle.core_laws.proofs.Further.{legal-front, grows-ends}
+use Rattle.core_laws.proofs.FurtherLaws.{legal-front, grows-ends}
 use Rattle.core_laws.proofs.Growth.{Grows}
-use Rattle.core_laws.proofs.Lined.{once-ends}
+use Rattle.core_laws.proofs.LineEntries.{once-ends}
 use Rattle.core_laws.proofs.Puts.{put-is, put-other, put-from}
 use Rattle.script_tree.specs.Programs.{ProgramTree}
 use Rattle.promise_spec.specs.Cores.{applied_in}
@@ -38,8 +38,8 @@ use Rattle.promise_spec.specs.Outputs.{HasUnit, IsGrainIn, MaySay, IsProper}
 use Rattle.promise_spec.specs.UnitRule.{Basis, KeepsUnitRule}
 use Rattle.promise_spec.proofs.Lists.{parts_of, each_of, all_of, in_append}
 use Rattle.promise_laws.specs.Legality.{is_play, applied_run}
-use Rattle.promise_laws.specs.Proper.{IsEventIn}
-use Rattle.promise_laws.proofs.Legal.{ends_alike, legal}
+use Rattle.promise_laws.specs.ProperEvents.{IsEventIn}
+use Rattle.promise_laws.proofs.LegalRuns.{ends_alike, legal}
 use Rattle.promise_laws.proofs.Tellings.{Tells, telling-ends}
 use Rattle.promise_laws.proofs.UnitsByRule.{AllSaid, ByRule, all_said, rule-run, rule-begins}
 

@@ -6,15 +6,15 @@ use Rattle.base_types.specs.declared.entries.Entry.{Entry}
 use Rattle.core_model.specs.CoreState.{Member, CoreState}
 use Rattle.core_model.specs.declared.events.CoreEvent.{CoreEvent}
 use Rattle.core_model.specs.Events.{applies, step, run}
-use Rattle.core_model.specs.Legal.{Run, begins, ends}
+use Rattle.core_model.specs.LegalRuns.{Run, begins, ends}
 use Rattle.core_model.specs.Causes.{HasCause, HasLine, IsCaused}
-use Rattle.core_laws.proofs.Caused.{caused-ends}
-use Rattle.core_laws.proofs.Replied.{no-change}
+use Rattle.core_laws.proofs.EntryCauses.{caused-ends}
+use Rattle.core_laws.proofs.Replies.{no-change}
 use Rattle.promise_spec.specs.Cores.{applied_from}
 use Rattle.promise_spec.specs.UnitRule.{Basis, KeepsUnitRule}
 use Rattle.promise_laws.specs.Legality.{is_play, applied_run}
 use Rattle.promise_spec.proofs.Lists.{head_of, tail_of, none_is}
-use Rattle.promise_laws.proofs.Legal.{ends_alike, legal}
+use Rattle.promise_laws.proofs.LegalRuns.{ends_alike, legal}
 
 -- where an event stands among all, with the same state before it
 pub record PutBack (w : CoreState) (events before : List CoreEvent) (event : CoreEvent) : Type 0 where

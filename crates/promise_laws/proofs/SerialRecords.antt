@@ -11,8 +11,8 @@ use Rattle.core_model.specs.declared.effects.Effect.{Effect}
 use Rattle.core_model.specs.declared.effects.Read.{Read}
 use Rattle.core_model.specs.CoreState.{Member, same_grain}
 use Rattle.core_model.specs.Tests as core
-use Rattle.core_model.specs.Serial as model
-use Rattle.core_model.specs.Legal.{Run, IsLegal, ends}
+use Rattle.core_model.specs.SerialOrder as model
+use Rattle.core_model.specs.LegalRuns.{Run, IsLegal, ends}
 use Rattle.core_laws.proofs.Ends.{serial-ends, serial-chosen-ends}
 use Rattle.script_tree.specs.Programs.{ProgramTree}
 use Rattle.script_meaning.specs.Play.{GrainState, Played, play_over, is_below}
@@ -22,12 +22,12 @@ use Rattle.script_meaning.proofs.Plays.{play_rests_on_reads_lem, plays_are_order
 use Rattle.promise_spec.specs.Programs.{Program}
 use Rattle.promise_spec.specs.Records.{Commit, States, put_state, after_writes, IsRecordOf, AreRecordsOf}
 use Rattle.promise_spec.specs.Entries.{LogEntry, Recorded, Standing, after_entry, after_entries, standing_of}
-use Rattle.promise_spec.specs.Serial.{IsSerial, Replays, depth_of, played}
+use Rattle.promise_spec.specs.SerialExecution.{IsSerial, Replays, depth_of, played}
 use Rattle.promise_spec.specs.UnitRule.{played_by, IsPlayOf}
 use Rattle.promise_spec.specs.Courses.{Observed, Course, basis, core_run, core_end}
-use Rattle.promise_spec.specs.Explained.{IsExplained}
+use Rattle.promise_spec.specs.Explanation.{IsExplained}
 use Rattle.promise_laws.specs.Legality.{is_play, applied_run}
-use Rattle.promise_laws.proofs.Legal.{is_play-true, ends_alike, legal}
+use Rattle.promise_laws.proofs.LegalRuns.{is_play-true, ends_alike, legal}
 
 -- no grain is below itself
 irreflexive : (g : GrainId) → IsTrue (is_below g g) → ⊥

@@ -6,17 +6,17 @@ use Rattle.core_model.specs.declared.phases.Phase.TheVariants.{Unborn, Finished}
 use Rattle.core_model.specs.CoreState.{UnitNo, GrainId, Member, Value, CoreState}
 use Rattle.core_model.specs.Answers.{effect_of}
 use Rattle.core_laws.proofs.Orders.{Member-get}
-use Rattle.core_laws.proofs.Lined.{Rises}
+use Rattle.core_laws.proofs.LineEntries.{Rises}
 use Rattle.cell_model.proofs.Units.{filter-member}
 use Rattle.script_tree.specs.Programs.{ProgramTree}
 use Rattle.promise_spec.specs.Programs.{Program}
 use Rattle.promise_spec.specs.Records.{Commit, AreRecordsOf}
 use Rattle.promise_spec.specs.Entries as entry
 use Rattle.promise_spec.specs.Entries.{LogEntry, Standing, after_entry, after_entries, records_of, standing_of}
-use Rattle.promise_spec.specs.Serial.{IsSerial, IsSerialFrom}
+use Rattle.promise_spec.specs.SerialExecution.{IsSerial, IsSerialFrom}
 use Rattle.promise_spec.specs.Images.{IsAboveParent, AreNumbered}
 use Rattle.promise_spec.specs.Courses.{Observed, Course, lines, order, program_in_force, core_end}
-use Rattle.promise_spec.specs.Explained.{IsExplained}
+use Rattle.promise_spec.specs.Explanation.{IsExplained}
 use Rattle.promise_spec.proofs.Standings.{serial_from, grown_records}
 use Rattle.promise_spec.proofs.Lists.{all_of, both_parts}
 use Rattle.promise_laws.proofs.SerialRecords.{explained_serial}

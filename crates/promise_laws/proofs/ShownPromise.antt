@@ -5,7 +5,7 @@ use Rattle.promise_spec.specs.Words.{Manner}
 use Rattle.promise_spec.specs.Openings.{Reads, opened_as}
 use Rattle.promise_spec.specs.Courses.{Observed, Course, seen_at_entry}
 use Rattle.promise_spec.specs.Promise.{Keeps, KeepsAnywhere, Promises}
-use Rattle.promise_spec.proofs.Opened.{kept_anywhere}
+use Rattle.promise_spec.proofs.OpenedRuns.{kept_anywhere}
 use Rattle.promise_spec.proofs.Openings.{log_is_read}
 use Rattle.promise_laws.specs.Obligations.{Shows}
 use Rattle.promise_laws.proofs.ShownRuns.{shown}

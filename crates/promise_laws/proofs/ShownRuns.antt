@@ -9,7 +9,7 @@ use Rattle.host_trait.specs.World.{Moment, Image, IsImage, moment_of, last_of}
 use Rattle.promise_spec.specs.Programs.{Program, shape_in}
 use Rattle.promise_spec.specs.Records.{Commit}
 use Rattle.promise_spec.specs.Entries.{Log, records_of, standing_of, grown}
-use Rattle.promise_spec.specs.Serial.{IsSerialFrom}
+use Rattle.promise_spec.specs.SerialExecution.{IsSerialFrom}
 use Rattle.promise_spec.specs.Logs.{IsLog}
 use Rattle.promise_spec.specs.Images.{AreNumbered, IsWholeSilo, IsSound, IsSoundFolder}
 use Rattle.promise_spec.specs.Moments.{IsImageOf, IsLongest}
@@ -20,22 +20,22 @@ use Rattle.promise_spec.specs.Courses.{Observed, Course, order, moments, lines, 
 use Rattle.promise_spec.specs.Orders.{IsOrdered}
 use Rattle.promise_spec.specs.Replies.{AreReplies}
 use Rattle.promise_spec.specs.Crashes.{SurvivesCrashes, StaySound, HoldsReplies}
-use Rattle.promise_spec.specs.Explained.{ComeOfEvents, IsExplained}
+use Rattle.promise_spec.specs.Explanation.{ComeOfEvents, IsExplained}
 use Rattle.promise_spec.specs.Exits.{ImagesMayDiffer, IsExit}
 use Rattle.promise_spec.specs.Journals.{KeepsJournal, commits_of}
 use Rattle.promise_spec.specs.Promise.{HasEnded, Keeps}
 use Rattle.promise_spec.proofs.OneLog.{one_log}
-use Rattle.promise_laws.proofs.Journaled as journaled
+use Rattle.promise_laws.proofs.JournalCrashes as journaled
 use Rattle.promise_laws.specs.Obligations.{Opens, Journals, ExplainsEvents, Shows, ShowsAnywhere}
 use Rattle.promise_laws.proofs.SerialRecords.{above_entries, explained_serial}
 use Rattle.promise_laws.proofs.Bases.{begins_above}
 use Rattle.promise_laws.proofs.AbortCauses.{explained_aborts}
 use Rattle.promise_laws.proofs.OneFamily.{explained_family}
 use Rattle.promise_laws.proofs.TrueReplies.{known_of, in_settled, replies_within, replies_once, replies_ordered, replies_true}
-use Rattle.promise_laws.proofs.Undisturbed.{calm_undisturbed}
-use Rattle.promise_laws.proofs.Unlocked.{single_unlocked}
+use Rattle.promise_laws.proofs.CalmRuns.{calm_undisturbed}
+use Rattle.promise_laws.proofs.SingleRuns.{single_unlocked}
 use Rattle.promise_spec.proofs.Doubts.{doubt_left}
-use Rattle.promise_laws.proofs.Doubted.{doubt-rose, doubt-told}
+use Rattle.promise_laws.proofs.DoubtedBatches.{doubt-rose, doubt-told}
 use Rattle.promise_laws.proofs.ShownOrder.{order_serial, order_numbered}
 
 -- ---- causes

@@ -13,7 +13,7 @@ use Rattle.log_reading.specs.Blocks.{header_damage}
 use Rattle.silo_spec.specs.Slots.{IsLive}
 use Rattle.silo_spec.specs.Silos.{manager, IsSilo, IsNewSilo, new_header}
 use Rattle.silo_spec.specs.Moments.{IsAsAtEntry, IsUntouched}
-use Rattle.silo_spec.specs.Making.{CameThisFar, IsEarly, FromFirstSync, IsNewAt}
+use Rattle.silo_spec.specs.Creation.{CameThisFar, IsEarly, FromFirstSync, IsNewAt}
 use Rattle.promise_spec.specs.Programs.{Program, IsChecked}
 use Rattle.promise_spec.specs.Entries.{Log, new_log}
 use Rattle.promise_spec.specs.Prefixes.{IsPrefixOf}

@@ -16,16 +16,16 @@ use Rattle.core_model.specs.CoreState.{UnitNo, GrainId, nobody, Member, Mode, Va
 use Rattle.core_model.specs.Tests.{is_over, is_final, ask_answer, members}
 use Rattle.core_model.specs.Changes.{entry_for, told, entries_in, result_told, refusal, after_refusal, after_end, verdict_of, decisions_of, with_decisions, closed, seal, spoil, leave, swept, swept_by}
 use Rattle.core_model.specs.Events.{applies, can, does, step, run, is_allowed}
-use Rattle.core_model.specs.Serial.{AllLoadsTrue}
-use Rattle.core_model.specs.Legal.{Run, IsLegal, begins, ends}
+use Rattle.core_model.specs.SerialOrder.{AllLoadsTrue}
+use Rattle.core_model.specs.LegalRuns.{Run, IsLegal, begins, ends}
 use Rattle.core_laws.proofs.Puts.{put-is}
 use Rattle.core_laws.proofs.Invariant.{Inv}
-use Rattle.core_laws.proofs.Decoded.{Change, bad, begin, lock, raise, refuse, finish, end_plain, end_snapshot, release, take_batch, vote, decide_some, decide_none, seal_batch, spoil_batch, doubt_batch, learn, emit, halt_run, want, load, decode, ask-refused}
-use Rattle.core_laws.proofs.Kept.{Kept, kept-step, inv-judged, inv-decided}
+use Rattle.core_laws.proofs.EventCases.{Change, bad, begin, lock, raise, refuse, finish, end_plain, end_snapshot, release, take_batch, vote, decide_some, decide_none, seal_batch, spoil_batch, doubt_batch, learn, emit, halt_run, want, load, decode, ask-refused}
+use Rattle.core_laws.proofs.KeptInvariant.{Kept, kept-step, inv-judged, inv-decided}
 use Rattle.core_laws.proofs.Growth.{Grows, grows-change}
 use Rattle.core_laws.proofs.Dependencies.{Depends, depends-step}
 use Rattle.core_laws.proofs.Reasons.{Reason, Reasons, Argued, argued-decided, argued-step}
-use Rattle.core_laws.proofs.Caused.{entry-parts, entries-parts, member-place}
+use Rattle.core_laws.proofs.EntryCauses.{entry-parts, entries-parts, member-place}
 use Rattle.core_laws.proofs.Ends.{kept-begins}
 use Rattle.script_tree.specs.Programs.{ProgramTree}
 use Rattle.promise_spec.specs.Lines.{IsBadLine}

@@ -10,18 +10,18 @@ use Rattle.core_model.specs.declared.events.CoreEvent.{CoreEvent}
 use Rattle.core_model.specs.declared.events.CoreEvent.TheVariants.{Load, Grant}
 use Rattle.core_model.specs.Changes.{cleaned, restacked, after_lock, after_raise, read_of, swept, swept_by}
 use Rattle.core_model.specs.Events.{applies, can, does, step, run, start, is_allowed}
-use Rattle.core_model.specs.Serial.{IsTrueLoad}
-use Rattle.core_model.specs.Legal.{Run, begins, ends}
+use Rattle.core_model.specs.SerialOrder.{IsTrueLoad}
+use Rattle.core_model.specs.LegalRuns.{Run, begins, ends}
 use Rattle.core_laws.proofs.Puts.{put-other, put-same, grain-same}
-use Rattle.core_laws.proofs.Kept.{Kept, kept-step, kept-start}
+use Rattle.core_laws.proofs.KeptInvariant.{Kept, kept-step, kept-start}
 use Rattle.core_laws.proofs.Children.{Kin, kin-step}
 use Rattle.core_laws.proofs.Growth.{Grows, grows-same, grows-change}
-use Rattle.core_laws.proofs.Decoded.{Change, bad, begin, lock, raise, refuse, finish, end_plain, end_snapshot, release, take_batch, vote, decide_some, decide_none, seal_batch, spoil_batch, doubt_batch, learn, emit, halt_run, want, load, decode}
+use Rattle.core_laws.proofs.EventCases.{Change, bad, begin, lock, raise, refuse, finish, end_plain, end_snapshot, release, take_batch, vote, decide_some, decide_none, seal_batch, spoil_batch, doubt_batch, learn, emit, halt_run, want, load, decode}
 use Rattle.script_tree.specs.Programs.{ProgramTree}
-use Rattle.promise_spec.specs.Gotten.{Got, GotLock, GotRaise, got_lock, got_by, got_from, wanted_by, wanted_lock, kids_got}
+use Rattle.promise_spec.specs.UnitAnswers.{Got, GotLock, GotRaise, got_lock, got_by, got_from, wanted_by, wanted_lock, kids_got}
 use Rattle.promise_spec.specs.UnitRule.{Basis, IsDue, KeepsUnitRule}
-use Rattle.promise_laws.specs.Handed.{want_of, reads_got, found, Traced}
-use Rattle.promise_laws.proofs.Told.{Known, Told, IsSteady, steady-same, steady-phase, known-steady, traced-steady, quiet, first-lock, then-raise, map-push, traced-got, told-begun}
+use Rattle.promise_laws.specs.UnitAnswers.{want_of, reads_got, found, Traced}
+use Rattle.promise_laws.proofs.UnitOrigins.{Known, Told, IsSteady, steady-same, steady-phase, known-steady, traced-steady, quiet, first-lock, then-raise, map-push, traced-got, told-begun}
 
 -- a first lock
 told-locked : (types : ProgramTree) (lines : List (List ℕ)) (base : ℕ) (opening : GrainId → List Value) (w : CoreState) (got : UnitNo → List Got) (u : UnitNo) (g : GrainId) (mode : Mode) → Kept opening w →

@@ -16,36 +16,36 @@ use Rattle.core_model.specs.declared.phases.Verdict.TheVariants.{Open, Chosen, C
 use Rattle.core_model.specs.CoreState.{UnitNo, GrainId, nobody, Member, Value, Outcome, CoreState}
 use Rattle.core_model.specs.Tests.{is_good, is_committed, outcome_of, outcome_in}
 use Rattle.core_model.specs.Answers.{effect_of}
-use Rattle.core_model.specs.Consistent.{plain_effect, PlainRunsArePlays}
-use Rattle.core_model.specs.Legal.{Run, IsLegal, begins, ends}
+use Rattle.core_model.specs.Consistency.{plain_effect, PlainRunsArePlays}
+use Rattle.core_model.specs.LegalRuns.{Run, IsLegal, begins, ends}
 use Rattle.core_model.specs.Laws.{ChildrenAreKnown, AnswersAreOutcomes}
 use Rattle.core_model.specs.Lines as core
 use Rattle.core_laws.proofs.Orders.{in_drop, Member-get}
-use Rattle.core_laws.proofs.Kept.{Kept}
-use Rattle.core_laws.proofs.Split.{Split, split-order}
+use Rattle.core_laws.proofs.KeptInvariant.{Kept}
+use Rattle.core_laws.proofs.CommitOrder.{Split, split-order}
 use Rattle.core_laws.proofs.Ends.{kept-ends, split-ends}
-use Rattle.core_laws.proofs.Further.{turned-ends, children-ends, answers-ends}
+use Rattle.core_laws.proofs.FurtherLaws.{turned-ends, children-ends, answers-ends}
 use Rattle.core_laws.proofs.Verdicts.{Turned}
-use Rattle.core_laws.proofs.PlainPlayed.{plain-ends}
-use Rattle.core_laws.proofs.Lined.{Rises, rises-part, once-ends}
+use Rattle.core_laws.proofs.PlainPlays.{plain-ends}
+use Rattle.core_laws.proofs.LineEntries.{Rises, rises-part, once-ends}
 use Rattle.script_tree.specs.Programs.{ProgramTree}
 use Rattle.script_meaning.specs.Play.{Played, play_over}
 use Rattle.promise_spec.specs.Programs.{Program}
 use Rattle.promise_spec.specs.Records.{Commit, IsRecordOf, AreRecordsOf}
 use Rattle.promise_spec.specs.Entries as entry
 use Rattle.promise_spec.specs.Entries.{LogEntry, records_among, Standing, new_silo, after_entry, after_entries, Log, records_of, standing_of}
-use Rattle.promise_spec.specs.Serial.{depth_of}
+use Rattle.promise_spec.specs.SerialExecution.{depth_of}
 use Rattle.promise_spec.specs.Logs.{IsPrefix}
 use Rattle.promise_spec.specs.Images.{IsAboveParent, AreNumbered}
 use Rattle.promise_spec.specs.Family.{is_child, answer_of, AreAnswers}
 use Rattle.promise_spec.specs.Replies.{IsLoggedReply, IsPlainReply, IsTrueOf, StandInOrder}
 use Rattle.promise_spec.specs.UnitRule.{played_by, IsPlayOf}
 use Rattle.promise_spec.specs.Courses.{Observed, Course, lines, basis, core_run, core_end}
-use Rattle.promise_spec.specs.Explained.{AreAdded, IsExplained}
+use Rattle.promise_spec.specs.Explanation.{AreAdded, IsExplained}
 use Rattle.promise_spec.proofs.Standings.{grown_records}
 use Rattle.promise_spec.proofs.Lists.{some_is, none_at, member_at, either_in, in_append}
 use Rattle.promise_laws.specs.Legality.{is_play, applied_run}
-use Rattle.promise_laws.proofs.Legal.{is_play-true, ends_alike, legal}
+use Rattle.promise_laws.proofs.LegalRuns.{is_play-true, ends_alike, legal}
 use Rattle.promise_laws.proofs.SerialRecords.{plays_again, above_entries}
 use Rattle.promise_laws.proofs.UnitsByRule.{AllSaid, ByRule, all_said, rule-run, rule-begins}
 use Rattle.promise_laws.proofs.Tellings.{Tells, Telling, telling-ends}

@@ -1,8 +1,8 @@
 pub mod QuietRuns
 pub mod SoundMoments
 pub mod Legality
-pub mod Handed
-pub mod Proper
+pub mod UnitAnswers
+pub mod ProperEvents
 pub mod Obligations
-pub mod Answered
+pub mod AnsweredRuns
 pub mod Closings

@@ -6,8 +6,8 @@ ghost use Rattle.promise_spec.specs.Journals.{Settlement, AllLog, IsSealing, com
 ghost use Rattle.core_model.specs.declared.events.CoreEvent.{CoreEvent};
 ghost use Rattle.core_model.specs.Events.{step};
 ghost use Rattle.core_model.specs.Laws.{extended};
-ghost use Rattle.core_model.specs.Legal.{Run, ends};
-ghost use Rattle.promise_spec.specs.Explained.{AreAdded};
+ghost use Rattle.core_model.specs.LegalRuns.{Run, ends};
+ghost use Rattle.promise_spec.specs.Explanation.{AreAdded};
 ghost use Rattle.promise_spec.specs.Records.{Commit};
 ghost use Rattle.promise_spec.specs.Entries.{Log, grown};
 ghost use Rattle.promise_spec.specs.UnitRule.{Basis, KeepsUnitRule};

@@ -1,5 +1,5 @@
 ghost use Rattle.std.specs.Prelude.{◌<◌};
-ghost use Rattle.core_model.specs.Legal.{Run};
+ghost use Rattle.core_model.specs.LegalRuns.{Run};
 ghost use Rattle.promise_spec.specs.UnitRule.{Basis, KeepsUnitRule};
 ghost use Rattle.promise_spec.specs.Causes.{AreCaused};
 

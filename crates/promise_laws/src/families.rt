@@ -4,7 +4,7 @@ ghost use Rattle.promise_spec.specs.Entries.{records_of, standing_of};
 ghost use Rattle.promise_spec.specs.Images.{AreNumbered};
 ghost use Rattle.promise_spec.specs.Family.{IsFamily};
 ghost use Rattle.promise_spec.specs.Courses.{Observed, Course, lines, order, core_end};
-ghost use Rattle.promise_spec.specs.Explained.{IsExplained};
+ghost use Rattle.promise_spec.specs.Explanation.{IsExplained};
 
 /// What the causes clause explains is a family, where the opening log's units are numbered: each added record comes from
 /// a line, or from a call that its parent's play asks for, and has its children's outcomes as answers.

@@ -8,7 +8,7 @@ ghost use Rattle.promise_spec.specs.Images.{AreNumbered};
 ghost use Rattle.promise_spec.specs.Programs.{Program};
 ghost use Rattle.promise_spec.specs.Replies.{IsTrueOf, StandInOrder};
 ghost use Rattle.promise_spec.specs.Courses.{Observed, Course, lines, core_end};
-ghost use Rattle.promise_spec.specs.Explained.{IsExplained};
+ghost use Rattle.promise_spec.specs.Explanation.{IsExplained};
 
 /// What the causes clause explains is replied truly: where the entries are a first part of those that the core settles,
 /// and the opening log's units are numbered, each entry is of another line of the input, and says what is true of it,

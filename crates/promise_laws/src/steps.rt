@@ -21,7 +21,7 @@ ghost use Rattle.promise_spec.specs.Outputs.{IsProper};
 ghost use Rattle.core_model.specs.CoreState.{Member};
 ghost use Rattle.promise_spec.specs.Crashes.{Acknowledges, Holds};
 ghost use Rattle.promise_spec.specs.Journals.{Settlement, Backs, AllKeep, AllSay, AllLog, JournalAt, DoubtAt, CutAt, Seals, Doubts, commits_of, entries_of, KeepsJournal};
-ghost use Rattle.promise_spec.specs.Serial.{IsSerialFrom};
+ghost use Rattle.promise_spec.specs.SerialExecution.{IsSerialFrom};
 ghost use Rattle.promise_spec.specs.Moments.{IsImageOf, IsLongest};
 ghost use Rattle.promise_spec.specs.Courses.{Observed, Course};
 

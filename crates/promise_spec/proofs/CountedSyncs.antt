@@ -8,7 +8,7 @@ use Rattle.promise_spec.specs.Endings.{Done, InputTooLong, CountsSyncs, IsBegun}
 use Rattle.promise_spec.specs.Courses.{Observed, Course, core_run}
 use Rattle.promise_spec.specs.Entries.{standing_of}
 use Rattle.promise_spec.specs.Promise.{Keeps}
-use Rattle.promise_spec.proofs.Opened.{no_events}
+use Rattle.promise_spec.proofs.OpenedRuns.{no_events}
 
 module _ (p : Program) (r : Observed) (c : Course) where
   -- one that is done

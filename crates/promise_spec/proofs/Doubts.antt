@@ -6,9 +6,9 @@ use Rattle.core_model.specs.declared.events.CoreEvent.{CoreEvent}
 use Rattle.core_model.specs.declared.events.CoreEvent.TheVariants.{Doubt}
 use Rattle.core_model.specs.Events.{applies, is_allowed, can, does, step, run}
 use Rattle.core_model.specs.Changes.{swept, swept_by}
-use Rattle.core_model.specs.Legal.{Run, begins, ends}
+use Rattle.core_model.specs.LegalRuns.{Run, begins, ends}
 use Rattle.core_model.specs.CoreState.{CoreState}
-use Rattle.core_laws.proofs.Decoded.{Change, bad, begin, lock, raise, refuse, finish, end_plain, end_snapshot, release, take_batch, vote, decide_some, decide_none, seal_batch, spoil_batch, doubt_batch, learn, emit, halt_run, want, load, decode}
+use Rattle.core_laws.proofs.EventCases.{Change, bad, begin, lock, raise, refuse, finish, end_plain, end_snapshot, release, take_batch, vote, decide_some, decide_none, seal_batch, spoil_batch, doubt_batch, learn, emit, halt_run, want, load, decode}
 use Rattle.promise_spec.specs.Causes.{RunHasDoubt}
 
 -- the event is one of doubt

@@ -13,6 +13,6 @@ pub mod ReadVersions
 pub mod Openings
 pub mod Doubts
 pub mod Words
-pub mod Opened
+pub mod OpenedRuns
 pub mod CountedSyncs
 pub mod WholeFolders

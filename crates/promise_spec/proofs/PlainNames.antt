@@ -15,13 +15,13 @@ use Rattle.script_lexer.specs.declared.tokens.Spanned.{Spanned}
 use Rattle.script_lexer.specs.declared.tokens.Token.{Token}
 use Rattle.script_lexer.specs.declared.tokens.Token.TheVariants as token
 use Rattle.script_lexer.specs.Spellings.{is_letter, in_name}
-use Rattle.script_lexer.specs.Reading.{Spells, Reads, name, word, nought, number as counted, text, symbol, done, gap, spelling}
+use Rattle.script_lexer.specs.TokenTexts.{Spells, Reads, name, word, nought, number as counted, text, symbol, done, gap, spelling}
 use Rattle.script_expressions.specs.Grammar.{Derives, single, alone, joined, compared, OperandOver, whole, prefix, parens, Nothing, IsOperand, IsExpression, IsPlace, number, named, key, enclosed, IsList, last, more, IsEnclosedList, empty, filled, IsCall, call}
 use Rattle.script_parser.specs.Grammar.{IsSource, computed, called, IsElse, left_out, other, IsStmt, bind, rebind, set_field, perform, choose, repeat, give, fail_with, attempt, IsBody, no_more, then_more, IsBraced, braces, IsBlock, OneName, IsMethod, method, IsInitial, positive, negative, worded, IsField, field, Many, none, one_more, IsType, type}
 use Rattle.script_parser.proofs.SoundParts.{program_sound}
-use Rattle.script_check.specs.Accepted.{AreNamesApart}
+use Rattle.script_check.specs.AcceptedPrograms.{AreNamesApart}
 use Rattle.script_check.specs.Shapes.{fitted, type_shapes}
-use Rattle.script_check.proofs.Whole.{program_iff}
+use Rattle.script_check.proofs.WholePrograms.{program_iff}
 use Rattle.promise_spec.specs.Programs.{Program, IsChecked, shape_in}
 use Rattle.promise_spec.specs.Outputs.{HavePlainNames}
 

@@ -6,7 +6,7 @@ use Rattle.std.specs.List.{flat_map, AllByRecursion}
 use Rattle.base_types.specs.declared.shapes.Shape.{Shape}
 use Rattle.field_codec.specs.declared.faults.CodecFault.{CodecFault}
 use Rattle.field_codec.specs.declared.units.Numbers.TheVariants.{Logged}
-use Rattle.field_codec.specs.Reading.{AreBytes}
+use Rattle.field_codec.specs.Readers.{AreBytes}
 use Rattle.field_codec.proofs.Counts.{wide32, AreBytes-cut}
 use Rattle.field_codec.proofs.Wholes.{whole_takes, whole_again}
 use Rattle.gate_block.specs.Gates.{is_open_at}

@@ -14,7 +14,7 @@ use Rattle.host_trait.specs.declared.channels.FileId.{FileId}
 use Rattle.host_trait.specs.declared.channels.FileId.TheVariants.{Grain}
 use Rattle.host_trait.specs.World.{Image}
 use Rattle.field_codec.specs.Spelling.{spelling_of_values, spelling_of_version}
-use Rattle.field_codec.specs.Reading.{AreBytes}
+use Rattle.field_codec.specs.Readers.{AreBytes}
 use Rattle.field_codec.specs.declared.units.Numbers.TheVariants.{Logged}
 use Rattle.field_codec.proofs.Counts.{wide64, AreBytes-cut}
 use Rattle.field_codec.proofs.Readers.{past}

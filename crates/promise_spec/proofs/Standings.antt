@@ -3,7 +3,7 @@ use Rattle.std.proofs.Common.{◌≡◌, ◌↔◌, ℕ, ◌+◌, max, List, [],
 use Rattle.std.proofs.lemmas.List.{map-append}
 use Rattle.promise_spec.specs.Records.{Commit, after_writes}
 use Rattle.promise_spec.specs.Entries.{LogEntry, Recorded, records_among, Standing, after_entry, after_entries, Log, records_of, standing_of, grown}
-use Rattle.promise_spec.specs.Serial.{IsSerial, IsSerialFrom}
+use Rattle.promise_spec.specs.SerialExecution.{IsSerial, IsSerialFrom}
 
 -- how many entries there are
 pub counted : (before : Standing) (entries : List LogEntry) → (after_entries before entries).count ≡ before.count + length entries

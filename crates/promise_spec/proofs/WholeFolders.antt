@@ -1,7 +1,7 @@
 -- A sound folder is whole, and a whole one is sound where its logs are serial.
 use Rattle.std.specs.Prelude.{ℕ}
 use Rattle.host_trait.specs.World.{World, Image}
-use Rattle.promise_spec.specs.Serial.{IsSerialFrom}
+use Rattle.promise_spec.specs.SerialExecution.{IsSerialFrom}
 use Rattle.promise_spec.specs.Images.{IsWholeSilo, IsSound, IsWholeIfSilo, IsSoundIfSilo, IsWholeFolder, IsSoundFolder}
 
 pub whole_image : (live : ℕ) (image : Image) → IsSound live image → IsWholeSilo live image

@@ -10,7 +10,7 @@ use Rattle.core_model.specs.Causes.{IsAbort, HasCause, IsCaused}
 use Rattle.core_model.specs.declared.events.CoreEvent.{CoreEvent}
 use Rattle.core_model.specs.declared.events.CoreEvent.TheVariants.{Vote, Sealed, NotSealed, Doubt}
 use Rattle.core_model.specs.Events.{applies, step, run}
-use Rattle.core_model.specs.Legal.{Run, begins, ends}
+use Rattle.core_model.specs.LegalRuns.{Run, begins, ends}
 use Rattle.promise_spec.specs.Cores.{AppliesAt, how_many}
 
 -- an event of the run aborted the unit, with this cause

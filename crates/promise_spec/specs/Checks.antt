@@ -1,7 +1,7 @@
 -- What `check` promises: to run two-phase commit between silos, and to print how it ended.
 use Rattle.std.specs.Prelude.{◌≡◌, ◌⊎◌, ℕ}
 use Rattle.host_trait.specs.World.{Ticks}
-use Rattle.two_silos.specs.Generated.{checked}
+use Rattle.two_silos.specs.GeneratedEvents.{checked}
 use Rattle.two_silos.specs.Summaries.{summary_of, line_of}
 use Rattle.promise_spec.specs.Endings.{Ending, Done, Memory, WriteFault, HasFailedAs}
 use Rattle.promise_spec.specs.Courses.{Observed}

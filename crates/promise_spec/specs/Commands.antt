@@ -5,12 +5,12 @@ use Rattle.host_trait.specs.declared.channels.FileId.TheVariants.{Manager}
 use Rattle.host_trait.specs.World.{World, Moment, Image, IsImage, Passes, moment_of}
 use Rattle.silo_spec.specs.Silos.{manager, IsSilo, IsNewSilo}
 use Rattle.silo_spec.specs.Moments.{IsUntouched}
-use Rattle.silo_spec.specs.Making.{CameThisFar, IsBeside}
+use Rattle.silo_spec.specs.Creation.{CameThisFar, IsBeside}
 use Rattle.script_tree.specs.Programs.{ProgramTree}
 use Rattle.promise_spec.specs.Programs.{ProgramFault, text_limit, program_in}
 use Rattle.promise_spec.specs.Records.{Commit}
 use Rattle.promise_spec.specs.Entries.{LogEntry, Recorded, Log, after_entries}
-use Rattle.promise_spec.specs.Serial.{IsSerialFrom, Replays}
+use Rattle.promise_spec.specs.SerialExecution.{IsSerialFrom, Replays}
 use Rattle.promise_spec.specs.Logs.{magic, IsPrefix}
 use Rattle.promise_spec.specs.Openings.{Reads, opened_as}
 use Rattle.promise_spec.specs.Endings.{Ending, Done, Memory, ReadFault, WriteFault, DiskFault, AlreadyASilo, BadProgram, InputTooLong, HasRisen}

@@ -5,7 +5,7 @@ use Rattle.host_trait.specs.declared.channels.Channel.{Channel}
 use Rattle.host_trait.specs.World.{World, Moment, Image}
 use Rattle.core_model.specs.CoreState as core
 use Rattle.core_model.specs.declared.events.CoreEvent.{CoreEvent}
-use Rattle.core_model.specs.Legal as legal
+use Rattle.core_model.specs.LegalRuns as legal
 use Rattle.promise_spec.specs.Records.{Commit}
 use Rattle.promise_spec.specs.Entries.{Log, standing_of, grown}
 use Rattle.promise_spec.specs.Programs.{Program}

@@ -3,7 +3,7 @@ use Rattle.std.specs.Prelude.{◌≡◌, ◌≢◌, ◌⊎◌, ℕ, ◌+◌, Lis
 use Rattle.base_types.specs.declared.entries.Entry.{Entry}
 use Rattle.base_types.specs.declared.entries.Settled.TheVariants.{InDoubt}
 use Rattle.core_model.specs.CoreState.{UnitNo, Member, CoreState}
-use Rattle.core_model.specs.Serial.{chosen}
+use Rattle.core_model.specs.SerialOrder.{chosen}
 use Rattle.gate_block.specs.Blocks.{block_of}
 use Rattle.gate_block.specs.Log.{gate_of}
 use Rattle.host_trait.specs.declared.channels.Channel.TheVariants.{File}

@@ -7,7 +7,7 @@ use Rattle.host_trait.specs.World.{World, Image, IsImage}
 use Rattle.silo_spec.specs.Slots.{IsLive}
 use Rattle.promise_spec.specs.Records.{Commit}
 use Rattle.promise_spec.specs.Entries.{Log, records_of}
-use Rattle.promise_spec.specs.Serial.{IsSerialFrom}
+use Rattle.promise_spec.specs.SerialExecution.{IsSerialFrom}
 use Rattle.promise_spec.specs.Logs.{magic, IsLog, HasLog}
 use Rattle.promise_spec.specs.Prefixes.{IsPrefixOf}
 

@@ -23,6 +23,7 @@ abbrev pub is_value : Outcome → Bool
 is_value (outcome.Value value) = true
 is_value _ = false
 
+-- the outcome is a fault
 abbrev pub is_fault : Outcome → Bool
 is_fault (outcome.Fault text) = true
 is_fault _ = false

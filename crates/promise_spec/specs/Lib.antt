@@ -1,7 +1,7 @@
 pub mod Programs
 pub mod Records
 pub mod Entries
-pub mod Serial
+pub mod SerialExecution
 pub mod Versions
 pub mod Blocks
 pub mod Logs
@@ -12,7 +12,7 @@ pub mod Lines
 pub mod Outputs
 pub mod Kinds
 pub mod Cores
-pub mod Gotten
+pub mod UnitAnswers
 pub mod UnitRule
 pub mod TurnRule
 pub mod Causes
@@ -27,7 +27,7 @@ pub mod Replies
 pub mod Crashes
 pub mod Headline
 pub mod Batches
-pub mod Explained
+pub mod Explanation
 pub mod Exits
 pub mod Promise
 pub mod Reports

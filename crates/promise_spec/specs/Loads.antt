@@ -12,7 +12,7 @@ use Rattle.request_wire.specs.Reply.{value_data, counted}
 use Rattle.serde_json.specs.Data.{object, member, no_members}
 use Rattle.silo_spec.specs.Silos.{IsNewSilo}
 use Rattle.silo_spec.specs.Moments.{IsUntouched}
-use Rattle.silo_spec.specs.Making.{StaysBeside, IsNewAt, FromFirstSync, CameThisFar}
+use Rattle.silo_spec.specs.Creation.{StaysBeside, IsNewAt, FromFirstSync, CameThisFar}
 use Rattle.script_tree.specs.Programs.{ProgramTree}
 use Rattle.promise_spec.specs.Programs.{Program}
 use Rattle.promise_spec.specs.Records.{States}
@@ -27,7 +27,7 @@ use Rattle.promise_spec.specs.Images.{IsSoundFolder}
 use Rattle.promise_spec.specs.Orders.{IsOrdered}
 use Rattle.promise_spec.specs.Crashes.{SurvivesCrashes, StaySound}
 use Rattle.promise_spec.specs.Exits.{IsExit}
-use Rattle.promise_spec.specs.Explained.{ComeOfEvents, IsExplained}
+use Rattle.promise_spec.specs.Explanation.{ComeOfEvents, IsExplained}
 use Rattle.promise_spec.specs.Promise.{IsAnswered, GoesThrough, HasNoChild, IsNoLock}
 use Rattle.promise_spec.specs.Reports.{line_of}
 use Rattle.promise_spec.specs.Words.{Manner}
@@ -48,6 +48,7 @@ drawn x bound = (x / 2147483648 / 4) % bound
 abbrev pub account : ℕ → GrainId
 account k = record { kind = 0; key = k }
 
+-- `atm/0`, which carries out each transfer
 abbrev pub atm : GrainId
 atm = record { kind = 1; key = 0 }
 

@@ -39,14 +39,17 @@ commit_of live shape image r = record {
 
 -- ---- the folder
 
+-- all records with the states that they left, unless a version that they name isn't there
 abbrev pub with_versions : ℕ → Program → Image → List CommitRecord → Option (FileId × ℕ) → Reading
 with_versions live p image records None = Reads live (grown (new_log p) (map (commit_of live (shape_in p) image) records))
 with_versions live p image records (Some missing) = DamagedAt missing.0 missing.1
 
+-- what a folder with this program reads as, by the records of its log or the place at which it is damaged
 abbrev pub with_log : ℕ → Program → Image → Result (List CommitRecord) ℕ → Reading
 with_log live p image (Ok records) = with_versions live p image records (first_missing live (shape_in p) image (named_by_grain (named_by records)))
 with_log live p image (Err place) = DamagedAt (Manager live) place
 
+-- what a folder reads as, by its program or the place at which that is damaged
 abbrev pub with_program : ℕ → Image → Result Program ℕ → Reading
 with_program live image (Ok p) = with_log live p image (records_in_file (shape_in p) (image (Manager live)))
 with_program live image (Err place) = DamagedAt (ProgramFile live) place

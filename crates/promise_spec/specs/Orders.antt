@@ -1,7 +1,7 @@
 -- The order clause: the order is the opening log, followed by what the one-thread store gives from there.
 use Rattle.std.specs.Prelude.{◌≡◌}
 use Rattle.host_trait.specs.World.{Image, IsImage, moment_of, last_of}
-use Rattle.promise_spec.specs.Serial.{IsSerial}
+use Rattle.promise_spec.specs.SerialExecution.{IsSerial}
 use Rattle.promise_spec.specs.Logs.{IsLog}
 use Rattle.promise_spec.specs.Programs.{Program}
 use Rattle.promise_spec.specs.Moments.{IsLongest}

@@ -25,7 +25,7 @@ use Rattle.promise_spec.specs.Refusals.{IsUnopened}
 use Rattle.promise_spec.specs.Replies.{IsTrueOf, StandInOrder}
 use Rattle.promise_spec.specs.Headline.{KeepsHeadline}
 use Rattle.promise_spec.specs.Exits.{IsExit}
-use Rattle.promise_spec.specs.Explained.{ComeOfEvents, AreSettled, IsExplained}
+use Rattle.promise_spec.specs.Explanation.{ComeOfEvents, AreSettled, IsExplained}
 
 -- ---- statuses
 

@@ -11,11 +11,11 @@ use Rattle.core_model.specs.Tests.{is_running, is_over, is_free, ask_answer}
 pub use Rattle.core_model.specs.Settler.{MakesEvent, batch_step, has_step, later_step, settler_step}
 use Rattle.core_model.specs.declared.events.CoreEvent.{CoreEvent}
 use Rattle.core_model.specs.declared.events.CoreEvent.TheVariants.{Bad, Begin, Grant, Refuse, Finish, EndPlain, EndSnapshot, Release}
-use Rattle.core_model.specs.Legal.{Run, begins}
+use Rattle.core_model.specs.LegalRuns.{Run, begins}
 use Rattle.script_tree.specs.Programs.{ProgramTree}
 use Rattle.script_meaning.specs.Play as script
 use Rattle.promise_spec.specs.Cores.{AppliesAt, state_before, applied_from}
-use Rattle.promise_spec.specs.Gotten.{Got, got_from, wanted_by}
+use Rattle.promise_spec.specs.UnitAnswers.{Got, got_from, wanted_by}
 
 -- ---- the movers
 
@@ -60,6 +60,7 @@ movers types r w got =
 
 -- ---- lines
 
+-- the unit was begun by a line
 abbrev pub is_line : Origin → Bool
 is_line (Line n) = true
 is_line (Child parent index depth) = false

@@ -7,15 +7,15 @@ use Rattle.core_model.specs.CoreState.{UnitNo, GrainId, CoreState}
 use Rattle.core_model.specs.Tests.{is_before}
 use Rattle.core_model.specs.declared.events.CoreEvent.{CoreEvent}
 use Rattle.core_model.specs.declared.events.CoreEvent.TheVariants.{Bad, Begin, Grant, Refuse, Finish, EndPlain, EndSnapshot, Release, Want, Load}
-use Rattle.core_model.specs.Legal.{Run, begins}
+use Rattle.core_model.specs.LegalRuns.{Run, begins}
 use Rattle.script_tree.specs.Programs.{ProgramTree}
 use Rattle.script_meaning.specs.Play.{Played, WantUnit, Over, play_over, IsTransaction}
 use Rattle.script_meaning.specs.Trails.{states_of}
 use Rattle.promise_spec.specs.Entries.{Standing}
-use Rattle.promise_spec.specs.Serial.{depth_of}
+use Rattle.promise_spec.specs.SerialExecution.{depth_of}
 use Rattle.promise_spec.specs.Lines.{IsLineCall, IsBadLine}
 use Rattle.promise_spec.specs.Cores.{AppliesAt, state_before}
-use Rattle.promise_spec.specs.Gotten.{Got, got_from, wanted_by, wanted_lock}
+use Rattle.promise_spec.specs.UnitAnswers.{Got, got_from, wanted_by, wanted_lock}
 
 -- What the unit rule is told from outside: the program's types, the lines that are asked, and what the opening log stands
 -- for. What a later rule is told of, as the order or the manner of a run, has its place here.

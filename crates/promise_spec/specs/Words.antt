@@ -44,6 +44,7 @@ abbrev pub words_in : Form → List ℕ → List ℕ → List (List ℕ)
 words_in Apart name value = name ∷ value ∷ []
 words_in Joined name value = (name ++ (61 ∷ value)) ∷ []
 
+-- the words that spell an option with its value
 abbrev pub words_of : GivenOption → List (List ℕ)
 words_of g = words_in g.form (choice_name g.what) (value_text g.what)
 
@@ -74,15 +75,18 @@ pub record Manner : Type 0 where
 abbrev pub plain_manner : Manner
 plain_manner = record { threaded = false; width = 1; picks = [] }
 
+-- the manner in which one option is chosen too
 abbrev pub with_choice : Choice → Manner → Manner
 with_choice (Width n) m = record m { width = n }
 with_choice (Turns picks) m = record m { picks = picks }
 with_choice (Workers n) m = record m { threaded = true }
 
+-- the manner that these options choose
 abbrev pub manner_of : List GivenOption → Manner
 manner_of [] = plain_manner
 manner_of (g ∷ options) = with_choice g.what (manner_of options)
 
+-- the option asks for workers
 abbrev pub is_workers : Choice → Bool
 is_workers (Workers n) = true
 is_workers _ = false

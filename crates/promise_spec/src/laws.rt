@@ -7,7 +7,7 @@ ghost use Rattle.host_trait.specs.declared.channels.FileId.TheVariants.{Manager}
 ghost use Rattle.base_types.specs.declared.entries.Entry.{Entry};
 ghost use Rattle.host_trait.specs.World.{Image};
 ghost use Rattle.host_trait.specs.declared.channels.FileId.{FileId};
-ghost use Rattle.field_codec.specs.Reading.{AreBytes};
+ghost use Rattle.field_codec.specs.Readers.{AreBytes};
 ghost use Rattle.script_tree.specs.Programs.{ProgramTree};
 ghost use Rattle.silo_spec.specs.Slots.{IsLive};
 ghost use Rattle.promise_spec.specs.Programs.{Program, IsChecked, text_limit, shape_in, program_in};
@@ -15,7 +15,7 @@ ghost use Rattle.promise_spec.specs.Records.{Commit, written, after_writes};
 ghost use Rattle.promise_spec.specs.Entries.{LogEntry, Recorded, records_among, Standing, after_entries, initial_states, new_silo, is_among, Log, records_of, standing_of, grown, checkpointed};
 ghost use Rattle.promise_spec.specs.Versions.{IsKept};
 ghost use Rattle.promise_spec.specs.Blocks.{Records, body_of};
-ghost use Rattle.promise_spec.specs.Serial.{IsSerial, IsSerialFrom};
+ghost use Rattle.promise_spec.specs.SerialExecution.{IsSerial, IsSerialFrom};
 ghost use Rattle.promise_spec.specs.Prefixes.{last_position, from_position, IsPrefixOf};
 ghost use Rattle.promise_spec.specs.Logs.{magic, StandsUpTo, IsLogIn, IsLog, IsPrefix};
 ghost use Rattle.promise_spec.specs.Images.{IsSound, AreChained, IsWholeFolder};

@@ -1,11 +1,11 @@
 //! What a run of a silo promises, as definitions that contracts cite. There is no code but public functions with
 //! empty bodies, whose contracts are laws about the definitions. `docs/DEFINITIONS.md` reads them in plain words.
 //!
-//! In reading order: `Programs`, `Records`, `Entries`, `Serial`, `Versions`, `Blocks`, `Logs`, `Prefixes`, `Images`, `Moments` (what a log is, stands for and may
-//! look like after a crash), `Lines`, `Outputs`, `Kinds` (what is asked and answered), `Cores`, `Gotten`, `UnitRule`,
+//! In reading order: `Programs`, `Records`, `Entries`, `SerialExecution`, `Versions`, `Blocks`, `Logs`, `Prefixes`, `Images`, `Moments` (what a log is, stands for and may
+//! look like after a crash), `Lines`, `Outputs`, `Kinds` (what is asked and answered), `Cores`, `UnitAnswers`, `UnitRule`,
 //! `TurnRule`, `Causes`, `Family` (what the core's events are, and where records come from), `Openings` (what a folder
 //! reads as), `Words`, `Endings`, `Courses`, `Refusals`; the clauses `Orders`, `Replies` and `Crashes`, which `Headline`
-//! says alone; and the others, `Batches`, `Explained`, `Exits` and `Promise`. `Reports`, `Commands`, `Loads` and `Checks`
+//! says alone; and the others, `Batches`, `Explanation`, `Exits` and `Promise`. `Reports`, `Commands`, `Loads` and `Checks`
 //! have the other commands, and `Calls` the whole program.
 //!
 //! `laws` has what follows from the definitions alone, and `folders` that a sound folder is whole. `promise_laws` has what

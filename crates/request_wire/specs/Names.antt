@@ -11,6 +11,7 @@ pub record TypeNames : Type 0 where
 abbrev pub method_names : MethodTree → List ℕ × ℕ
 method_names method = (method.name.text, length method.params)
 
+-- the names of a type and of its methods
 abbrev pub type_names : TypeTree → TypeNames
 type_names of_type = record { name = of_type.name.text; methods = map method_names of_type.methods }
 

@@ -1,7 +1,7 @@
 ghost use Rattle.std.specs.Prelude.{◌≡◌, ◌≤◌, length, map, option_map};
 ghost use Rattle.std.specs.List.{All};
 ghost use Rattle.script_tree.specs.Programs.{type_tree, method_tree, program_tree};
-ghost use Rattle.script_check.specs.Accepted.{IsAcceptedProgram};
+ghost use Rattle.script_check.specs.AcceptedPrograms.{IsAcceptedProgram};
 ghost use Rattle.request_wire.specs.Names.{names_in, type_names, method_names, named};
 ghost use Rattle.request_wire.specs.Request.{type_of, method_of};
 
@@ -42,7 +42,7 @@ pub fn type_in(program: &Program, name: &str) -> Option<u16>
 }
 
 /// The number of a method of a program's type, and how many parameters it has.
-#[tactic(auto, using(crate::proofs::Named::named_methods))]
+#[tactic(auto, using(crate::proofs::ProgramNames::named_methods))]
 pub fn method_in(program: &Program, kind: u16, name: &str) -> Option<(u16, usize)>
     requires { IsAcceptedProgram (program_tree program.now) }
     ensures { result ≡ method_of (names_in (program_tree program.now)) kind name.now }

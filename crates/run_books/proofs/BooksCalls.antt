@@ -14,7 +14,7 @@ use Rattle.core_model.specs.declared.events.CoreEvent.TheVariants as event
 use Rattle.core_model.specs.declared.events.CoreEvent.TheVariants.{Vote}
 use Rattle.core_model.specs.Events.{applies}
 use Rattle.core_model.specs.Laws.{extended}
-use Rattle.core_model.specs.Legal.{Run, ends}
+use Rattle.core_model.specs.LegalRuns.{Run, ends}
 use Rattle.promise_spec.specs.Causes.{NoneRose, is_no, is_vote, is_vote_of, is_sealed, is_unsealed}
 use Rattle.promise_spec.specs.Cores.{how_many}
 use Rattle.run_books.specs.Beginnings.{Outset}

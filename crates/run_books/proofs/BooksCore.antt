@@ -11,11 +11,11 @@ use Rattle.core_model.specs.Changes.{swept, swept_by, entry_for, entries_in, dec
 use Rattle.core_model.specs.declared.events.CoreEvent.{CoreEvent}
 use Rattle.core_model.specs.declared.events.CoreEvent.TheVariants.{Halt}
 use Rattle.core_model.specs.Events.{applies, is_allowed, can, does, step}
-use Rattle.core_model.specs.Legal.{Run, ends}
+use Rattle.core_model.specs.LegalRuns.{Run, ends}
 use Rattle.core_model.specs.Laws.{extended}
-use Rattle.core_laws.proofs.Decoded.{Change, bad, begin, lock, raise, refuse, finish, end_plain, end_snapshot, release, take_batch, vote, decide_some, decide_none, seal_batch, spoil_batch, doubt_batch, learn, emit, halt_run, want, load, decode}
-use Rattle.settle_loop.specs.Works.{tells_entry, tells_doubt}
-use Rattle.settler_rules.proofs.Standing.{ends-more}
+use Rattle.core_laws.proofs.EventCases.{Change, bad, begin, lock, raise, refuse, finish, end_plain, end_snapshot, release, take_batch, vote, decide_some, decide_none, seal_batch, spoil_batch, doubt_batch, learn, emit, halt_run, want, load, decode}
+use Rattle.settle_loop.specs.ShownWork.{tells_entry, tells_doubt}
+use Rattle.settler_rules.proofs.StandingVotes.{ends-more}
 
 -- the event is a stop
 abbrev pub is_halt : CoreEvent → Bool

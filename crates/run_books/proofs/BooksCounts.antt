@@ -5,12 +5,12 @@ use Rattle.core_model.specs.declared.events.CoreEvent.{CoreEvent}
 use Rattle.core_model.specs.declared.events.CoreEvent.TheVariants.{Doubt}
 use Rattle.core_model.specs.CoreState.{CoreState}
 use Rattle.core_model.specs.Events.{applies, step}
-use Rattle.core_model.specs.Legal.{Run, begins, ends}
+use Rattle.core_model.specs.LegalRuns.{Run, begins, ends}
 use Rattle.core_model.specs.Laws.{extended}
 use Rattle.promise_spec.specs.Cores.{how_many, applied_from}
 use Rattle.promise_spec.specs.Causes.{RunHasDoubt}
 use Rattle.turn_rules.proofs.Growth.{applied-more}
-use Rattle.turn_rules.proofs.Listed.{count-more, count-one, count-none}
+use Rattle.turn_rules.proofs.ListTests.{count-more, count-one, count-none}
 use Rattle.settler_rules.proofs.Commits.{doubt-stays}
 use Rattle.run_books.proofs.BooksCore.{moves-run}
 

@@ -7,7 +7,7 @@ use Rattle.host_trait.proofs.Moments.{both, weaker}
 use Rattle.core_model.specs.CoreState.{Member}
 use Rattle.core_model.specs.declared.events.CoreEvent.{CoreEvent}
 use Rattle.core_model.specs.Laws.{extended}
-use Rattle.core_model.specs.Legal.{Run, ends}
+use Rattle.core_model.specs.LegalRuns.{Run, ends}
 use Rattle.promise_spec.proofs.Standings.{grown_twice}
 use Rattle.promise_spec.specs.Entries.{Log, grown}
 use Rattle.promise_spec.specs.Programs.{shape_in}
@@ -18,21 +18,21 @@ use Rattle.promise_spec.specs.Outputs.{IsProper}
 use Rattle.promise_spec.specs.Batches.{EndsABatch}
 use Rattle.promise_spec.specs.UnitRule.{KeepsUnitRule}
 use Rattle.promise_spec.specs.Journals.{Settlement, IsSealing, Doubts, JournalAt, DoubtAt, CutAt, Backs, commits_of, entries_of}
-use Rattle.promise_laws.proofs.Journaled.{commits_of-append}
-use Rattle.promise_laws.proofs.Stepping.{doubts_on, doubt_cut}
-use Rattle.promise_laws.proofs.Backing.{backs_on}
+use Rattle.promise_laws.proofs.JournalCrashes.{commits_of-append}
+use Rattle.promise_laws.proofs.JournalSteps.{doubts_on, doubt_cut}
+use Rattle.promise_laws.proofs.JournalGrowth.{backs_on}
 use Rattle.promise_spec.proofs.Lists.{in_append, in_flat}
 use Rattle.promise_laws.specs.Closings.{AllEnd}
 use Rattle.promise_laws.proofs.BatchEnds.{moments-stay, batch-stays-run, records-end}
 use Rattle.promise_laws.proofs.KeptRuns.{sealing_ends}
-use Rattle.batch_disk.specs.Resting.{SomeImage}
+use Rattle.batch_disk.specs.ImagesAtRest.{SomeImage}
 use Rattle.batch_disk.specs.Moments.{LeavesRest}
 use Rattle.batch_disk.specs.declared.writer.BatchWriter.{BatchWriter}
-use Rattle.settle_loop.specs.Journaling.{as_settled}
+use Rattle.settle_loop.specs.StepJournal.{as_settled}
 use Rattle.run_books.specs.Beginnings.{Outset, basis_of}
 use Rattle.run_books.specs.Books.{Books, booked_journal, AreBooked}
 use Rattle.run_books.specs.Images.{LeavesAside, HasOpenBlock, LastsSo}
-use Rattle.run_books.proofs.Showing.{added-by}
+use Rattle.run_books.proofs.ShownRecord.{added-by}
 use Rattle.run_books.proofs.BooksLists.{alone, alone-commits}
 use Rattle.run_books.proofs.BooksGrown.{grown_books, grown-front, grown-commits}
 use Rattle.run_books.proofs.BooksImages.{uncut, backs-alone}

@@ -8,7 +8,7 @@ use Rattle.request_wire.specs.Reply.{reply_line}
 use Rattle.core_model.specs.CoreState.{CoreState}
 use Rattle.core_model.specs.declared.events.CoreEvent.{CoreEvent}
 use Rattle.core_model.specs.Laws.{extended}
-use Rattle.core_model.specs.Legal.{Run, ends}
+use Rattle.core_model.specs.LegalRuns.{Run, ends}
 use Rattle.promise_spec.specs.Entries.{grown}
 use Rattle.promise_spec.specs.Programs.{shape_in}
 use Rattle.promise_spec.specs.Logs.{IsLog}
@@ -17,17 +17,17 @@ use Rattle.promise_spec.specs.Causes.{RunHasDoubt, is_unsealed}
 use Rattle.promise_spec.specs.UnitRule.{KeepsUnitRule}
 use Rattle.promise_spec.specs.Journals.{Settlement, CutAt, Backs, commits_of, entries_of}
 use Rattle.promise_spec.proofs.Doubts.{doubt_left}
-use Rattle.promise_laws.proofs.Stepping.{emits_on, cuts_on, doubt_emits_on, doubt_cuts_on, whole_cut, doubt_cut}
+use Rattle.promise_laws.proofs.JournalSteps.{emits_on, cuts_on, doubt_emits_on, doubt_cuts_on, whole_cut, doubt_cut}
 use Rattle.promise_laws.specs.Closings.{AllEnd}
 use Rattle.promise_laws.proofs.BatchEnds.{moments-stay, batch-stays-run}
 use Rattle.settler_rules.proofs.Commits.{doubt-stays}
-use Rattle.batch_disk.specs.Resting.{SomeImage}
+use Rattle.batch_disk.specs.ImagesAtRest.{SomeImage}
 use Rattle.batch_disk.specs.Writers.{KeepsDisk}
 use Rattle.batch_disk.specs.declared.writer.BatchWriter.{BatchWriter}
 use Rattle.run_books.specs.Beginnings.{Outset, basis_of}
 use Rattle.run_books.specs.Books.{Books, booked_journal, AreInDoubt, AreBooked}
 use Rattle.run_books.specs.Images.{LeavesAside, HasOpenBlock, EndsAsBegun, KeepsFolder, LastsSo}
-use Rattle.run_books.specs.Settling.{AreEven}
+use Rattle.run_books.specs.BooksSteps.{AreEven}
 use Rattle.run_books.proofs.BooksCounts.{doubt-ends, none-before}
 use Rattle.run_books.proofs.BooksImages.{uncut, uncut-doubt, block-kept, vote-kept}
 use Rattle.run_books.proofs.BooksWritten.{parts, said_next}

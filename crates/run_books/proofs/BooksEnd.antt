@@ -11,34 +11,34 @@ use Rattle.core_model.specs.declared.effects.Effect.{Effect}
 use Rattle.core_model.specs.declared.events.CoreEvent.{CoreEvent}
 use Rattle.core_model.specs.declared.events.CoreEvent.TheVariants as event
 use Rattle.core_model.specs.Laws.{extended}
-use Rattle.core_model.specs.Legal.{Run, ends}
-use Rattle.core_model.specs.Serial.{chosen}
+use Rattle.core_model.specs.LegalRuns.{Run, ends}
+use Rattle.core_model.specs.SerialOrder.{chosen}
 use Rattle.core_model.specs.Settler.{Step, Votes, Decides, Seals as SealStep, Learns, Writes, Takes, Rests, MakesEvent, settler_step, to_commit}
 use Rattle.promise_spec.proofs.Standings.{grown_twice}
 use Rattle.promise_spec.specs.Entries.{Log, grown}
 use Rattle.promise_spec.specs.Programs.{shape_in}
 use Rattle.promise_spec.specs.Records.{Commit, AreRecordsOf}
 use Rattle.promise_spec.specs.Journals.{Settlement, Seals, Doubts, commits_of, entries_of}
-use Rattle.promise_laws.proofs.Journaled.{commits_of-append}
-use Rattle.batch_disk.specs.Resting.{SomeImage}
+use Rattle.promise_laws.proofs.JournalCrashes.{commits_of-append}
+use Rattle.batch_disk.specs.ImagesAtRest.{SomeImage}
 use Rattle.batch_disk.specs.Records.{commits_by}
 use Rattle.batch_disk.specs.Seals.{SealsAs, may_open}
 use Rattle.batch_disk.specs.Writers.{voted_of}
-use Rattle.batch_disk.proofs.Recorded.{records_are}
+use Rattle.batch_disk.proofs.BatchRecords.{records_are}
 use Rattle.commit_log.specs.declared.gate.Sealing.{Sealing}
 use Rattle.commit_log.specs.declared.gate.Sealing.TheVariants as sealing
 use Rattle.promise_spec.specs.Logs.{IsLog}
 use Rattle.settler_rules.proofs.Commits.{doubt-chosen, others-leave as committed-stays}
-use Rattle.settle_loop.specs.Works.{event_of}
+use Rattle.settle_loop.specs.ShownWork.{event_of}
 use Rattle.settle_loop.specs.HostSteps.{SealsUnits, DoubtsAgain}
-use Rattle.settle_loop.specs.Journaling.{as_settled, DoubtsBatch}
+use Rattle.settle_loop.specs.StepJournal.{as_settled, DoubtsBatch}
 use Rattle.settle_loop.specs.declared.settler.Settler.{Settler}
-use Rattle.settle_loop.proofs.Journaled.{doubted}
+use Rattle.settle_loop.proofs.StepJournal.{doubted}
 use Rattle.run_books.specs.Beginnings.{Outset, basis_of}
 use Rattle.run_books.specs.Books.{Books, AreBooked}
 use Rattle.run_books.specs.Images.{HasOpenBlock, KeepsFolder, LastsSo}
 use Rattle.run_books.specs.Records.{KeepsBooks}
-use Rattle.run_books.specs.Settling.{AreEven, CanSettle}
+use Rattle.run_books.specs.BooksSteps.{AreEven, CanSettle}
 use Rattle.run_books.proofs.BooksCore.{Moves, moves-run}
 use Rattle.run_books.proofs.BooksLists.{alone}
 use Rattle.run_books.proofs.BooksGrown.{grown_books, grown-front, grown-commits}

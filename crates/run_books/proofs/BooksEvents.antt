@@ -13,17 +13,17 @@ use Rattle.host_trait.specs.Runs.{RunsOnFile}
 use Rattle.commit_log.specs.declared.gate.Sealing.{Sealing}
 use Rattle.commit_log.specs.declared.gate.Sealing.TheVariants as sealing
 use Rattle.commit_log.specs.declared.records.CommitRecord.{CommitRecord}
-use Rattle.commit_log.specs.Sealing.{SealHasCause}
+use Rattle.commit_log.specs.SealImages.{SealHasCause}
 use Rattle.core_model.specs.CoreState.{CoreState}
 use Rattle.core_model.specs.declared.effects.Effect.{Effect}
 use Rattle.core_model.specs.declared.events.CoreEvent.{CoreEvent}
 use Rattle.core_model.specs.declared.events.CoreEvent.TheVariants as event
 use Rattle.core_model.specs.Events.{applies}
 use Rattle.core_model.specs.Laws.{extended}
-use Rattle.core_model.specs.Legal.{Run, ends}
-use Rattle.core_model.specs.Serial.{committed, chosen}
+use Rattle.core_model.specs.LegalRuns.{Run, ends}
+use Rattle.core_model.specs.SerialOrder.{committed, chosen}
 use Rattle.core_model.specs.Settler.{to_commit, versions_to_write}
-use Rattle.core_laws.proofs.Split.{no_doubt}
+use Rattle.core_laws.proofs.CommitOrder.{no_doubt}
 use Rattle.promise_spec.specs.Records.{Commit, AreRecordsOf}
 use Rattle.promise_spec.specs.Causes.{AreFaults, is_no, is_unsealed, is_vote, is_vote_of, is_sealed}
 use Rattle.promise_spec.specs.Cores.{how_many}
@@ -33,11 +33,11 @@ use Rattle.batch_disk.specs.Records.{commits_by}
 use Rattle.batch_disk.specs.Seals.{WriterAfter, may_open}
 use Rattle.batch_disk.specs.Writers.{voted_of}
 use Rattle.batch_disk.specs.declared.writer.BatchWriter.{BatchWriter}
-use Rattle.batch_disk.proofs.Recorded.{records_are}
+use Rattle.batch_disk.proofs.BatchRecords.{records_are}
 use Rattle.settler_rules.proofs.Commits.{sealed-commit, others-leave as committed-stays, doubt-chosen}
-use Rattle.settle_loop.specs.Works.{event_of, tells_doubt}
+use Rattle.settle_loop.specs.ShownWork.{event_of, tells_doubt}
 use Rattle.settle_loop.specs.HostSteps.{MakesNoCall, VotesOn, SealsUnits, DoubtsAgain}
-use Rattle.settle_loop.specs.Journaling.{as_settled}
+use Rattle.settle_loop.specs.StepJournal.{as_settled}
 use Rattle.settle_loop.specs.declared.settler.Settler.{Settler}
 use Rattle.run_books.specs.Beginnings.{Outset, basis_of}
 use Rattle.run_books.specs.Books.{Books, AreInDoubt}

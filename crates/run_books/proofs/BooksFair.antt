@@ -18,34 +18,34 @@ use Rattle.core_model.specs.Tests.{members, waiting, is_good, is_committed}
 use Rattle.core_model.specs.Answers.{effect_of}
 use Rattle.core_model.specs.Events.{applies}
 use Rattle.core_model.specs.Laws.{extended}
-use Rattle.core_model.specs.Legal.{Run, ends}
-use Rattle.core_model.specs.Serial.{committed}
+use Rattle.core_model.specs.LegalRuns.{Run, ends}
+use Rattle.core_model.specs.SerialOrder.{committed}
 use Rattle.core_model.specs.Settler.{to_commit, versions_to_write}
 use Rattle.core_laws.proofs.Ends.{kept-ends}
-use Rattle.core_laws.proofs.Further.{committed-closed}
+use Rattle.core_laws.proofs.FurtherLaws.{committed-closed}
 use Rattle.core_laws.proofs.Orders.{in_drop}
 use Rattle.cell_model.proofs.Units.{filter-member}
 use Rattle.promise_laws.specs.Legality.{is_play, applied_run}
-use Rattle.promise_laws.proofs.Legal.{ends_alike, legal}
+use Rattle.promise_laws.proofs.LegalRuns.{ends_alike, legal}
 use Rattle.grain_log.specs.Reads.{fields_of}
 use Rattle.grain_log.specs.Places.{places_from}
 use Rattle.promise_spec.specs.Programs.{shape_in}
 use Rattle.promise_spec.specs.Records.{Commit, AreRecordsOf}
 use Rattle.promise_spec.specs.Crashes.{Acknowledges}
 use Rattle.promise_spec.specs.UnitRule.{Basis, KeepsUnitRule}
-use Rattle.script_check.specs.Accepted.{IsAcceptedProgram}
-use Rattle.batch_disk.specs.Resting.{Voted, voted_at, voted_from}
+use Rattle.script_check.specs.AcceptedPrograms.{IsAcceptedProgram}
+use Rattle.batch_disk.specs.ImagesAtRest.{Voted, voted_at, voted_from}
 use Rattle.batch_disk.specs.Records.{MayBeLogged, IsAsWritten}
 use Rattle.batch_disk.specs.Writers.{kept_of, voted_of, file_end}
 use Rattle.batch_disk.specs.declared.writer.BatchWriter.{BatchWriter}
-use Rattle.settler_rules.specs.Committing.{IsToldOf}
-use Rattle.settler_rules.specs.Voting.{IsOfVote, VoteStands, HasLeft}
-use Rattle.settler_rules.proofs.Logged.{shown-fit, fits-program, as-written}
-use Rattle.settler_rules.proofs.Voted.{other-grain, vote-made, shown-any}
-use Rattle.settler_rules.proofs.Standing.{left-later}
+use Rattle.settler_rules.specs.CommittedUnits.{IsToldOf}
+use Rattle.settler_rules.specs.Votes.{IsOfVote, VoteStands, HasLeft}
+use Rattle.settler_rules.proofs.LoggedUnits.{shown-fit, fits-program, as-written}
+use Rattle.settler_rules.proofs.NextVote.{other-grain, vote-made, shown-any}
+use Rattle.settler_rules.proofs.StandingVotes.{left-later}
 use Rattle.settler_rules.proofs.ToldOf.{told-by-then}
 use Rattle.settle_loop.specs.HostSteps.{KeepsVotes}
-use Rattle.settle_loop.specs.Journaling.{IsFair}
+use Rattle.settle_loop.specs.StepJournal.{IsFair}
 use Rattle.run_books.specs.Beginnings.{Outset, basis_of}
 use Rattle.run_books.proofs.BooksImages.{vote-kept}
 

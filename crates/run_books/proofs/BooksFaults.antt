@@ -9,7 +9,7 @@ use Rattle.host_trait.specs.declared.channels.FileId.TheVariants.{Manager, Grain
 use Rattle.host_trait.specs.Faults.{Rose, NoneFailed, FailedOn}
 use Rattle.host_trait.specs.Files.{same_grain}
 use Rattle.host_trait.proofs.Names.{cases_file, same_grain-is}
-use Rattle.core_model.specs.Legal.{Run}
+use Rattle.core_model.specs.LegalRuns.{Run}
 use Rattle.promise_spec.specs.Causes.{AreFaults, NoneRose, RoseBy, is_no, is_unsealed}
 use Rattle.promise_spec.specs.Cores.{how_many}
 

@@ -3,13 +3,13 @@ use Rattle.std.proofs.Common.{◌≡◌, ℕ, ◌≤◌, List, [], ◌++◌, len
 use Rattle.base_types.specs.declared.entries.Entry.{Entry}
 use Rattle.core_model.specs.CoreState.{CoreState}
 use Rattle.core_model.specs.declared.effects.Effect.{Effect}
-use Rattle.core_model.specs.Serial.{committed}
+use Rattle.core_model.specs.SerialOrder.{committed}
 use Rattle.promise_spec.specs.Records.{Commit, AreRecordsOf}
 use Rattle.promise_spec.specs.Journals.{Settlement, commits_of, entries_of}
-use Rattle.promise_laws.proofs.Journaled.{commits_of-append}
+use Rattle.promise_laws.proofs.JournalCrashes.{commits_of-append}
 use Rattle.run_books.specs.Books.{Books, AreInDoubt, AreBooked, IsPutOut}
-use Rattle.run_books.specs.Settling.{IsAsTold, AreEven}
-use Rattle.run_books.proofs.Showing.{records-on, flat-both}
+use Rattle.run_books.specs.BooksSteps.{IsAsTold, AreEven}
+use Rattle.run_books.proofs.ShownRecord.{records-on, flat-both}
 use Rattle.run_books.proofs.BooksLists.{alone, alone-commits, alone-entries, alone-single, both-single, none-single, take-front}
 
 -- what is even was put out

@@ -6,18 +6,18 @@ use Rattle.core_model.specs.CoreState.{UnitNo, GrainId, Value, CoreState, Member
 use Rattle.core_model.specs.declared.events.CoreEvent.{CoreEvent}
 use Rattle.core_model.specs.declared.effects.Effect.{Effect}
 use Rattle.core_model.specs.Laws.{extended}
-use Rattle.core_model.specs.Legal.{Run, ends}
-use Rattle.core_model.specs.Serial.{chosen}
+use Rattle.core_model.specs.LegalRuns.{Run, ends}
+use Rattle.core_model.specs.SerialOrder.{chosen}
 use Rattle.promise_spec.specs.Entries.{Log, grown}
 use Rattle.promise_spec.specs.Programs.{Program, shape_in}
 use Rattle.promise_spec.specs.Records.{Commit, AreRecordsOf}
 use Rattle.promise_spec.specs.Logs.{IsLog}
 use Rattle.promise_spec.specs.Outputs.{reply_lines}
 use Rattle.promise_spec.specs.Journals.{Settlement, AllSay, JournalAt, DoubtAt, CutAt, Backs, commits_of, entries_of}
-use Rattle.promise_laws.proofs.Journaled.{commits_of-append}
-use Rattle.promise_laws.proofs.Backing.{backs_on}
-use Rattle.settler_rules.specs.Voting.{IsOfVote}
-use Rattle.settler_rules.proofs.Standing.{stands-later, left-later}
+use Rattle.promise_laws.proofs.JournalCrashes.{commits_of-append}
+use Rattle.promise_laws.proofs.JournalGrowth.{backs_on}
+use Rattle.settler_rules.specs.Votes.{IsOfVote}
+use Rattle.settler_rules.proofs.StandingVotes.{stands-later, left-later}
 use Rattle.settler_rules.proofs.Commits.{doubt-stays}
 use Rattle.run_books.specs.Books.{AreInDoubt}
 use Rattle.run_books.specs.Images.{HasOpenBlock}

@@ -16,18 +16,18 @@ use Rattle.core_model.specs.declared.phases.Verdict.TheVariants.{Open, Chosen, C
 use Rattle.core_model.specs.Tests.{members, waiting, is_good, is_committed, outcome_of, outcome_in}
 use Rattle.core_model.specs.Answers.{effect_of}
 use Rattle.core_model.specs.Laws.{extended}
-use Rattle.core_model.specs.Legal.{Run, ends}
-use Rattle.core_model.specs.Serial.{committed, chosen, batch_begin}
+use Rattle.core_model.specs.LegalRuns.{Run, ends}
+use Rattle.core_model.specs.SerialOrder.{committed, chosen, batch_begin}
 use Rattle.core_model.specs.Settler.{to_commit}
 use Rattle.core_laws.proofs.Ends.{kept-ends}
 use Rattle.core_laws.proofs.Orders.{in_drop}
-use Rattle.core_laws.proofs.Told.{told-ends}
+use Rattle.core_laws.proofs.ToldOutcomes.{told-ends}
 use Rattle.promise_laws.specs.Legality.{is_play, applied_run}
-use Rattle.promise_laws.proofs.Legal.{ends_alike, legal}
+use Rattle.promise_laws.proofs.LegalRuns.{ends_alike, legal}
 use Rattle.promise_spec.specs.Records.{Commit, AreRecordsOf}
 use Rattle.promise_spec.specs.Crashes.{HasOutcome, Acknowledges}
 use Rattle.promise_spec.specs.UnitRule.{Basis, KeepsUnitRule}
-use Rattle.settler_rules.specs.Committing.{IsToldOf}
+use Rattle.settler_rules.specs.CommittedUnits.{IsToldOf}
 use Rattle.run_books.proofs.BooksFair.{IsOfUnit, of-unit, member-take, waits-open}
 
 outcome-is : (what : Settled) → HasOutcome what → (result : Outcome) × (what ≡ settled.Done result)

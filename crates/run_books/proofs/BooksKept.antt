@@ -6,22 +6,22 @@ use Rattle.host_trait.specs.World.{World}
 use Rattle.core_model.specs.declared.effects.Effect.{Effect}
 use Rattle.core_model.specs.declared.events.CoreEvent.{CoreEvent}
 use Rattle.core_model.specs.Laws.{extended}
-use Rattle.core_model.specs.Legal.{Run, ends}
-use Rattle.core_model.specs.Serial.{committed}
-use Rattle.core_laws.proofs.Lined.{once-ends}
-use Rattle.turn_rules.proofs.Lawful.{legal-run}
+use Rattle.core_model.specs.LegalRuns.{Run, ends}
+use Rattle.core_model.specs.SerialOrder.{committed}
+use Rattle.core_laws.proofs.LineEntries.{once-ends}
+use Rattle.turn_rules.proofs.LegalRuns.{legal-run}
 use Rattle.promise_spec.specs.Programs.{shape_in}
 use Rattle.promise_spec.specs.Records.{AreRecordsOf}
 use Rattle.promise_spec.specs.Outputs.{Grew}
 use Rattle.promise_spec.specs.Causes.{AreFaults}
 use Rattle.promise_spec.specs.UnitRule.{KeepsUnitRule}
 use Rattle.promise_spec.specs.Journals.{Settlement, commits_of, entries_of}
-use Rattle.settle_loop.specs.Works.{tells_entry}
+use Rattle.settle_loop.specs.ShownWork.{tells_entry}
 use Rattle.settle_loop.specs.declared.settler.Settler.{Settler}
 use Rattle.run_books.specs.Beginnings.{Outset, basis_of}
 use Rattle.run_books.specs.Books.{Books, AreInDoubt, IsPutOut}
 use Rattle.run_books.specs.Records.{KeepsBooks, CountsCalls}
-use Rattle.run_books.specs.Settling.{AreEven}
+use Rattle.run_books.specs.BooksSteps.{AreEven}
 use Rattle.run_books.proofs.BooksCore.{Moves}
 use Rattle.run_books.proofs.BooksFaults.{NoneFell, fell-both}
 use Rattle.run_books.proofs.BooksGrown.{even-put, grown_books, grown-booked, grown-even}

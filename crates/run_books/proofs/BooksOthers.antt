@@ -14,12 +14,12 @@ use Rattle.core_model.specs.declared.events.CoreEvent.{CoreEvent}
 use Rattle.core_model.specs.declared.events.CoreEvent.TheVariants.{Take, Vote, Decide, Sealed, NotSealed, Doubt, Learn, Emitted, Bad, Begin, Grant, Refuse, Finish, EndPlain, EndSnapshot, Release, Halt, Want, Load}
 use Rattle.core_model.specs.Events.{applies}
 use Rattle.core_model.specs.Laws.{extended}
-use Rattle.core_model.specs.Legal.{Run, ends}
-use Rattle.core_model.specs.Serial.{committed}
-use Rattle.core_laws.proofs.Lined.{once-ends}
-use Rattle.core_access.specs.Settling.{is_settling, LeavesBatches}
-use Rattle.core_access.proofs.Settling.{others-leave}
-use Rattle.turn_rules.proofs.Lawful.{legal-run}
+use Rattle.core_model.specs.LegalRuns.{Run, ends}
+use Rattle.core_model.specs.SerialOrder.{committed}
+use Rattle.core_laws.proofs.LineEntries.{once-ends}
+use Rattle.core_access.specs.SettlerEvents.{is_settling, LeavesBatches}
+use Rattle.core_access.proofs.SettlerEvents.{others-leave}
+use Rattle.turn_rules.proofs.LegalRuns.{legal-run}
 use Rattle.promise_spec.specs.Entries.{Log, grown}
 use Rattle.promise_spec.specs.Records.{Commit}
 use Rattle.promise_spec.specs.Causes.{is_no, is_unsealed, is_vote, is_vote_of, is_sealed, RoseBy, RunHasDoubt}
@@ -30,17 +30,17 @@ use Rattle.promise_spec.specs.Outputs.{reply_lines}
 use Rattle.promise_spec.specs.Logs.{IsLog}
 use Rattle.promise_spec.specs.Journals.{Settlement, AllSay, JournalAt, CutAt, Backs, commits_of, entries_of}
 use Rattle.promise_spec.proofs.Doubts.{doubt_left}
-use Rattle.promise_laws.proofs.Journaled.{commits_of-append}
-use Rattle.promise_laws.proofs.Stepping.{settles_on, whole_cut}
+use Rattle.promise_laws.proofs.JournalCrashes.{commits_of-append}
+use Rattle.promise_laws.proofs.JournalSteps.{settles_on, whole_cut}
 use Rattle.promise_laws.proofs.BatchEnds.{moments-stay, batch-stays-run}
 use Rattle.settler_rules.proofs.Commits.{doubt-stays, others-leave as committed-stays}
-use Rattle.batch_disk.specs.Resting.{SomeImage}
+use Rattle.batch_disk.specs.ImagesAtRest.{SomeImage}
 use Rattle.settle_loop.specs.declared.settler.Settler.{Settler}
 use Rattle.run_books.specs.Beginnings.{Outset, basis_of}
 use Rattle.run_books.specs.Books.{Books, booked_journal, AreInDoubt, IsPutOut, IsCutOff}
 use Rattle.run_books.specs.Images.{HasOpenBlock, LastsSo}
 use Rattle.run_books.specs.Records.{KeepsBooks}
-use Rattle.run_books.specs.Settling.{AreEven, BooksGoOn}
+use Rattle.run_books.specs.BooksSteps.{AreEven, BooksGoOn}
 use Rattle.run_books.proofs.BooksStated.{OthersKeep}
 use Rattle.run_books.proofs.BooksCalls.{TellsNoFile, file-still, calls-same}
 use Rattle.run_books.proofs.BooksCore.{moves-run, unapplied-run}

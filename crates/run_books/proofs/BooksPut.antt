@@ -14,26 +14,26 @@ use Rattle.core_model.specs.declared.effects.Effect.{Effect}
 use Rattle.core_model.specs.declared.events.CoreEvent.TheVariants.{Emitted}
 use Rattle.core_model.specs.Events.{applies}
 use Rattle.core_model.specs.Laws.{extended}
-use Rattle.core_model.specs.Legal.{Run, ends}
-use Rattle.core_model.specs.Serial.{committed}
-use Rattle.core_laws.proofs.Lined.{once-ends}
-use Rattle.turn_rules.proofs.Lawful.{legal-run}
+use Rattle.core_model.specs.LegalRuns.{Run, ends}
+use Rattle.core_model.specs.SerialOrder.{committed}
+use Rattle.core_laws.proofs.LineEntries.{once-ends}
+use Rattle.turn_rules.proofs.LegalRuns.{legal-run}
 use Rattle.promise_spec.specs.Programs.{shape_in}
 use Rattle.promise_spec.specs.Records.{AreRecordsOf}
 use Rattle.promise_spec.specs.Outputs.{IsProper, Grew, reply_lines}
 use Rattle.promise_spec.specs.Causes.{is_no, is_unsealed, is_vote, is_vote_of, is_sealed}
 use Rattle.promise_spec.specs.UnitRule.{KeepsUnitRule}
 use Rattle.promise_spec.specs.Journals.{commits_of, entries_of}
-use Rattle.promise_laws.proofs.Stepping.{cut-no_feed, cut_is_front}
+use Rattle.promise_laws.proofs.JournalSteps.{cut-no_feed, cut_is_front}
 use Rattle.settler_rules.specs.Entries.{IsEntryInRange}
-use Rattle.settler_rules.proofs.Settled.{entry-proper}
+use Rattle.settler_rules.proofs.SettledEntries.{entry-proper}
 use Rattle.settler_rules.proofs.Commits.{others-leave as committed-stays}
-use Rattle.settle_loop.specs.Works.{counted_up}
+use Rattle.settle_loop.specs.ShownWork.{counted_up}
 use Rattle.settle_loop.specs.declared.settler.Settler.{Settler}
 use Rattle.run_books.specs.Beginnings.{Outset, basis_of}
 use Rattle.run_books.specs.Books.{Books, AreBooked, IsPutOut, IsCutOff}
 use Rattle.run_books.specs.Records.{KeepsBooks, KeepsFile, ShowsOutside, CountsCalls}
-use Rattle.run_books.specs.Settling.{AreEven}
+use Rattle.run_books.specs.BooksSteps.{AreEven}
 use Rattle.run_books.proofs.BooksCalls.{file-same, file-emitted, calls-same}
 use Rattle.run_books.proofs.BooksCore.{Moves}
 use Rattle.run_books.proofs.BooksCounts.{how-same}

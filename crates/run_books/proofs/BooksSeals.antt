@@ -7,7 +7,7 @@ use Rattle.host_trait.proofs.Moments.{both, weaker}
 use Rattle.core_model.specs.CoreState.{Member}
 use Rattle.core_model.specs.declared.events.CoreEvent.{CoreEvent}
 use Rattle.core_model.specs.Laws.{extended}
-use Rattle.core_model.specs.Legal.{Run, ends}
+use Rattle.core_model.specs.LegalRuns.{Run, ends}
 use Rattle.promise_spec.proofs.Standings.{grown_twice}
 use Rattle.promise_spec.specs.Entries.{Log, grown}
 use Rattle.promise_spec.specs.Programs.{shape_in}
@@ -18,8 +18,8 @@ use Rattle.promise_spec.specs.Batches.{EndsABatch}
 use Rattle.promise_spec.specs.Causes.{RunHasDoubt}
 use Rattle.promise_spec.specs.UnitRule.{KeepsUnitRule}
 use Rattle.promise_spec.specs.Journals.{Settlement, IsSealing, Seals, JournalAt, CutAt, Backs, commits_of, entries_of}
-use Rattle.promise_laws.proofs.Stepping.{seals_on, settles_on, whole_cut}
-use Rattle.promise_laws.proofs.Backing.{backs_on}
+use Rattle.promise_laws.proofs.JournalSteps.{seals_on, settles_on, whole_cut}
+use Rattle.promise_laws.proofs.JournalGrowth.{backs_on}
 use Rattle.promise_spec.proofs.Lists.{in_append, in_flat}
 use Rattle.promise_laws.specs.Closings.{AllEnd}
 use Rattle.promise_laws.proofs.BatchEnds.{moments-stay, batch-stays-run, records-end}

@@ -18,36 +18,36 @@ use Rattle.core_model.specs.declared.events.CoreEvent.TheVariants as event
 use Rattle.core_model.specs.declared.events.CoreReply.{CoreReply}
 use Rattle.core_model.specs.Events.{applies, is_after_halt}
 use Rattle.core_model.specs.Laws.{extended}
-use Rattle.core_model.specs.Legal.{Run, ends}
+use Rattle.core_model.specs.LegalRuns.{Run, ends}
 use Rattle.core_model.specs.Settler.{versions_to_write, Step, Votes, Decides, Seals as SealStep, Learns, Writes, Takes, Rests, MakesEvent, settler_step}
-use Rattle.core_laws.proofs.Stepped.{step-applies}
+use Rattle.core_laws.proofs.SettlerSteps.{step-applies}
 use Rattle.core_access.specs.OneHolder.{none_comes, own_sight}
 use Rattle.core_access.specs.Sights.{Sight, run_seen, Looks}
-use Rattle.core_access.specs.Spared.{is_spared, has_room}
+use Rattle.core_access.specs.CallsWithoutMemory.{is_spared, has_room}
 use Rattle.core_access.proofs.OneHolder.{own-run}
 use Rattle.core_access.proofs.Sights.{looks-alone, run-alone}
-use Rattle.promise_laws.proofs.Doubted.{doubt-rose}
+use Rattle.promise_laws.proofs.DoubtedBatches.{doubt-rose}
 use Rattle.promise_spec.specs.Programs.{shape_in}
 use Rattle.promise_spec.specs.Outputs.{IsProper, Grew}
 use Rattle.settler_rules.specs.Entries.{IsEntryInRange}
-use Rattle.settler_rules.proofs.Settled.{entry-proper}
+use Rattle.settler_rules.proofs.SettledEntries.{entry-proper}
 use Rattle.batch_disk.specs.Writers.{KeepsDisk}
 use Rattle.promise_spec.specs.UnitRule.{KeepsUnitRule}
 use Rattle.promise_spec.specs.Journals.{CutAt, entries_of}
 use Rattle.promise_spec.proofs.Doubts.{doubt_left}
-use Rattle.settle_loop.specs.Works.{tells_entry, tells_doubt, has_applied, counted_up}
+use Rattle.settle_loop.specs.ShownWork.{tells_entry, tells_doubt, has_applied, counted_up}
 use Rattle.settle_loop.specs.HostSteps.{WritesEntry, CutsEntry, DoesFor, MakesNoCall, LacksRoom}
-use Rattle.settle_loop.specs.Turning.{state_shown, has_unwritten, LooksOn, PutsNext, IsBrokenOff, LacksForVote, IsNotTaken, TurnsAs}
+use Rattle.settle_loop.specs.SettlerStep.{state_shown, has_unwritten, LooksOn, PutsNext, IsBrokenOff, LacksForVote, IsNotTaken, TurnsAs}
 use Rattle.settle_loop.specs.declared.settler.Settler.{Settler}
 use Rattle.settle_loop.specs.declared.settler.Turned.{Turned}
 use Rattle.settle_loop.specs.declared.settler.Turned.TheVariants.{Stepped, Nothing, Stop}
 use Rattle.settle_loop.specs.declared.settler.StopCause.TheVariants.{InDoubt, WriteFault}
-use Rattle.settle_loop.proofs.Alone.{alone-applies}
+use Rattle.settle_loop.proofs.LoneSteps.{alone-applies}
 use Rattle.run_books.specs.Beginnings.{Outset, basis_of}
 use Rattle.run_books.specs.Books.{Books, IsPutOut}
 use Rattle.run_books.specs.Images.{EndsAsBegun, LastsSo}
 use Rattle.run_books.specs.Records.{KeepsBooks, HasDoubted}
-use Rattle.run_books.specs.Settling.{AreEven, CanSettle, SaysOfStep, BooksGoOn}
+use Rattle.run_books.specs.BooksSteps.{AreEven, CanSettle, SaysOfStep, BooksGoOn}
 use Rattle.run_books.proofs.BooksCalls.{file-same, calls-same}
 use Rattle.run_books.proofs.BooksCore.{moves-run}
 use Rattle.run_books.proofs.BooksWritten.{said_next, next-front, next-entries, all-last, member-at}

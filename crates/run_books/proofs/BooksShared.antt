@@ -17,26 +17,26 @@ use Rattle.core_model.specs.declared.events.CoreEvent.TheVariants as event
 use Rattle.core_model.specs.declared.events.CoreReply.{CoreReply}
 use Rattle.core_model.specs.Events.{applies, can, is_allowed, is_after_halt}
 use Rattle.core_model.specs.Laws.{extended}
-use Rattle.core_model.specs.Legal.{Run, ends}
+use Rattle.core_model.specs.LegalRuns.{Run, ends}
 use Rattle.core_model.specs.Lines.{EntriesAreOnce}
 use Rattle.core_model.specs.Settler.{versions_to_write, Step, Votes, Decides, Seals as SealStep, Learns, Writes, Takes, Rests, MakesEvent, settler_step}
-use Rattle.core_laws.proofs.Lined.{once-ends}
-use Rattle.core_laws.proofs.Replied.{reply-tells}
-use Rattle.core_laws.proofs.Stepped.{step-applies}
+use Rattle.core_laws.proofs.LineEntries.{once-ends}
+use Rattle.core_laws.proofs.Replies.{reply-tells}
+use Rattle.core_laws.proofs.SettlerSteps.{step-applies}
 use Rattle.core_access.specs.Histories.{Told, run_after, reply_in}
-use Rattle.core_access.specs.Settling.{leaves_settling}
+use Rattle.core_access.specs.SettlerEvents.{leaves_settling}
 use Rattle.core_access.specs.Sights.{Sight, run_seen, saw, told, AllPass, Looks, Counts}
-use Rattle.core_access.specs.Spared.{is_spared, has_room}
+use Rattle.core_access.specs.CallsWithoutMemory.{is_spared, has_room}
 use Rattle.core_access.proofs.Entries.{entries-single}
 use Rattle.core_access.proofs.Sights.{run-told, looks-before, looks-none}
-use Rattle.turn_rules.proofs.Lawful.{legal-run}
+use Rattle.turn_rules.proofs.LegalRuns.{legal-run}
 use Rattle.worker_rules.specs.Work.{is_work}
 use Rattle.worker_rules.proofs.Workers.{work-settles}
 use Rattle.promise_spec.specs.Programs.{shape_in}
 use Rattle.promise_spec.specs.UnitRule.{KeepsUnitRule}
-use Rattle.settle_loop.specs.Works.{tells_entry, tells_doubt, has_applied, counted_up}
+use Rattle.settle_loop.specs.ShownWork.{tells_entry, tells_doubt, has_applied, counted_up}
 use Rattle.settle_loop.specs.HostSteps.{CutsEntry, DoesFor, LacksRoom, MakesNoCall}
-use Rattle.settle_loop.specs.Turning.{written_after, doubted_after, LooksOn, PutsNext, IsNotTaken, TurnsAs}
+use Rattle.settle_loop.specs.SettlerStep.{written_after, doubted_after, LooksOn, PutsNext, IsNotTaken, TurnsAs}
 use Rattle.settle_loop.specs.declared.settler.Settler.{Settler}
 use Rattle.settle_loop.specs.declared.settler.Turned.{Turned}
 use Rattle.settle_loop.specs.declared.settler.Turned.TheVariants.{Stepped, Nothing, Stop}
@@ -44,15 +44,15 @@ use Rattle.settle_loop.specs.declared.settler.StopCause.TheVariants.{InDoubt, Wr
 use Rattle.run_books.specs.Beginnings.{Outset, basis_of}
 use Rattle.run_books.specs.Books.{Books}
 use Rattle.run_books.specs.Records.{KeepsBooks}
-use Rattle.run_books.specs.Settling.{AreEven, CanSettle, BooksGoOn}
-use Rattle.run_books.specs.Sharing.{MayRely, SeesOn, CanShare, StepKeeps, OthersKeepBooks, SharedStepsKeep}
+use Rattle.run_books.specs.BooksSteps.{AreEven, CanSettle, BooksGoOn}
+use Rattle.run_books.specs.SharedSteps.{MayRely, SeesOn, CanShare, StepKeeps, OthersKeepBooks, SharedStepsKeep}
 use Rattle.run_books.proofs.LineCounts.{at-most}
 use Rattle.run_books.proofs.BooksCalls.{TellsNoFile}
 use Rattle.run_books.proofs.BooksOthers.{others-keep, unapplied-keeps}
 use Rattle.run_books.proofs.BooksSettled.{is_of_batch, done, WentOn, went, lacks-at, cut-by, in-doubt}
 use Rattle.run_books.proofs.Fronts.{after-base, after-kinds, after-units}
-use Rattle.run_books.proofs.Relying.{sees-none, sees-look, sees-both, run-sees, counts-on, going-before, relies-before}
-use Rattle.run_books.proofs.Staying.{Stays, not-settling, stays-all, step-stays, does-on}
+use Rattle.run_books.proofs.Reliance.{sees-none, sees-look, sees-both, run-sees, counts-on, going-before, relies-before}
+use Rattle.run_books.proofs.ShownWork.{Stays, not-settling, stays-all, step-stays, does-on}
 use Rattle.run_books.specs.Stages.{Stage, stage_by, stage_of}
 
 -- ---- one after another

@@ -5,17 +5,17 @@ use Rattle.host_trait.specs.declared.channels.Channel.{Channel}
 use Rattle.host_trait.specs.World.{World}
 use Rattle.core_model.specs.declared.events.CoreEvent.{CoreEvent}
 use Rattle.core_model.specs.Laws.{extended}
-use Rattle.core_model.specs.Legal.{Run, ends}
+use Rattle.core_model.specs.LegalRuns.{Run, ends}
 use Rattle.core_access.specs.OneHolder.{none_comes, own_sight}
-use Rattle.core_access.specs.Settling.{is_settling}
+use Rattle.core_access.specs.SettlerEvents.{is_settling}
 use Rattle.promise_spec.specs.UnitRule.{KeepsUnitRule}
-use Rattle.settle_loop.specs.Turning.{TurnsAs}
+use Rattle.settle_loop.specs.SettlerStep.{TurnsAs}
 use Rattle.settle_loop.specs.declared.settler.Settler.{Settler}
 use Rattle.settle_loop.specs.declared.settler.Turned.{Turned}
 use Rattle.run_books.specs.Beginnings.{Outset, basis_of}
 use Rattle.run_books.specs.Books.{Books}
 use Rattle.run_books.specs.Records.{KeepsBooks}
-use Rattle.run_books.specs.Settling.{AreEven, CanSettle, SaysOfStep, BooksGoOn}
+use Rattle.run_books.specs.BooksSteps.{AreEven, CanSettle, SaysOfStep, BooksGoOn}
 use Rattle.run_books.specs.Stages.{stage_by, stage_of}
 
 -- A step of the settler, over a core alone, with its answer.

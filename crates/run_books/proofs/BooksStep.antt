@@ -14,9 +14,9 @@ use Rattle.core_model.specs.declared.events.CoreEvent.{CoreEvent}
 use Rattle.core_model.specs.declared.events.CoreEvent.TheVariants as event
 use Rattle.core_model.specs.Events.{applies, is_after_doubt}
 use Rattle.core_model.specs.Laws.{extended}
-use Rattle.core_model.specs.Legal.{Run, ends}
+use Rattle.core_model.specs.LegalRuns.{Run, ends}
 use Rattle.core_model.specs.Settler.{MakesEvent, settler_step, to_commit, versions_to_write}
-use Rattle.core_laws.proofs.Split.{no_doubt}
+use Rattle.core_laws.proofs.CommitOrder.{no_doubt}
 use Rattle.promise_spec.specs.Blocks.{Records, body_of}
 use Rattle.promise_spec.proofs.Standings.{grown_none, grown_twice}
 use Rattle.promise_spec.specs.Entries.{Log, grown}
@@ -27,28 +27,28 @@ use Rattle.promise_spec.specs.Cores.{how_many}
 use Rattle.promise_spec.specs.Causes.{is_unsealed}
 use Rattle.promise_spec.specs.UnitRule.{KeepsUnitRule}
 use Rattle.promise_spec.specs.Journals.{Settlement, Seals, commits_of}
-use Rattle.batch_disk.specs.Resting.{Voted}
+use Rattle.batch_disk.specs.ImagesAtRest.{Voted}
 use Rattle.batch_disk.specs.Moments.{LeavesRest, KeepsLog}
 use Rattle.batch_disk.specs.Records.{commits_by}
 use Rattle.batch_disk.specs.Seals.{WriterAfter}
 use Rattle.batch_disk.specs.Writers.{KeepsDisk, kept_of, voted_of}
 use Rattle.batch_disk.specs.declared.writer.BatchWriter.{BatchWriter}
 use Rattle.batch_disk.proofs.Lists.{flat_push}
-use Rattle.batch_disk.proofs.Recorded.{records_are}
+use Rattle.batch_disk.proofs.BatchRecords.{records_are}
 use Rattle.commit_log.specs.declared.gate.Sealing.{Sealing}
 use Rattle.commit_log.specs.declared.gate.Sealing.TheVariants as sealing
 use Rattle.commit_log.specs.declared.records.CommitRecord.{CommitRecord}
-use Rattle.commit_log.specs.Sealing.{SealHasCause}
-use Rattle.settle_loop.specs.Works.{event_of, tells_entry, tells_doubt, counted_up}
+use Rattle.commit_log.specs.SealImages.{SealHasCause}
+use Rattle.settle_loop.specs.ShownWork.{event_of, tells_entry, tells_doubt, counted_up}
 use Rattle.settle_loop.specs.HostSteps.{MakesNoCall, VotesOn, SealsUnits, DoesFor, batch_made}
-use Rattle.settle_loop.specs.Journaling.{as_settled, LeavesLogs, JournalsAs}
+use Rattle.settle_loop.specs.StepJournal.{as_settled, LeavesLogs, JournalsAs}
 use Rattle.settle_loop.specs.declared.settler.Settler.{Settler}
-use Rattle.settle_loop.proofs.Journaled.{journals, leaves}
+use Rattle.settle_loop.proofs.StepJournal.{journals, leaves}
 use Rattle.run_books.specs.Beginnings.{Outset, basis_of}
 use Rattle.run_books.specs.Books.{Books, AreInDoubt, AreBooked}
 use Rattle.run_books.specs.Images.{EndsAsBegun, KeepsFolder, LastsSo}
 use Rattle.run_books.specs.Records.{KeepsBooks}
-use Rattle.run_books.specs.Settling.{AreEven, CanSettle}
+use Rattle.run_books.specs.BooksSteps.{AreEven, CanSettle}
 use Rattle.run_books.proofs.BooksCore.{Moves, moves-run}
 use Rattle.run_books.proofs.BooksCounts.{doubt-ends, how-one, none-before}
 use Rattle.run_books.proofs.BooksLists.{alone}

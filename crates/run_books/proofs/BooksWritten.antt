@@ -7,15 +7,15 @@ use Rattle.host_trait.specs.World.{World}
 use Rattle.request_wire.specs.Reply.{reply_line}
 use Rattle.core_model.specs.CoreState.{CoreState, Member}
 use Rattle.core_model.specs.declared.effects.Effect.{Effect}
-use Rattle.core_model.specs.Serial.{committed}
+use Rattle.core_model.specs.SerialOrder.{committed}
 use Rattle.promise_spec.specs.Programs.{shape_in}
 use Rattle.promise_spec.specs.Records.{AreRecordsOf}
 use Rattle.promise_spec.specs.Outputs.{IsProper, Grew, reply_lines}
 use Rattle.promise_spec.specs.Journals.{Settlement, commits_of, entries_of}
 use Rattle.run_books.specs.Beginnings.{Outset}
 use Rattle.run_books.specs.Books.{Books, AreInDoubt, AreBooked}
-use Rattle.run_books.specs.Settling.{AreEven}
-use Rattle.run_books.proofs.Showing.{flat-both}
+use Rattle.run_books.specs.BooksSteps.{AreEven}
+use Rattle.run_books.proofs.ShownRecord.{flat-both}
 use Rattle.run_books.proofs.BooksLists.{SplitsAt, splits-at, take-next}
 
 -- behind a front comes what stands there

@@ -9,14 +9,14 @@ use Rattle.core_model.specs.Changes.{lines_with}
 use Rattle.core_model.specs.declared.events.CoreEvent.{CoreEvent}
 use Rattle.core_model.specs.Events.{applies, run}
 use Rattle.core_model.specs.Laws.{extended}
-use Rattle.core_model.specs.Legal.{Run, begins, ends}
-use Rattle.core_laws.proofs.Decoded.{Change, bad, begin, lock, raise, refuse, finish, end_plain, end_snapshot, release, take_batch, vote, decide_some, decide_none, seal_batch, spoil_batch, doubt_batch, learn, emit, halt_run, want, load}
-use Rattle.core_laws.proofs.Everywhere.{run-keeps}
+use Rattle.core_model.specs.LegalRuns.{Run, begins, ends}
+use Rattle.core_laws.proofs.EventCases.{Change, bad, begin, lock, raise, refuse, finish, end_plain, end_snapshot, release, take_batch, vote, decide_some, decide_none, seal_batch, spoil_batch, doubt_batch, learn, emit, halt_run, want, load}
+use Rattle.core_laws.proofs.AnyEvents.{run-keeps}
 use Rattle.core_laws.proofs.Numbers.{grown-run}
 use Rattle.core_access.specs.Histories.{Told, run_after}
-use Rattle.promise_spec.specs.Gotten.{got_from}
+use Rattle.promise_spec.specs.UnitAnswers.{got_from}
 use Rattle.promise_spec.specs.UnitRule.{Basis, IsDue, KeepsUnitRule}
-use Rattle.settler_rules.proofs.Standing.{ends-more}
+use Rattle.settler_rules.proofs.StandingVotes.{ends-more}
 
 -- ---- the rule
 

@@ -4,8 +4,8 @@ use Rattle.std.specs.Prelude.{flat_map, if◌then◌else◌}
 use Rattle.std.specs.List.{list_any as any}
 use Rattle.std.proofs.Common.{inl, inr}
 use Rattle.std.proofs.lemmas.Bool.{and_parts, cond_both}
-use Rattle.core_access.specs.Settling.{is_settling}
-use Rattle.core_access.proofs.Settling.{others-leave}
+use Rattle.core_access.specs.SettlerEvents.{is_settling}
+use Rattle.core_access.proofs.SettlerEvents.{others-leave}
 use Rattle.core_model.specs.CoreState.{UnitNo, GrainId, Member, Value, Version, Batch, CoreState}
 use Rattle.core_model.specs.declared.events.CoreEvent.{CoreEvent}
 use Rattle.core_model.specs.declared.phases.Phase.TheVariants.{Unborn, Running, Finished}
@@ -13,20 +13,20 @@ use Rattle.core_model.specs.declared.phases.Verdict.TheVariants.{Aborted}
 use Rattle.core_model.specs.Changes.{new_unit, swept, swept_by}
 use Rattle.core_model.specs.Events.{applies, can, does, is_allowed, step}
 use Rattle.core_model.specs.Laws.{extended}
-use Rattle.core_model.specs.Legal.{Run, ends}
+use Rattle.core_model.specs.LegalRuns.{Run, ends}
 use Rattle.core_model.specs.Settler.{version_written, version_to_write, versions_to_write}
 use Rattle.core_model.specs.Tests.{has_bad_source, is_bad, members, state_written}
 use Rattle.core_laws.proofs.Consistency.{depends-earlier, depends-ends}
-use Rattle.core_laws.proofs.Decoded.{Change, bad, begin, lock, raise, refuse, finish, end_plain, end_snapshot, release, take_batch, vote, decide_some, decide_none, seal_batch, spoil_batch, doubt_batch, learn, emit, halt_run, want, load, decode}
+use Rattle.core_laws.proofs.EventCases.{Change, bad, begin, lock, raise, refuse, finish, end_plain, end_snapshot, release, take_batch, vote, decide_some, decide_none, seal_batch, spoil_batch, doubt_batch, learn, emit, halt_run, want, load, decode}
 use Rattle.core_laws.proofs.Dependencies.{Depends}
 use Rattle.core_laws.proofs.Ends.{kept-ends}
-use Rattle.core_laws.proofs.Kept.{Kept, size-open}
+use Rattle.core_laws.proofs.KeptInvariant.{Kept, size-open}
 use Rattle.core_laws.proofs.Puts.{put-other}
 use Rattle.core_laws.proofs.Reasons.{member-finished, take-drop-push}
 use Rattle.promise_laws.specs.Legality.{is_play, applied_run}
-use Rattle.promise_laws.proofs.Legal.{ends_alike, legal}
+use Rattle.promise_laws.proofs.LegalRuns.{ends_alike, legal}
 use Rattle.promise_spec.specs.UnitRule.{Basis, KeepsUnitRule}
-use Rattle.settler_rules.proofs.Standing.{ends-more}
+use Rattle.settler_rules.proofs.StandingVotes.{ends-more}
 
 -- where two tests agree on all of a list
 any-same : (p q : UnitNo → Bool) (xs : List UnitNo) → ((x : UnitNo) → Member x xs → p x ≡ q x) → any p xs ≡ any q xs

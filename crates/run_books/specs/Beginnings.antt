@@ -3,15 +3,15 @@ use Rattle.std.specs.Prelude.{◌≡◌, ◌+◌, ◌<◌, ℕ, List, [], ◌∷
 use Rattle.host_trait.specs.declared.channels.Channel.{Channel}
 use Rattle.host_trait.specs.World.{World}
 use Rattle.request_wire.specs.declared.requests.Line.{Line}
-use Rattle.core_model.specs.Asked.{IsGoing}
-use Rattle.core_model.specs.Legal.{Run, ends}
+use Rattle.core_model.specs.LockAnswers.{IsGoing}
+use Rattle.core_model.specs.LegalRuns.{Run, ends}
 use Rattle.core_model.specs.Settler.{settler_step, Rests}
 use Rattle.script_tree.specs.Programs.{ProgramTree}
 use Rattle.promise_spec.specs.Programs.{Program}
 use Rattle.promise_spec.specs.Entries.{Log, standing_of}
 use Rattle.promise_spec.specs.Lines.{ReadsLineAs}
 use Rattle.promise_spec.specs.UnitRule.{Basis}
-use Rattle.turn_rules.specs.Quiet.{IsQuiet}
+use Rattle.turn_rules.specs.QuietRun.{IsQuiet}
 use Rattle.settle_loop.specs.declared.settler.Settler.{Settler}
 
 -- the lines are numbered one after another, from the one behind this number on

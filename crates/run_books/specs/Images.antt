@@ -5,8 +5,8 @@ use Rattle.host_trait.specs.Disk.{FileState, MayLeave}
 use Rattle.host_trait.specs.declared.channels.FileId.{FileId}
 use Rattle.host_trait.specs.World.{World, Disk, Moment, Image, IsImage, Passes, moment_of}
 use Rattle.core_model.specs.CoreState.{CoreState, Member}
-use Rattle.core_model.specs.Serial.{chosen}
-use Rattle.core_model.specs.Legal.{Run, ends}
+use Rattle.core_model.specs.SerialOrder.{chosen}
+use Rattle.core_model.specs.LegalRuns.{Run, ends}
 use Rattle.gate_block.specs.Log.{HasBlocks}
 use Rattle.promise_spec.specs.Programs.{shape_in}
 use Rattle.promise_spec.specs.Records.{Commit, AreRecordsOf}
@@ -18,10 +18,10 @@ use Rattle.promise_spec.specs.Causes.{RunHasDoubt, is_unsealed}
 use Rattle.promise_spec.specs.Exits.{HasBlock, DifferAt}
 use Rattle.promise_spec.specs.Journals.{CutAt, Backs, commits_of}
 use Rattle.promise_laws.specs.Closings.{AllEnd}
-use Rattle.batch_disk.specs.Resting.{Voted, EachImage, SomeImage}
+use Rattle.batch_disk.specs.ImagesAtRest.{Voted, EachImage, SomeImage}
 use Rattle.batch_disk.specs.Writers.{kept_of, KeepsDisk}
 use Rattle.batch_disk.specs.declared.writer.BatchWriter.{BatchWriter}
-use Rattle.settler_rules.specs.Voting.{IsOfVote}
+use Rattle.settler_rules.specs.Votes.{IsOfVote}
 use Rattle.run_books.specs.Beginnings.{Outset}
 use Rattle.run_books.specs.Books.{Books, booked_journal}
 

@@ -3,7 +3,7 @@ pub mod Stages
 pub mod Books
 pub mod Images
 pub mod Records
-pub mod Settling
-pub mod Sharing
-pub mod Beside
-pub mod Closing
+pub mod BooksSteps
+pub mod SharedSteps
+pub mod RecordFrame
+pub mod RunCourse

@@ -7,7 +7,7 @@ use Rattle.host_trait.specs.Faults.{Rose}
 use Rattle.host_trait.specs.declared.channels.FileId.{FileId}
 use Rattle.host_trait.specs.declared.channels.FileId.TheVariants.{Grain, Manager}
 use Rattle.host_trait.specs.World.{World, Passes}
-use Rattle.core_model.specs.Legal.{Run, ends}
+use Rattle.core_model.specs.LegalRuns.{Run, ends}
 use Rattle.core_model.specs.Settler.{settler_step, Rests}
 use Rattle.promise_spec.specs.Programs.{shape_in}
 use Rattle.promise_spec.specs.Outputs.{Grew}
@@ -15,7 +15,7 @@ use Rattle.promise_spec.specs.Cores.{how_many}
 use Rattle.promise_spec.specs.UnitRule.{KeepsUnitRule}
 use Rattle.promise_spec.specs.Causes.{AreFaults, RunHasDoubt, NoneRose, is_vote, is_vote_of, is_sealed, is_unsealed}
 use Rattle.promise_spec.specs.Journals.{entries_of}
-use Rattle.turn_rules.specs.Quiet.{HasRun}
+use Rattle.turn_rules.specs.QuietRun.{HasRun}
 use Rattle.run_books.specs.declared.faults.RunFault.{RunFault}
 use Rattle.run_books.specs.declared.faults.RunFault.TheVariants.{InDoubt, WriteFault, Memory}
 use Rattle.run_books.specs.Beginnings.{Outset, basis_of}

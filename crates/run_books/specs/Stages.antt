@@ -2,7 +2,7 @@
 use Rattle.std.specs.Prelude.{ℕ, Bool, IsTrue}
 use Rattle.host_trait.specs.declared.channels.Channel.{Channel}
 use Rattle.host_trait.specs.World.{World}
-use Rattle.core_model.specs.Legal.{Run}
+use Rattle.core_model.specs.LegalRuns.{Run}
 use Rattle.batch_disk.specs.Writers.{IsInBounds, FitsDisk}
 use Rattle.batch_disk.specs.declared.writer.BatchWriter.{BatchWriter}
 use Rattle.settle_loop.specs.declared.settler.Settler.{Settler}

@@ -1,5 +1,5 @@
 ghost use Rattle.std.specs.Prelude.{◌≡◌, ℕ, Bool, true, false, List as AList, Result as AResult, length, take};
-ghost use Rattle.core_model.specs.Legal.{Run};
+ghost use Rattle.core_model.specs.LegalRuns.{Run};
 ghost use Rattle.host_trait.specs.declared.channels.FileId.TheVariants.{Manager, Grain};
 ghost use Rattle.host_trait.specs.World.{World};
 ghost use Rattle.base_types.specs.declared.calls.GrainId.{GrainId};
@@ -7,7 +7,7 @@ ghost use Rattle.promise_spec.specs.Programs.{Program as AProgram};
 ghost use Rattle.promise_spec.specs.Cores.{how_many};
 ghost use Rattle.promise_spec.specs.Causes.{is_vote_of};
 ghost use Rattle.promise_spec.specs.Courses.{Observed, Course, seen_at_entry, core_run};
-ghost use Rattle.promise_spec.specs.Explained.{AreSettled, LeavesUnvoted};
+ghost use Rattle.promise_spec.specs.Explanation.{AreSettled, LeavesUnvoted};
 ghost use Rattle.promise_spec.specs.TurnRule.{KeepsTurnRule};
 ghost use Rattle.promise_laws.specs.Closings.{IsBehind, ReadsMayStay};
 ghost use Rattle.promise_laws.specs.Obligations.{ExplainsEvents, Opens, Lasts};
@@ -17,7 +17,7 @@ ghost use Rattle.run_books.specs.Beginnings.{Outset};
 ghost use Rattle.run_books.specs.Books.{Books};
 ghost use Rattle.run_books.specs.Images.{LastsSo};
 ghost use Rattle.run_books.specs.Records.{KeepsFile, KeepsRecord, TurnsEndAs};
-ghost use Rattle.run_books.specs.Closing.{IsCourseOf, turns_ending};
+ghost use Rattle.run_books.specs.RunCourse.{IsCourseOf, turns_ending};
 ghost use Rattle.run_books.specs.Stages.{stage_by};
 
 /// What the record of a run says, however it ended, is what a whole run has to show over any folder: that the core's events explain

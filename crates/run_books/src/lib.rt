@@ -7,10 +7,10 @@
 
 mod faults;
 mod laws;
-mod sharing;
+mod shared_steps;
 
 pub use faults::RunFault;
 pub use laws::records_show;
-pub use sharing::{
+pub use shared_steps::{
     calls_see_on, none_stops, others_keep_the_books, relied_on_before, shared_steps_keep_the_books,
 };

@@ -8,7 +8,7 @@ use Rattle.std.proofs.lemmas.List.Splits.{length-slice_split}
 use Rattle.std.proofs.lemmas.List.Sums.{count_by-le-length}
 use Rattle.request_wire.specs.Lines.{lines_of, without_empty_last}
 use Rattle.script_tree.specs.Programs.{ProgramTree}
-use Rattle.run_lines.specs.Reading.{line_from_text, lines_from_texts}
+use Rattle.run_lines.specs.LineReadings.{line_from_text, lines_from_texts}
 
 -- ---- what is left behind a place
 

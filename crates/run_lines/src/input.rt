@@ -1,7 +1,7 @@
 ghost use Rattle.std.specs.Prelude.{◌≡◌, ◌+◌, ◌-◌, ◌^◌, ◌<◌, length, drop, IfOk};
 ghost use Rattle.request_wire.specs.Lines.{lines_of};
 ghost use Rattle.script_tree.specs.Programs.{program_tree};
-ghost use Rattle.run_lines.specs.Reading.{line_from_text, lines_from_texts, input_lines};
+ghost use Rattle.run_lines.specs.LineReadings.{line_from_text, lines_from_texts, input_lines};
 ghost use Rattle.std.proofs.Props.{props};
 
 use crate::lines::Lines;

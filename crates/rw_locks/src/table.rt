@@ -1,6 +1,6 @@
 ghost use Rattle.std.specs.Prelude.{◌≡◌, ◌<◌, ◌≤◌, ◌+◌, [], vec_len, vec_capacity, IsOk, IfOk, OnOk};
 ghost use Rattle.std.specs.List.{list_any};
-ghost use Rattle.rw_locks.specs.Locked.{holds_alone, joined};
+ghost use Rattle.rw_locks.specs.LockView.{holds_alone, joined};
 ghost use Rattle.cell_model.specs.declared.locks.Ask.TheVariants.{Free};
 ghost use Rattle.cell_model.specs.Units.{oldest};
 ghost use Rattle.cell_model.specs.Locks.{is_update, covers, conflicts, rivals, ask, granted, dropped, holds_lock};
@@ -19,7 +19,7 @@ pub struct LockTable {
 
 impl Model for LockTable {
     ghost use Rattle.std.specs.Prelude.{◌-◌, vec_len, vec_capacity};
-    ghost use Rattle.rw_locks.specs.Locked.{Locked};
+    ghost use Rattle.rw_locks.specs.LockView.{Locked};
 
     ghost Value = { Locked };
 

@@ -4,7 +4,7 @@ use Rattle.std.proofs.Math.ListN.{drop_of_length-le}
 use Rattle.std.proofs.lemmas.List.{append-nil}
 use Rattle.script_tree.specs.declared.expressions.Name.{Name}
 use Rattle.script_scopes.specs.declared.faults.CheckFault.{CheckFault}
-use Rattle.script_scopes.specs.Found.{FirstFault, Fails}
+use Rattle.script_scopes.specs.FirstFaults.{FirstFault, Fails}
 use Rattle.script_scopes.specs.Names.{Scope}
 use Rattle.script_check.specs.Programs.{each_fault}
 use Rattle.script_scopes.proofs.Founds.{fails_first, fails_is, goes_on}

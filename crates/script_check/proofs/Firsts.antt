@@ -13,7 +13,7 @@ use Rattle.script_tree.specs.Stmts.{SourceTree, Computed, Called, StmtTree, Bloc
 use Rattle.script_tree.specs.Programs.{MethodTree, TypeTree, ProgramTree}
 use Rattle.script_scopes.specs.declared.faults.CheckFault.{CheckFault}
 use Rattle.script_scopes.specs.declared.faults.CheckFault.TheVariants.{UnknownName, TwiceNamed, Arity, TooMany, Memory}
-use Rattle.script_scopes.specs.Found.{FirstFault, ◌<|>◌, Fails}
+use Rattle.script_scopes.specs.FirstFaults.{FirstFault, ◌<|>◌, Fails}
 use Rattle.script_scopes.specs.Names.{Scope, Setting, is_in, taken_fault, room_fault, local_fault, reading_fault, writing_fault, variable_fault, assigned_fault, set_fault}
 use Rattle.script_scopes.specs.Expressions.{expression_fault, arguments_fault, type_named, method_named, arity_fault, target_fault, call_fault}
 use Rattle.script_scopes.specs.Statements.{source_fault, with_name, scope_after, statement_fault, block_fault, else_fault}

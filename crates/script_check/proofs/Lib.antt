@@ -1,5 +1,5 @@
 pub mod Declarations
-pub mod Whole
-pub mod Shaped
+pub mod WholePrograms
+pub mod TypeShapes
 pub mod Firsts
-pub mod Mentioned
+pub mod MentionedNames

@@ -1,4 +1,4 @@
 pub mod Programs
-pub mod Accepted
+pub mod AcceptedPrograms
 pub mod Mentions
 pub mod Shapes

@@ -8,7 +8,7 @@ use Rattle.script_tree.specs.Stmts.{SourceTree, Computed, Called, StmtTree, Bloc
 use Rattle.script_tree.specs.Programs.{MethodTree, TypeTree, ProgramTree}
 use Rattle.script_scopes.specs.declared.faults.CheckFault.{CheckFault}
 use Rattle.script_scopes.specs.declared.faults.CheckFault.TheVariants.{UnknownName, TwiceNamed, Arity, FieldInPlain, SetInRead, TooMany, NeedsTransaction, Memory}
-use Rattle.script_scopes.specs.Found.{FirstFault, ◌<|>◌}
+use Rattle.script_scopes.specs.FirstFaults.{FirstFault, ◌<|>◌}
 use Rattle.script_scopes.specs.Names.{Scope, Setting, local_fault, variable_fault, assigned_fault, set_fault}
 use Rattle.script_scopes.specs.Expressions.{type_named, method_named, arity_fault}
 use Rattle.script_scopes.specs.Statements.{with_name, scope_after}
@@ -96,6 +96,7 @@ each_names name_of names before (first ∷ rest) = names before first ++ each_na
 abbrev pub field_mention : Scope → FieldDecl → List Mention
 field_mention before field = at_name field.name (field_fault before field)
 
+-- a parameter's name is mentioned, with its fault if it has one
 abbrev pub parameter_mention : Scope → Scope → Name → List Mention
 parameter_mention fields before name = at_name name (parameter_fault fields before name)
 

@@ -8,7 +8,7 @@ use Rattle.script_tree.specs.declared.options.TxnOption.TheVariants.{Create, Joi
 use Rattle.script_tree.specs.declared.programs.FieldDecl.{FieldDecl}
 use Rattle.script_tree.specs.Programs.{MethodTree, TypeTree, ProgramTree}
 use Rattle.script_scopes.specs.declared.faults.CheckFault.TheVariants.{NeedsTransaction}
-use Rattle.script_scopes.specs.Found.{FirstFault, ◌<|>◌}
+use Rattle.script_scopes.specs.FirstFaults.{FirstFault, ◌<|>◌}
 use Rattle.script_scopes.specs.Names.{Scope, taken_fault, room_fault}
 use Rattle.script_scopes.specs.Statements.{block_fault}
 
@@ -21,6 +21,7 @@ option_fault Suppress at = Some (NeedsTransaction at)
 option_fault Supported at = Some (NeedsTransaction at)
 option_fault NotAllowed at = Some (NeedsTransaction at)
 
+-- what is at fault at a method's option: one that is plain may have any
 abbrev pub transaction_fault : MethodKind → TxnOption → ℕ → FirstFault
 transaction_fault Plain option at = None
 transaction_fault Read option at = option_fault option at

@@ -5,12 +5,12 @@
 //! gives it.
 #![tactic(auto)]
 
-mod checked;
+mod checked_program;
 mod laws;
 mod programs;
 mod shapes;
 
-pub use checked::{Checked, check};
+pub use checked_program::{Checked, check};
 pub use laws::each_name_is_mentioned;
 pub use programs::{FIELD_LIMIT, METHOD_LIMIT, PARAM_LIMIT, TYPE_LIMIT};
 pub use script_scopes::CheckFault;

@@ -1,6 +1,6 @@
 ghost use Rattle.std.specs.Prelude.{◌≡◌, map, []};
 ghost use Rattle.script_tree.specs.Programs.{method_tree, type_tree, program_tree};
-ghost use Rattle.script_scopes.specs.Found.{Answers, Gives};
+ghost use Rattle.script_scopes.specs.FirstFaults.{Answers, Gives};
 ghost use Rattle.script_check.specs.Programs.{option_fault, transaction_fault, each_fault, declared_fault, field_fault, parameter_fault, parameters_fault, method_fault, field_names, type_fault, program_fault};
 
 use script_scopes::{CheckFault, InScope, Setting, check_block, check_free, check_room};

@@ -60,7 +60,7 @@ fn params_of(alloc: Global, methods: &[Method]) -> Result<List<u16>, AllocError>
     Ok(params)
 }
 
-#[tactic(auto, using(crate::proofs::Shaped::map_map))]
+#[tactic(auto, using(crate::proofs::TypeShapes::map_map))]
 fn type_shape(alloc: Global, of_type: &TypeDecl) -> Result<TypeShape, AllocError>
     requires { IsSmall of_type.now }
     ensures { IfOk result (λ made. made ≡ type_shape (type_tree of_type.now)) }

@@ -10,13 +10,13 @@ use Rattle.script_lexer.specs.declared.tokens.Symbol.{Symbol}
 use Rattle.script_lexer.specs.declared.tokens.Symbol.TheVariants as symbol
 use Rattle.script_lexer.specs.declared.tokens.Word.{Word}
 use Rattle.script_lexer.specs.declared.tokens.Word.TheVariants as word
-use Rattle.script_expressions.specs.Reading.{◌>>=◌, Read}
+use Rattle.script_expressions.specs.TokenReaders.{◌>>=◌, Read}
 use Rattle.script_expressions.specs.Tokens.{is_symbol, expected, name_from, name_at, taken}
 use Rattle.script_expressions.specs.Expressions.{Beginning, Whole, Prefix, Open, Never, starts, expression}
 use Rattle.script_expressions.specs.Calls.{enclosed_in, parenthesised, word_place, place_from, place_at, goes_on, listed, listed_or_none, arguments_in, arguments, call_at}
 use Rattle.script_expressions.specs.Grammar.{IsSymbol, IsWord, IsName, Derives, single, alone, joined, compared, OperandOver, whole, prefix, parens, Nothing, IsOperand, IsExpression, Stops, IsPlace, number, named, key, enclosed as in_parens, IsList, last, more, IsEnclosedList, empty, filled, IsCall, call}
-use Rattle.script_expressions.proofs.Sound.{bind_ok, ok_is, symbol_is, took, Sound, is_expression, is_enclosed}
-use Rattle.script_expressions.proofs.Complete.{symbol_read, symbol_taken, not_taken, stops_symbol, is_read, enclosed_read}
+use Rattle.script_expressions.proofs.Soundness.{bind_ok, ok_is, symbol_is, took, Sound, is_expression, is_enclosed}
+use Rattle.script_expressions.proofs.Completeness.{symbol_read, symbol_taken, not_taken, stops_symbol, is_read, enclosed_read}
 
 -- ---- names
 

@@ -1,8 +1,8 @@
 pub mod Steps
-pub mod Many
-pub mod Sound
-pub mod Complete
+pub mod ItemLists
+pub mod Soundness
+pub mod Completeness
 pub mod CallLaws
-pub mod Placed
-pub mod Local
+pub mod NamePlaces
+pub mod Locality
 pub mod LocalExpressions

@@ -14,16 +14,16 @@ use Rattle.script_lexer.specs.declared.tokens.Token.TheVariants as token
 use Rattle.script_lexer.specs.declared.tokens.Symbol.TheVariants as symbol
 use Rattle.script_lexer.specs.declared.tokens.Word.{Word}
 use Rattle.script_lexer.specs.declared.tokens.Word.TheVariants as word
-use Rattle.script_expressions.specs.Reading.{◌>>=◌, Part, Read}
+use Rattle.script_expressions.specs.TokenReaders.{◌>>=◌, Part, Read}
 use Rattle.script_expressions.specs.Tokens.{is_symbol, expected, name_at, taken}
 use Rattle.script_expressions.specs.Expressions.{Beginning, Whole, Prefix, Open, Never, starts, joins, Sized, operator_at, operand_chain, tiers, expression_over, enclosed_over, operand, expression, enclosed}
 use Rattle.script_expressions.specs.Calls.{parenthesised, place_at, goes_on, listed, listed_or_none, arguments_in, arguments, call_at}
 use Rattle.script_expressions.specs.Grammar.{IsSymbol, IsOperator}
 use Rattle.script_expressions.proofs.Steps.{chain_none, chain_full, chain_takes}
-use Rattle.script_expressions.proofs.Sound.{bind_ok, ok_is, took, is_expression}
-use Rattle.script_expressions.proofs.Complete.{symbol_read}
+use Rattle.script_expressions.proofs.Soundness.{bind_ok, ok_is, took, is_expression}
+use Rattle.script_expressions.proofs.Completeness.{symbol_read}
 use Rattle.script_expressions.proofs.CallLaws.{took_name, expression_taking}
-use Rattle.script_expressions.proofs.Local.{whole_turns, Follow, Any, NoOperator, of_symbol, Canon, Split, Local, Step, leaves, keeps, takes, refuses, stops, ends, step_at, end_at, then_at, canon_then, then_local, done_canon, done_split, done_local, by_next, symbol_refused, symbol_local, name_local, shut_local, split_no_longer, Eats, at_nil, bind_same, Loop, loop_split}
+use Rattle.script_expressions.proofs.Locality.{whole_turns, Follow, Any, NoOperator, of_symbol, Canon, Split, Local, Step, leaves, keeps, takes, refuses, stops, ends, step_at, end_at, then_at, canon_then, then_local, done_canon, done_split, done_local, by_next, symbol_refused, symbol_local, name_local, shut_local, split_no_longer, Eats, at_nil, bind_same, Loop, loop_split}
 
 -- the number that completes what was read
 abbrev pub nought : Spanned

@@ -5,7 +5,7 @@ use Rattle.script_tree.specs.Exprs.{ExprTree, Joined}
 use Rattle.script_lexer.specs.declared.faults.ParseFault.{ParseFault}
 use Rattle.script_lexer.specs.declared.faults.ParseFault.TheVariants.{BadToken, Unexpected, TooDeep, Memory}
 use Rattle.script_lexer.specs.declared.tokens.Spanned.{Spanned}
-use Rattle.script_expressions.specs.Reading.{◌>>=◌, Read, FailsReading}
+use Rattle.script_expressions.specs.TokenReaders.{◌>>=◌, Read, FailsReading}
 use Rattle.script_expressions.specs.Expressions.{Sized, Operator, operator_at, linked, operand_chain}
 
 -- a fault ends all that follows

@@ -10,7 +10,7 @@ use Rattle.script_lexer.specs.declared.tokens.Token.TheVariants as token
 use Rattle.script_lexer.specs.declared.tokens.Symbol.TheVariants as symbol
 use Rattle.script_lexer.specs.declared.tokens.Word.{Word}
 use Rattle.script_lexer.specs.declared.tokens.Word.TheVariants as word
-use Rattle.script_expressions.specs.Reading.{Part, Read, ◌>>=◌}
+use Rattle.script_expressions.specs.TokenReaders.{Part, Read, ◌>>=◌}
 use Rattle.script_expressions.specs.Tokens.{refused_token, expected, name_at, taken}
 use Rattle.script_expressions.specs.Expressions.{expression, enclosed}
 

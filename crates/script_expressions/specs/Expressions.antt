@@ -17,7 +17,7 @@ use Rattle.script_lexer.specs.declared.tokens.Word.{Word}
 use Rattle.script_lexer.specs.declared.tokens.Word.TheVariants as word
 use Rattle.script_expressions.specs.declared.operators.Start.{Start}
 use Rattle.script_expressions.specs.declared.operators.Start.TheVariants as start
-use Rattle.script_expressions.specs.Reading.{Part, Read, ◌>>=◌}
+use Rattle.script_expressions.specs.TokenReaders.{Part, Read, ◌>>=◌}
 use Rattle.script_expressions.specs.Tokens.{expected}
 
 -- how an operand begins: it is whole, or an operator or a parenthesis stands before more; or it doesn't
@@ -43,6 +43,7 @@ word_starts word.Fail = Never
 word_starts word.Call = Never
 word_starts word.Attempt = Never
 
+-- what may begin with a symbol: an operand behind a prefix operator, one in parentheses, or none
 abbrev pub symbol_starts : Symbol → Beginning
 symbol_starts symbol.Minus = Prefix unary.Minus
 symbol_starts symbol.Not = Prefix unary.Not
@@ -67,6 +68,7 @@ symbol_starts symbol.NotEqual = Never
 symbol_starts symbol.And = Never
 symbol_starts symbol.Or = Never
 
+-- what may begin with a token: a whole operand, a longer one, or none
 abbrev pub starts : Token → ℕ → Beginning
 starts (token.Name s) at = Whole (Variable (record { text = s; at = at }))
 starts (token.Word w) at = word_starts w
@@ -106,6 +108,7 @@ symbol_joins symbol.Dot = None
 symbol_joins symbol.Assign = None
 symbol_joins symbol.Not = None
 
+-- the tier and the operator of a token that stands between operands
 abbrev pub joins : Token → Option (ℕ × BinaryOp)
 joins (token.Symbol s) = symbol_joins s
 joins (token.Name s) = None
@@ -117,6 +120,7 @@ joins (token.Text s) = None
 abbrev pub Operator : Type 0
 Operator = (BinaryOp × ℕ) × List Spanned
 
+-- an operator with its place and the tokens after it, where it is one of this tier
 abbrev pub of_tier : ℕ → Option (ℕ × BinaryOp) → ℕ → List Spanned → Option Operator
 of_tier tier None at ts = None
 of_tier tier (Some x) at ts = if nat_eq x.0 tier then Some ((x.1, at), ts) else None
@@ -167,6 +171,7 @@ operand_from stop None Open at ts = Err (TooDeep at)
 operand_from stop (Some next) (Prefix o) at ts = next ts >>= λ x. Ok (Prefixed o x.0, x.1)
 operand_from stop (Some next) Open at ts = enclosed_over stop next ts
 
+-- an operand from these tokens on; the fault where there is none left
 abbrev pub operand_of : ParseFault → Deeper → Read ExprTree
 operand_of stop deeper [] = Err stop
 operand_of stop deeper (t ∷ ts) = operand_from stop deeper (starts t.token t.at) t.at ts

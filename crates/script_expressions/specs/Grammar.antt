@@ -24,9 +24,11 @@ Grammar A = List Spanned → A → List Spanned → Type 0
 abbrev pub IsSymbol : Spanned → Symbol → Type 0
 IsSymbol t s = t.token ≡ token.Symbol s
 
+-- the token is this word
 abbrev pub IsWord : Spanned → Word → Type 0
 IsWord t w = t.token ≡ token.Word w
 
+-- the token is this name, at its place
 abbrev pub IsName : Spanned → Name → Type 0
 IsName t name = (t.token ≡ token.Name name.text) × (t.at ≡ name.at)
 
@@ -79,10 +81,12 @@ pub data OperandOver (Inner : Grammar ExprTree) : List Spanned → ExprTree → 
 abbrev pub Nothing : Grammar ExprTree
 Nothing ts tree after = ⊥
 
+-- tokens begin with an operand in which so many more may be open
 abbrev pub IsOperand : ℕ → Grammar ExprTree
 IsOperand zero = OperandOver Nothing
 IsOperand (suc depth) = OperandOver (IsOperand depth)
 
+-- tokens begin with an expression in which so many more may be open
 abbrev pub IsExpression : ℕ → Grammar ExprTree
 IsExpression depth = ExpressionOver (IsOperand depth)
 

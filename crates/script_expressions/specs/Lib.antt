@@ -1,4 +1,4 @@
-pub mod Reading
+pub mod TokenReaders
 pub mod Tokens
 pub mod Expressions
 pub mod Calls

@@ -10,7 +10,7 @@ use Rattle.script_lexer.specs.declared.tokens.Symbol.{Symbol}
 use Rattle.script_lexer.specs.declared.tokens.Symbol.TheVariants as symbol
 use Rattle.script_lexer.specs.declared.tokens.Word.{Word}
 use Rattle.script_lexer.specs.declared.tokens.Word.TheVariants as word
-use Rattle.script_expressions.specs.Reading.{Read}
+use Rattle.script_expressions.specs.TokenReaders.{Read}
 
 -- a number of its own for each symbol and each word
 abbrev pub symbol_number : Symbol → ℕ
@@ -37,6 +37,7 @@ symbol_number symbol.And = 19
 symbol_number symbol.Or = 20
 symbol_number symbol.Not = 21
 
+-- the number by which words are told apart
 abbrev pub word_number : Word → ℕ
 word_number word.Type = 0
 word_number word.Field = 1

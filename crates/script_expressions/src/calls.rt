@@ -1,6 +1,6 @@
 ghost use Rattle.std.specs.Prelude.{◌≡◌, map, length};
 ghost use Rattle.script_tree.specs.Exprs.{expr_tree, call_tree};
-ghost use Rattle.script_expressions.specs.Reading.{GivesPart};
+ghost use Rattle.script_expressions.specs.TokenReaders.{GivesPart};
 ghost use Rattle.script_expressions.specs.Expressions.{expression};
 ghost use Rattle.script_expressions.specs.Calls.{place_at, parenthesised, listed, arguments_in, arguments, call_at};
 

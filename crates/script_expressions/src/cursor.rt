@@ -1,5 +1,5 @@
 ghost use Rattle.std.specs.Prelude.{◌≡◌};
-ghost use Rattle.script_expressions.specs.Reading.{GivesPart, Takes};
+ghost use Rattle.script_expressions.specs.TokenReaders.{GivesPart, TakesToken};
 ghost use Rattle.script_expressions.specs.Tokens.{symbol_number, word_number, is_symbol, is_word, refused_token, expected, expected_word, name_at, spelling_at, taken, taken_word};
 
 use script_lexer::{ParseFault, Spanned, Symbol, Token, Word};
@@ -167,7 +167,7 @@ impl<'a> Cursor<'a> {
     /// Takes a symbol, where it stands next.
     #[tactic(auto, unfolding(crate::specs::Tokens::taken))]
     pub fn takes(&mut self, symbol: Symbol) -> bool
-        ensures taken { Takes result self.new.tokens.now self.old.tokens.now
+        ensures taken { TakesToken result self.new.tokens.now self.old.tokens.now
             (taken symbol self.old.tokens.now) }
         ensures stop { self.new.stop ≡ self.old.stop }
     {
@@ -183,7 +183,7 @@ impl<'a> Cursor<'a> {
     /// Takes a reserved word, where it stands next.
     #[tactic(auto, unfolding(crate::specs::Tokens::taken_word))]
     pub fn takes_word(&mut self, word: Word) -> bool
-        ensures taken { Takes result self.new.tokens.now self.old.tokens.now
+        ensures taken { TakesToken result self.new.tokens.now self.old.tokens.now
             (taken_word word self.old.tokens.now) }
         ensures stop { self.new.stop ≡ self.old.stop }
     {

@@ -1,6 +1,6 @@
 ghost use Rattle.std.specs.Prelude.{◌≡◌};
 ghost use Rattle.script_tree.specs.Exprs.{expr_tree};
-ghost use Rattle.script_expressions.specs.Reading.{GivesPart, Finds};
+ghost use Rattle.script_expressions.specs.TokenReaders.{GivesPart, Finds};
 ghost use Rattle.script_expressions.specs.Expressions.{operator_at, tiers, operand, expression, enclosed};
 
 use crate::cursor::Cursor;

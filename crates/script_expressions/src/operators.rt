@@ -1,6 +1,6 @@
 ghost use Rattle.std.specs.Prelude.{◌≡◌, Ok};
 ghost use Rattle.script_tree.specs.Exprs.{expr_tree};
-ghost use Rattle.script_expressions.specs.Reading.{Makes};
+ghost use Rattle.script_expressions.specs.TokenReaders.{Makes};
 ghost use Rattle.script_expressions.specs.Expressions.{joins, starts, start_tree};
 
 use script_lexer::{ParseFault, Spanned, Symbol, Token, Word};

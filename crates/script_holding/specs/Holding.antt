@@ -7,7 +7,7 @@ use Rattle.base_types.specs.declared.calls.Mode.TheVariants.{Update}
 use Rattle.base_types.specs.declared.calls.Value.{Value}
 use Rattle.script_tree.specs.declared.programs.FieldDecl.{FieldDecl}
 use Rattle.script_check.specs.Shapes.{value_of}
-use Rattle.script_holding.specs.declared.held.Held.{Held}
+use Rattle.script_holding.specs.declared.held_grain.Held.{Held}
 
 -- what a unit has: the steps that are left, how many units it asked for, and the grains that it holds in the
 -- order of their first locks
@@ -26,6 +26,7 @@ abbrev pub working : Option Held → List Value
 working None = []
 working (Some one) = one.state
 
+-- the working state of a held grain
 abbrev pub state_at : GrainId → List Held → List Value
 state_at grain held = working (held_at grain held)
 

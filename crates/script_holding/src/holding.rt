@@ -2,7 +2,7 @@ ghost use Rattle.std.specs.Prelude.{◌≡◌, ◌≤◌, ◌-◌, [], ◌∷◌
 ghost use Rattle.script_holding.specs.Limits.{step_limit, unit_limit, grain_limit};
 ghost use Rattle.script_holding.specs.Holding.{change, initial_fields, mode_at, newly_held, one_asked, raised, state_at, with_field, with_held, with_left};
 
-use crate::held::{Held, raise_at, same_grain, set_at};
+use crate::held_grain::{Held, raise_at, same_grain, set_at};
 use crate::limits::{GRAIN_LIMIT, STEP_LIMIT, UNIT_LIMIT};
 use base_types::{GrainId, Mode, State, Value};
 use script_check::initial_state;

@@ -4,11 +4,11 @@
 //! Contracts see a [`Holding`] as the record of `specs/Holding.antt`.
 #![tactic(auto)]
 
-mod held;
+mod held_grain;
 mod holding;
 mod limits;
 
-pub use held::Held;
+pub use held_grain::Held;
 pub use holding::Holding;
 pub use limits::{DEPTH_LIMIT, GRAIN_LIMIT, STEP_LIMIT, UNIT_LIMIT};
 pub use script_check::initial_state;

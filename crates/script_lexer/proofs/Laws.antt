@@ -5,16 +5,16 @@ use Rattle.std.specs.Str.Lossy.{utf8_valid_len}
 use Rattle.std.proofs.lemmas.List.{take-append-drop, drop_at, length-take-le, append-nil}
 use Rattle.script_lexer.specs.declared.faults.ParseFault.{ParseFault}
 use Rattle.script_lexer.specs.declared.tokens.Spanned.{Spanned}
-use Rattle.script_lexer.specs.declared.lexing.Lexed.{Lexed}
+use Rattle.script_lexer.specs.declared.lexer.Lexed.{Lexed}
 use Rattle.script_lexer.specs.declared.lexemes.Lexeme.{Lexeme}
 use Rattle.script_lexer.specs.declared.lexemes.Lexeme.TheVariants.{Gap, Whole, Bad}
 use Rattle.script_lexer.specs.Lexemes.{lexeme, length_behind}
-use Rattle.script_lexer.specs.Lexing.{TokensAndStop, in_front, lex_step, lex, lexed, end_of}
-use Rattle.script_lexer.specs.Reading.{Reads, done, gap, spelling, NothingBegins, Ends, IsLexed}
-use Rattle.script_lexer.proofs.Within.{lexeme_within}
+use Rattle.script_lexer.specs.Lexer.{TokensAndStop, in_front, lex_step, lex, lexed, end_of}
+use Rattle.script_lexer.specs.TokenTexts.{Reads, done, gap, spelling, NothingBegins, Ends, IsLexed}
+use Rattle.script_lexer.proofs.LexemeEnds.{lexeme_within}
 use Rattle.script_lexer.proofs.Turns.{lex_skip, lex_first, lex_nil}
-use Rattle.script_lexer.proofs.Right.{IsRight, lexeme_right}
-use Rattle.script_lexer.proofs.Found.{Begins, gap_found, token_found}
+use Rattle.script_lexer.proofs.RightLexemes.{IsRight, lexeme_right}
+use Rattle.script_lexer.proofs.FoundLexemes.{Begins, gap_found, token_found}
 
 -- these tokens and this stop are read from a place on
 record HasRead (stop : ParseFault) (at : ℕ) (bytes : List ℕ) (found : TokensAndStop) : Type 0 where

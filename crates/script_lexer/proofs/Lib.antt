@@ -1,11 +1,11 @@
 pub mod Numbers
-pub mod Within
+pub mod LexemeEnds
 pub mod Cuts
 pub mod Turns
 pub mod Utf8
 pub mod Runs
 pub mod Tables
-pub mod Right
-pub mod Found
+pub mod RightLexemes
+pub mod FoundLexemes
 pub mod Laws
 pub mod Places

@@ -1,8 +1,8 @@
 -- The tokens of a text stand at rising places.
 use Rattle.std.proofs.Common.{ℕ, ◌+◌, ◌≤◌, List, [], ◌∷◌, length, arith}
 use Rattle.script_lexer.specs.declared.tokens.Spanned.{Spanned}
-use Rattle.script_lexer.specs.Reading.{Reads, done, gap, spelling}
-use Rattle.script_lexer.proofs.Found.{token_found}
+use Rattle.script_lexer.specs.TokenTexts.{Reads, done, gap, spelling}
+use Rattle.script_lexer.proofs.FoundLexemes.{token_found}
 
 -- each of these tokens stands at or above a bound, and before those behind it
 abbrev pub Above : ℕ → List Spanned → Type 0

@@ -1,7 +1,7 @@
 -- Runs of bytes that pass a test.
 use Rattle.std.proofs.Common.{◌≡◌, ℕ, suc, ◌+◌, Bool, true, false, cond, not, ◌&&◌, List, [], ◌∷◌, ◌++◌, length, take, drop, refl, arith}
 use Rattle.std.specs.List.{prefix_len, list_all}
-use Rattle.script_lexer.specs.Reading.{stops}
+use Rattle.script_lexer.specs.TokenTexts.{stops}
 
 one_more : (n : ℕ) → 1 + n ≡ suc n
 one_more n = omega arith

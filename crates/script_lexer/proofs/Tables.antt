@@ -12,7 +12,7 @@ use Rattle.script_lexer.specs.declared.tokens.Word.{Word}
 use Rattle.script_lexer.specs.declared.tokens.Word.TheVariants as word
 use Rattle.script_lexer.specs.Spellings.{word_spelling, symbol_spelling}
 use Rattle.script_lexer.specs.Lexemes.{word_named}
-use Rattle.script_lexer.proofs.Within.{find_passes}
+use Rattle.script_lexer.proofs.LexemeEnds.{find_passes}
 
 module _ {A : Type 0} (p : A → Bool) where
   none_turn : (y d : A) (ys : List A) (q : Bool) → p y ≡ q → cond q (Some y) (find p ys) ≡ None → (find p ys ≡ None → (i : ℕ) → i < length ys → p (get_or ys i d) ≡ false) → (i : ℕ) → i < suc (length ys) → p (get_or (y ∷ ys) i d) ≡ false

@@ -7,7 +7,7 @@ use Rattle.script_lexer.specs.declared.tokens.Spanned.{Spanned}
 use Rattle.script_lexer.specs.declared.tokens.Token.{Token}
 use Rattle.script_lexer.specs.declared.lexemes.Lexeme.TheVariants.{Gap, Whole, Bad}
 use Rattle.script_lexer.specs.Lexemes.{lexeme}
-use Rattle.script_lexer.specs.Lexing.{TokensAndStop, in_front, lex_step, lex}
+use Rattle.script_lexer.specs.Lexer.{TokensAndStop, in_front, lex_step, lex}
 
 -- the rest of a lexeme is passed over
 pub lex_skip : (stop : ParseFault) (at n : ℕ) (bs : List ℕ) → n ≤ length bs → lex stop at n bs ≡ lex stop (at + n) 0 (drop n bs)

@@ -6,7 +6,7 @@ use Rattle.std.proofs.lemmas.Str.{utf8_valid_len-IsUtf8}
 use Rattle.std.proofs.lemmas.Bool.{le-ltb}
 use Rattle.std.proofs.Math.Seq.{take-length}
 use Rattle.script_lexer.specs.declared.faults.ParseFault.TheVariants.{Unexpected}
-use Rattle.script_lexer.specs.Lexing.{lex, lexed}
+use Rattle.script_lexer.specs.Lexer.{lex, lexed}
 
 pub lexed_text : (text : List ℕ) → IsUtf8 text → lexed text ≡ lex (Unexpected (length text)) 0 0 text
 unfolding lexed

@@ -1,4 +1,4 @@
 pub mod Spellings
 pub mod Lexemes
-pub mod Lexing
-pub mod Reading
+pub mod Lexer
+pub mod TokenTexts

@@ -7,9 +7,9 @@
 mod classes;
 mod faults;
 mod lexemes;
-mod lexing;
+mod lexer;
 mod tokens;
 
 pub use faults::ParseFault;
-pub use lexing::{Lexed, tokens_of};
+pub use lexer::{Lexed, tokens_of};
 pub use tokens::{Spanned, Symbol, Token, Word};

@@ -1,9 +1,9 @@
 pub mod Sizes
-pub mod Stands
+pub mod FramePlaces
 pub mod Steps
-pub mod Around
+pub mod OpenBlocks
 pub mod Entries
-pub mod Few
+pub mod PartCounts
 pub mod Orders
 pub mod Units
 pub mod Trails

@@ -1,7 +1,7 @@
 -- The grains that were set, one after the other in ascending order.
 use Rattle.std.proofs.Common.{◌≡◌, List, [], ◌∷◌, ◌++◌, refl, ap}
 use Rattle.std.specs.Prelude.{if◌then◌else◌}
-use Rattle.script_holding.specs.declared.held.Held.{Held}
+use Rattle.script_holding.specs.declared.held_grain.Held.{Held}
 use Rattle.script_meaning.specs.Play.{GrainState, insert, states_set}
 
 -- the held grains that were set, before these

@@ -16,7 +16,7 @@ use Rattle.script_holding.specs.Limits.{depth_limit}
 use Rattle.script_holding.specs.Holding.{Holding, with_left}
 use Rattle.script_meaning.specs.Requests.{Back, stop}
 use Rattle.script_meaning.specs.Statements.{Next, takes_step, with_step, does, runs, given}
-use Rattle.script_meaning.proofs.Steady.{while_once}
+use Rattle.script_meaning.proofs.StepCounts.{while_once}
 use Rattle.script_machine.specs.declared.frames.Post.{Post}
 use Rattle.script_machine.specs.declared.frames.Part.TheVariants.{First}
 use Rattle.script_machine.specs.Blocks.{part_of, outer}

@@ -9,7 +9,7 @@ use Rattle.script_holding.specs.Holding.{Holding}
 use Rattle.script_meaning.specs.Requests.{Requests, End, AskLock, AskRaise, AskUnit}
 use Rattle.script_meaning.specs.Play.{Played, GrainState, next, serve, unit, play_over, writes_of}
 use Rattle.script_meaning.specs.Trails.{Given, GivenLock, GivenRaise, GivenOutcome, answers_of, asked_of, reads_of, Has}
-use Rattle.script_meaning.proofs.Leads.{Leads, follows_leads, leads_follows, leads_on, leads_rest, leads_is_play}
+use Rattle.script_meaning.proofs.RunLeads.{Leads, follows_leads, leads_follows, leads_on, leads_rest, leads_is_play}
 use Rattle.std.proofs.lemmas.List.{append-nil}
 use Rattle.script_machine.specs.declared.runs.Run.{Run}
 use Rattle.script_machine.specs.declared.runs.Wait.TheVariants as wait

@@ -1,6 +1,6 @@
 pub mod Blocks
 pub mod Callees
 pub mod Frames
-pub mod Opened
+pub mod OpenBlocks
 pub mod Runs
 pub mod Machines

@@ -28,9 +28,9 @@ use Rattle.script_machine.specs.declared.runs.Onward.{Onward}
 use Rattle.script_machine.specs.declared.runs.Onward.TheVariants.{Here, Into, Away}
 use Rattle.script_machine.specs.declared.frames.OpenBlock.{OpenBlock}
 use Rattle.script_machine.specs.declared.frames.Post.{Post}
-use Rattle.script_machine.specs.declared.opened.Open.{Open}
+use Rattle.script_machine.specs.declared.open_blocks.Open.{Open}
 use Rattle.script_machine.specs.Blocks.{from, part_of, outer, received, caught}
-use Rattle.script_machine.specs.Opened.{IsOpen}
+use Rattle.script_machine.specs.OpenBlocks.{IsOpen}
 use Rattle.script_machine.specs.Frames.{fields_of, site_of, runner_of, block_of, body_at, from_at, goes_on, waits, catches_in, below_of}
 
 -- what becomes of the value of the topmost frame

@@ -8,7 +8,7 @@ ghost use Rattle.script_machine.specs.Frames.{block_of, from_at};
 ghost use Rattle.script_machine.specs.Runs.{GoesTo, HasOpen, Moves, ShrinksOn, StandsAt, Tracks, goes_to, size, running, value_here, back_of, next_here, part_here, outer_here, GivesTruth, chosen_by};
 
 use crate::frames::{OpenBlock, Part};
-use crate::opened::Open;
+use crate::open_blocks::Open;
 use crate::runs::{Onward, Run};
 use base_types::Value;
 use script_check::Checked;

@@ -66,7 +66,7 @@ pub fn callee_at<'a>(checked: &'a Checked, grain: GrainId, number: u16) -> Optio
 }
 
 /// The number of the type of this name in a program.
-#[tactic(auto, using(crate::proofs::Few::few_types))]
+#[tactic(auto, using(crate::proofs::PartCounts::few_types))]
 pub fn type_named(checked: &Checked, name: &Chars) -> Option<u16>
     ensures { result ≡ type_from 0 name.now (program_tree checked.now) }
 {

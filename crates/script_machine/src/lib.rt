@@ -11,7 +11,7 @@ mod frames;
 mod inputs;
 mod locks;
 mod machine;
-mod opened;
+mod open_blocks;
 mod runs;
 mod starts;
 mod statements;

@@ -11,7 +11,7 @@ ghost use Rattle.script_machine.specs.Runs.{GoesTo, HasOpen, Left, Moves, OpenUn
 
 use crate::callees::fields_at;
 use crate::frames::Post;
-use crate::opened::Open;
+use crate::open_blocks::Open;
 use crate::runs::{Flow, Onward, Run};
 use base_types::Outcome;
 use script_check::{Checked, fitted};

@@ -4,7 +4,7 @@ use Rattle.script_scopes.specs.Expressions.{expression_fault, arguments_fault, c
 use Rattle.script_scopes.specs.Statements.{source_fault, statement_fault, block_fault, else_fault}
 use Rattle.script_check.specs.Programs.{each_fault, program_fault}
 use Rattle.script_meaning.specs.Play.{play_over, next, unit}
-use Rattle.script_meaning.specs.Worked.{WorkedPlays, WorkedNexts}
+use Rattle.script_meaning.specs.WorkedExamples.{WorkedPlays, WorkedNexts}
 
 pub worked_plays_lem : WorkedPlays
 unfolding play_over unit program_fault each_fault block_fault statement_fault else_fault expression_fault arguments_fault call_fault source_fault

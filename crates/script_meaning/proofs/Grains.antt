@@ -9,7 +9,7 @@ use Rattle.base_types.specs.declared.calls.GrainId.{GrainId}
 use Rattle.base_types.specs.declared.calls.Mode.{Mode}
 use Rattle.base_types.specs.declared.calls.Mode.TheVariants.{Update}
 use Rattle.base_types.specs.declared.calls.Value.{Value}
-use Rattle.script_holding.specs.declared.held.Held.{Held}
+use Rattle.script_holding.specs.declared.held_grain.Held.{Held}
 use Rattle.script_holding.specs.Holding.{same_grain, mode_at, change, raised, with_field}
 
 -- a grain is itself, and no other

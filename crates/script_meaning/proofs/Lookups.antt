@@ -9,7 +9,7 @@ use Rattle.script_scopes.specs.Names.{Scope, Setting}
 use Rattle.script_scopes.specs.Expressions.{type_named, method_named}
 use Rattle.script_scopes.specs.Bodies.{IsCallInScope}
 use Rattle.script_check.specs.Programs.{field_names}
-use Rattle.script_check.specs.Accepted.{IsAcceptedMethod, IsAcceptedType, IsAcceptedProgram}
+use Rattle.script_check.specs.AcceptedPrograms.{IsAcceptedMethod, IsAcceptedType, IsAcceptedProgram}
 use Rattle.script_meaning.specs.Calls.{Target, type_from, method_from, method_there, numbered, numbered_by, method_target}
 
 -- a method that a look-up found: its type is the one that was looked in, and its number is its own

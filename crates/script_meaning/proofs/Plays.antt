@@ -12,7 +12,7 @@ use Rattle.base_types.specs.declared.calls.Outcome.{Outcome}
 use Rattle.base_types.specs.declared.calls.Outcome.TheVariants.{Value as Valued, Fault, Aborted}
 use Rattle.base_types.specs.declared.calls.Value.{Value}
 use Rattle.script_tree.specs.Programs.{ProgramTree}
-use Rattle.script_holding.specs.declared.held.Held.{Held}
+use Rattle.script_holding.specs.declared.held_grain.Held.{Held}
 use Rattle.script_holding.specs.Limits.{unit_limit, grain_limit}
 use Rattle.script_holding.specs.Holding.{Holding, mode_at}
 use Rattle.script_meaning.specs.Requests.{Requests, End, AskLock, AskRaise, AskUnit}
@@ -21,15 +21,15 @@ use Rattle.script_meaning.specs.Trails.{Given, answers_of, asked_of, locks_of, r
 use Rattle.script_meaning.specs.Laws.{PlayIsNext, NextIsPlay, PlayRestsOnReads, PlayIsAgain, EqualStoresPlayAlike, IsChild, HasEachField, IsOrderly, PlaysAreOrderly, PlainRunsLockNothing, IsMissing, NextIsMissing, TrailsGrow}
 use Rattle.script_meaning.specs.Calls.{Target, numbered}
 use Rattle.script_meaning.specs.Texts.{own_faults, BlockFails, MayFail, FaultsAreKnown}
-use Rattle.script_meaning.proofs.Said.{Says}
-use Rattle.script_meaning.proofs.Known.{unit_said, serve_said}
+use Rattle.script_meaning.proofs.ExpressionResults.{Says}
+use Rattle.script_meaning.proofs.KnownFaults.{unit_said, serve_said}
 use Rattle.script_meaning.proofs.Lists.{All-from_map, AllPairs-from_map, AllPairs-map}
 use Rattle.script_meaning.proofs.Grains.{bare, mode_at-none, mode_at-some, grains-bare}
-use Rattle.script_meaning.proofs.Leads.{Leads, goes, follows_leads, leads_follows, leads_on, leads_rest, over_ends, trail_of, end_of, serve_leads, serve_asked, serve_reads, serve_writes, serve_answers, serve_has, leads_is_play}
-use Rattle.script_meaning.proofs.Rests.{outcomes_again, serve_rests, states_of_has}
-use Rattle.script_meaning.proofs.Sound.{EndsWell, IsSound, unit_sound}
-use Rattle.script_meaning.proofs.Granted.{held_after, asked_after, AreGranted, GoesOn, sound_leads, reads_once, grains_after, few_held, few_asked, all_children, exclusive_is_held, IsIn, held_is_exclusive, plain_locks_nothing, asked_after_is}
-use Rattle.script_meaning.proofs.Written.{All-written, length-written, written_ascends}
+use Rattle.script_meaning.proofs.RunLeads.{Leads, goes, follows_leads, leads_follows, leads_on, leads_rest, over_ends, trail_of, end_of, serve_leads, serve_asked, serve_reads, serve_writes, serve_answers, serve_has, leads_is_play}
+use Rattle.script_meaning.proofs.PlayInputs.{outcomes_again, serve_rests, states_of_has}
+use Rattle.script_meaning.proofs.RunInvariant.{EndsWell, IsSound, unit_sound}
+use Rattle.script_meaning.proofs.GrantedLocks.{held_after, asked_after, AreGranted, GoesOn, sound_leads, reads_once, grains_after, few_held, few_asked, all_children, exclusive_is_held, IsIn, held_is_exclusive, plain_locks_nothing, asked_after_is}
+use Rattle.script_meaning.proofs.WrittenGrains.{All-written, length-written, written_ascends}
 
 -- what holds of what was set, and of nothing, holds of what is written
 of_writes : (Q : List GrainState → Type 0) (result : Outcome) (has : Holding) → Q (states_set has.held) → Q [] →

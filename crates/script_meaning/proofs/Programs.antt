@@ -7,7 +7,7 @@ use Rattle.std.proofs.lemmas.Option.{slice_get-map}
 use Rattle.std.proofs.lemmas.List.Elements.{All-head, All-tail}
 use Rattle.script_tree.specs.declared.programs.TypeDecl.{TypeDecl}
 use Rattle.script_tree.specs.Programs.{ProgramTree, TypeTree, type_tree, method_tree}
-use Rattle.script_check.specs.Accepted.{IsAcceptedType, IsAcceptedProgram}
+use Rattle.script_check.specs.AcceptedPrograms.{IsAcceptedType, IsAcceptedProgram}
 use Rattle.script_meaning.specs.Calls.{method_from, method_target, numbered, numbered_by}
 use Rattle.script_meaning.specs.Targets.{type_at}
 

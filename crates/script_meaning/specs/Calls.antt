@@ -37,6 +37,7 @@ readable does.Plain fields = []
 readable does.Read fields = fields
 readable does.Update fields = fields
 
+-- the fields that may be set: a method that updates sets all, others none
 abbrev pub settable : MethodKind → List FieldDecl → List FieldDecl
 settable does.Plain fields = []
 settable does.Read fields = []
@@ -102,6 +103,7 @@ abbrev pub type_from : ℕ → List ℕ → ProgramTree → Option ℕ
 type_from i name [] = None
 type_from i name (first ∷ rest) = if bytes_eq first.name.text name then Some i else type_from (i + 1) name rest
 
+-- the number of the first method of this name, counted from here on
 abbrev pub method_from : ℕ → List ℕ → List MethodTree → Option ℕ
 method_from i name [] = None
 method_from i name (first ∷ rest) = if bytes_eq first.name.text name then Some i else method_from (i + 1) name rest
@@ -111,6 +113,7 @@ abbrev pub method_there : TypeTree → ℕ → Option MethodTree → Option Targ
 method_there of_type number None = None
 method_there of_type number (Some method) = Some (record { of_type = of_type; number = number; method = method })
 
+-- a type's method by its number, where both are there
 abbrev pub numbered : Option TypeTree → ℕ → Option Target
 numbered None number = None
 numbered (Some of_type) number = method_there of_type number (slice_get of_type.methods number)
@@ -120,6 +123,7 @@ abbrev pub numbered_by : TypeTree → Option ℕ → Option Target
 numbered_by of_type None = None
 numbered_by of_type (Some number) = numbered (Some of_type) number
 
+-- a type's method by its name, where both are there
 abbrev pub method_target : Option TypeTree → List ℕ → Option Target
 method_target None name = None
 method_target (Some of_type) name = numbered_by of_type (method_from 0 name of_type.methods)
@@ -141,6 +145,7 @@ abbrev pub in_range : ℤ → Holding → (ℕ → Requests) → Requests
 in_range (negsuc n) has go = stop key has
 in_range (pos n) has go = if nat_lt n (2 ^ 32) then go n else stop key has
 
+-- what goes on with the key that a value is; a text is no key
 abbrev pub with_key : Value → Holding → (ℕ → Requests) → Requests
 with_key (Int place) has go = in_range place has go
 with_key (Text place) has go = stop kind has

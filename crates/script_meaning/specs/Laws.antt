@@ -11,7 +11,7 @@ use Rattle.base_types.specs.Stores.{state_in}
 use Rattle.script_tree.specs.Exprs.{ExprTree}
 use Rattle.script_tree.specs.Stmts.{BlockTree, Repeat}
 use Rattle.script_tree.specs.Programs.{TypeTree, ProgramTree}
-use Rattle.script_check.specs.Accepted.{IsAcceptedProgram}
+use Rattle.script_check.specs.AcceptedPrograms.{IsAcceptedProgram}
 use Rattle.script_values.specs.Expressions.{Locals}
 use Rattle.script_holding.specs.Holding.{Holding}
 use Rattle.script_holding.specs.Limits.{depth_limit, unit_limit, grain_limit}
@@ -86,6 +86,7 @@ pub record IsOrderly (types : ProgramTree) (depth : ℕ) (played : Played) : Typ
   pub few_units : length played.asked ≤ unit_limit
   pub children : All (IsChild types depth) played.asked
 
+-- every play is orderly, whatever the states and the answers
 abbrev pub PlaysAreOrderly : Type 0
 PlaysAreOrderly = (types : ProgramTree) (call : Call) (depth : ℕ) (states : GrainId → List Value)
     (answers : List Outcome) →
@@ -108,6 +109,7 @@ IsMissing types depth trail (WantUnit call at) = IsChild types depth (call, at)
     × (length (answers_of trail) < unit_limit)
 IsMissing types depth trail (Over outcome) = outcome ≢ Aborted
 
+-- so it is behind every trail
 abbrev pub NextIsMissing : Type 0
 NextIsMissing = (types : ProgramTree) (call : Call) (depth : ℕ) (trail : List Given) → IsTrail types call depth trail →
     IsMissing types depth trail (next types call depth (locks_of trail) (answers_of trail))
@@ -120,6 +122,7 @@ pub record TrailGrows (types : ProgramTree) (call : Call) (depth : ℕ) : Type 0
       IsTrail types call depth (trail ++ (one ∷ []))
   pub began : (trail more : List Given) → IsTrail types call depth (trail ++ more) → IsTrail types call depth trail
 
+-- every trail begins and grows so
 abbrev pub TrailsGrow : Type 0
 TrailsGrow = (types : ProgramTree) (call : Call) (depth : ℕ) → TrailGrows types call depth
 
@@ -128,6 +131,7 @@ pub record ReadsOnce (trail : List Given) : Type 0 where
   pub once : AllPairs (λ one other. one.0 ≢ other.0) (reads_of trail)
   pub found : Has (states_of (reads_of trail)) (reads_of trail)
 
+-- every trail does
 abbrev pub TrailsReadOnce : Type 0
 TrailsReadOnce = (types : ProgramTree) (call : Call) (depth : ℕ) (trail : List Given) → IsTrail types call depth trail → ReadsOnce trail
 
@@ -138,6 +142,7 @@ IsOfTypes types (WantRaise grain) = grain.kind < length types
 IsOfTypes types (WantUnit call at) = call.grain.kind < length types
 IsOfTypes types (Over outcome) = ⊤
 
+-- so it is whatever was given before
 abbrev pub NextIsOfTypes : Type 0
 NextIsOfTypes = (types : ProgramTree) (call : Call) (depth : ℕ) (locks : List Lock) (answers : List Outcome) →
     IsOfTypes types (next types call depth locks answers)

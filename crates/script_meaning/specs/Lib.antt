@@ -6,4 +6,4 @@ pub mod Trails
 pub mod Laws
 pub mod Targets
 pub mod Texts
-pub mod Worked
+pub mod WorkedExamples

@@ -14,7 +14,7 @@ use Rattle.script_tree.specs.declared.options.Entered.TheVariants.{Joined, NewUn
 use Rattle.script_tree.specs.Options.{entered}
 use Rattle.script_tree.specs.Programs.{TypeTree, ProgramTree}
 use Rattle.script_values.specs.Faults.{unknown}
-use Rattle.script_holding.specs.declared.held.Held.{Held}
+use Rattle.script_holding.specs.declared.held_grain.Held.{Held}
 use Rattle.script_holding.specs.Limits.{step_limit, depth_limit}
 use Rattle.script_holding.specs.Holding.{Holding, same_grain, initial_fields}
 use Rattle.script_meaning.specs.Requests.{Requests, End, AskLock, AskRaise, AskUnit, Back, stop}
@@ -36,6 +36,7 @@ as_first (Refused why) = Refused why
 abbrev pub ends_unit : Back
 ends_unit value has = End (Valued value) has
 
+-- a unit's first frame, whose method outside a transaction enters by its option; a fault without a method
 abbrev pub first_frame : Runner → ℕ → Call → Option Target → Requests
 first_frame runner depth call None = stop unknown at_start
 first_frame runner depth call (Some target) =
@@ -96,6 +97,7 @@ writes_of Aborted has = []
 abbrev pub reading : GrainState → Played → Played
 reading found played = record { result = played.result; asked = played.asked; reads = found ∷ played.reads; writes = played.writes }
 
+-- one more unit that was asked for, in front
 abbrev pub asking : AskedUnit → Played → Played
 asking asked played = record { result = played.result; asked = asked ∷ played.asked; reads = played.reads; writes = played.writes }
 
@@ -113,6 +115,7 @@ abbrev pub initial_of : Option TypeTree → List Value
 initial_of None = []
 initial_of (Some of_type) = initial_fields of_type.fields
 
+-- the state that a store has for a grain, or its type's initial fields
 abbrev pub found_in : ProgramTree → Store → GrainId → List Value
 found_in types store grain = unwrap_or (state_in store grain) (initial_of (slice_get types grain.kind))
 
@@ -160,6 +163,7 @@ pub data Want : Type 0 where
   WantUnit : Call → ℕ → Want
   Over : Outcome → Want
 
+-- what these requests ask for first
 abbrev pub asks : Requests → Want
 asks (End result has) = Over result
 asks (AskLock grain mode go) = WantLock grain mode

@@ -22,6 +22,7 @@ abbrev pub with_step : ℕ → Next → Next
 with_step zero next locals has = stop budget has
 with_step (suc left) next locals has = next locals (with_left left has)
 
+-- what follows takes a step more
 abbrev pub takes_step : Next → Next
 takes_step next locals has = with_step has.left next locals has
 

@@ -10,7 +10,7 @@ use Rattle.script_tree.specs.declared.options.EntryRefusal.TheVariants.{NoTransa
 use Rattle.script_tree.specs.Stmts.{StmtTree, BlockTree, ElseTree, Bind, Rebind, SetField, Perform, Choose, Repeat, Give, FailWith, Try, NoMore, Then, NoElse, Else}
 use Rattle.script_tree.specs.Programs.{ProgramTree}
 use Rattle.script_check.specs.Shapes.{fitted}
-use Rattle.script_check.specs.Accepted.{IsAcceptedProgram}
+use Rattle.script_check.specs.AcceptedPrograms.{IsAcceptedProgram}
 use Rattle.script_values.specs.Faults.{overflow, divide, kind, key, too_long, budget, depth, units, grains, option_refusal_text, aborted}
 use Rattle.script_meaning.specs.Calls.{Target, numbered}
 use Rattle.script_meaning.specs.Play.{play_over}

@@ -31,18 +31,21 @@ locks_of (GivenLock grain mode state ∷ rest) = (record { grain = grain; mode =
 locks_of (GivenRaise grain ∷ rest) = (record { grain = grain; mode = Update; state = [] }) ∷ locks_of rest
 locks_of (GivenOutcome call depth outcome ∷ rest) = locks_of rest
 
+-- the outcomes of children in a trail, in order
 abbrev pub answers_of : List Given → List Outcome
 answers_of [] = []
 answers_of (GivenLock grain mode state ∷ rest) = answers_of rest
 answers_of (GivenRaise grain ∷ rest) = answers_of rest
 answers_of (GivenOutcome call depth outcome ∷ rest) = outcome ∷ answers_of rest
 
+-- the units that a trail asked for, in order
 abbrev pub asked_of : List Given → List AskedUnit
 asked_of [] = []
 asked_of (GivenLock grain mode state ∷ rest) = asked_of rest
 asked_of (GivenRaise grain ∷ rest) = asked_of rest
 asked_of (GivenOutcome call depth outcome ∷ rest) = (call, depth) ∷ asked_of rest
 
+-- the grains of a trail's first locks, with the states that came with them
 abbrev pub reads_of : List Given → List GrainState
 reads_of [] = []
 reads_of (GivenLock grain mode state ∷ rest) = (grain, state) ∷ reads_of rest
@@ -54,6 +57,7 @@ abbrev pub exclusive : Mode → GrainId → List GrainId → List GrainId
 exclusive Read grain rest = rest
 exclusive Update grain rest = grain ∷ rest
 
+-- the grains that a trail locked exclusive, or made so
 abbrev pub exclusive_in : List Given → List GrainId
 exclusive_in [] = []
 exclusive_in (GivenLock grain mode state ∷ rest) = exclusive mode grain (exclusive_in rest)

@@ -1,6 +1,6 @@
 ghost use Rattle.std.specs.Prelude.{◌≡◌, IfOk, slice_get};
 ghost use Rattle.script_tree.specs.Programs.{program_tree};
-ghost use Rattle.script_check.specs.Accepted.{IsAcceptedProgram};
+ghost use Rattle.script_check.specs.AcceptedPrograms.{IsAcceptedProgram};
 ghost use Rattle.script_meaning.specs.Play.{initial_of};
 
 use base_types::{GrainId, State};

@@ -9,7 +9,7 @@
 mod first_states;
 mod laws;
 mod targets;
-mod worked;
+mod worked_examples;
 
 pub use first_states::initial;
 pub use laws::{
@@ -18,4 +18,4 @@ pub use laws::{
     plays_are_orderly, trails_grow, trails_read_once,
 };
 pub use targets::{Target, bind_arguments, method_number, target_at, target_named, type_number};
-pub use worked::{worked_nexts, worked_plays};
+pub use worked_examples::{worked_nexts, worked_plays};

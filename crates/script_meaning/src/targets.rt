@@ -1,7 +1,7 @@
 ghost use Rattle.std.specs.Prelude.{◌≡◌, ◌≤◌, IfOk, IfSome, length, map, slice_get};
 ghost use Rattle.std.specs.Option.{option_map, option_copied};
 ghost use Rattle.script_tree.specs.Programs.{method_tree, type_tree};
-ghost use Rattle.script_check.specs.Accepted.{IsAcceptedProgram};
+ghost use Rattle.script_check.specs.AcceptedPrograms.{IsAcceptedProgram};
 ghost use Rattle.script_meaning.specs.Calls.{bound, type_from, method_from, numbered, method_target};
 ghost use Rattle.script_meaning.specs.Targets.{target_of, type_at};
 

@@ -22,10 +22,10 @@ use Rattle.script_lexer.specs.declared.tokens.Symbol.TheVariants as symbol
 use Rattle.script_lexer.specs.declared.tokens.Word.{Word}
 use Rattle.script_lexer.specs.declared.tokens.Word.TheVariants as word
 use Rattle.script_lexer.proofs.Laws.{reads_lexed}
-use Rattle.script_expressions.specs.Reading.{Read, Makes}
+use Rattle.script_expressions.specs.TokenReaders.{Read, Makes}
 use Rattle.script_expressions.specs.Tokens.{is_symbol, is_word, name_at, taken, taken_word}
 use Rattle.script_expressions.specs.Grammar.{IsSymbol, IsWord, IsName, IsEnclosedList}
-use Rattle.script_expressions.proofs.Complete.{symbol_read, word_taken, not_taken, not_taken_word}
+use Rattle.script_expressions.proofs.Completeness.{symbol_read, word_taken, not_taken, not_taken_word}
 use Rattle.script_expressions.proofs.CallLaws.{name_read, Reads, enclosed_list_read, enclosed_takes}
 use Rattle.script_parser.specs.Statements.{block}
 use Rattle.script_parser.specs.Methods.{option_word, kind_word, option_named, kind_named, option_at, kind_at, params_at, method_at}
@@ -33,7 +33,7 @@ use Rattle.script_parser.specs.Types.{repeated, number_at, initial_from, initial
 use Rattle.script_parser.specs.Programs.{program_over, program_of}
 use Rattle.script_parser.specs.Grammar.{OneName, IsMethod, method, IsInitial, positive, negative, worded, IsField, field, Many, none, one_more, IsType, type, IsProgram}
 use Rattle.script_parser.proofs.SoundParts.{program_sound}
-use Rattle.script_parser.proofs.Complete.{blocks_read}
+use Rattle.script_parser.proofs.Completeness.{blocks_read}
 
 -- each option and each kind is found by its word
 option_back : (o : TxnOption) → option_named (option_word o) ≡ Some o

@@ -1,9 +1,9 @@
-pub mod Many
-pub mod Sound
+pub mod PartLists
+pub mod Soundness
 pub mod SoundParts
-pub mod Complete
+pub mod Completeness
 pub mod CompleteParts
-pub mod Placed
+pub mod NamePlaces
 pub mod LocalStatements
 pub mod LocalPrograms
 pub mod Refusals

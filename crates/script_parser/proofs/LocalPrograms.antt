@@ -24,18 +24,18 @@ use Rattle.script_lexer.specs.declared.tokens.Symbol.{Symbol}
 use Rattle.script_lexer.specs.declared.tokens.Symbol.TheVariants as symbol
 use Rattle.script_lexer.specs.declared.tokens.Word.{Word}
 use Rattle.script_lexer.specs.declared.tokens.Word.TheVariants as word
-use Rattle.script_expressions.specs.Reading.{◌>>=◌, Part, Read}
+use Rattle.script_expressions.specs.TokenReaders.{◌>>=◌, Part, Read}
 use Rattle.script_expressions.specs.Tokens.{is_word, expected, name_at, taken, taken_word}
 use Rattle.script_expressions.specs.Grammar.{IsSymbol}
-use Rattle.script_expressions.proofs.Sound.{bind_ok, ok_is, took}
-use Rattle.script_expressions.proofs.Complete.{symbol_read}
-use Rattle.script_expressions.proofs.Local.{whole_turns, Follow, Any, NoOperator, of_symbol, Canon, Split, Local, Step, leaves, takes, refuses, stops, ends, step_at, end_at, then_at, canon_then, then_local, done_canon, done_split, done_local, by_next, symbol_refused, symbol_local, name_local, shut_local, split_no_longer, bind_same, Loop, loop_split}
+use Rattle.script_expressions.proofs.Soundness.{bind_ok, ok_is, took}
+use Rattle.script_expressions.proofs.Completeness.{symbol_read}
+use Rattle.script_expressions.proofs.Locality.{whole_turns, Follow, Any, NoOperator, of_symbol, Canon, Split, Local, Step, leaves, takes, refuses, stops, ends, step_at, end_at, then_at, canon_then, then_local, done_canon, done_split, done_local, by_next, symbol_refused, symbol_local, name_local, shut_local, split_no_longer, bind_same, Loop, loop_split}
 use Rattle.script_expressions.proofs.LocalExpressions.{nought, any_first, name_eats, list_local}
 use Rattle.script_parser.specs.declared.methods.TheConstants.{OPTIONS, KINDS}
 use Rattle.script_parser.specs.Statements.{block}
 use Rattle.script_parser.specs.Methods.{option_word, kind_word, option_found, kind_found, option_from, kind_from, option_at, kind_at, params_in, params_at, method_at}
 use Rattle.script_parser.specs.Types.{more_parts_of, repeated, number_at, initial_at, field_at, members_in, type_at}
-use Rattle.script_parser.proofs.Sound.{took_next}
+use Rattle.script_parser.proofs.Soundness.{took_next}
 use Rattle.script_parser.proofs.LocalStatements.{block_local}
 
 -- this word doesn't stand next

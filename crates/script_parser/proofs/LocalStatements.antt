@@ -14,18 +14,18 @@ use Rattle.script_lexer.specs.declared.tokens.Token.TheVariants as token
 use Rattle.script_lexer.specs.declared.tokens.Symbol.TheVariants as symbol
 use Rattle.script_lexer.specs.declared.tokens.Word.{Word}
 use Rattle.script_lexer.specs.declared.tokens.Word.TheVariants as word
-use Rattle.script_expressions.specs.Reading.{◌>>=◌, Part, Read}
+use Rattle.script_expressions.specs.TokenReaders.{◌>>=◌, Part, Read}
 use Rattle.script_expressions.specs.Tokens.{is_symbol, is_word, expected, expected_word, name_at, spelling_at, taken, taken_word}
 use Rattle.script_expressions.specs.Expressions.{operator_at, expression}
 use Rattle.script_expressions.specs.Calls.{call_at}
 use Rattle.script_expressions.specs.Grammar.{IsSymbol}
-use Rattle.script_expressions.proofs.Sound.{bind_ok, ok_is}
-use Rattle.script_expressions.proofs.Complete.{symbol_read}
-use Rattle.script_expressions.proofs.Local.{Follow, Any, NoOperator, of_symbol, of_word, a_name, Canon, Split, Local, Step, leaves, keeps, takes, refuses, stops, ends, step_at, end_at, then_at, canon_then, then_local, done_canon, done_split, done_local, by_next, symbol_refused, symbol_local, word_local, name_local, text_local, shut_local, Eats, at_nil, bind_same, Loop, whole_turns, loop_split}
+use Rattle.script_expressions.proofs.Soundness.{bind_ok, ok_is}
+use Rattle.script_expressions.proofs.Completeness.{symbol_read}
+use Rattle.script_expressions.proofs.Locality.{Follow, Any, NoOperator, of_symbol, of_word, a_name, Canon, Split, Local, Step, leaves, keeps, takes, refuses, stops, ends, step_at, end_at, then_at, canon_then, then_local, done_canon, done_split, done_local, by_next, symbol_refused, symbol_local, word_local, name_local, text_local, shut_local, Eats, at_nil, bind_same, Loop, whole_turns, loop_split}
 use Rattle.script_expressions.proofs.LocalExpressions.{nought, zero_expression, expression_local, expression_eats, call_local}
 use Rattle.script_parser.specs.Grammar.{IsBlock}
-use Rattle.script_parser.proofs.Sound.{statement_sound, block_sound}
-use Rattle.script_parser.proofs.Complete.{stmt_takes, blocks_read}
+use Rattle.script_parser.proofs.Soundness.{statement_sound, block_sound}
+use Rattle.script_parser.proofs.Completeness.{stmt_takes, blocks_read}
 use Rattle.script_parser.specs.Statements.{source_at, let_at, assign_at, set_at, call_statement_at, return_at, fail_at, else_at, if_at, while_at, attempt_at, statement_over, up_to, statements, block}
 
 -- no `else` stands next

@@ -10,13 +10,13 @@ use Rattle.script_lexer.specs.declared.faults.ParseFault.{ParseFault}
 use Rattle.script_lexer.specs.declared.faults.ParseFault.TheVariants.{BadToken, Unexpected, TooDeep, Memory}
 use Rattle.script_lexer.specs.declared.tokens.Spanned.{Spanned}
 use Rattle.script_lexer.specs.declared.tokens.Word.TheVariants as word
-use Rattle.script_lexer.specs.Lexing.{lexed, end_of}
-use Rattle.script_lexer.specs.Reading.{Ends, IsLexed}
+use Rattle.script_lexer.specs.Lexer.{lexed, end_of}
+use Rattle.script_lexer.specs.TokenTexts.{Ends, IsLexed}
 use Rattle.script_lexer.proofs.Laws.{lexed_reads}
-use Rattle.script_expressions.specs.Reading.{◌>>=◌, Part, FailsReading, Makes}
-use Rattle.script_expressions.proofs.Sound.{ok_is}
+use Rattle.script_expressions.specs.TokenReaders.{◌>>=◌, Part, FailsReading, Makes}
+use Rattle.script_expressions.proofs.Soundness.{ok_is}
 use Rattle.script_expressions.specs.Grammar.{IsOperator}
-use Rattle.script_expressions.proofs.Local.{Goes, Kept, Refused, Split}
+use Rattle.script_expressions.proofs.Locality.{Goes, Kept, Refused, Split}
 use Rattle.script_parser.specs.Types.{repeated, type_at}
 use Rattle.script_parser.specs.Programs.{at_text_end, program_over, program_of}
 use Rattle.script_parser.specs.Refusals.{AreProgram, Begin, IsUnexpectedAt, Explains, IsRefusal}

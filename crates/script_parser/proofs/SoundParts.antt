@@ -21,14 +21,14 @@ use Rattle.script_lexer.specs.declared.tokens.Symbol.{Symbol}
 use Rattle.script_lexer.specs.declared.tokens.Symbol.TheVariants as symbol
 use Rattle.script_lexer.specs.declared.tokens.Word.{Word}
 use Rattle.script_lexer.specs.declared.tokens.Word.TheVariants as word
-use Rattle.script_lexer.specs.Lexing.{lexed, end_of}
-use Rattle.script_lexer.specs.Reading.{Ends, IsLexed}
-use Rattle.script_lexer.proofs.Within.{find_passes}
+use Rattle.script_lexer.specs.Lexer.{lexed, end_of}
+use Rattle.script_lexer.specs.TokenTexts.{Ends, IsLexed}
+use Rattle.script_lexer.proofs.LexemeEnds.{find_passes}
 use Rattle.script_lexer.proofs.Laws.{lexed_reads}
-use Rattle.script_expressions.specs.Reading.{◌>>=◌, Read}
+use Rattle.script_expressions.specs.TokenReaders.{◌>>=◌, Read}
 use Rattle.script_expressions.specs.Tokens.{expected, name_at, taken, taken_word}
 use Rattle.script_expressions.specs.Grammar.{IsSymbol, IsWord, IsEnclosedList}
-use Rattle.script_expressions.proofs.Sound.{bind_ok, ok_is, took, Sound}
+use Rattle.script_expressions.proofs.Soundness.{bind_ok, ok_is, took, Sound}
 use Rattle.script_expressions.proofs.CallLaws.{took_name, enclosed_list_sound}
 use Rattle.script_parser.specs.declared.methods.TheConstants.{OPTIONS, KINDS}
 use Rattle.script_parser.specs.Statements.{block}
@@ -36,7 +36,7 @@ use Rattle.script_parser.specs.Methods.{option_word, kind_word, option_found, ki
 use Rattle.script_parser.specs.Types.{more_parts_of, repeated, negative_from, number_at, symbol_initial, initial_from, initial_at, field_at, members_in, type_at}
 use Rattle.script_parser.specs.Programs.{at_text_end, program_over, program_of}
 use Rattle.script_parser.specs.Grammar.{OneName, IsMethod, method, IsInitial, positive, negative, worded, IsField, field, Many, none, one_more, IsBlock, IsType, type, IsProgram}
-use Rattle.script_parser.proofs.Sound.{took_next, block_sound}
+use Rattle.script_parser.proofs.Soundness.{took_next, block_sound}
 
 -- ---- options and kinds
 

@@ -18,7 +18,7 @@ use Rattle.script_lexer.specs.declared.tokens.Spanned.{Spanned}
 use Rattle.script_lexer.specs.declared.tokens.Token.TheVariants as token
 use Rattle.script_lexer.specs.declared.tokens.Symbol.TheVariants as symbol
 use Rattle.script_lexer.specs.declared.tokens.Word.TheVariants as word
-use Rattle.script_lexer.specs.Reading.{IsLexed}
+use Rattle.script_lexer.specs.TokenTexts.{IsLexed}
 use Rattle.script_expressions.specs.Grammar.{Grammar, IsSymbol, IsWord, IsName, IsExpression, IsCall, IsEnclosedList}
 use Rattle.script_parser.specs.Methods.{option_word, kind_word}
 

@@ -14,7 +14,7 @@ use Rattle.script_lexer.specs.declared.faults.ParseFault.TheVariants.{Unexpected
 use Rattle.script_lexer.specs.declared.tokens.Token.{Token}
 use Rattle.script_lexer.specs.declared.tokens.Token.TheVariants as token
 use Rattle.script_lexer.specs.declared.tokens.Symbol.TheVariants as symbol
-use Rattle.script_expressions.specs.Reading.{Read, ◌>>=◌}
+use Rattle.script_expressions.specs.TokenReaders.{Read, ◌>>=◌}
 use Rattle.script_expressions.specs.Tokens.{expected, name_at, taken}
 use Rattle.script_expressions.specs.Calls.{listed_or_none}
 use Rattle.script_parser.specs.declared.methods.TheConstants.{OPTIONS, KINDS}
@@ -29,6 +29,7 @@ option_word option.Suppress = codes "suppress"
 option_word option.Supported = codes "supported"
 option_word option.NotAllowed = codes "notallowed"
 
+-- the word of a method's kind
 abbrev pub kind_word : MethodKind → List ℕ
 kind_word kind.Read = codes "read"
 kind_word kind.Update = codes "update"
@@ -38,6 +39,7 @@ kind_word kind.Plain = codes "plain"
 abbrev pub option_named : List ℕ → Option TxnOption
 option_named name = option_map (λ o. o) (find (λ o. bytes_eq (option_word o) name) OPTIONS)
 
+-- the kind that a name says, if it says one
 abbrev pub kind_named : List ℕ → Option MethodKind
 kind_named name = option_map (λ k. k) (find (λ k. bytes_eq (kind_word k) name) KINDS)
 
@@ -46,10 +48,12 @@ abbrev pub option_found : Option TxnOption → ℕ → Read (TxnOption × ℕ)
 option_found (Some o) at ts = Ok ((o, at), ts)
 option_found None at ts = Err (Unexpected at)
 
+-- a kind that was named, or the fault at its place
 abbrev pub kind_found : Option MethodKind → ℕ → Read MethodKind
 kind_found (Some k) at ts = Ok (k, ts)
 kind_found None at ts = Err (Unexpected at)
 
+-- an option is read from a name; any other token is a fault
 abbrev pub option_from : Token → ℕ → Read (TxnOption × ℕ)
 option_from (token.Name s) at ts = option_found (option_named s) at ts
 option_from (token.Word w) at ts = Err (Unexpected at)
@@ -57,6 +61,7 @@ option_from (token.Int n) at ts = Err (Unexpected at)
 option_from (token.Text s) at ts = Err (Unexpected at)
 option_from (token.Symbol s) at ts = Err (Unexpected at)
 
+-- a kind is read from a name; any other token is a fault
 abbrev pub kind_from : Token → ℕ → Read MethodKind
 kind_from (token.Name s) at ts = kind_found (kind_named s) at ts
 kind_from (token.Word w) at ts = Err (Unexpected at)

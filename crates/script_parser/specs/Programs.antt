@@ -5,8 +5,8 @@ use Rattle.script_lexer.specs.declared.faults.ParseFault.{ParseFault}
 use Rattle.script_lexer.specs.declared.faults.ParseFault.TheVariants.{BadToken, Unexpected, TooDeep, Memory}
 use Rattle.script_lexer.specs.declared.tokens.Spanned.{Spanned}
 use Rattle.script_lexer.specs.declared.tokens.Word.TheVariants as word
-use Rattle.script_lexer.specs.Lexing.{lexed}
-use Rattle.script_expressions.specs.Reading.{◌>>=◌}
+use Rattle.script_lexer.specs.Lexer.{lexed}
+use Rattle.script_expressions.specs.TokenReaders.{◌>>=◌}
 use Rattle.script_parser.specs.Types.{repeated, type_at}
 
 -- nothing follows: the tokens are used up, and they end where the text does

@@ -4,7 +4,7 @@ use Rattle.script_tree.specs.Programs.{TypeTree, ProgramTree}
 use Rattle.script_lexer.specs.declared.faults.ParseFault.{ParseFault}
 use Rattle.script_lexer.specs.declared.faults.ParseFault.TheVariants.{BadToken, Unexpected, TooDeep, Memory}
 use Rattle.script_lexer.specs.declared.tokens.Spanned.{Spanned}
-use Rattle.script_lexer.specs.Reading.{IsLexed}
+use Rattle.script_lexer.specs.TokenTexts.{IsLexed}
 use Rattle.script_expressions.specs.Grammar.{IsOperator}
 use Rattle.script_parser.specs.Grammar.{Many, IsType}
 

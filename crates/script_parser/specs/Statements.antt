@@ -10,7 +10,7 @@ use Rattle.script_lexer.specs.declared.tokens.Token.TheVariants as token
 use Rattle.script_lexer.specs.declared.tokens.Symbol.TheVariants as symbol
 use Rattle.script_lexer.specs.declared.tokens.Word.{Word}
 use Rattle.script_lexer.specs.declared.tokens.Word.TheVariants as word
-use Rattle.script_expressions.specs.Reading.{Part, Read, ◌>>=◌}
+use Rattle.script_expressions.specs.TokenReaders.{Part, Read, ◌>>=◌}
 use Rattle.script_expressions.specs.Tokens.{refused_token, expected, expected_word, name_at, spelling_at, taken, taken_word}
 use Rattle.script_expressions.specs.Expressions.{expression}
 use Rattle.script_expressions.specs.Calls.{call_at}

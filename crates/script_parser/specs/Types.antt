@@ -14,7 +14,7 @@ use Rattle.script_lexer.specs.declared.tokens.Symbol.{Symbol}
 use Rattle.script_lexer.specs.declared.tokens.Symbol.TheVariants as symbol
 use Rattle.script_lexer.specs.declared.tokens.Word.{Word}
 use Rattle.script_lexer.specs.declared.tokens.Word.TheVariants as word
-use Rattle.script_expressions.specs.Reading.{Part, Read, ◌>>=◌}
+use Rattle.script_expressions.specs.TokenReaders.{Part, Read, ◌>>=◌}
 use Rattle.script_expressions.specs.Tokens.{expected, name_at, taken_word}
 use Rattle.script_parser.specs.Methods.{method_at}
 

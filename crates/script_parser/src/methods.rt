@@ -1,7 +1,7 @@
 ghost use Rattle.std.specs.Prelude.{◌≡◌, length, bytes_eq};
 ghost use Rattle.script_tree.specs.Stmts.{stmt_trees, block_tree};
 ghost use Rattle.script_tree.specs.Programs.{method_tree};
-ghost use Rattle.script_expressions.specs.Reading.{GivesPart};
+ghost use Rattle.script_expressions.specs.TokenReaders.{GivesPart};
 ghost use Rattle.script_expressions.specs.Tokens.{name_at};
 ghost use Rattle.script_expressions.specs.Calls.{listed};
 ghost use Rattle.script_parser.specs.Methods.{option_word, kind_word, option_named, kind_named, option_at, kind_at, params_at, method_at};

@@ -2,7 +2,7 @@ ghost use Rattle.std.specs.Prelude.{◌≤◌, Result, Ok, IfOk, IfErr, length};
 ghost use Rattle.script_tree.specs.Programs.{ProgramTree, program_tree};
 ghost use Rattle.script_tree.specs.Names.{names_in_program, AreInOrder};
 ghost use Rattle.script_lexer.specs.declared.faults.ParseFault.{ParseFault};
-ghost use Rattle.script_expressions.specs.Reading.{Makes};
+ghost use Rattle.script_expressions.specs.TokenReaders.{Makes};
 ghost use Rattle.script_parser.specs.Programs.{at_text_end, program_over, program_of};
 ghost use Rattle.script_parser.specs.Grammar.{IsProgram};
 ghost use Rattle.script_parser.specs.Refusals.{IsRefusal};
@@ -14,7 +14,7 @@ use script_tree::Program;
 use std::alloc::Global;
 
 /// The most bytes of a program's text.
-pub const TEXT_LIMIT: usize = 262144;
+pub const PROGRAM_LIMIT: usize = 262144;
 
 /// The most braces, parentheses and prefix operators that may be open at a place.
 pub const DEPTH_LIMIT: u8 = 32;
@@ -22,7 +22,7 @@ pub const DEPTH_LIMIT: u8 = 32;
 /// The program that a text is. A text that is none is refused with its first place that is wrong, in the order of the
 /// text; only want of memory may be answered in place of any other answer.
 pub fn parse(alloc: Global, text: &[u8]) -> Result<Program, ParseFault>
-    requires { length text.now ≤ TEXT_LIMIT }
+    requires { length text.now ≤ PROGRAM_LIMIT }
 
     // What is accepted is a program of the grammar, and the tree is the text's.
     ensures found { IfOk result (λ program. IsProgram text.now (program_tree program)) }
@@ -46,7 +46,7 @@ pub fn parse(alloc: Global, text: &[u8]) -> Result<Program, ParseFault>
 }
 
 fn parsed(alloc: Global, text: &[u8]) -> Result<Program, ParseFault>
-    requires { length text.now ≤ TEXT_LIMIT }
+    requires { length text.now ≤ PROGRAM_LIMIT }
     ensures { Makes program_tree result (program_of text.now) }
 {
     let lexed = tokens_of(alloc, text)?;

@@ -1,6 +1,6 @@
 ghost use Rattle.std.specs.Prelude.{◌≡◌, length};
 ghost use Rattle.script_tree.specs.Stmts.{source_tree, stmt_tree, stmt_trees, else_tree};
-ghost use Rattle.script_expressions.specs.Reading.{GivesPart};
+ghost use Rattle.script_expressions.specs.TokenReaders.{GivesPart};
 ghost use Rattle.script_parser.specs.Statements.{source_at, let_at, assign_at, set_at, call_statement_at, if_at, else_at, while_at, return_at, fail_at, attempt_at, statement_over, statements, block};
 
 use script_expressions::Cursor;

@@ -1,6 +1,6 @@
 ghost use Rattle.std.specs.Prelude.{◌≡◌, length, map};
 ghost use Rattle.script_tree.specs.Programs.{method_tree, type_tree};
-ghost use Rattle.script_expressions.specs.Reading.{GivesPart};
+ghost use Rattle.script_expressions.specs.TokenReaders.{GivesPart};
 ghost use Rattle.script_lexer.specs.declared.tokens.Word.TheVariants as word;
 ghost use Rattle.script_parser.specs.Methods.{method_at};
 ghost use Rattle.script_parser.specs.Types.{initial_at, number_at, field_at, repeated, type_at};

@@ -1,3 +1,3 @@
-pub mod Heard
+pub mod PlayProgress
 pub mod Steps
 pub mod Trees

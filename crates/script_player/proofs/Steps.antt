@@ -22,10 +22,10 @@ use Rattle.script_meaning.specs.Requests.{Requests, Back, Caught, stop, with_val
 use Rattle.script_meaning.specs.Calls.{Site, Runner, Target, bound, joined, enters, numbered, to_type, type_from, with_key}
 use Rattle.script_meaning.specs.Statements.{Next, with_step, takes_step, given, around, calls, by_truth, does, runs, deep}
 use Rattle.script_meaning.specs.Play.{at_start, as_first, ends_unit, first_frame, unit}
-use Rattle.script_player.specs.Playing.{types_in, surrounds, plays_method, heard}
+use Rattle.script_player.specs.PlayState.{types_in, surrounds, plays_method, heard}
 use Rattle.script_player.specs.declared.frames.World.{World}
 use Rattle.script_player.specs.declared.player.Progress.{Progress}
-use Rattle.script_meaning.proofs.Steady.{while_once}
+use Rattle.script_meaning.proofs.StepCounts.{while_once}
 
 taken_by : (left : ℕ) (next : Next) (locals : Locals) (has : Holding) → true ≡ nat_lt 0 left → next locals (with_left (left - 1) has) ≡ with_step left next locals has
 taken_by zero next locals has some = absurd (cc)

@@ -1,8 +1,8 @@
 ghost use Rattle.std.specs.Prelude.{◌≡◌, IfOk, slice_get};
 ghost use Rattle.std.specs.Option.{option_copied};
-ghost use Rattle.script_check.specs.Accepted.{IsAcceptedProgram};
+ghost use Rattle.script_check.specs.AcceptedPrograms.{IsAcceptedProgram};
 ghost use Rattle.script_meaning.specs.Play.{found_in};
-ghost use Rattle.script_player.specs.Playing.{types_in};
+ghost use Rattle.script_player.specs.PlayState.{types_in};
 
 use base_types::{GrainId, Outcome, State, Store};
 use script_check::Checked;

@@ -12,7 +12,7 @@ ghost use Rattle.script_meaning.specs.Requests.{Requests, Back, Caught, with_val
 ghost use Rattle.script_meaning.specs.Calls.{Runner, locked, joined, in_own_unit, answered, with_key, readable, settable};
 ghost use Rattle.script_meaning.specs.Statements.{Next, by_truth, does};
 ghost use Rattle.script_meaning.specs.Play.{at_start};
-ghost use Rattle.script_player.specs.Playing.{site_of, surrounds, answering, Leads};
+ghost use Rattle.script_player.specs.PlayState.{site_of, surrounds, answering, Leads};
 ghost use Rattle.script_player.specs.declared.frames.World.{World as Worlds};
 
 use crate::flows::Answer;

@@ -10,7 +10,7 @@ ghost use Rattle.script_meaning.specs.Requests.{Back, Caught, stop};
 ghost use Rattle.script_meaning.specs.Calls.{bound, enters};
 ghost use Rattle.script_meaning.specs.Statements.{Next, takes_step, calls, sourced, does, runs, deep};
 ghost use Rattle.script_meaning.specs.Targets.{target_of};
-ghost use Rattle.script_player.specs.Playing.{types_in, site_of, below, plays_method, answering, flowing, Leads};
+ghost use Rattle.script_player.specs.PlayState.{types_in, site_of, below, plays_method, answering, flowing, Leads};
 
 use crate::flows::{Answer, Flow};
 use crate::frames::{Site, World};

@@ -4,7 +4,7 @@ ghost use Rattle.script_tree.specs.Programs.{program_tree};
 ghost use Rattle.script_holding.specs.Holding.{Holding as Has};
 ghost use Rattle.script_meaning.specs.Requests.{Requests, End, stop};
 ghost use Rattle.script_meaning.specs.Play.{at_start, as_first, ends_unit, unit, is_below, insert, states_set, writes_of, play};
-ghost use Rattle.script_player.specs.Playing.{types_in, answering, heard, Leads, played_of};
+ghost use Rattle.script_player.specs.PlayState.{types_in, answering, heard, Leads, played_of};
 ghost use Rattle.script_player.specs.declared.frames.World.{World as Worlds};
 ghost use Rattle.script_player.specs.declared.player.Player.{Player as Players};
 ghost use Rattle.script_player.specs.declared.player.Progress.{Progress as Progresses};

@@ -11,7 +11,7 @@ use Rattle.script_tree.specs.declared.statements.Stmt.TheFolds.{fold-roll-Stmt}
 use Rattle.script_tree.specs.Exprs.{ExprTree, CallTree, call_tree}
 use Rattle.script_tree.specs.Stmts.{StmtTree, BlockTree, Bind, Rebind, SetField, Perform, Choose, Repeat, Give, FailWith, Try, block_tree, stmt_step, stmt_tree, stmt_trees}
 use Rattle.script_scopes.specs.declared.faults.CheckFault.{CheckFault}
-use Rattle.script_scopes.specs.Found.{◌<|>◌, Fails}
+use Rattle.script_scopes.specs.FirstFaults.{◌<|>◌, Fails}
 use Rattle.script_scopes.specs.Names.{Scope, Setting, local_fault}
 use Rattle.script_scopes.specs.Expressions.{expression_fault, arguments_fault, call_fault}
 use Rattle.script_scopes.specs.Statements.{with_name, scope_after, statement_fault, block_fault}

@@ -2,7 +2,7 @@
 use Rattle.std.proofs.Common.{◌≡◌, ◌≢◌, Some, None, refl, sym, ap, ◌∙◌}
 use Rattle.script_scopes.specs.declared.faults.CheckFault.{CheckFault}
 use Rattle.script_scopes.specs.declared.faults.CheckFault.TheVariants.{UnknownName, TwiceNamed, Arity, FieldInPlain, SetInRead, TooMany, NeedsTransaction, Memory}
-use Rattle.script_scopes.specs.Found.{FirstFault, ◌<|>◌, Fails}
+use Rattle.script_scopes.specs.FirstFaults.{FirstFault, ◌<|>◌, Fails}
 
 -- the first of two is the first
 pub fails_first : (e : CheckFault) (a b : FirstFault) → Fails e a → Fails e (a <|> b)

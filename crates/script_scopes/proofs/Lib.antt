@@ -1,5 +1,5 @@
 pub mod Lists
 pub mod Founds
 pub mod Blocks
-pub mod Accepts
-pub mod Standing
+pub mod AcceptedBodies
+pub mod ScopePlaces

@@ -4,7 +4,7 @@ use Rattle.std.specs.List.{find}
 use Rattle.script_tree.specs.Exprs.{ExprTree, Constant, Variable, TheKey, Prefixed, Joined, CallTree}
 use Rattle.script_tree.specs.Programs.{ProgramTree, TypeTree, MethodTree}
 use Rattle.script_scopes.specs.declared.faults.CheckFault.TheVariants.{UnknownName, Arity}
-use Rattle.script_scopes.specs.Found.{FirstFault, ◌<|>◌}
+use Rattle.script_scopes.specs.FirstFaults.{FirstFault, ◌<|>◌}
 use Rattle.script_scopes.specs.Names.{Scope, Setting, variable_fault}
 
 -- an expression

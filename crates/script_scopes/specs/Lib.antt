@@ -1,7 +1,7 @@
-pub mod Found
+pub mod FirstFaults
 pub mod Names
 pub mod Places
-pub mod InScope
+pub mod NamesInScope
 pub mod Settings
 pub mod Expressions
 pub mod Statements

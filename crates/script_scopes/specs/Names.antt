@@ -6,7 +6,7 @@ use Rattle.script_tree.specs.declared.options.MethodKind.{MethodKind}
 use Rattle.script_tree.specs.declared.options.MethodKind.TheVariants.{Read, Update, Plain}
 use Rattle.script_tree.specs.Programs.{ProgramTree}
 use Rattle.script_scopes.specs.declared.faults.CheckFault.TheVariants.{UnknownName, TwiceNamed, FieldInPlain, SetInRead, TooMany}
-use Rattle.script_scopes.specs.Found.{FirstFault, ◌<|>◌}
+use Rattle.script_scopes.specs.FirstFaults.{FirstFault, ◌<|>◌}
 
 -- names that stand for something, the first declared first
 abbrev pub Scope : Type 0

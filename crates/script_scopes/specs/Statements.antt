@@ -2,7 +2,7 @@
 use Rattle.std.specs.Prelude.{[], ◌∷◌, ◌++◌, None}
 use Rattle.script_tree.specs.declared.expressions.Name.{Name}
 use Rattle.script_tree.specs.Stmts.{SourceTree, Computed, Called, StmtTree, BlockTree, ElseTree, Bind, Rebind, SetField, Perform, Choose, Repeat, Give, FailWith, Try, NoMore, Then, NoElse, Else}
-use Rattle.script_scopes.specs.Found.{FirstFault, ◌<|>◌}
+use Rattle.script_scopes.specs.FirstFaults.{FirstFault, ◌<|>◌}
 use Rattle.script_scopes.specs.Names.{Scope, Setting, local_fault, assigned_fault, set_fault}
 use Rattle.script_scopes.specs.Expressions.{expression_fault, call_fault}
 

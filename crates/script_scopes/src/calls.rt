@@ -3,13 +3,13 @@ ghost use Rattle.std.specs.List.{find};
 ghost use Rattle.std.specs.Option.{option_copied};
 ghost use Rattle.script_tree.specs.Exprs.{expr_tree, call_tree};
 ghost use Rattle.script_tree.specs.Programs.{method_tree, type_tree};
-ghost use Rattle.script_scopes.specs.Found.{Answers};
+ghost use Rattle.script_scopes.specs.FirstFaults.{Answers};
 ghost use Rattle.script_scopes.specs.Expressions.{expression_fault, arguments_fault, type_named, method_named, arity_fault, call_fault};
 ghost use Rattle.script_scopes.specs.Settings.{setting_of};
 
 use crate::faults::CheckFault;
-use crate::in_scope::InScope;
 use crate::names::{Setting, check_variable, is_same};
+use crate::names_in_scope::InScope;
 use script_tree::{CallExpr, Chars, Expr, Method, TypeDecl};
 
 fn find_type<'a>(types: &'a [TypeDecl], name: &Chars) -> Option<&'a TypeDecl>

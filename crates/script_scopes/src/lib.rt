@@ -6,13 +6,13 @@
 
 mod calls;
 mod faults;
-mod in_scope;
 mod names;
+mod names_in_scope;
 mod places;
 mod statements;
 
 pub use faults::CheckFault;
-pub use in_scope::InScope;
 pub use names::{Setting, check_free, check_room, is_same};
+pub use names_in_scope::InScope;
 pub use places::NamePlaces;
 pub use statements::check_block;

@@ -1,12 +1,12 @@
 ghost use Rattle.std.specs.Prelude.{◌≡◌, map, bytes_eq};
 ghost use Rattle.std.specs.List.{list_any};
 ghost use Rattle.script_tree.specs.Programs.{type_tree};
-ghost use Rattle.script_scopes.specs.Found.{Answers};
+ghost use Rattle.script_scopes.specs.FirstFaults.{Answers};
 ghost use Rattle.script_scopes.specs.Names.{is_in, taken_fault, room_fault, local_fault, reading_fault, writing_fault, variable_fault, assigned_fault, set_fault};
 ghost use Rattle.script_scopes.specs.Settings.{setting_of};
 
 use crate::faults::CheckFault;
-use crate::in_scope::InScope;
+use crate::names_in_scope::InScope;
 use script_tree::{Chars, MethodKind, Name, TypeDecl};
 
 /// What a method's body may speak of besides its parameters and locals: the program's types, the names of

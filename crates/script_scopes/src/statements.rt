@@ -1,7 +1,7 @@
 ghost use Rattle.std.specs.Prelude.{◌≡◌, map};
 ghost use Rattle.script_tree.specs.Exprs.{call_tree, expr_tree};
 ghost use Rattle.script_tree.specs.Stmts.{source_tree, stmt_tree, stmt_trees, block_tree};
-ghost use Rattle.script_scopes.specs.Found.{Answers, Leaves, ◌<|>◌};
+ghost use Rattle.script_scopes.specs.FirstFaults.{Answers, Leaves, ◌<|>◌};
 ghost use Rattle.script_scopes.specs.Names.{local_fault, assigned_fault, set_fault};
 ghost use Rattle.script_scopes.specs.Expressions.{call_fault, expression_fault};
 ghost use Rattle.script_scopes.specs.Statements.{source_fault, statement_fault, block_fault, scope_after, with_name};
@@ -9,8 +9,8 @@ ghost use Rattle.script_scopes.specs.Settings.{setting_of};
 
 use crate::calls::{check_call, check_expression};
 use crate::faults::CheckFault;
-use crate::in_scope::InScope;
 use crate::names::{Setting, check_assigned, check_local, check_set};
+use crate::names_in_scope::InScope;
 use script_tree::{CallExpr, Expr, Name, Source, Stmt};
 
 /// What a local is given is right.

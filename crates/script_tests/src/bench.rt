@@ -1,4 +1,4 @@
-use crate::built::add_built;
+use crate::built_trees::add_built;
 use crate::patterns::text_of;
 use crate::readings::add_reading;
 use crate::trouble::Trouble;

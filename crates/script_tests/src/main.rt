@@ -8,19 +8,19 @@
 //! | `text ..` | what `parse` and then `check` answer |
 //! | `body ..` | the same, of this body of a method `m` with a parameter `p`, whose type `a` has a field `f` |
 //! | `parse ..` | what `parse` alone answers |
-//! | `tree ..`, `body-tree ..` | the tree of a program that is accepted: see [`printing`] |
+//! | `tree ..`, `body-tree ..` | the tree of a program that is accepted: see [`printer`] |
 //! | `shape ..` | its types: the first values of the fields, and how many parameters each method has |
 //! | `tokens ..` | the tokens with their places, and what ends them |
 //! | `cursor ..` | an expression, a semicolon and a call, and what is answered to a wish for more |
-//! | `built NAME` | a body that the tree's own functions make, which sets a field of this name: see [`built`] |
+//! | `built NAME` | a body that the tree's own functions make, which sets a field of this name: see [`built_trees`] |
 //!
 //! A text is written as a pattern: see [`patterns`]. A refusal names a byte, from 0 on, which is the one that the pattern marks.
 #![tactic(auto)]
 
 mod bench;
-mod built;
+mod built_trees;
 mod patterns;
-mod printing;
+mod printer;
 mod readings;
 mod tokens;
 mod trouble;

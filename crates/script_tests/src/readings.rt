@@ -1,24 +1,24 @@
-use crate::printing::{print_call, print_expr, print_program};
+use crate::printer::{print_call, print_expr, print_program};
 use crate::tokens::add_tokens;
 use crate::trouble::Trouble;
 use base_types::TypeShape;
 use script_check::{Checked, check};
 use script_expressions::Cursor;
 use script_lexer::{Lexed, ParseFault, Symbol, tokens_of};
-use script_parser::{DEPTH_LIMIT, TEXT_LIMIT, parse};
+use script_parser::{DEPTH_LIMIT, PROGRAM_LIMIT, parse};
 use script_tree::{CallExpr, Expr, Program};
 use std::alloc::{AllocError, Global};
 use test_cases::add_values;
 
 fn lexed(alloc: Global, text: &[u8]) -> Result<Lexed, Trouble> {
-    if text.len() > TEXT_LIMIT {
+    if text.len() > PROGRAM_LIMIT {
         return Err(Trouble::Refused("too long", 0));
     }
     Ok(tokens_of(alloc, text)?)
 }
 
 fn parsed(alloc: Global, text: &[u8]) -> Result<Program, Trouble> {
-    if text.len() > TEXT_LIMIT {
+    if text.len() > PROGRAM_LIMIT {
         return Err(Trouble::Refused("too long", 0));
     }
     Ok(parse(alloc, text)?)

@@ -57,6 +57,7 @@ unfoldable mutual
 abbrev pub names_in_field : FieldDecl → List Name
 names_in_field field = field.name ∷ []
 
+-- the one name of a parameter
 abbrev pub names_in_parameter : Name → List Name
 names_in_parameter name = name ∷ []
 

@@ -1,6 +1,6 @@
 mod Lists
 mod Texts
 pub mod Writes
-mod Placed
+mod LocalPlaces
 pub mod Ways
-pub mod Added
+pub mod AddedNodes

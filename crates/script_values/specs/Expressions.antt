@@ -58,6 +58,7 @@ abbrev pub or_field : Option Value → ValueOrFault → ValueOrFault
 or_field (Some value) field = Ok value
 or_field None field = field
 
+-- the value of a name: a local's, or else a field's
 abbrev pub value_named : Surroundings → List ℕ → ValueOrFault
 value_named around name = or_field (local_named name around.locals) (field_value around.state (field_named name around.fields))
 
@@ -65,9 +66,11 @@ value_named around name = or_field (local_named name around.locals) (field_value
 abbrev pub and_so_on : ℤ → ValueOrFault → ValueOrFault
 and_so_on left right = if is_true left then then_value right (combined And (Int left)) else Ok (truth false)
 
+-- `||` with its left side: where that is true, the right one isn't looked at
 abbrev pub or_so_on : ℤ → ValueOrFault → ValueOrFault
 or_so_on left right = if is_true left then Ok (truth true) else then_value right (combined Or (Int left))
 
+-- what an operator makes of a left value and of what the right side gives
 abbrev pub between : BinaryOp → Value → ValueOrFault → ValueOrFault
 between And left right = with_number left (λ number. and_so_on number right)
 between Or left right = with_number left (λ number. or_so_on number right)
@@ -87,6 +90,7 @@ one_more (Err fault) rest = Err fault
 one_more (Ok value) (Err fault) = Err fault
 one_more (Ok value) (Ok values) = Ok (value ∷ values)
 
+-- the values of these expressions from left to right, or the first fault
 abbrev pub values_in : Surroundings → List ExprTree → Result (List Value) (List ℕ)
 values_in around [] = Ok []
 values_in around (first ∷ rest) = one_more (value_in around first) (values_in around rest)

@@ -14,6 +14,7 @@ use Rattle.script_values.specs.LocalNames.{names_of}
 abbrev pub stirred_product : ℕ → ℕ → ℕ
 stirred_product sum byte = (((sum + byte) % 2 ^ 64) * 11400714819323198485) % 2 ^ 64
 
+-- that product, with its upper half added to it
 abbrev pub stirred : ℕ → ℕ → ℕ
 stirred sum byte = (stirred_product sum byte + stirred_product sum byte / 4294967296) % 2 ^ 64
 
@@ -22,6 +23,7 @@ abbrev pub digest_from : ℕ → List ℕ → ℕ
 digest_from sum [] = sum
 digest_from sum (byte ∷ rest) = digest_from (stirred sum byte) rest
 
+-- the digest of a whole name
 abbrev pub name_digest : List ℕ → ℕ
 name_digest name = digest_from 0 name
 
@@ -39,6 +41,7 @@ abbrev pub stands_for : Option NameNode → Option (List ℕ) → List ℕ → �
 stands_for None local name digest = false
 stands_for (Some node) local name digest = node.linked && (nat_eq node.digest digest && has_name local name)
 
+-- the node at a place stands for a name
 abbrev pub named_at : List NameNode → Scope → List ℕ → ℕ → ℕ → Bool
 named_at nodes names name digest i = stands_for (slice_get nodes i) (slice_get names i) name digest
 
@@ -47,6 +50,7 @@ abbrev pub kid_of : Option NameNode → ℕ → ℕ
 kid_of None rest = 0
 kid_of (Some node) rest = slice_index node.kids (rest % 4)
 
+-- the kid of the node at a place, 0 where it has none on the way of these digits
 abbrev pub kid_at : List NameNode → ℕ → ℕ → ℕ
 kid_at nodes i rest = kid_of (slice_get nodes i) rest
 

@@ -64,6 +64,7 @@ quotient left (pos zero) = Err divide
 quotient left (pos (suc n)) = within (int_div left (pos (suc n)))
 quotient left (negsuc n) = within (int_div left (negsuc n))
 
+-- the remainder of a division, a fault where its quotient is one
 abbrev pub remainder : ℤ → ℤ → ValueOrFault
 remainder left right = then_value (quotient left right) (λ whole. Ok (Int (int_rem left right)))
 

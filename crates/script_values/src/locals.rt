@@ -114,7 +114,7 @@ impl LocalList {
 }
 
 // The value of the local at the place of this name.
-#[tactic(auto, using(crate::proofs::Placed::placed_within, crate::proofs::Placed::placed_named))]
+#[tactic(auto, using(crate::proofs::LocalPlaces::placed_within, crate::proofs::LocalPlaces::placed_named))]
 fn value_at<'a>(list: &'a [Local], name: &Chars, at: usize) -> &'a Value
     requires { name_place name.now (names_of list.now) ≡ Some at }
     ensures { Some result.now ≡ local_named name.now list.now }
@@ -123,7 +123,7 @@ fn value_at<'a>(list: &'a [Local], name: &Chars, at: usize) -> &'a Value
 }
 
 // The local at the place of this name gets a value.
-#[tactic(auto, using(crate::proofs::Placed::placed_within))]
+#[tactic(auto, using(crate::proofs::LocalPlaces::placed_within))]
 fn give(list: &mut Vec<Local>, name: &Chars, at: usize, value: Value)
     requires { name_place name.now (names_of list.old.items) ≡ Some at }
     ensures { list.new.items ≡ put_local name.now value list.old.items }

@@ -1,6 +1,6 @@
-pub mod Shown
-pub mod Made
-pub mod Telling
-pub mod Answered
-pub mod Alone
-pub mod Journaled
+pub mod ShownWork
+pub mod HostAnswers
+pub mod ToldEvents
+pub mod StepParts
+pub mod LoneSteps
+pub mod StepJournal

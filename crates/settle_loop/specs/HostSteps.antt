@@ -17,7 +17,7 @@ use Rattle.host_trait.specs.Runs.{RunsOnFile}
 use Rattle.grain_log.specs.Places.{spelling_of_versions}
 use Rattle.commit_log.specs.declared.gate.Sealing.{Sealing}
 use Rattle.commit_log.specs.declared.gate.Sealing.TheVariants as sealing
-use Rattle.commit_log.specs.Sealing.{SealHasCause}
+use Rattle.commit_log.specs.SealImages.{SealHasCause}
 use Rattle.request_wire.specs.Reply.{reply_line}
 use Rattle.core_model.specs.CoreState.{CoreState}
 use Rattle.core_model.specs.declared.effects.Effect.{Effect}
@@ -26,15 +26,15 @@ use Rattle.core_model.specs.declared.events.CoreEvent.TheVariants.{Vote, Sealed,
 use Rattle.core_model.specs.Settler.{versions_to_write, to_commit}
 use Rattle.promise_spec.specs.Records.{Commit}
 use Rattle.promise_spec.specs.Entries.{Log}
-use Rattle.batch_disk.specs.Resting.{NotAmong, AreOfType, voted_from}
+use Rattle.batch_disk.specs.ImagesAtRest.{NotAmong, AreOfType, voted_from}
 use Rattle.batch_disk.specs.Moments.{KeepsLog}
 use Rattle.batch_disk.specs.Writers.{file_end, voted_of, KeepsDisk, HasSameEnds}
 use Rattle.batch_disk.specs.Records.{commits_by, AreRecordsFor, IsSealable, MayBeLogged, IsAsWritten}
 use Rattle.batch_disk.specs.Seals.{SealsAs, WriterAfter}
-use Rattle.batch_disk.specs.declared.recording.SealWork.{SealWork}
+use Rattle.batch_disk.specs.declared.records.SealWork.{SealWork}
 use Rattle.batch_disk.specs.declared.writer.BatchWriter.{BatchWriter}
 use Rattle.settler_rules.specs.Entries.{IsEntryInRange}
-use Rattle.settle_loop.specs.Works.{event_of}
+use Rattle.settle_loop.specs.ShownWork.{event_of}
 
 -- a vote of no is the grain's file's fault, and with a vote of yes nothing failed
 abbrev pub HasVoteCause : ℕ → GrainId → Bool → (Channel → ℕ) → (Channel → ℕ) → Type 0

@@ -1,5 +1,5 @@
-pub mod Works
+pub mod ShownWork
 pub mod HostSteps
-pub mod Turning
-pub mod Making
-pub mod Journaling
+pub mod SettlerStep
+pub mod StepParts
+pub mod StepJournal

@@ -5,9 +5,9 @@ ghost use Rattle.core_model.specs.CoreState.{CoreState};
 ghost use Rattle.core_model.specs.Settler.{settler_step};
 ghost use Rattle.core_model.specs.declared.questions.SettlerWork.TheVariants as shown;
 ghost use Rattle.batch_disk.specs.Writers.{IsInBounds, FitsDisk};
-ghost use Rattle.settle_loop.specs.Works.{ShowsWork};
+ghost use Rattle.settle_loop.specs.ShownWork.{ShowsWork};
 ghost use Rattle.settler_rules.specs.Entries.{IsSaidInRange};
-ghost use Rattle.settle_loop.specs.Making.{MadeAs};
+ghost use Rattle.settle_loop.specs.StepParts.{MadeAs};
 
 use crate::gate::{Gate, GatePlace};
 use crate::settler::Settler;

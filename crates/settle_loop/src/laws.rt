@@ -6,14 +6,14 @@ ghost use Rattle.core_model.specs.Laws.{extended};
 ghost use Rattle.core_model.specs.Settler.{settler_step, MakesEvent};
 ghost use Rattle.core_access.specs.OneHolder.{none_comes};
 ghost use Rattle.core_access.specs.Sights.{Sight, run_seen, Tells};
-ghost use Rattle.settle_loop.specs.Works.{has_applied};
+ghost use Rattle.settle_loop.specs.ShownWork.{has_applied};
 ghost use Rattle.promise_spec.specs.Programs.{Program, shape_in};
 ghost use Rattle.promise_spec.specs.Records.{Commit};
 ghost use Rattle.promise_spec.specs.Entries.{Log};
 ghost use Rattle.batch_disk.specs.Writers.{KeepsDisk};
 ghost use Rattle.settle_loop.specs.HostSteps.{batch_made};
-ghost use Rattle.settle_loop.specs.Turning.{state_shown, ActsNext};
-ghost use Rattle.settle_loop.specs.Journaling.{IsFair, JournalsAs};
+ghost use Rattle.settle_loop.specs.SettlerStep.{state_shown, ActsNext};
+ghost use Rattle.settle_loop.specs.StepJournal.{IsFair, JournalsAs};
 ghost use Rattle.settle_loop.specs.declared.settler.Settler.{Settler as ASettler};
 
 use host_trait::Host;

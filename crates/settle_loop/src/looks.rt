@@ -2,16 +2,16 @@ ghost use Rattle.std.specs.Prelude.{◌≡◌, Bool, false, IfOk, OnErr};
 ghost use Rattle.core_model.specs.declared.events.CoreReply.{CoreReply as AReply};
 ghost use Rattle.core_model.specs.Settler.{settler_step};
 ghost use Rattle.core_access.specs.Sights.{run_seen, Looks, Tells};
-ghost use Rattle.core_access.specs.Spared.{is_spared};
-ghost use Rattle.settle_loop.specs.Works.{ShowsWork, has_applied};
-ghost use Rattle.settle_loop.specs.Turning.{state_shown, has_unwritten};
+ghost use Rattle.core_access.specs.CallsWithoutMemory.{is_spared};
+ghost use Rattle.settle_loop.specs.ShownWork.{ShowsWork, has_applied};
+ghost use Rattle.settle_loop.specs.SettlerStep.{state_shown, has_unwritten};
 
 use core_access::Access;
 use core_model::{CoreAnswer, CoreEvent, CoreQuestion, CoreReply, SettlerWork};
 use std::alloc::AllocError;
 
 /// What the settler does next, by one look at the core.
-#[tactic(auto, using(crate::proofs::Shown::work_of))]
+#[tactic(auto, using(crate::proofs::ShownWork::work_of))]
 pub fn look<A: Access>(access: &mut A) -> Result<SettlerWork, AllocError>
     requires fit { A.is_fit access.old }
     ensures fit { A.is_fit access.new }

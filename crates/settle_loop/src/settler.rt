@@ -5,9 +5,9 @@ ghost use Rattle.host_trait.specs.Files.{StaysReady};
 ghost use Rattle.core_model.specs.Settler.{settler_step, has_step, step_of};
 ghost use Rattle.core_access.specs.Sights.{Looks};
 ghost use Rattle.batch_disk.specs.Writers.{file_end, kept_of, IsInBounds, FitsDisk};
-ghost use Rattle.settle_loop.specs.Works.{counted_up};
-ghost use Rattle.settle_loop.specs.Turning.{state_shown, TurnsAs};
-ghost use Rattle.settle_loop.specs.Making.{ToldAs};
+ghost use Rattle.settle_loop.specs.ShownWork.{counted_up};
+ghost use Rattle.settle_loop.specs.SettlerStep.{state_shown, TurnsAs};
+ghost use Rattle.settle_loop.specs.StepParts.{ToldAs};
 
 use crate::cases::Made;
 use crate::gate::Gate;

@@ -1,6 +1,6 @@
 // What crashes may leave of the log.
 ghost use Rattle.std.specs.Prelude.{◌≤◌};
-ghost use Rattle.host_memory.specs.Shown.{calls_in};
+ghost use Rattle.host_memory.specs.ShownState.{calls_in};
 
 use crate::logs::words;
 use crate::recorder::bytes_in;

@@ -1,7 +1,7 @@
 // A host in memory that notes each file's writes and syncs.
 ghost use Rattle.std.specs.Prelude.{◌-◌, ◌^◌, ◌≤◌, length, false, IsTrue};
 ghost use Rattle.host_trait.specs.World.{empty_world, untold};
-ghost use Rattle.host_memory.specs.Shown.{image_in, ready_in};
+ghost use Rattle.host_memory.specs.ShownState.{image_in, ready_in};
 
 use host_memory::{CallKind, MemoryHost};
 use host_trait::{Failed, FileId, Host};

@@ -16,13 +16,13 @@ use Rattle.commit_log.specs.Bodies.{IsCallIn, params_of}
 use Rattle.request_wire.specs.Names.{TypeNames, type_names, method_names, names_in, named}
 use Rattle.request_wire.specs.Request.{call_of, passed, json_of, shape_of, grain_of, method_of, args_of, values_of, value_of_json, items_count}
 use Rattle.serde_json.specs.Data.{Data, Items, no_items, item}
-use Rattle.script_check.specs.Accepted.{IsAcceptedProgram, IsAcceptedType, IsAcceptedMethod}
+use Rattle.script_check.specs.AcceptedPrograms.{IsAcceptedProgram, IsAcceptedType, IsAcceptedMethod}
 use Rattle.script_check.specs.Programs.{field_names}
 use Rattle.script_check.specs.Shapes.{type_shape}
 use Rattle.script_tree.specs.Programs.{MethodTree, TypeTree, ProgramTree}
 use Rattle.script_meaning.specs.Calls.{Target, numbered, method_there}
 use Rattle.script_meaning.specs.Laws.{IsChild}
-use Rattle.settler_rules.specs.Logging.{shape_with}
+use Rattle.settler_rules.specs.LoggedUnits.{shape_with}
 
 pub some-is : {A : Type 0} (x y : A) → Some x ≡ Some y → x ≡ y
 some-is {A} x y e = ap of e

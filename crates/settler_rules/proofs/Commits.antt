@@ -18,26 +18,26 @@ use Rattle.core_model.specs.Answers.{effect_of}
 use Rattle.core_model.specs.Changes.{cleaned, new_unit, read_of, decisions_of, in_doubt, judged, on_decided, on_decisions, verdict_of, seal, spoil, leave, swept, swept_by}
 use Rattle.core_model.specs.Events.{applies, can, does, step, run, is_after_doubt, is_allowed, is_judged}
 use Rattle.core_model.specs.Laws.{extended}
-use Rattle.core_model.specs.Legal.{Run, IsLegal, ends}
-use Rattle.core_model.specs.Serial.{batch_begin, committed, chosen}
+use Rattle.core_model.specs.LegalRuns.{Run, IsLegal, ends}
+use Rattle.core_model.specs.SerialOrder.{batch_begin, committed, chosen}
 use Rattle.core_model.specs.Settler.{to_commit}
 use Rattle.core_model.specs.Tests.{any, is_committed, is_good, members}
-use Rattle.core_model.specs.Told.{IsSteady, OnlyTheBatchIsJudged}
-use Rattle.core_laws.proofs.Decoded.{Change, bad, begin, lock, raise, refuse, finish, end_plain, end_snapshot, release, take_batch, vote, decide_some, decide_none, seal_batch, spoil_batch, doubt_batch, learn, emit, halt_run, want, load, decode}
+use Rattle.core_model.specs.ToldOutcomes.{IsSteady, OnlyTheBatchIsJudged}
+use Rattle.core_laws.proofs.EventCases.{Change, bad, begin, lock, raise, refuse, finish, end_plain, end_snapshot, release, take_batch, vote, decide_some, decide_none, seal_batch, spoil_batch, doubt_batch, learn, emit, halt_run, want, load, decode}
 use Rattle.core_laws.proofs.Ends.{kept-ends, split-ends}
-use Rattle.core_laws.proofs.Kept.{Kept, inv-open, members-open}
+use Rattle.core_laws.proofs.KeptInvariant.{Kept, inv-open, members-open}
 use Rattle.core_laws.proofs.Orders.{Member-at, judged-other}
 use Rattle.core_laws.proofs.Puts.{put-from, put-other}
-use Rattle.core_laws.proofs.Relied.{holds-ends}
-use Rattle.core_laws.proofs.Split.{Split, no_doubt, split-order}
-use Rattle.core_laws.proofs.Stepped.{shows-chosen}
+use Rattle.core_laws.proofs.LoadlessLaws.{holds-ends}
+use Rattle.core_laws.proofs.CommitOrder.{Split, no_doubt, split-order}
+use Rattle.core_laws.proofs.SettlerSteps.{shows-chosen}
 use Rattle.core_laws.proofs.Verdicts.{member-or-not}
 use Rattle.promise_laws.specs.Legality.{is_play, applied_run}
-use Rattle.promise_laws.proofs.Legal.{ends_alike, legal}
+use Rattle.promise_laws.proofs.LegalRuns.{ends_alike, legal}
 use Rattle.promise_spec.specs.UnitRule.{Basis, KeepsUnitRule}
 use Rattle.promise_spec.specs.Causes.{is_sealed}
-use Rattle.settler_rules.specs.Committing.{KeepsDoubt}
-use Rattle.settler_rules.proofs.Standing.{ends-more}
+use Rattle.settler_rules.specs.CommittedUnits.{KeepsDoubt}
+use Rattle.settler_rules.proofs.StandingVotes.{ends-more}
 
 -- ---- verdicts
 

@@ -1,8 +1,8 @@
-pub mod Standing
-pub mod Voted
+pub mod StandingVotes
+pub mod NextVote
 pub mod Calls
-pub mod Logged
-pub mod Settled
+pub mod LoggedUnits
+pub mod SettledEntries
 pub mod Commits
 pub mod ToldOf
-pub mod Shared
+pub mod SealWork

@@ -15,17 +15,17 @@ use Rattle.core_model.specs.declared.phases.Verdict.{Verdict}
 use Rattle.core_model.specs.declared.phases.Verdict.TheVariants.{Open, Chosen, Condemned, Committed, Aborted}
 use Rattle.core_model.specs.Events.{applies, step, run}
 use Rattle.core_model.specs.Laws.{extended}
-use Rattle.core_model.specs.Legal.{Run, IsLegal, begins, ends}
+use Rattle.core_model.specs.LegalRuns.{Run, IsLegal, begins, ends}
 use Rattle.core_model.specs.Tests.{is_final, is_over, outcome_in, outcome_of}
-use Rattle.core_laws.proofs.Further.{children-ends, committed-closed, grows-ends, legal-front}
+use Rattle.core_laws.proofs.FurtherLaws.{children-ends, committed-closed, grows-ends, legal-front}
 use Rattle.core_laws.proofs.Growth.{Grows}
-use Rattle.core_laws.proofs.Told.{told-ends}
+use Rattle.core_laws.proofs.ToldOutcomes.{told-ends}
 use Rattle.promise_laws.specs.Legality.{is_play, applied_run}
-use Rattle.promise_laws.proofs.Legal.{ends_alike, legal}
+use Rattle.promise_laws.proofs.LegalRuns.{ends_alike, legal}
 use Rattle.promise_spec.specs.Cores.{applied_from}
 use Rattle.promise_spec.specs.Crashes.{HasOutcome}
 use Rattle.promise_spec.specs.UnitRule.{Basis, KeepsUnitRule}
-use Rattle.settler_rules.specs.Committing.{IsToldOf}
+use Rattle.settler_rules.specs.CommittedUnits.{IsToldOf}
 
 outcome-in : (what : Settled) → HasOutcome what → (o : Outcome) × (what ≡ settled.Done o)
 outcome-in (settled.Done o) h = (o, refl)

@@ -1,4 +1,4 @@
-pub mod Voting
-pub mod Logging
+pub mod Votes
+pub mod LoggedUnits
 pub mod Entries
-pub mod Committing
+pub mod CommittedUnits

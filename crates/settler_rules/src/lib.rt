@@ -5,14 +5,14 @@
 //! can be written as a line, and tells of no unit that is committed only later.
 #![tactic(auto)]
 
-mod committing;
+mod committed_units;
 mod entries;
-mod logging;
-mod voting;
+mod logged_units;
+mod votes;
 
-pub use committing::{
+pub use committed_units::{
     doubts_keep_the_chosen, sealed_batches_commit, told_units_are_committed_by_then,
 };
 pub use entries::shown_entries_are_proper;
-pub use logging::{plays_write_once, shown_versions_fit, units_to_commit_can_be_logged};
-pub use voting::{next_vote_is_new, shown_effects_stay, voted_versions_stay};
+pub use logged_units::{plays_write_once, shown_versions_fit, units_to_commit_can_be_logged};
+pub use votes::{next_vote_is_new, shown_effects_stay, voted_versions_stay};

@@ -1,8 +1,8 @@
-pub mod Passing
-pub mod Keeping
+pub mod PassSights
+pub mod KeptBooks
 pub mod StepsBeside
-pub mod OthersStill
-pub mod Alone
-pub mod Stopping
-pub mod Going
-pub mod Ended
+pub mod OthersBooks
+pub mod LoneSettler
+pub mod Stops
+pub mod SettlerLoop
+pub mod RunEnds

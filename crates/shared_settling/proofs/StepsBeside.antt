@@ -5,19 +5,19 @@ use Rattle.base_types.specs.declared.shapes.Shape.{Shape}
 use Rattle.host_trait.specs.declared.channels.Channel.{Channel}
 use Rattle.host_trait.specs.World.{World}
 use Rattle.core_model.specs.Laws.{extended}
-use Rattle.core_model.specs.Legal.{Run}
+use Rattle.core_model.specs.LegalRuns.{Run}
 use Rattle.core_model.specs.declared.events.CoreEvent.{CoreEvent}
 use Rattle.core_access.specs.Sights.{Sight, run_seen}
-use Rattle.settle_loop.specs.Turning.{TurnsAs}
+use Rattle.settle_loop.specs.SettlerStep.{TurnsAs}
 use Rattle.settle_loop.specs.declared.settler.Settler.{Settler}
 use Rattle.settle_loop.specs.declared.settler.Turned.{Turned}
 use Rattle.run_books.specs.declared.faults.RunFault.{RunFault}
-use Rattle.run_books.specs.Beside.{TurnsBeside}
-use Rattle.run_books.specs.Sharing.{SeesOn}
+use Rattle.run_books.specs.RecordFrame.{TurnsBeside}
+use Rattle.run_books.specs.SharedSteps.{SeesOn}
 use Rattle.run_books.proofs.Fronts.{events_told, after-is}
-use Rattle.run_books.proofs.Relying.{run-sees}
-use Rattle.run_books.proofs.Leaving.{IsAnswerTo, step-beside, failed-on}
-use Rattle.shared_settling.proofs.Passing.{step-among}
+use Rattle.run_books.proofs.Reliance.{run-sees}
+use Rattle.run_books.proofs.SettlerFrame.{IsAnswerTo, step-beside, failed-on}
+use Rattle.shared_settling.proofs.PassSights.{step-among}
 use Rattle.run_books.specs.Stages.{stage_by, stage_of}
 
 -- the run goes on by the events of what was seen

@@ -1,7 +1,7 @@
 -- Where a run with workers ends: nobody carries a unit any more, and the settler rests.
 use Rattle.std.specs.Prelude.{◌≡◌, ◌≤◌, false, true, None, length}
 use Rattle.core_model.specs.CoreState.{UnitNo}
-use Rattle.core_model.specs.Legal.{Run, ends}
+use Rattle.core_model.specs.LegalRuns.{Run, ends}
 use Rattle.core_model.specs.Settler.{settler_step, Rests}
 use Rattle.core_model.specs.Tests.{is_over, is_free}
 use Rattle.promise_spec.specs.Cores.{HasBegun}

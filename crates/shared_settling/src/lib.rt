@@ -5,11 +5,11 @@
 //! the run's books it keeps if others put events of lines and units alone, which is known once the history is whole.
 #![tactic(auto)]
 
-mod beside;
+mod final_loop;
 mod laws;
-mod rest;
+mod shared_loop;
 mod steps;
 
-pub use beside::settle_beside;
+pub use final_loop::settle_rest;
 pub use laws::who_rests_has_carried_all;
-pub use rest::settle_rest;
+pub use shared_loop::settle_beside;

@@ -2,9 +2,9 @@ ghost use Rattle.std.specs.Prelude.{◌≡◌, true, false, IfOk, IfErr};
 ghost use Rattle.host_trait.specs.Files.{StaysReady};
 ghost use Rattle.core_model.specs.Settler.{settler_step, Rests};
 ghost use Rattle.core_access.specs.Sights.{run_seen};
-ghost use Rattle.settle_loop.specs.Turning.{state_shown};
+ghost use Rattle.settle_loop.specs.SettlerStep.{state_shown};
 ghost use Rattle.run_books.specs.declared.faults.RunFault.TheVariants.{InDoubt};
-ghost use Rattle.shared_settling.specs.Among.{SettlesAmong, KnowsTruly, LeavesBeside};
+ghost use Rattle.shared_settling.specs.SharedSettler.{SettlesAmong, KnowsTruly, LeavesBeside};
 ghost use Rattle.run_books.specs.Stages.{side_of, IsSafe};
 
 use base_types::Shape;

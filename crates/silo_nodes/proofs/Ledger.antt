@@ -10,7 +10,7 @@ use Rattle.std.proofs.lemmas.Bool.{cases_Bool, and_parts}
 use Rattle.base_types.specs.Stores.{grain_cmp}
 use mir.Syntax.{w64}
 use Rattle.silo_nodes.specs.Packets.{GrainId, Shift, same_grain, touches, is_apart}
-use Rattle.silo_nodes.specs.Cached.{Cell, settled_cell, ShiftsFit}
+use Rattle.silo_nodes.specs.LogCache.{Cell, settled_cell, ShiftsFit}
 use Rattle.silo_nodes.proofs.Lists.{same_grain-true, same_grain-is, clash, not-true, any-member}
 
 both_equal : (a b : Ordering) → is_eq (ordering_then a b) ≡ true → (a ≡ Equal) × (b ≡ Equal)

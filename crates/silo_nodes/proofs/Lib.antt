@@ -1,9 +1,9 @@
 pub mod Lists
 pub mod Logs
 pub mod Ledger
-pub mod Refined
-pub mod Holding
-pub mod Waiting
-pub mod Sending
-pub mod Agreeing
-pub mod Ascending
+pub mod LogCache
+pub mod HeldGrains
+pub mod UndecidedTransactions
+pub mod GrownLists
+pub mod KeptYes
+pub mod GrainOrder

@@ -6,7 +6,7 @@ use Rattle.std.proofs.lemmas.Bool.{cond_both, cases_Bool, or_parts, and_parts, a
 use Rattle.silo_nodes.specs.Packets.{GrainId, TxnId, Shift, NodeEntry, Prepared, Done, same_txn, same_grain, touches, delta, is_apart, Member, Distinct}
 use Rattle.silo_nodes.specs.Logs.{prepares, ends, is_prepared, is_done, shifts_of, done_in, entry_moves, moved, moved_by}
 use Rattle.silo_nodes.specs.Node.{keeps_busy, is_busy, is_balance, has_room, can_shift, can_prepare}
-use Rattle.silo_nodes.specs.Sound.{Sound}
+use Rattle.silo_nodes.specs.SoundLog.{Sound}
 use Rattle.silo_nodes.proofs.Lists.{same_txn-true, same_txn-is, same_txn-self, same_grain-true, same_grain-is, clash, not-true, Member-last, Member-one, Distinct-last, any-true, any-member, any-grows, any-shrinks, all-true}
 
 -- a number plus none

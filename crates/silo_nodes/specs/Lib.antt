@@ -1,8 +1,8 @@
 pub mod Packets
 pub mod Logs
 pub mod Node
-pub mod Sound
+pub mod SoundLog
 pub mod Orders
-pub mod Cached
+pub mod LogCache
 pub mod Participants
 pub mod Coordinators

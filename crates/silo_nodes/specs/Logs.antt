@@ -17,12 +17,15 @@ abbrev pub commits : TxnId → NodeEntry → Bool
 commits t (Prepared u s) = false
 commits t (Done u commit) = same_txn u t && commit
 
+-- the transaction is prepared in this log
 abbrev pub is_prepared : List NodeEntry → TxnId → Bool
 is_prepared log t = any (prepares t) log
 
+-- the transaction is decided in this log
 abbrev pub is_done : List NodeEntry → TxnId → Bool
 is_done log t = any (ends t) log
 
+-- the transaction is committed in this log
 abbrev pub is_committed : List NodeEntry → TxnId → Bool
 is_committed log t = any (commits t) log
 

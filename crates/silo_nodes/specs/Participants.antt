@@ -3,7 +3,7 @@ use Rattle.std.specs.Prelude.{◌≡◌, ℕ, List, [], ◌∷◌, Bool, true, �
 use Rattle.silo_nodes.specs.Packets.{TxnId, Shift, Packet, Prepare, Vote, Decision, Ask, NodeEntry, is_apart}
 use Rattle.silo_nodes.specs.Node.{vote_on}
 use Rattle.silo_nodes.specs.Logs.{undecided}
-use Rattle.silo_nodes.specs.Cached.{Node, opening_in, prepared_at, decided_at}
+use Rattle.silo_nodes.specs.LogCache.{Node, opening_in, prepared_at, decided_at}
 
 -- the shifts of a request are of different grains
 abbrev pub IsApart : Packet → Type 0

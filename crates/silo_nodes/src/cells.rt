@@ -2,7 +2,7 @@ ghost use Rattle.std.specs.Prelude.{◌≡◌, ◌+ℤ◌, Some, OnOk, IfSome, F
 ghost use Rattle.std.specs.BTreeMap.{get};
 ghost use Rattle.base_types.specs.Stores.{grain_cmp};
 ghost use Rattle.silo_nodes.specs.Packets.{GrainId, same_grain};
-ghost use Rattle.silo_nodes.specs.Cached.{settled_cell, settled, ShiftsFit, allows, all_allow, held_cell, held, or_cell};
+ghost use Rattle.silo_nodes.specs.LogCache.{settled_cell, settled, ShiftsFit, allows, all_allow, held_cell, held, or_cell};
 ghost use mir.Syntax.{w64};
 
 use crate::packets::Shift;

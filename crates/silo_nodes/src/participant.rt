@@ -1,5 +1,5 @@
 ghost use Rattle.std.specs.Prelude.{◌≡◌, ◌<◌, ℤ, List, [], map, Some, true, IfOk, OnOk, OnErr, slice_get};
-ghost use Rattle.silo_nodes.specs.Cached.{entry_shifts, decided_at, prepared_at, vote_at, opening_in};
+ghost use Rattle.silo_nodes.specs.LogCache.{entry_shifts, decided_at, prepared_at, vote_at, opening_in};
 ghost use Rattle.silo_nodes.specs.Packets.{is_apart, GrainId, Ask};
 ghost use Rattle.silo_nodes.specs.Node.{is_balance, vote_on};
 ghost use Rattle.silo_nodes.specs.Orders.{MarksDone};
@@ -36,7 +36,7 @@ pub struct Participant {
 impl Model for Participant {
     ghost use Rattle.std.specs.BTreeMap.{get};
     ghost use Rattle.base_types.specs.Stores.{grain_cmp};
-    ghost use Rattle.silo_nodes.specs.Cached.{Node, FollowsLog, opening_in};
+    ghost use Rattle.silo_nodes.specs.LogCache.{Node, FollowsLog, opening_in};
     ghost use Rattle.silo_nodes.specs.Orders.{txn_cmp};
 
     ghost Value = { Node };

@@ -10,17 +10,17 @@ use Rattle.program_file.specs.Programs.{text_limit}
 use Rattle.program_file.specs.Answers.{program_fault_place, IsFaultOf}
 use Rattle.silo_spec.specs.Silos.{manager, IsSilo, IsNewSilo}
 use Rattle.silo_spec.specs.Moments.{IsUntouched}
-use Rattle.silo_spec.specs.Making.{StaysBeside, CameThisFar}
+use Rattle.silo_spec.specs.Creation.{StaysBeside, CameThisFar}
 use Rattle.promise_spec.specs.Logs.{magic}
 use Rattle.promise_spec.specs.Words.{Manner}
 use Rattle.promise_spec.specs.Commands.{MakesSilo, MakesAs, IsProgramText}
 use Rattle.promise_spec.specs.Endings.{HasRisen}
 use Rattle.silo_opening.specs.declared.faults.CreateFault.{CreateFault}
 use Rattle.silo_opening.specs.declared.input.InputFault.{InputFault}
-use Rattle.silo_opening.specs.declared.making.InitFault.{InitFault}
+use Rattle.silo_opening.specs.declared.silo_init.InitFault.{InitFault}
 use Rattle.silo_opening.specs.Counts.{InputFaulted, CreateFaulted, InitFaulted}
 use Rattle.silo_opening.specs.Inits.{in_input, in_program, in_creation, ending_of, ended_with}
-use Rattle.silo_opening.proofs.Behind.{untouched_from, untouched_so_far, beside_all, beside_last, beside_so_far, beside_here, makes_from}
+use Rattle.silo_opening.proofs.InitSteps.{untouched_from, untouched_so_far, beside_all, beside_last, beside_so_far, beside_here, makes_from}
 
 -- an answer that is this fault
 abbrev pub failed : {A E : Type 0} → E → Result A E

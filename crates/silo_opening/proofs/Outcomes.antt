@@ -5,10 +5,10 @@ use Rattle.host_trait.specs.World.{World, Moment, Image, Disk, IsImage, Passes, 
 use Rattle.silo_spec.specs.Silos.{manager, program_file, IsSilo, HasProgram, IsNewSilo, new_header}
 use Rattle.promise_spec.specs.Logs.{magic}
 use Rattle.silo_spec.specs.Moments.{IsUntouched}
-use Rattle.silo_spec.specs.Making.{IsMade, IsNewAt, IsUnsynced, FromFirstSync, CameThisFar}
+use Rattle.silo_spec.specs.Creation.{IsMade, IsNewAt, IsUnsynced, FromFirstSync, CameThisFar}
 use Rattle.silo_opening.specs.Steps.{HasNoSilo}
-use Rattle.silo_opening.proofs.Closing.{first_then, first_weaker}
-use Rattle.silo_opening.proofs.Filling.{new_silo}
+use Rattle.silo_opening.proofs.GateClosing.{first_then, first_weaker}
+use Rattle.silo_opening.proofs.FolderFilling.{new_silo}
 use Rattle.silo_opening.proofs.Fronts.{first_in, name_in}
 
 module _ (text : List ℕ) (disk : Disk) (made : IsMade magic text disk) (image : Image) (is : IsImage disk image) where

@@ -9,7 +9,7 @@ use Rattle.host_trait.proofs.Names.{cases_file}
 use Rattle.host_trait.proofs.Runs.{Change, run_started, run_asked, run_synced, run_more_syncs, asked_keeps, arrives_asked, image_from}
 use Rattle.silo_spec.specs.Silos.{manager}
 use Rattle.silo_spec.specs.Moments.{IsAsAtEntry, IsUntouched}
-use Rattle.silo_opening.specs.Opened.{Stays}
+use Rattle.silo_opening.specs.OpenedSilo.{Stays}
 
 -- calls that only asked, behind a run on one file
 pub run_only_asked : (file : FileId) (R : Change) (most : ℕ) (old mid new : World) → RunsOnFile file R most old mid → OnlyAsked mid new → RunsOnFile file R most old new

@@ -7,7 +7,7 @@ use Rattle.silo_spec.specs.Silos.{manager, program_file}
 use Rattle.silo_opening.specs.declared.faults.OpenFault.{OpenFault}
 use Rattle.silo_opening.specs.declared.faults.CreateFault.{CreateFault}
 use Rattle.silo_opening.specs.declared.input.InputFault.{InputFault}
-use Rattle.silo_opening.specs.declared.making.InitFault.{InitFault}
+use Rattle.silo_opening.specs.declared.silo_init.InitFault.{InitFault}
 
 -- a call on the file failed where `DiskFault` is answered, and none did where another fault is
 abbrev pub OpenFaulted : OpenFault → (Channel → ℕ) → (Channel → ℕ) → Type 0

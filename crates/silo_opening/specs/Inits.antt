@@ -8,7 +8,7 @@ use Rattle.promise_spec.specs.Courses.{Observed}
 use Rattle.promise_spec.specs.Endings as ending
 use Rattle.silo_opening.specs.declared.faults.CreateFault.{CreateFault}
 use Rattle.silo_opening.specs.declared.input.InputFault.{InputFault}
-use Rattle.silo_opening.specs.declared.making.InitFault.{InitFault}
+use Rattle.silo_opening.specs.declared.silo_init.InitFault.{InitFault}
 
 -- the fault of an input that wasn't read
 abbrev pub in_input : InputFault → InitFault

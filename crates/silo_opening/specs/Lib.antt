@@ -1,4 +1,4 @@
 pub mod Steps
 pub mod Counts
-pub mod Opened
+pub mod OpenedSilo
 pub mod Inits

@@ -31,7 +31,7 @@ pub record IsLooking (old : World) (m : Moment) : Type 0 where
   pub log : IsLookedAt (old.disk manager) (m.disk manager)
 
 -- at each moment
-pub record Looks (old new : World) : Type 0 where
+pub record OnlyLooks (old new : World) : Type 0 where
   pub input : new.input ≡ old.input
   pub moments : Passes (IsLooking old) old.past new.past
   pub now : IsLooking old (moment_of new)

@@ -13,8 +13,8 @@ ghost use Rattle.silo_spec.specs.Moments.{IsUntouched};
 ghost use Rattle.silo_opening.specs.declared.faults.CreateFault.{CreateFault};
 ghost use Rattle.silo_opening.specs.declared.creation.Front.{Front};
 ghost use Rattle.silo_opening.specs.Counts.{CreateFaulted};
-ghost use Rattle.silo_spec.specs.Making.{IsMade, StaysBeside, IsUnsynced, FromFirstSync, IsNewAt, CameThisFar};
-ghost use Rattle.silo_opening.specs.Steps.{ShowsFront, Looks, SyncsFor, ClosesBy, MayClose, HasNoSilo, IsShut};
+ghost use Rattle.silo_spec.specs.Creation.{IsMade, StaysBeside, IsUnsynced, FromFirstSync, IsNewAt, CameThisFar};
+ghost use Rattle.silo_opening.specs.Steps.{ShowsFront, OnlyLooks, SyncsFor, ClosesBy, MayClose, HasNoSilo, IsShut};
 
 use crate::faults::CreateFault;
 use host_trait::{Failed, FileId, Host, read_full, write_synced};
@@ -133,7 +133,7 @@ fn prepare<H: Host>(host: &mut H) -> Result<(), CreateFault>
 
 // Step one: looks at the manager file, and makes what it reads last.
 fn look<H: Host>(host: &mut H) -> Result<Front, Failed>
-    ensures looks { IsTrue H.tells → Looks (H.world host.old) (H.world host.new) }
+    ensures looks { IsTrue H.tells → OnlyLooks (H.world host.old) (H.world host.new) }
     ensures shows { IfOk result (λ front. IsTrue H.tells → ShowsFront magic front ((H.world host.old).disk manager).seen) }
     ensures syncs { IfOk result (λ front. IsTrue H.tells → SyncsFor front (H.world host.old) (H.world host.new)) }
     ensures unsynced { IfOk result (λ front. IsTrue H.tells → front ≡ Front.Empty → (H.world host.new).syncs ≡ (H.world host.old).syncs) }

@@ -9,7 +9,7 @@ use std::alloc::{AllocError, Global};
 use thiserror::Error;
 
 /// The most bytes that a program's text may have.
-pub const TEXT_LIMIT: usize = 262_144;
+pub const PROGRAM_LIMIT: usize = 262_144;
 
 // The most bytes that are pulled at once.
 const PIECE: usize = 4096;
@@ -23,7 +23,7 @@ pub enum InputFault {
     /// A call on the input failed, and its count has risen.
     #[error("the input couldn't be read")]
     Failed,
-    /// More than [`TEXT_LIMIT`] bytes stand before the input's end.
+    /// More than [`PROGRAM_LIMIT`] bytes stand before the input's end.
     #[error("the input is too long")]
     TooLong,
 }
@@ -50,13 +50,13 @@ impl From<AllocError> for InputFault {
     }
 }
 
-/// Reads the input to its end. It is too long where more than [`TEXT_LIMIT`] bytes stand before the end. No file is touched.
+/// Reads the input to its end. It is too long where more than [`PROGRAM_LIMIT`] bytes stand before the end. No file is touched.
 pub fn read_input<H: Host>(alloc: Global, host: &mut H) -> Result<Vec<u8>, InputFault>
     ensures whole { IfOk result (λ bytes. IsTrue H.tells → (H.world host.old).input ≡ bytes.items) }
     ensures end { OnOk result (IsTrue H.tells → (H.world host.new).input ≡ []) }
-    ensures within { IfOk result (λ bytes. vec_len bytes ≤ TEXT_LIMIT) }
+    ensures within { IfOk result (λ bytes. vec_len bytes ≤ PROGRAM_LIMIT) }
     ensures too_long { IfErr result (λ e. e ≡ InputFault.TooLong
-        → IsTrue H.tells → TEXT_LIMIT < length (H.world host.old).input) }
+        → IsTrue H.tells → PROGRAM_LIMIT < length (H.world host.old).input) }
     ensures calm { OnOk result (NoneFailed (H.faults host.old) (H.faults host.new)) }
     ensures counts { IfErr result (λ e. InputFaulted e (H.faults host.old) (H.faults host.new)) }
     ensures output { IsTrue H.tells → (H.world host.new).output ≡ (H.world host.old).output }
@@ -72,7 +72,7 @@ pub fn read_input<H: Host>(alloc: Global, host: &mut H) -> Result<Vec<u8>, Input
         if count == 0 {
             return Ok(input);
         }
-        if count > TEXT_LIMIT - input.len() {
+        if count > PROGRAM_LIMIT - input.len() {
             return Err(InputFault::TooLong);
         }
         input.extend_from_slice(&piece[..count])?;

@@ -4,10 +4,10 @@
 mod creation;
 mod faults;
 mod input;
-mod making;
-mod open;
+mod opened_silo;
+mod silo_init;
 
 pub use creation::create;
 pub use faults::{CreateFault, OpenFault};
-pub use making::{InitFault, init};
-pub use open::{Opened, open_silo};
+pub use opened_silo::{Opened, open_silo};
+pub use silo_init::{InitFault, init};

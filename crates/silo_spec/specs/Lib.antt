@@ -1,4 +1,4 @@
 pub mod Silos
 pub mod Slots
 pub mod Moments
-pub mod Making
+pub mod Creation

@@ -10,8 +10,8 @@ use Rattle.command_words.specs.declared.words.LoadOptions.{LoadOptions}
 use Rattle.command_words.specs.declared.words.RunOptions.{RunOptions}
 use Rattle.command_words.specs.declared.words.Words.{Words}
 use Rattle.command_words.specs.declared.words.Words.TheVariants as words
-use Rattle.silo_top.specs.Answering.{workers_manner}
-use Rattle.silo_top.specs.Asking.{carriage_manner, IsCarriage, carriage_by, carriage_of}
+use Rattle.silo_top.specs.CallAnswers.{workers_manner}
+use Rattle.silo_top.specs.AskedCommand.{carriage_manner, IsCarriage, carriage_by, carriage_of}
 
 abbrev Texts : Type 0
 Texts = List (List ℕ)

@@ -10,7 +10,7 @@ use Rattle.script_tree.specs.Programs.{ProgramTree}
 use Rattle.promise_spec.specs.Loads.{load_calls, AskFor}
 use Rattle.promise_spec.proofs.Lists.{each_of, member_at}
 use Rattle.bank_load.specs.Requests.{numbered_from, request_data, load_texts}
-use Rattle.silo_top.proofs.Read.{AreReadFrom}
+use Rattle.silo_top.proofs.ReadLines.{AreReadFrom}
 
 -- the text of a call
 abbrev pub text_of : Call → List ℕ

@@ -1,9 +1,9 @@
 pub mod Statuses
-pub mod Answering
-pub mod Asking
-pub mod Reading
-pub mod Starting
-pub mod Serving
-pub mod Carrying
-pub mod Loading
-pub mod GoingOn
+pub mod CallAnswers
+pub mod AskedCommand
+pub mod InputReads
+pub mod RunStart
+pub mod RunBehindOpening
+pub mod LineExecution
+pub mod LoadSteps
+pub mod Continuation

@@ -1,7 +1,7 @@
 ghost use Rattle.std.specs.Prelude.{◌≡◌, ◌≤◌, ◌<◌, [], length, IsTrue, IfOk, OnOk, IfErr, vec_len};
 ghost use Rattle.host_trait.specs.Faults.{NoneFailed};
 ghost use Rattle.host_trait.specs.Files.{StaysReady};
-ghost use Rattle.silo_top.specs.Reading.{PulledOnly, PullFaulted};
+ghost use Rattle.silo_top.specs.InputReads.{PulledOnly, PullFaulted};
 
 use host_trait::{Failed, Host};
 use std::alloc::{AllocError, Global};

@@ -1,7 +1,7 @@
-pub mod Sends
-pub mod Returned
-pub mod Crowded
-pub mod Whole
-pub mod Alone
-pub mod Rested
-pub mod Begun
+pub mod CoreMoves
+pub mod PassReturns
+pub mod JoinedPasses
+pub mod ClosedCore
+pub mod LoneRun
+pub mod SettledRest
+pub mod RunStart

@@ -1,4 +1,4 @@
-pub mod Reaching
-pub mod Working
-pub mod Beside
-pub mod Ending
+pub mod PassFrame
+pub mod WorkerPasses
+pub mod SettlerThread
+pub mod RunEnd

@@ -2,18 +2,18 @@
 ghost use Rattle.std.specs.Thread.{IsSync};
 ghost use Rattle.std.specs.Prelude.{◌≡◌, ◌+◌, ◌≤◌, [], false, length};
 ghost use Rattle.host_trait.specs.Files.{StaysReady};
-ghost use Rattle.core_access.specs.ByPass.{sight_of};
+ghost use Rattle.core_access.specs.PassSights.{sight_of};
 ghost use Rattle.history_core.specs.Cores.{run_of};
 ghost use Rattle.script_tree.specs.Programs.{program_tree};
 ghost use Rattle.turn_cell.specs.Hands.{first_hand};
 ghost use Rattle.turn_cell.specs.Passes.{pass_view, view};
 ghost use Rattle.unit_crew.specs.Crews.{IsBasisOf};
-ghost use Rattle.closing_rules.specs.Gathering.{sight_by};
-ghost use Rattle.silo_workers.specs.Beside.{HasSettled};
-ghost use Rattle.silo_workers.specs.Working.{HasWorked, IsFreshPass, BringsBack, BringsTogether, IsGathered, both_ends};
+ghost use Rattle.closing_rules.specs.JoinedPasses.{sight_by};
+ghost use Rattle.silo_workers.specs.SettlerThread.{HasSettled};
+ghost use Rattle.silo_workers.specs.WorkerPasses.{HasWorked, IsFreshPass, BringsBack, BringsTogether, IsGathered, both_ends};
 ghost use Rattle.run_books.specs.Stages.{side_of, IsSafe};
 
-use crate::settling::settle_by_pass;
+use crate::settler_thread::settle_by_pass;
 use crate::team::Team;
 use crate::work::{WorkEnd, both, work};
 use base_types::Shape;

@@ -6,10 +6,10 @@
 #![tactic(auto)]
 
 mod crowd;
-mod ending;
 mod reach;
 mod run;
-mod settling;
+mod run_end;
+mod settler_thread;
 mod team;
 mod work;
 

@@ -1,7 +1,7 @@
 ghost use Rattle.turn_cell.specs.Passes.{IsPassOf, pass_view};
-ghost use Rattle.core_access.specs.ByPass.{sight_of, all_come};
+ghost use Rattle.core_access.specs.PassSights.{sight_of, all_come};
 ghost use Rattle.history_core.specs.Cores.{run_of};
-ghost use Rattle.silo_workers.specs.Reaching.{PassAside, aside_of};
+ghost use Rattle.silo_workers.specs.PassFrame.{PassAside, aside_of};
 
 use core_access::Access;
 use core_model::{CoreAnswer, CoreEvent, CoreQuestion, CoreReply};

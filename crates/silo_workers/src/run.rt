@@ -1,12 +1,12 @@
 ghost use Rattle.std.specs.Prelude.{◌≡◌, ◌≤◌, [], None, Err, true, false, IfOk, IfSome};
 ghost use Rattle.host_trait.specs.Files.{StaysReady};
-ghost use Rattle.core_model.specs.Legal.{ends};
+ghost use Rattle.core_model.specs.LegalRuns.{ends};
 ghost use Rattle.core_access.specs.OneHolder.{own_sight};
 ghost use Rattle.history_core.specs.Cores.{run_of};
 ghost use Rattle.script_tree.specs.Programs.{program_tree};
-ghost use Rattle.txn_agent.specs.Linked.{IsLegalRun};
-ghost use Rattle.worker_rules.specs.Stories.{NoneLoads};
-ghost use Rattle.run_books.specs.Beside.{TurnsBeside};
+ghost use Rattle.txn_agent.specs.CoreLink.{IsLegalRun};
+ghost use Rattle.worker_rules.specs.SharedHistories.{NoneLoads};
+ghost use Rattle.run_books.specs.RecordFrame.{TurnsBeside};
 ghost use Rattle.run_books.specs.Records.{RecordGoesOn};
 ghost use Rattle.interleaver.specs.Turns.{TurnsCarry, WhereTurnsBegin};
 ghost use Rattle.run_books.specs.declared.faults.RunFault.TheVariants.{Memory};
@@ -14,7 +14,7 @@ ghost use Rattle.silo_workers.specs.declared.work.WorkEnd.TheVariants.{Idle};
 ghost use Rattle.run_books.specs.Stages.{stage_of, IsSafe};
 
 use crate::crowd::{Gathered, gather};
-use crate::ending::end_run;
+use crate::run_end::end_run;
 use crate::team::Team;
 use crate::work::WorkEnd;
 use base_types::{Ends, List};

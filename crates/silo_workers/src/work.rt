@@ -1,7 +1,7 @@
 // What a worker does with its pass.
 ghost use Rattle.std.specs.Prelude.{◌≡◌};
 ghost use Rattle.script_tree.specs.Programs.{program_tree};
-ghost use Rattle.silo_workers.specs.Working.{BringsBack, IsFreshPass, both_ends};
+ghost use Rattle.silo_workers.specs.WorkerPasses.{BringsBack, IsFreshPass, both_ends};
 
 use crate::reach::Reach;
 use core_model::{CoreAnswer, CoreQuestion};

@@ -1,6 +1,6 @@
 -- What the system has answered so far, as far as it tells whether a call was refused.
 use Rattle.std.specs.Prelude.{◌≡◌, ◌≢◌, ℕ, ◌+◌, Bool, false, Result, Ok, Err}
-use Rattle.system_calls.specs.declared.refused.Refused.{Refused}
+use Rattle.system_calls.specs.declared.refusal.Refused.{Refused}
 
 -- A number that each refused call changes and no other call does, as their count is; how often a call that moves bytes was
 -- interrupted; how often a handle of the folder got the number of a standard stream; and whether a sync of the folder was refused.

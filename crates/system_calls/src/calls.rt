@@ -7,7 +7,7 @@ ghost use Rattle.system_calls.specs.System.{System, MayBeFound, HasNoBytes, Make
 ghost use Rattle.system_calls.specs.Answers.{AnswerCounts, DoesOrRefuses, WasRefused, interrupted_once, stood_in_once};
 ghost use Rattle.system_calls.specs.declared.calls.Access.{Access};
 
-use crate::refused::Refused;
+use crate::refusal::Refused;
 use host_trait::FileId;
 
 /// A handle of an open file of the folder.

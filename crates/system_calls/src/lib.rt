@@ -7,8 +7,8 @@
 
 mod calls;
 mod linux;
-mod refused;
+mod refusal;
 
 pub use calls::{Access, Handle, Look, SystemCalls};
 pub use linux::{InFolder, Linux};
-pub use refused::Refused;
+pub use refusal::Refused;

@@ -2,7 +2,7 @@
 ghost use Rattle.std.specs.Prelude.{◌≡◌, IfOk};
 
 use crate::calls::{Access, Handle, Look, SystemCalls};
-use crate::refused::Refused;
+use crate::refusal::Refused;
 use arrayvec::ArrayString;
 use host_trait::FileId;
 use std::fmt::Write as _;

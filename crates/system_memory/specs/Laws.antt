@@ -14,6 +14,7 @@ nothing_left file none = record {
   same = λ i low untouched. absurd (omega (arith, low, ap length none));
 }
 
+-- what may be found of a file behind a crash is what its state may leave
 pub found_stays : (input : List ℕ) (h : MemoryState) (file : FileId) (bytes : List ℕ) → BareUnentered h → MayBeFound (system_of input h) file bytes → MayLeave (h.disk file) bytes
 found_stays input h file bytes bare (inl lost) = subst (λ (l : List ℕ). MayLeave (h.disk file) l) (sym lost.1) (nothing_left (h.disk file) (bare file lost.0))
 found_stays input h file bytes bare (inr left) = left

@@ -1,3 +1,3 @@
 pub mod MemoryState
-pub mod Shown
+pub mod ShownState
 pub mod Laws

@@ -92,10 +92,10 @@ fn moved(fault: Fault, count: usize) -> usize
 }
 
 impl MemorySystem {
-    ghost use Rattle.system_memory.specs.Shown.{system_in, system_answers};
+    ghost use Rattle.system_memory.specs.ShownState.{system_in, system_answers};
     ghost use Rattle.system_calls.specs.System.{NoSyncRefused};
     ghost use Rattle.system_calls.specs.Answers.{WasRefused, interrupted_once};
-    ghost use Rattle.system_calls.specs.declared.refused.Refused.{Refused};
+    ghost use Rattle.system_calls.specs.declared.refusal.Refused.{Refused};
     ghost use Rattle.system_memory.specs.declared.system.Fault.{Fault};
 
     /// An empty folder, and this input.
@@ -204,7 +204,7 @@ impl MemorySystem {
 
 impl SystemCalls for MemorySystem {
     ghost use Rattle.std.specs.Prelude.{true, drop, codes};
-    ghost use Rattle.system_memory.specs.Shown.{system_in, system_answers};
+    ghost use Rattle.system_memory.specs.ShownState.{system_in, system_answers};
     ghost use Rattle.system_memory.specs.Laws.{found_stays};
     ghost use Rattle.system_memory.specs.MemoryState.{held_of};
 

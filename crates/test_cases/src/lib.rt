@@ -3,8 +3,8 @@
 
 mod bank;
 mod numbers;
-mod printing;
+mod printer;
 
 pub use bank::BANK;
 pub use numbers::{Numbers, natural, short, three_numbers};
-pub use printing::{add_grain, add_items, add_outcome, add_value, add_values};
+pub use printer::{add_grain, add_items, add_outcome, add_value, add_values};

@@ -12,8 +12,8 @@ use Rattle.turn_cell.specs.Hands.{IsWhole}
 use Rattle.turn_cell.specs.Passes.{Closes}
 use Rattle.turn_cell.specs.Rule.{hand_of, Shelved, IsOneHistory}
 use Rattle.turn_cell.proofs.Names.{same_some}
-use Rattle.turn_cell.proofs.Whole.{only_seat, only_entries}
-use Rattle.turn_cell.proofs.Keeping.{parity}
+use Rattle.turn_cell.proofs.LastSeat.{only_seat, only_entries}
+use Rattle.turn_cell.proofs.CellRule.{parity}
 
 module _ {T S E R : Type 0} (state : T → S) (after : S → E → S) (reply : S → E → R) (id : ℕ) (v : View T E R) (s : State (Place T E R) (View T E R)) (t : IsOneHistory state after reply s) (at : get_elem? s.views id ≡ some v)
     (live : v.hand.live ≡ true) (idle : v.holds ≡ false) (whole : IsWhole v.hand) where

@@ -1,8 +1,8 @@
 pub mod Lists
 pub mod Names
 pub mod Histories
-mod Numbering
-mod Whole
-mod Keeping
+mod NumberRule
+mod LastSeat
+mod CellRule
 mod Ends
-pub mod Carried
+pub mod CallSums

@@ -3,4 +3,4 @@ pub mod Hands
 pub mod Places
 pub mod Passes
 pub mod Rule
-pub mod Carrying
+pub mod PassContracts

@@ -13,16 +13,16 @@ use Rattle.core_model.specs.declared.events.CoreEvent.{CoreEvent}
 use Rattle.core_model.specs.declared.events.CoreEvent.TheVariants.{Bad, Begin, Grant, Refuse, Finish, EndPlain, EndSnapshot, Release, Take, Vote, Decide, Sealed, NotSealed, Doubt, Learn, Emitted, Halt, Want, Load}
 use Rattle.core_model.specs.Changes.{new_unit, begun, swept, swept_by}
 use Rattle.core_model.specs.Events.{applies, can, does, step, is_allowed}
-use Rattle.core_model.specs.Legal.{Run, ends}
+use Rattle.core_model.specs.LegalRuns.{Run, ends}
 use Rattle.core_laws.proofs.Puts.{put-other, grain-at}
-use Rattle.core_laws.proofs.Kept.{Kept}
-use Rattle.core_laws.proofs.Decoded.{Change, bad, begin, lock, raise, refuse, finish, end_plain, end_snapshot, release, take_batch, vote, decide_some, decide_none, seal_batch, spoil_batch, doubt_batch, learn, emit, halt_run, want, load, decode}
+use Rattle.core_laws.proofs.KeptInvariant.{Kept}
+use Rattle.core_laws.proofs.EventCases.{Change, bad, begin, lock, raise, refuse, finish, end_plain, end_snapshot, release, take_batch, vote, decide_some, decide_none, seal_batch, spoil_batch, doubt_batch, learn, emit, halt_run, want, load, decode}
 use Rattle.script_tree.specs.Programs.{ProgramTree}
 use Rattle.script_meaning.specs.Trails.{Given, GivenLock, GivenRaise, GivenOutcome, locks_of, answers_of}
-use Rattle.promise_spec.specs.Serial.{depth_of}
-use Rattle.promise_spec.specs.Gotten.{Got, GotLock, GotRaise, GotChild, got_lock, got_by, and_given, given_by, wanted_by, got_in}
-use Rattle.turn_rules.specs.Going.{with_event, is_begin, is_own}
-use Rattle.turn_rules.specs.Still.{own_holds, IsStill}
+use Rattle.promise_spec.specs.SerialExecution.{depth_of}
+use Rattle.promise_spec.specs.UnitAnswers.{Got, GotLock, GotRaise, GotChild, got_lock, got_by, and_given, given_by, wanted_by, got_in}
+use Rattle.turn_rules.specs.NextEvent.{with_event, is_begin, is_own}
+use Rattle.turn_rules.specs.UnitFrame.{own_holds, IsStill}
 use Rattle.script_meaning.specs.Play as script
 use Rattle.turn_rules.proofs.Growth.{got-event}
 use Rattle.promise_spec.proofs.Lists.{some_is}

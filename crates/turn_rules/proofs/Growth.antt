@@ -6,13 +6,13 @@ use Rattle.std.proofs.lemmas.List.{take-append-le}
 use Rattle.core_model.specs.CoreState.{UnitNo, CoreState}
 use Rattle.core_model.specs.declared.events.CoreEvent.{CoreEvent}
 use Rattle.core_model.specs.Events.{applies, step, run}
-use Rattle.core_model.specs.Legal.{Run, begins, ends}
+use Rattle.core_model.specs.LegalRuns.{Run, begins, ends}
 use Rattle.script_tree.specs.Programs.{ProgramTree}
 use Rattle.promise_spec.specs.Cores.{applied_from}
-use Rattle.promise_spec.specs.Gotten.{Got, got_from, got_in}
+use Rattle.promise_spec.specs.UnitAnswers.{Got, got_from, got_in}
 use Rattle.promise_spec.specs.UnitRule.{Basis, IsDue, KeepsUnitRule}
 use Rattle.promise_spec.specs.TurnRule.{IsTurn, KeepsTurnRule, line_can_begin, movers, mover_of, takes_pick, picked}
-use Rattle.turn_rules.specs.Going.{with_event, got_next, MayCome, IsNext}
+use Rattle.turn_rules.specs.NextEvent.{with_event, got_next, MayCome, IsNext}
 use Rattle.promise_spec.proofs.Lists.{some_is}
 
 -- what stands in a list with one more stands in the list, or is the last

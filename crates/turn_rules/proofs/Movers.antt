@@ -17,21 +17,21 @@ use Rattle.core_model.specs.declared.events.CoreEvent.{CoreEvent}
 use Rattle.core_model.specs.declared.events.CoreEvent.TheVariants.{Begin}
 use Rattle.base_types.specs.declared.calls.Origin.TheVariants.{Line, Child}
 use Rattle.core_model.specs.Events.{applies, can, does, step, is_allowed}
-use Rattle.core_model.specs.Legal.{Run, ends}
+use Rattle.core_model.specs.LegalRuns.{Run, ends}
 use Rattle.core_model.specs.Laws.{HoldsNothing}
 use Rattle.core_laws.proofs.Basics.{is_running-true}
-use Rattle.core_laws.proofs.Kept.{Kept}
-use Rattle.core_laws.proofs.Replied.{extends-ends}
-use Rattle.core_laws.proofs.Batching.{free-holds}
-use Rattle.core_laws.proofs.Decoded.{Change, bad, begin, lock, raise, refuse, finish, end_plain, end_snapshot, release, take_batch, vote, decide_some, decide_none, seal_batch, spoil_batch, doubt_batch, learn, emit, halt_run, want, load, decode}
+use Rattle.core_laws.proofs.KeptInvariant.{Kept}
+use Rattle.core_laws.proofs.Replies.{extends-ends}
+use Rattle.core_laws.proofs.BatchPrefix.{free-holds}
+use Rattle.core_laws.proofs.EventCases.{Change, bad, begin, lock, raise, refuse, finish, end_plain, end_snapshot, release, take_batch, vote, decide_some, decide_none, seal_batch, spoil_batch, doubt_batch, learn, emit, halt_run, want, load, decode}
 use Rattle.script_tree.specs.Programs.{ProgramTree}
-use Rattle.promise_spec.specs.Gotten.{Got, wanted_by, got_in}
+use Rattle.promise_spec.specs.UnitAnswers.{Got, wanted_by, got_in}
 use Rattle.core_model.specs.Settler.{has_step, settler_step}
 use Rattle.promise_spec.specs.TurnRule.{OfUnit, OfSettler, can_move, line_can_begin, in_flight, is_line, is_settled, is_unhindered, units_of, units_from}
-use Rattle.turn_rules.specs.Going.{with_event, is_begin, is_own, movers_in}
-use Rattle.turn_rules.specs.Still.{IsStill}
-use Rattle.turn_rules.specs.Carried.{is_live, is_flying, is_kept, AreKept, movers_of, can_begin_by}
-use Rattle.turn_rules.proofs.Listed.{any-filter, filter-agree, filter-among, filter-stronger, or-left, or-right, some_of}
+use Rattle.turn_rules.specs.NextEvent.{with_event, is_begin, is_own, movers_in}
+use Rattle.turn_rules.specs.UnitFrame.{IsStill}
+use Rattle.turn_rules.specs.CarriedUnits.{is_live, is_flying, is_kept, AreKept, movers_of, can_begin_by}
+use Rattle.turn_rules.proofs.ListTests.{any-filter, filter-agree, filter-among, filter-stronger, or-left, or-right, some_of}
 use Rattle.turn_rules.proofs.Growth.{ends-more}
 use Rattle.turn_rules.proofs.Numbers.{next-begun, next-stays, units-below, units-last}
 use Rattle.turn_rules.proofs.Frame.{still-event, still-same}

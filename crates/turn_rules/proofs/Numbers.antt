@@ -7,11 +7,11 @@ use Rattle.core_model.specs.CoreState.{UnitNo, Call, Origin, Member, CoreState}
 use Rattle.core_model.specs.declared.events.CoreEvent.{CoreEvent}
 use Rattle.core_model.specs.declared.events.CoreEvent.TheVariants.{Begin}
 use Rattle.core_model.specs.Changes.{swept, swept_by}
-use Rattle.core_laws.proofs.Decoded.{Change, bad, begin, lock, raise, refuse, finish, end_plain, end_snapshot, release, take_batch, vote, decide_some, decide_none, seal_batch, spoil_batch, doubt_batch, learn, emit, halt_run, want, load, decode}
+use Rattle.core_laws.proofs.EventCases.{Change, bad, begin, lock, raise, refuse, finish, end_plain, end_snapshot, release, take_batch, vote, decide_some, decide_none, seal_batch, spoil_batch, doubt_batch, learn, emit, halt_run, want, load, decode}
 use Rattle.core_model.specs.Events.{applies, can, does, is_allowed, step}
 use Rattle.promise_spec.specs.TurnRule.{units_from}
-use Rattle.turn_rules.specs.Going.{is_begin}
-use Rattle.turn_rules.specs.Turning.{AreOlder}
+use Rattle.turn_rules.specs.NextEvent.{is_begin}
+use Rattle.turn_rules.specs.TurnLoop.{AreOlder}
 
 -- ---- the units of a run
 

@@ -5,12 +5,12 @@ use Rattle.std.proofs.Math.Seq.{take-length}
 use Rattle.std.proofs.lemmas.Bool.{cond-true, cond-false}
 use Rattle.core_model.specs.declared.events.CoreEvent.{CoreEvent}
 use Rattle.core_model.specs.Events.{applies}
-use Rattle.core_model.specs.Legal.{Run, begins, ends}
+use Rattle.core_model.specs.LegalRuns.{Run, begins, ends}
 use Rattle.promise_spec.specs.Cores.{applied_from}
 use Rattle.promise_spec.specs.TurnRule.{mover_of, takes_pick, picks_used}
-use Rattle.turn_rules.specs.Going.{with_event}
+use Rattle.turn_rules.specs.NextEvent.{with_event}
 use Rattle.turn_rules.proofs.Growth.{applied-more}
-use Rattle.turn_rules.proofs.Listed.{count-more, count-none, count-one}
+use Rattle.turn_rules.proofs.ListTests.{count-more, count-none, count-one}
 
 -- ---- picks
 

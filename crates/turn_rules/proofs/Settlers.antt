@@ -6,16 +6,16 @@ use Rattle.core_model.specs.CoreState.{UnitNo, CoreState}
 use Rattle.core_model.specs.declared.events.CoreEvent.{CoreEvent}
 use Rattle.core_model.specs.declared.events.CoreEvent.TheVariants.{Halt}
 use Rattle.core_model.specs.Changes.{swept, swept_by}
-use Rattle.core_laws.proofs.Decoded.{Change, bad, begin, lock, raise, refuse, finish, end_plain, end_snapshot, release, take_batch, vote, decide_some, decide_none, seal_batch, spoil_batch, doubt_batch, learn, emit, halt_run, want, load, decode}
+use Rattle.core_laws.proofs.EventCases.{Change, bad, begin, lock, raise, refuse, finish, end_plain, end_snapshot, release, take_batch, vote, decide_some, decide_none, seal_batch, spoil_batch, doubt_batch, learn, emit, halt_run, want, load, decode}
 use Rattle.core_model.specs.Events.{applies, can, does, is_allowed, step, run}
-use Rattle.core_model.specs.Legal.{Run, begins, ends}
+use Rattle.core_model.specs.LegalRuns.{Run, begins, ends}
 use Rattle.script_tree.specs.Programs.{ProgramTree}
 use Rattle.promise_spec.specs.Cores.{state_before}
-use Rattle.promise_spec.specs.Gotten.{Got, got_from}
+use Rattle.promise_spec.specs.UnitAnswers.{Got, got_from}
 use Rattle.promise_spec.specs.UnitRule.{Basis, IsDue}
 use Rattle.core_model.specs.Settler.{MakesEvent, Step, Votes, Decides, Seals, Learns, Writes, Takes, Rests, settler_step}
 use Rattle.promise_spec.specs.TurnRule.{OfSettler, IsTurn, KeepsTurnRule, line_can_begin, movers, mover_of, picked, picks_used}
-use Rattle.turn_rules.specs.Going.{is_begin, is_own, with_event}
+use Rattle.turn_rules.specs.NextEvent.{is_begin, is_own, with_event}
 use Rattle.turn_rules.proofs.Growth.{ends-more}
 
 -- ---- no stop

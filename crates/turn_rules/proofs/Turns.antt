@@ -8,27 +8,27 @@ use Rattle.core_model.specs.declared.events.CoreEvent.{CoreEvent}
 use Rattle.core_model.specs.declared.events.CoreEvent.TheVariants.{Begin, Halt}
 use Rattle.core_model.specs.Changes.{new_unit}
 use Rattle.core_model.specs.Events.{applies, can, run}
-use Rattle.core_model.specs.Legal.{Run, IsLegal, begins, ends}
-use Rattle.core_laws.proofs.Kept.{Kept}
+use Rattle.core_model.specs.LegalRuns.{Run, IsLegal, begins, ends}
+use Rattle.core_laws.proofs.KeptInvariant.{Kept}
 use Rattle.core_laws.proofs.Ends.{kept-ends}
-use Rattle.core_laws.proofs.Replied.{no-change}
+use Rattle.core_laws.proofs.Replies.{no-change}
 use Rattle.promise_spec.specs.Cores.{applied_from}
-use Rattle.promise_spec.specs.Gotten.{got_in}
+use Rattle.promise_spec.specs.UnitAnswers.{got_in}
 use Rattle.promise_spec.specs.UnitRule.{Basis}
 use Rattle.core_model.specs.Settler.{MakesEvent, settler_step}
 use Rattle.promise_spec.specs.TurnRule.{Mover, OfLine, OfUnit, OfSettler, IsTurn, line_can_begin, mover_of, takes_pick, picked, units_of, units_from}
-use Rattle.turn_rules.specs.Going.{with_event, is_begin, MayCome, IsNext, movers_in, next_pick}
-use Rattle.turn_rules.specs.Carried.{AreKept, movers_of, is_kept}
-use Rattle.turn_rules.specs.Quiet.{HasRun}
-use Rattle.turn_rules.specs.Turning.{TurnLoop, IsTurning, IsPicked, has_room, with_new, turned}
+use Rattle.turn_rules.specs.NextEvent.{with_event, is_begin, MayCome, IsNext, movers_in, next_pick}
+use Rattle.turn_rules.specs.CarriedUnits.{AreKept, movers_of, is_kept}
+use Rattle.turn_rules.specs.QuietRun.{HasRun}
+use Rattle.turn_rules.specs.TurnLoop.{TurnLoop, IsTurning, IsPicked, has_room, with_new, turned}
 use Rattle.turn_rules.proofs.Movers.{begins-kept, drop-kept, kept-begun, kept-on, movers-kept}
-use Rattle.turn_rules.proofs.Counted.{counted-ends}
+use Rattle.turn_rules.proofs.RunCounts.{counted-ends}
 use Rattle.turn_rules.proofs.Growth.{ends-more, turn-grows, unit-grows}
-use Rattle.turn_rules.proofs.Lawful.{legal-run}
+use Rattle.turn_rules.proofs.LegalRuns.{legal-run}
 use Rattle.turn_rules.proofs.Settlers.{going-by, settlers, settlers-due, settlers-go}
 use Rattle.turn_rules.proofs.Numbers.{older-filter, older-last}
 use Rattle.turn_rules.proofs.Picks.{used-none, used-one, used-unapplied}
-use Rattle.turn_rules.proofs.Ended.{without-mover}
+use Rattle.turn_rules.proofs.WaitOrder.{without-mover}
 
 -- ---- the turns
 

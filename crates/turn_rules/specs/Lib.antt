@@ -1,7 +1,7 @@
-pub mod Going
-pub mod Still
-pub mod Carried
-pub mod Counted
-pub mod Quiet
+pub mod NextEvent
+pub mod UnitFrame
+pub mod CarriedUnits
+pub mod RunCounts
+pub mod QuietRun
 pub mod Links
-pub mod Turning
+pub mod TurnLoop

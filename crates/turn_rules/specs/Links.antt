@@ -5,13 +5,13 @@ use Rattle.core_model.specs.declared.phases.Phase.TheVariants.{Running}
 use Rattle.cell_model.specs.Locks.{holds_lock}
 use Rattle.core_model.specs.Tests.{any, is_over, is_before}
 use Rattle.core_model.specs.declared.events.CoreEvent.{CoreEvent}
-use Rattle.core_model.specs.Legal.{Run, ends}
+use Rattle.core_model.specs.LegalRuns.{Run, ends}
 use Rattle.script_tree.specs.Programs.{ProgramTree}
 use Rattle.script_meaning.specs.Play.{Want, next}
 use Rattle.script_meaning.specs.Trails.{Given, locks_of, answers_of}
-use Rattle.promise_spec.specs.Serial.{depth_of}
-use Rattle.promise_spec.specs.Gotten.{Got, GotChild, given_by, got_in}
-use Rattle.turn_rules.specs.Going.{with_event}
+use Rattle.promise_spec.specs.SerialExecution.{depth_of}
+use Rattle.promise_spec.specs.UnitAnswers.{Got, GotChild, given_by, got_in}
+use Rattle.turn_rules.specs.NextEvent.{with_event}
 
 -- what the unit's script asks for next, where this was given to it
 abbrev pub asks_next : ProgramTree → Run → UnitNo → List Given → Want

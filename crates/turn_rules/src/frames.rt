@@ -3,14 +3,14 @@ ghost use Rattle.core_model.specs.declared.effects.Effect.{Effect};
 ghost use Rattle.core_model.specs.declared.events.CoreEvent.{CoreEvent};
 ghost use Rattle.core_model.specs.CoreState.{UnitNo, Outcome};
 ghost use Rattle.core_model.specs.Tests.{outcome_of};
-ghost use Rattle.core_model.specs.Legal.{Run, IsLegal, ends};
+ghost use Rattle.core_model.specs.LegalRuns.{Run, IsLegal, ends};
 ghost use Rattle.script_tree.specs.Programs.{ProgramTree};
 ghost use Rattle.script_meaning.specs.Play.{Want};
 ghost use Rattle.script_meaning.specs.Trails.{Given};
 ghost use Rattle.promise_spec.specs.Cores.{HasBegun};
-ghost use Rattle.promise_spec.specs.Gotten.{given_by, got_in, wanted_by};
-ghost use Rattle.turn_rules.specs.Going.{with_event, is_own};
-ghost use Rattle.turn_rules.specs.Still.{IsStill};
+ghost use Rattle.promise_spec.specs.UnitAnswers.{given_by, got_in, wanted_by};
+ghost use Rattle.turn_rules.specs.NextEvent.{with_event, is_own};
+ghost use Rattle.turn_rules.specs.UnitFrame.{IsStill};
 
 /// In a legal run an event that isn't a unit's own leaves the unit's phase, call, origin, children, reads and locks, where it
 /// has begun, and what it got and was given. An outcome that is known stays, by whatever event. So what the unit's script

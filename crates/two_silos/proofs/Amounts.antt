@@ -5,7 +5,7 @@ use Rattle.std.proofs.lemmas.Bool.{cases_Bool, eqb-false, and_parts}
 use Rattle.std.proofs.lemmas.Int.{ints}
 use Rattle.two_silos.specs.Nodes.{GrainId, Part, Shift, TxnId}
 use Rattle.silo_nodes.specs.Packets.{all, same_grain, delta, Member}
-use Rattle.silo_nodes.specs.Cached.{opening_in}
+use Rattle.silo_nodes.specs.LogCache.{opening_in}
 use Rattle.silo_nodes.specs.Coordinators.{parts_from}
 use Rattle.silo_nodes.proofs.Lists.{same_grain-true, same_grain-is, clash, not-true}
 use Rattle.two_silos.specs.Promise.{part_at, all_moves}

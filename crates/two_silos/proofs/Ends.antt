@@ -6,15 +6,15 @@ use Rattle.two_silos.specs.Nodes.{Ask, Decision, Done, GrainId, NodeEntry, Packe
 use Rattle.silo_nodes.specs.Packets.{Member}
 use Rattle.silo_nodes.specs.Logs.{is_prepared, is_done, moved_by}
 use Rattle.silo_nodes.specs.Node.{is_balance, can_prepare, log_prepare, log_decision}
-use Rattle.silo_nodes.specs.Cached.{Node, opening_in}
+use Rattle.silo_nodes.specs.LogCache.{Node, opening_in}
 use Rattle.silo_nodes.specs.Participants.{learned, answers, questions}
 use Rattle.silo_nodes.specs.Coordinators.{parts_from}
 use Rattle.silo_nodes.proofs.Lists.{Member-left}
 use Rattle.two_silos.specs.World.{World, WorldEvent, Start, Deliver, NudgeCoordinator, Nudge, RestartCoordinator, Restart, node_at, log_at, opening_at, can_start, next_txn, started, send, delivered, handed, does, is_within, step, run, begin, parts_in}
 use Rattle.two_silos.specs.Promise.{IsOpening, DecisionsAreKept, CommitsArePrepared, BalanceFollows}
 use Rattle.two_silos.proofs.Invariant.{Inv, set-at}
-use Rattle.two_silos.proofs.Small.{opening_of}
-use Rattle.two_silos.proofs.Kept.{kept}
+use Rattle.two_silos.proofs.SmallChanges.{opening_of}
+use Rattle.two_silos.proofs.KeptInvariant.{kept}
 
 -- logs only grow
 abbrev pub LogsGrow : World → World → Type 0

@@ -6,8 +6,8 @@ use Rattle.std.proofs.lemmas.List.{get_or-set_same, get_or-set_other, set-get_or
 use Rattle.two_silos.specs.Nodes.{Ask, Decision, Done, GrainId, NodeEntry, Packet, Part, Pending, Prepare, Prepared, Shift, TxnId, Vote}
 use Rattle.silo_nodes.specs.Packets.{same_txn, is_apart, Member, Distinct}
 use Rattle.silo_nodes.specs.Logs.{moved}
-use Rattle.silo_nodes.specs.Cached.{Node}
-use Rattle.silo_nodes.specs.Sound.{Sound}
+use Rattle.silo_nodes.specs.LogCache.{Node}
+use Rattle.silo_nodes.specs.SoundLog.{Sound}
 use Rattle.silo_nodes.proofs.Lists.{same_txn-true, same_txn-false, Member-left, Member-one}
 use Rattle.two_silos.specs.World.{World, node_at, log_at, opening_at, nobody, put_txn}
 use Rattle.two_silos.specs.Promise.{in_order, OrderAgrees}

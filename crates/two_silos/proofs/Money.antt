@@ -5,20 +5,20 @@ use Rattle.std.proofs.lemmas.Bool.{cond_both, and_parts, ltb-true}
 use Rattle.std.proofs.lemmas.List.{length-set}
 use Rattle.two_silos.specs.Nodes.{Ask, Decision, GrainId, Packet, Part, Prepare, Shift, TxnId, Vote}
 use Rattle.silo_nodes.specs.Packets.{all, is_ascending, Member}
-use Rattle.silo_nodes.specs.Cached.{opening_in}
+use Rattle.silo_nodes.specs.LogCache.{opening_in}
 use Rattle.silo_nodes.specs.Participants.{learned, answers, questions}
 use Rattle.silo_nodes.specs.Coordinators.{parts_from}
 use Rattle.silo_nodes.proofs.Lists.{Member-get, all-true}
 use Rattle.two_silos.specs.World.{World, WorldEvent, Start, Deliver, NudgeCoordinator, Nudge, RestartCoordinator, Restart, node_at, nobody, nodes_from, opening_at, balance_in, balance_of, put_txn, is_part, can_start, next_txn, started, handed, send, delivered, does, is_within, step, run, begin, parts_with, parts_after, parts_in}
 use Rattle.two_silos.specs.Promise.{IsOpening, IsQuietWorld, QuietIsWhole, part_at, all_moves}
 use Rattle.two_silos.specs.Summaries.{or_zero}
-use Rattle.two_silos.specs.Money.{held_at, held_from, opened, all_opened, is_once, AreOnce, parts_amount, txns_amount, IsPayment, ArePayments, IsStill}
+use Rattle.two_silos.specs.Money.{held_at, held_from, opened, all_opened, is_once, AreOnce, parts_amount, txns_amount, IsPayment, ArePayments, NobodyWaits}
 use Rattle.two_silos.proofs.Totals.{zero-plus}
 use Rattle.two_silos.proofs.Order.{part-cases}
 use Rattle.two_silos.proofs.Invariant.{Inv, txn-at}
-use Rattle.two_silos.proofs.Small.{opening_of, inv-begin}
-use Rattle.two_silos.proofs.Kept.{kept, kept-step}
-use Rattle.two_silos.proofs.Whole.{whole-ends}
+use Rattle.two_silos.proofs.SmallChanges.{opening_of, inv-begin}
+use Rattle.two_silos.proofs.KeptInvariant.{kept, kept-step}
+use Rattle.two_silos.proofs.FinishedNodes.{whole-ends}
 use Rattle.two_silos.proofs.Amounts.{plus-zero, four, has_in, once-in, moves_all, amounts_at, moves-amounts, Ascends, from-ascends, over-all, txns_over, over-none, over-more, parts-lists, txns-none}
 
 -- ---- one participant
@@ -56,7 +56,7 @@ node-held w parts n os whole quiet p =
 
 -- ---- all of them
 
-held-all : (w : World) (parts : TxnId → List Part) → QuietIsWhole parts w → IsStill w → (n : ℕ) (os : List (List (GrainId × ℤ))) →
+held-all : (w : World) (parts : TxnId → List Part) → QuietIsWhole parts w → NobodyWaits w → (n : ℕ) (os : List (List (GrainId × ℤ))) →
     ((k : ℕ) → k < length os → Place w parts (n + k) (get_or os k [])) → held_from w n os ≡ all_opened os +ℤ txns_over parts n os w.coordinator.commits
 held-all w parts whole still n [] h = sym (zero-plus (txns_over parts n [] w.coordinator.commits) ∙ over-none parts n w.coordinator.commits)
 held-all w parts whole still n (o ∷ os) h =
@@ -171,11 +171,11 @@ txns-all openings parts fits (t ∷ ts) = (λ i. over-all 0 openings (parts t) (
     within : (q : Part) → Member q (parts t) → q.node < 0 + length openings
     within q m = (let low = ((fits t).1 q m).0 in omega (arith, low))
 
-pub moved-ends : (openings : List (List (GrainId × ℤ))) (es : List WorldEvent) → IsOpening openings → AreOnce openings → IsStill (run (begin openings) es) →
+pub moved-ends : (openings : List (List (GrainId × ℤ))) (es : List WorldEvent) → IsOpening openings → AreOnce openings → NobodyWaits (run (begin openings) es) →
     held_from (run (begin openings) es) 0 openings ≡ all_opened openings +ℤ txns_amount (parts_in openings es) (run (begin openings) es).coordinator.commits
 moved-ends openings es o once still = go (parts_in openings es) (run (begin openings) es) (kept openings es o) (whole-ends openings es o) still (fits-ends openings es o) (run-length es (begin openings) ∙ begin-length openings)
   where
-    go : (parts : TxnId → List Part) (w : World) → Inv (opening_of openings) parts w → QuietIsWhole parts w → IsStill w → ((t : TxnId) → Fits openings (parts t)) → length w.nodes ≡ length openings →
+    go : (parts : TxnId → List Part) (w : World) → Inv (opening_of openings) parts w → QuietIsWhole parts w → NobodyWaits w → ((t : TxnId) → Fits openings (parts t)) → length w.nodes ≡ length openings →
         held_from w 0 openings ≡ all_opened openings +ℤ txns_amount parts w.coordinator.commits
     go parts w i whole still fits long =
         held-all w parts whole still 0 openings place ∙ ap (λ z. all_opened openings +ℤ z) (txns-all openings parts fits w.coordinator.commits)
@@ -209,7 +209,7 @@ pays-run (e ∷ es) parts w pay h = pays-run es (parts_with parts w e) (step w e
     new RestartCoordinator p = tt
     new (Restart n) p = tt
 
-pub stays-ends : (openings : List (List (GrainId × ℤ))) (es : List WorldEvent) → IsOpening openings → AreOnce openings → ArePayments es → IsStill (run (begin openings) es) →
+pub stays-ends : (openings : List (List (GrainId × ℤ))) (es : List WorldEvent) → IsOpening openings → AreOnce openings → ArePayments es → NobodyWaits (run (begin openings) es) →
     held_from (run (begin openings) es) 0 openings ≡ all_opened openings
 stays-ends openings es o once pay still =
     moved-ends openings es o once still

@@ -5,7 +5,7 @@ use Rattle.std.proofs.lemmas.Bool.{cond_both, cases_Bool, eqb-false}
 use Rattle.two_silos.specs.Nodes.{Done, GrainId, NodeEntry, Part, Prepared, Shift, TxnId}
 use Rattle.silo_nodes.specs.Packets.{touches, Member}
 use Rattle.silo_nodes.specs.Logs.{ends, is_done}
-use Rattle.silo_nodes.specs.Sound.{Sound}
+use Rattle.silo_nodes.specs.SoundLog.{Sound}
 use Rattle.two_silos.specs.Promise.{part_at, done_commits, moves_at}
 use Rattle.silo_nodes.proofs.Lists.{same_txn-not, clash, any-last, Member-append, Member-last, filter-member}
 use Rattle.silo_nodes.proofs.Logs.{done-is}

@@ -5,7 +5,7 @@ use Rattle.std.proofs.lemmas.Int.{ints}
 use mir.Val.{SFits}
 use mir.Syntax.{w128}
 use Rattle.two_silos.specs.World.{World, balance_in}
-use Rattle.two_silos.specs.Generated.{account}
+use Rattle.two_silos.specs.GeneratedEvents.{account}
 use Rattle.two_silos.specs.Summaries.{or_zero, sum_from}
 
 -- a balance fits

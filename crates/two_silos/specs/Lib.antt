@@ -2,7 +2,7 @@ pub mod Nodes
 pub mod World
 pub mod Links
 pub mod Promise
-pub mod Generated
+pub mod GeneratedEvents
 pub mod Summaries
 pub mod Money
-pub mod Later
+pub mod LaterWorlds

@@ -2,7 +2,7 @@
 use Rattle.std.specs.Prelude.{◌≡◌, ◌+◌, List, [], ◌∷◌, ◌++◌, ◌&&◌, Bool, true, nat_le, if◌then◌else◌, length, Option, Some, None}
 use Rattle.two_silos.specs.Nodes.{GrainId, Packet, Part, Shift}
 use Rattle.silo_nodes.specs.Packets.{is_before, is_ascending}
-use Rattle.silo_nodes.specs.Cached.{Node}
+use Rattle.silo_nodes.specs.LogCache.{Node}
 use Rattle.silo_nodes.specs.Coordinators.{Coordination, heard, replies, begun, next_of, prepare_each}
 use Rattle.silo_nodes.specs.Participants.{learned, answers}
 
@@ -15,7 +15,7 @@ abbrev pub sent_on : List Packet → List Packet → List Packet
 sent_on ps sent = if has_room ps sent then ps ++ sent else ps
 
 -- the coordinator has heard the packet and its replies are sent, or nothing is
-pub record Told (c : Coordination) (ps : List Packet) (k : Packet) (c' : Coordination) (ps' : List Packet) : Type 0 where
+pub record HasHeard (c : Coordination) (ps : List Packet) (k : Packet) (c' : Coordination) (ps' : List Packet) : Type 0 where
   pub coordinator : c' ≡ (if has_room ps (replies c k) then heard c k else c)
   pub packets : ps' ≡ sent_on ps (replies c k)
 

@@ -2,7 +2,7 @@
 use Rattle.std.specs.Prelude.{◌≡◌, ℕ, ◌+◌, List, [], ◌∷◌, Bool, true, ◌&&◌, not, is_some, ℤ, pos, ◌+ℤ◌, ⊤}
 use Rattle.two_silos.specs.Nodes.{GrainId, Part, Shift, TxnId}
 use Rattle.silo_nodes.specs.Packets.{all}
-use Rattle.silo_nodes.specs.Cached.{opening_in}
+use Rattle.silo_nodes.specs.LogCache.{opening_in}
 use Rattle.two_silos.specs.World.{World, WorldEvent, Start, Deliver, NudgeCoordinator, Nudge, RestartCoordinator, Restart, balance_in}
 use Rattle.two_silos.specs.Promise.{IsQuietWorld}
 use Rattle.two_silos.specs.Summaries.{or_zero}
@@ -71,5 +71,5 @@ ArePayments [] = ⊤
 ArePayments (e ∷ es) = IsPayment e × ArePayments es
 
 -- no participant waits for a decision
-abbrev pub IsStill : World → Type 0
-IsStill w = (n : ℕ) → IsQuietWorld w n
+abbrev pub NobodyWaits : World → Type 0
+NobodyWaits w = (n : ℕ) → IsQuietWorld w n

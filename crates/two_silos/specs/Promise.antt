@@ -11,6 +11,7 @@ use Rattle.two_silos.specs.World.{World, next_txn, log_at, opening_at}
 abbrev pub commit_moves : GrainId → List NodeEntry → TxnId → ℤ
 commit_moves g log t = if is_committed log t then delta g (shifts_of t log) else pos 0
 
+-- by how much these transactions move a grain of this log, added up in their order
 abbrev pub in_order : GrainId → List NodeEntry → List TxnId → ℤ
 in_order g log [] = pos 0
 in_order g log (t ∷ ts) = commit_moves g log t +ℤ in_order g log ts

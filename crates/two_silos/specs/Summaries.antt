@@ -3,7 +3,7 @@ use Rattle.std.specs.Prelude.{ℕ, zero, suc, ◌+◌, ◌-◌, ◌%◌, length,
 use Rattle.std.specs.Fmt.{signed_decimal}
 use Rattle.silo_nodes.specs.Logs.{undecided}
 use Rattle.two_silos.specs.World.{World, balance_in, node_at}
-use Rattle.two_silos.specs.Generated.{account}
+use Rattle.two_silos.specs.GeneratedEvents.{account}
 pub use Rattle.two_silos.specs.declared.summary.Summary.{Summary}
 
 -- a balance, 0 where the grain isn't there

@@ -4,7 +4,7 @@ pub use Rattle.two_silos.specs.Nodes.{Ask, Decision, GrainId, NodeEntry, Packet,
 use Rattle.silo_nodes.specs.Packets.{all, same_txn, is_ascending}
 use Rattle.silo_nodes.specs.Logs.{balance}
 use Rattle.silo_nodes.specs.Node.{is_balance}
-use Rattle.silo_nodes.specs.Cached.{Node, opening_in}
+use Rattle.silo_nodes.specs.LogCache.{Node, opening_in}
 use Rattle.silo_nodes.specs.Participants.{learned, answers, questions}
 pub use Rattle.silo_nodes.specs.Coordinators.{Coordination}
 use Rattle.silo_nodes.specs.Coordinators.{idle, next_of, parts_from, prepare_each, begun, heard, replies, reminders, restarted}
@@ -147,6 +147,7 @@ abbrev pub balance_of : Option Node → GrainId → Option ℤ
 balance_of None g = None
 balance_of (Some x) g = balance (opening_in x.opening) x.log g
 
+-- the balance of a grain at the node of this number
 abbrev pub balance_in : List Node → ℕ → GrainId → Option ℤ
 balance_in nodes n g = balance_of (slice_get nodes n) g
 

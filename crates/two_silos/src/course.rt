@@ -1,6 +1,6 @@
 ghost use Rattle.std.specs.Prelude.{◌≡◌, ◌<◌, None, length, OnOk, IfOk};
 ghost use Rattle.two_silos.specs.World.{begin};
-ghost use Rattle.two_silos.specs.Generated.{times, drawn, draw, bank, start, deliver_recent, happen_or_deliver, pick, round};
+ghost use Rattle.two_silos.specs.GeneratedEvents.{times, drawn, draw, bank, start, deliver_recent, happen_or_deliver, pick, round};
 
 use crate::draws::{bank, drawn, next_number, other_than, pay, picked};
 use crate::events::WorldEvent;

@@ -1,6 +1,6 @@
 ghost use Rattle.std.specs.Prelude.{◌≡◌, ◌++◌, ◌%◌, ◌<◌, ◌==◌, ◌∷◌, [], if◌then◌else◌, IfOk, OnOk, FitsSigned, neg_ℤ};
 ghost use Rattle.two_silos.specs.World.{WorldEvent};
-ghost use Rattle.two_silos.specs.Generated.{next_number, drawn, account, accounts, bank, other_than, payment, shifts_at, pay, picked};
+ghost use Rattle.two_silos.specs.GeneratedEvents.{next_number, drawn, account, accounts, bank, other_than, payment, shifts_at, pay, picked};
 ghost use mir.Syntax.{w64};
 
 use crate::events::WorldEvent;

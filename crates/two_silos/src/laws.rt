@@ -2,13 +2,13 @@ ghost use Rattle.std.specs.Prelude.{◌≡◌, ◌++◌, ◌∷◌, ◌+ℤ◌, 
 ghost use Rattle.two_silos.specs.Nodes.{Decision, Done, GrainId, NodeEntry, Part, Shift, TxnId};
 ghost use Rattle.silo_nodes.specs.Packets.{Member, Distinct};
 ghost use Rattle.silo_nodes.specs.Node.{is_busy};
-ghost use Rattle.silo_nodes.specs.Cached.{opening_in};
+ghost use Rattle.silo_nodes.specs.LogCache.{opening_in};
 ghost use Rattle.silo_nodes.specs.Coordinators.{parts_from};
 ghost use Rattle.two_silos.specs.World.{World, WorldEvent, Start, log_at, opening_at, begin, run, can_start, is_within, does, next_txn, parts_after, parts_in};
 ghost use Rattle.two_silos.specs.Promise.{IsOpening, DecisionsAreKept, CommitsArePrepared, BalanceFollows, NoIsExact, NumberIsNew, QuietIsWhole, OrderAgrees};
-ghost use Rattle.two_silos.specs.Later.{IsLater, KeepsPart, given_in};
-ghost use Rattle.two_silos.specs.Money.{AreOnce, ArePayments, IsStill, all_opened, held_from, txns_amount};
-ghost use Rattle.two_silos.specs.Generated.{checked};
+ghost use Rattle.two_silos.specs.LaterWorlds.{IsLater, KeepsPart, given_in};
+ghost use Rattle.two_silos.specs.Money.{AreOnce, ArePayments, NobodyWaits, all_opened, held_from, txns_amount};
+ghost use Rattle.two_silos.specs.GeneratedEvents.{checked};
 ghost use Rattle.two_silos.specs.Summaries.{summary_of};
 
 /// What is done as committed is a commit of the coordinator's. What is done as aborted is none, then or later. A
@@ -80,8 +80,8 @@ pub fn grains_are_kept_by_prepared()
 /// ones and all that the coordinator's commits move; and where each start takes as much from grains as it gives to others, they
 /// are the opening ones.
 pub fn money_stays()
-    ensures moved { (openings : List (List (GrainId × ℤ))) (es : List WorldEvent) → IsOpening openings → AreOnce openings → IsStill (run (begin openings) es) → held_from (run (begin openings) es) 0 openings ≡ all_opened openings +ℤ txns_amount (parts_in openings es) (run (begin openings) es).coordinator.commits }
-    ensures stays { (openings : List (List (GrainId × ℤ))) (es : List WorldEvent) → IsOpening openings → AreOnce openings → ArePayments es → IsStill (run (begin openings) es) → held_from (run (begin openings) es) 0 openings ≡ all_opened openings }
+    ensures moved { (openings : List (List (GrainId × ℤ))) (es : List WorldEvent) → IsOpening openings → AreOnce openings → NobodyWaits (run (begin openings) es) → held_from (run (begin openings) es) 0 openings ≡ all_opened openings +ℤ txns_amount (parts_in openings es) (run (begin openings) es).coordinator.commits }
+    ensures stays { (openings : List (List (GrainId × ℤ))) (es : List WorldEvent) → IsOpening openings → AreOnce openings → ArePayments es → NobodyWaits (run (begin openings) es) → held_from (run (begin openings) es) 0 openings ≡ all_opened openings }
 {}
 
 /// A check moves money between its accounts, and makes and loses none: where it leaves nothing undecided, whatever its starts and

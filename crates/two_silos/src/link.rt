@@ -1,6 +1,6 @@
 ghost use Rattle.std.specs.Prelude.{◌≡◌, ◌≤◌, ◌+◌, ◌++◌, length, OnOk, OnErr, vec_len, vec_capacity};
 ghost use Rattle.silo_nodes.specs.Participants.{IsApart};
-ghost use Rattle.two_silos.specs.Links.{has_room, sent_on, Told, Handed, Begun};
+ghost use Rattle.two_silos.specs.Links.{has_room, sent_on, HasHeard, Handed, Begun};
 
 use base_types::List;
 use silo_nodes::{Coordinator, Packet, Part, Participant};
@@ -51,7 +51,7 @@ pub fn tell(
     packets: &mut Vec<Packet>,
     packet: &Packet,
 ) -> Result<(), AllocError>
-    ensures ok { OnOk result (Told coordinator.old packets.old.items packet.now coordinator.new packets.new.items) }
+    ensures ok { OnOk result (HasHeard coordinator.old packets.old.items packet.now coordinator.new packets.new.items) }
     ensures kept { OnErr result ((coordinator.new ≡ coordinator.old) × (packets.new.items ≡ packets.old.items)) }
 {
     let sent = coordinator.replies(packet)?;

@@ -1,7 +1,7 @@
 ghost use Rattle.std.specs.Prelude.{◌≡◌, is_some};
 ghost use Rattle.std.specs.List.{list_all};
 ghost use Rattle.silo_nodes.specs.Packets.{is_before, is_ascending};
-ghost use Rattle.silo_nodes.specs.Cached.{opening_in};
+ghost use Rattle.silo_nodes.specs.LogCache.{opening_in};
 ghost use Rattle.two_silos.specs.World.{is_part, has_grain};
 ghost use Rattle.two_silos.specs.Links.{follows};
 

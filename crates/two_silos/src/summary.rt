@@ -1,6 +1,6 @@
 ghost use Rattle.std.specs.Prelude.{◌≡◌, ◌+◌, ◌%◌, ◌^◌, ◌≤ℤ◌, pos, neg_ℤ, string_bytes, IfOk, OnOk};
 ghost use Rattle.two_silos.specs.World.{balance_in};
-ghost use Rattle.two_silos.specs.Generated.{account, times, pass, nudge_all, finish, checked};
+ghost use Rattle.two_silos.specs.GeneratedEvents.{account, times, pass, nudge_all, finish, checked};
 ghost use Rattle.two_silos.specs.Summaries.{or_zero, sum_from, waiting, summary_of, line_of};
 
 use crate::course::Course;

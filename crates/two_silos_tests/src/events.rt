@@ -1,5 +1,5 @@
 use crate::openings::{PAYMENT, TWICE, account, openings, parts};
-use crate::plain::Move;
+use crate::plain_model::Move;
 use silo_nodes::NodeEntry;
 use std::alloc::{AllocError, Global};
 use std::test::Fail;

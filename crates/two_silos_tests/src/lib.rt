@@ -9,6 +9,6 @@ mod nodes;
 #[cfg(test)]
 mod openings;
 #[cfg(test)]
-mod plain;
+mod plain_model;
 #[cfg(test)]
-mod random;
+mod random_runs;

@@ -3,7 +3,7 @@ ghost use Rattle.two_silos.specs.World.{IsOpening};
 ghost use Rattle.silo_nodes.specs.Participants.{IsApart};
 ghost use Rattle.two_silos_tests.specs.Openings.{three};
 
-use crate::plain::Move;
+use crate::plain_model::Move;
 use base_types::{GrainId, List};
 use silo_nodes::{Packet, Participant, Shift, TxnId};
 use std::alloc::{AllocError, Global};

@@ -8,15 +8,15 @@ use Rattle.script_tree.specs.Programs.{ProgramTree}
 use Rattle.script_meaning.specs.Requests.{End}
 use Rattle.script_meaning.specs.Play.{Played, asks, play_over}
 use Rattle.script_meaning.specs.Trails.{Given, answers_of, exclusive_in, reads_of, states_of, Has, IsShown}
-use Rattle.script_meaning.proofs.Once.{trails_read_once_lem}
+use Rattle.script_meaning.proofs.SingleReads.{trails_read_once_lem}
 use Rattle.script_meaning.proofs.Plays.{next_is_play_lem}
 use Rattle.script_machine.specs.declared.machine.Parts.{Parts}
 use Rattle.script_machine.specs.Machines.{FollowsTrail, IsPartsOf, holding_of, reads_in, rest}
-use Rattle.promise_spec.specs.Serial.{depth_of}
+use Rattle.promise_spec.specs.SerialExecution.{depth_of}
 use Rattle.promise_spec.specs.UnitRule.{played_by}
 use Rattle.txn_agent.specs.declared.work.Carried.{Carried}
 use Rattle.txn_agent.specs.declared.work.Work.{Work}
-use Rattle.txn_agent.specs.Working.{IsEffectOf, found_by, source_of}
+use Rattle.txn_agent.specs.MachineState.{IsEffectOf, found_by, source_of}
 use Rattle.txn_agent.proofs.Trails.{asked-answered, next-own}
 
 module _ (types : ProgramTree) (c : Carried) (work : Work) (trail : List Given) (follows : FollowsTrail types work.call (depth_of c.origin) work.machine trail) where

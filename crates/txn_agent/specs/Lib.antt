@@ -1,5 +1,5 @@
 pub mod Replies
-pub mod Working
-pub mod Linked
-pub mod Stepping
-pub mod Movable
+pub mod MachineState
+pub mod CoreLink
+pub mod AgentStep
+pub mod ShownMoves

@@ -1,11 +1,11 @@
 ghost use Rattle.std.specs.Prelude.{◌≡◌, IfOk, IsOk};
 ghost use Rattle.core_access.specs.Sights.{Sight, Counts, Looks};
 ghost use Rattle.script_tree.specs.Programs.{ProgramTree, program_tree};
-ghost use Rattle.promise_spec.specs.Serial.{depth_of as depth_in};
-ghost use Rattle.txn_agent.specs.Linked.{IfOwn, IsNew, Knows};
+ghost use Rattle.promise_spec.specs.SerialExecution.{depth_of as depth_in};
+ghost use Rattle.txn_agent.specs.CoreLink.{IfOwn, IsNew, Knows};
 ghost use Rattle.promise_spec.specs.TurnRule.{is_line};
-ghost use Rattle.txn_agent.specs.Stepping.{Acts, AnswerSays, Hears, children_of, has_freed_all, is_freeing};
-ghost use Rattle.txn_agent.specs.Movable.{ShowsMove};
+ghost use Rattle.txn_agent.specs.AgentStep.{Acts, AnswerSays, Hears, children_of, has_freed_all, is_freeing};
+ghost use Rattle.txn_agent.specs.ShownMoves.{ShowsMove};
 
 use crate::steps::{hear_child, moves_now, step};
 use crate::work::{Carried, Doing, Work};

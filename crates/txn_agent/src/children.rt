@@ -2,8 +2,8 @@ ghost use Rattle.std.specs.Prelude.{◌≡◌, IfOk};
 ghost use Rattle.core_access.specs.Sights.{Counts, Looks};
 ghost use Rattle.script_tree.specs.Programs.{program_tree};
 ghost use Rattle.script_machine.specs.declared.machine.Pause.TheVariants.{NeedUnit as NeedsUnit};
-ghost use Rattle.txn_agent.specs.Linked.{KnowsPaused, KnowsWaiting, KnowsDoing};
-ghost use Rattle.txn_agent.specs.Stepping.{Acts, AnswerSays, Hears, children_of};
+ghost use Rattle.txn_agent.specs.CoreLink.{KnowsPaused, KnowsWaiting, KnowsDoing};
+ghost use Rattle.txn_agent.specs.AgentStep.{Acts, AnswerSays, Hears, children_of};
 
 use crate::agent::Advanced;
 use crate::looks::known_of;

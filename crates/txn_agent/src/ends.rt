@@ -6,11 +6,11 @@ ghost use Rattle.script_tree.specs.Programs.{ProgramTree, program_tree};
 ghost use Rattle.script_meaning.specs.Trails.{Given};
 ghost use Rattle.script_machine.specs.Machines.{FollowsTrail, HasRoomForParts, is_over, reads_in};
 ghost use Rattle.script_machine.specs.declared.machine.Pause.TheVariants.{Done as IsAtEnd};
-ghost use Rattle.promise_spec.specs.Serial.{depth_of};
+ghost use Rattle.promise_spec.specs.SerialExecution.{depth_of};
 ghost use Rattle.txn_agent.specs.declared.work.Doing.TheVariants.{Frees as FreesAll};
-ghost use Rattle.txn_agent.specs.Working.{IsEffectOf, found_by, source_of};
-ghost use Rattle.txn_agent.specs.Linked.{KnowsPaused, KnowsDoing};
-ghost use Rattle.txn_agent.specs.Stepping.{Acts, AnswerSays, all_but};
+ghost use Rattle.txn_agent.specs.MachineState.{IsEffectOf, found_by, source_of};
+ghost use Rattle.txn_agent.specs.CoreLink.{KnowsPaused, KnowsDoing};
+ghost use Rattle.txn_agent.specs.AgentStep.{Acts, AnswerSays, all_but};
 
 use crate::agent::Advanced;
 use crate::puts::{put_end, put_finish, put_release};

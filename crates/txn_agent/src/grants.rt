@@ -1,13 +1,13 @@
 ghost use Rattle.std.specs.Prelude.{◌≡◌, IfOk, false, true};
 ghost use Rattle.core_model.specs.declared.questions.AskAnswer.TheVariants.{Free as IsFree};
-ghost use Rattle.core_model.specs.Legal.{ends};
+ghost use Rattle.core_model.specs.LegalRuns.{ends};
 ghost use Rattle.core_model.specs.Tests.{ask_answer};
 ghost use Rattle.core_access.specs.Sights.{run_seen, Counts};
 ghost use Rattle.script_tree.specs.Programs.{program_tree};
 ghost use Rattle.script_machine.specs.Machines.{asks_raise, rest};
 ghost use Rattle.script_machine.specs.declared.machine.Pause.TheVariants.{NeedGrain};
-ghost use Rattle.txn_agent.specs.Linked.{KnowsPaused, KnowsDoing};
-ghost use Rattle.txn_agent.specs.Stepping.{Acts, AnswerSays};
+ghost use Rattle.txn_agent.specs.CoreLink.{KnowsPaused, KnowsDoing};
+ghost use Rattle.txn_agent.specs.AgentStep.{Acts, AnswerSays};
 
 use crate::agent::Advanced;
 use crate::puts::put_grant;

@@ -1,26 +1,26 @@
 ghost use Rattle.std.specs.Prelude.{◌≡◌, ℕ, Bool, true, false, length, None};
-ghost use Rattle.core_model.specs.Asked.{IsGoing};
+ghost use Rattle.core_model.specs.LockAnswers.{IsGoing};
 ghost use Rattle.core_model.specs.CoreState.{UnitNo as AUnit, Call as ACall};
 ghost use Rattle.core_model.specs.declared.events.CoreEvent.{CoreEvent as AnEvent};
 ghost use Rattle.core_model.specs.declared.events.CoreEvent.TheVariants.{Begin};
 ghost use Rattle.core_model.specs.declared.events.CoreReply.{CoreReply as AReply};
 ghost use Rattle.core_model.specs.declared.events.CoreReply.TheVariants.{Began};
-ghost use Rattle.core_model.specs.Legal.{ends};
+ghost use Rattle.core_model.specs.LegalRuns.{ends};
 ghost use Rattle.core_access.specs.OneHolder.{none_comes};
-ghost use Rattle.core_access.specs.Settling.{is_settling};
+ghost use Rattle.core_access.specs.SettlerEvents.{is_settling};
 ghost use Rattle.core_access.specs.Sights.{Sight, run_seen, Looks, Tells, Counts, IsAlone};
 ghost use Rattle.script_tree.specs.Programs.{ProgramTree};
 ghost use Rattle.script_meaning.specs.Play.{IsTransaction};
-ghost use Rattle.promise_spec.specs.Gotten.{got_in};
+ghost use Rattle.promise_spec.specs.UnitAnswers.{got_in};
 ghost use Rattle.promise_spec.specs.TurnRule.{can_move};
 ghost use Rattle.promise_spec.specs.UnitRule.{Basis, KeepsUnitRule};
-ghost use Rattle.worker_rules.specs.Sharing.{leaves_unit, BeganHere, KeepsPromise};
-ghost use Rattle.worker_rules.specs.Stories.{NoneLoads};
+ghost use Rattle.worker_rules.specs.UnitOwnership.{leaves_unit, BeganHere, KeepsPromise};
+ghost use Rattle.worker_rules.specs.SharedHistories.{NoneLoads};
 ghost use Rattle.txn_agent.specs.declared.agent.Advanced.{Advanced as AnAnswer};
 ghost use Rattle.txn_agent.specs.declared.agent.Agent.{Agent as AnAgent};
 ghost use Rattle.txn_agent.specs.declared.work.Carried.{Carried as AUnitAsBegun};
-ghost use Rattle.txn_agent.specs.Linked.{IfOwn, IsNew, IsLegalRun, Knows};
-ghost use Rattle.txn_agent.specs.Stepping.{Acts, GoesByEvent, AnswerSays, is_move};
+ghost use Rattle.txn_agent.specs.CoreLink.{IfOwn, IsNew, IsLegalRun, Knows};
+ghost use Rattle.txn_agent.specs.AgentStep.{Acts, GoesByEvent, AnswerSays, is_move};
 
 /// A unit that began by an event that was put through an access has nothing by then but its call, if nobody else made an event
 /// of it: so it can be carried. No grain was loaded, and what makes no transaction is begun as a plain run.

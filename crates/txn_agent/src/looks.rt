@@ -1,6 +1,6 @@
 ghost use Rattle.std.specs.Prelude.{◌≡◌, IfOk, IsOk};
 ghost use Rattle.core_model.specs.Answers.{known};
-ghost use Rattle.core_model.specs.Legal.{ends};
+ghost use Rattle.core_model.specs.LegalRuns.{ends};
 ghost use Rattle.core_model.specs.Tests.{ask_answer, is_decided as decided, outcome_of};
 ghost use Rattle.core_access.specs.Sights.{run_seen, Looks};
 

@@ -1,7 +1,7 @@
 ghost use Rattle.std.specs.Prelude.{◌≡◌, false, IfOk, IfErr};
 ghost use Rattle.core_model.specs.declared.events.CoreEvent.TheVariants as event;
 ghost use Rattle.core_access.specs.Sights.{Looks, Tells, run_seen};
-ghost use Rattle.core_access.specs.Spared.{is_spared};
+ghost use Rattle.core_access.specs.CallsWithoutMemory.{is_spared};
 ghost use Rattle.txn_agent.specs.Replies.{Says, began_by, granted_by, is_done};
 
 use base_types::{Call, GrainId, Mode, Origin, State, UnitNo};

@@ -2,9 +2,9 @@ ghost use Rattle.std.specs.Prelude.{◌≡◌, IfOk, IsOk};
 ghost use Rattle.core_access.specs.Sights.{Counts, Looks};
 ghost use Rattle.script_tree.specs.Programs.{ProgramTree, program_tree};
 ghost use Rattle.promise_spec.specs.TurnRule.{is_wait};
-ghost use Rattle.txn_agent.specs.Linked.{IfOwn, KnowsPaused, KnowsDoing};
-ghost use Rattle.txn_agent.specs.Stepping.{Acts, AnswerSays, Hears, children_of};
-ghost use Rattle.txn_agent.specs.Movable.{ShowsMove};
+ghost use Rattle.txn_agent.specs.CoreLink.{IfOwn, KnowsPaused, KnowsDoing};
+ghost use Rattle.txn_agent.specs.AgentStep.{Acts, AnswerSays, Hears, children_of};
+ghost use Rattle.txn_agent.specs.ShownMoves.{ShowsMove};
 
 use crate::agent::Advanced;
 use crate::children::{begin_child, hear};

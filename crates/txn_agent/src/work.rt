@@ -1,7 +1,7 @@
 ghost use Rattle.std.specs.Prelude.{◌≡◌, [], ◌∷◌, ◌++◌, IfOk, OnOk};
 ghost use Rattle.script_tree.specs.Programs.{program_tree};
 ghost use Rattle.script_machine.specs.Machines.{Fits};
-ghost use Rattle.txn_agent.specs.Working.{HasResumed};
+ghost use Rattle.txn_agent.specs.MachineState.{HasResumed};
 
 use base_types::{Call, GrainId, List, Origin, UnitNo};
 use script_check::Checked;

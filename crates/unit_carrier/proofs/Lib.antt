@@ -1,8 +1,8 @@
 pub mod Origins
-pub mod Known
-pub mod Finding
-pub mod Heard
-pub mod Freed
+pub mod CarriedUnits
+pub mod MoverSearch
+pub mod HeardChildren
+pub mod FreedUnits
 pub mod Places
 pub mod Movers
-pub mod Beginning
+pub mod LineUnit

@@ -4,16 +4,16 @@ use Rattle.std.specs.Prelude.{if◌then◌else◌, slice_get}
 use Rattle.std.proofs.lemmas.List.{length-map, take_all}
 use Rattle.std.proofs.lemmas.Bool.{cases_lt}
 use Rattle.core_model.specs.CoreState.{UnitNo}
-use Rattle.core_model.specs.Asked.{IsGoing}
+use Rattle.core_model.specs.LockAnswers.{IsGoing}
 use Rattle.core_access.specs.Sights.{Sight, run_seen}
-use Rattle.core_model.specs.Legal.{Run, ends}
+use Rattle.core_model.specs.LegalRuns.{Run, ends}
 use Rattle.script_tree.specs.Programs.{ProgramTree}
-use Rattle.promise_spec.specs.Gotten.{got_in}
+use Rattle.promise_spec.specs.UnitAnswers.{got_in}
 use Rattle.promise_spec.specs.TurnRule.{can_move}
 use Rattle.txn_agent.specs.declared.agent.Agent.{Agent}
 use Rattle.unit_carrier.specs.declared.agents.Found.TheVariants.{At, Few}
-use Rattle.unit_carrier.specs.Carrying.{FindsMover, FindsWithin, moving, as_carried, units_carried}
-use Rattle.unit_carrier.proofs.Finding.{one-more, stands-at, map-at}
+use Rattle.unit_carrier.specs.CarriedUnits.{FindsMover, FindsWithin, moving, as_carried, units_carried}
+use Rattle.unit_carrier.proofs.MoverSearch.{one-more, stands-at, map-at}
 use Rattle.unit_carrier.proofs.Places.{units-same}
 
 -- the unit at an index, by what was carried there first

@@ -11,7 +11,7 @@ use Rattle.cell_model.proofs.Units.{Member-append}
 use Rattle.core_model.specs.CoreState.{UnitNo, Member, CoreState, nobody}
 use Rattle.core_model.specs.Changes.{new_unit}
 use Rattle.core_model.specs.Events.{applies}
-use Rattle.core_model.specs.Legal.{Run, ends}
+use Rattle.core_model.specs.LegalRuns.{Run, ends}
 use Rattle.core_model.specs.declared.events.CoreEvent.{CoreEvent}
 use Rattle.core_model.specs.declared.events.CoreEvent.TheVariants.{Begin}
 use Rattle.core_model.specs.declared.events.CoreReply.{CoreReply}
@@ -21,23 +21,23 @@ use Rattle.core_access.proofs.Sights.{reply-alone, run-alone}
 use Rattle.core_access.specs.OneHolder.{none_comes}
 use Rattle.script_tree.specs.Programs.{ProgramTree}
 use Rattle.script_meaning.specs.Play.{IsTransaction}
-use Rattle.turn_rules.specs.Going.{is_own}
-use Rattle.turn_rules.specs.Turning.{AreOlder}
+use Rattle.turn_rules.specs.NextEvent.{is_own}
+use Rattle.turn_rules.specs.TurnLoop.{AreOlder}
 use Rattle.turn_rules.proofs.Numbers.{older-last, next-begun}
 use Rattle.turn_rules.proofs.Growth.{ends-more}
-use Rattle.worker_rules.specs.Stories.{is_load}
-use Rattle.worker_rules.proofs.Promising.{is-harmless}
+use Rattle.worker_rules.specs.SharedHistories.{is_load}
+use Rattle.worker_rules.proofs.CallPromises.{is-harmless}
 use Rattle.txn_agent.specs.declared.agent.Advanced.{Advanced}
 use Rattle.txn_agent.specs.declared.agent.Advanced.TheVariants as came
 use Rattle.txn_agent.specs.declared.agent.Agent.{Agent}
 use Rattle.txn_agent.specs.declared.work.Carried.{Carried}
-use Rattle.txn_agent.specs.Linked.{IfOwn, IsNew, Knows}
-use Rattle.txn_agent.specs.Stepping.{Acts, AnswerSays, children_of}
-use Rattle.txn_agent.proofs.Beginning.{began-reply}
-use Rattle.txn_agent.proofs.Promised.{knows-steps, knows-tells, new-carried}
-use Rattle.unit_carrier.specs.Carrying.{HasCoreAlone, AreCarried, CameAs, CarriesOneMore, StepsOn, as_carried, units_carried, unit_at, went_by, with_child}
-use Rattle.unit_carrier.proofs.Finding.{all-at, all-set, map-set, map-at}
-use Rattle.unit_carrier.proofs.Known.{acts-holds, acts-next, acts-origin, below-more, all-each, came-still, map-member, tells-holds, tells-next, tells-origin}
+use Rattle.txn_agent.specs.CoreLink.{IfOwn, IsNew, Knows}
+use Rattle.txn_agent.specs.AgentStep.{Acts, AnswerSays, children_of}
+use Rattle.txn_agent.proofs.ChildBegins.{began-reply}
+use Rattle.txn_agent.proofs.StepPromises.{knows-steps, knows-tells, new-carried}
+use Rattle.unit_carrier.specs.CarriedUnits.{HasCoreAlone, AreCarried, CameAs, CarriesOneMore, StepsOn, as_carried, units_carried, unit_at, went_by, with_child}
+use Rattle.unit_carrier.proofs.MoverSearch.{all-at, all-set, map-set, map-at}
+use Rattle.unit_carrier.proofs.CarriedUnits.{acts-holds, acts-next, acts-origin, below-more, all-each, came-still, map-member, tells-holds, tells-next, tells-origin}
 
 -- ---- units by what is carried of them
 

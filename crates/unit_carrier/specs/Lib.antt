@@ -1,2 +1,2 @@
-pub mod Carrying
+pub mod CarriedUnits
 pub mod Lines

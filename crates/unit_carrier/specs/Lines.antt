@@ -16,7 +16,7 @@ use Rattle.script_tree.specs.declared.options.Entered.TheVariants.{NewUnit}
 use Rattle.script_meaning.specs.Calls.{Target}
 use Rattle.script_meaning.specs.Play.{IsTransaction}
 use Rattle.txn_agent.specs.declared.agent.Agent.{Agent}
-use Rattle.unit_carrier.specs.Carrying.{CarriesOneMore}
+use Rattle.unit_carrier.specs.CarriedUnits.{CarriesOneMore}
 
 -- a call that enters so is a unit of its own
 abbrev pub is_new_unit : Entered → Bool

@@ -1,10 +1,10 @@
 ghost use Rattle.std.specs.Prelude.{◌≡◌, ◌<◌, ◌≤◌, ℕ, [], length, IfOk};
-ghost use Rattle.core_model.specs.Asked.{IsGoing};
-ghost use Rattle.core_model.specs.Legal.{ends};
+ghost use Rattle.core_model.specs.LockAnswers.{IsGoing};
+ghost use Rattle.core_model.specs.LegalRuns.{ends};
 ghost use Rattle.core_access.specs.Sights.{run_seen};
 ghost use Rattle.script_tree.specs.Programs.{program_tree};
-ghost use Rattle.txn_agent.specs.Stepping.{Acts};
-ghost use Rattle.unit_carrier.specs.Carrying.{AreCarried, AreFreed, CarriesOneMore, FindsMover, FindsWithin, StepsOn, as_carried, units_carried, unit_at};
+ghost use Rattle.txn_agent.specs.AgentStep.{Acts};
+ghost use Rattle.unit_carrier.specs.CarriedUnits.{AreCarried, AreFreed, CarriesOneMore, FindsMover, FindsWithin, StepsOn, as_carried, units_carried, unit_at};
 
 use crate::moves::can_move_now;
 use base_types::{Call, GrainId, Origin, UnitNo};

@@ -1,15 +1,15 @@
 ghost use Rattle.std.specs.Prelude.{◌≡◌, Bool, true, List as AList, [], filter};
 ghost use Rattle.core_access.specs.OneHolder.{none_comes, own_sight};
-ghost use Rattle.core_access.specs.Settling.{is_settling};
+ghost use Rattle.core_access.specs.SettlerEvents.{is_settling};
 ghost use Rattle.core_access.specs.Sights.{Sight, Tells};
-ghost use Rattle.core_model.specs.Legal.{Run};
+ghost use Rattle.core_model.specs.LegalRuns.{Run};
 ghost use Rattle.core_model.specs.declared.events.CoreEvent.{CoreEvent as AnEvent};
 ghost use Rattle.core_model.specs.declared.events.CoreReply.{CoreReply as AReply};
 ghost use Rattle.script_tree.specs.Programs.{ProgramTree};
 ghost use Rattle.txn_agent.specs.declared.agent.Agent.{Agent as AnAgent};
-ghost use Rattle.txn_agent.specs.Linked.{IsLegalRun};
-ghost use Rattle.worker_rules.specs.Stories.{NoneLoads};
-ghost use Rattle.unit_carrier.specs.Carrying.{AreCarried};
+ghost use Rattle.txn_agent.specs.CoreLink.{IsLegalRun};
+ghost use Rattle.worker_rules.specs.SharedHistories.{NoneLoads};
+ghost use Rattle.unit_carrier.specs.CarriedUnits.{AreCarried};
 
 /// What is known of units that are carried stays by an event of the settler's, and where some are dropped. Nobody is carried of a
 /// core whose first unit is numbered 1 or later, and into which no grain was loaded.

@@ -7,10 +7,10 @@
 #![tactic(auto)]
 
 mod agents;
-mod begin;
 mod laws;
+mod line_start;
 mod moves;
 
 pub use agents::{Agents, Found, Went};
-pub use begin::{begin_line, start_line};
 pub use laws::others_leave_the_carried;
+pub use line_start::{begin_line, start_line};

@@ -1,12 +1,12 @@
 ghost use Rattle.std.specs.Prelude.{◌≡◌, IfOk};
-ghost use Rattle.core_model.specs.Asked.{IsGoing};
-ghost use Rattle.core_model.specs.Legal.{ends};
+ghost use Rattle.core_model.specs.LockAnswers.{IsGoing};
+ghost use Rattle.core_model.specs.LegalRuns.{ends};
 ghost use Rattle.core_access.specs.Sights.{run_seen};
 ghost use Rattle.script_tree.specs.Programs.{program_tree};
-ghost use Rattle.promise_spec.specs.Gotten.{got_in};
+ghost use Rattle.promise_spec.specs.UnitAnswers.{got_in};
 ghost use Rattle.promise_spec.specs.TurnRule.{can_move};
-ghost use Rattle.txn_agent.specs.Linked.{Knows};
-ghost use Rattle.unit_carrier.specs.Carrying.{HasCoreAlone};
+ghost use Rattle.txn_agent.specs.CoreLink.{Knows};
+ghost use Rattle.unit_carrier.specs.CarriedUnits.{HasCoreAlone};
 
 use core_access::Access;
 use script_check::Checked;

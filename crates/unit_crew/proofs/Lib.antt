@@ -1,6 +1,6 @@
-pub mod Staying
+pub mod FinishedUnits
 pub mod Works
-pub mod Known
-pub mod Begun
-pub mod Endings
+pub mod CrewKnowledge
+pub mod BegunUnits
+pub mod RoundEnds
 pub mod Outset

@@ -7,17 +7,17 @@ use Rattle.request_wire.specs.declared.requests.Line.{Line}
 use Rattle.script_tree.specs.Programs.{ProgramTree}
 use Rattle.promise_spec.specs.UnitRule.{Basis}
 use Rattle.turn_cell.specs.History.{In}
-use Rattle.turn_rules.specs.Going.{MayCome}
-use Rattle.worker_rules.specs.Sharing.{KeepsPromise}
-use Rattle.worker_rules.specs.Stories.{Promised}
+use Rattle.turn_rules.specs.NextEvent.{MayCome}
+use Rattle.worker_rules.specs.UnitOwnership.{KeepsPromise}
+use Rattle.worker_rules.specs.SharedHistories.{Promised}
 use Rattle.worker_rules.specs.Work.{OnlyWorks}
-use Rattle.worker_rules.proofs.Own.{promise-none}
-use Rattle.txn_agent.specs.Linked.{IsLegalRun}
+use Rattle.worker_rules.proofs.OwnEntries.{promise-none}
+use Rattle.txn_agent.specs.CoreLink.{IsLegalRun}
 use Rattle.unit_crew.specs.Crews.{IsCrew, WorksOn}
 use Rattle.unit_crew.specs.Rounds.{IsOverAt}
-use Rattle.unit_crew.specs.Through.{AreThrough, IsHalted, IsPastLine, Showed}
+use Rattle.unit_crew.specs.FinishedUnits.{AreThrough, IsHalted, IsPastLine, Showed}
 use Rattle.unit_crew.specs.declared.rounds.Round.{Round}
-use Rattle.unit_crew.proofs.Endings.{looks-all}
+use Rattle.unit_crew.proofs.RoundEnds.{looks-all}
 use Rattle.unit_crew.proofs.Works.{showed-on, works-looks, works-on}
 
 -- nothing is an own entry

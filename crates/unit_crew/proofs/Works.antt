@@ -8,7 +8,7 @@ use Rattle.core_model.specs.CoreState.{UnitNo}
 use Rattle.core_model.specs.declared.events.CoreEvent.{CoreEvent}
 use Rattle.core_model.specs.declared.events.CoreEvent.TheVariants.{Bad, Begin}
 use Rattle.core_model.specs.declared.events.CoreReply.{CoreReply}
-use Rattle.core_model.specs.Legal.{Run}
+use Rattle.core_model.specs.LegalRuns.{Run}
 use Rattle.core_access.specs.Histories.{Told, run_after}
 use Rattle.core_access.specs.Sights.{Sight, Looks, Tells, run_seen}
 use Rattle.core_access.proofs.Sights.{looks-counts, tells-counts}
@@ -20,14 +20,14 @@ use Rattle.promise_spec.specs.UnitRule.{Basis}
 use Rattle.turn_cell.specs.History.{entry}
 use Rattle.turn_cell.proofs.Histories.{starts_self, starts_on}
 use Rattle.turn_cell.proofs.Lists.{in_append}
-use Rattle.worker_rules.specs.Sharing.{BeganHere, KeepsPromise}
+use Rattle.worker_rules.specs.UnitOwnership.{BeganHere, KeepsPromise}
 use Rattle.worker_rules.specs.Work.{OnlyWorks, is_of_worker, is_work}
-use Rattle.worker_rules.proofs.Promising.{looks-promise, tells-promise}
-use Rattle.txn_agent.specs.Stepping.{Acts}
-use Rattle.txn_agent.proofs.Promised.{acts-promise}
+use Rattle.worker_rules.proofs.CallPromises.{looks-promise, tells-promise}
+use Rattle.txn_agent.specs.AgentStep.{Acts}
+use Rattle.txn_agent.proofs.StepPromises.{acts-promise}
 use Rattle.unit_carrier.specs.Lines.{PutsLine, IsEventOf}
 use Rattle.unit_crew.specs.Crews.{IsBasisOf, HasTypes, ReadsLinesAs, WorksOn}
-use Rattle.unit_crew.specs.Through.{Showed}
+use Rattle.unit_crew.specs.FinishedUnits.{Showed}
 
 module _ (Asked : Basis → Type 0) where
   -- no call

@@ -2,20 +2,20 @@
 use Rattle.std.specs.Prelude.{◌≡◌, ◌⊎◌, ◌+◌, ◌<◌, ℕ, List, Some, slice_get}
 use Rattle.std.specs.List.{AllByRecursion}
 use Rattle.core_model.specs.CoreState.{UnitNo, Member}
-use Rattle.core_model.specs.Legal.{ends}
+use Rattle.core_model.specs.LegalRuns.{ends}
 use Rattle.core_access.specs.Sights.{Sight, Counts, IfAlone, run_seen}
 use Rattle.request_wire.specs.declared.requests.Line.{Line}
 use Rattle.script_tree.specs.Programs.{ProgramTree}
 use Rattle.promise_spec.specs.Lines.{ReadsLineAs}
 use Rattle.promise_spec.specs.UnitRule.{Basis}
 use Rattle.turn_cell.specs.History.{StartsWith}
-use Rattle.turn_rules.specs.Turning.{AreOlder}
-use Rattle.worker_rules.specs.Sharing.{leaves_unit, BeganHere, KeepsPromise}
+use Rattle.turn_rules.specs.TurnLoop.{AreOlder}
+use Rattle.worker_rules.specs.UnitOwnership.{leaves_unit, BeganHere, KeepsPromise}
 use Rattle.worker_rules.specs.Work.{OnlyWorks}
 use Rattle.txn_agent.specs.declared.agent.Agent.{Agent}
-use Rattle.txn_agent.specs.Linked.{IsLegalRun, Knows}
-use Rattle.unit_carrier.specs.Carrying.{units_carried}
-use Rattle.unit_crew.specs.Through.{IsThrough}
+use Rattle.txn_agent.specs.CoreLink.{IsLegalRun, Knows}
+use Rattle.unit_carrier.specs.CarriedUnits.{units_carried}
+use Rattle.unit_crew.specs.FinishedUnits.{IsThrough}
 
 -- ---- lines
 

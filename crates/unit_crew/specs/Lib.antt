@@ -1,3 +1,3 @@
-pub mod Through
+pub mod FinishedUnits
 pub mod Crews
 pub mod Rounds

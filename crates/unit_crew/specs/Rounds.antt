@@ -3,7 +3,7 @@ use Rattle.std.specs.Prelude.{◌⊎◌, ℕ, ⊤}
 use Rattle.core_access.specs.Sights.{Sight}
 use Rattle.unit_crew.specs.declared.rounds.Round.{Round}
 use Rattle.unit_crew.specs.declared.rounds.Round.TheVariants.{Over, Moved, Stayed, Ahead}
-use Rattle.unit_crew.specs.Through.{AreThrough, IsHalted, IsPastLine, Showed}
+use Rattle.unit_crew.specs.FinishedUnits.{AreThrough, IsHalted, IsPastLine, Showed}
 
 -- where it is over, a stop was shown, or that no line behind the last is left; and all units that began are through
 abbrev pub IsOverAt : ℕ → Sight → Round → Type 0

@@ -2,7 +2,7 @@ ghost use Rattle.std.specs.Prelude.{◌≡◌, ◌<◌, ◌≤◌, IfOk, length,
 ghost use Rattle.core_access.specs.Sights.{Looks};
 ghost use Rattle.script_tree.specs.Programs.{program_tree};
 ghost use Rattle.txn_agent.specs.declared.agent.Agent.{Agent as AnAgent};
-ghost use Rattle.txn_agent.specs.Stepping.{has_freed_all, is_freeing};
+ghost use Rattle.txn_agent.specs.AgentStep.{has_freed_all, is_freeing};
 ghost use Rattle.unit_crew.specs.Crews.{IsCrew, HasTypes, WorksOn};
 
 use crate::looks::was_aborted;

@@ -1,12 +1,12 @@
 ghost use Rattle.std.specs.Prelude.{◌≡◌};
-ghost use Rattle.core_model.specs.Asked.{IsGoing};
+ghost use Rattle.core_model.specs.LockAnswers.{IsGoing};
 ghost use Rattle.core_model.specs.CoreState.{UnitNo as AUnit};
-ghost use Rattle.core_model.specs.Legal.{Run, ends};
+ghost use Rattle.core_model.specs.LegalRuns.{Run, ends};
 ghost use Rattle.core_access.specs.Sights.{Sight, Counts, IfAlone};
 ghost use Rattle.turn_cell.specs.History.{StartsWith};
-ghost use Rattle.txn_agent.specs.Stepping.{HasNoEventLeft};
-ghost use Rattle.worker_rules.specs.Sharing.{leaves_unit};
-ghost use Rattle.unit_crew.specs.Through.{AreThrough, HasLetGo, IsThrough};
+ghost use Rattle.txn_agent.specs.AgentStep.{HasNoEventLeft};
+ghost use Rattle.worker_rules.specs.UnitOwnership.{leaves_unit};
+ghost use Rattle.unit_crew.specs.FinishedUnits.{AreThrough, HasLetGo, IsThrough};
 
 /// A unit that is through stays so, however much is seen of what others put; so by the whole history all units of a worker are
 /// through. Such a unit has no event left; where there is no doubt and no stop, it is over and holds no lock.

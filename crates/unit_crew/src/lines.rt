@@ -1,9 +1,9 @@
 ghost use Rattle.std.specs.Prelude.{◌≡◌, ◌+◌, ◌≤◌, false, IfOk, length};
-ghost use Rattle.core_model.specs.Legal.{ends};
+ghost use Rattle.core_model.specs.LegalRuns.{ends};
 ghost use Rattle.core_access.specs.Sights.{run_seen};
 ghost use Rattle.script_tree.specs.Programs.{program_tree};
 ghost use Rattle.unit_crew.specs.Crews.{IsBasisOf, IsCrew, WorksOn};
-ghost use Rattle.unit_crew.specs.Through.{IsPastLine};
+ghost use Rattle.unit_crew.specs.FinishedUnits.{IsPastLine};
 
 use crate::looks::next_line;
 use core_access::Access;

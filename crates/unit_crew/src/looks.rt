@@ -1,7 +1,7 @@
 ghost use Rattle.std.specs.Prelude.{◌≡◌, ◌+◌, true, IfOk, IsOk};
-ghost use Rattle.core_model.specs.Legal.{ends};
+ghost use Rattle.core_model.specs.LegalRuns.{ends};
 ghost use Rattle.core_access.specs.Sights.{run_seen, IsHistory, Looks};
-ghost use Rattle.unit_crew.specs.Through.{IsHalted};
+ghost use Rattle.unit_crew.specs.FinishedUnits.{IsHalted};
 
 use base_types::{Outcome, UnitNo};
 use core_access::Access;

@@ -1,15 +1,15 @@
 ghost use Rattle.std.specs.Prelude.{◌≡◌, ◌⊎◌, ◌+◌, ◌≤◌, [], IfOk, OnErr, length};
-ghost use Rattle.core_model.specs.Legal.{ends};
+ghost use Rattle.core_model.specs.LegalRuns.{ends};
 ghost use Rattle.core_access.specs.Sights.{Counts, IsHistory, Looks, run_seen};
 ghost use Rattle.promise_spec.specs.UnitRule.{Basis};
 ghost use Rattle.script_tree.specs.Programs.{program_tree};
 ghost use Rattle.turn_cell.specs.History.{StartsWith};
-ghost use Rattle.txn_agent.specs.Linked.{IsLegalRun};
-ghost use Rattle.worker_rules.specs.Sharing.{KeepsPromise};
+ghost use Rattle.txn_agent.specs.CoreLink.{IsLegalRun};
+ghost use Rattle.worker_rules.specs.UnitOwnership.{KeepsPromise};
 ghost use Rattle.worker_rules.specs.Work.{OnlyWorks};
 ghost use Rattle.unit_crew.specs.Crews.{IsBasisOf, IsCrew, WorksOn};
 ghost use Rattle.unit_crew.specs.Rounds.{IsOverAt};
-ghost use Rattle.unit_crew.specs.Through.{AreThrough, IsHalted, IsPastLine, Showed};
+ghost use Rattle.unit_crew.specs.FinishedUnits.{AreThrough, IsHalted, IsPastLine, Showed};
 
 use crate::crew::{drop_freed, freeing_in, go_on};
 use crate::lines::begin_next;

@@ -1,5 +1,5 @@
 pub mod Parts
-pub mod Running
+pub mod RunningUnits
 mod Entries
 mod Tables
-mod Beginning
+mod UnitBegins

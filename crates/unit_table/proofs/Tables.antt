@@ -8,7 +8,7 @@ use Rattle.core_model.specs.declared.phases.Verdict.{Verdict}
 use Rattle.core_model.specs.Changes.{without_want, without_wants}
 use Rattle.unit_table.specs.declared.entry.UnitEntry.{UnitEntry}
 use Rattle.unit_table.specs.declared.table.UnitTable.{UnitTable}
-use Rattle.unit_table.specs.Known.{KnownUnit, unborn, known_entry}
+use Rattle.unit_table.specs.KnownUnits.{KnownUnit, unborn, known_entry}
 use Rattle.unit_table.specs.Parts.{units_read, units_over, deps_after}
 use Rattle.unit_table.specs.Table.{entry_in, entry_among, known_of, known_in, next_in, units_of, wants_in}
 use Rattle.unit_table.specs.Rooms.{SameUnits, SameRest}

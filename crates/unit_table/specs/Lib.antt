@@ -1,4 +1,4 @@
 pub mod Parts
-pub mod Known
+pub mod KnownUnits
 pub mod Table
 pub mod Rooms

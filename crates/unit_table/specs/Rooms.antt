@@ -8,7 +8,7 @@ use Rattle.core_model.specs.Tests.{is_running}
 use Rattle.unit_table.specs.declared.entry.RunningUnit.{RunningUnit}
 use Rattle.unit_table.specs.declared.entry.UnitEntry.{UnitEntry}
 use Rattle.unit_table.specs.declared.table.UnitTable.{UnitTable}
-use Rattle.unit_table.specs.Known.{HasKidRoom, HasReadRoom, IsBlank}
+use Rattle.unit_table.specs.KnownUnits.{HasKidRoom, HasReadRoom, IsBlank}
 use Rattle.unit_table.specs.Table.{entry_in, phase_in, lines_in, next_in, units_of, verdict_in, result_in, base_of}
 
 -- The two stand for the same.

@@ -7,7 +7,7 @@ use Rattle.core_model.specs.declared.phases.Verdict.{Verdict}
 use Rattle.core_model.specs.Tests.{outcome_in}
 use Rattle.unit_table.specs.declared.entry.UnitEntry.{UnitEntry}
 use Rattle.unit_table.specs.declared.table.UnitTable.{UnitTable}
-use Rattle.unit_table.specs.Known.{KnownUnit, unborn, known_entry}
+use Rattle.unit_table.specs.KnownUnits.{KnownUnit, unborn, known_entry}
 
 -- the unit's entry among these, whose first is the unit of that number
 abbrev pub entry_among : ℕ → List UnitEntry → UnitNo → Option UnitEntry

@@ -3,7 +3,7 @@ ghost use Rattle.std.specs.Option.{option_copied};
 ghost use Rattle.core_model.specs.declared.phases.Phase.TheVariants as phases;
 ghost use Rattle.core_model.specs.Tests.{is_running, is_over, is_final, outcome_in};
 ghost use Rattle.unit_table.specs.Parts.{deps_after};
-ghost use Rattle.unit_table.specs.Known.{HasKidRoom, HasReadRoom, IsBlank, just_begun, known_running, known_entry, phase_at, outcome_over, entry_outcome};
+ghost use Rattle.unit_table.specs.KnownUnits.{HasKidRoom, HasReadRoom, IsBlank, just_begun, known_running, known_entry, phase_at, outcome_over, entry_outcome};
 
 use base_types::{Call, GrainId, List, Origin, Outcome, UnitNo};
 use core_model::{Phase, Read, Verdict};

@@ -3,13 +3,13 @@
 //! for contracts alone, and takes no bytes.
 #![tactic(auto)]
 
-mod begin;
-mod ending;
 mod entry;
 mod faults;
 mod looks;
-mod reading;
 mod table;
+mod unit_begins;
+mod unit_ends;
+mod unit_reads;
 mod waits;
 
 pub use entry::RunningUnit;

@@ -1,7 +1,7 @@
 ghost use Rattle.std.specs.Prelude.{◌≡◌, is_some, true, false, MatchOption, IfSome, IfOk};
 ghost use Rattle.std.specs.Option.{option_copied};
 ghost use Rattle.core_model.specs.Tests.{is_running, is_over};
-ghost use Rattle.unit_table.specs.Known.{known_running};
+ghost use Rattle.unit_table.specs.KnownUnits.{known_running};
 ghost use Rattle.unit_table.specs.Table.{entry_in, known_in, lines_in, kinds_in, halt_in, phase_in, kids_in, reads_in, deps_in, verdict_in, result_in, wants_in, outcome_known};
 
 use crate::entry::{Ending, OverUnit, RunningUnit, UnitEntry};

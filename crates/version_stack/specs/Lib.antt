@@ -1,1 +1,1 @@
-pub mod Stacked
+pub mod StackView

@@ -18,7 +18,7 @@ pub struct Stack {
 
 impl Model for Stack {
     ghost use Rattle.std.specs.Prelude.{◌≡◌, ◌-◌, [], reverse, vec_len, vec_capacity};
-    ghost use Rattle.version_stack.specs.Stacked.{Stacked};
+    ghost use Rattle.version_stack.specs.StackView.{Stacked};
 
     ghost Value = { Stacked };
 

@@ -1,5 +1,5 @@
 pub mod Numbers
-pub mod Own
-pub mod Whole
-pub mod Promising
+pub mod OwnEntries
+pub mod WholeHistories
+pub mod CallPromises
 pub mod Workers

@@ -12,12 +12,12 @@ use Rattle.core_model.specs.declared.events.CoreEvent.{CoreEvent}
 use Rattle.core_model.specs.declared.events.CoreEvent.TheVariants.{Bad, Begin, Grant, Refuse, Finish, EndPlain, EndSnapshot, Release, Take, Vote, Decide, Sealed, NotSealed, Doubt, Learn, Emitted, Halt, Want, Load}
 use Rattle.core_model.specs.Events.{applies, is_allowed, can, does, step, reply_to, reply_with, reply_without, not_granted, decided_reply}
 use Rattle.core_model.specs.Tests.{ask_answer}
-use Rattle.core_model.specs.Legal.{Run, ends}
-use Rattle.core_laws.proofs.Decoded.{Change, bad, begin, lock, raise, refuse, finish, end_plain, end_snapshot, release, take_batch, vote, decide_some, decide_none, seal_batch, spoil_batch, doubt_batch, learn, emit, halt_run, want, load, decode}
+use Rattle.core_model.specs.LegalRuns.{Run, ends}
+use Rattle.core_laws.proofs.EventCases.{Change, bad, begin, lock, raise, refuse, finish, end_plain, end_snapshot, release, take_batch, vote, decide_some, decide_none, seal_batch, spoil_batch, doubt_batch, learn, emit, halt_run, want, load, decode}
 use Rattle.turn_cell.specs.History.{In}
-use Rattle.turn_rules.specs.Going.{with_event}
+use Rattle.turn_rules.specs.NextEvent.{with_event}
 use Rattle.turn_rules.proofs.Growth.{ends-more}
-use Rattle.worker_rules.specs.Stories.{Told, IsTrue}
+use Rattle.worker_rules.specs.SharedHistories.{Told, IsTrue}
 
 -- the number of the next unit
 abbrev next : CoreState → ℕ

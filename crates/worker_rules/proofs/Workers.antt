@@ -3,8 +3,8 @@ use Rattle.std.proofs.Common.{◌≡◌, Bool, true, false, true≢false, refl, 
 use Rattle.base_types.specs.declared.calls.Origin.TheVariants.{Line, Child}
 use Rattle.core_model.specs.declared.events.CoreEvent.{CoreEvent}
 use Rattle.core_model.specs.declared.events.CoreEvent.TheVariants.{Bad, Begin, Grant, Refuse, Finish, EndPlain, EndSnapshot, Release, Take, Vote, Decide, Sealed, NotSealed, Doubt, Learn, Emitted, Halt, Want, Load}
-use Rattle.core_access.specs.Settling.{is_settling}
-use Rattle.worker_rules.specs.Stories.{is_load}
+use Rattle.core_access.specs.SettlerEvents.{is_settling}
+use Rattle.worker_rules.specs.SharedHistories.{is_load}
 use Rattle.worker_rules.specs.Work.{is_work}
 
 -- an event of the settler's is no worker's

@@ -1,3 +1,3 @@
-pub mod Stories
-pub mod Sharing
+pub mod SharedHistories
+pub mod UnitOwnership
 pub mod Work

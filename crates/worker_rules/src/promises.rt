@@ -3,11 +3,11 @@ ghost use Rattle.core_model.specs.declared.events.CoreEvent.{CoreEvent};
 ghost use Rattle.core_model.specs.declared.events.CoreReply.{CoreReply};
 ghost use Rattle.core_model.specs.declared.events.CoreReply.TheVariants.{Began};
 ghost use Rattle.core_model.specs.CoreState.{UnitNo};
-ghost use Rattle.core_model.specs.Legal.{Run};
+ghost use Rattle.core_model.specs.LegalRuns.{Run};
 ghost use Rattle.turn_cell.specs.History.{In, entry, entries_of};
 ghost use Rattle.promise_spec.specs.UnitRule.{Basis, KeepsUnitRule};
-ghost use Rattle.turn_rules.specs.Going.{MayCome};
-ghost use Rattle.worker_rules.specs.Stories.{Told, run_after, IsTrue, NoneLoads, OwnsUnits, IsDueBehind, Promised, AllPromise, IsRuled};
+ghost use Rattle.turn_rules.specs.NextEvent.{MayCome};
+ghost use Rattle.worker_rules.specs.SharedHistories.{Told, run_after, IsTrue, NoneLoads, OwnsUnits, IsDueBehind, Promised, AllPromise, IsRuled};
 
 /// In a true history no two entries begin one unit.
 pub fn numbers_are_given_once()

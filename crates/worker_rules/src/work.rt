@@ -1,8 +1,8 @@
 ghost use Rattle.std.specs.Prelude.{◌≡◌, true, false};
 ghost use Rattle.core_model.specs.declared.events.CoreEvent.{CoreEvent};
 ghost use Rattle.core_model.specs.declared.events.CoreEvent.TheVariants.{Halt};
-ghost use Rattle.core_access.specs.Settling.{is_settling};
-ghost use Rattle.worker_rules.specs.Stories.{is_load};
+ghost use Rattle.core_access.specs.SettlerEvents.{is_settling};
+ghost use Rattle.worker_rules.specs.SharedHistories.{is_load};
 ghost use Rattle.worker_rules.specs.Work.{is_work};
 
 /// What a worker puts is no event of the settler's, no stop and no load.

@@ -2,7 +2,7 @@
 ghost use Rattle.std.specs.Prelude.{⊤};
 ghost use Rattle.std.specs.Thread.{IsSync};
 ghost use Rattle.turn_cell.specs.Passes.{IsPassOf, pass_view};
-ghost use Rattle.turn_cell.specs.Carrying.{Continues, Gathers};
+ghost use Rattle.turn_cell.specs.PassContracts.{Continues, Gathers};
 
 use super::tally::{Add, Tally};
 use crate::{Pass, TurnCell, TurnObject};

@@ -4,7 +4,7 @@ use mir.Val.{SFits}
 use mir.Syntax.{w128}
 use Rattle.promise_spec.specs.Loads.{line_valued, is_faulted, line_aborted, how_many_lines}
 use Rattle.bank_load.specs.Summaries.{said_line, summary_line}
-use Rattle.bank_load.proofs.Said.{said}
+use Rattle.bank_load.proofs.SummaryText.{said}
 use Rattle.bank_load.proofs.summary.load_summary.Goals as goal
 
 pub returns : goal.returns

@@ -2,8 +2,8 @@ use Rattle.std.proofs.Common.{◌≡◌, ℕ, suc, ◌+◌, ◌*◌, ◌+ℤ◌,
 use Rattle.std.proofs.lemmas.Int.{ints, to_z-of_z}
 use mir.Val.{to_z, of_z, SFits}
 use mir.Syntax.{w128}
-use Rattle.core_model.specs.Legal.{ends}
-use Rattle.history_core.specs.Closing.{last_state}
+use Rattle.core_model.specs.LegalRuns.{ends}
+use Rattle.history_core.specs.ClosedUnits.{last_state}
 use Rattle.history_core.specs.Cores.{run_of}
 use Rattle.promise_spec.specs.Loads.{account}
 use Rattle.bank_load.specs.Summaries.{kept_balance, total_kept}

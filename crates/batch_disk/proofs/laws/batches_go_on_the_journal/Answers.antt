@@ -1,7 +1,7 @@
 use Rattle.promise_spec.specs.Entries.{grown}
 use Rattle.promise_spec.specs.Blocks.{Records, body_of}
 use Rattle.std.proofs.Common.{◌++◌, ◌∷◌, []}
-use Rattle.batch_disk.proofs.Standing.{keeps_log}
+use Rattle.batch_disk.proofs.WriterState.{keeps_log}
 use Rattle.batch_disk.proofs.Journal.{as_it_was, seals_on, doubt_on}
 use Rattle.batch_disk.proofs.laws.batches_go_on_the_journal.Goals as goal
 

@@ -1,4 +1,4 @@
-use Rattle.batch_disk.proofs.Standing.{keeps_fits, keeps_log}
+use Rattle.batch_disk.proofs.WriterState.{keeps_fits, keeps_log}
 use Rattle.batch_disk.proofs.laws.writers_know_the_log.Goals as goal
 
 pub returns-clause-logs : goal.returns-clause-logs

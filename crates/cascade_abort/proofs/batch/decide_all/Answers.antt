@@ -1,7 +1,7 @@
 use Rattle.std.proofs.Common.{◌≡◌, arith, take}
 use Rattle.cell_model.specs.Sources.{is_among}
 use Rattle.cell_model.specs.Decisions.{decision}
-use Rattle.cascade_abort.specs.Dead.{dead_by}
+use Rattle.cascade_abort.specs.DeadUnits.{dead_by}
 use Rattle.cascade_abort.proofs.Steps.{one-more, all-decided}
 use Rattle.cascade_abort.proofs.batch.decide_all.Goals as goal
 

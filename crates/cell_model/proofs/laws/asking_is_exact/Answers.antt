@@ -1,4 +1,4 @@
-use Rattle.cell_model.proofs.Asking.{ask-exact}
+use Rattle.cell_model.proofs.LockAnswers.{ask-exact}
 use Rattle.cell_model.proofs.laws.asking_is_exact.Goals as goal
 
 pub returns : goal.returns

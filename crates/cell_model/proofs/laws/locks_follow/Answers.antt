@@ -1,4 +1,4 @@
-use Rattle.cell_model.proofs.Asking.{locks-follow}
+use Rattle.cell_model.proofs.LockAnswers.{locks-follow}
 use Rattle.cell_model.proofs.laws.locks_follow.Goals as goal
 
 pub returns : goal.returns

@@ -1,6 +1,6 @@
 use Rattle.std.proofs.lemmas.Result.{err_from_is_err_and}
 use Rattle.field_codec.specs.Fields.{answer_at}
-use Rattle.field_codec.proofs.Looping.{goes_on, ends, is_done}
+use Rattle.field_codec.proofs.ReaderLoops.{goes_on, ends, is_done}
 use Rattle.commit_log.proofs.bodies.answers_there.Goals as goal
 
 pub loop-preserved : goal.loop-preserved

@@ -1,7 +1,7 @@
 use Rattle.std.proofs.Common.{◌≡◌, ◌-◌}
-use Rattle.field_codec.specs.Reading.{times}
+use Rattle.field_codec.specs.Readers.{times}
 use Rattle.commit_log.specs.Fields.{record_in}
-use Rattle.field_codec.proofs.Looping.{with_front}
+use Rattle.field_codec.proofs.ReaderLoops.{with_front}
 use Rattle.commit_log.proofs.bodies.records_there.Given as goal
 
 abbrev pub invariant-loop : goal.invariant-loop

@@ -1,4 +1,4 @@
-use Rattle.commit_log.proofs.Apart.{writes_apart, records_apart, bodies_apart, blocks_apart}
+use Rattle.commit_log.proofs.SpellingsApart.{writes_apart, records_apart, bodies_apart, blocks_apart}
 use Rattle.commit_log.proofs.laws.spellings_are_apart.Goals as goal
 
 pub returns-clause-writes : goal.returns-clause-writes

@@ -1,5 +1,5 @@
 use Rattle.std.proofs.lemmas.Result.{err_from_is_err_and}
-use Rattle.field_codec.proofs.Looping.{goes_on, ends, is_done}
+use Rattle.field_codec.proofs.ReaderLoops.{goes_on, ends, is_done}
 use Rattle.commit_log.specs.Orders.{grain_after}
 use Rattle.commit_log.specs.Fields.{write_in}
 use Rattle.commit_log.proofs.writes.writes_there.Goals as goal

@@ -1,6 +1,6 @@
 use Rattle.std.proofs.Common.{◌≡◌, ◌-◌, None}
 use Rattle.commit_log.specs.Fields.{writes_behind}
-use Rattle.field_codec.proofs.Looping.{with_front}
+use Rattle.field_codec.proofs.ReaderLoops.{with_front}
 use Rattle.commit_log.proofs.writes.writes_there.Given as goal
 
 abbrev pub invariant-loop : goal.invariant-loop

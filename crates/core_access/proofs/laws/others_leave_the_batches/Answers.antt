@@ -1,4 +1,4 @@
-use Rattle.core_access.proofs.Settling.{others-leave}
+use Rattle.core_access.proofs.SettlerEvents.{others-leave}
 use Rattle.core_access.proofs.laws.others_leave_the_batches.Goals as goal
 
 pub returns : goal.returns

@@ -1,4 +1,4 @@
-use Rattle.core_access.proofs.Growing.{looks-grow, tells-grow}
+use Rattle.core_access.proofs.Growth.{looks-grow, tells-grow}
 use Rattle.core_access.proofs.laws.what_was_seen_only_grows.Goals as goal
 
 pub returns-clause-looks : goal.returns-clause-looks

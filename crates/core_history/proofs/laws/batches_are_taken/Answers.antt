@@ -1,7 +1,7 @@
 use Rattle.core_history.specs.Histories.{history_of}
-use Rattle.core_model.specs.Legal.{ends}
-use Rattle.core_history.proofs.Tells.{tells-ends}
-use Rattle.core_history.proofs.Placed.{open-batch, open-member}
+use Rattle.core_model.specs.LegalRuns.{ends}
+use Rattle.core_history.proofs.AnyEvents.{tells-ends}
+use Rattle.core_history.proofs.BatchPlaces.{open-batch, open-member}
 use Rattle.core_history.proofs.laws.batches_are_taken.Goals as goal
 
 pub returns : goal.returns

@@ -1,4 +1,4 @@
-use Rattle.core_history.proofs.Knows.{knows-ends}
+use Rattle.core_history.proofs.LegalRuns.{knows-ends}
 use Rattle.core_history.proofs.laws.causes_are_in_the_history.Goals as goal
 
 pub returns-clause-entries : goal.returns-clause-entries

@@ -1,4 +1,4 @@
-use Rattle.core_history.proofs.Tells.{tells-ends, runs-ends}
+use Rattle.core_history.proofs.AnyEvents.{tells-ends, runs-ends}
 use Rattle.core_history.proofs.laws.holders_are_granted.Goals as goal
 
 pub returns : goal.returns

@@ -1,5 +1,5 @@
-use Rattle.core_history.proofs.Tells.{tells-ends}
-use Rattle.core_history.proofs.Knows.{knows-ends}
+use Rattle.core_history.proofs.AnyEvents.{tells-ends}
+use Rattle.core_history.proofs.LegalRuns.{knows-ends}
 use Rattle.core_history.proofs.laws.reads_are_granted.Goals as goal
 
 pub returns : goal.returns

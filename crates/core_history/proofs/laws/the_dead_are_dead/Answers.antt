@@ -1,4 +1,4 @@
-use Rattle.core_history.proofs.Knows.{dead-ends, committed-ends}
+use Rattle.core_history.proofs.LegalRuns.{dead-ends, committed-ends}
 use Rattle.core_history.proofs.laws.the_dead_are_dead.Goals as goal
 
 pub returns : goal.returns

@@ -1,4 +1,4 @@
-use Rattle.core_history.proofs.Knows.{decided-ends, gone-ends}
+use Rattle.core_history.proofs.LegalRuns.{decided-ends, gone-ends}
 use Rattle.core_history.proofs.laws.versions_are_taken_off.Goals as goal
 
 pub returns-clause-decided : goal.returns-clause-decided

@@ -1,4 +1,4 @@
-use Rattle.core_laws.proofs.Asked.{ask-ends, grant-applies}
+use Rattle.core_laws.proofs.LockAnswers.{ask-ends, grant-applies}
 use Rattle.core_laws.proofs.laws.asking_is_told.Goals as goal
 
 pub returns : goal.returns

@@ -1,4 +1,4 @@
-use Rattle.core_laws.proofs.Further.{longest-ends, no-lock-ends}
+use Rattle.core_laws.proofs.FurtherLaws.{longest-ends, no-lock-ends}
 use Rattle.core_laws.proofs.laws.batches_are_longest.Goals as goal
 
 pub returns : goal.returns

@@ -1,4 +1,4 @@
-use Rattle.core_laws.proofs.Voted.{follows-ends}
+use Rattle.core_laws.proofs.Votes.{follows-ends}
 use Rattle.core_laws.proofs.laws.batches_follow.Goals as goal
 
 pub returns : goal.returns

@@ -1,5 +1,5 @@
-use Rattle.core_laws.proofs.Caused.{caused-ends}
-use Rattle.core_laws.proofs.Further.{removed-ends}
+use Rattle.core_laws.proofs.EntryCauses.{caused-ends}
+use Rattle.core_laws.proofs.FurtherLaws.{removed-ends}
 use Rattle.core_laws.proofs.laws.causes_are_true.Goals as goal
 
 pub returns : goal.returns

@@ -1,4 +1,4 @@
-use Rattle.core_laws.proofs.Further.{children-ends, answers-ends}
+use Rattle.core_laws.proofs.FurtherLaws.{children-ends, answers-ends}
 use Rattle.core_laws.proofs.laws.children_answer.Goals as goal
 
 pub returns : goal.returns

@@ -1,4 +1,4 @@
-use Rattle.core_laws.proofs.Relied.{holds-ends}
+use Rattle.core_laws.proofs.LoadlessLaws.{holds-ends}
 use Rattle.core_laws.proofs.laws.code_may_rely.Goals as goal
 
 pub returns : goal.returns

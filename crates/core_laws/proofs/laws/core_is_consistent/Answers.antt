@@ -1,5 +1,5 @@
 use Rattle.core_laws.proofs.Consistency.{consistent-ends}
-use Rattle.core_laws.proofs.PlainPlayed.{plain-ends}
+use Rattle.core_laws.proofs.PlainPlays.{plain-ends}
 use Rattle.core_laws.proofs.laws.core_is_consistent.Goals as goal
 
 pub returns : goal.returns

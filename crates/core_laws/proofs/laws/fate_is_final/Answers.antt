@@ -1,4 +1,4 @@
-use Rattle.core_laws.proofs.Further.{dead-ends, outcome-ends, either-ends}
+use Rattle.core_laws.proofs.FurtherLaws.{dead-ends, outcome-ends, either-ends}
 use Rattle.core_laws.proofs.laws.fate_is_final.Goals as goal
 
 pub returns : goal.returns

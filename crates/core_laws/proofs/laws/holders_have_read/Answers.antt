@@ -1,5 +1,5 @@
-use Rattle.core_laws.proofs.Held.{holders-ends}
-use Rattle.core_laws.proofs.Keeping.{keeping-ends}
+use Rattle.core_laws.proofs.HeldLocks.{holders-ends}
+use Rattle.core_laws.proofs.KeptLocks.{keeping-ends}
 use Rattle.core_laws.proofs.laws.holders_have_read.Goals as goal
 
 pub returns : goal.returns

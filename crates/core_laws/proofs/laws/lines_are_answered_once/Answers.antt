@@ -1,4 +1,4 @@
-use Rattle.core_laws.proofs.Lined.{once-ends}
+use Rattle.core_laws.proofs.LineEntries.{once-ends}
 use Rattle.core_laws.proofs.laws.lines_are_answered_once.Goals as goal
 
 pub returns : goal.returns

@@ -1,4 +1,4 @@
-use Rattle.core_laws.proofs.Replied.{extends-ends}
+use Rattle.core_laws.proofs.Replies.{extends-ends}
 use Rattle.core_laws.proofs.laws.lists_only_grow.Goals as goal
 
 pub returns : goal.returns

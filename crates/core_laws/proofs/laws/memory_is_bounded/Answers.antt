@@ -1,4 +1,4 @@
-use Rattle.core_laws.proofs.Remembered.{bounded-ends}
+use Rattle.core_laws.proofs.Memory.{bounded-ends}
 use Rattle.core_laws.proofs.laws.memory_is_bounded.Goals as goal
 
 pub returns : goal.returns

@@ -1,4 +1,4 @@
-use Rattle.core_laws.proofs.Replied.{reply-tells, no-change}
+use Rattle.core_laws.proofs.Replies.{reply-tells, no-change}
 use Rattle.core_laws.proofs.laws.replies_tell.Goals as goal
 
 pub returns : goal.returns

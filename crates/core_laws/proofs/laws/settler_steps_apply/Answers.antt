@@ -1,4 +1,4 @@
-use Rattle.core_laws.proofs.Stepped.{step-applies, step-shown, shows-versions, shows-chosen, tells-decided}
+use Rattle.core_laws.proofs.SettlerSteps.{step-applies, step-shown, shows-versions, shows-chosen, tells-decided}
 use Rattle.core_laws.proofs.laws.settler_steps_apply.Goals as goal
 
 pub returns : goal.returns

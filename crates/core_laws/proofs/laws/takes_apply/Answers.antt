@@ -1,4 +1,4 @@
-use Rattle.core_laws.proofs.Asked.{take-applies, take-opens}
+use Rattle.core_laws.proofs.LockAnswers.{take-applies, take-opens}
 use Rattle.core_laws.proofs.laws.takes_apply.Goals as goal
 
 pub returns : goal.returns

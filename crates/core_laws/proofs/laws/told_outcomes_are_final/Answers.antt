@@ -1,4 +1,4 @@
-use Rattle.core_laws.proofs.Told.{told-ends, lines-ends}
+use Rattle.core_laws.proofs.ToldOutcomes.{told-ends, lines-ends}
 use Rattle.core_laws.proofs.laws.told_outcomes_are_final.Goals as goal
 
 pub returns : goal.returns

@@ -1,11 +1,11 @@
 use Rattle.std.proofs.Common.{◌^◌, arith}
 use Rattle.std.specs.Int.{w32}
 use Rattle.field_codec.specs.Spelling.{spelling_of_value, ValueFits, spelling_of_values, ValuesFit, spelling_of_call, CallFits, spelling_of_version, VersionFits, spelling_of_origin, spelling_of_outcome, AnswerFits, spelling_of_text, TextFits}
-use Rattle.field_codec.specs.Reading.{text_at}
+use Rattle.field_codec.specs.Readers.{text_at}
 use Rattle.field_codec.specs.Fields.{value_at, values_at, call_at, version_at, origin_at, answer_at}
 use Rattle.field_codec.proofs.Readers.{apart}
 use Rattle.field_codec.proofs.Counts.{wide32, text_reads}
-use Rattle.field_codec.proofs.Apart.{counted_apart}
+use Rattle.field_codec.proofs.TextsApart.{counted_apart}
 use Rattle.field_codec.proofs.Things.{value_reads, values_read, call_reads, version_reads, OriginFitsIn, origin_reads, any_parent, answer_reads}
 use Rattle.field_codec.specs.declared.units.Numbers.TheVariants.{Free}
 use Rattle.field_codec.proofs.laws.spellings_are_apart.Goals as goal

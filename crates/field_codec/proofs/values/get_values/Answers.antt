@@ -1,7 +1,7 @@
 use Rattle.std.proofs.Common.{◌∷◌, [], length-append, arith}
 use Rattle.std.proofs.lemmas.Result.{err_from_is_err_and}
 use Rattle.field_codec.specs.Fields.{value_at}
-use Rattle.field_codec.proofs.Looping.{goes_on, ends, is_done}
+use Rattle.field_codec.proofs.ReaderLoops.{goes_on, ends, is_done}
 use Rattle.field_codec.proofs.values.get_values.Goals as goal
 
 pub loop-preserved : goal.loop-preserved

@@ -1,7 +1,7 @@
 use Rattle.std.proofs.Common.{◌≡◌, ◌-◌, length}
-use Rattle.field_codec.specs.Reading.{times}
+use Rattle.field_codec.specs.Readers.{times}
 use Rattle.field_codec.specs.Fields.{value_at}
-use Rattle.field_codec.proofs.Looping.{with_front}
+use Rattle.field_codec.proofs.ReaderLoops.{with_front}
 use Rattle.field_codec.proofs.values.get_values.Given as goal
 
 abbrev pub invariant-loop : goal.invariant-loop

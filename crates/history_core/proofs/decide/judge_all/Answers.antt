@@ -7,7 +7,7 @@ use Rattle.core_model.specs.Changes.{verdict_of}
 use Rattle.open_batch.specs.declared.members.FinishedUnit.{FinishedUnit}
 use Rattle.open_batch.specs.Members.{effect_in}
 use Rattle.unit_table.specs.Table.{verdict_in, phase_in}
-use Rattle.history_core.specs.Deciding.{judged_after}
+use Rattle.history_core.specs.Decisions.{judged_after}
 use Rattle.history_core.specs.Fronts.{AreOver}
 use Rattle.history_core.proofs.Loops.{drop-at, drop-at-or, over-same}
 use Rattle.history_core.proofs.decide.judge_all.Goals as goal

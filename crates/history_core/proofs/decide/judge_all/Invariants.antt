@@ -4,7 +4,7 @@ use Rattle.base_types.specs.declared.calls.UnitNo.{UnitNo}
 use Rattle.core_model.specs.Tests.{is_over}
 use Rattle.open_batch.specs.Members.{effect_in}
 use Rattle.unit_table.specs.Table.{units_of, verdict_in, result_in, phase_in}
-use Rattle.history_core.specs.Deciding.{judged_after}
+use Rattle.history_core.specs.Decisions.{judged_after}
 use Rattle.history_core.specs.Fronts.{AreOver}
 use Rattle.history_core.proofs.decide.judge_all.Given as goal
 

@@ -6,8 +6,8 @@ use Rattle.cell_model.specs.Locks.{ask}
 use Rattle.core_model.specs.CoreState.{put_grain}
 use Rattle.core_laws.proofs.Puts.{grain-same}
 use Rattle.cell_table.specs.Table.{cell_in}
-use Rattle.history_core.specs.Granting.{cell_without}
-use Rattle.history_core.proofs.Locking.{put-twice}
+use Rattle.history_core.specs.Grants.{cell_without}
+use Rattle.history_core.proofs.Grants.{put-twice}
 use Rattle.history_core.proofs.grant.lock_over.Goals as goal
 
 pub lock-requires-in-Some-clause-free : goal.lock-requires-in-Some-clause-free

@@ -1,5 +1,5 @@
 use Rattle.std.proofs.Common.{◌≡◌, ◌+◌, drop}
-use Rattle.history_core.specs.Kept.{writes_in}
+use Rattle.history_core.specs.KeptParts.{writes_in}
 use Rattle.history_core.proofs.take.count_writes.Given as goal
 
 abbrev pub invariant-loop-member : goal.invariant-loop-member

@@ -2,8 +2,8 @@ use Rattle.std.proofs.Common.{◌≡◌, ◌∙◌, sym, subst, ap}
 use Rattle.core_model.specs.CoreState.{Write}
 use Rattle.core_lists.specs.States.{has_place}
 use Rattle.open_batch.specs.declared.members.FinishedUnit.{FinishedUnit}
-use Rattle.history_core.specs.Closing.{ArePlaced}
-use Rattle.history_core.specs.Kept.{AllPlaced}
+use Rattle.history_core.specs.ClosedUnits.{ArePlaced}
+use Rattle.history_core.specs.KeptParts.{AllPlaced}
 use Rattle.history_core.proofs.Loops.{drop-at, drop-end, placed-more}
 use Rattle.history_core.proofs.take.place_all.Goals as goal
 

@@ -1,6 +1,6 @@
 use Rattle.std.proofs.Common.{◌≤◌, length, IsTrue}
 use Rattle.host_files.proofs.Parts.{PutSome}
-use Rattle.host_files.proofs.Turns.{TookTurns}
+use Rattle.host_files.proofs.RepeatedCalls.{TookTurns}
 use Rattle.host_files.proofs.pieces.put_out.Given as goal
 
 abbrev pub invariant-loop-turn : goal.invariant-loop-turn

@@ -1,6 +1,6 @@
 use Rattle.std.proofs.Common.{◌<◌, ◌+◌, ℕ, sym, subst, rules}
 use Rattle.system_calls.specs.System.{System, IsReadPart}
-use Rattle.host_files.proofs.Turns.{TookTurns, turned_on}
+use Rattle.host_files.proofs.RepeatedCalls.{TookTurns, turned_on}
 use Rattle.host_files.proofs.Parts.{ReadSome, read_more}
 use Rattle.host_files.proofs.pieces.read_whole.Goals as goal
 use Rattle.host_files.proofs.pieces.read_whole.Goals.{in-Ok+else-more-eq0, in-Err-Interrupted}

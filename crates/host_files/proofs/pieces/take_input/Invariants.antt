@@ -1,5 +1,5 @@
 use Rattle.std.proofs.Common.{◌≡◌, length, IsTrue}
-use Rattle.host_files.proofs.Turns.{TookTurns}
+use Rattle.host_files.proofs.RepeatedCalls.{TookTurns}
 use Rattle.host_files.proofs.pieces.take_input.Given as goal
 
 abbrev pub invariant-loop-turn : goal.invariant-loop-turn

@@ -1,8 +1,8 @@
 use Rattle.std.proofs.Common.{◌≡◌, ◌≢◌, ◌+◌, ◌<◌, ◌≤◌, ℕ, Bool, length, sym, ◌∙◌, ap, subst, rules}
 use Rattle.host_trait.specs.declared.channels.FileId.{FileId}
 use Rattle.system_calls.specs.System.{System}
-use Rattle.system_calls.specs.declared.refused.Refused.{Refused}
-use Rattle.host_files.proofs.Turns.{TookTurns, turned_on, turned_refused, turned_known}
+use Rattle.system_calls.specs.declared.refusal.Refused.{Refused}
+use Rattle.host_files.proofs.RepeatedCalls.{TookTurns, turned_on, turned_refused, turned_known}
 use Rattle.host_files.proofs.Parts.{WroteSome, entries_on, write_more, write_fails, wrote_some, wrote_whole, overwrites, goes_to}
 use Rattle.host_files.proofs.pieces.write_whole.Goals as goal
 use Rattle.host_files.proofs.pieces.write_whole.Goals.{in-Ok+else-done-bytes+else-more-eq0, in-Err-Interrupted}

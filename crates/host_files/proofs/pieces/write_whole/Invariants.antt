@@ -1,6 +1,6 @@
 use Rattle.std.proofs.Common.{◌<◌, ◌≤◌, length, IsTrue}
 use Rattle.host_files.proofs.Parts.{WroteSome}
-use Rattle.host_files.proofs.Turns.{TookTurns}
+use Rattle.host_files.proofs.RepeatedCalls.{TookTurns}
 use Rattle.host_files.proofs.pieces.write_whole.Given as goal
 
 abbrev pub invariant-loop-turn : goal.invariant-loop-turn

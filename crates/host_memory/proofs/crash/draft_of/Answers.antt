@@ -3,7 +3,7 @@ use Rattle.std.proofs.lemmas.Bool.{le-leb, lt-leb}
 use Rattle.host_memory.specs.declared.crash.Draft.{Draft}
 use Rattle.host_memory.specs.Drafts.{IsDraft}
 use Rattle.host_memory.specs.Replay.{state_at}
-use Rattle.host_memory.proofs.Drawing.{draft_step, draft_skip}
+use Rattle.host_memory.proofs.CrashDraws.{draft_step, draft_skip}
 use Rattle.host_memory.proofs.crash.draft_of.Goals as goal
 use Rattle.host_memory.proofs.crash.draft_of.Goals.{then-noted-until+in_ok-step, else-noted-until}
 

@@ -1,12 +1,12 @@
 use Rattle.std.proofs.Common.{ℕ, List, refl, sym, subst, arith}
 use Rattle.host_trait.specs.Disk.{FileState, MayLeave}
 use Rattle.host_memory.specs.Replay.{state_at}
-use Rattle.host_memory.specs.Stays.{Stays, some_stays}
-use Rattle.host_memory.proofs.Drawing.{drafted_left}
+use Rattle.host_memory.specs.ReadLaws.{SeenStays, some_stays}
+use Rattle.host_memory.proofs.CrashDraws.{drafted_left}
 use Rattle.host_memory.proofs.crash.outcome_of.Goals as goal
 
 -- what lasted is among what a crash may leave, where what a read gives is
-base_left : (s : FileState) → Stays s → MayLeave s s.base
+base_left : (s : FileState) → SeenStays s → MayLeave s s.base
 base_left s stays = record { no_shorter = omega arith; no_longer = omega (arith, stays.no_shorter, stays.no_longer); same = λ i low untouched. refl }
 
 pub returns-then-pick-eq0-clause-left : goal.returns-then-pick-eq0-clause-left

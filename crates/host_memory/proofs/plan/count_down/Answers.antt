@@ -2,7 +2,7 @@ use Rattle.std.proofs.Common.{◌≡◌, ◌<◌, ◌||◌, set, length, get_or,
 use Rattle.std.proofs.lemmas.List.Edits.{map_over_more}
 use Rattle.host_memory.specs.declared.plan.Planned.{Planned}
 use Rattle.host_memory.specs.Plans.{is_due, counted}
-use Rattle.host_memory.proofs.Counting.{or_then, or_else, reached, due_more}
+use Rattle.host_memory.proofs.Countdown.{or_then, or_else, reached, due_more}
 use Rattle.host_memory.proofs.plan.count_down.Goals as goal
 use Rattle.host_memory.proofs.plan.count_down.Goals.{then-count, else-count}
 

@@ -2,7 +2,7 @@ use Rattle.std.proofs.Common.{rules, ◌≡◌, suc, List, [], ◌∷◌, length
 use Rattle.std.specs.Prelude.{cond}
 use Rattle.std.proofs.lemmas.Fn.{filter_same}
 use Rattle.std.proofs.lemmas.List.Sums.{length-filter, count_by-le-length}
-use Rattle.core_model.specs.Legal.{ends}
+use Rattle.core_model.specs.LegalRuns.{ends}
 use Rattle.history_core.specs.Cores.{run_of}
 use Rattle.interleaver.specs.Flights.{is_flown}
 use Rattle.interleaver.proofs.flights.drop_settled.Goals as goal

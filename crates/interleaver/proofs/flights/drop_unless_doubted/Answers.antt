@@ -1,11 +1,11 @@
 use Rattle.std.proofs.Common.{◌≡◌, ◌∙◌, refl, sym, ap, subst, Bool, length, false}
 use Rattle.std.specs.Prelude.{Option}
-use Rattle.core_model.specs.Legal.{ends}
+use Rattle.core_model.specs.LegalRuns.{ends}
 use Rattle.history_core.specs.Cores.{run_of}
-use Rattle.unit_carrier.specs.Carrying.{units_carried}
+use Rattle.unit_carrier.specs.CarriedUnits.{units_carried}
 use Rattle.interleaver.specs.Flights.{flown_unless, is_open_line}
-use Rattle.interleaver.specs.Looking.{IsLooked}
-use Rattle.interleaver.proofs.Looking.{all-open, looked-flown, now-looked, open-flown}
+use Rattle.interleaver.specs.LastLook.{IsLooked}
+use Rattle.interleaver.proofs.LastLook.{all-open, looked-flown, now-looked, open-flown}
 use Rattle.interleaver.proofs.flights.drop_unless_doubted.Goals as goal
 
 pub returns-then-is_still-clause-flown : goal.returns-then-is_still-clause-flown

@@ -1,5 +1,5 @@
 use Rattle.std.proofs.Common.{◌≡◌, count_by, take, ◌≤◌}
-use Rattle.core_model.specs.Legal.{ends}
+use Rattle.core_model.specs.LegalRuns.{ends}
 use Rattle.history_core.specs.Cores.{run_of}
 use Rattle.interleaver.specs.Flights.{is_flown}
 use Rattle.interleaver.proofs.flights.flown_in.Given as goal

@@ -1,4 +1,4 @@
-use Rattle.interleaver.proofs.Again.{can-again, fresh-again}
+use Rattle.interleaver.proofs.RunContinuation.{can-again, fresh-again}
 use Rattle.interleaver.proofs.laws.who_has_carried_all_can_go_on.Goals as goal
 
 pub returns-clause-can : goal.returns-clause-can

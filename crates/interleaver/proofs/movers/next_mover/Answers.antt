@@ -1,16 +1,16 @@
 use Rattle.std.proofs.Common.{◌≡◌, ◌+◌, ◌%◌, if◌then◌else◌, arith, ◌∙◌, refl, sym, subst, length, false}
 use Rattle.std.specs.Prelude.{is_some}
-use Rattle.core_model.specs.Asked.{IsGoing}
-use Rattle.core_model.specs.Legal.{ends}
+use Rattle.core_model.specs.LockAnswers.{IsGoing}
+use Rattle.core_model.specs.LegalRuns.{ends}
 use Rattle.core_model.specs.Settler.{has_step, settler_step}
 use Rattle.core_access.specs.OneHolder.{own_sight}
 use Rattle.core_access.specs.Sights.{run_seen}
 use Rattle.history_core.specs.Cores.{run_of}
 use Rattle.script_tree.specs.Programs.{program_tree}
-use Rattle.unit_carrier.specs.Carrying.{FindsMover, FindsWithin, moving, units_carried}
+use Rattle.unit_carrier.specs.CarriedUnits.{FindsMover, FindsWithin, moving, units_carried}
 use Rattle.unit_carrier.specs.declared.agents.Found.{Found}
 use Rattle.unit_carrier.specs.declared.agents.Found.TheVariants.{Few}
-use Rattle.interleaver.proofs.Picking.{found-first, found-next, found-few, found-nobody, going, own-back, seen-mover, sum-is, within-new}
+use Rattle.interleaver.proofs.MoverSearch.{found-first, found-next, found-few, found-nobody, going, own-back, seen-mover, sum-is, within-new}
 use Rattle.interleaver.proofs.movers.next_mover.Goals as goal
 
 pub returns-in_err-index-clause-same : goal.returns-in_err-index-clause-same

@@ -4,16 +4,16 @@ use Rattle.core_access.specs.OneHolder.{none_comes, own_sight}
 use Rattle.history_core.specs.Cores.{run_of}
 use Rattle.script_tree.specs.Programs.{program_tree}
 use Rattle.txn_agent.specs.declared.agent.Agent.{Agent}
-use Rattle.unit_carrier.specs.Carrying.{AreCarried}
-use Rattle.unit_carrier.proofs.Known.{none-carried}
+use Rattle.unit_carrier.specs.CarriedUnits.{AreCarried}
+use Rattle.unit_carrier.proofs.CarriedUnits.{none-carried}
 use Rattle.base_types.specs.declared.shapes.Shape.{Shape}
 use Rattle.run_books.specs.declared.faults.RunFault.{RunFault}
 use Rattle.run_books.specs.declared.faults.RunFault.TheVariants.{Memory}
-use Rattle.run_books.specs.Beside.{TurnsBeside}
-use Rattle.interleaver.specs.UnderWay.{TurnStage, WentOn, turn_stage}
-use Rattle.run_books.proofs.Leaving.{one-after-another, beside-fault, beside-well}
-use Rattle.interleaver.proofs.Onward.{on-after, done-after, picks-after, fault-after, out-then, nothing-beside, at-once, nothing-went}
-use Rattle.interleaver.proofs.Starting.{start}
+use Rattle.run_books.specs.RecordFrame.{TurnsBeside}
+use Rattle.interleaver.specs.TurnStages.{TurnStage, WentOn, turn_stage}
+use Rattle.run_books.proofs.SettlerFrame.{one-after-another, beside-fault, beside-well}
+use Rattle.interleaver.proofs.TurnSequence.{on-after, done-after, picks-after, fault-after, out-then, nothing-beside, at-once, nothing-went}
+use Rattle.interleaver.proofs.RunStart.{start}
 use Rattle.interleaver.proofs.turns.run_turns.Goals as goal
 use Rattle.run_books.specs.Stages.{stage_of}
 

@@ -4,8 +4,8 @@ use Rattle.host_trait.specs.Files.{StaysReady}
 use Rattle.history_core.specs.Cores.{run_of}
 use Rattle.script_tree.specs.Programs.{program_tree}
 use Rattle.script_check.specs.Shapes.{type_shapes}
-use Rattle.run_books.specs.Beside.{TurnsBeside}
-use Rattle.interleaver.specs.UnderWay.{WentOn, turn_stage, HoldsUnits}
+use Rattle.run_books.specs.RecordFrame.{TurnsBeside}
+use Rattle.interleaver.specs.TurnStages.{WentOn, turn_stage, HoldsUnits}
 use Rattle.interleaver.proofs.turns.run_turns.Given as goal
 use Rattle.interleaver.specs.Turns.{WhereTurnsBegin}
 use Rattle.run_books.specs.Stages.{stage_of, IsSafe}

@@ -1,16 +1,16 @@
 use Rattle.std.proofs.Common.{◌∙◌, refl, ap, subst}
 use Rattle.std.specs.declared.alloc.AllocError.{AllocError}
 use Rattle.core_access.specs.OneHolder.{none_comes, own_sight}
-use Rattle.settle_loop.specs.Turning.{TurnsAs}
+use Rattle.settle_loop.specs.SettlerStep.{TurnsAs}
 use Rattle.settle_loop.specs.declared.settler.Turned.{Turned}
 use Rattle.std.specs.Prelude.{Result, Ok, Err}
 use Rattle.std.proofs.lemmas.Result.{err_from_is_err_and}
 use Rattle.settle_loop.specs.declared.settler.Turned.TheVariants.{Stepped, Nothing, Stop}
 use Rattle.settle_loop.specs.declared.settler.StopCause.TheVariants as cause
 use Rattle.run_books.specs.declared.faults.RunFault.TheVariants as fault
-use Rattle.interleaver.proofs.Besides.{step-beside}
+use Rattle.interleaver.proofs.RecordFrame.{step-beside}
 use Rattle.history_core.specs.Cores.{run_of}
-use Rattle.interleaver.proofs.Settles.{settles-by, settles-one, rests-none, on-stepped, on-idle, on-doubt, on-cut, on-lack}
+use Rattle.interleaver.proofs.SettlerTurns.{settles-by, settles-one, rests-none, on-stepped, on-idle, on-doubt, on-cut, on-lack}
 use Rattle.run_books.proofs.BooksSettled.{settled-keeps}
 use Rattle.interleaver.proofs.turns.settle.Goals as goal
 

@@ -11,9 +11,9 @@ use Rattle.log_reading.specs.Steps.{seen_in}
 use Rattle.script_tree.specs.Programs.{program_tree}
 use Rattle.silo_spec.specs.Slots.{IsLive}
 use Rattle.silo_opening.specs.Counts.{OpenFaulted}
-use Rattle.silo_opening.specs.Opened.{Stays, ending_of}
+use Rattle.silo_opening.specs.OpenedSilo.{Stays, ending_of}
 use Rattle.silo_opening.specs.declared.faults.OpenFault.{OpenFault}
-use Rattle.silo_opening.proofs.Opening.{seen_same}
+use Rattle.silo_opening.proofs.OpeningSteps.{seen_same}
 use Rattle.silo_opening.proofs.Runs.{run_only_asked}
 use Rattle.promise_spec.specs.Programs.{shape_in}
 use Rattle.promise_spec.specs.Records.{Commit}
@@ -23,11 +23,11 @@ use Rattle.promise_spec.specs.Openings.{commit_of, opened_as}
 use Rattle.promise_spec.specs.Refusals.{IsRefusedBy}
 use Rattle.promise_spec.proofs.Openings.{reads_is_live}
 use Rattle.promise_spec.proofs.Standings.{records_back}
-use Rattle.log_audit.specs.Replaying.{first_states, as_commits, IsFirstFailure}
-use Rattle.log_audit.specs.Unread.{IsRereadFault}
-use Rattle.log_audit.proofs.Reread.{open_faulted}
-use Rattle.log_audit.proofs.Refused.{refused_again}
-use Rattle.log_audit.proofs.Shown.{program_opened, parts}
+use Rattle.log_audit.specs.Replays.{first_states, as_commits, IsFirstFailure}
+use Rattle.log_audit.specs.RereadFaults.{IsRereadFault}
+use Rattle.log_audit.proofs.RereadFaults.{open_faulted}
+use Rattle.log_audit.proofs.RereadRefusals.{refused_again}
+use Rattle.log_audit.proofs.ReportTexts.{program_opened, parts}
 use Rattle.log_audit.proofs.audits.audit.Goals as goal
 
 pub returns-in-Ok-replay_log-clause-audited : goal.returns-in-Ok-replay_log-clause-audited

@@ -5,10 +5,10 @@ use Rattle.promise_spec.specs.Endings.{Ending, HasFailedAs}
 use Rattle.promise_spec.specs.Reports.{line_of, audit_text}
 use Rattle.promise_spec.proofs.Openings.{reads_is_live}
 use Rattle.log_audit.specs.Lines.{audit_data}
-use Rattle.log_audit.specs.Writing.{PutsPart}
-use Rattle.log_audit.specs.Auditing.{bad_unit}
-use Rattle.log_audit.proofs.Finding.{first_is}
-use Rattle.log_audit.proofs.Reported.{failed_then, open_failed, never_bad_use, not_opened, is_audited}
+use Rattle.log_audit.specs.ReportOutput.{PutsPart}
+use Rattle.log_audit.specs.AuditAnswers.{bad_unit}
+use Rattle.log_audit.proofs.AuditAnswers.{first_is}
+use Rattle.log_audit.proofs.ShownReports.{failed_then, open_failed, never_bad_use, not_opened, is_audited}
 use Rattle.log_audit.proofs.audits.print_audit.Goals as goal
 
 pub returns-in-Ok-clause-audits : goal.returns-in-Ok-clause-audits

@@ -2,10 +2,10 @@ use Rattle.std.proofs.Common.{◌≡◌, ℕ, List, [], Option, refl, ◌∙◌,
 use Rattle.std.specs.Prelude.{is_ok}
 use Rattle.std.proofs.lemmas.Result.{err_from_is_err_and}
 use Rattle.promise_spec.specs.Reports.{line_of}
-use Rattle.log_audit.specs.Auditing.{bad_unit}
+use Rattle.log_audit.specs.AuditAnswers.{bad_unit}
 use Rattle.log_audit.specs.Lines.{audit_data}
-use Rattle.log_audit.specs.Writing.{PutsPart}
-use Rattle.log_audit.proofs.Putting.{none_put, part_front}
+use Rattle.log_audit.specs.ReportOutput.{PutsPart}
+use Rattle.log_audit.proofs.TextParts.{none_put, part_front}
 use Rattle.log_audit.proofs.audits.write_audit.Goals as goal
 
 pub returns-in_err-line-clause-puts : goal.returns-in_err-line-clause-puts

@@ -1,8 +1,8 @@
 use Rattle.std.proofs.Common.{◌+◌, List, map, drop, ap, ◌∙◌}
 use Rattle.commit_log.specs.declared.records.Written.{Written}
-use Rattle.log_reading.proofs.Summing.{next_item, no_item}
-use Rattle.log_audit.specs.Written.{grains_added}
-use Rattle.log_audit.proofs.Growing.{record_more, records_all}
+use Rattle.log_reading.proofs.RecordSums.{next_item, no_item}
+use Rattle.log_audit.specs.WrittenGrains.{grains_added}
+use Rattle.log_audit.proofs.GrainOrder.{record_more, records_all}
 use Rattle.log_audit.proofs.grains.add_grains.Goals as goal
 
 pub loop-entry-preserved : goal.loop-entry-preserved

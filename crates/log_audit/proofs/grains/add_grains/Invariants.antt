@@ -1,5 +1,5 @@
 use Rattle.std.proofs.Common.{◌≡◌, drop}
-use Rattle.log_audit.specs.Written.{grains_recorded, grains_added}
+use Rattle.log_audit.specs.WrittenGrains.{grains_recorded, grains_added}
 use Rattle.log_audit.proofs.grains.add_grains.Given as goal
 
 abbrev pub invariant-loop-entry : goal.invariant-loop-entry

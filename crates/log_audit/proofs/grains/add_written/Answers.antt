@@ -1,7 +1,7 @@
 use Rattle.std.proofs.Common.{◌+◌, drop, get_or}
 use Rattle.commit_log.specs.declared.records.Written.{Written}
-use Rattle.log_reading.proofs.Summing.{next_default, no_item}
-use Rattle.log_audit.proofs.Growing.{write_more, writes_all}
+use Rattle.log_reading.proofs.RecordSums.{next_default, no_item}
+use Rattle.log_audit.proofs.GrainOrder.{write_more, writes_all}
 use Rattle.log_audit.proofs.grains.add_written.Goals as goal
 
 pub loop-one-preserved : goal.loop-one-preserved

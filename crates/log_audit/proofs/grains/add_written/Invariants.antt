@@ -1,5 +1,5 @@
 use Rattle.std.proofs.Common.{◌≡◌, map, drop}
-use Rattle.log_audit.specs.Written.{grains_added}
+use Rattle.log_audit.specs.WrittenGrains.{grains_added}
 use Rattle.log_audit.proofs.grains.add_written.Given as goal
 
 abbrev pub invariant-loop-one : goal.invariant-loop-one

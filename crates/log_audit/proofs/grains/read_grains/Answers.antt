@@ -6,9 +6,9 @@ use Rattle.host_trait.proofs.Counts.{none_then}
 use Rattle.commit_log.specs.declared.records.CommitRecord.{CommitRecord}
 use Rattle.host_trait.specs.declared.channels.FileId.TheVariants.{Manager}
 use Rattle.log_reading.specs.Steps.{next_in}
-use Rattle.log_reading.proofs.Following.{follows_breaks}
-use Rattle.log_audit.specs.Written.{grains_recorded, grains_added}
-use Rattle.log_audit.proofs.Gathering.{clean_of, grains_begun, grains_more, grains_ended, log_fault}
+use Rattle.log_reading.proofs.LogBlocks.{follows_breaks}
+use Rattle.log_audit.specs.WrittenGrains.{grains_recorded, grains_added}
+use Rattle.log_audit.proofs.GrainLists.{clean_of, grains_begun, grains_more, grains_ended, log_fault}
 use Rattle.log_audit.proofs.grains.read_grains.Goals as goal
 
 pub loop-grains-init : goal.loop-grains-init

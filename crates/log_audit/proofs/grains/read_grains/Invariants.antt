@@ -3,7 +3,7 @@ use Rattle.host_trait.specs.Files.{StaysReady}
 use Rattle.host_trait.specs.Runs.{OnlyAsked}
 use Rattle.host_trait.specs.Faults.{NoneFailed}
 use Rattle.host_trait.specs.declared.channels.FileId.TheVariants.{Manager}
-use Rattle.log_audit.proofs.Gathering.{HasGrains}
+use Rattle.log_audit.proofs.GrainLists.{HasGrains}
 use Rattle.log_audit.proofs.grains.read_grains.Given as goal
 
 abbrev pub invariant-loop-grains : goal.invariant-loop-grains

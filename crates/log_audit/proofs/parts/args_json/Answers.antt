@@ -4,7 +4,7 @@ use Rattle.request_wire.specs.Reply.{value_data}
 use Rattle.serde_json.specs.Data.{Data, array}
 use Rattle.serde_json.specs.View as seen
 use Rattle.serde_json.proofs.Views.{view-Array}
-use Rattle.log_reading.proofs.Summing.{next_item, no_item}
+use Rattle.log_reading.proofs.RecordSums.{next_item, no_item}
 use Rattle.log_audit.proofs.Items.{items_are, item_more, items_all}
 use Rattle.log_audit.proofs.parts.args_json.Goals as goal
 

@@ -7,7 +7,7 @@ use Rattle.serde_json.specs.Data.{object, put}
 use Rattle.serde_json.specs.View.{view, members_view}
 use Rattle.serde_json.proofs.Views.{view-Object}
 use Rattle.promise_spec.specs.Reports.{fields_data}
-use Rattle.log_reading.proofs.Summing.{next_item}
+use Rattle.log_reading.proofs.RecordSums.{next_item}
 use Rattle.log_audit.proofs.Items.{none_behind, field_more}
 use Rattle.log_audit.proofs.parts.fields_json.Goals as goal
 

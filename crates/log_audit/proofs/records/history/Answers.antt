@@ -1,12 +1,12 @@
 use Rattle.std.proofs.Common.{◌≡◌, inl, inr, Err, sym, ◌∙◌, ap, subst}
 use Rattle.host_trait.specs.World.{Image}
 use Rattle.log_reading.specs.Steps.{seen_in}
-use Rattle.silo_opening.specs.Opened.{IsOpenedFrom}
-use Rattle.silo_opening.proofs.Opening.{seen_same}
+use Rattle.silo_opening.specs.OpenedSilo.{IsOpenedFrom}
+use Rattle.silo_opening.proofs.OpeningSteps.{seen_same}
 use Rattle.promise_spec.specs.Openings.{opened_as}
 use Rattle.promise_spec.specs.Endings.{Ending, HasFailedAs}
 use Rattle.promise_spec.specs.Reports.{history_text}
-use Rattle.log_audit.proofs.Reported.{failed_then, open_failed, never_bad_use, not_opened, is_reported}
+use Rattle.log_audit.proofs.ShownReports.{failed_then, open_failed, never_bad_use, not_opened, is_reported}
 use Rattle.log_audit.proofs.records.history.Goals as goal
 
 pub returns-in-Ok-clause-reports : goal.returns-in-Ok-clause-reports

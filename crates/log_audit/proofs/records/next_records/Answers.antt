@@ -3,8 +3,8 @@ use Rattle.host_trait.specs.declared.channels.FileId.TheVariants.{Manager}
 use Rattle.promise_spec.specs.Endings.{HasFailedAs}
 use Rattle.log_audit.specs.declared.faults.ReportFault.{ReportFault}
 use Rattle.log_audit.specs.Endings.{fault_ending}
-use Rattle.log_audit.specs.Unread.{IsBlockFault}
-use Rattle.log_audit.proofs.Reread.{folder_failed, block_fault}
+use Rattle.log_audit.specs.RereadFaults.{IsBlockFault}
+use Rattle.log_audit.proofs.RereadFaults.{folder_failed, block_fault}
 use Rattle.log_audit.proofs.records.next_records.Goals as goal
 
 pub returns-in-Err-clause-unread : goal.returns-in-Err-clause-unread

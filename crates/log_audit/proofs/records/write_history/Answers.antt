@@ -8,9 +8,9 @@ use Rattle.log_reading.specs.Steps.{seen_in}
 use Rattle.script_tree.specs.Programs.{program_tree}
 use Rattle.promise_spec.specs.Programs.{shape_in}
 use Rattle.log_audit.specs.Lines.{record_lines}
-use Rattle.log_audit.specs.Writing.{PutsPart}
-use Rattle.log_audit.proofs.Putting.{none_put, part_front}
-use Rattle.log_audit.proofs.Shown.{program_opened, parts, history_opened}
+use Rattle.log_audit.specs.ReportOutput.{PutsPart}
+use Rattle.log_audit.proofs.TextParts.{none_put, part_front}
+use Rattle.log_audit.proofs.ReportTexts.{program_opened, parts, history_opened}
 use Rattle.log_audit.proofs.records.write_history.Goals as goal
 
 pub returns-in_err-shape-clause-puts : goal.returns-in_err-shape-clause-puts

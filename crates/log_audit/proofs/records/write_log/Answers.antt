@@ -7,10 +7,10 @@ use Rattle.host_trait.specs.declared.channels.FileId.TheVariants.{Manager}
 use Rattle.log_reading.specs.Steps.{next_in}
 use Rattle.script_tree.specs.Programs.{program_tree}
 use Rattle.log_audit.specs.Lines.{record_lines}
-use Rattle.log_audit.specs.Unread.{IsBlockFault}
-use Rattle.log_audit.specs.Writing.{PutsPart}
-use Rattle.log_audit.proofs.Copying.{copied_none, copied_more, copied_cut, copied_all, copied_stopped, block_ends}
-use Rattle.log_audit.proofs.Reported.{failed_then}
+use Rattle.log_audit.specs.RereadFaults.{IsBlockFault}
+use Rattle.log_audit.specs.ReportOutput.{PutsPart}
+use Rattle.log_audit.proofs.RecordLines.{copied_none, copied_more, copied_cut, copied_all, copied_stopped, block_ends}
+use Rattle.log_audit.proofs.ShownReports.{failed_then}
 use Rattle.log_audit.proofs.records.write_log.Goals as goal
 
 pub loop-records-init : goal.loop-records-init

@@ -3,7 +3,7 @@ use Rattle.host_trait.specs.Files.{StaysReady}
 use Rattle.host_trait.specs.Faults.{NoneFailed}
 use Rattle.host_trait.specs.declared.channels.FileId.TheVariants.{Manager}
 use Rattle.script_tree.specs.Programs.{program_tree}
-use Rattle.log_audit.proofs.Copying.{HasCopied}
+use Rattle.log_audit.proofs.RecordLines.{HasCopied}
 use Rattle.log_audit.proofs.records.write_log.Given as goal
 
 abbrev pub invariant-loop-records : goal.invariant-loop-records

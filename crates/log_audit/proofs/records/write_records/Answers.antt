@@ -2,15 +2,15 @@ use Rattle.std.proofs.Common.{◌≡◌, ◌+◌, ℕ, List, true, false, map, d
 use Rattle.std.proofs.lemmas.Result.{err_from_is_err_and}
 use Rattle.host_trait.proofs.Counts.{none_then}
 use Rattle.commit_log.specs.declared.records.CommitRecord.{CommitRecord}
-use Rattle.log_reading.proofs.Summing.{next_item, no_item}
+use Rattle.log_reading.proofs.RecordSums.{next_item, no_item}
 use Rattle.script_tree.specs.declared.programs.Program.{Program}
 use Rattle.script_tree.specs.declared.programs.TypeDecl.{TypeDecl}
 use Rattle.script_tree.specs.Programs.{type_tree, program_tree}
 use Rattle.promise_spec.specs.Reports.{line_of}
 use Rattle.log_audit.specs.Lines.{record_data, record_lines}
-use Rattle.log_audit.specs.Writing.{PutsPart}
-use Rattle.log_audit.proofs.Putting.{gone_none, gone_more, gone_cut, gone_stopped, gone_all}
-use Rattle.log_audit.proofs.Reported.{failed_then}
+use Rattle.log_audit.specs.ReportOutput.{PutsPart}
+use Rattle.log_audit.proofs.TextParts.{gone_none, gone_more, gone_cut, gone_stopped, gone_all}
+use Rattle.log_audit.proofs.ShownReports.{failed_then}
 use Rattle.log_audit.proofs.records.write_records.Goals as goal
 
 pub loop-entry-init : goal.loop-entry-init

@@ -1,6 +1,6 @@
 use Rattle.std.proofs.Common.{◌≡◌, drop}
 use Rattle.core_model.specs.Equality.{same_list}
-use Rattle.log_audit.specs.Replaying.{same_write}
+use Rattle.log_audit.specs.Replays.{same_write}
 use Rattle.log_audit.proofs.replay.are_same_writes.Given as goal
 
 abbrev pub invariant-loop-index : goal.invariant-loop-index

@@ -2,7 +2,7 @@ use Rattle.std.proofs.Common.{◌∷◌, [], sym, ◌∙◌, ap}
 use Rattle.std.proofs.lemmas.List.Sums.{fold-append}
 use Rattle.script_meaning.specs.Play.{found_in}
 use Rattle.promise_spec.specs.Records.{States, put_state}
-use Rattle.log_audit.proofs.Replaying.{one_kept}
+use Rattle.log_audit.proofs.Replays.{one_kept}
 use Rattle.log_audit.proofs.replay.keep.Goals as goal
 
 pub loop-grain-preserved : goal.loop-grain-preserved

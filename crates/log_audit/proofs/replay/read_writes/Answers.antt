@@ -8,9 +8,9 @@ use Rattle.host_trait.proofs.Counts.{none_then}
 use Rattle.commit_log.specs.declared.records.Written.{Written}
 use Rattle.log_reading.specs.Steps.{seen_in}
 use Rattle.log_reading.specs.Versions.{version_named}
-use Rattle.log_reading.proofs.Summing.{next_default, no_item}
+use Rattle.log_reading.proofs.RecordSums.{next_default, no_item}
 use Rattle.log_audit.proofs.Versions.{named_as, states_at, version_more, versions_all, version_fault, in_seam}
-use Rattle.log_audit.proofs.Reread.{read_then}
+use Rattle.log_audit.proofs.RereadFaults.{read_then}
 use Rattle.log_audit.proofs.replay.read_writes.Goals as goal
 
 abbrev no_write : Written

@@ -7,12 +7,12 @@ use Rattle.core_model.specs.Equality.{same_list}
 use Rattle.log_reading.specs.Steps.{seen_in}
 use Rattle.script_tree.specs.Programs.{program_tree}
 use Rattle.script_meaning.specs.Play.{Played, found_in}
-use Rattle.script_player.specs.Playing.{played_of}
+use Rattle.script_player.specs.PlayState.{played_of}
 use Rattle.promise_spec.specs.Records.{Commit, States, written, put_state}
-use Rattle.promise_spec.specs.Serial.{played}
+use Rattle.promise_spec.specs.SerialExecution.{played}
 use Rattle.promise_spec.specs.Openings.{commit_of}
-use Rattle.log_audit.specs.Replaying.{same_write, agree}
-use Rattle.log_audit.proofs.Replaying.{passed_replays, failed_fails, played_is}
+use Rattle.log_audit.specs.Replays.{same_write, agree}
+use Rattle.log_audit.proofs.Replays.{passed_replays, failed_fails, played_is}
 use Rattle.log_audit.proofs.replay.replay.Goals as goal
 
 pub returns-then-agrees-clause-replays : goal.returns-then-agrees-clause-replays

@@ -6,14 +6,14 @@ use Rattle.host_trait.proofs.Runs.{asked_then}
 use Rattle.host_trait.proofs.Counts.{none_then}
 use Rattle.commit_log.specs.declared.records.CommitRecord.{CommitRecord}
 use Rattle.log_reading.specs.Steps.{seen_in}
-use Rattle.log_reading.proofs.Summing.{next_item, no_item}
+use Rattle.log_reading.proofs.RecordSums.{next_item, no_item}
 use Rattle.script_tree.specs.Programs.{program_tree}
 use Rattle.script_meaning.specs.Play.{found_in}
 use Rattle.promise_spec.specs.Openings.{commit_of}
-use Rattle.log_audit.specs.Replaying.{ReplaysTo}
-use Rattle.log_audit.specs.Unread.{IsVersionFault}
-use Rattle.log_audit.proofs.Replaying.{replayed_none, replayed_found, replayed_next, replayed_all}
-use Rattle.log_audit.proofs.Refused.{fault_among}
+use Rattle.log_audit.specs.Replays.{ReplaysTo}
+use Rattle.log_audit.specs.RereadFaults.{IsVersionFault}
+use Rattle.log_audit.proofs.Replays.{replayed_none, replayed_found, replayed_next, replayed_all}
+use Rattle.log_audit.proofs.RereadRefusals.{fault_among}
 use Rattle.log_audit.proofs.replay.replay_block.Goals as goal
 
 pub loop-entry-init : goal.loop-entry-init

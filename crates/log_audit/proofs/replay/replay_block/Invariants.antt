@@ -5,7 +5,7 @@ use Rattle.host_trait.specs.Faults.{NoneFailed}
 use Rattle.log_reading.specs.Steps.{seen_in}
 use Rattle.script_tree.specs.Programs.{program_tree}
 use Rattle.script_meaning.specs.Play.{found_in}
-use Rattle.log_audit.proofs.Replaying.{HasReplayed}
+use Rattle.log_audit.proofs.Replays.{HasReplayed}
 use Rattle.log_audit.proofs.replay.replay_block.Given as goal
 
 abbrev pub invariant-loop-entry : goal.invariant-loop-entry

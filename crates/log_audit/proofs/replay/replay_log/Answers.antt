@@ -7,14 +7,14 @@ use Rattle.host_trait.proofs.Counts.{none_then}
 use Rattle.commit_log.specs.declared.records.CommitRecord.{CommitRecord}
 use Rattle.host_trait.specs.declared.channels.FileId.TheVariants.{Manager}
 use Rattle.log_reading.specs.Steps.{next_in, seen_in}
-use Rattle.log_reading.proofs.Following.{follows_on, follows_breaks}
+use Rattle.log_reading.proofs.LogBlocks.{follows_on, follows_breaks}
 use Rattle.script_tree.specs.Programs.{program_tree}
 use Rattle.script_meaning.specs.Play.{found_in}
-use Rattle.log_audit.specs.Replaying.{first_states, as_commits, AllReplayTo}
-use Rattle.log_audit.specs.Unread.{IsVersionFault}
-use Rattle.log_audit.proofs.Gathering.{clean_of, log_fault, rest_of}
-use Rattle.log_audit.proofs.Refused.{fault_among}
-use Rattle.log_audit.proofs.Replaying.{none_kept, audit_begun, audit_found, audit_next, audit_done}
+use Rattle.log_audit.specs.Replays.{first_states, as_commits, AllReplayTo}
+use Rattle.log_audit.specs.RereadFaults.{IsVersionFault}
+use Rattle.log_audit.proofs.GrainLists.{clean_of, log_fault, rest_of}
+use Rattle.log_audit.proofs.RereadRefusals.{fault_among}
+use Rattle.log_audit.proofs.Replays.{none_kept, audit_begun, audit_found, audit_next, audit_done}
 use Rattle.log_audit.proofs.replay.replay_log.Goals as goal
 
 pub loop-store-init : goal.loop-store-init

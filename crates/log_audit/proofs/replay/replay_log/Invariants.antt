@@ -6,8 +6,8 @@ use Rattle.host_trait.specs.declared.channels.FileId.TheVariants.{Manager}
 use Rattle.log_reading.specs.Steps.{seen_in}
 use Rattle.script_tree.specs.Programs.{program_tree}
 use Rattle.script_meaning.specs.Play.{found_in}
-use Rattle.log_audit.specs.Replaying.{first_states}
-use Rattle.log_audit.proofs.Replaying.{HasAudited}
+use Rattle.log_audit.specs.Replays.{first_states}
+use Rattle.log_audit.proofs.Replays.{HasAudited}
 use Rattle.log_audit.proofs.replay.replay_log.Given as goal
 
 abbrev pub invariant-loop-store : goal.invariant-loop-store

@@ -6,9 +6,9 @@ use Rattle.script_tree.specs.Programs.{program_tree}
 use Rattle.script_meaning.specs.Play.{found_in}
 use Rattle.promise_spec.specs.Reports.{line_of}
 use Rattle.log_audit.specs.Lines.{grain_data, grain_lines}
-use Rattle.log_audit.specs.Writing.{PutsPart}
-use Rattle.log_audit.proofs.Putting.{gone_none, gone_more, gone_cut, gone_stopped, gone_all, none_left}
-use Rattle.log_audit.proofs.Reported.{failed_then}
+use Rattle.log_audit.specs.ReportOutput.{PutsPart}
+use Rattle.log_audit.proofs.TextParts.{gone_none, gone_more, gone_cut, gone_stopped, gone_all, none_left}
+use Rattle.log_audit.proofs.ShownReports.{failed_then}
 use Rattle.log_audit.proofs.states.write_grains.Goals as goal
 
 pub loop-grain-init : goal.loop-grain-init

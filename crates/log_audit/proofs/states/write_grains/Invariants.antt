@@ -3,7 +3,7 @@ use Rattle.host_trait.specs.Files.{StaysReady}
 use Rattle.host_trait.specs.Faults.{NoneFailed}
 use Rattle.script_tree.specs.Programs.{program_tree}
 use Rattle.log_audit.specs.Lines.{grain_lines}
-use Rattle.log_audit.proofs.Putting.{Gone}
+use Rattle.log_audit.proofs.TextParts.{Gone}
 use Rattle.log_audit.proofs.states.write_grains.Given as goal
 
 abbrev pub invariant-loop-grain : goal.invariant-loop-grain

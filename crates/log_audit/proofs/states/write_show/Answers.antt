@@ -12,12 +12,12 @@ use Rattle.promise_spec.specs.Endings.{HasFailedAs}
 use Rattle.promise_spec.specs.Reports.{line_of}
 use Rattle.log_audit.specs.declared.faults.ReportFault.{ReportFault}
 use Rattle.log_audit.specs.Lines.{grain_lines, count_data}
-use Rattle.log_audit.specs.Writing.{PutsPart}
+use Rattle.log_audit.specs.ReportOutput.{PutsPart}
 use Rattle.log_audit.specs.Endings.{fault_ending, MayEnd}
-use Rattle.log_audit.proofs.Putting.{none_put, asked_puts, puts_then, part_then, part_front, part_cut, part_done}
-use Rattle.log_audit.proofs.Reported.{failed_then}
-use Rattle.log_audit.proofs.Reread.{folder_failed, folder_ends}
-use Rattle.log_audit.proofs.Shown.{program_opened, parts, show_opened}
+use Rattle.log_audit.proofs.TextParts.{none_put, asked_puts, puts_then, part_then, part_front, part_cut, part_done}
+use Rattle.log_audit.proofs.ShownReports.{failed_then}
+use Rattle.log_audit.proofs.RereadFaults.{folder_failed, folder_ends}
+use Rattle.log_audit.proofs.ReportTexts.{program_opened, parts, show_opened}
 use Rattle.log_audit.proofs.states.write_show.Goals as goal
 
 pub returns-in_err-shape-clause-puts : goal.returns-in_err-shape-clause-puts

@@ -6,7 +6,7 @@ use Rattle.commit_log.specs.declared.records.Named.{Named}
 use Rattle.log_reading.specs.Steps.{seen_in}
 use Rattle.log_reading.specs.Versions.{named_by, named_by_grain, first_missing}
 use Rattle.log_reading.specs.Sums.{state_after, end_after, StopsAt}
-use Rattle.log_reading.proofs.Unread.{read_refused, versions_refused}
+use Rattle.log_reading.proofs.StepFaults.{read_refused, versions_refused}
 use Rattle.log_reading.proofs.contents.read_contents.Goals as goal
 
 pub returns-in-Ok-read_versions-clause-opened : goal.returns-in-Ok-read_versions-clause-opened

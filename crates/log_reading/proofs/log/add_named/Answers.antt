@@ -1,7 +1,7 @@
 use Rattle.std.proofs.Common.{rules, ◌≡◌, ◌+◌, ◌++◌, ◌∷◌, [], drop, get_or}
 use Rattle.commit_log.specs.declared.records.Written.{Written}
 use Rattle.commit_log.specs.declared.records.Named.{Named}
-use Rattle.log_reading.proofs.Summing.{next_default, no_item, pushed_more, pushed_all}
+use Rattle.log_reading.proofs.RecordSums.{next_default, no_item, pushed_more, pushed_all}
 use Rattle.log_reading.proofs.log.add_named.Goals as goal
 
 pub loop-written-preserved : goal.loop-written-preserved

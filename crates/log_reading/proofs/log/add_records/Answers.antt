@@ -4,7 +4,7 @@ use Rattle.commit_log.specs.declared.records.Written.{Written}
 use Rattle.commit_log.specs.declared.records.Named.{Named}
 use Rattle.commit_log.specs.declared.records.CommitRecord.{CommitRecord}
 use Rattle.log_reading.specs.Sums.{next_after}
-use Rattle.log_reading.proofs.Summing.{next_item, no_item, named_more, named_all, next_more}
+use Rattle.log_reading.proofs.RecordSums.{next_item, no_item, named_more, named_all, next_more}
 use Rattle.log_reading.proofs.log.add_records.Goals as goal
 
 pub next_behind-after-requires : goal.next_behind-after-requires

@@ -13,8 +13,8 @@ use Rattle.log_reading.specs.Versions.{named_by}
 use Rattle.log_reading.specs.Steps.{next_in}
 use Rattle.log_reading.specs.Sums.{next_after}
 use Rattle.log_reading.proofs.Errors.{other_value}
-use Rattle.log_reading.proofs.Summing.{weaker_all, low_unit, low_next, high_next}
-use Rattle.log_reading.proofs.Reading.{has_begun, has_more, has_ended, has_broken}
+use Rattle.log_reading.proofs.RecordSums.{weaker_all, low_unit, low_next, high_next}
+use Rattle.log_reading.proofs.BlockLoop.{has_begun, has_more, has_ended, has_broken}
 use Rattle.log_reading.proofs.log.read_log.Goals as goal
 
 pub loop-named-init : goal.loop-named-init

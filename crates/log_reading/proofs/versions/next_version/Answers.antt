@@ -1,7 +1,7 @@
 use Rattle.std.proofs.Common.{rules}
 use Rattle.log_reading.specs.Steps.{seen_in}
 use Rattle.log_reading.specs.Pieces.{IsTextIn}
-use Rattle.log_reading.proofs.Cutting.{text_in_image, weaker_ok}
+use Rattle.log_reading.proofs.FilePieces.{text_in_image, weaker_ok}
 use Rattle.log_reading.proofs.versions.next_version.Goals as goal
 
 pub returns-in-Some-clause-found : goal.returns-in-Some-clause-found

@@ -10,9 +10,9 @@ use Rattle.commit_log.specs.declared.records.Named.{Named}
 use Rattle.log_reading.specs.Steps.{seen_in}
 use Rattle.log_reading.specs.Versions.{version_named}
 use Rattle.log_reading.proofs.Errors.{other_value}
-use Rattle.log_reading.proofs.Cutting.{still_piece}
-use Rattle.log_reading.proofs.Summing.{next_default, no_item}
-use Rattle.log_reading.proofs.Naming.{passed_none, passed_more, passed_all, passed_here, stops_here, state_more, state_all, end_more, end_all, near_more}
+use Rattle.log_reading.proofs.FilePieces.{still_piece}
+use Rattle.log_reading.proofs.RecordSums.{next_default, no_item}
+use Rattle.log_reading.proofs.NamedVersions.{passed_none, passed_more, passed_all, passed_here, stops_here, state_more, state_all, end_more, end_all, near_more}
 use Rattle.log_reading.proofs.versions.read_versions.Goals as goal
 
 abbrev no_name : Named

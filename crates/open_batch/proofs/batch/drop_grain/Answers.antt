@@ -2,7 +2,7 @@ use Rattle.std.proofs.Common.{◌≡◌, ap, arith, length, not, rules}
 use Rattle.std.proofs.lemmas.Fn.{filter_same}
 use Rattle.base_types.specs.declared.calls.GrainId.{GrainId}
 use Rattle.cell_model.specs.Units.{same_grain}
-use Rattle.open_batch.specs.Taken.{without_grain}
+use Rattle.open_batch.specs.TakenBatch.{without_grain}
 use Rattle.open_batch.proofs.Stages.{fewer}
 use Rattle.open_batch.proofs.batch.drop_grain.Goals as goal
 

@@ -1,5 +1,5 @@
-use Rattle.prepare_batch.proofs.Tied.{core-work}
-use Rattle.prepare_batch.proofs.Gathered.{work_ascends}
+use Rattle.prepare_batch.proofs.CoreWork.{core-work}
+use Rattle.prepare_batch.proofs.GatheredPieces.{work_ascends}
 use Rattle.prepare_batch.proofs.laws.work_is_the_plan.Goals as goal
 
 pub returns : goal.returns

@@ -3,7 +3,7 @@ use Rattle.core_model.specs.CoreState.{Version}
 use Rattle.prepare_batch.specs.declared.works.FileWork.{FileWork}
 use Rattle.prepare_batch.specs.Work.{ends_by}
 use Rattle.prepare_batch.specs.Pieces.{with_piece}
-use Rattle.prepare_batch.proofs.Joined.{piece_more, piece_other}
+use Rattle.prepare_batch.proofs.JoinedPieces.{piece_more, piece_other}
 use Rattle.prepare_batch.proofs.works.add_piece.Goals as goal
 
 pub returns-then-is_same : goal.returns-then-is_same

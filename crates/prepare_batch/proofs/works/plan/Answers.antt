@@ -2,7 +2,7 @@ use Rattle.std.proofs.Common.{◌∙◌, ap, [], List}
 use Rattle.prepare_batch.specs.declared.pieces.Piece.{Piece}
 use Rattle.prepare_batch.specs.Work.{ends_by}
 use Rattle.prepare_batch.specs.Pieces.{with_pieces, pieces_by_grain, pieces_of}
-use Rattle.prepare_batch.proofs.Gathered.{gathered}
+use Rattle.prepare_batch.proofs.GatheredPieces.{gathered}
 use Rattle.prepare_batch.proofs.works.plan.Goals as goal
 
 pub returns : goal.returns

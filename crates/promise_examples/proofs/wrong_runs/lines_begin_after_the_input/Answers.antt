@@ -1,4 +1,4 @@
-use Rattle.promise_spec.proofs.Opened.{unbegun_entry}
+use Rattle.promise_spec.proofs.OpenedRuns.{unbegun_entry}
 use Rattle.promise_examples.proofs.WrongRuns.{begun_unread, begun_too_long, begun_and_unreadable, unbegun_record}
 use Rattle.promise_examples.proofs.wrong_runs.lines_begin_after_the_input.Goals as goal
 

@@ -1,4 +1,4 @@
-use Rattle.promise_laws.proofs.Quiet.{follows}
+use Rattle.promise_laws.proofs.LoadRuns.{follows}
 use Rattle.promise_laws.proofs.loads.loads_follow_runs.Goals as goal
 
 pub returns : goal.returns

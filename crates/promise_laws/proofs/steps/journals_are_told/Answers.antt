@@ -1,4 +1,4 @@
-use Rattle.promise_laws.proofs.Stepping.{cut_is_front, emits_on, fails_on}
+use Rattle.promise_laws.proofs.JournalSteps.{cut_is_front, emits_on, fails_on}
 use Rattle.promise_laws.proofs.steps.journals_are_told.Goals as goal
 
 pub returns-clause-emits : goal.returns-clause-emits

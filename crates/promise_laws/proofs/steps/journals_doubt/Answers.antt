@@ -1,4 +1,4 @@
-use Rattle.promise_laws.proofs.Stepping.{unbegun_on, doubts_on, doubt_stays_on, doubt_emits_on, doubt_fails_on}
+use Rattle.promise_laws.proofs.JournalSteps.{unbegun_on, doubts_on, doubt_stays_on, doubt_emits_on, doubt_fails_on}
 use Rattle.promise_laws.proofs.steps.journals_doubt.Goals as goal
 
 pub returns-clause-unbegun : goal.returns-clause-unbegun

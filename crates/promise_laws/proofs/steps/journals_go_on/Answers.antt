@@ -1,4 +1,4 @@
-use Rattle.promise_laws.proofs.Stepping.{asked_seals, begins_at, stays_on, seals_on, settles_on}
+use Rattle.promise_laws.proofs.JournalSteps.{asked_seals, begins_at, stays_on, seals_on, settles_on}
 use Rattle.promise_laws.proofs.steps.journals_go_on.Goals as goal
 
 pub returns-clause-begins : goal.returns-clause-begins

@@ -1,4 +1,4 @@
-use Rattle.promise_laws.proofs.Journaled.{chained, longest, sound, holds}
+use Rattle.promise_laws.proofs.JournalCrashes.{chained, longest, sound, holds}
 use Rattle.promise_laws.proofs.steps.journals_survive.Goals as goal
 
 pub returns-clause-chained : goal.returns-clause-chained

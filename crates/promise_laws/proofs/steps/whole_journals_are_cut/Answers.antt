@@ -1,4 +1,4 @@
-use Rattle.promise_laws.proofs.Stepping.{whole_cut, doubt_cut}
+use Rattle.promise_laws.proofs.JournalSteps.{whole_cut, doubt_cut}
 use Rattle.promise_laws.proofs.steps.whole_journals_are_cut.Goals as goal
 
 pub returns-clause-journal : goal.returns-clause-journal

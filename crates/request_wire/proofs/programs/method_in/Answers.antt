@@ -1,7 +1,7 @@
 use Rattle.std.proofs.Common.{ap, ◌∙◌, sym, map, option_map}
 use Rattle.script_tree.specs.Programs.{method_tree}
 use Rattle.request_wire.specs.Names.{method_names, named}
-use Rattle.request_wire.proofs.Named.{method_of-some}
+use Rattle.request_wire.proofs.ProgramNames.{method_of-some}
 use Rattle.request_wire.proofs.programs.method_in.Goals as goal
 
 pub returns-in-Some : goal.returns-in-Some

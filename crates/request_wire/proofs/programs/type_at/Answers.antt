@@ -1,5 +1,5 @@
 use Rattle.std.proofs.Common.{ap, ◌∙◌, sym, option_map}
-use Rattle.request_wire.proofs.Named.{types_from-hit, types_from-miss}
+use Rattle.request_wire.proofs.ProgramNames.{types_from-hit, types_from-miss}
 use Rattle.request_wire.proofs.programs.type_at.Goals as goal
 
 pub returns-then-eq : goal.returns-then-eq

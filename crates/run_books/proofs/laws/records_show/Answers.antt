@@ -1,6 +1,6 @@
-use Rattle.run_books.proofs.Lasting.{lasts}
-use Rattle.run_books.proofs.Showing.{explains, settled}
-use Rattle.run_books.proofs.Unvoted.{unvoted_behind}
+use Rattle.run_books.proofs.TurnImages.{lasts}
+use Rattle.run_books.proofs.ShownRecord.{explains, settled}
+use Rattle.run_books.proofs.UnvotedFiles.{unvoted_behind}
 use Rattle.run_books.proofs.laws.records_show.Goals as goal
 
 pub returns-clause-explains : goal.returns-clause-explains

@@ -1,4 +1,4 @@
-use Rattle.script_check.proofs.Mentioned.{program_named}
+use Rattle.script_check.proofs.MentionedNames.{program_named}
 use Rattle.script_check.proofs.laws.each_name_is_mentioned.Goals as goal
 
 pub returns : goal.returns

@@ -1,5 +1,5 @@
 use Rattle.script_check.specs.Shapes.{value_of}
-use Rattle.script_check.proofs.Shaped.{front_fits}
+use Rattle.script_check.proofs.TypeShapes.{front_fits}
 use Rattle.script_check.proofs.shapes.initial_state.Goals as goal
 
 pub push-requires : goal.push-requires

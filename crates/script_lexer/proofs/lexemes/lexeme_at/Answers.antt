@@ -1,4 +1,4 @@
-use Rattle.script_lexer.proofs.Within.{result_within}
+use Rattle.script_lexer.proofs.LexemeEnds.{result_within}
 use Rattle.script_lexer.proofs.lexemes.lexeme_at.Goals as goal
 
 pub returns-clause-within : goal.returns-clause-within

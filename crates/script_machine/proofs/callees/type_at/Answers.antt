@@ -3,9 +3,9 @@ use Rattle.std.specs.Prelude.{IfSome}
 use Rattle.script_tree.specs.declared.programs.Program.{Program}
 use Rattle.script_tree.specs.declared.programs.TypeDecl.{TypeDecl}
 use Rattle.script_tree.specs.Programs.{type_tree, program_tree}
-use Rattle.script_check.specs.Accepted.{IsAcceptedProgram}
+use Rattle.script_check.specs.AcceptedPrograms.{IsAcceptedProgram}
 use Rattle.script_machine.specs.Callees.{IsFew}
-use Rattle.script_machine.proofs.Few.{few_at}
+use Rattle.script_machine.proofs.PartCounts.{few_at}
 use Rattle.script_machine.proofs.callees.type_at.Goals as goal
 
 pub returns-clause-few : goal.returns-clause-few

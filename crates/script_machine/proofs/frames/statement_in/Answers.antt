@@ -1,7 +1,7 @@
 use Rattle.std.proofs.Common.{ap, ◌∙◌}
 use Rattle.std.specs.Prelude.{option_map}
 use Rattle.script_tree.specs.Stmts.{stmt_tree}
-use Rattle.script_machine.proofs.Stands.{statement_map}
+use Rattle.script_machine.proofs.FramePlaces.{statement_map}
 use Rattle.script_machine.proofs.frames.statement_in.Goals as goal
 
 pub returns : goal.returns

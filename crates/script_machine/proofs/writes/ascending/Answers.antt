@@ -1,6 +1,6 @@
 use Rattle.std.proofs.Common.{Bool, List, ap, sym, ◌∙◌, arith}
 use Rattle.std.specs.Prelude.{if◌then◌else◌}
-use Rattle.script_holding.specs.declared.held.Held.{Held}
+use Rattle.script_holding.specs.declared.held_grain.Held.{Held}
 use Rattle.script_meaning.specs.Play.{insert}
 use Rattle.script_machine.proofs.Orders.{onto, onto_push}
 use Rattle.script_machine.proofs.writes.ascending.Goals as goal

@@ -1,4 +1,4 @@
-use Rattle.script_meaning.proofs.Steady.{while_once}
+use Rattle.script_meaning.proofs.StepCounts.{while_once}
 use Rattle.script_meaning.proofs.laws.loops_go_on.Goals as goal
 
 pub returns : goal.returns

@@ -1,4 +1,4 @@
-use Rattle.script_meaning.proofs.Within.{next_is_of_types_lem}
+use Rattle.script_meaning.proofs.AskedTypes.{next_is_of_types_lem}
 use Rattle.script_meaning.proofs.laws.next_is_of_types.Goals as goal
 
 pub returns : goal.returns

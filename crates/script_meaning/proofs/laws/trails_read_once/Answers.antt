@@ -1,4 +1,4 @@
-use Rattle.script_meaning.proofs.Once.{trails_read_once_lem}
+use Rattle.script_meaning.proofs.SingleReads.{trails_read_once_lem}
 use Rattle.script_meaning.proofs.laws.trails_read_once.Goals as goal
 
 pub returns : goal.returns

@@ -4,7 +4,7 @@ use Rattle.script_lexer.specs.declared.faults.ParseFault.{ParseFault}
 use Rattle.script_lexer.specs.declared.tokens.Spanned.{Spanned}
 use Rattle.script_lexer.specs.declared.tokens.Symbol.TheVariants as symbol
 use Rattle.script_expressions.specs.Tokens.{name_at, expected}
-use Rattle.script_expressions.proofs.Many.{listed_goes}
+use Rattle.script_expressions.proofs.ItemLists.{listed_goes}
 use Rattle.script_parser.proofs.methods.names.Goals as goal
 
 pub loop-turn-preserved : goal.loop-turn-preserved

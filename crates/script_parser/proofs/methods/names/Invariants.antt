@@ -1,7 +1,7 @@
 use Rattle.std.proofs.Common.{◌≡◌, ◌-◌, length}
 use Rattle.script_expressions.specs.Tokens.{name_at}
 use Rattle.script_expressions.specs.Calls.{listed}
-use Rattle.script_expressions.proofs.Many.{with_front}
+use Rattle.script_expressions.proofs.ItemLists.{with_front}
 use Rattle.script_parser.proofs.methods.names.Given as goal
 
 abbrev pub invariant-loop-turn : goal.invariant-loop-turn

@@ -1,5 +1,5 @@
 use Rattle.script_parser.proofs.CompleteParts.{if_found, only_this}
-use Rattle.script_parser.proofs.Placed.{if_in_order}
+use Rattle.script_parser.proofs.NamePlaces.{if_in_order}
 use Rattle.script_parser.proofs.Refusals.{if_refused}
 use Rattle.script_parser.proofs.programs.parse.Goals as goal
 

@@ -4,7 +4,7 @@ use Rattle.script_tree.specs.Stmts.{stmt_tree, stmt_trees}
 use Rattle.script_lexer.specs.declared.faults.ParseFault.{ParseFault}
 use Rattle.script_lexer.specs.declared.tokens.Spanned.{Spanned}
 use Rattle.script_parser.specs.Statements.{statement_over, block}
-use Rattle.script_parser.proofs.Many.{statements_go}
+use Rattle.script_parser.proofs.PartLists.{statements_go}
 use Rattle.script_parser.proofs.statements.+block.Goals as goal
 
 pub read_statements-loop-turn-preserved : goal.read_statements-loop-turn-preserved

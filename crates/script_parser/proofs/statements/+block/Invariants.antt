@@ -1,6 +1,6 @@
 use Rattle.std.proofs.Common.{◌≡◌, ◌+◌, ◌-◌, ◌*◌, length}
 use Rattle.script_tree.specs.Stmts.{stmt_trees}
-use Rattle.script_expressions.proofs.Many.{with_front}
+use Rattle.script_expressions.proofs.ItemLists.{with_front}
 use Rattle.script_parser.specs.Statements.{statements, statement_over, block}
 use Rattle.script_parser.proofs.statements.+block.Given as goal
 

@@ -3,7 +3,7 @@ use Rattle.script_tree.specs.declared.programs.FieldDecl.{FieldDecl}
 use Rattle.script_lexer.specs.declared.faults.ParseFault.{ParseFault}
 use Rattle.script_lexer.specs.declared.tokens.Word.TheVariants as word
 use Rattle.script_parser.specs.Types.{field_at}
-use Rattle.script_parser.proofs.Many.{repeated_goes}
+use Rattle.script_parser.proofs.PartLists.{repeated_goes}
 use Rattle.script_parser.proofs.types.fields.Goals as goal
 
 pub loop-turn-preserved : goal.loop-turn-preserved

@@ -5,7 +5,7 @@ use Rattle.script_tree.specs.Programs.{MethodTree, method_tree}
 use Rattle.script_lexer.specs.declared.faults.ParseFault.{ParseFault}
 use Rattle.script_lexer.specs.declared.tokens.Word.TheVariants as word
 use Rattle.script_parser.specs.Methods.{method_at}
-use Rattle.script_parser.proofs.Many.{repeated_goes}
+use Rattle.script_parser.proofs.PartLists.{repeated_goes}
 use Rattle.script_parser.proofs.types.methods.Goals as goal
 
 pub loop-turn-preserved : goal.loop-turn-preserved

@@ -2,7 +2,7 @@ use Rattle.std.proofs.Common.{◌≡◌, ◌-◌, length}
 use Rattle.std.specs.Prelude.{map}
 use Rattle.script_tree.specs.Programs.{method_tree}
 use Rattle.script_lexer.specs.declared.tokens.Word.TheVariants as word
-use Rattle.script_expressions.proofs.Many.{with_front}
+use Rattle.script_expressions.proofs.ItemLists.{with_front}
 use Rattle.script_parser.specs.Methods.{method_at}
 use Rattle.script_parser.specs.Types.{repeated}
 use Rattle.script_parser.proofs.types.methods.Given as goal

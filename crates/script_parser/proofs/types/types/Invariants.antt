@@ -2,7 +2,7 @@ use Rattle.std.proofs.Common.{◌≡◌, ◌-◌, length}
 use Rattle.std.specs.Prelude.{map}
 use Rattle.script_tree.specs.Programs.{type_tree}
 use Rattle.script_lexer.specs.declared.tokens.Word.TheVariants as word
-use Rattle.script_expressions.proofs.Many.{with_front}
+use Rattle.script_expressions.proofs.ItemLists.{with_front}
 use Rattle.script_parser.specs.Types.{type_at, repeated}
 use Rattle.script_parser.proofs.types.types.Given as goal
 

@@ -1,10 +1,10 @@
 use Rattle.std.proofs.Common.{List, ap, sym, ◌∙◌}
 use Rattle.script_tree.specs.Programs.{program_tree}
 use Rattle.script_meaning.specs.Play.{GrainState, Played, unit, play, play_over}
-use Rattle.script_player.specs.Playing.{heard}
+use Rattle.script_player.specs.PlayState.{heard}
 use Rattle.script_player.specs.declared.frames.World.{World}
 use Rattle.script_player.specs.declared.player.Progress.{Progress}
-use Rattle.script_player.proofs.Heard.{heard_first, heard_end}
+use Rattle.script_player.proofs.PlayProgress.{heard_first, heard_end}
 use Rattle.script_player.proofs.units.play.Goals as goal
 
 pub returns : goal.returns

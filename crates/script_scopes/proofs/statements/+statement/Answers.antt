@@ -4,7 +4,7 @@ use Rattle.script_tree.specs.Exprs.{call_tree}
 use Rattle.script_tree.specs.Stmts.{StmtTree, Try, stmt_tree, stmt_trees, block_tree}
 use Rattle.script_tree.specs.declared.statements.Stmt.{Stmt}
 use Rattle.script_tree.specs.declared.chars.Chars.{Chars}
-use Rattle.script_scopes.specs.Found.{◌<|>◌}
+use Rattle.script_scopes.specs.FirstFaults.{◌<|>◌}
 use Rattle.script_scopes.specs.Names.{Scope, local_fault}
 use Rattle.script_scopes.specs.Expressions.{call_fault}
 use Rattle.script_scopes.specs.Settings.{setting_of}

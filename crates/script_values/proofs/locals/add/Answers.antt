@@ -5,12 +5,12 @@ use Rattle.std.specs.Option.{is_some}
 use Rattle.std.proofs.lemmas.List.{length-map}
 use Rattle.script_scopes.specs.Names.{Scope}
 use Rattle.script_scopes.specs.Places.{name_place}
-use Rattle.script_scopes.proofs.Standing.{noted_places}
+use Rattle.script_scopes.proofs.ScopePlaces.{noted_places}
 use Rattle.script_values.specs.declared.locals.Local.{Local}
 use Rattle.script_values.specs.LocalNames.{names_of}
 use Rattle.script_values.specs.Nodes.{place_found}
-use Rattle.script_values.proofs.Placed.{names_more}
-use Rattle.script_values.proofs.Added.{found_here}
+use Rattle.script_values.proofs.LocalPlaces.{names_more}
+use Rattle.script_values.proofs.AddedNodes.{found_here}
 use Rattle.script_values.proofs.locals.add.Goals as goal
 
 pub returns-clause-has : goal.returns-clause-has

@@ -1,5 +1,5 @@
 use Rattle.std.proofs.Common.{rules}
-use Rattle.script_values.proofs.Placed.{placed_put}
+use Rattle.script_values.proofs.LocalPlaces.{placed_put}
 use Rattle.script_values.proofs.locals.give.Goals as goal
 
 pub returns : goal.returns

@@ -10,7 +10,7 @@ use Rattle.script_values.specs.declared.nodes.End.TheVariants.{Free}
 use Rattle.script_values.specs.LocalNames.{names_of}
 use Rattle.script_values.specs.Nodes.{name_digest, node_of, named_at, way_end, place_end, place_found, GainsKid}
 use Rattle.script_values.proofs.Ways.{free_found}
-use Rattle.script_values.proofs.Added.{some_at, noted_link, noted_first, noted_other}
+use Rattle.script_values.proofs.AddedNodes.{some_at, noted_link, noted_first, noted_other}
 use Rattle.script_values.proofs.nodes.note.Goals as goal
 
 names_length : (list : List Local) → length (names_of list) ≡ length list

@@ -1,5 +1,5 @@
 use Rattle.core_access.proofs.Sights.{run-alone}
-use Rattle.settle_loop.proofs.Alone.{alone-applies}
+use Rattle.settle_loop.proofs.LoneSteps.{alone-applies}
 use Rattle.settle_loop.proofs.laws.a_step_alone_applies.Goals as goal
 
 pub returns-clause-run : goal.returns-clause-run

@@ -1,7 +1,7 @@
 use Rattle.std.proofs.Common.{refl}
 use Rattle.core_model.specs.Settler.{settler_step}
-use Rattle.settle_loop.specs.Turning.{state_shown}
-use Rattle.settle_loop.proofs.Journaled.{journals}
+use Rattle.settle_loop.specs.SettlerStep.{state_shown}
+use Rattle.settle_loop.proofs.StepJournal.{journals}
 use Rattle.settle_loop.proofs.laws.steps_are_journaled.Goals as goal
 
 pub returns : goal.returns

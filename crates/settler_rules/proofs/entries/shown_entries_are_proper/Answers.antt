@@ -1,5 +1,5 @@
-use Rattle.core_model.specs.Legal.{ends}
-use Rattle.settler_rules.proofs.Settled.{entry-proper, entry-shown}
+use Rattle.core_model.specs.LegalRuns.{ends}
+use Rattle.settler_rules.proofs.SettledEntries.{entry-proper, entry-shown}
 use Rattle.settler_rules.proofs.entries.shown_entries_are_proper.Goals as goal
 
 pub returns : goal.returns

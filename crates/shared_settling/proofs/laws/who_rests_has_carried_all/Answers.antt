@@ -1,4 +1,4 @@
-use Rattle.shared_settling.proofs.Ended.{carried-all}
+use Rattle.shared_settling.proofs.RunEnds.{carried-all}
 use Rattle.shared_settling.proofs.laws.who_rests_has_carried_all.Goals as goal
 
 pub returns : goal.returns

@@ -5,10 +5,10 @@ use Rattle.settle_loop.specs.declared.settler.Turned.TheVariants.{Stepped, Nothi
 use Rattle.settle_loop.specs.declared.settler.StopCause.TheVariants as cause
 use Rattle.run_books.specs.declared.faults.RunFault.TheVariants.{InDoubt, WriteFault}
 use Rattle.run_books.proofs.BooksShared.{shared-keep}
-use Rattle.shared_settling.proofs.Keeping.{on-stepped, on-idle, on-idle-doubt, on-doubt, on-cut, on-lack}
-use Rattle.shared_settling.proofs.Passing.{step-among, step-promise}
+use Rattle.shared_settling.proofs.KeptBooks.{on-stepped, on-idle, on-idle-doubt, on-doubt, on-cut, on-lack}
+use Rattle.shared_settling.proofs.PassSights.{step-among, step-promise}
 use Rattle.shared_settling.proofs.StepsBeside.{step-leaves}
-use Rattle.shared_settling.proofs.Stopping.{step-knows}
+use Rattle.shared_settling.proofs.Stops.{step-knows}
 use Rattle.shared_settling.proofs.steps.settle_once.Goals as goal
 
 pub returns-in_err-step-clause-own : goal.returns-in_err-step-clause-own

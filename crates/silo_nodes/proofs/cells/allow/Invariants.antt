@@ -1,7 +1,7 @@
 use Rattle.std.proofs.Common.{◌≡◌, drop}
 use Rattle.std.specs.BTreeMap.{get}
 use Rattle.base_types.specs.Stores.{grain_cmp}
-use Rattle.silo_nodes.specs.Cached.{all_allow}
+use Rattle.silo_nodes.specs.LogCache.{all_allow}
 use Rattle.silo_nodes.proofs.cells.allow.Given as goal
 
 abbrev pub invariant-loop-shift : goal.invariant-loop-shift

@@ -2,7 +2,7 @@ use Rattle.std.proofs.Common.{◌≡◌, drop}
 use Rattle.std.specs.BTreeMap.{get}
 use Rattle.base_types.specs.Stores.{grain_cmp}
 use Rattle.silo_nodes.specs.Packets.{GrainId}
-use Rattle.silo_nodes.specs.Cached.{held}
+use Rattle.silo_nodes.specs.LogCache.{held}
 use Rattle.silo_nodes.proofs.cells.hold.Given as goal
 
 abbrev pub invariant-loop-shift : goal.invariant-loop-shift

@@ -3,7 +3,7 @@ use Rattle.std.proofs.lemmas.List.{drop_more}
 use Rattle.std.specs.BTreeMap.{get}
 use Rattle.base_types.specs.Stores.{grain_cmp}
 use Rattle.silo_nodes.specs.Packets.{Shift}
-use Rattle.silo_nodes.specs.Cached.{settled, ShiftsFit}
+use Rattle.silo_nodes.specs.LogCache.{settled, ShiftsFit}
 use Rattle.silo_nodes.proofs.Ledger.{room-rest}
 use Rattle.silo_nodes.proofs.cells.settle.Goals as goal
 

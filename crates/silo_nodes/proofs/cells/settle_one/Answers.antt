@@ -2,7 +2,7 @@ use Rattle.std.proofs.Common.{◌∙◌, ap, rules, subst, refl, sym, IsSome, So
 use Rattle.std.proofs.lemmas.Int.{to_z-of_z}
 use mir.Syntax.{w64}
 use mir.Val.{SFits}
-use Rattle.silo_nodes.specs.Cached.{settled_cell}
+use Rattle.silo_nodes.specs.LogCache.{settled_cell}
 use Rattle.silo_nodes.proofs.Ledger.{one-written}
 use Rattle.silo_nodes.proofs.cells.settle_one.Goals as goal
 

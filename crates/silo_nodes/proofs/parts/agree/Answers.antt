@@ -1,5 +1,5 @@
 use Rattle.std.proofs.Common.{◌≡◌, ◌∙◌, ap, sym, Some, None, position}
-use Rattle.silo_nodes.proofs.Agreeing.{is_named, agreed-none, agreed-at, on-ok}
+use Rattle.silo_nodes.proofs.KeptYes.{is_named, agreed-none, agreed-at, on-ok}
 use Rattle.silo_nodes.proofs.parts.agree.Goals as goal
 
 pub returns-in_default-clause-ok : goal.returns-in_default-clause-ok

@@ -1,7 +1,7 @@
 use Rattle.std.proofs.Common.{refl, ◌∷◌, []}
 use Rattle.silo_nodes.specs.Packets.{Prepare}
 use Rattle.silo_nodes.specs.Coordinators.{Part, prepare_each}
-use Rattle.silo_nodes.proofs.Sending.{sends_on, sends_all}
+use Rattle.silo_nodes.proofs.GrownLists.{sends_on, sends_all}
 use Rattle.silo_nodes.proofs.parts.prepare_each.Goals as goal
 
 pub loop-part-preserved : goal.loop-part-preserved

@@ -2,7 +2,7 @@ use Rattle.std.proofs.Common.{refl, ◌∷◌, [], filter}
 use Rattle.std.specs.Prelude.{if◌then◌else◌}
 use Rattle.silo_nodes.specs.Packets.{Prepare}
 use Rattle.silo_nodes.specs.Coordinators.{Part, prepare_each, is_late}
-use Rattle.silo_nodes.proofs.Sending.{sends_on, sends_all, late-first}
+use Rattle.silo_nodes.proofs.GrownLists.{sends_on, sends_all, late-first}
 use Rattle.silo_nodes.proofs.parts.remind.Goals as goal
 
 pub loop-part-preserved : goal.loop-part-preserved

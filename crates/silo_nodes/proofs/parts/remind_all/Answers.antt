@@ -1,6 +1,6 @@
 use Rattle.std.proofs.Common.{◌≡◌, refl, rules, filter, ◌++◌}
 use Rattle.silo_nodes.specs.Coordinators.{Pending, reminders, prepare_each, is_late}
-use Rattle.silo_nodes.proofs.Sending.{sends_on, sends_all}
+use Rattle.silo_nodes.proofs.GrownLists.{sends_on, sends_all}
 use Rattle.silo_nodes.proofs.parts.remind_all.Goals as goal
 
 pub loop-one-preserved : goal.loop-one-preserved

@@ -2,7 +2,7 @@ use Rattle.std.proofs.Common.{inl, inr, true, is_ok, arith}
 use Rattle.host_trait.specs.Disk.{Tears}
 use Rattle.silo_spec.specs.Silos.{manager}
 use Rattle.host_trait.proofs.Runs.{run_one_write, run_write_synced, run_more_syncs}
-use Rattle.silo_opening.proofs.Closing.{closes_by}
+use Rattle.silo_opening.proofs.GateClosing.{closes_by}
 use Rattle.silo_opening.proofs.creation.close_header.Goals as goal
 
 pub returns-in_err-write_at-clause-run : goal.returns-in_err-write_at-clause-run

@@ -1,4 +1,4 @@
-use Rattle.silo_opening.proofs.Looking.{beside_then}
+use Rattle.silo_opening.proofs.ManagerLook.{beside_then}
 use Rattle.silo_opening.proofs.Outcomes.{made_silo, so_far, came_on}
 use Rattle.silo_opening.proofs.creation.create.Goals as goal
 

@@ -4,10 +4,10 @@ use Rattle.host_trait.specs.Runs.{ChangesFile}
 use Rattle.host_trait.proofs.Moments.{both, weaker}
 use Rattle.silo_spec.specs.Silos.{manager, program_file}
 use Rattle.promise_spec.specs.Logs.{magic}
-use Rattle.silo_spec.specs.Making.{IsNewAt}
-use Rattle.silo_opening.proofs.Closing.{on_ok}
-use Rattle.silo_opening.proofs.Looking.{log_run_beside, program_run_beside, beside_then}
-use Rattle.silo_opening.proofs.Filling.{while_program, while_header, while_opened, filled}
+use Rattle.silo_spec.specs.Creation.{IsNewAt}
+use Rattle.silo_opening.proofs.GateClosing.{on_ok}
+use Rattle.silo_opening.proofs.ManagerLook.{log_run_beside, program_run_beside, beside_then}
+use Rattle.silo_opening.proofs.FolderFilling.{while_program, while_header, while_opened, filled}
 use Rattle.silo_opening.proofs.creation.fill.Goals as goal
 
 pub returns-in_err-map_err-clause-moments : goal.returns-in_err-map_err-clause-moments

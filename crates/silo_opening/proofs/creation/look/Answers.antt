@@ -1,6 +1,6 @@
 use Rattle.std.proofs.Common.{is_ok}
 use Rattle.host_trait.proofs.Runs.{none_asked, once_asked}
-use Rattle.silo_opening.proofs.Looking.{looks_asked, looks_synced, synced_for}
+use Rattle.silo_opening.proofs.ManagerLook.{looks_asked, looks_synced, synced_for}
 use Rattle.silo_opening.proofs.creation.look.Goals as goal
 
 pub returns-in_err-front-clause-looks : goal.returns-in_err-front-clause-looks

@@ -5,8 +5,8 @@ use Rattle.promise_spec.specs.Logs.{magic}
 use Rattle.silo_opening.specs.declared.creation.Front.{Front}
 use Rattle.silo_opening.specs.declared.creation.Front.TheVariants.{Empty, Open, Closed}
 use Rattle.silo_opening.specs.Steps.{ShowsFront, SyncsFor}
-use Rattle.silo_opening.proofs.Looking.{looks_untouched, looks_beside, log_run_beside, beside_then}
-use Rattle.silo_opening.proofs.Closing.{once_first, once_closed, closed_first, tried, on_ok}
+use Rattle.silo_opening.proofs.ManagerLook.{looks_untouched, looks_beside, log_run_beside, beside_then}
+use Rattle.silo_opening.proofs.GateClosing.{once_first, once_closed, closed_first, tried, on_ok}
 use Rattle.silo_opening.proofs.creation.prepare.Goals as goal
 
 pub returns-in-Err-clause-untouched : goal.returns-in-Err-clause-untouched

@@ -2,7 +2,7 @@ use Rattle.std.proofs.Common.{◌+◌, ℕ, length, is_ok, arith, rules}
 use Rattle.host_trait.specs.Disk.{Tears}
 use Rattle.host_trait.proofs.Runs.{run_synced, run_more_syncs}
 use Rattle.silo_spec.specs.Silos.{program_file}
-use Rattle.silo_opening.proofs.Filling.{length_written, text_written}
+use Rattle.silo_opening.proofs.FolderFilling.{length_written, text_written}
 use Rattle.silo_opening.proofs.creation.write_program.Goals as goal
 
 pub returns-in_err-write_at-clause-run : goal.returns-in_err-write_at-clause-run

@@ -1,4 +1,4 @@
-use Rattle.silo_opening.proofs.Still.{still_pull}
+use Rattle.silo_opening.proofs.InputPieces.{still_pull}
 use Rattle.silo_opening.proofs.input.read_input.Goals as goal
 
 pub returns-then-count-eq0-clause-moments : goal.returns-then-count-eq0-clause-moments

@@ -1,7 +1,7 @@
 use Rattle.std.proofs.Common.{◌≡◌, ◌++◌, ◌≤◌, ◌-◌, IsTrue, vec_len}
 use Rattle.host_trait.specs.Faults.{NoneFailed}
 use Rattle.host_trait.specs.Files.{StaysReady}
-use Rattle.silo_opening.proofs.Still.{IsStill}
+use Rattle.silo_opening.proofs.InputPieces.{IsStill}
 use Rattle.silo_opening.proofs.input.read_input.Given as goal
 
 abbrev pub invariant-loop-input : goal.invariant-loop-input

@@ -1,4 +1,4 @@
-use Rattle.silo_top.proofs.Still.{still_pull}
+use Rattle.silo_top.proofs.InputPieces.{still_pull}
 use Rattle.silo_top.proofs.input.read_input.Goals as goal
 
 pub returns-then-count-eq0-clause-only : goal.returns-then-count-eq0-clause-only

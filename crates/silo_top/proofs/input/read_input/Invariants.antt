@@ -1,7 +1,7 @@
 use Rattle.std.proofs.Common.{◌≡◌, ◌++◌, ◌≤◌, ◌-◌, IsTrue, vec_len}
 use Rattle.host_trait.specs.Faults.{NoneFailed}
 use Rattle.host_trait.specs.Files.{StaysReady}
-use Rattle.silo_top.specs.Reading.{PulledOnly}
+use Rattle.silo_top.specs.InputReads.{PulledOnly}
 use Rattle.silo_top.proofs.input.read_input.Given as goal
 
 abbrev pub invariant-loop-input : goal.invariant-loop-input

@@ -5,18 +5,18 @@ use Rattle.std.proofs.Crossing.{crosses}
 use Rattle.atomic_table.proofs.shared.Seat.TheSendSync as seat
 use Rattle.atomic_table.proofs.shared.Shared.TheSendSync as shared
 use Rattle.atomic_table.proofs.send_lease.SendLease.TheSendSync as lease
-use Rattle.run_lines.proofs.Shared.{checked_sync}
-use Rattle.silo_workers.proofs.Sends.{core_send, captures_send}
+use Rattle.run_lines.proofs.SharedValues.{checked_sync}
+use Rattle.silo_workers.proofs.CoreMoves.{core_send, captures_send}
 use Rattle.silo_workers.proofs.crowd.+crowd.Lts-crowd as lts
 use Rattle.std.proofs.Common.{rules, sym, subst}
 use Rattle.script_tree.specs.Programs.{program_tree}
-use Rattle.core_access.specs.ByPass.{sight_of}
+use Rattle.core_access.specs.PassSights.{sight_of}
 use Rattle.core_access.specs.Sights.{Sight}
 use Rattle.history_core.specs.Cores.{run_of}
 use Rattle.silo_workers.specs.declared.crowd.Gathered.{Gathered}
-use Rattle.silo_workers.specs.Beside.{HasSettled}
-use Rattle.silo_workers.specs.Working.{BringsBack, BringsTogether}
-use Rattle.silo_workers.proofs.Crowded.{brought-together}
+use Rattle.silo_workers.specs.SettlerThread.{HasSettled}
+use Rattle.silo_workers.specs.WorkerPasses.{BringsBack, BringsTogether}
+use Rattle.silo_workers.proofs.JoinedPasses.{brought-together}
 use Rattle.silo_workers.proofs.crowd.+crowd.Goals as goal
 use Rattle.run_books.specs.Stages.{side_of}
 

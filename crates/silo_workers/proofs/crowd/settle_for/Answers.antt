@@ -1,12 +1,12 @@
 use Rattle.script_tree.specs.Programs.{program_tree}
-use Rattle.core_access.specs.ByPass.{sight_of}
+use Rattle.core_access.specs.PassSights.{sight_of}
 use Rattle.history_core.specs.Cores.{run_of}
 use Rattle.unit_crew.specs.Crews.{IsBasisOf}
-use Rattle.closing_rules.proofs.Gathered.{gathers-returns}
-use Rattle.silo_workers.specs.Working.{HasWorked}
+use Rattle.closing_rules.proofs.JoinedPasses.{gathers-returns}
+use Rattle.silo_workers.specs.WorkerPasses.{HasWorked}
 use Rattle.silo_workers.specs.declared.work.WorkEnd.TheVariants.{Idle}
-use Rattle.silo_workers.proofs.Returned.{returned-same}
-use Rattle.silo_workers.proofs.Crowded.{settles-none}
+use Rattle.silo_workers.proofs.PassReturns.{returned-same}
+use Rattle.silo_workers.proofs.JoinedPasses.{settles-none}
 use Rattle.silo_workers.proofs.crowd.settle_for.Goals as goal
 use Rattle.run_books.specs.Stages.{side_of}
 

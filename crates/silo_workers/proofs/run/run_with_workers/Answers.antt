@@ -1,17 +1,17 @@
 use Rattle.std.proofs.Common.{ℕ, ◌+◌, ◌≤◌, length, [], sym, ap, ◌∙◌, subst, arith}
 use Rattle.core_model.specs.declared.events.CoreEvent.{CoreEvent}
 use Rattle.core_model.specs.declared.events.CoreReply.{CoreReply}
-use Rattle.core_model.specs.Legal.{Run, ends}
+use Rattle.core_model.specs.LegalRuns.{Run, ends}
 use Rattle.core_access.specs.OneHolder.{own_sight}
 use Rattle.history_core.specs.Cores.{CoreData, run_of}
 use Rattle.turn_cell.specs.declared.view.View.{View}
-use Rattle.txn_agent.specs.Linked.{IsLegalRun}
-use Rattle.worker_rules.specs.Stories.{NoneLoads}
-use Rattle.run_books.proofs.Leaving.{core-beside, run-stays}
-use Rattle.interleaver.proofs.Unstopped.{turns-record}
-use Rattle.silo_workers.proofs.Alone.{turned, turned-beside}
-use Rattle.silo_workers.proofs.Begun.{own-legal, reads-lines, of-program, can-among}
-use Rattle.silo_workers.proofs.Whole.{closed-from, has-gathered, gathered-beside, gathered-same}
+use Rattle.txn_agent.specs.CoreLink.{IsLegalRun}
+use Rattle.worker_rules.specs.SharedHistories.{NoneLoads}
+use Rattle.run_books.proofs.SettlerFrame.{core-beside, run-stays}
+use Rattle.interleaver.proofs.RunningTurns.{turns-record}
+use Rattle.silo_workers.proofs.LoneRun.{turned, turned-beside}
+use Rattle.silo_workers.proofs.RunStart.{own-legal, reads-lines, of-program, can-among}
+use Rattle.silo_workers.proofs.ClosedCore.{closed-from, has-gathered, gathered-beside, gathered-same}
 use Rattle.silo_workers.proofs.run.run_with_workers.Goals as goal
 
 pub gather-core-requires-clause-fresh : goal.gather-core-requires-clause-fresh

@@ -1,9 +1,9 @@
 use Rattle.history_core.specs.Cores.{run_of}
 use Rattle.script_tree.specs.Programs.{program_tree}
 use Rattle.unit_crew.specs.Crews.{IsBasisOf}
-use Rattle.silo_workers.specs.Working.{HasWorked}
+use Rattle.silo_workers.specs.WorkerPasses.{HasWorked}
 use Rattle.silo_workers.specs.declared.work.WorkEnd.TheVariants.{Through}
-use Rattle.silo_workers.proofs.Returned.{returned, worked-through}
+use Rattle.silo_workers.proofs.PassReturns.{returned, worked-through}
 use Rattle.silo_workers.proofs.work.carry.Goals as goal
 use Rattle.std.proofs.Common.{rules}
 

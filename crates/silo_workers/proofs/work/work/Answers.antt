@@ -2,7 +2,7 @@ use Rattle.std.proofs.Common.{refl}
 use Rattle.history_core.specs.Cores.{run_of}
 use Rattle.script_tree.specs.Programs.{program_tree}
 use Rattle.unit_crew.specs.Crews.{IsBasisOf}
-use Rattle.silo_workers.proofs.Returned.{worked-idle}
+use Rattle.silo_workers.proofs.PassReturns.{worked-idle}
 use Rattle.silo_workers.proofs.work.work.Goals as goal
 
 pub returns-then-load : goal.returns-then-load

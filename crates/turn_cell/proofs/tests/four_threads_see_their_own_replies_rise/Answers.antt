@@ -1,7 +1,7 @@
 use Rattle.std.proofs.Common.{rules, ◌≡◌}
 use Rattle.std.specs.Prelude.{⊤}
 use Rattle.turn_cell.specs.Hands.{first_hand}
-use Rattle.turn_cell.proofs.Carried.{whole_gathered}
+use Rattle.turn_cell.proofs.CallSums.{whole_gathered}
 use Rattle.turn_cell.proofs.tests.four_threads_see_their_own_replies_rise.Goals as goal
 
 pub close-tally-requires : goal.close-tally-requires

@@ -1,7 +1,7 @@
 use Rattle.core_laws.proofs.Ends.{kept-ends}
 use Rattle.turn_rules.proofs.Frame.{got-stays}
-use Rattle.turn_rules.proofs.Linked.{outcomes-stay}
-use Rattle.turn_rules.proofs.Others.{given-on, still-on, wants-on}
+use Rattle.turn_rules.proofs.AgentLinks.{outcomes-stay}
+use Rattle.turn_rules.proofs.OthersEvents.{given-on, still-on, wants-on}
 use Rattle.turn_rules.proofs.frames.others_leave_a_unit.Goals as goal
 
 pub returns-clause-still : goal.returns-clause-still

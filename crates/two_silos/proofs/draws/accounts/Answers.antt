@@ -1,6 +1,6 @@
 use Rattle.std.proofs.Common.{◌≡◌, ◌+◌, ◌*◌, ◌++◌, ◌∷◌, [], ◌∙◌, arith, rules, ap, pos}
-use Rattle.two_silos.specs.Generated.{account, accounts}
-use Rattle.two_silos.proofs.Repeated.{accounts_on, accounts_all}
+use Rattle.two_silos.specs.GeneratedEvents.{account, accounts}
+use Rattle.two_silos.proofs.CheckLoops.{accounts_on, accounts_all}
 use Rattle.two_silos.proofs.draws.accounts.Goals as goal
 
 pub loop-at-init : goal.loop-at-init

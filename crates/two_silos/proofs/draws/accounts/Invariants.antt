@@ -1,5 +1,5 @@
 use Rattle.std.proofs.Common.{◌≡◌, ◌+◌, ◌-◌, ◌*◌, ◌++◌}
-use Rattle.two_silos.specs.Generated.{accounts}
+use Rattle.two_silos.specs.GeneratedEvents.{accounts}
 use Rattle.two_silos.proofs.draws.accounts.Given as goal
 
 abbrev pub invariant-loop-at : goal.invariant-loop-at

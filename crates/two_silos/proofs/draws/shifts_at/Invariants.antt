@@ -1,5 +1,5 @@
 use Rattle.std.proofs.Common.{◌≡◌, ◌++◌, drop}
-use Rattle.two_silos.specs.Generated.{shifts_at}
+use Rattle.two_silos.specs.GeneratedEvents.{shifts_at}
 use Rattle.two_silos.proofs.draws.shifts_at.Given as goal
 
 abbrev pub invariant-loop-shift : goal.invariant-loop-shift

@@ -1,4 +1,4 @@
-use Rattle.two_silos.proofs.Later.{one-decision, later-ends}
+use Rattle.two_silos.proofs.LaterWorlds.{one-decision, later-ends}
 use Rattle.two_silos.proofs.laws.decisions_stay.Goals as goal
 
 pub returns-clause-one : goal.returns-clause-one

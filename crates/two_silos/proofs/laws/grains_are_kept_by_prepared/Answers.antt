@@ -1,4 +1,4 @@
-use Rattle.two_silos.proofs.Later.{kept-by, kept-alone}
+use Rattle.two_silos.proofs.LaterWorlds.{kept-by, kept-alone}
 use Rattle.two_silos.proofs.laws.grains_are_kept_by_prepared.Goals as goal
 
 pub returns-clause-kept : goal.returns-clause-kept

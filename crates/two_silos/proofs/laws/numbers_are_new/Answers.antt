@@ -1,4 +1,4 @@
-use Rattle.two_silos.proofs.Further.{new-ends}
+use Rattle.two_silos.proofs.NodeAnswers.{new-ends}
 use Rattle.two_silos.proofs.laws.numbers_are_new.Goals as goal
 
 pub returns : goal.returns

@@ -1,4 +1,4 @@
-use Rattle.two_silos.proofs.Whole.{order-ends}
+use Rattle.two_silos.proofs.FinishedNodes.{order-ends}
 use Rattle.two_silos.proofs.laws.orders_agree.Goals as goal
 
 pub returns : goal.returns

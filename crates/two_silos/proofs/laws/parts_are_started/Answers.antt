@@ -1,4 +1,4 @@
-use Rattle.two_silos.proofs.Started.{started-ends}
+use Rattle.two_silos.proofs.StartedTransactions.{started-ends}
 use Rattle.two_silos.proofs.laws.parts_are_started.Goals as goal
 
 pub returns : goal.returns

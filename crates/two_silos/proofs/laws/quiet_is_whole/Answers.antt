@@ -1,4 +1,4 @@
-use Rattle.two_silos.proofs.Whole.{whole-ends}
+use Rattle.two_silos.proofs.FinishedNodes.{whole-ends}
 use Rattle.two_silos.proofs.laws.quiet_is_whole.Goals as goal
 
 pub returns : goal.returns

@@ -1,6 +1,6 @@
 use Rattle.std.proofs.Common.{◌≡◌, ◌∙◌, [], get_or, rules, subst, Some}
-use Rattle.silo_nodes.specs.Cached.{opening_in}
-use Rattle.two_silos.proofs.Opened.{at-any}
+use Rattle.silo_nodes.specs.LogCache.{opening_in}
+use Rattle.two_silos.proofs.OpenedNodes.{at-any}
 use Rattle.two_silos.proofs.openings.nodes_of.Goals as goal
 
 pub new-requires : goal.new-requires

@@ -1,6 +1,6 @@
 use Rattle.std.proofs.Common.{◌∙◌, ap, is_some}
-use Rattle.silo_nodes.specs.Cached.{opening_in}
-use Rattle.two_silos.proofs.Parted.{balance-there}
+use Rattle.silo_nodes.specs.LogCache.{opening_in}
+use Rattle.two_silos.proofs.StartParts.{balance-there}
 use Rattle.two_silos.proofs.parts.has_grain.Goals as goal
 
 pub returns : goal.returns

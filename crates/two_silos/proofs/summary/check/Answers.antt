@@ -1,9 +1,9 @@
 use Rattle.std.proofs.Common.{◌≡◌, ◌∙◌, ap, sym}
 use Rattle.two_silos.specs.World.{begin}
-use Rattle.two_silos.specs.Generated.{Course, round, finish, bank, times, checked}
+use Rattle.two_silos.specs.GeneratedEvents.{Course, round, finish, bank, times, checked}
 use Rattle.two_silos.specs.Summaries.{Summary, summary_of}
-use Rattle.two_silos.proofs.Repeated.{times_on, times_all}
-use Rattle.two_silos.proofs.Checked.{check-whole}
+use Rattle.two_silos.proofs.CheckLoops.{times_on, times_all}
+use Rattle.two_silos.proofs.CheckedWorld.{check-whole}
 use Rattle.two_silos.proofs.summary.check.Goals as goal
 
 pub loop-preserved : goal.loop-preserved

@@ -1,6 +1,6 @@
 use Rattle.std.proofs.Common.{◌≡◌, ◌-◌}
 use Rattle.two_silos.specs.World.{begin}
-use Rattle.two_silos.specs.Generated.{times, round, bank}
+use Rattle.two_silos.specs.GeneratedEvents.{times, round, bank}
 use Rattle.two_silos.proofs.summary.check.Given as goal
 
 abbrev pub invariant-loop : goal.invariant-loop

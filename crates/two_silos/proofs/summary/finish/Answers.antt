@@ -1,7 +1,7 @@
 use Rattle.std.proofs.Common.{◌≡◌, ℕ}
 use Rattle.two_silos.specs.World.{World}
-use Rattle.two_silos.specs.Generated.{pass}
-use Rattle.two_silos.proofs.Repeated.{times_on}
+use Rattle.two_silos.specs.GeneratedEvents.{pass}
+use Rattle.two_silos.proofs.CheckLoops.{times_on}
 use Rattle.two_silos.proofs.summary.finish.Goals as goal
 
 pub loop-preserved : goal.loop-preserved

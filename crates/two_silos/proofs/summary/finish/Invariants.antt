@@ -1,5 +1,5 @@
 use Rattle.std.proofs.Common.{◌≡◌, ◌-◌, length}
-use Rattle.two_silos.specs.Generated.{times, pass, nudge_all}
+use Rattle.two_silos.specs.GeneratedEvents.{times, pass, nudge_all}
 use Rattle.two_silos.proofs.summary.finish.Given as goal
 
 abbrev pub invariant-loop : goal.invariant-loop

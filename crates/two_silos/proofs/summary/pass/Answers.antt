@@ -1,7 +1,7 @@
 use Rattle.std.proofs.Common.{◌≡◌, ◌+◌, ℕ, ap}
 use Rattle.two_silos.specs.World.{World}
-use Rattle.two_silos.specs.Generated.{deliver_next}
-use Rattle.two_silos.proofs.Repeated.{times_on}
+use Rattle.two_silos.specs.GeneratedEvents.{deliver_next}
+use Rattle.two_silos.proofs.CheckLoops.{times_on}
 use Rattle.two_silos.proofs.summary.pass.Goals as goal
 
 pub loop-at-preserved : goal.loop-at-preserved

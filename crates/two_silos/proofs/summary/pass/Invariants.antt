@@ -1,5 +1,5 @@
 use Rattle.std.proofs.Common.{◌≡◌, ◌-◌}
-use Rattle.two_silos.specs.Generated.{times, deliver_next}
+use Rattle.two_silos.specs.GeneratedEvents.{times, deliver_next}
 use Rattle.two_silos.proofs.summary.pass.Given as goal
 
 abbrev pub invariant-loop-at : goal.invariant-loop-at

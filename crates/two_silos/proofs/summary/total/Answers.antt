@@ -3,7 +3,7 @@ use Rattle.std.proofs.lemmas.Int.{ints, to_z-of_z}
 use mir.Val.{to_z, of_z, SFits}
 use mir.Syntax.{w128}
 use Rattle.two_silos.specs.World.{balance_in}
-use Rattle.two_silos.specs.Generated.{account}
+use Rattle.two_silos.specs.GeneratedEvents.{account}
 use Rattle.two_silos.specs.Summaries.{or_zero}
 use Rattle.two_silos.proofs.Totals.{balance-fits, sum-fits, sum-below, sum-above, zero-plus, sum_on, sum_all}
 use Rattle.two_silos.proofs.summary.total.Goals as goal

@@ -1,7 +1,7 @@
 use Rattle.std.proofs.Common.{◌≡◌, rules, subst, Some}
-use Rattle.silo_nodes.specs.Cached.{opening_in}
+use Rattle.silo_nodes.specs.LogCache.{opening_in}
 use Rattle.two_silos_tests.specs.Openings.{three}
-use Rattle.two_silos_tests.proofs.Opened.{three-opening}
+use Rattle.two_silos_tests.proofs.OpeningBalances.{three-opening}
 use Rattle.two_silos_tests.proofs.openings.participant.Goals as goal
 
 pub new-requires : goal.new-requires

@@ -1,7 +1,7 @@
 use Rattle.std.proofs.Common.{arith, ◌+◌, refl, sym, ◌∙◌}
 use Rattle.script_tree.specs.Programs.{program_tree}
-use Rattle.txn_agent.proofs.Acting.{begin_acts, begin_happened, begin_known, begin_moves, begin_stays, few_kids}
-use Rattle.txn_agent.proofs.Replied.{not-began, was-began}
+use Rattle.txn_agent.proofs.AgentCalls.{begin_acts, begin_happened, begin_known, begin_moves, begin_stays, few_kids}
+use Rattle.txn_agent.proofs.UnhopedReplies.{not-began, was-began}
 use Rattle.txn_agent.proofs.children.begin_child.Goals as goal
 
 pub returns-in-Some-clause-acts : goal.returns-in-Some-clause-acts

@@ -1,7 +1,7 @@
 use Rattle.std.proofs.Common.{◌∙◌, sym}
 use Rattle.script_tree.specs.Programs.{program_tree}
-use Rattle.txn_agent.proofs.Acting.{waiting-looks}
-use Rattle.txn_agent.proofs.Resuming.{heard_known, known_none}
+use Rattle.txn_agent.proofs.AgentCalls.{waiting-looks}
+use Rattle.txn_agent.proofs.ResumedScripts.{heard_known, known_none}
 use Rattle.txn_agent.proofs.children.hear.Goals as goal
 
 pub returns-in-Undecided-clause-heard : goal.returns-in-Undecided-clause-heard

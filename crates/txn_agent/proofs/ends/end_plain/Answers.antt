@@ -1,8 +1,8 @@
 use Rattle.std.proofs.Common.{◌∙◌, ap, sym}
 use Rattle.std.specs.Prelude.{length}
 use Rattle.script_tree.specs.Programs.{program_tree}
-use Rattle.txn_agent.proofs.Acting.{end_acts, end_done, end_moves, end_over, end_stopped}
-use Rattle.txn_agent.proofs.Replied.{was-done}
+use Rattle.txn_agent.proofs.AgentCalls.{end_acts, end_done, end_moves, end_over, end_stopped}
+use Rattle.txn_agent.proofs.UnhopedReplies.{was-done}
 use Rattle.txn_agent.proofs.ends.end_plain.Goals as goal
 
 pub effect_of-requires-clause-sources : goal.effect_of-requires-clause-sources

@@ -1,8 +1,8 @@
 use Rattle.std.proofs.Common.{◌∙◌, ap, sym}
 use Rattle.std.specs.Prelude.{length}
 use Rattle.script_tree.specs.Programs.{program_tree}
-use Rattle.txn_agent.proofs.Acting.{finish_acts, finish_done, finish_moves, finish_over, finish_stopped}
-use Rattle.txn_agent.proofs.Replied.{was-done}
+use Rattle.txn_agent.proofs.AgentCalls.{finish_acts, finish_done, finish_moves, finish_over, finish_stopped}
+use Rattle.txn_agent.proofs.UnhopedReplies.{was-done}
 use Rattle.txn_agent.proofs.ends.finish.Goals as goal
 
 pub effect_of-requires-clause-sources : goal.effect_of-requires-clause-sources

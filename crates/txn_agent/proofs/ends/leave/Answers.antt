@@ -1,7 +1,7 @@
 use Rattle.std.proofs.Common.{rules, not, ◌∙◌, ap}
 use Rattle.std.proofs.lemmas.Fn.{filter_same}
 use Rattle.core_model.specs.CoreState.{GrainId, same_grain}
-use Rattle.txn_agent.specs.Stepping.{all_but}
+use Rattle.txn_agent.specs.AgentStep.{all_but}
 use Rattle.txn_agent.proofs.ends.leave.Goals as goal
 
 pub returns : goal.returns

@@ -4,9 +4,9 @@ use Rattle.core_model.specs.CoreState.{GrainId}
 use Rattle.core_model.specs.Tests.{first_grain}
 use Rattle.script_tree.specs.Programs.{program_tree}
 use Rattle.txn_agent.specs.declared.work.Doing.TheVariants.{Frees}
-use Rattle.txn_agent.specs.Linked.{KnowsDoing}
-use Rattle.txn_agent.proofs.Resuming.{ended_happened, release_acts, release_done, release_moves, release_over, release_stays}
-use Rattle.txn_agent.proofs.Replied.{was-done}
+use Rattle.txn_agent.specs.CoreLink.{KnowsDoing}
+use Rattle.txn_agent.proofs.ResumedScripts.{ended_happened, release_acts, release_done, release_moves, release_over, release_stays}
+use Rattle.txn_agent.proofs.UnhopedReplies.{was-done}
 use Rattle.txn_agent.proofs.ends.release.Goals as goal
 
 pub returns-then-done-clause-acts : goal.returns-then-done-clause-acts

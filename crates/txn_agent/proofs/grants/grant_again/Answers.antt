@@ -1,8 +1,8 @@
 use Rattle.std.proofs.Common.{sym, ◌∙◌}
 use Rattle.script_tree.specs.Programs.{program_tree}
-use Rattle.txn_agent.proofs.Acting.{grant_acts, grant_happened, grant_moves, grant_stays}
-use Rattle.txn_agent.proofs.Resuming.{again_known}
-use Rattle.txn_agent.proofs.Replied.{not-granted, was-granted}
+use Rattle.txn_agent.proofs.AgentCalls.{grant_acts, grant_happened, grant_moves, grant_stays}
+use Rattle.txn_agent.proofs.ResumedScripts.{again_known}
+use Rattle.txn_agent.proofs.UnhopedReplies.{not-granted, was-granted}
 use Rattle.txn_agent.proofs.grants.grant_again.Goals as goal
 
 pub returns-in_err-work-in-Some-clause-acts : goal.returns-in_err-work-in-Some-clause-acts

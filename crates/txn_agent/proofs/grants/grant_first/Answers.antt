@@ -2,10 +2,10 @@ use Rattle.std.proofs.Common.{subst, sym, ◌∙◌}
 use Rattle.script_tree.specs.Programs.{program_tree}
 use Rattle.script_machine.specs.declared.machine.Input.TheVariants.{Grain}
 use Rattle.txn_agent.specs.declared.work.Work.{Work}
-use Rattle.txn_agent.specs.Working.{HasResumed}
-use Rattle.txn_agent.proofs.Acting.{grant_acts, grant_happened, grant_moves, grant_stays}
-use Rattle.txn_agent.proofs.Resuming.{first_known}
-use Rattle.txn_agent.proofs.Replied.{not-granted, was-granted}
+use Rattle.txn_agent.specs.MachineState.{HasResumed}
+use Rattle.txn_agent.proofs.AgentCalls.{grant_acts, grant_happened, grant_moves, grant_stays}
+use Rattle.txn_agent.proofs.ResumedScripts.{first_known}
+use Rattle.txn_agent.proofs.UnhopedReplies.{not-granted, was-granted}
 use Rattle.txn_agent.proofs.grants.grant_first.Goals as goal
 
 pub returns-in_err-locked-in-Some-clause-acts : goal.returns-in_err-locked-in-Some-clause-acts

@@ -1,4 +1,4 @@
-use Rattle.txn_agent.proofs.Promised.{new-began, new-carried}
+use Rattle.txn_agent.proofs.StepPromises.{new-began, new-carried}
 use Rattle.txn_agent.proofs.laws.a_new_unit_can_be_carried.Goals as goal
 
 pub returns-clause-began : goal.returns-clause-began

@@ -1,5 +1,5 @@
-use Rattle.txn_agent.proofs.Going.{alone-goes, alone-waits}
-use Rattle.txn_agent.proofs.Telling.{alone-tells}
+use Rattle.txn_agent.proofs.LoneSteps.{alone-goes, alone-waits}
+use Rattle.txn_agent.proofs.MoveAnswers.{alone-tells}
 use Rattle.txn_agent.proofs.laws.a_step_alone_goes_on.Goals as goal
 
 pub returns-clause-moves : goal.returns-clause-moves

@@ -1,4 +1,4 @@
-use Rattle.txn_agent.proofs.Promised.{acts-alone, acts-rule}
+use Rattle.txn_agent.proofs.StepPromises.{acts-alone, acts-rule}
 use Rattle.txn_agent.proofs.laws.a_step_alone_keeps_the_rule.Goals as goal
 
 pub returns-clause-rule : goal.returns-clause-rule

@@ -1,4 +1,4 @@
-use Rattle.txn_agent.proofs.Composed.{happened-acts}
+use Rattle.txn_agent.proofs.ComposedSteps.{happened-acts}
 use Rattle.txn_agent.proofs.laws.answers_are_steps.Goals as goal
 
 pub returns : goal.returns

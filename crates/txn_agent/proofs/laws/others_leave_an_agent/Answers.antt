@@ -1,4 +1,4 @@
-use Rattle.txn_agent.proofs.Promised.{knows-looks, knows-settles, knows-steps, knows-tells}
+use Rattle.txn_agent.proofs.StepPromises.{knows-looks, knows-settles, knows-steps, knows-tells}
 use Rattle.txn_agent.proofs.laws.others_leave_an_agent.Goals as goal
 
 pub returns-clause-looks : goal.returns-clause-looks

@@ -1,5 +1,5 @@
-use Rattle.txn_agent.proofs.Composed.{acts-counts}
-use Rattle.txn_agent.proofs.Promised.{acts-began}
+use Rattle.txn_agent.proofs.ComposedSteps.{acts-counts}
+use Rattle.txn_agent.proofs.StepPromises.{acts-began}
 use Rattle.txn_agent.proofs.laws.steps_are_counted.Goals as goal
 
 pub returns-clause-counts : goal.returns-clause-counts

@@ -1,7 +1,7 @@
 use Rattle.std.proofs.Common.{◌∙◌, sym}
 use Rattle.script_tree.specs.Programs.{program_tree}
-use Rattle.txn_agent.proofs.Acting.{refuse_acts, refuse_done, refuse_moves, refuse_over, refuse_stays}
-use Rattle.txn_agent.proofs.Replied.{was-done}
+use Rattle.txn_agent.proofs.AgentCalls.{refuse_acts, refuse_done, refuse_moves, refuse_over, refuse_stays}
+use Rattle.txn_agent.proofs.UnhopedReplies.{was-done}
 use Rattle.txn_agent.proofs.locks.refuse.Goals as goal
 
 pub returns-then-done-clause-acts : goal.returns-then-done-clause-acts

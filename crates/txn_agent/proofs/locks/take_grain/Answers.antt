@@ -4,8 +4,8 @@ use Rattle.std.specs.Prelude.{is_some}
 use Rattle.core_model.specs.declared.questions.AskAnswer.{AskAnswer}
 use Rattle.core_model.specs.Changes.{refusal}
 use Rattle.script_machine.specs.declared.machine.Pause.TheVariants.{NeedGrain}
-use Rattle.txn_agent.proofs.Acting.{paused-looks}
-use Rattle.txn_agent.proofs.Composed.{absent_happened, acts_on, held_happened, inactive_happened, looks_counted, told_on, waits_happened}
+use Rattle.txn_agent.proofs.AgentCalls.{paused-looks}
+use Rattle.txn_agent.proofs.ComposedSteps.{absent_happened, acts_on, held_happened, inactive_happened, looks_counted, told_on, waits_happened}
 use Rattle.txn_agent.proofs.locks.take_grain.Goals as goal
 
 pub grant_again-requires-clause-counts : goal.grant_again-requires-clause-counts

@@ -1,7 +1,7 @@
 use Rattle.std.proofs.Common.{refl}
 use Rattle.script_machine.specs.declared.machine.Pause.TheVariants.{NeedUnit, Done}
-use Rattle.txn_agent.proofs.Composed.{looks_self}
-use Rattle.txn_agent.proofs.Moving.{grain_all, other_all, waiting_all, freeing_all, stopped_all}
+use Rattle.txn_agent.proofs.ComposedSteps.{looks_self}
+use Rattle.txn_agent.proofs.ShownMoves.{grain_all, other_all, waiting_all, freeing_all, stopped_all}
 use Rattle.txn_agent.proofs.steps.moves_now.Goals as goal
 
 pub returns-in-NeedGrain-clause-moves : goal.returns-in-NeedGrain-clause-moves

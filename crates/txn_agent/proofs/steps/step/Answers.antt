@@ -1,8 +1,8 @@
 use Rattle.std.proofs.Common.{◌∙◌, sym, subst, ap}
 use Rattle.script_tree.specs.Programs.{program_tree}
-use Rattle.txn_agent.specs.Linked.{KnowsDoing}
-use Rattle.txn_agent.specs.Stepping.{Hears, children_of}
-use Rattle.txn_agent.proofs.Composed.{acts_on, looks_counted, stopped_happened, told_by, waits_for_child}
+use Rattle.txn_agent.specs.CoreLink.{KnowsDoing}
+use Rattle.txn_agent.specs.AgentStep.{Hears, children_of}
+use Rattle.txn_agent.proofs.ComposedSteps.{acts_on, looks_counted, stopped_happened, told_by, waits_for_child}
 use Rattle.txn_agent.proofs.steps.step.Goals as goal
 
 pub do_asked-requires-clause-counts : goal.do_asked-requires-clause-counts

@@ -1,4 +1,4 @@
-use Rattle.unit_carrier.proofs.Known.{settles-carried, drops-carried, none-carried}
+use Rattle.unit_carrier.proofs.CarriedUnits.{settles-carried, drops-carried, none-carried}
 use Rattle.unit_carrier.proofs.laws.others_leave_the_carried.Goals as goal
 
 pub returns-clause-settles : goal.returns-clause-settles

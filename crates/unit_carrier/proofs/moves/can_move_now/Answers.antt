@@ -1,9 +1,9 @@
 use Rattle.std.proofs.Common.{◌∙◌, sym, subst}
 use Rattle.core_access.specs.Sights.{Sight}
 use Rattle.script_tree.specs.Programs.{program_tree}
-use Rattle.txn_agent.specs.Linked.{Knows}
-use Rattle.unit_carrier.proofs.Heard.{freed-rests, move-told}
-use Rattle.unit_carrier.proofs.Known.{looks-same}
+use Rattle.txn_agent.specs.CoreLink.{Knows}
+use Rattle.unit_carrier.proofs.HeardChildren.{freed-rests, move-told}
+use Rattle.unit_carrier.proofs.CarriedUnits.{looks-same}
 use Rattle.unit_carrier.proofs.moves.can_move_now.Goals as goal
 
 pub returns-then-has_freed_all-clause-moves : goal.returns-then-has_freed_all-clause-moves

@@ -1,6 +1,6 @@
 use Rattle.std.proofs.Common.{rules}
 use Rattle.std.proofs.lemmas.Fn.{filter_same}
-use Rattle.unit_crew.proofs.Endings.{is_left}
+use Rattle.unit_crew.proofs.RoundEnds.{is_left}
 use Rattle.unit_crew.proofs.crew.drop_freed.Goals as goal
 
 pub returns : goal.returns

@@ -1,6 +1,6 @@
 use Rattle.std.proofs.Common.{◌≡◌, count_by, take, ◌≤◌}
 use Rattle.txn_agent.specs.declared.agent.Agent.{Agent as AnAgent}
-use Rattle.txn_agent.specs.Stepping.{is_freeing}
+use Rattle.txn_agent.specs.AgentStep.{is_freeing}
 use Rattle.unit_crew.proofs.crew.freeing_in.Given as goal
 
 abbrev pub invariant-loop-agent : goal.invariant-loop-agent

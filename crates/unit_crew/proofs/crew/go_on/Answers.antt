@@ -1,6 +1,6 @@
 use Rattle.script_tree.specs.Programs.{program_tree}
 use Rattle.unit_crew.specs.Crews.{HasTypes}
-use Rattle.unit_crew.proofs.Known.{looks-crew}
+use Rattle.unit_crew.proofs.CrewKnowledge.{looks-crew}
 use Rattle.unit_crew.proofs.Works.{works-looks, works-on}
 use Rattle.unit_crew.proofs.crew.go_on.Goals as goal
 

@@ -3,9 +3,9 @@ use Rattle.std.specs.Prelude.{slice_get, slice_set}
 use Rattle.std.proofs.lemmas.Option.{slice_get_read}
 use Rattle.script_tree.specs.Programs.{program_tree}
 use Rattle.txn_agent.specs.declared.agent.Advanced.{Advanced}
-use Rattle.txn_agent.specs.Stepping.{AnswerSays, children_of}
-use Rattle.unit_crew.proofs.Begun.{child-crew, ended-back, granted-back, moved-back, waits-back, waits-for-back}
-use Rattle.unit_crew.proofs.Known.{acts-so, crew-so, own-here}
+use Rattle.txn_agent.specs.AgentStep.{AnswerSays, children_of}
+use Rattle.unit_crew.proofs.BegunUnits.{child-crew, ended-back, granted-back, moved-back, waits-back, waits-for-back}
+use Rattle.unit_crew.proofs.CrewKnowledge.{acts-so, crew-so, own-here}
 use Rattle.unit_crew.proofs.Works.{works-acts}
 use Rattle.unit_crew.proofs.crew.step.Goals as goal
 

@@ -1,4 +1,4 @@
-use Rattle.unit_crew.proofs.Staying.{all-stay, through-ended, through-freed, through-stays}
+use Rattle.unit_crew.proofs.FinishedUnits.{all-stay, through-ended, through-freed, through-stays}
 use Rattle.unit_crew.proofs.laws.what_is_through_stays.Goals as goal
 
 pub returns-clause-stays : goal.returns-clause-stays

@@ -1,11 +1,11 @@
 use Rattle.std.proofs.Common.{◌≡◌, ◌≤◌, ◌-◌, ◌∙◌, sym, ap, subst, arith}
-use Rattle.core_model.specs.Legal.{Run, ends}
+use Rattle.core_model.specs.LegalRuns.{Run, ends}
 use Rattle.core_access.specs.Sights.{Sight}
 use Rattle.script_tree.specs.Programs.{program_tree}
 use Rattle.unit_crew.specs.Crews.{IsBasisOf}
-use Rattle.unit_crew.proofs.Begun.{starts-crew, works-starts}
-use Rattle.unit_crew.proofs.Endings.{past-lines}
-use Rattle.unit_crew.proofs.Known.{looks-crew}
+use Rattle.unit_crew.proofs.BegunUnits.{starts-crew, works-starts}
+use Rattle.unit_crew.proofs.RoundEnds.{past-lines}
+use Rattle.unit_crew.proofs.CrewKnowledge.{looks-crew}
 use Rattle.unit_crew.proofs.Works.{works-looks, works-on, works-refused}
 use Rattle.unit_crew.proofs.lines.begin_next.Goals as goal
 

@@ -2,7 +2,7 @@ use Rattle.std.proofs.Common.{◌+◌, length}
 use Rattle.script_tree.specs.Programs.{program_tree}
 use Rattle.unit_crew.specs.Crews.{IsBasisOf}
 use Rattle.unit_crew.proofs.Outset.{keeps-promise, none-counted, shown-look, through-look, works-look}
-use Rattle.unit_crew.specs.Through.{IsHalted}
+use Rattle.unit_crew.specs.FinishedUnits.{IsHalted}
 use Rattle.unit_crew.proofs.Works.{showed, works-none}
 use Rattle.unit_crew.proofs.rounds.carry_lines.Goals as goal
 

@@ -3,9 +3,9 @@ use Rattle.std.proofs.lemmas.Grind.{common_steps}
 use Rattle.script_tree.specs.Programs.{program_tree}
 use Rattle.txn_agent.specs.declared.agent.Agent.{Agent}
 use Rattle.unit_crew.specs.Crews.{IsBasisOf}
-use Rattle.unit_crew.specs.Through.{IsHalted, IsPastLine}
-use Rattle.unit_crew.proofs.Endings.{drops-crew, halted-through, none-through}
-use Rattle.unit_crew.proofs.Known.{looks-crew}
+use Rattle.unit_crew.specs.FinishedUnits.{IsHalted, IsPastLine}
+use Rattle.unit_crew.proofs.RoundEnds.{drops-crew, halted-through, none-through}
+use Rattle.unit_crew.proofs.CrewKnowledge.{looks-crew}
 use Rattle.unit_crew.proofs.Works.{showed, works-looks, works-none, works-on, works-types}
 use Rattle.unit_crew.proofs.rounds.go_round.Goals as goal
 

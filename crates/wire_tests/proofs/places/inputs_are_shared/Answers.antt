@@ -1,5 +1,5 @@
 use denote.Param.Send.{sendable}
-use Rattle.run_lines.proofs.Shared.{checked_sync}
+use Rattle.run_lines.proofs.SharedValues.{checked_sync}
 use Rattle.wire_tests.proofs.places.inputs_are_shared.Goals as goal
 
 pub is_shared-requires-send-L : goal.is_shared-requires-send-L

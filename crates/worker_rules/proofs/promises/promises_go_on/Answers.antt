@@ -1,5 +1,5 @@
-use Rattle.turn_rules.specs.Going.{MayCome}
-use Rattle.worker_rules.proofs.Own.{promise-none, promise-sees, promise-adds}
+use Rattle.turn_rules.specs.NextEvent.{MayCome}
+use Rattle.worker_rules.proofs.OwnEntries.{promise-none, promise-sees, promise-adds}
 use Rattle.worker_rules.proofs.promises.promises_go_on.Goals as goal
 
 pub returns-clause-none : goal.returns-clause-none

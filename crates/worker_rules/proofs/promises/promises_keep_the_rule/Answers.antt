@@ -1,7 +1,7 @@
 use Rattle.turn_rules.proofs.Growth.{unit-grows}
 use Rattle.promise_spec.specs.UnitRule.{KeepsUnitRule}
-use Rattle.turn_rules.specs.Going.{MayCome}
-use Rattle.worker_rules.proofs.Whole.{all-ruled, rule-on}
+use Rattle.turn_rules.specs.NextEvent.{MayCome}
+use Rattle.worker_rules.proofs.WholeHistories.{all-ruled, rule-on}
 use Rattle.worker_rules.proofs.promises.promises_keep_the_rule.Goals as goal
 
 pub returns-clause-ruled : goal.returns-clause-ruled

@@ -1,5 +1,5 @@
 use Rattle.script_tree.specs.Programs.{program_tree}
-use Rattle.agent_tests.specs.Carrying.{IsCarrying}
+use Rattle.agent_tests.specs.BenchState.{IsCarrying}
 use Rattle.agent_tests.proofs.bench.Bench.settle.Given as goal
 
 -- each agent knows its unit still

@@ -1,9 +1,9 @@
 use Rattle.std.proofs.Common.{rules, ◌≡◌, true}
 use Rattle.core_access.specs.OneHolder.{none_comes, own_sight}
-use Rattle.core_access.specs.Settling.{is_settling}
+use Rattle.core_access.specs.SettlerEvents.{is_settling}
 use Rattle.script_tree.specs.Programs.{program_tree}
 use Rattle.history_core.specs.Cores.{run_of}
-use Rattle.unit_carrier.proofs.Known.{settles-carried}
+use Rattle.unit_carrier.proofs.CarriedUnits.{settles-carried}
 use Rattle.agent_tests.proofs.bench.Bench.settle_one.Goals as goal
 
 pub returns-in-Ok : goal.returns-in-Ok

@@ -1,6 +1,6 @@
 use Rattle.std.proofs.Common.{ap, subst}
 use Rattle.core_access.proofs.ByPass.{pass-tells}
-use Rattle.core_access.specs.ByPass.{sight_of, all_come}
+use Rattle.core_access.specs.PassSights.{sight_of, all_come}
 use Rattle.core_access.specs.Sights.{Tells}
 use Rattle.core_model.specs.declared.events.CoreEvent.{CoreEvent}
 use Rattle.core_model.specs.declared.events.CoreReply.{CoreReply}

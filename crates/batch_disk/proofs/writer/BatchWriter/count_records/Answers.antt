@@ -2,11 +2,11 @@ use Rattle.std.proofs.Common.{List, sym, subst, ap, ◌∙◌}
 use Rattle.std.specs.List.{flat_map, AllByRecursion}
 use Rattle.base_types.specs.declared.calls.GrainId.{GrainId}
 use Rattle.commit_log.specs.declared.records.Written.{Written}
-use Rattle.batch_disk.specs.Resting.{raised_ends}
+use Rattle.batch_disk.specs.ImagesAtRest.{raised_ends}
 use Rattle.batch_disk.specs.Writers.{file_end}
 use Rattle.batch_disk.proofs.Ends.{next_record}
-use Rattle.batch_disk.proofs.Sealing.{WriteCanCount}
-use Rattle.batch_disk.proofs.Counting.{writes_can_still, record_can}
+use Rattle.batch_disk.proofs.SealSteps.{WriteCanCount}
+use Rattle.batch_disk.proofs.FileEnds.{writes_can_still, record_can}
 use Rattle.batch_disk.proofs.writer.BatchWriter.count_records.Goals as goal
 
 pub count_writes-requires-clause-can : goal.count_writes-requires-clause-can

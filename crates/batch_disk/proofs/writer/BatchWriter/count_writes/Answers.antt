@@ -1,13 +1,13 @@
 use Rattle.std.proofs.Common.{◌≡◌, get_or, refl}
 use Rattle.base_types.specs.declared.calls.GrainId.{GrainId}
 use Rattle.commit_log.specs.declared.records.Written.{Written}
-use Rattle.batch_disk.specs.Resting.{raised_end, raised_ends}
+use Rattle.batch_disk.specs.ImagesAtRest.{raised_end, raised_ends}
 use Rattle.batch_disk.specs.Writers.{file_end}
 use Rattle.batch_disk.specs.declared.writer.BatchWriter.{BatchWriter}
 use Rattle.batch_disk.proofs.Lists.{each_at}
 use Rattle.batch_disk.proofs.Ends.{next_raised}
-use Rattle.batch_disk.proofs.Sealing.{WriteCanCount}
-use Rattle.batch_disk.proofs.Counting.{raise_is, raised_bounds}
+use Rattle.batch_disk.proofs.SealSteps.{WriteCanCount}
+use Rattle.batch_disk.proofs.FileEnds.{raise_is, raised_bounds}
 use Rattle.batch_disk.proofs.writer.BatchWriter.count_writes.Goals as goal
 
 pub raise-requires : goal.raise-requires

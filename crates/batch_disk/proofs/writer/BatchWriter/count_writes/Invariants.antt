@@ -1,7 +1,7 @@
 use Rattle.std.proofs.Common.{◌≡◌, drop}
 use Rattle.base_types.specs.Stores.{KeepsRoom}
 use Rattle.base_types.specs.declared.calls.GrainId.{GrainId}
-use Rattle.batch_disk.specs.Resting.{raised_ends}
+use Rattle.batch_disk.specs.ImagesAtRest.{raised_ends}
 use Rattle.batch_disk.specs.Writers.{file_end, IsInBounds}
 use Rattle.batch_disk.proofs.writer.BatchWriter.count_writes.Given as goal
 

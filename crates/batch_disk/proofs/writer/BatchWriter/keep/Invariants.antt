@@ -1,6 +1,6 @@
 use Rattle.std.proofs.Common.{◌≡◌, ◌+◌, ◌≤◌, ◌++◌, length, drop}
 use Rattle.std.specs.Prelude.{vec_len, vec_capacity}
-use Rattle.batch_disk.specs.Resting.{voted_at}
+use Rattle.batch_disk.specs.ImagesAtRest.{voted_at}
 use Rattle.batch_disk.specs.Writers.{kept_of}
 use Rattle.batch_disk.proofs.writer.BatchWriter.keep.Given as goal
 

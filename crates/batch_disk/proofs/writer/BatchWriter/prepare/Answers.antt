@@ -1,9 +1,9 @@
 use Rattle.std.proofs.Common.{subst, List}
-use Rattle.batch_disk.specs.Resting.{Voted}
+use Rattle.batch_disk.specs.ImagesAtRest.{Voted}
 use Rattle.batch_disk.specs.Writers.{kept_of, voted_of}
 use Rattle.batch_disk.specs.Records.{AreRecordsFor}
-use Rattle.batch_disk.proofs.Recorded.{all_kept}
-use Rattle.batch_disk.proofs.Standing.{voted_within}
+use Rattle.batch_disk.proofs.BatchRecords.{all_kept}
+use Rattle.batch_disk.proofs.WriterState.{voted_within}
 use Rattle.batch_disk.proofs.writer.BatchWriter.prepare.Goals as goal
 
 pub returns-in-Ok-clause-sealable : goal.returns-in-Ok-clause-sealable

@@ -7,12 +7,12 @@ use Rattle.commit_log.specs.declared.records.CommitRecord.{CommitRecord}
 use Rattle.commit_log.specs.declared.gate.Sealing.TheVariants.{Sealed, NotSealed, InDoubt}
 use Rattle.commit_log.specs.Spelling.{spelling_of_body, spelling_of_block}
 use Rattle.promise_spec.specs.Blocks.{Records, body_of}
-use Rattle.batch_disk.specs.Resting.{raised_ends}
+use Rattle.batch_disk.specs.ImagesAtRest.{raised_ends}
 use Rattle.batch_disk.specs.Writers.{file_end, voted_by, kept_of, HasSameEnds}
 use Rattle.batch_disk.specs.declared.writer.BatchWriter.{BatchWriter}
 use Rattle.batch_disk.specs.Records.{commits_by}
-use Rattle.batch_disk.proofs.Sealing.{WriteCanCount, records_can_count, fits_sealed, fits_unsealed, fits_in_doubt, is_next, seals_as, stands_sealed, stands_unsealed, stands_in_doubt}
-use Rattle.batch_disk.proofs.Standing.{own_fits}
+use Rattle.batch_disk.proofs.SealSteps.{WriteCanCount, records_can_count, fits_sealed, fits_unsealed, fits_in_doubt, is_next, seals_as, stands_sealed, stands_unsealed, stands_in_doubt}
+use Rattle.batch_disk.proofs.WriterState.{own_fits}
 use Rattle.batch_disk.proofs.writer.BatchWriter.seal.Goals as goal
 
 pub seal-requires-clause-block : goal.seal-requires-clause-block

@@ -3,9 +3,9 @@ use Rattle.base_types.specs.Stores.{has_room}
 use Rattle.host_trait.specs.declared.channels.FileId.TheVariants.{Grain}
 use Rattle.host_trait.specs.Disk.{settled, overlaid}
 use Rattle.grain_log.specs.Places.{spelling_of_versions, places_from, VersionsStand}
-use Rattle.batch_disk.specs.Resting.{voted_at}
+use Rattle.batch_disk.specs.ImagesAtRest.{voted_at}
 use Rattle.batch_disk.specs.Writers.{file_end, kept_of}
-use Rattle.batch_disk.proofs.Standing.{IsReadyFor, KeepsMore, ready_for, keeps_more, places-length, run_at, bounds_some, bounds_more, own_fits, fits_some, fits_more, keeps_some, keeps_no, keeps_yes, vote_keeps_log}
+use Rattle.batch_disk.proofs.WriterState.{IsReadyFor, KeepsMore, ready_for, keeps_more, places-length, run_at, bounds_some, bounds_more, own_fits, fits_some, fits_more, keeps_some, keeps_no, keeps_yes, vote_keeps_log}
 use Rattle.batch_disk.proofs.writer.BatchWriter.write_work.Goals as goal
 
 pub returns-in_err-make_room-clause-keeps : goal.returns-in_err-make_room-clause-keeps

@@ -2,8 +2,8 @@ use Rattle.std.proofs.Common.{◌∙◌, sym, ap, None, Option}
 use Rattle.core_model.specs.CoreState.{UnitNo, GrainId}
 use Rattle.core_model.specs.declared.questions.CoreQuestion.TheVariants as question
 use Rattle.core_model.specs.declared.questions.CoreAnswer.TheVariants as answer
-use Rattle.history_core.proofs.Locking.{ask-is}
-use Rattle.history_core.proofs.Asked.{answers-that, learn-is, wanted-is}
+use Rattle.history_core.proofs.Grants.{ask-is}
+use Rattle.history_core.proofs.QuestionAnswers.{answers-that, learn-is, wanted-is}
 use Rattle.history_core.proofs.parts.Parts.answer.Goals as goal
 
 pub returns-in-Ask-clause-told : goal.returns-in-Ask-clause-told

@@ -1,5 +1,5 @@
 use Rattle.unit_table.specs.Table.{outcome_known}
-use Rattle.history_core.proofs.Brought.{answered-each}
+use Rattle.history_core.proofs.EffectTests.{answered-each}
 use Rattle.history_core.proofs.parts.Parts.are_answers.Goals as goal
 
 pub returns-then-units-answers : goal.returns-then-units-answers

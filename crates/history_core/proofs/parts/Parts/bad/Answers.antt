@@ -1,7 +1,7 @@
 use Rattle.std.proofs.Common.{◌≡◌, ◌∙◌, ◌++◌, ◌∷◌, [], List, sym, ap, arith}
 use Rattle.base_types.specs.declared.entries.Settled.TheVariants as settled
 use Rattle.core_model.specs.CoreState.{Entry, nobody}
-use Rattle.history_core.proofs.Simple.{does-bad}
+use Rattle.history_core.proofs.OtherEvents.{does-bad}
 use Rattle.history_core.proofs.parts.Parts.bad.Goals as goal
 
 pub returns-clause-ok : goal.returns-clause-ok

@@ -1,7 +1,7 @@
 use Rattle.std.proofs.Common.{◌≡◌, ◌∙◌, ap, take, map, List, length, arith, length-take}
 use Rattle.open_batch.specs.Members.{effect_in}
 use Rattle.open_batch.specs.declared.members.FinishedUnit.{FinishedUnit}
-use Rattle.history_core.specs.Taking.{front_by}
+use Rattle.history_core.specs.UnitsWithoutLocks.{front_by}
 use Rattle.history_core.proofs.Takes.{size-is, front-short, front-within}
 use Rattle.history_core.proofs.parts.Parts.batch_size.Goals as goal
 

@@ -3,8 +3,8 @@ use Rattle.core_model.specs.Tests.{is_aborted}
 use Rattle.core_model.specs.declared.questions.BatchView.{BatchView}
 use Rattle.unit_table.specs.Table.{verdict_in}
 use Rattle.open_batch.specs.declared.members.FinishedUnit.{FinishedUnit}
-use Rattle.open_batch.specs.Taken.{view_by}
-use Rattle.history_core.proofs.Asked.{view-is}
+use Rattle.open_batch.specs.TakenBatch.{view_by}
+use Rattle.history_core.proofs.QuestionAnswers.{view-is}
 use Rattle.history_core.proofs.parts.Parts.batch_view.Goals as goal
 
 pub returns-in_ok-shown-in-Some : goal.returns-in_ok-shown-in-Some

@@ -4,7 +4,7 @@ use Rattle.core_model.specs.declared.questions.SettlerWork.TheVariants as work
 use Rattle.unit_table.specs.Table.{verdict_in}
 use Rattle.open_batch.specs.declared.members.FinishedUnit.{FinishedUnit}
 use Rattle.open_batch.specs.Members.{versions_by, to_commit_by}
-use Rattle.history_core.proofs.Asked.{seal-work, decide-work, vote-work}
+use Rattle.history_core.proofs.QuestionAnswers.{seal-work, decide-work, vote-work}
 use Rattle.history_core.proofs.parts.Parts.batch_work.Goals as goal
 
 pub returns-then-not-is_open : goal.returns-then-not-is_open

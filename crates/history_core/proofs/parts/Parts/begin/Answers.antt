@@ -4,8 +4,8 @@ use Rattle.core_model.specs.declared.events.CoreEvent.TheVariants.{Begin}
 use Rattle.core_model.specs.declared.events.CoreReply.TheVariants as reply
 use Rattle.unit_table.specs.Rooms.{RoomToBegin}
 use Rattle.history_core.specs.declared.parts.Parts.{Parts}
-use Rattle.history_core.proofs.Alike.{keeps-units, keeps-does}
-use Rattle.history_core.proofs.Begun.{does-begin, line-counts}
+use Rattle.history_core.proofs.SameMeaning.{keeps-units, keeps-does}
+use Rattle.history_core.proofs.Begins.{does-begin, line-counts}
 use Rattle.history_core.proofs.parts.Parts.begin.Goals as goal
 
 pub returns-then-is_err-clause-err : goal.returns-then-is_err-clause-err

@@ -2,8 +2,8 @@ use Rattle.std.proofs.Common.{◌∙◌, sym, ap, refl, ◌&&◌}
 use Rattle.core_model.specs.declared.events.CoreEvent.TheVariants.{EndPlain}
 use Rattle.history_core.specs.Effects.{ends_as_plain}
 use Rattle.unit_table.specs.Table.{known_in}
-use Rattle.history_core.proofs.Brought.{can-plain-is}
-use Rattle.history_core.proofs.Stepping.{tells-going}
+use Rattle.history_core.proofs.EffectTests.{can-plain-is}
+use Rattle.history_core.proofs.OneEvent.{tells-going}
 use Rattle.history_core.proofs.parts.Parts.can_end_plain.Goals as goal
 
 pub returns-then-is_going : goal.returns-then-is_going

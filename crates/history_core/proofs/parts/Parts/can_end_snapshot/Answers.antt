@@ -2,8 +2,8 @@ use Rattle.std.proofs.Common.{◌∙◌, sym, ap, refl, ◌&&◌}
 use Rattle.core_model.specs.declared.events.CoreEvent.TheVariants.{EndSnapshot}
 use Rattle.history_core.specs.Effects.{ends_as_snapshot}
 use Rattle.unit_table.specs.Table.{known_in}
-use Rattle.history_core.proofs.Brought.{can-snapshot-is}
-use Rattle.history_core.proofs.Stepping.{tells-going}
+use Rattle.history_core.proofs.EffectTests.{can-snapshot-is}
+use Rattle.history_core.proofs.OneEvent.{tells-going}
 use Rattle.history_core.proofs.parts.Parts.can_end_snapshot.Goals as goal
 
 pub returns-then-is_going : goal.returns-then-is_going

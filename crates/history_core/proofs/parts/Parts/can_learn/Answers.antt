@@ -3,7 +3,7 @@ use Rattle.core_model.specs.Events.{applies}
 use Rattle.core_lists.specs.Pairs.{has_pair}
 use Rattle.history_core.proofs.Learns.{can-learn-is}
 use Rattle.core_model.specs.declared.events.CoreEvent.TheVariants.{Learn}
-use Rattle.history_core.proofs.Stepping.{tells-going}
+use Rattle.history_core.proofs.OneEvent.{tells-going}
 use Rattle.history_core.proofs.parts.Parts.can_learn.Goals as goal
 
 pub returns-then-is_going : goal.returns-then-is_going

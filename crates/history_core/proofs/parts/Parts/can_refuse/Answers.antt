@@ -1,9 +1,9 @@
 use Rattle.std.proofs.Common.{◌∙◌, sym, ap, refl, ◌&&◌, is_some}
 use Rattle.core_model.specs.Changes.{refusal}
 use Rattle.core_model.specs.declared.events.CoreEvent.TheVariants.{Refuse}
-use Rattle.history_core.specs.Asked.{ask_in}
-use Rattle.history_core.proofs.Locking.{ask-is}
-use Rattle.history_core.proofs.Stepping.{tells-going}
+use Rattle.history_core.specs.LockAnswers.{ask_in}
+use Rattle.history_core.proofs.Grants.{ask-is}
+use Rattle.history_core.proofs.OneEvent.{tells-going}
 use Rattle.history_core.proofs.parts.Parts.can_refuse.Goals as goal
 
 pub returns-then-is_going : goal.returns-then-is_going

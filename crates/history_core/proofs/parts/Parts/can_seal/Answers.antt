@@ -1,9 +1,9 @@
 use Rattle.std.proofs.Common.{◌∙◌, sym, ap, refl, ◌&&◌}
 use Rattle.core_model.specs.declared.events.CoreEvent.TheVariants.{Sealed, NotSealed, Doubt}
 use Rattle.history_core.specs.Batches.{is_judged_in}
-use Rattle.history_core.proofs.Sealing.{judged-is}
-use Rattle.history_core.proofs.Shows.{to-cases}
-use Rattle.history_core.proofs.Stepping.{tells-answer}
+use Rattle.history_core.proofs.Seals.{judged-is}
+use Rattle.history_core.proofs.OpenBatches.{to-cases}
+use Rattle.history_core.proofs.OneEvent.{tells-answer}
 use Rattle.history_core.proofs.parts.Parts.can_seal.Goals as goal
 
 pub returns-then-is_known-clause-sealed : goal.returns-then-is_known-clause-sealed

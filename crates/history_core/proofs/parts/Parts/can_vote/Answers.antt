@@ -2,8 +2,8 @@ use Rattle.std.proofs.Common.{◌∙◌, sym, ap, refl, ◌&&◌}
 use Rattle.history_core.specs.Batches.{may_vote_in}
 use Rattle.history_core.proofs.Votes.{may-vote-is}
 use Rattle.core_model.specs.declared.events.CoreEvent.TheVariants.{Vote}
-use Rattle.history_core.proofs.Shows.{to-cases}
-use Rattle.history_core.proofs.Stepping.{tells-going}
+use Rattle.history_core.proofs.OpenBatches.{to-cases}
+use Rattle.history_core.proofs.OneEvent.{tells-going}
 use Rattle.history_core.proofs.parts.Parts.can_vote.Goals as goal
 
 pub returns-then-is_going : goal.returns-then-is_going

@@ -1,6 +1,6 @@
 use Rattle.std.proofs.Common.{◌≡◌, ◌∙◌, sym, ap, refl, arith, true, false, nat_lt, Some}
 use Rattle.std.proofs.lemmas.Bool.{lt-ltb}
-use Rattle.open_batch.specs.Taken.{TakenBatch}
+use Rattle.open_batch.specs.TakenBatch.{TakenBatch}
 use Rattle.history_core.specs.declared.parts.Parts.{Parts}
 use Rattle.history_core.proofs.Decides.{Judges, undecided, does-decide, does-decide-none, ready-decided}
 use Rattle.history_core.proofs.parts.Parts.decide.Goals as goal

@@ -1,4 +1,4 @@
-use Rattle.history_core.proofs.Sealing.{doubt-ready, does-doubt}
+use Rattle.history_core.proofs.Seals.{doubt-ready, does-doubt}
 use Rattle.history_core.proofs.parts.Parts.doubt.Goals as goal
 
 pub close-requires : goal.close-requires

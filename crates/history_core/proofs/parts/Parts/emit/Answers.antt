@@ -1,4 +1,4 @@
-use Rattle.history_core.proofs.Simple.{does-emit, some-entry}
+use Rattle.history_core.proofs.OtherEvents.{does-emit, some-entry}
 use Rattle.history_core.proofs.parts.Parts.emit.Goals as goal
 
 pub emit-requires : goal.emit-requires

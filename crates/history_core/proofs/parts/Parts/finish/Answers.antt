@@ -9,7 +9,7 @@ use Rattle.unit_table.specs.declared.table.UnitTable.{UnitTable}
 use Rattle.open_batch.specs.declared.members.FinishedUnit.{FinishedUnit}
 use Rattle.history_core.specs.declared.parts.Parts.{Parts}
 use Rattle.history_core.specs.Steps.{KeepsMeaning}
-use Rattle.history_core.proofs.Alike.{keeps-does}
+use Rattle.history_core.proofs.SameMeaning.{keeps-does}
 use Rattle.history_core.proofs.Finishes.{does-finish, finish-runs, keeps-prepared}
 use Rattle.history_core.proofs.parts.Parts.finish.Goals as goal
 

@@ -1,6 +1,6 @@
 use Rattle.std.proofs.Common.{◌≡◌, ◌+◌, drop, map}
 use Rattle.open_batch.specs.Members.{effect_in}
-use Rattle.history_core.specs.Taking.{front_by}
+use Rattle.history_core.specs.UnitsWithoutLocks.{front_by}
 use Rattle.history_core.proofs.parts.Parts.free_front.Given as goal
 
 abbrev pub invariant-loop-member : goal.invariant-loop-member

@@ -14,9 +14,9 @@ use Rattle.grain_cell.specs.Room.{without_aborted, writers}
 use Rattle.cell_table.specs.Table.{cell_in}
 use Rattle.unit_table.specs.Table.{verdict_in}
 use Rattle.history_core.specs.declared.parts.Parts.{Parts}
-use Rattle.history_core.specs.Granting.{Cleans}
-use Rattle.history_core.proofs.Alike.{keeps-cells, keeps-units, keeps-does, always-err}
-use Rattle.history_core.proofs.Locking.{does-raise, does-lock, free-here}
+use Rattle.history_core.specs.Grants.{Cleans}
+use Rattle.history_core.proofs.SameMeaning.{keeps-cells, keeps-units, keeps-does, always-err}
+use Rattle.history_core.proofs.Grants.{does-raise, does-lock, free-here}
 use Rattle.history_core.proofs.parts.Parts.grant.Goals as goal
 
 pub lock_over-requires-clause-free : goal.lock_over-requires-clause-free

@@ -1,4 +1,4 @@
-use Rattle.history_core.proofs.Simple.{does-halt}
+use Rattle.history_core.proofs.OtherEvents.{does-halt}
 use Rattle.history_core.proofs.parts.Parts.halt.Goals as goal
 
 pub returns-clause-ok : goal.returns-clause-ok

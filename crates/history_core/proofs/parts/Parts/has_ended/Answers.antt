@@ -1,7 +1,7 @@
 use Rattle.std.proofs.Common.{◌∙◌, sym, ap}
 use Rattle.unit_table.specs.Table.{known_in}
 use Rattle.history_core.specs.Effects.{ends_as_plain}
-use Rattle.history_core.proofs.Brought.{plain-not}
+use Rattle.history_core.proofs.EffectTests.{plain-not}
 use Rattle.history_core.proofs.parts.Parts.has_ended.Goals as goal
 
 pub returns-in-None : goal.returns-in-None

@@ -1,7 +1,7 @@
 use Rattle.std.proofs.Common.{◌∙◌, sym, ap}
 use Rattle.unit_table.specs.Table.{known_in}
 use Rattle.history_core.specs.Effects.{finishes_as}
-use Rattle.history_core.proofs.Brought.{finishes-not}
+use Rattle.history_core.proofs.EffectTests.{finishes-not}
 use Rattle.history_core.proofs.parts.Parts.has_finished.Goals as goal
 
 pub returns-in-None : goal.returns-in-None

@@ -1,6 +1,6 @@
 use Rattle.std.proofs.Common.{◌∙◌, sym, ap}
 use Rattle.std.specs.Prelude.{is_some}
-use Rattle.history_core.proofs.Asked.{takes-has, unlearnt-has}
+use Rattle.history_core.proofs.QuestionAnswers.{takes-has, unlearnt-has}
 use Rattle.history_core.proofs.parts.Parts.has_work.Goals as goal
 
 pub returns-then-is_some-2 : goal.returns-then-is_some-2

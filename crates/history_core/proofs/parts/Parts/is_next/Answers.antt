@@ -1,6 +1,6 @@
 use Rattle.std.proofs.Common.{◌∙◌, sym, ap}
 use Rattle.core_model.specs.Events.{can_begin}
-use Rattle.history_core.proofs.Begun.{next-child-is}
+use Rattle.history_core.proofs.Begins.{next-child-is}
 use Rattle.history_core.proofs.parts.Parts.is_next.Goals as goal
 
 pub returns-in-Child : goal.returns-in-Child

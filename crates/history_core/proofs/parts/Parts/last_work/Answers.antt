@@ -1,7 +1,7 @@
 use Rattle.std.proofs.Common.{◌≡◌, ◌∙◌, sym, ap, Some, None, Option, Bor, slice_get}
 use Rattle.std.specs.Option.{option_copied}
 use Rattle.core_model.specs.CoreState.{Entry}
-use Rattle.history_core.proofs.Asked.{writes-is, written-is}
+use Rattle.history_core.proofs.QuestionAnswers.{writes-is, written-is}
 use Rattle.history_core.proofs.parts.Parts.last_work.Goals as goal
 
 pub returns-in-None : goal.returns-in-None

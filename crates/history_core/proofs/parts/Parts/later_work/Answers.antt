@@ -2,8 +2,8 @@ use Rattle.std.proofs.Common.{◌≡◌, ◌∙◌, sym, None, true, slice_get}
 use Rattle.core_model.specs.Settler.{last_step, later_step}
 use Rattle.core_model.specs.declared.questions.SettlerWork.{SettlerWork}
 use Rattle.history_core.specs.Questions.{ShowsStep}
-use Rattle.history_core.proofs.Alike.{if-ok}
-use Rattle.history_core.proofs.Asked.{learns-is, learnt-is}
+use Rattle.history_core.proofs.SameMeaning.{if-ok}
+use Rattle.history_core.proofs.QuestionAnswers.{learns-is, learnt-is}
 use Rattle.history_core.proofs.parts.Parts.later_work.Goals as goal
 
 pub returns-in-None : goal.returns-in-None

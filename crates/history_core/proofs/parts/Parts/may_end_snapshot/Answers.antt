@@ -1,7 +1,7 @@
 use Rattle.std.proofs.Common.{◌∙◌, sym, ap}
 use Rattle.unit_table.specs.Table.{known_in}
 use Rattle.history_core.specs.Effects.{ends_as_snapshot}
-use Rattle.history_core.proofs.Brought.{snapshot-not}
+use Rattle.history_core.proofs.EffectTests.{snapshot-not}
 use Rattle.history_core.proofs.parts.Parts.may_end_snapshot.Goals as goal
 
 pub returns-in-None : goal.returns-in-None

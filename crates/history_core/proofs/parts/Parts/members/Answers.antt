@@ -1,4 +1,4 @@
-use Rattle.history_core.proofs.Asked.{members-within}
+use Rattle.history_core.proofs.QuestionAnswers.{members-within}
 use Rattle.history_core.proofs.parts.Parts.members.Goals as goal
 
 pub slice_bounds-result-end : goal.slice_bounds-result-end

@@ -5,8 +5,8 @@ use Rattle.core_model.specs.Events.{is_allowed}
 use Rattle.core_model.specs.Tests.{ask_answer}
 use Rattle.core_model.specs.declared.events.CoreEvent.TheVariants.{Grant}
 use Rattle.core_model.specs.declared.events.CoreReply.TheVariants as reply
-use Rattle.history_core.proofs.Locking.{ask-is}
-use Rattle.history_core.proofs.Stepping.{allowed-going}
+use Rattle.history_core.proofs.Grants.{ask-is}
+use Rattle.history_core.proofs.OneEvent.{allowed-going}
 use Rattle.history_core.proofs.parts.Parts.not_granted.Goals as goal
 
 pub returns : goal.returns

@@ -1,4 +1,4 @@
-use Rattle.history_core.proofs.Sealing.{spoil-ready, does-spoil}
+use Rattle.history_core.proofs.Seals.{spoil-ready, does-spoil}
 use Rattle.history_core.proofs.parts.Parts.not_seal.Goals as goal
 
 pub close-requires : goal.close-requires

@@ -5,9 +5,9 @@ use Rattle.core_model.specs.Tests.{ask_answer}
 use Rattle.core_model.specs.declared.events.CoreEvent.TheVariants.{Refuse}
 use Rattle.core_model.specs.declared.events.CoreReply.TheVariants as reply
 use Rattle.history_core.specs.declared.parts.Parts.{Parts}
-use Rattle.history_core.proofs.Alike.{keeps-entries, keeps-does}
+use Rattle.history_core.proofs.SameMeaning.{keeps-entries, keeps-does}
 use Rattle.history_core.proofs.Endings.{does-refuse, refuse-some}
-use Rattle.history_core.proofs.Locking.{ask-is}
+use Rattle.history_core.proofs.Grants.{ask-is}
 use Rattle.history_core.proofs.parts.Parts.refuse.Goals as goal
 
 pub unreachable-requires : goal.unreachable-requires

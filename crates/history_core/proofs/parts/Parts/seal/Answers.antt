@@ -1,4 +1,4 @@
-use Rattle.history_core.proofs.Sealing.{seal-ready, does-seal}
+use Rattle.history_core.proofs.Seals.{seal-ready, does-seal}
 use Rattle.history_core.proofs.parts.Parts.seal.Goals as goal
 
 pub close-requires : goal.close-requires

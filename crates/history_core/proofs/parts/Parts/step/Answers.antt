@@ -1,7 +1,7 @@
 use Rattle.std.proofs.Common.{◌≡◌, ◌∙◌, sym, refl}
 use Rattle.core_model.specs.CoreState.{CoreState}
-use Rattle.history_core.proofs.Stepping.{takes-done, takes-not}
-use Rattle.history_core.proofs.Alike.{if-ok}
+use Rattle.history_core.proofs.OneEvent.{takes-done, takes-not}
+use Rattle.history_core.proofs.SameMeaning.{if-ok}
 use Rattle.history_core.proofs.parts.Parts.step.Goals as goal
 
 pub returns-then-not-applies-clause-ok : goal.returns-then-not-applies-clause-ok

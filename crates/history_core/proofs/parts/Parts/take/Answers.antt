@@ -3,8 +3,8 @@ use Rattle.core_model.specs.Tests.{is_bad}
 use Rattle.core_lists.specs.States.{has_place}
 use Rattle.unit_table.specs.Table.{verdict_in}
 use Rattle.open_batch.specs.declared.members.FinishedUnit.{FinishedUnit}
-use Rattle.open_batch.specs.Taken.{first_batch}
-use Rattle.history_core.specs.Kept.{writes_in, AllPlaced}
+use Rattle.open_batch.specs.TakenBatch.{first_batch}
+use Rattle.history_core.specs.KeptParts.{writes_in, AllPlaced}
 use Rattle.history_core.proofs.Takes.{takes-at, none-open}
 use Rattle.history_core.proofs.parts.Parts.take.Goals as goal
 

@@ -3,7 +3,7 @@ use Rattle.std.specs.Prelude.{◌==◌}
 use Rattle.std.specs.List.{list_any as any}
 use Rattle.std.proofs.lemmas.Bool.{and_parts}
 use Rattle.cell_model.specs.Units.{same_grain}
-use Rattle.open_batch.specs.Taken.{TakenBatch, with_vote}
+use Rattle.open_batch.specs.TakenBatch.{TakenBatch, with_vote}
 use Rattle.core_model.specs.declared.events.CoreEvent.TheVariants.{Vote}
 use Rattle.core_model.specs.declared.events.CoreReply.TheVariants as reply
 use Rattle.history_core.specs.declared.parts.Parts.{Parts}

@@ -1,7 +1,7 @@
 use Rattle.core_model.specs.declared.events.CoreEvent.TheVariants.{Want}
 use Rattle.core_model.specs.declared.events.CoreReply.TheVariants as reply
-use Rattle.history_core.proofs.Simple.{does-want}
-use Rattle.history_core.proofs.Alike.{keeps-units, keeps-does, always-err}
+use Rattle.history_core.proofs.OtherEvents.{does-want}
+use Rattle.history_core.proofs.SameMeaning.{keeps-units, keeps-does, always-err}
 use Rattle.history_core.specs.declared.parts.Parts.{Parts}
 use Rattle.history_core.proofs.parts.Parts.want.Goals as goal
 

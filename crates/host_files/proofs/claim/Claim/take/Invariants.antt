@@ -1,5 +1,5 @@
 use Rattle.std.proofs.Common.{◌≡◌, IsTrue}
-use Rattle.host_files.proofs.Turns.{StoodIn}
+use Rattle.host_files.proofs.RepeatedCalls.{StoodIn}
 use Rattle.host_files.proofs.claim.Claim.take.Given as goal
 
 abbrev pub invariant-loop-turn : goal.invariant-loop-turn

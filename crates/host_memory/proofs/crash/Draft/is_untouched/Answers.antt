@@ -1,5 +1,5 @@
 use Rattle.std.proofs.Common.{◌<◌, ◌≤◌, ◌-◌, ℕ, List, length, get_or, subst}
-use Rattle.host_memory.proofs.Drawing.{touched}
+use Rattle.host_memory.proofs.CrashDraws.{touched}
 use Rattle.host_memory.proofs.crash.Draft.is_untouched.Goals as goal
 
 pub returns-then-i-range : goal.returns-then-i-range

@@ -1,7 +1,7 @@
 use Rattle.std.proofs.Common.{◌≤◌, ◌<◌, ◌%◌, length, arith, rules, ◌+◌, ◌*◌, ℕ, sym, subst}
 use Rattle.host_memory.specs.Replay.{AreBy}
-use Rattle.host_memory.specs.Shown.{world_in, is_written, image_in}
-use Rattle.host_memory.proofs.Drawing.{all_drawn, crash_of, latest}
+use Rattle.host_memory.specs.ShownState.{world_in, is_written, image_in}
+use Rattle.host_memory.proofs.CrashDraws.{all_drawn, crash_of, latest}
 use Rattle.host_memory.proofs.host.MemoryHost.crashed.Goals as goal
 
 pub returns-clause-image : goal.returns-clause-image

@@ -1,6 +1,6 @@
 use Rattle.std.proofs.Common.{◌≡◌, []}
 use Rattle.host_memory.specs.Drawings.{IsDrawing}
-use Rattle.host_memory.specs.Shown.{IsFresh, world_in, is_written}
+use Rattle.host_memory.specs.ShownState.{IsFresh, world_in, is_written}
 use Rattle.host_memory.proofs.host.MemoryHost.crashed.Given as goal
 
 abbrev pub invariant-loop-noted : goal.invariant-loop-noted

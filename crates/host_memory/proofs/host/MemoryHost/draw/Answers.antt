@@ -1,8 +1,8 @@
 use Rattle.std.proofs.Common.{◌≡◌, true, List, ℕ, sym, subst, rules}
 use Rattle.host_trait.specs.Disk.{MayLeave}
 use Rattle.host_memory.specs.Replay.{state_at}
-use Rattle.host_memory.specs.Shown.{world_in, is_written}
-use Rattle.host_memory.proofs.Drawing.{drawing_late, drawing_off, drawing_had, drawing_new}
+use Rattle.host_memory.specs.ShownState.{world_in, is_written}
+use Rattle.host_memory.proofs.CrashDraws.{drawing_late, drawing_off, drawing_had, drawing_new}
 use Rattle.host_memory.proofs.host.MemoryHost.draw.Goals as goal
 
 pub returns-then-noted-until-clause-drawn : goal.returns-then-noted-until-clause-drawn

@@ -2,7 +2,7 @@ use Rattle.std.proofs.Common.{◌≡◌, ◌+◌, ◌*◌, ℕ, List, length, ta
 use Rattle.std.proofs.lemmas.Grind.{common_steps}
 use Rattle.std.proofs.lemmas.List.{take_at, drop_all, drop-drop}
 use Rattle.host_memory.specs.Replay.{AreBy}
-use Rattle.host_memory.proofs.Counting.{pull_end}
+use Rattle.host_memory.proofs.Countdown.{pull_end}
 use Rattle.host_memory.proofs.host.MemoryHostHost.pull.Goals as goal
 
 pub invariant_of-self : goal.invariant_of-self

@@ -6,7 +6,7 @@ use Rattle.host_memory.specs.declared.events.Noted.{Noted}
 use Rattle.host_memory.specs.declared.plan.CallKind.TheVariants as CallKind
 use Rattle.host_memory.specs.Plans.{is_due}
 use Rattle.host_memory.specs.Replay.{AreBy, world_of}
-use Rattle.host_memory.proofs.Failing.{found_none, failed, stopped}
+use Rattle.host_memory.proofs.FailedCalls.{found_none, failed, stopped}
 use Rattle.host_memory.proofs.Worlds.{asked, none_synced}
 use Rattle.host_memory.proofs.host.MemoryHostHost.sync.Goals as goal
 

@@ -1,8 +1,8 @@
 use Rattle.std.proofs.Common.{◌≡◌, ◌∙◌, subst, length}
 use Rattle.std.specs.Prelude.{Option}
-use Rattle.unit_carrier.specs.Carrying.{units_carried}
-use Rattle.interleaver.specs.Looking.{IsLooked}
-use Rattle.interleaver.proofs.Looking.{looked-many}
+use Rattle.unit_carrier.specs.CarriedUnits.{units_carried}
+use Rattle.interleaver.specs.LastLook.{IsLooked}
+use Rattle.interleaver.proofs.LastLook.{looked-many}
 use Rattle.interleaver.proofs.turns.Turns.in_flight.Goals as goal
 
 pub returns-in-Some : goal.returns-in-Some

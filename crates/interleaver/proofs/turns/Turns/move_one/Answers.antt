@@ -1,28 +1,28 @@
 use Rattle.std.proofs.Common.{◌≡◌, ℕ, ◌+◌, ◌∙◌, refl, sym, ap, subst, true, false, Bool, length}
 use Rattle.std.specs.Prelude.{Result, Ok, Err}
-use Rattle.core_model.specs.Legal.{Run, ends}
+use Rattle.core_model.specs.LegalRuns.{Run, ends}
 use Rattle.core_model.specs.Settler.{has_step, settler_step}
-use Rattle.settle_loop.specs.Turning.{has_unwritten}
+use Rattle.settle_loop.specs.SettlerStep.{has_unwritten}
 use Rattle.run_books.specs.declared.faults.RunFault.{RunFault}
 use Rattle.run_books.specs.Records.{KeepsBooks}
-use Rattle.run_books.specs.Settling.{AreEven, CanSettle}
-use Rattle.interleaver.proofs.Finishing.{can-settle}
+use Rattle.run_books.specs.BooksSteps.{AreEven, CanSettle}
+use Rattle.interleaver.proofs.RunEnds.{can-settle}
 use Rattle.std.proofs.lemmas.Result.{err_from_is_err_and}
 use Rattle.history_core.specs.Cores.{run_of}
 use Rattle.script_tree.specs.Programs.{program_tree}
-use Rattle.unit_carrier.specs.Carrying.{unit_at, units_carried}
+use Rattle.unit_carrier.specs.CarriedUnits.{unit_at, units_carried}
 use Rattle.unit_carrier.proofs.Places.{units-same}
 use Rattle.run_books.specs.declared.faults.RunFault.TheVariants.{Memory}
 use Rattle.interleaver.specs.declared.movers.NextMover.{NextMover}
 use Rattle.interleaver.specs.Flights.{IsNextMover, MovesWithin}
-use Rattle.run_books.specs.Beside.{TurnsBeside}
-use Rattle.interleaver.specs.UnderWay.{SettlesBy, SettlesOne, SettledOn, turn_stage}
-use Rattle.interleaver.proofs.Unstopped.{way-unstopped}
-use Rattle.interleaver.proofs.Besides.{acts-beside, beside-err, none-beside}
+use Rattle.run_books.specs.RecordFrame.{TurnsBeside}
+use Rattle.interleaver.specs.TurnStages.{SettlesBy, SettlesOne, SettledOn, turn_stage}
+use Rattle.interleaver.proofs.RunningTurns.{way-unstopped}
+use Rattle.interleaver.proofs.RecordFrame.{acts-beside, beside-err, none-beside}
 use Rattle.run_books.proofs.BooksOthers.{others-keep}
-use Rattle.run_books.proofs.Leaving.{beside-well}
-use Rattle.interleaver.proofs.Choosing.{none-out, nobody-says, says-lack, settles-known, unit-says, unit-out-says, settler-says, settler-out-says}
-use Rattle.interleaver.proofs.Looking.{same-looked, settles-looked}
+use Rattle.run_books.proofs.SettlerFrame.{beside-well}
+use Rattle.interleaver.proofs.PickedTurns.{none-out, nobody-says, says-lack, settles-known, unit-says, unit-out-says, settler-says, settler-out-says}
+use Rattle.interleaver.proofs.LastLook.{same-looked, settles-looked}
 use Rattle.interleaver.proofs.turns.Turns.move_one.Goals as goal
 use Rattle.run_books.specs.Stages.{stage_of}
 

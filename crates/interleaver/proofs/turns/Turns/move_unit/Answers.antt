@@ -2,9 +2,9 @@ use Rattle.std.proofs.Common.{rules, sym, subst}
 use Rattle.std.specs.Prelude.{Option}
 use Rattle.history_core.specs.Cores.{run_of}
 use Rattle.script_tree.specs.Programs.{program_tree}
-use Rattle.unit_carrier.specs.Carrying.{unit_at, units_carried}
-use Rattle.interleaver.specs.Looking.{IsLooked}
-use Rattle.interleaver.proofs.Looking.{moves-looked}
+use Rattle.unit_carrier.specs.CarriedUnits.{unit_at, units_carried}
+use Rattle.interleaver.specs.LastLook.{IsLooked}
+use Rattle.interleaver.proofs.LastLook.{moves-looked}
 use Rattle.interleaver.proofs.turns.Turns.move_unit.Goals as goal
 
 pub returns-clause-units : goal.returns-clause-units

@@ -1,8 +1,8 @@
 use Rattle.std.proofs.Common.{◌∙◌, sym, arith}
 use Rattle.std.specs.Prelude.{Option}
 use Rattle.request_wire.specs.declared.requests.Line.{Line as ALine}
-use Rattle.history_core.proofs.Alike.{if-ok}
-use Rattle.interleaver.proofs.Looking.{none-doubted, none-full, some-next}
+use Rattle.history_core.proofs.SameMeaning.{if-ok}
+use Rattle.interleaver.proofs.LastLook.{none-doubted, none-full, some-next}
 use Rattle.interleaver.proofs.turns.Turns.next_line.Goals as goal
 
 pub returns-then-doubted-clause-next : goal.returns-then-doubted-clause-next

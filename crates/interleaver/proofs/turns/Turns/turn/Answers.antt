@@ -4,12 +4,12 @@ use Rattle.std.proofs.lemmas.Result.{err_from_is_err_and}
 use Rattle.history_core.specs.Cores.{run_of}
 use Rattle.script_tree.specs.Programs.{program_tree}
 use Rattle.run_books.specs.declared.faults.RunFault.TheVariants.{Memory}
-use Rattle.interleaver.proofs.Besides.{begins-beside, none-beside, puts-beside}
+use Rattle.interleaver.proofs.RecordFrame.{begins-beside, none-beside, puts-beside}
 use Rattle.run_books.proofs.BooksOthers.{others-keep}
-use Rattle.interleaver.proofs.Choosing.{says-lack}
+use Rattle.interleaver.proofs.PickedTurns.{says-lack}
 use Rattle.interleaver.proofs.Rooms.{dropped-way, line-out-says, line-says, room-none, says-from, still-carried, unread-says}
 use Rattle.interleaver.proofs.turns.Turns.turn.Goals as goal
-use Rattle.interleaver.specs.UnderWay.{turn_stage}
+use Rattle.interleaver.specs.TurnStages.{turn_stage}
 use Rattle.run_books.specs.Stages.{stage_of}
 
 pub drop_unless_doubted-requires-clause-carried : goal.drop_unless_doubted-requires-clause-carried

@@ -3,7 +3,7 @@ use Rattle.request_wire.specs.Lines.{lines_of}
 use Rattle.request_wire.specs.declared.requests.Line.{Line}
 use Rattle.script_tree.specs.Programs.{program_tree}
 use Rattle.run_lines.proofs.Places.{line_there, none_there, place_within}
-use Rattle.run_lines.specs.Reading.{line_from_text}
+use Rattle.run_lines.specs.LineReadings.{line_from_text}
 use Rattle.run_lines.proofs.input.InputLinesLines.line_at.Goals as goal
 
 pub overflow_add-next : goal.overflow_add-next

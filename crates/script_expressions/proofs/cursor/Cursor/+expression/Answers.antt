@@ -3,7 +3,7 @@ use Rattle.std.proofs.lemmas.Bool.{ne_eqb}
 use Rattle.std.proofs.lemmas.Result.{err_from_is_err_and}
 use Rattle.script_tree.specs.Exprs.{expr_tree}
 use Rattle.script_lexer.specs.declared.faults.ParseFault.{ParseFault}
-use Rattle.script_expressions.specs.Reading.{FailsReading}
+use Rattle.script_expressions.specs.TokenReaders.{FailsReading}
 use Rattle.script_expressions.specs.Expressions.{tiers, operand}
 use Rattle.script_expressions.proofs.Steps.{chain_none, chain_end, chain_full, chain_goes, chain_compared, chain_fails, fails_is}
 use Rattle.script_expressions.proofs.cursor.Cursor.+expression.Goals as goal

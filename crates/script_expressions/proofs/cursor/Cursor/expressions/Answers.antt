@@ -7,7 +7,7 @@ use Rattle.script_lexer.specs.declared.tokens.Spanned.{Spanned}
 use Rattle.script_lexer.specs.declared.tokens.Symbol.TheVariants as symbol
 use Rattle.script_expressions.specs.Tokens.{expected}
 use Rattle.script_expressions.specs.Expressions.{expression}
-use Rattle.script_expressions.proofs.Many.{listed_goes, listed_closes}
+use Rattle.script_expressions.proofs.ItemLists.{listed_goes, listed_closes}
 use Rattle.script_expressions.proofs.cursor.Cursor.expressions.Goals as goal
 
 pub returns-then-takes-clause-read : goal.returns-then-takes-clause-read

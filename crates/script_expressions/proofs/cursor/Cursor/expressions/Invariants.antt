@@ -3,7 +3,7 @@ use Rattle.std.specs.Prelude.{map}
 use Rattle.script_tree.specs.Exprs.{expr_tree}
 use Rattle.script_expressions.specs.Expressions.{expression}
 use Rattle.script_expressions.specs.Calls.{listed}
-use Rattle.script_expressions.proofs.Many.{with_front}
+use Rattle.script_expressions.proofs.ItemLists.{with_front}
 use Rattle.script_expressions.proofs.cursor.Cursor.expressions.Given as goal
 
 abbrev pub invariant-loop-turn : goal.invariant-loop-turn

@@ -5,7 +5,7 @@ use Rattle.script_meaning.specs.Statements.{Next}
 use Rattle.script_machine.specs.Blocks.{from}
 use Rattle.script_machine.specs.Frames.{block_of}
 use Rattle.script_machine.specs.Runs.{back_of}
-use Rattle.script_machine.proofs.Stands.{outer_past}
+use Rattle.script_machine.proofs.FramePlaces.{outer_past}
 use Rattle.script_machine.proofs.runs.Run.back_to.Goals as goal
 
 pub returns-in-None-clause-tree : goal.returns-in-None-clause-tree

@@ -4,7 +4,7 @@ use Rattle.script_tree.specs.Stmts.{stmt_tree}
 use Rattle.script_tree.specs.Programs.{program_tree}
 use Rattle.script_meaning.specs.Requests.{Requests}
 use Rattle.script_machine.specs.Runs.{Goes}
-use Rattle.script_machine.proofs.Stands.{does_call_here}
+use Rattle.script_machine.proofs.FramePlaces.{does_call_here}
 use Rattle.script_machine.proofs.runs.Run.call.Goals as goal
 
 pub returns-clause-tree : goal.returns-clause-tree

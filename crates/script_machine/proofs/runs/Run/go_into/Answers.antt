@@ -6,7 +6,7 @@ use Rattle.script_machine.specs.declared.frames.OpenBlock.{OpenBlock}
 use Rattle.script_machine.specs.Blocks.{first_in}
 use Rattle.script_machine.specs.Frames.{from_at}
 use Rattle.script_machine.specs.Runs.{back_of}
-use Rattle.script_machine.proofs.Stands.{goes_into}
+use Rattle.script_machine.proofs.FramePlaces.{goes_into}
 use Rattle.script_machine.proofs.runs.Run.go_into.Goals as goal
 
 pub returns-clause-tree : goal.returns-clause-tree

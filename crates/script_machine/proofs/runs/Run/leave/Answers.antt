@@ -5,7 +5,7 @@ use Rattle.script_meaning.specs.Statements.{Next}
 use Rattle.script_machine.specs.declared.frames.OpenBlock.{OpenBlock}
 use Rattle.script_machine.specs.Frames.{after}
 use Rattle.script_machine.specs.Runs.{GoesTo, back_of}
-use Rattle.script_machine.proofs.Stands.{stands_past, after_push}
+use Rattle.script_machine.proofs.FramePlaces.{stands_past, after_push}
 use Rattle.script_machine.proofs.runs.Run.leave.Goals as goal
 
 pub returns-in-Some-clause-tree : goal.returns-in-Some-clause-tree

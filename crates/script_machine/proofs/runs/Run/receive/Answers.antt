@@ -3,7 +3,7 @@ use Rattle.script_tree.specs.Stmts.{NoMore}
 use Rattle.script_tree.specs.Programs.{program_tree}
 use Rattle.script_machine.specs.Blocks.{from}
 use Rattle.script_machine.specs.Frames.{block_of}
-use Rattle.script_machine.proofs.Stands.{receives_past}
+use Rattle.script_machine.proofs.FramePlaces.{receives_past}
 use Rattle.script_machine.proofs.runs.Run.receive.Goals as goal
 
 pub returns-in-None-clause-tree : goal.returns-in-None-clause-tree

@@ -2,7 +2,7 @@ use Rattle.std.proofs.Common.{◌<◌, sym, subst, length, arith}
 use Rattle.std.specs.Prelude.{◌^◌}
 use Rattle.script_tree.specs.Programs.{program_tree}
 use Rattle.script_machine.specs.Runs.{StandsWith}
-use Rattle.script_machine.proofs.Stands.{stands_where}
+use Rattle.script_machine.proofs.FramePlaces.{stands_where}
 use Rattle.script_machine.proofs.runs.Run.statement.Goals as goal
 
 pub returns : goal.returns

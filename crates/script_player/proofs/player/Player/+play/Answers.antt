@@ -23,10 +23,10 @@ use Rattle.script_meaning.specs.Requests.{Back, stop, with_value}
 use Rattle.script_meaning.specs.Calls.{Target, bound, joined, enters, method_target, to_type, to_target, type_from}
 use Rattle.script_meaning.specs.Statements.{around, calls, by_truth, deep, does, runs, runs_else, sourced}
 use Rattle.script_meaning.specs.Targets.{target_of}
-use Rattle.script_player.specs.Playing.{types_in, site_of, surrounds, below, plays_method, heard, flowing, answering}
+use Rattle.script_player.specs.PlayState.{types_in, site_of, surrounds, below, plays_method, heard, flowing, answering}
 use Rattle.script_player.specs.declared.flows.Flow.{Flow}
 use Rattle.script_player.specs.declared.flows.Answer.{Answer}
-use Rattle.script_player.proofs.Heard.{ends_at, ends_on, leads_on}
+use Rattle.script_player.proofs.PlayProgress.{ends_at, ends_on, leads_on}
 use Rattle.script_player.proofs.Steps.{step_refused, turn_reached, turn_refused, call_reached, enters_plain, enters_joined, past_deepest}
 use Rattle.script_player.proofs.Trees.{let_tree, assign_tree, call_statement_tree, if_tree, while_tree, attempt_tree}
 use Rattle.script_player.proofs.player.Player.+play.Goals as goal

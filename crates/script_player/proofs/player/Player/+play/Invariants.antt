@@ -3,7 +3,7 @@ use Rattle.script_tree.specs.Exprs.{expr_tree}
 use Rattle.script_tree.specs.Stmts.{Repeat, stmt_trees, block_tree}
 use Rattle.script_meaning.specs.Requests.{Back}
 use Rattle.script_meaning.specs.Statements.{Next, does, runs}
-use Rattle.script_player.specs.Playing.{types_in, site_of, below, heard}
+use Rattle.script_player.specs.PlayState.{types_in, site_of, below, heard}
 use Rattle.script_player.proofs.player.Player.+play.Given as goal
 
 abbrev pub decreases-play_step : goal.decreases-play_step

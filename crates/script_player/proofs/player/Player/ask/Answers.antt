@@ -4,8 +4,8 @@ use Rattle.script_holding.specs.Holding.{Holding, one_asked}
 use Rattle.script_meaning.specs.Requests.{Requests, stop}
 use Rattle.script_meaning.specs.Calls.{answered}
 use Rattle.script_meaning.specs.Play.{AskedUnit}
-use Rattle.script_player.specs.Playing.{answering, heard}
-use Rattle.script_player.proofs.Heard.{ends_at, heard_answer, heard_abort, unit_for, no_unit_for}
+use Rattle.script_player.specs.PlayState.{answering, heard}
+use Rattle.script_player.proofs.PlayProgress.{ends_at, heard_answer, heard_abort, unit_for, no_unit_for}
 use Rattle.script_player.proofs.player.Player.ask.Goals as goal
 
 pub returns-then-not-ask_unit-clause-led : goal.returns-then-not-ask_unit-clause-led

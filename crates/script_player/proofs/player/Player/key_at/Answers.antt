@@ -4,7 +4,7 @@ use Rattle.std.proofs.lemmas.Int.{ints}
 use Rattle.base_types.specs.declared.calls.Value.{Value}
 use Rattle.script_values.specs.Faults.{kind, key}
 use Rattle.script_meaning.specs.Calls.{with_key}
-use Rattle.script_player.proofs.Heard.{ends_at, key_below, key_past}
+use Rattle.script_player.proofs.PlayProgress.{ends_at, key_below, key_past}
 use Rattle.script_player.proofs.player.Player.key_at.Goals as goal
 
 pub returns-then-number-lt0 : goal.returns-then-number-lt0

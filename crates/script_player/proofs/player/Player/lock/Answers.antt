@@ -3,8 +3,8 @@ use Rattle.base_types.specs.declared.calls.Mode.{Mode}
 use Rattle.base_types.specs.declared.calls.Mode.TheVariants.{Read}
 use Rattle.script_holding.specs.Holding.{Holding, change, raised, with_held}
 use Rattle.script_meaning.specs.Calls.{locked}
-use Rattle.script_player.specs.Playing.{heard}
-use Rattle.script_player.proofs.Heard.{heard_raise}
+use Rattle.script_player.specs.PlayState.{heard}
+use Rattle.script_player.proofs.PlayProgress.{heard_raise}
 use Rattle.script_player.proofs.player.Player.lock.Goals as goal
 
 pub returns-in-Update-clause-led : goal.returns-in-Update-clause-led

@@ -3,8 +3,8 @@ use Rattle.base_types.specs.declared.calls.Value.{Value}
 use Rattle.script_values.specs.Faults.{grains}
 use Rattle.script_holding.specs.Holding.{Holding, newly_held, with_held}
 use Rattle.script_meaning.specs.Play.{GrainState, found_in}
-use Rattle.script_player.specs.Playing.{types_in, heard}
-use Rattle.script_player.proofs.Heard.{ends_at, heard_lock, room_for, no_room_for}
+use Rattle.script_player.specs.PlayState.{types_in, heard}
+use Rattle.script_player.proofs.PlayProgress.{ends_at, heard_lock, room_for, no_room_for}
 use Rattle.script_player.proofs.player.Player.lock_first.Goals as goal
 
 pub returns-then-not-has_room-clause-led : goal.returns-then-not-has_room-clause-led

@@ -12,8 +12,8 @@ use Rattle.script_meaning.specs.Calls.{enters, numbered}
 use Rattle.script_meaning.specs.Statements.{deep}
 use Rattle.script_meaning.specs.Play.{as_first, ends_unit, unit}
 use Rattle.script_meaning.specs.Targets.{target_of}
-use Rattle.script_player.specs.Playing.{types_in, answering, heard}
-use Rattle.script_player.proofs.Heard.{ends_at, leads_on}
+use Rattle.script_player.specs.PlayState.{types_in, answering, heard}
+use Rattle.script_player.proofs.PlayProgress.{ends_at, leads_on}
 use Rattle.script_player.proofs.Steps.{unit_some, unit_none}
 use Rattle.script_player.proofs.player.Player.play_unit.Goals as goal
 

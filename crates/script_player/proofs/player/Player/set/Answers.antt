@@ -6,8 +6,8 @@ use Rattle.script_values.specs.Values.{ValueOrFault}
 use Rattle.script_meaning.specs.Requests.{with_value}
 use Rattle.script_meaning.specs.Calls.{settable}
 use Rattle.script_meaning.specs.Statements.{sets}
-use Rattle.script_player.specs.Playing.{site_of}
-use Rattle.script_player.proofs.Heard.{ends_at}
+use Rattle.script_player.specs.PlayState.{site_of}
+use Rattle.script_player.proofs.PlayProgress.{ends_at}
 use Rattle.script_player.proofs.player.Player.set.Goals as goal
 
 pub returns-in_default-clause-led : goal.returns-in_default-clause-led

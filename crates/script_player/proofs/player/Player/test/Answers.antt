@@ -3,8 +3,8 @@ use Rattle.std.specs.Prelude.{if◌then◌else◌}
 use Rattle.script_values.specs.Values.{ValueOrFault}
 use Rattle.script_meaning.specs.Requests.{with_value}
 use Rattle.script_meaning.specs.Statements.{by_truth}
-use Rattle.script_player.specs.Playing.{heard}
-use Rattle.script_player.proofs.Heard.{leads_on}
+use Rattle.script_player.specs.PlayState.{heard}
+use Rattle.script_player.proofs.PlayProgress.{leads_on}
 use Rattle.script_player.proofs.player.Player.test.Goals as goal
 
 pub returns : goal.returns

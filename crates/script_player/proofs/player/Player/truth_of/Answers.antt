@@ -2,7 +2,7 @@ use Rattle.std.proofs.Common.{ap}
 use Rattle.base_types.specs.declared.calls.Value.{Value}
 use Rattle.script_values.specs.Faults.{kind}
 use Rattle.script_meaning.specs.Statements.{by_truth}
-use Rattle.script_player.proofs.Heard.{ends_at}
+use Rattle.script_player.proofs.PlayProgress.{ends_at}
 use Rattle.script_player.proofs.player.Player.truth_of.Goals as goal
 
 pub returns-in-Text : goal.returns-in-Text

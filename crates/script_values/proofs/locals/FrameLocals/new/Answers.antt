@@ -4,7 +4,7 @@ use Rattle.script_values.specs.declared.locals.Local.{Local}
 use Rattle.script_values.specs.declared.nodes.NameNode.{NameNode}
 use Rattle.script_values.specs.LocalNames.{names_of}
 use Rattle.script_values.specs.Nodes.{place_found}
-use Rattle.script_values.proofs.Added.{none_found}
+use Rattle.script_values.proofs.AddedNodes.{none_found}
 use Rattle.script_values.proofs.locals.FrameLocals.new.Goals as goal
 
 pub invariant_of-result : goal.invariant_of-result

@@ -3,8 +3,8 @@ use Rattle.script_scopes.specs.Places.{name_place}
 use Rattle.script_values.specs.declared.locals.Local.{Local}
 use Rattle.script_values.specs.Expressions.{local_named}
 use Rattle.script_values.specs.LocalNames.{names_of}
-use Rattle.script_values.proofs.Placed.{named_none}
-use Rattle.script_values.proofs.Added.{found_held}
+use Rattle.script_values.proofs.LocalPlaces.{named_none}
+use Rattle.script_values.proofs.AddedNodes.{found_held}
 use Rattle.script_values.proofs.locals.LocalList.get.Goals as goal
 
 pub returns-in-None : goal.returns-in-None

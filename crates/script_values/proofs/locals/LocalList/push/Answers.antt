@@ -3,13 +3,13 @@ use Rattle.std.specs.Option.{is_some}
 use Rattle.std.proofs.lemmas.List.{length-map}
 use Rattle.script_scopes.specs.Names.{Scope}
 use Rattle.script_scopes.specs.Places.{name_place}
-use Rattle.script_scopes.proofs.Standing.{kept_places}
+use Rattle.script_scopes.proofs.ScopePlaces.{kept_places}
 use Rattle.script_values.specs.declared.locals.Local.{Local}
 use Rattle.script_values.specs.declared.nodes.NameNode.{NameNode}
 use Rattle.script_values.specs.LocalNames.{names_of}
 use Rattle.script_values.specs.Nodes.{node_of, place_found}
-use Rattle.script_values.proofs.Placed.{names_more}
-use Rattle.script_values.proofs.Added.{found_held, kept_found}
+use Rattle.script_values.proofs.LocalPlaces.{names_more}
+use Rattle.script_values.proofs.AddedNodes.{found_held, kept_found}
 use Rattle.script_values.proofs.locals.LocalList.push.Goals as goal
 
 pub invariant_of-self-then-is_some : goal.invariant_of-self-then-is_some

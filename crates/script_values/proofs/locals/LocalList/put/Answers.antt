@@ -6,8 +6,8 @@ use Rattle.script_values.specs.declared.locals.Local.{Local}
 use Rattle.script_values.specs.LocalNames.{names_of}
 use Rattle.script_values.specs.Expressions.{put_local}
 use Rattle.script_values.specs.Nodes.{place_found}
-use Rattle.script_values.proofs.Placed.{keeps_names, put_behind}
-use Rattle.script_values.proofs.Added.{found_held}
+use Rattle.script_values.proofs.LocalPlaces.{keeps_names, put_behind}
+use Rattle.script_values.proofs.AddedNodes.{found_held}
 use Rattle.script_values.proofs.locals.LocalList.put.Goals as goal
 
 pub invariant_of-self : goal.invariant_of-self

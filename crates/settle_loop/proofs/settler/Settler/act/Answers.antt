@@ -1,8 +1,8 @@
 use Rattle.std.proofs.Common.{refl, subst}
 use Rattle.core_model.specs.Settler.{settler_step}
 use Rattle.core_model.specs.declared.questions.SettlerWork.{SettlerWork}
-use Rattle.settle_loop.specs.Works.{ShowsWork}
-use Rattle.settle_loop.proofs.Made.{decide_made, learn_made, take_made}
+use Rattle.settle_loop.specs.ShownWork.{ShowsWork}
+use Rattle.settle_loop.proofs.HostAnswers.{decide_made, learn_made, take_made}
 use Rattle.settle_loop.proofs.settler.Settler.act.Goals as goal
 
 pub returns-in-Vote-clause-made : goal.returns-in-Vote-clause-made

@@ -1,9 +1,9 @@
 use Rattle.std.proofs.Common.{inl, false, true, refl, sym, ap, ◌∙◌}
 use Rattle.core_model.specs.declared.events.CoreEvent.TheVariants as event
-use Rattle.settle_loop.specs.Works.{event_of}
+use Rattle.settle_loop.specs.ShownWork.{event_of}
 use Rattle.settle_loop.specs.HostSteps.{SealsUnits}
 use Rattle.settle_loop.specs.declared.settler.Settler.{Settler}
-use Rattle.settle_loop.proofs.Made.{seal_made, doubt_made, none_made}
+use Rattle.settle_loop.proofs.HostAnswers.{seal_made, doubt_made, none_made}
 use Rattle.settle_loop.proofs.settler.Settler.seal.Goals as goal
 
 pub returns-then-in_doubt-clause-made : goal.returns-then-in_doubt-clause-made

@@ -1,7 +1,7 @@
 use Rattle.std.proofs.Common.{inl, refl}
 use Rattle.std.specs.Prelude.{Err}
-use Rattle.settle_loop.specs.Turning.{state_shown}
-use Rattle.settle_loop.proofs.Answered.{turned, acted_event, acted_idle, acted_cut, acted_none, none_turned}
+use Rattle.settle_loop.specs.SettlerStep.{state_shown}
+use Rattle.settle_loop.proofs.StepParts.{turned, acted_event, acted_idle, acted_cut, acted_none, none_turned}
 use Rattle.settle_loop.proofs.settler.Settler.step.Goals as goal
 
 pub returns-in_err-work-clause-turns : goal.returns-in_err-work-clause-turns

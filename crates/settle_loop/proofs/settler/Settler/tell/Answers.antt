@@ -1,5 +1,5 @@
 use Rattle.std.proofs.Common.{inl, refl, sym, ◌∙◌}
-use Rattle.settle_loop.proofs.Telling.{told_doubt, told_more, none_told}
+use Rattle.settle_loop.proofs.ToldEvents.{told_doubt, told_more, none_told}
 use Rattle.settle_loop.proofs.settler.Settler.tell.Goals as goal
 
 pub returns-in_err-reply-clause-told : goal.returns-in_err-reply-clause-told

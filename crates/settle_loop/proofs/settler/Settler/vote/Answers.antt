@@ -1,6 +1,6 @@
 use Rattle.std.proofs.Common.{inr, refl}
 use Rattle.settle_loop.specs.declared.settler.Settler.{Settler}
-use Rattle.settle_loop.proofs.Made.{vote_cause, vote_kept, vote_made, vote_lacks, none_made}
+use Rattle.settle_loop.proofs.HostAnswers.{vote_cause, vote_kept, vote_made, vote_lacks, none_made}
 use Rattle.settle_loop.proofs.settler.Settler.vote.Goals as goal
 
 pub returns-clause-made : goal.returns-clause-made

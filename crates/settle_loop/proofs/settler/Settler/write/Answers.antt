@@ -2,7 +2,7 @@ use Rattle.std.proofs.Common.{inl, ℕ, List, Bool, refl, sym, ap, subst, ◌∙
 use Rattle.std.specs.Prelude.{is_ok, is_err}
 use Rattle.host_trait.specs.World.{IsEmitted, Emitted}
 use Rattle.settle_loop.specs.HostSteps.{HasLine}
-use Rattle.settle_loop.proofs.Made.{write_made, none_made}
+use Rattle.settle_loop.proofs.HostAnswers.{write_made, none_made}
 use Rattle.settle_loop.proofs.settler.Settler.write.Goals as goal
 
 pub returns-then-self-clause-made : goal.returns-then-self-clause-made

@@ -3,9 +3,9 @@ use Rattle.std.specs.BTreeMap.{get}
 use Rattle.base_types.specs.Stores.{grain_cmp}
 use Rattle.silo_nodes.specs.Packets.{Done}
 use Rattle.silo_nodes.specs.Node.{log_decision}
-use Rattle.silo_nodes.specs.Cached.{settled, ShiftsFit, IsKnown, FollowsLog, opening_in, entry_shifts}
+use Rattle.silo_nodes.specs.LogCache.{settled, ShiftsFit, IsKnown, FollowsLog, opening_in, entry_shifts}
 use Rattle.silo_nodes.specs.Orders.{txn_cmp}
-use Rattle.silo_nodes.proofs.Refined.{decision-none, decision-done, has-room, follows-done}
+use Rattle.silo_nodes.proofs.LogCache.{decision-none, decision-done, has-room, follows-done}
 use Rattle.silo_nodes.proofs.participant.Participant.decide.Goals as goal
 
 pub returns-in_default-clause-ok : goal.returns-in_default-clause-ok

@@ -2,7 +2,7 @@ use Rattle.std.proofs.Common.{◌≡◌, drop, None}
 use Rattle.std.specs.BTreeMap.{get}
 use Rattle.base_types.specs.Stores.{grain_cmp}
 use Rattle.silo_nodes.specs.Packets.{GrainId}
-use Rattle.silo_nodes.specs.Cached.{or_cell, opening_in}
+use Rattle.silo_nodes.specs.LogCache.{or_cell, opening_in}
 use Rattle.silo_nodes.proofs.participant.Participant.new.Given as goal
 
 abbrev pub invariant-loop-entry : goal.invariant-loop-entry

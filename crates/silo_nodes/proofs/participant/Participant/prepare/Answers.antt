@@ -5,9 +5,9 @@ use Rattle.base_types.specs.Stores.{grain_cmp}
 use Rattle.silo_nodes.specs.Packets.{Prepared, same_txn}
 use Rattle.silo_nodes.specs.Logs.{is_prepared}
 use Rattle.silo_nodes.specs.Node.{log_prepare}
-use Rattle.silo_nodes.specs.Cached.{Node, all_allow, IsKnown, FollowsLog, opening_in, prepared_at, held}
+use Rattle.silo_nodes.specs.LogCache.{Node, all_allow, IsKnown, FollowsLog, opening_in, prepared_at, held}
 use Rattle.silo_nodes.specs.Orders.{txn_cmp}
-use Rattle.silo_nodes.proofs.Holding.{undone, prepare-done, prepare-not, prepare-new, allow-is, follows-prepared, marks, node-stays, known-prepared, known-new-txn}
+use Rattle.silo_nodes.proofs.HeldGrains.{undone, prepare-done, prepare-not, prepare-new, allow-is, follows-prepared, marks, node-stays, known-prepared, known-new-txn}
 use Rattle.silo_nodes.proofs.participant.Participant.prepare.Goals as goal
 
 pub returns-then-is_some-clause-node : goal.returns-then-is_some-clause-node

@@ -2,9 +2,9 @@ use Rattle.std.proofs.Common.{◌≡◌, ◌∙◌, rules, sym, ap, subst, Some,
 use Rattle.std.specs.BTreeMap.{get}
 use Rattle.base_types.specs.Stores.{grain_cmp}
 use Rattle.silo_nodes.specs.Logs.{is_prepared}
-use Rattle.silo_nodes.specs.Cached.{Node, all_allow, IsKnown, opening_in, vote_at}
+use Rattle.silo_nodes.specs.LogCache.{Node, all_allow, IsKnown, opening_in, vote_at}
 use Rattle.silo_nodes.specs.Orders.{txn_cmp}
-use Rattle.silo_nodes.proofs.Holding.{undone, allow-is, vote-known, vote-new}
+use Rattle.silo_nodes.proofs.HeldGrains.{undone, allow-is, vote-known, vote-new}
 use Rattle.silo_nodes.proofs.participant.Participant.vote.Goals as goal
 
 pub returns-then-known : goal.returns-then-known

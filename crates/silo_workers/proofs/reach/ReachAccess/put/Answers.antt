@@ -1,5 +1,5 @@
 use Rattle.history_core.specs.Cores.{run_of}
-use Rattle.silo_workers.proofs.Returned.{cell-tells}
+use Rattle.silo_workers.proofs.PassReturns.{cell-tells}
 use Rattle.silo_workers.proofs.reach.ReachAccess.put.Goals as goal
 
 pub returns-clause-put : goal.returns-clause-put

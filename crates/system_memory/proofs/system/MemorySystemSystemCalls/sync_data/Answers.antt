@@ -1,6 +1,6 @@
 use Rattle.std.proofs.Common.{false, drop, sym, subst}
 use Rattle.system_calls.specs.System.{System, SyncsData}
-use Rattle.system_memory.specs.Shown.{system_in}
+use Rattle.system_memory.specs.ShownState.{system_in}
 use Rattle.system_memory.proofs.system.MemorySystemSystemCalls.sync_data.Goals as goal
 
 pub returns-then-is_refused-clause-told : goal.returns-then-is_refused-clause-told

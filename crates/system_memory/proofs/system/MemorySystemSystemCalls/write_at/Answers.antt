@@ -1,7 +1,7 @@
 use Rattle.std.proofs.Common.{length, drop, sym, subst}
 use Rattle.system_calls.specs.System.{System, WritesPart, FailsPart}
 use Rattle.system_memory.specs.MemoryState.{held_of, system_of}
-use Rattle.system_memory.specs.Shown.{system_in}
+use Rattle.system_memory.specs.ShownState.{system_in}
 use Rattle.system_memory.proofs.system.MemorySystemSystemCalls.write_at.Goals as goal
 
 pub returns-then-eq-2-clause-err : goal.returns-then-eq-2-clause-err

@@ -1,5 +1,5 @@
 use Rattle.std.proofs.Common.{rules}
-use Rattle.turn_cell.proofs.Keeping.{adds}
+use Rattle.turn_cell.proofs.CellRule.{adds}
 use Rattle.turn_cell.proofs.calls.TurnCell+T.put.Goals as goal
 
 pub returns-in-Ok-clause-call : goal.returns-in-Ok-clause-call

@@ -1,5 +1,5 @@
 use Rattle.std.proofs.Common.{rules}
-use Rattle.turn_cell.proofs.Keeping.{may_join, may_hear}
+use Rattle.turn_cell.proofs.CellRule.{may_join, may_hear}
 use Rattle.turn_cell.proofs.cell.TurnCell+T.join.Goals as goal
 
 pub join_seat-requires : goal.join_seat-requires

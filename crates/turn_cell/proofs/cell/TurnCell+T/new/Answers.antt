@@ -5,7 +5,7 @@ use Rattle.turn_cell.specs.declared.place.Place.TheVariants.{Home}
 use Rattle.turn_cell.specs.Hands.{first_hand}
 use Rattle.turn_cell.specs.Passes.{view}
 use Rattle.turn_cell.specs.Rule.{IsOneHistory}
-use Rattle.turn_cell.proofs.Keeping.{makes}
+use Rattle.turn_cell.proofs.CellRule.{makes}
 use Rattle.turn_cell.proofs.cell.TurnCell+T.new.Goals as goal
 
 pub new-requires : goal.new-requires

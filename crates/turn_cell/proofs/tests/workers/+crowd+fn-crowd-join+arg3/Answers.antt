@@ -1,5 +1,5 @@
 use Rattle.std.specs.Prelude.{⊤}
-use Rattle.turn_cell.proofs.Carried.{gathers_continued, gathers_split}
+use Rattle.turn_cell.proofs.CallSums.{gathers_continued, gathers_split}
 use Rattle.turn_cell.proofs.tests.workers.+crowd+fn-crowd-join+arg3.Goals as goal
 
 pub returns-clause-carried : goal.returns-clause-carried

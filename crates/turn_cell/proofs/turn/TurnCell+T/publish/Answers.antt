@@ -1,7 +1,7 @@
 use Rattle.std.proofs.Common.{rules, ◌≡◌, [], subst, arith}
 use Rattle.turn_cell.specs.declared.view.View.{View}
 use Rattle.turn_cell.specs.Passes.{grown}
-use Rattle.turn_cell.proofs.Keeping.{may_publish}
+use Rattle.turn_cell.proofs.CellRule.{may_publish}
 use Rattle.turn_cell.proofs.turn.TurnCell+T.publish.Goals as goal
 
 pub store-requires : goal.store-requires

@@ -1,5 +1,5 @@
 use Rattle.std.proofs.Common.{rules, refl}
-use Rattle.turn_cell.proofs.Keeping.{may_release}
+use Rattle.turn_cell.proofs.CellRule.{may_release}
 use Rattle.turn_cell.proofs.turn.TurnCell+T.release.Goals as goal
 
 pub store-requires : goal.store-requires

@@ -1,5 +1,5 @@
 use Rattle.std.proofs.Common.{rules}
-use Rattle.turn_cell.proofs.Keeping.{may_load, may_try}
+use Rattle.turn_cell.proofs.CellRule.{may_load, may_try}
 use Rattle.turn_cell.proofs.turn.TurnCell+T.win_turn.Goals as goal
 
 pub load-word-requires : goal.load-word-requires

@@ -1,7 +1,7 @@
 use Rattle.std.proofs.Common.{◌≡◌, arith, subst, sym, ap, length}
 use Rattle.two_silos.specs.World.{IsOpening}
-use Rattle.two_silos.specs.Generated.{bank}
-use Rattle.two_silos.proofs.Repeated.{bank-opening}
+use Rattle.two_silos.specs.GeneratedEvents.{bank}
+use Rattle.two_silos.proofs.CheckLoops.{bank-opening}
 use Rattle.two_silos.proofs.course.Course.new.Goals as goal
 
 pub new-requires : goal.new-requires

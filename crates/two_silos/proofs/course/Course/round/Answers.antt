@@ -1,6 +1,6 @@
 use Rattle.std.proofs.Common.{ap}
-use Rattle.two_silos.specs.Generated.{times, pick}
-use Rattle.two_silos.proofs.Repeated.{times_on, times_all}
+use Rattle.two_silos.specs.GeneratedEvents.{times, pick}
+use Rattle.two_silos.proofs.CheckLoops.{times_on, times_all}
 use Rattle.two_silos.proofs.course.Course.round.Goals as goal
 
 pub loop-init : goal.loop-init

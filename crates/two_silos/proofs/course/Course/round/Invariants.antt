@@ -1,5 +1,5 @@
 use Rattle.std.proofs.Common.{◌≡◌, ◌-◌}
-use Rattle.two_silos.specs.Generated.{times, pick, start}
+use Rattle.two_silos.specs.GeneratedEvents.{times, pick, start}
 use Rattle.two_silos.proofs.course.Course.round.Given as goal
 
 abbrev pub invariant-loop : goal.invariant-loop

@@ -1,10 +1,10 @@
 use Rattle.std.proofs.Common.{◌≡◌, ◌<◌, ◌∙◌, length, rules, ap, sym, subst, OnOk, OnErr, Some, None, slice_get}
 use Rattle.std.specs.Prelude.{slice_set}
-use Rattle.silo_nodes.specs.Cached.{Node}
+use Rattle.silo_nodes.specs.LogCache.{Node}
 use Rattle.two_silos.specs.World.{World, Deliver, step, receiver_of, node_at, nobody}
 use Rattle.two_silos.specs.Links.{Handed}
-use Rattle.two_silos.proofs.Reached.{reached-within, packet-apart, told-step, handed-step, got-back, got-member, after, on-ok, on-err, handed-same}
-use Rattle.two_silos.proofs.Opened.{at-any}
+use Rattle.two_silos.proofs.ReachedWorlds.{reached-within, packet-apart, told-step, handed-step, got-back, got-member, after, on-ok, on-err, handed-same}
+use Rattle.two_silos.proofs.OpenedNodes.{at-any}
 use Rattle.two_silos.proofs.world.World.deliver.Goals as goal
 
 pub invariant_of-self : goal.invariant_of-self

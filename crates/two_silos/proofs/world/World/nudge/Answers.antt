@@ -2,7 +2,7 @@ use Rattle.std.proofs.Common.{◌≡◌, ◌∙◌, rules, ap, subst, OnOk, OnEr
 use Rattle.silo_nodes.specs.Participants.{questions}
 use Rattle.two_silos.specs.World.{World, Nudge, step}
 use Rattle.two_silos.specs.Links.{sent_on}
-use Rattle.two_silos.proofs.Reached.{reached-within, nudge-step, got-back, after, on-ok, on-err}
+use Rattle.two_silos.proofs.ReachedWorlds.{reached-within, nudge-step, got-back, after, on-ok, on-err}
 use Rattle.two_silos.proofs.world.World.nudge.Goals as goal
 
 pub invariant_of-self : goal.invariant_of-self

@@ -1,6 +1,6 @@
 use Rattle.std.proofs.Common.{◌≡◌, ◌≤◌, arith, rules, length}
 use Rattle.two_silos.specs.World.{World}
-use Rattle.two_silos.proofs.Reached.{reached-packets}
+use Rattle.two_silos.proofs.ReachedWorlds.{reached-packets}
 use Rattle.two_silos.proofs.world.World.packets.Goals as goal
 
 pub returns-clause-limit : goal.returns-clause-limit

@@ -1,6 +1,6 @@
 use Rattle.std.proofs.Common.{◌≡◌, ◌∙◌, ◌<◌, rules, ap, subst}
 use Rattle.two_silos.specs.World.{World, RestartCoordinator, step}
-use Rattle.two_silos.proofs.Reached.{reached-within, reached-next, restart-step}
+use Rattle.two_silos.proofs.ReachedWorlds.{reached-within, reached-next, restart-step}
 use Rattle.two_silos.proofs.world.World.restart_coordinator.Goals as goal
 
 pub invariant_of-self : goal.invariant_of-self

@@ -3,7 +3,7 @@ use Rattle.std.specs.List.{list_all}
 use Rattle.silo_nodes.specs.Coordinators.{parts_from}
 use Rattle.two_silos.specs.World.{World, Start, step, is_part}
 use Rattle.two_silos.specs.Links.{Begun}
-use Rattle.two_silos.proofs.Reached.{reached-within, start-step, after, on-ok, on-err}
+use Rattle.two_silos.proofs.ReachedWorlds.{reached-within, start-step, after, on-ok, on-err}
 use Rattle.two_silos.proofs.world.World.start.Goals as goal
 
 pub invariant_of-self : goal.invariant_of-self

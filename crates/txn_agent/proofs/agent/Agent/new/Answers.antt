@@ -1,6 +1,6 @@
 use Rattle.std.proofs.Common.{◌∙◌, rules}
 use Rattle.script_tree.specs.Programs.{program_tree}
-use Rattle.txn_agent.proofs.Resuming.{new_known}
+use Rattle.txn_agent.proofs.ResumedScripts.{new_known}
 use Rattle.txn_agent.proofs.agent.Agent.new.Goals as goal
 
 pub returns-clause-knows : goal.returns-clause-knows

@@ -5,8 +5,8 @@ use Rattle.std.proofs.lemmas.Option.{slice_get_read}
 use Rattle.script_tree.specs.Programs.{program_tree}
 use Rattle.txn_agent.specs.declared.agent.Advanced.{Advanced}
 use Rattle.txn_agent.specs.declared.agent.Advanced.TheVariants as came
-use Rattle.txn_agent.specs.Stepping.{AnswerSays, children_of}
-use Rattle.unit_carrier.proofs.Freed.{freed-set, freed-set-more}
+use Rattle.txn_agent.specs.AgentStep.{AnswerSays, children_of}
+use Rattle.unit_carrier.proofs.FreedUnits.{freed-set, freed-set-more}
 use Rattle.unit_carrier.proofs.Places.{acts-here, child-carried, child-units, steps-carried, steps-on, units-set}
 use Rattle.unit_carrier.proofs.agents.Agents.advance.Goals as goal
 

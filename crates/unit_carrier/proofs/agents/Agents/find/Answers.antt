@@ -3,9 +3,9 @@ use Rattle.std.specs.Prelude.{slice_get}
 use Rattle.core_access.specs.Sights.{Sight, run_seen}
 use Rattle.script_tree.specs.Programs.{program_tree}
 use Rattle.txn_agent.specs.declared.agent.Agent.{Agent}
-use Rattle.unit_carrier.specs.Carrying.{AreCarried, units_carried}
-use Rattle.unit_carrier.proofs.Finding.{map-set}
-use Rattle.unit_carrier.proofs.Freed.{freed-none, freed-set}
+use Rattle.unit_carrier.specs.CarriedUnits.{AreCarried, units_carried}
+use Rattle.unit_carrier.proofs.MoverSearch.{map-set}
+use Rattle.unit_carrier.proofs.FreedUnits.{freed-none, freed-set}
 use Rattle.unit_carrier.proofs.Places.{agent-here, set-carried}
 use Rattle.unit_carrier.proofs.Movers.{unit-first, units-past, index-within, one-fits, told-first, found-here, one-moves, none-moves, all-counted}
 use Rattle.unit_carrier.proofs.agents.Agents.find.Goals.{then-branch+else-movers-place, else-branch}

@@ -1,9 +1,9 @@
 use Rattle.std.proofs.Common.{◌≡◌, ◌≤◌, length, take}
-use Rattle.core_model.specs.Asked.{IsGoing}
-use Rattle.core_model.specs.Legal.{ends}
+use Rattle.core_model.specs.LockAnswers.{IsGoing}
+use Rattle.core_model.specs.LegalRuns.{ends}
 use Rattle.core_access.specs.Sights.{run_seen}
 use Rattle.script_tree.specs.Programs.{program_tree}
-use Rattle.unit_carrier.specs.Carrying.{AreCarried, AreFreed, as_carried, units_carried, moving}
+use Rattle.unit_carrier.specs.CarriedUnits.{AreCarried, AreFreed, as_carried, units_carried, moving}
 use Rattle.unit_carrier.proofs.agents.Agents.find.Given as goal
 
 abbrev pub invariant-loop-index : goal.invariant-loop-index

@@ -1,5 +1,5 @@
 use Rattle.std.proofs.Common.{◌-◌, length}
-use Rattle.unit_carrier.specs.Carrying.{AreFreed}
+use Rattle.unit_carrier.specs.CarriedUnits.{AreFreed}
 use Rattle.unit_carrier.proofs.agents.Agents.freed_front.Given as goal
 
 abbrev pub invariant-loop-front : goal.invariant-loop-front

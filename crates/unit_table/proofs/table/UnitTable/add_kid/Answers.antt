@@ -1,6 +1,6 @@
 use Rattle.std.proofs.Common.{refl, [], ◌∷◌, ◌++◌}
 use Rattle.std.specs.Vec.{with_item}
-use Rattle.unit_table.specs.Known.{KnownUnit}
+use Rattle.unit_table.specs.KnownUnits.{KnownUnit}
 use Rattle.unit_table.proofs.Tables.{known-changed}
 use Rattle.unit_table.proofs.table.UnitTable.add_kid.Goals as goal
 

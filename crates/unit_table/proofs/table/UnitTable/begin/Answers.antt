@@ -1,7 +1,7 @@
 use Rattle.std.proofs.Common.{◌≡◌, ℕ, ◌+◌, ap, ◌∙◌}
-use Rattle.unit_table.specs.Known.{just_begun, with_kid}
+use Rattle.unit_table.specs.KnownUnits.{just_begun, with_kid}
 use Rattle.unit_table.specs.Table.{known_in, next_in}
-use Rattle.unit_table.proofs.Beginning.{Counted, Pushed, begin-units, begin-verdict, begin-result}
+use Rattle.unit_table.proofs.UnitBegins.{Counted, Pushed, begin-units, begin-verdict, begin-result}
 use Rattle.unit_table.proofs.table.UnitTable.begin.Goals as goal
 use Rattle.unit_table.proofs.table.UnitTable.begin.Goals.{After-push}
 

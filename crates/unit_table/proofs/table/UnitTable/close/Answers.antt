@@ -1,6 +1,6 @@
 use Rattle.std.proofs.Common.{refl}
 use Rattle.std.specs.Vec.{with_item}
-use Rattle.unit_table.specs.Known.{KnownUnit, phase_at}
+use Rattle.unit_table.specs.KnownUnits.{KnownUnit, phase_at}
 use Rattle.unit_table.proofs.Tables.{known-changed}
 use Rattle.unit_table.proofs.table.UnitTable.close.Goals as goal
 

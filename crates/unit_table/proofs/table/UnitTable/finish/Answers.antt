@@ -1,10 +1,10 @@
 use Rattle.std.proofs.Common.{sym}
 use Rattle.core_model.specs.declared.phases.Phase.TheVariants as phases
 use Rattle.core_model.specs.declared.phases.Verdict.TheVariants as verdicts
-use Rattle.unit_table.specs.Known.{KnownUnit}
+use Rattle.unit_table.specs.KnownUnits.{KnownUnit}
 use Rattle.unit_table.specs.Table.{known_in}
 use Rattle.unit_table.proofs.Tables.{over-units, attr-put, attr-kept}
-use Rattle.unit_table.proofs.Running.{running-open}
+use Rattle.unit_table.proofs.RunningUnits.{running-open}
 use Rattle.unit_table.proofs.table.UnitTable.finish.Goals as goal
 
 pub returns-clause-units : goal.returns-clause-units

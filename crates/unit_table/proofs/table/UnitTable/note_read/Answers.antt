@@ -2,7 +2,7 @@ use Rattle.std.proofs.Common.{◌≡◌, refl, [], ◌∷◌, ◌++◌}
 use Rattle.std.specs.Vec.{with_item}
 use Rattle.core_model.specs.CoreState.{put}
 use Rattle.unit_table.specs.declared.table.UnitTable.{UnitTable}
-use Rattle.unit_table.specs.Known.{KnownUnit}
+use Rattle.unit_table.specs.KnownUnits.{KnownUnit}
 use Rattle.unit_table.specs.Parts.{deps_after}
 use Rattle.unit_table.specs.Table.{known_in}
 use Rattle.unit_table.proofs.Tables.{known-changed, read-units, attr-kept}

@@ -2,10 +2,10 @@ use Rattle.std.proofs.Common.{sym}
 use Rattle.base_types.specs.declared.calls.Outcome.TheVariants as outcomes
 use Rattle.core_model.specs.declared.phases.Phase.TheVariants as phases
 use Rattle.core_model.specs.declared.phases.Verdict.TheVariants as verdicts
-use Rattle.unit_table.specs.Known.{KnownUnit}
+use Rattle.unit_table.specs.KnownUnits.{KnownUnit}
 use Rattle.unit_table.specs.Table.{known_in}
 use Rattle.unit_table.proofs.Tables.{over-units, attr-put, attr-kept}
-use Rattle.unit_table.proofs.Running.{running-resultless}
+use Rattle.unit_table.proofs.RunningUnits.{running-resultless}
 use Rattle.unit_table.proofs.table.UnitTable.refuse.Goals as goal
 
 pub returns-clause-units : goal.returns-clause-units

@@ -1,0 +1,173 @@
+ghost use Rattle.std.specs.Prelude.{◌≡◌, [], true, IfOk};
+ghost use Rattle.core_model.specs.LegalRuns.{IsLegal};
+ghost use Rattle.history_core.specs.Cores.{run_of};
+ghost use Rattle.turn_cell.specs.Passes.{IsPassOf, pass_view};
+
+use crate::deeds::{Planned, planned_by};
+use crate::event_texts::Told;
+use crate::shared_core::SharedCore;
+use base_types::{Store, UnitNo};
+use core_model::{CoreAnswer, CoreQuestion};
+use history_core::{Core, Opening};
+use run_lines::InputLines;
+use script_check::Checked;
+use settle_loop::{Gate, GatePlace};
+use std::alloc::{AllocError, Global};
+use std::marker::PhantomData;
+use std::sync::Wait;
+use turn_cell::{Pass, TurnCell, TurnObject};
+use unit_crew::carry_lines;
+use worker_signals::Signals;
+
+// How long the lines of a race may be.
+const LONGEST: usize = 65536;
+
+/// A gate that nobody watches.
+#[derive(Drop)]
+struct Unwatched;
+
+impl Gate for Unwatched {
+    fn reach(&self, _place: GatePlace) {}
+}
+
+/// What a row of a race says: the lines of the worker, and what another does between its looks and its events.
+#[derive(Drop)]
+struct Race {
+    input: String,
+    plan: Vec<Planned>,
+}
+
+// What the words of a row say. A word that is neither a request nor a plan is left out.
+fn race_of(alloc: Global, words: &str) -> Result<Race, AllocError> {
+    let mut race = Race {
+        input: String::new(alloc),
+        plan: Vec::new(alloc),
+    };
+    for word in words.split(' ') {
+        if word.starts_with("{") {
+            race.input.push_str(word)?;
+            race.input.push_str("\n")?;
+        } else if let Some(planned) = planned_by(word) {
+            race.plan.push(planned)?;
+        }
+    }
+    Ok(race)
+}
+
+// Writes lines, where one that comes several times in a row is written once, with how often it came.
+fn add_folded(out: &mut String, text: &str) -> Result<(), AllocError> {
+    let mut last = "";
+    let mut times = 0u32;
+    for line in text.lines() {
+        if line == last {
+            times = times.wrapping_add(1);
+        } else {
+            add_times(out, last, times)?;
+            last = line;
+            times = 1;
+        }
+    }
+    add_times(out, last, times)
+}
+
+fn add_times(out: &mut String, line: &str, times: u32) -> Result<(), AllocError> {
+    match times {
+        0 => Ok(()),
+        1 => write!(out, "{line}\n"),
+        _ => write!(out, "{times} times: {line}\n"),
+    }
+}
+
+// A core without units, whose grains all have the fields of their types.
+fn new_core(alloc: Global, checked: &Checked) -> Result<Core, AllocError>
+    ensures { IfOk result (λ core. IsLegal (λ e. true) (run_of core)) }
+{
+    let opened = Opening {
+        shape: checked.shape()?,
+        store: Store::new(alloc),
+        next_unit: UnitNo(1),
+    };
+    Ok(Core::new(alloc, opened))
+}
+
+// Carries the lines by one worker, and answers what it and the other did.
+fn carry<R: Wait>(
+    rt: &R,
+    alloc: Global,
+    checked: &Checked,
+    race: &Race,
+    cell: &TurnCell<Core>,
+    pass: Pass<Core>,
+    other: Pass<Core>,
+) -> Result<String, AllocError>
+    requires own { IsPassOf cell.now pass × IsPassOf cell.now other }
+    requires legal { IsLegal (λ e. true) (run_of (pass_view pass).first) }
+    requires fresh { (pass_view pass).hand.mine ≡ [] }
+{
+    let _named: PhantomData<(CoreQuestion, CoreAnswer)> = PhantomData;
+    let input = race.input.as_bytes();
+    if input.len() > LONGEST {
+        return Err(AllocError);
+    }
+    let mut lines = InputLines::new(checked, input);
+    let mut shared = SharedCore {
+        rt,
+        alloc,
+        cell,
+        pass,
+        other,
+        plan: race.plan.as_slice(),
+        looks: 0,
+        events: 0,
+        told: Told::new(alloc),
+    };
+    let signals = Signals::new();
+    let carried = carry_lines(
+        rt,
+        alloc,
+        checked,
+        &mut lines,
+        0,
+        &mut shared,
+        &Unwatched,
+        &signals,
+    );
+    let SharedCore {
+        rt: _rt,
+        alloc: _alloc,
+        cell: _cell,
+        pass: _pass,
+        other: _other,
+        plan: _plan,
+        looks: _looks,
+        events: _events,
+        told,
+    } = shared;
+    if carried.is_err() {
+        return Err(AllocError);
+    }
+    let mut told = told;
+    let text = told.take_text(alloc);
+    let mut out = String::new(alloc);
+    add_folded(&mut out, text.as_str())?;
+    Ok(out)
+}
+
+/// Carries lines by one worker over a core that it shares with another, and answers the events of both, one a line.
+pub fn play_race<R: Wait>(
+    rt: &R,
+    alloc: Global,
+    checked: &Checked,
+    words: &str,
+) -> Result<String, AllocError> {
+    let _named: PhantomData<(CoreQuestion, CoreAnswer)> = PhantomData;
+    let race = race_of(alloc, words)?;
+    let core = new_core(alloc, checked)?;
+    match TurnCell::new(alloc, core) {
+        Ok((cell, pass)) => {
+            let (pass, other) = cell.split(pass);
+            carry(rt, alloc, checked, &race, &cell, pass, other)
+        }
+        Err(AllocError) => Err(AllocError),
+    }
+}

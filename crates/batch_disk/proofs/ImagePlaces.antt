@@ -1,0 +1,143 @@
+-- What stands in an image stands in another that has the same bytes at its places.
+use Rattle.std.proofs.Common.{◌≡◌, ℕ, ◌+◌, ◌<◌, ◌≤◌, List, [], ◌∷◌, length, take, drop, slice_index, None, refl, sym, ◌∙◌, ap, arith, subst}
+use Rattle.std.proofs.lemmas.List.{take-take, drop-take, get_or-take}
+use Rattle.std.specs.Prelude.{⊤}
+use Rattle.std.specs.List.{AllByRecursion}
+use Rattle.base_types.specs.declared.calls.UnitNo.{UnitNo}
+use Rattle.base_types.specs.declared.calls.Value.{Value}
+use Rattle.base_types.specs.declared.calls.GrainId.{GrainId}
+use Rattle.base_types.specs.declared.shapes.Shape.{Shape}
+use Rattle.host_trait.specs.World.{Image}
+use Rattle.gate_block.specs.Log.{HasBlocks, LogsUpTo}
+use Rattle.cell_model.specs.Units.{Member}
+use Rattle.field_codec.specs.declared.units.Numbers.TheVariants.{Logged}
+use Rattle.commit_log.specs.Bodies.{IsRecordIn}
+use Rattle.commit_log.specs.declared.records.Written.{Written}
+use Rattle.log_reading.specs.Blocks.{header_damage}
+use Rattle.host_trait.specs.declared.channels.FileId.TheVariants.{Manager, Program as ProgramFile, Grain}
+use Rattle.silo_spec.specs.Silos.{IsSilo, HasProgram}
+use Rattle.promise_spec.specs.Records.{Commit}
+use Rattle.promise_spec.specs.Programs.{Program, shape_in}
+use Rattle.promise_spec.specs.Entries.{LogEntry, Recorded, records_among, Log, records_of}
+use Rattle.promise_spec.specs.Versions.{WriteStands, WritesStand, IsKept}
+use Rattle.promise_spec.specs.Blocks.{AreKept}
+use Rattle.promise_spec.specs.Logs.{magic, StandsUpTo, IsLog}
+use Rattle.batch_disk.specs.ImagesAtRest.{BeginsSilo, Voted, StandsIn, PlacesAreNamed, IsAtRest}
+use Rattle.batch_disk.proofs.Lists.{each_of}
+
+module _ (live : ℕ) (shape : Shape) (was image : Image) where
+  -- the bytes at a place are the same in both
+  abbrev pub IsSameAt : Written → Type 0
+  IsSameAt w = take w.place.len (drop w.place.offset (image (Grain live w.grain))) ≡ take w.place.len (drop w.place.offset (was (Grain live w.grain)))
+
+  pub stands_same : (unit : UnitNo) (w : Written) (s : List Value) → IsSameAt w → WriteStands live shape was unit w s → WriteStands live shape image unit w s
+  stands_same unit w s same st = record { near = st.near; fields = st.fields; version = record { version_is = st.version.version_is; here = same ∙ st.version.here } }
+
+  all_same : (unit : UnitNo) (ws : List Written) (ss : List (List Value)) → AllByRecursion IsSameAt ws → WritesStand live shape was unit ws ss → WritesStand live shape image unit ws ss
+  all_same unit [] [] same st = tt
+  all_same unit [] (s ∷ ss) same st = absurd st
+  all_same unit (w ∷ ws) [] same st = absurd st
+  all_same unit (w ∷ ws) (s ∷ ss) same st = (stands_same unit w s same.0 st.0, all_same unit ws ss same.1 st.1)
+
+  pub kept_one : (c : Commit) → AllByRecursion IsSameAt c.logged.writes → IsKept live shape was c → IsKept live shape image c
+  kept_one c same kept = record { fits = kept.fits; whole = all_same c.logged.unit c.logged.writes c.states same kept.whole }
+
+-- so do the entries of a log
+pub kept_same : (live : ℕ) (p : Program) (was image : Image) (entries : List LogEntry) → AllByRecursion (λ c. AllByRecursion (IsSameAt live (shape_in p) was image) c.logged.writes) (records_among entries)
+    → AreKept live was p entries → AreKept live image p entries
+kept_same live p was image [] same kept = tt
+kept_same live p was image (Recorded c ∷ entries) same kept = (kept_one live (shape_in p) was image c same.0 kept.0, kept_same live p was image entries same.1 kept.1)
+
+-- what stands below a place stands there still, where the bytes up to that place are the same
+pub below_same : (d c : List ℕ) (at len end : ℕ) → take end c ≡ take end d → at + len ≤ end → take len (drop at c) ≡ take len (drop at d)
+below_same d c at len end same below =
+    let cut : (l : List ℕ) → take len (drop at l) ≡ drop at (take (at + len) (take end l)) = λ l. sym (drop-take at len l) ∙ ap (drop at) (sym (take-take (at + len) end l below)) in
+    cut c ∙ ap (λ (l : List ℕ). drop at (take (at + len) l)) same ∙ sym (cut d)
+
+-- a shorter front of equal fronts is equal
+pub shorter_front : (n m : ℕ) (c d : List ℕ) → n ≤ m → take m c ≡ take m d → take n c ≡ take n d
+shorter_front n m c d low same = sym (take-take n m c low) ∙ ap (λ (l : List ℕ). take n l) same ∙ take-take n m d low
+
+-- ---- records of what the votes wrote
+
+-- each write of a unit, with its state, is among what the votes wrote
+abbrev pub AreVoted : List Voted → UnitNo → List Written → List (List Value) → Type 0
+AreVoted voted unit [] [] = ⊤
+AreVoted voted unit [] (s ∷ ss) = ⊥
+AreVoted voted unit (w ∷ ws) [] = ⊥
+AreVoted voted unit (w ∷ ws) (s ∷ ss) = Member (record { unit = unit; write = w; state = s }) voted × AreVoted voted unit ws ss
+
+-- a record within the limits, all of whose versions the votes wrote
+pub record IsVoted (shape : Shape) (voted : List Voted) (c : Commit) : Type 0 where
+  pub fits : IsRecordIn Logged shape c.logged
+  pub whole : AreVoted voted c.logged.unit c.logged.writes c.states
+
+-- the records of the open batch's units to commit
+pub record IsNextBatch (shape : Shape) (voted : List Voted) (batch : List Commit) : Type 0 where
+  pub size : length batch ≤ 64
+  pub each : AllByRecursion (IsVoted shape voted) batch
+
+-- what the votes wrote of a unit stands
+pub voted_stand : (live : ℕ) (shape : Shape) (image : Image) (voted : List Voted) (unit : UnitNo) (ws : List Written) (ss : List (List Value)) → AreVoted voted unit ws ss → AllByRecursion (StandsIn live shape image) voted → WritesStand live shape image unit ws ss
+voted_stand live shape image voted unit [] [] are each = tt
+voted_stand live shape image voted unit [] (s ∷ ss) are each = absurd are
+voted_stand live shape image voted unit (w ∷ ws) [] are each = absurd are
+voted_stand live shape image voted unit (w ∷ ws) (s ∷ ss) are each = (each_of (StandsIn live shape image) voted (record { unit = unit; write = w; state = s }) each are.0, voted_stand live shape image voted unit ws ss are.1 each)
+
+pub batch_stands : (live : ℕ) (shape : Shape) (image : Image) (voted : List Voted) (batch : List Commit) → AllByRecursion (IsVoted shape voted) batch → AllByRecursion (StandsIn live shape image) voted → AllByRecursion (IsKept live shape image) batch
+batch_stands live shape image voted [] are each = tt
+batch_stands live shape image voted (c ∷ batch) are each = (record { fits = are.0.fits; whole = voted_stand live shape image voted c.logged.unit c.logged.writes c.states are.0.whole each }, batch_stands live shape image voted batch are.1 each)
+
+-- a file with a log and a silo's header is a silo's
+pub silo_of : (head : List ℕ) (bodies : List (List ℕ)) (gate : ℕ) (file : List ℕ) → BeginsSilo head → take 15 file ≡ head → LogsUpTo bodies gate file → IsSilo magic file
+silo_of head bodies gate file is header logs =
+    record {
+      long = omega (arith, logs.blocks.at, logs.blocks.within);
+      gate = sym (get_or-take 15 file 0 0 (omega arith)) ∙ ap (λ (l : List ℕ). slice_index l 0) header ∙ is.gate;
+      named = below_same (take 15 file) file 1 8 15 (sym (take-take 15 15 file (omega arith))) (omega arith) ∙ ap (λ (l : List ℕ). take 8 (drop 1 l)) header ∙ is.named;
+    }
+
+-- whether a header is damaged is told by the bytes in front of the first gate
+header_front : (file : List ℕ) → header_damage (take 15 file) ≡ header_damage file
+header_front file =
+    let byte : (i : ℕ) → i < 15 → slice_index (take 15 file) i ≡ slice_index file i = λ i low. get_or-take 15 file i 0 low in
+    rw (byte 13 (omega arith), byte 14 (omega arith)) refl
+
+-- a file with a silo's header is not damaged there
+pub whole_of : (head file : List ℕ) → BeginsSilo head → take 15 file ≡ head → header_damage file ≡ None
+whole_of head file is header = sym (header_front file) ∙ ap header_damage header ∙ is.whole
+
+-- and a silo's file, whose header isn't damaged, begins so
+pub silo_begins : (file : List ℕ) → IsSilo magic file → header_damage file ≡ None → BeginsSilo (take 15 file)
+silo_begins file silo whole = record {
+  gate = get_or-take 15 file 0 0 (omega arith) ∙ silo.gate;
+  named = ap (take 8) (drop-take 1 14 file) ∙ take-take 8 14 (drop 1 file) (omega arith) ∙ silo.named;
+  whole = header_front file ∙ whole;
+}
+
+-- A log stands in an image as in another, where the blocks stand there, the header isn't damaged, the program's file is the same,
+-- and so are the bytes at its places.
+pub stands_up_same : (live : ℕ) (shape : Shape) (was image : Image) (log : Log) (bodies : List (List ℕ)) (gate : ℕ) → StandsUpTo live was log bodies gate
+    → header_damage (image (Manager live)) ≡ None → image (ProgramFile live) ≡ was (ProgramFile live) → HasBlocks bodies gate (image (Manager live))
+    → AllByRecursion (λ c. AllByRecursion (IsSameAt live shape was image) c.logged.writes) (records_of log) → StandsUpTo live image log bodies gate
+stands_up_same live shape was image log bodies gate is whole same blocks places = record {
+  header = whole;
+  program = is.program;
+  checked = is.checked;
+  text = subst (HasProgram is.program.text) (sym same) is.text;
+  base = is.base;
+  blocks = is.blocks;
+  fit = is.fit;
+  spelled = is.spelled;
+  stand = blocks;
+  entries = is.entries;
+  kept = kept_same live is.program was image log.entries places is.kept;
+}
+
+-- each image's log between two steps
+pub rests_log : (live : ℕ) (shape : Shape) (head : List ℕ) (log : Log) (bodies : List (List ℕ)) (gate : ℕ) (ends : GrainId → ℕ) (voted : List Voted) (image : Image) → PlacesAreNamed live shape head log ends
+    → IsAtRest live shape head log bodies gate ends voted image → IsLog live image log
+rests_log live shape head log bodies gate ends voted image named rests = record {
+  is_live = named.is_live image (silo_of head bodies gate (image (Manager live)) named.silo rests.header (record { blocks = rests.stands.stand; closed = rests.closed }));
+  is = record { bodies = bodies; gate = gate; stands = rests.stands; closed = rests.closed };
+}

@@ -1,0 +1,132 @@
+-- What holds of each state that a core can be in.
+use Rattle.std.proofs.Common.{◌≡◌, ℕ, zero, suc, ◌+◌, ◌<◌, ◌≤◌, List, [], ◌∷◌, Bool, true, false, ◌⊎◌, inl, inr, refl, sym, ap, ◌∙◌, subst, arith, Option, Some, None, length, get_or, take, drop, length-drop, get_or-drop, get_or-take}
+use Rattle.core_model.specs.CoreState.{UnitNo, GrainId, nobody, Member, Batch, CoreState}
+use Rattle.core_model.specs.declared.effects.Effect.{Effect}
+use Rattle.core_model.specs.declared.phases.Phase.{Phase}
+use Rattle.core_model.specs.declared.phases.Phase.TheVariants.{Running, Finished}
+use Rattle.core_model.specs.declared.phases.Verdict.{Verdict}
+use Rattle.core_model.specs.declared.phases.Verdict.TheVariants.{Open, Committed}
+use Rattle.core_model.specs.Tests.{waiting, members, is_final}
+use Rattle.core_model.specs.declared.events.CoreEvent.{CoreEvent}
+use Rattle.core_model.specs.declared.events.CoreEvent.TheVariants.{Bad, Begin, Grant, Refuse, Finish, EndPlain, EndSnapshot, Release, Take, Vote, Decide, Sealed, NotSealed, Doubt, Learn, Emitted, Halt, Want, Load}
+use Rattle.core_model.specs.SerialOrder.{Plays, AllPlay}
+use Rattle.core_model.specs.LegalRuns.{Run, IsLegal, ends}
+use Rattle.core_model.specs.Consistency.{IsConsistent, ClosedBatchesArePrefix}
+use Rattle.core_model.specs.Batches.{BatchesFollow}
+use Rattle.core_laws.proofs.Votes.{follows-ends}
+use Rattle.core_model.specs.Holders.{HoldersHaveRead}
+use Rattle.core_model.specs.Laws.{NoLockIsHeldUntilCommit}
+use Rattle.core_laws.proofs.FurtherLaws.{no-lock-ends}
+use Rattle.core_model.specs.LoadlessLaws.{HoldsWithoutLoads}
+use Rattle.core_laws.proofs.Orders.{Member-at, Member-take}
+use Rattle.core_laws.proofs.Loadless.{LoadlessAt}
+use Rattle.core_laws.proofs.LoadlessRuns.{Steady, steady-ends}
+use Rattle.core_laws.proofs.LoadlessLaws.{holds-ends}
+use Rattle.core_laws.proofs.WithoutLimit.{loads-without-limit}
+use Rattle.core_laws.proofs.Consistency.{consistent-ends}
+use Rattle.core_laws.proofs.HeldLocks.{holders-ends}
+use Rattle.history_core.specs.KeptParts.{IsCoreReached}
+
+-- any effect is a play
+abbrev any_play : Effect → Bool
+any_play e = true
+
+plays-any : (e : CoreEvent) → Plays any_play e
+plays-any (Bad line why) = tt
+plays-any (Begin origin call plain) = tt
+plays-any (Grant u g mode) = tt
+plays-any (Refuse u g mode) = tt
+plays-any (Finish u effect) = refl
+plays-any (EndPlain u effect) = refl
+plays-any (EndSnapshot u at outcome) = tt
+plays-any (Release u g) = tt
+plays-any Take = tt
+plays-any (Vote n g kept) = tt
+plays-any (Decide n) = tt
+plays-any (Sealed n) = tt
+plays-any (NotSealed n) = tt
+plays-any (Doubt n) = tt
+plays-any (Learn u g) = tt
+plays-any Emitted = tt
+plays-any Halt = tt
+plays-any (Want u g) = tt
+plays-any (Load g u state) = tt
+
+all-play : (es : List CoreEvent) → AllPlay any_play es
+all-play [] = tt
+all-play (e ∷ es) = (plays-any e, all-play es)
+
+legal : (r : Run) → 0 < r.base → r.capacity ≡ None → IsLegal any_play r
+legal r above none = record { above = above; effects = all-play r.events; loads = loads-without-limit r none }
+
+pub rests : (w : CoreState) → IsCoreReached w → HoldsWithoutLoads w
+rests w r = subst HoldsWithoutLoads r.3 (holds-ends r.0 r.1)
+
+pub steady : (w : CoreState) → IsCoreReached w → Steady w
+steady w r = subst Steady r.3 (steady-ends r.0 r.1)
+
+pub readers : (w : CoreState) → IsCoreReached w → HoldersHaveRead w
+readers w r = subst HoldersHaveRead r.3 (holders-ends any_play r.0 (legal r.0 r.1 r.2))
+
+pub prefixes : (w : CoreState) → IsCoreReached w → ClosedBatchesArePrefix w
+prefixes w r = subst ClosedBatchesArePrefix r.3 (consistent-ends any_play r.0 (legal r.0 r.1 r.2)).closed_batches_are_a_prefix
+
+-- who isn't finished has written nothing
+pub unwritten : (w : CoreState) → IsCoreReached w → (u : UnitNo) → (w.units.phase u ≡ Finished → ⊥) → w.manager.writes u ≡ []
+unwritten w r u n = (steady w r).0.0.unwritten u n
+
+-- who runs is undecided
+pub running-open : (w : CoreState) → IsCoreReached w → (u : UnitNo) → w.units.phase u ≡ Running → w.manager.verdict u ≡ Open
+running-open w r u p = (steady w r).0.0.undecided u (inr p)
+
+pub closed-within : (w : CoreState) → IsCoreReached w → w.manager.closed ≤ length w.manager.order
+closed-within w r = (let t = (rests w r).within in omega (arith, t))
+
+-- what stands after the closed ones has finished, with a later place
+pub waits : (w : CoreState) → IsCoreReached w → (x : UnitNo) → Member x (waiting w) → (w.units.phase x ≡ Finished) × (w.manager.closed < w.manager.place x)
+waits w r x h =
+    let i = (rests w r).ordered in
+    let t = Member-at x (waiting w) h in
+    let lt : w.manager.closed + t.0 < length w.manager.order = omega (arith, t.1, length-drop w.manager.closed w.manager.order) in
+    let e : get_or w.manager.order (w.manager.closed + t.0) nobody ≡ x = sym (get_or-drop w.manager.closed w.manager.order t.0 nobody) ∙ t.2 in
+    let l = i.listed (w.manager.closed + t.0) lt in
+    (subst (λ z. w.units.phase z ≡ Finished) e l.0, subst (λ z. w.manager.closed < w.manager.place z) e (omega (arith, l.1)))
+
+-- the closed ones have finished, with places up to their count
+pub closes : (w : CoreState) → IsCoreReached w → (x : UnitNo) → Member x (take w.manager.closed w.manager.order) → (w.units.phase x ≡ Finished) × (w.manager.place x ≤ w.manager.closed)
+closes w r x h =
+    let i = (rests w r).ordered in
+    let t = Member-at x (take w.manager.closed w.manager.order) h in
+    let lt : t.0 < w.manager.closed = at_most w.manager.closed w.manager.order t.0 t.1 in
+    let e : get_or w.manager.order t.0 nobody ≡ x = sym (get_or-take w.manager.closed w.manager.order t.0 nobody lt) ∙ t.2 in
+    let l = i.listed t.0 (omega (arith, lt, closed-within w r)) in
+    (subst (λ z. w.units.phase z ≡ Finished) e l.0, subst (λ z. w.manager.place z ≤ w.manager.closed) e (omega (arith, l.1, lt)))
+  where
+    at_most : (m : ℕ) (xs : List UnitNo) (j : ℕ) → j < length (take m xs) → j < m
+    at_most zero xs j h = absurd (omega arith)
+    at_most (suc m) [] j h = absurd (omega arith)
+    at_most (suc m) (y ∷ xs) zero h = omega arith
+    at_most (suc m) (y ∷ xs) (suc j) h = omega (arith, at_most m xs j (omega arith))
+
+-- a unit that runs is neither
+pub waits-not : (w : CoreState) → IsCoreReached w → (u : UnitNo) → w.units.phase u ≡ Running → (x : UnitNo) → Member x (waiting w) → x ≡ u → ⊥
+waits-not w r u p x m e = (let t : Finished ≡ Running = sym (waits w r x m).0 ∙ ap w.units.phase e ∙ p in cc)
+
+pub closes-not : (w : CoreState) → IsCoreReached w → (u : UnitNo) → w.units.phase u ≡ Running → (x : UnitNo) → Member x (take w.manager.closed w.manager.order) → x ≡ u → ⊥
+closes-not w r u p x m e = (let t : Finished ≡ Running = sym (closes w r x m).0 ∙ ap w.units.phase e ∙ p in cc)
+
+-- unless a batch is in doubt, the closed ones are decided for good
+pub closes-final : (w : CoreState) → IsCoreReached w → w.manager.doubt ≡ None → (x : UnitNo) → Member x (take w.manager.closed w.manager.order) → is_final (w.manager.verdict x) ≡ true
+closes-final w r none x m = (let t = closes w r x m in (steady w r).2 none x t.0 t.1)
+
+-- a unit that has finished has its place up to the closed ones or after them
+pub late-not-final : (w : CoreState) → IsCoreReached w → (x : UnitNo) → w.units.phase x ≡ Finished → w.manager.closed < w.manager.place x → is_final (w.manager.verdict x) ≡ false
+late-not-final w r x f lt = (prefixes w r).undecided x f lt
+
+-- the batches follow one another
+pub follows : (w : CoreState) → IsCoreReached w → BatchesFollow w
+follows w r = subst BatchesFollow r.3 (follows-ends any_play r.0 (legal r.0 r.1 r.2))
+
+-- a committed unit has finished, with a place up to the closed ones
+pub committed-closed : (w : CoreState) → IsCoreReached w → (u : UnitNo) → w.manager.verdict u ≡ Committed → (w.units.phase u ≡ Finished) × (w.manager.place u ≤ w.manager.closed)
+committed-closed w r = (subst NoLockIsHeldUntilCommit r.3 (no-lock-ends any_play r.0 (legal r.0 r.1 r.2))).committed

@@ -1,0 +1,133 @@
+-- Bad lines, halts, waits and written entries.
+use Rattle.std.proofs.Common.{◌≡◌, ℕ, ◌+◌, ◌<◌, ◌≤◌, ◌^◌, List, [], ◌∷◌, ◌++◌, Bool, true, false, refl, sym, ap, ◌∙◌, subst, arith, eqb-true, Option, Some, None, length}
+use Rattle.std.proofs.lemmas.Bool.{ltb-true}
+use Rattle.base_types.specs.declared.entries.BadRequest.{BadRequest}
+use Rattle.base_types.specs.declared.entries.Settled.TheVariants as settled
+use Rattle.core_model.specs.CoreState.{UnitNo, GrainId, nobody, Entry, Units, CoreState}
+use Rattle.core_model.specs.declared.events.CoreEvent.TheVariants.{Bad, Emitted, Halt, Want}
+use Rattle.core_model.specs.declared.events.CoreReply.TheVariants as reply
+use Rattle.core_lists.specs.Room.{EntriesInRoom}
+use Rattle.unit_table.specs.Parts.{units_bad_line, units_halted, units_wanting}
+use Rattle.unit_table.specs.Table.{units_of, verdict_in, result_in}
+use Rattle.unit_table.specs.declared.table.UnitTable.{UnitTable}
+use Rattle.history_core.specs.declared.parts.Parts.{Parts}
+use Rattle.history_core.specs.KeptParts.{PartsStand, owed_in}
+use Rattle.history_core.specs.Steps.{CanDo, Does}
+use Rattle.history_core.proofs.OneEvent.{can-is}
+
+-- a bad line is settled
+pub does-bad : (p : Parts) (line : ℕ) (why : BadRequest) (units : UnitTable) (entries : EntriesInRoom) →
+    ((seen : UnitNo → Option ℕ) → units_of units seen ≡ units_bad_line (units_of p.units seen)) → verdict_in units ≡ verdict_in p.units → result_in units ≡ result_in p.units →
+    entries.entries ≡ p.entries.entries ++ record { line = line; unit = nobody; what = settled.Bad why } ∷ [] → entries.emitted ≡ p.entries.emitted → owed_in p.batch ≤ entries.spare →
+    Does p (Bad line why) reply.Done (record p { units = units; entries = entries })
+does-bad p line why units entries u v o es em room = λ w s r a. (
+  record {
+    units = ap units_bad_line s.units ∙ sym (u w.units.seen_at);
+    numbers = s.numbers;
+    cells = s.cells;
+    verdict = s.verdict ∙ sym v;
+    result = s.result ∙ sym o;
+    effects = s.effects;
+    sources = s.sources;
+    batch = s.batch;
+    batches = s.batches;
+    doubt = s.doubt;
+    settled = ap (λ (xs : List Entry). xs ++ record { line = line; unit = nobody; what = settled.Bad why } ∷ []) s.settled ∙ sym es;
+    emitted = s.emitted ∙ sym em;
+    learn = s.learn;
+    handed = s.handed;
+    last = s.last;
+    room = record { entries = room; learn = s.room.learn; places = s.room.places };
+  },
+  refl,
+)
+
+-- the line of a bad line is a number of 32 bits, so the lines before it are fewer
+pub lines-fit : (p : Parts) (line : ℕ) (why : BadRequest) → CanDo p (Bad line why) → line < 2 ^ 32 → p.units.lines < 2 ^ 32
+lines-fit p line why c fits =
+    let e : line ≡ c.0.units.lines + 1 = eqb-true _ _ (can-is c.0 (Bad line why) c.3) in
+    let l : c.0.units.lines ≡ p.units.lines = ap (λ (us : Units). us.lines) c.1.units in
+    omega (arith, e, l, fits)
+
+-- the run is to stop
+pub does-halt : (p : Parts) (units : UnitTable) →
+    ((seen : UnitNo → Option ℕ) → units_of units seen ≡ units_halted (units_of p.units seen)) → verdict_in units ≡ verdict_in p.units → result_in units ≡ result_in p.units →
+    Does p Halt reply.Done (record p { units = units })
+does-halt p units u v o = λ w s r a. (
+  record {
+    units = ap units_halted s.units ∙ sym (u w.units.seen_at);
+    numbers = s.numbers;
+    cells = s.cells;
+    verdict = s.verdict ∙ sym v;
+    result = s.result ∙ sym o;
+    effects = s.effects;
+    sources = s.sources;
+    batch = s.batch;
+    batches = s.batches;
+    doubt = s.doubt;
+    settled = s.settled;
+    emitted = s.emitted;
+    learn = s.learn;
+    handed = s.handed;
+    last = s.last;
+    room = record { entries = s.room.entries; learn = s.room.learn; places = s.room.places };
+  },
+  refl,
+)
+
+-- a unit waits for a grain
+pub does-want : (p : Parts) (unit : UnitNo) (grain : GrainId) (units : UnitTable) →
+    ((seen : UnitNo → Option ℕ) → units_of units seen ≡ units_wanting (units_of p.units seen) unit grain) → verdict_in units ≡ verdict_in p.units → result_in units ≡ result_in p.units →
+    Does p (Want unit grain) reply.Done (record p { units = units })
+does-want p unit grain units u v o = λ w s r a. (
+  record {
+    units = ap (λ us. units_wanting us unit grain) s.units ∙ sym (u w.units.seen_at);
+    numbers = s.numbers;
+    cells = s.cells;
+    verdict = s.verdict ∙ sym v;
+    result = s.result ∙ sym o;
+    effects = s.effects;
+    sources = s.sources;
+    batch = s.batch;
+    batches = s.batches;
+    doubt = s.doubt;
+    settled = s.settled;
+    emitted = s.emitted;
+    learn = s.learn;
+    handed = s.handed;
+    last = s.last;
+    room = record { entries = s.room.entries; learn = s.room.learn; places = s.room.places };
+  },
+  refl,
+)
+
+-- an entry is written
+pub does-emit : (p : Parts) (entries : EntriesInRoom) → entries.entries ≡ p.entries.entries → entries.emitted ≡ p.entries.emitted + 1 → entries.spare ≡ p.entries.spare →
+    Does p Emitted reply.Done (record p { entries = entries })
+does-emit p entries es em room = λ w s r a. (
+  record {
+    units = s.units;
+    numbers = s.numbers;
+    cells = s.cells;
+    verdict = s.verdict;
+    result = s.result;
+    effects = s.effects;
+    sources = s.sources;
+    batch = s.batch;
+    batches = s.batches;
+    doubt = s.doubt;
+    settled = s.settled ∙ sym es;
+    emitted = ap (λ n. n + 1) s.emitted ∙ sym em;
+    learn = s.learn;
+    handed = s.handed;
+    last = s.last;
+    room = record { entries = subst (λ n. owed_in p.batch ≤ n) (sym room) s.room.entries; learn = s.room.learn; places = s.room.places };
+  },
+  refl,
+)
+
+-- there is an entry to write
+pub some-entry : (p : Parts) → CanDo p Emitted → p.entries.emitted < length p.entries.entries
+some-entry p c =
+    let lt : c.0.manager.emitted < length c.0.manager.settled = ltb-true _ _ (can-is c.0 Emitted c.3) in
+    omega (arith, lt, c.1.emitted, ap (λ (xs : List Entry). length xs) c.1.settled)

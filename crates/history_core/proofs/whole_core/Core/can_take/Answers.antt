@@ -1,0 +1,14 @@
+use Rattle.std.proofs.Common.{◌∙◌, ap}
+use Rattle.core_model.specs.Events.{applies}
+use Rattle.core_model.specs.declared.events.CoreEvent.TheVariants.{Take}
+use Rattle.core_model.specs.LegalRuns.{ends}
+use Rattle.history_core.specs.Cores.{CoreData, run_of}
+use Rattle.history_core.specs.Histories.{run_with}
+use Rattle.history_core.proofs.OneEvent.{reached-core}
+use Rattle.history_core.proofs.whole_core.Core.can_take.Goals as goal
+
+pub returns : goal.returns
+returns c =
+    let old = c.self.inside in
+    c.can_take.ensures (ends (run_with old.base old.kinds old.parts.cells old.history.events)) c.self.invariant.stands (reached-core old.parts old.base old.kinds old.history.events c.self.invariant.above)
+    ∙ ap (λ (d : CoreData). applies (ends (run_of d)) Take) c.self.view_is

@@ -1,0 +1,36 @@
+use Rattle.std.proofs.Common.{◌≡◌, ◌∙◌, sym, refl, subst, List, None, false}
+use Rattle.base_types.specs.declared.calls.GrainId.{GrainId}
+use Rattle.cell_model.specs.Cells.{opened}
+use Rattle.core_model.specs.declared.events.CoreEvent.{CoreEvent}
+use Rattle.core_model.specs.Events.{run, start}
+use Rattle.cell_table.specs.Table.{cell_in, opens_with}
+use Rattle.history_core.specs.declared.parts.Parts.{Parts}
+use Rattle.history_core.specs.KeptParts.{PartsStand}
+use Rattle.history_core.proofs.LineNumbers.{few-new}
+use Rattle.history_core.proofs.Openings.{stands-new}
+use Rattle.history_core.proofs.whole_core.Core.new.Goals as goal
+
+pub invariant_of-result : goal.invariant_of-result
+invariant_of-result c =
+    let p : Parts = record {
+      units = c.new.result;
+      cells = c.new-2.result;
+      waiting = c.new-3.result;
+      batches = 0;
+      batch = None;
+      doubt = false;
+      entries = c.new-4.result;
+      learn = c.new-5.result;
+      last = c.new-6.result;
+      handed = c.new-7.result;
+    } in
+    let cells : cell_in p.cells ≡ (λ (g : GrainId). opened (opens_with p.cells g)) = c.new-2.ensures.cells ∙ (λ i g. opened (sym c.new-2.ensures.opens i g)) in
+    record {
+      above = c.requires.above;
+      stands = subst (λ (es : List CoreEvent). PartsStand p (run (start c.args.opened.next_unit.0 c.len-kinds.result None (opens_with p.cells)) es)) (sym c.new-history.ensures)
+          (stands-new p c.args.opened.next_unit.0 c.len-kinds.result c.new.ensures.units c.new.ensures.verdict c.new.ensures.result cells c.new-3.ensures.items refl refl refl c.new-4.ensures.entries c.new-4.ensures.emitted c.new-5.ensures c.new-6.ensures c.requires.few);
+      few = few-new p c.args.opened.next_unit.0 c.len-kinds.result c.new-history.result.events c.new-history.ensures;
+    }
+
+pub returns : goal.returns
+returns c = λ i. record { base = c.args.opened.next_unit.0; kinds = c.len-kinds.ensures i; capacity = None; opening = c.new-2.ensures.opens i; events = c.new-history.ensures i }

@@ -1,0 +1,195 @@
+// How a batch closes.
+ghost use Rattle.std.specs.Prelude.{◌≡◌, ◌<◌, ◌≤◌, ◌+◌, ◌++◌, ℕ, Option as AnOption, List as AList, Some, true, map, drop, length};
+ghost use Rattle.base_types.specs.declared.calls.GrainId.{GrainId as AGrain};
+ghost use Rattle.base_types.specs.declared.calls.UnitNo.{UnitNo as AUnit};
+ghost use Rattle.core_model.specs.CoreState.{put};
+ghost use Rattle.core_model.specs.Changes.{entry_for, told};
+ghost use Rattle.core_model.specs.Tests.{is_over, is_final, is_committed, state_written};
+ghost use Rattle.cell_table.specs.Table.{opens_with};
+ghost use Rattle.core_lists.specs.States.{last_in, has_place, KeepsPlaces};
+ghost use Rattle.open_batch.specs.Members.{effect_in};
+ghost use Rattle.unit_table.specs.Table.{units_of, verdict_in, result_in, phase_in};
+ghost use Rattle.cell_model.specs.declared.outcomes.Decision.{Decision as ADecision};
+ghost use Rattle.history_core.specs.BatchClosing.{IsReadyToClose, Closes, decisions_in};
+ghost use Rattle.history_core.specs.ClosedUnits.{ArePlaced, state_after, grains_with};
+ghost use Rattle.history_core.specs.Fronts.{ends_as, told_as, pairs_of, verdicts_after, entries_after, pairs_after, last_after, writes_after, AreOver, PlacedAfter};
+
+use crate::learn::is_committed;
+use crate::parts::Parts;
+use crate::refuse::settle;
+use base_types::{GrainId, List, Outcome, Settled, State, UnitNo};
+use cell_model::Decision;
+use core_lists::{EntryList, LastStates, LearnQueue};
+use core_model::Verdict;
+use open_batch::FinishedUnit;
+use unit_table::UnitTable;
+
+/// How a decided batch closes: it is on disk, or never will be, or nobody knows.
+#[derive(Clone, Copy)]
+pub(crate) enum Closing {
+    Sealed,
+    NotSealed,
+    Doubt,
+}
+
+impl Parts {
+    // Closes the open batch, which is decided. Takes no memory.
+    pub(crate) fn close(&mut self, how: Closing)
+        requires { IsReadyToClose self.old }
+        ensures closes { (ds : AList ADecision) → decisions_in self.old.batch ≡ Some ds → Closes how ds self.old self.new }
+        ensures doubt { self.new.doubt ≡ self.old.doubt }
+        ensures opens { opens_with self.new.cells ≡ opens_with self.old.cells }
+    {
+        let Some(batch) = self.batch.take() else {
+            unreachable!()
+        };
+        let Some(decisions) = batch.decisions() else {
+            unreachable!()
+        };
+        close_all(
+            &mut self.units,
+            &mut self.entries,
+            &mut self.learn,
+            &mut self.last,
+            &mut self.waiting,
+            decisions,
+            how,
+        );
+    }
+}
+
+// Closes a batch with these decisions, whose units are the first of those that wait: each has its verdict and its entry,
+// its grains have it to learn, and where it is committed the states that it wrote are the last ones. Takes no memory.
+pub(crate) fn close_all(
+    units: &mut UnitTable,
+    entries: &mut EntryList,
+    learn: &mut LearnQueue,
+    last: &mut LastStates,
+    waiting: &mut Vec<FinishedUnit>,
+    decisions: &[Decision],
+    how: Closing,
+)
+    requires within { length decisions.now ≤ length waiting.old.items }
+    requires over { AreOver (λ u. is_over (phase_in units.old u)) decisions.now (map effect_in waiting.old.items) }
+    requires entries { length decisions.now ≤ entries.old.spare }
+    requires learn { writes_after decisions.now (map effect_in waiting.old.items) ≤ learn.old.spare }
+    requires placed { PlacedAfter (has_place last.old) decisions.now (map effect_in waiting.old.items) }
+    ensures units { (seen : AUnit → AnOption ℕ) → units_of units.new seen ≡ units_of units.old seen }
+    ensures result { result_in units.new ≡ result_in units.old }
+    ensures verdict { verdict_in units.new ≡ verdicts_after (ends_as how) decisions.now (map effect_in waiting.old.items) (verdict_in units.old) }
+    ensures entries { entries.new.entries ≡ entries.old.entries ++ entries_after how decisions.now (map effect_in waiting.old.items) }
+    ensures emitted { entries.new.emitted ≡ entries.old.emitted }
+    ensures pairs { learn.new.pairs ≡ learn.old.pairs ++ pairs_after (ends_as how) decisions.now (map effect_in waiting.old.items) (verdict_in units.old) }
+    ensures last { (g : AGrain) → last_in last.new g ≡ last_after (ends_as how) g decisions.now (map effect_in waiting.old.items) (verdict_in units.old) (last_in last.old g) }
+    ensures waiting { waiting.new.items ≡ drop (length decisions.now) waiting.old.items }
+{
+    for decision in decisions {
+        let done = waiting.remove(0);
+        close_one(units, entries, learn, last, done, decision, how);
+    }
+}
+
+// Closes one unit.
+fn close_one(
+    units: &mut UnitTable,
+    entries: &mut EntryList,
+    learn: &mut LearnQueue,
+    last: &mut LastStates,
+    done: FinishedUnit,
+    decision: &Decision,
+    how: Closing,
+)
+    requires over { is_over (phase_in units.old done.effect.unit) ≡ true }
+    requires entries { 0 < entries.old.spare }
+    requires learn { length done.effect.writes ≤ learn.old.spare }
+    requires placed { ArePlaced (has_place last.old) done.effect.writes }
+    ensures units { (seen : AUnit → AnOption ℕ) → units_of units.new seen ≡ units_of units.old seen }
+    ensures result { result_in units.new ≡ result_in units.old }
+    ensures verdict { verdict_in units.new ≡ put (verdict_in units.old) done.effect.unit (ends_as how (verdict_in units.old done.effect.unit)) }
+    ensures entries { entries.new.entries ≡ entries.old.entries ++ entry_for done.effect.origin done.effect.unit (told (told_as how done.effect.result) decision.now) }
+    ensures emitted { entries.new.emitted ≡ entries.old.emitted }
+    ensures spare { entries.old.spare ≤ entries.new.spare + 1 }
+    ensures pairs { learn.new.pairs ≡ learn.old.pairs ++ pairs_of (is_final (ends_as how (verdict_in units.old done.effect.unit))) done.effect.unit done.effect.writes }
+    ensures room { learn.old.spare ≤ learn.new.spare + length done.effect.writes }
+    ensures last { (g : AGrain) → last_in last.new g ≡ state_after (is_committed (ends_as how (verdict_in units.old done.effect.unit))) (state_written g done.effect.writes) (last_in last.old g) }
+    ensures places { KeepsPlaces last.old last.new }
+{
+    let effect = done.effect;
+    let unit = effect.unit;
+    let verdict = ends_as(how, units.verdict(unit));
+    units.set_verdict(unit, verdict);
+    teach(learn, unit, effect.writes.as_slice(), is_final(verdict));
+    settle(
+        entries,
+        effect.origin,
+        unit,
+        told(how, effect.result, decision),
+    );
+    keep(last, effect.writes, is_committed(verdict));
+}
+
+// What becomes of a verdict.
+fn ends_as(how: Closing, verdict: Verdict) -> Verdict
+    ensures { result ≡ ends_as how verdict }
+{
+    match (how, verdict) {
+        (Closing::Sealed, Verdict::Chosen) => Verdict::Committed,
+        (Closing::NotSealed, Verdict::Chosen) => Verdict::Aborted,
+        (_, Verdict::Condemned) => Verdict::Aborted,
+        (_, other) => other,
+    }
+}
+
+// Whether the verdict is one for good.
+fn is_final(verdict: Verdict) -> bool
+    ensures { result ≡ is_final verdict }
+{
+    match verdict {
+        Verdict::Committed | Verdict::Aborted => true,
+        Verdict::Open | Verdict::Chosen | Verdict::Condemned => false,
+    }
+}
+
+// What a unit's line is told: its cause, or the answer where it could commit.
+fn told(how: Closing, outcome: Outcome, decision: &Decision) -> Settled
+    ensures { result ≡ told (told_as how outcome) decision.now }
+{
+    match decision {
+        Decision::Vote { grain } => Settled::Vote { grain: *grain },
+        Decision::Dependency { on } => Settled::Dependency { on: *on },
+        Decision::Commit => match how {
+            Closing::Sealed => Settled::Done(outcome),
+            Closing::NotSealed => Settled::Disk,
+            Closing::Doubt => Settled::InDoubt,
+        },
+    }
+}
+
+// The grains that the unit wrote have its verdict to learn, where it is one for good.
+fn teach(learn: &mut LearnQueue, unit: UnitNo, writes: &[(GrainId, State)], is_final: bool)
+    requires { length writes.now ≤ learn.old.spare }
+    ensures pairs { learn.new.pairs ≡ learn.old.pairs ++ pairs_of is_final unit writes.now }
+    ensures room { learn.old.spare ≤ learn.new.spare + length writes.now }
+{
+    if !is_final {
+        return;
+    }
+    for write in writes {
+        learn.push(unit, write.0);
+    }
+}
+
+// The states that a committed unit wrote are their grains' last ones: of a grain that it wrote twice the first.
+fn keep(last: &mut LastStates, writes: List<(GrainId, State)>, is_committed: bool)
+    requires { ArePlaced (has_place last.old) writes }
+    ensures last { (g : AGrain) → last_in last.new g ≡ state_after is_committed (state_written g writes) (last_in last.old g) }
+    ensures places { KeepsPlaces last.old last.new }
+{
+    if !is_committed {
+        return;
+    }
+    let mut writes = writes.into_vec();
+    while let Some((grain, state)) = writes.pop() {
+        last.put(grain, state);
+    }
+}

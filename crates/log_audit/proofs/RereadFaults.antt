@@ -1,0 +1,42 @@
+-- Faults of reading again, as those of a report.
+use Rattle.std.proofs.Common.{◌≡◌, inr, ℕ, List, Ok, Err, refl, sym, ◌∙◌, subst}
+use Rattle.base_types.specs.declared.shapes.Shape.{Shape}
+use Rattle.host_trait.specs.declared.channels.Channel.{Channel}
+use Rattle.host_trait.specs.declared.channels.FileId.{FileId}
+use Rattle.host_trait.specs.Faults.{NoneFailed}
+use Rattle.commit_log.specs.declared.records.CommitRecord.{CommitRecord}
+use Rattle.log_reading.specs.Blocks.{records_in_file}
+use Rattle.log_reading.specs.Counts.{ReadFaulted}
+use Rattle.log_reading.specs.Steps.{next_in}
+use Rattle.log_reading.specs.declared.faults.FolderFault.{FolderFault}
+use Rattle.log_reading.proofs.Errors.{failed}
+use Rattle.promise_spec.specs.Endings.{HasFailedAs}
+use Rattle.silo_opening.specs.Counts.{OpenFaulted}
+use Rattle.silo_opening.specs.OpenedSilo.{in_folder}
+use Rattle.log_audit.specs.Endings.{fault_ending, MayEnd, from_folder}
+use Rattle.log_audit.specs.RereadFaults.{IsLogFault, IsBlockFault}
+
+pub folder_failed : (old new : Channel → ℕ) (e : FolderFault) → ReadFaulted e old new → HasFailedAs (fault_ending (from_folder e)) old new
+folder_failed old new (FolderFault.Damaged at place) f = f
+folder_failed old new (FolderFault.Failed at) f = f
+folder_failed old new FolderFault.Memory f = f
+
+-- calls that raised nothing, and then those of a fault
+pub read_then : (a b c : Channel → ℕ) (e : FolderFault) → NoneFailed a b → ReadFaulted e b c → ReadFaulted e a c
+read_then a b c e none failed = subst (λ (x : Channel → ℕ). ReadFaulted e x c) (λ i channel. none channel i) failed
+
+pub open_faulted : (old new : Channel → ℕ) (e : FolderFault) → ReadFaulted e old new → OpenFaulted (in_folder e) old new
+open_faulted old new (FolderFault.Damaged at place) f = f
+open_faulted old new (FolderFault.Failed at) f = f
+open_faulted old new FolderFault.Memory f = f
+
+module _ (shape : Shape) (file : List ℕ) where
+  pub folder_ends : (slot : ℕ) (records : List CommitRecord) → records_in_file shape file ≡ Ok records → (e : FolderFault) → IsLogFault slot shape file e → MayEnd (fault_ending (from_folder e))
+  folder_ends slot records is (FolderFault.Damaged at place) here = absurd (let no : Err place ≡ Ok records = sym here ∙ is in cc)
+  folder_ends slot records is (FolderFault.Failed at) here = inr tt
+  folder_ends slot records is FolderFault.Memory here = inr tt
+
+  pub block_fault : {A : Type 0} (gate : ℕ) (e : FolderFault) → ((at : FileId) (place : ℕ) → failed {A = A} e ≡ failed (FolderFault.Damaged at place) → next_in shape gate file ≡ Err place) → IsBlockFault shape gate file (from_folder e)
+  block_fault gate (FolderFault.Damaged at place) damaged = damaged at place refl
+  block_fault gate (FolderFault.Failed at) damaged = tt
+  block_fault gate FolderFault.Memory damaged = tt

@@ -1,0 +1,173 @@
+-- A report of a folder, opened or not, as its call shows it.
+use Rattle.std.proofs.Common.{◌≡◌, inr, ℕ, true, List, ◌++◌, map, Option, Some, None, Result, Ok, Err, refl, sym, ◌∙◌, ap, subst}
+use Rattle.std.specs.Prelude.{is_ok}
+use Rattle.host_trait.specs.declared.channels.Channel.{Channel}
+use Rattle.host_trait.specs.declared.channels.FileId.{FileId}
+use Rattle.host_trait.specs.declared.channels.FileId.TheVariants.{Manager, Program as ProgramFile}
+use Rattle.host_trait.specs.Disk.{settled}
+use Rattle.host_trait.specs.Faults.{NoneFailed}
+use Rattle.host_trait.specs.World.{World, Moment, Disk, Image, IsImage, moment_of}
+use Rattle.host_trait.specs.Runs.{RunsOnFile}
+use Rattle.host_trait.proofs.Moments.{both, weaker}
+use Rattle.host_trait.proofs.Runs.{settled_image}
+use Rattle.commit_log.specs.declared.records.CommitRecord.{CommitRecord}
+use Rattle.log_reading.specs.Steps.{seen_in}
+use Rattle.silo_spec.specs.Silos.{manager}
+use Rattle.silo_spec.specs.Moments.{IsAsAtEntry}
+use Rattle.silo_opening.specs.Counts.{OpenFaulted}
+use Rattle.silo_opening.specs.OpenedSilo.{Stays, ending_of}
+use Rattle.silo_opening.specs.declared.faults.OpenFault.{OpenFault}
+use Rattle.silo_opening.proofs.Runs.{untouched}
+use Rattle.promise_spec.specs.Programs.{Program, shape_in}
+use Rattle.promise_spec.specs.Records.{Commit}
+use Rattle.promise_spec.specs.Entries.{Recorded, Log, new_silo, new_log, grown, standing_of}
+use Rattle.promise_spec.specs.Openings.{Reads, program_in_file, records_in_file, named_by, named_by_grain, first_missing, commit_of, with_versions, with_log, with_program, live_in, with_slot, opened_as}
+use Rattle.promise_spec.specs.Words.{Manner}
+use Rattle.promise_spec.specs.Refusals.{IsRefusedBy, IsUnopened}
+use Rattle.promise_spec.specs.Reports.{audit_text}
+use Rattle.promise_spec.specs.Commands.{LeavesAsBefore, IsReported, IsFirstBad, IsAudited}
+use Rattle.promise_spec.specs.Endings.{Ending, Done, BadUse, Memory, ReadFault, WriteFault, DiskFault, NotASilo, AlreadyASilo, Damaged, BadProgram, InputTooLong, HasRisen, HasFailedAs}
+use Rattle.promise_spec.proofs.Openings.{reads_is}
+use Rattle.promise_spec.proofs.Standings.{in_force}
+use Rattle.log_audit.specs.declared.faults.ReportFault.{ReportFault}
+use Rattle.log_audit.specs.Endings.{report_ending, reported_as, MayEnd}
+use Rattle.log_audit.specs.ReportOutput.{PutsPart}
+
+abbrev Counts : Type 0
+Counts = Channel → ℕ
+
+-- ---- what a folder was read of
+
+-- the records of a folder that reads as this live slot and log, of this program, whose versions are all there
+pub record HasParts (image : Image) (live : ℕ) (p : Program) (log : Log) : Type 0 where
+  pub records : List CommitRecord
+  pub program : program_in_file (image (ProgramFile live)) ≡ Ok p
+  pub read : records_in_file (shape_in p) (image (Manager live)) ≡ Ok records
+  pub whole : first_missing live (shape_in p) image (named_by_grain (named_by records)) ≡ None
+  pub are : grown (new_log p) (map (commit_of live (shape_in p) image) records) ≡ log
+
+module _ (image : Image) (live : ℕ) (p : Program) (log : Log) (is : (standing_of log).program ≡ p) where
+  versions_by : (s : ℕ) (q : Program) (records : List CommitRecord) (missing : Option (FileId × ℕ)) → with_versions s q image records missing ≡ Reads live log
+      → (missing ≡ None) × (s ≡ live) × (grown (new_log q) (map (commit_of s (shape_in q) image) records) ≡ log)
+  versions_by s q records None e = let t = reads_is s live (grown (new_log q) (map (commit_of s (shape_in q) image) records)) log e in (refl, t.0, t.1)
+  versions_by s q records (Some missing) e = absurd cc
+
+  -- the program that the log was read with is its own
+  own_program : (q : Program) (commits : List Commit) → grown (new_log q) commits ≡ log → q ≡ p
+  own_program q commits are = sym (in_force (new_silo q) (map Recorded commits)) ∙ ap (λ (l : Log). (standing_of l).program) are ∙ is
+
+  records_by : (s : ℕ) (q : Program) → program_in_file (image (ProgramFile s)) ≡ Ok q → (r : Result (List CommitRecord) ℕ) → records_in_file (shape_in q) (image (Manager s)) ≡ r → with_log s q image r ≡ Reads live log → HasParts image live p log
+  records_by s q program (Ok records) read e =
+      let t = versions_by s q records (first_missing s (shape_in q) image (named_by_grain (named_by records))) e in
+      let here : HasParts image s q log = record { records = records; program = program; read = read; whole = t.0; are = t.2 } in
+      let own : q ≡ p = own_program q (map (commit_of s (shape_in q) image) records) t.2 in
+      subst (λ (n : ℕ). HasParts image n p log) t.1 (subst (λ (x : Program). HasParts image s x log) own here)
+  records_by s q program (Err place) read e = absurd cc
+
+  program_by : (s : ℕ) (r : Result Program ℕ) → program_in_file (image (ProgramFile s)) ≡ r → with_program s image r ≡ Reads live log → HasParts image live p log
+  program_by s (Ok q) program e = records_by s q program (records_in_file (shape_in q) (image (Manager s))) refl e
+  program_by s (Err place) program e = absurd cc
+
+  slot_by : (o : Option ℕ) → with_slot image o ≡ Reads live log → HasParts image live p log
+  slot_by None e = absurd cc
+  slot_by (Some s) e = program_by s (program_in_file (image (ProgramFile s))) refl e
+
+  pub parts_of : opened_as image ≡ Reads live log → HasParts image live p log
+  parts_of e = slot_by (live_in image) e
+
+-- ---- counts
+
+-- calls that raised nothing, and then those of this ending
+pub failed_then : (e : Ending) (a b c : Counts) → NoneFailed a b → HasFailedAs e b c → HasFailedAs e a c
+failed_then e a b c none failed = subst (λ (x : Counts). HasFailedAs e x c) (λ i channel. none channel i) failed
+
+pub open_failed : (old new : Counts) (e : OpenFault) → OpenFaulted e old new → HasFailedAs (ending_of e) old new
+open_failed old new OpenFault.NotASilo f = f
+open_failed old new (OpenFault.Damaged file place) f = f
+open_failed old new (OpenFault.DiskFault file) f = f
+open_failed old new OpenFault.Memory f = f
+
+-- a fault that the ending names exactly is shown by its count
+pub failed_risen : (old new : Counts) (e : Ending) → HasFailedAs e old new → HasRisen e old new
+failed_risen old new Done f = tt
+failed_risen old new BadUse f = tt
+failed_risen old new Memory f = tt
+failed_risen old new ReadFault f = f.rose
+failed_risen old new WriteFault f = f.rose
+failed_risen old new (DiskFault file) f = f.rose
+failed_risen old new NotASilo f = tt
+failed_risen old new AlreadyASilo f = tt
+failed_risen old new (Damaged file place) f = tt
+failed_risen old new (BadProgram fault) f = tt
+failed_risen old new (InputTooLong line) f = tt
+
+-- no report ends with bad use
+pub never_bad_use : {A : Type 0} (r : Result A ReportFault) → report_ending r ≡ BadUse → ⊥
+never_bad_use (Ok x) e = absurd cc
+never_bad_use (Err ReportFault.NotASilo) e = absurd cc
+never_bad_use (Err (ReportFault.Damaged file place)) e = absurd cc
+never_bad_use (Err (ReportFault.DiskFault file)) e = absurd cc
+never_bad_use (Err ReportFault.WriteFault) e = absurd cc
+never_bad_use (Err ReportFault.Memory) e = absurd cc
+
+-- only an answer without a fault is done
+pub done_ok : {A : Type 0} (r : Result A ReportFault) → report_ending r ≡ Done → is_ok r ≡ true
+done_ok (Ok x) e = refl
+done_ok (Err ReportFault.NotASilo) e = absurd cc
+done_ok (Err (ReportFault.Damaged file place)) e = absurd cc
+done_ok (Err (ReportFault.DiskFault file)) e = absurd cc
+done_ok (Err ReportFault.WriteFault) e = absurd cc
+done_ok (Err ReportFault.Memory) e = absurd cc
+
+-- ---- the call
+
+-- a folder that wasn't opened
+pub not_opened : {A : Type 0} (manner : Manner) (asked : List (List ℕ)) (old new : World) (before after : Counts) (result : Result A ReportFault) (e : OpenFault) → report_ending result ≡ ending_of e → RunsOnFile manager Stays 1 old new
+    → IsRefusedBy (seen_in old.disk) (opened_as (seen_in old.disk)) (ending_of e) → OpenFaulted e before after → IsUnopened (reported_as manner asked old new before after result)
+not_opened manner asked old new before after result e is run refused faulted = record {
+  untouched = untouched manager 1 old new run;
+  unread = run.input;
+  syncs = run.syncs;
+  refused = subst (λ (x : Ending). IsRefusedBy (seen_in old.disk) (opened_as (seen_in old.disk)) x) (sym is) refused;
+  failed = subst (λ (x : Ending). HasFailedAs x before after) (sym is) (open_failed before after e faulted);
+}
+
+module _ (live : ℕ) (old mid : World) (settles : mid.disk (Manager live) ≡ settled (old.disk (Manager live)).seen) (run : RunsOnFile (Manager live) Stays 1 old mid) where
+  early : (m : Moment) → IsAsAtEntry old m → LeavesAsBefore live old m
+  early m entry image is = (entry.images image is, λ other. absurd (other entry.quiet))
+
+  late : (m : Moment) → m.disk ≡ mid.disk → LeavesAsBefore live old m
+  late m same image is =
+      let there : IsImage mid.disk image = subst (λ (d : Disk). IsImage d image) same is in
+      ((untouched (Manager live) 1 old mid run).now.images image there, λ other. settled_image mid.disk (Manager live) (old.disk (Manager live)).seen (image (Manager live)) settles (there (Manager live)))
+
+  -- a report of one that was
+  pub is_reported : {A : Type 0} (text : Log → List ℕ) (log : Log) (manner : Manner) (asked : List (List ℕ)) (new : World) (before after : Counts) (result : Result A ReportFault)
+      → opened_as (seen_in old.disk) ≡ Reads live log → PutsPart (text log) (is_ok result) mid new → MayEnd (report_ending result) → HasFailedAs (report_ending result) before after
+      → IsReported text (reported_as manner asked old new before after result)
+  is_reported text log manner asked new before after result reads part end failed = record {
+    live = live;
+    log = log;
+    reads = reads;
+    prints = record {
+      added = part.added;
+      output = part.puts.output ∙ ap (λ (l : List ℕ). l ++ part.added) run.now.output;
+      front = part.front;
+      whole = λ done. part.whole (done_ok result done);
+      none = inr end;
+    };
+    unread = part.puts.input ∙ run.input;
+    moments = both _ (weaker _ _ early (untouched (Manager live) 1 old mid run).moments) (weaker _ _ late part.puts.moments);
+    now = late (moment_of new) part.puts.disk;
+    seen = λ file. ap (λ (d : Disk). (d file).seen) part.puts.disk ∙ (untouched (Manager live) 1 old mid run).seen file;
+    ending = end;
+    risen = failed_risen before after (report_ending result) failed;
+  }
+
+  -- an audit of one that was
+  pub is_audited : {A : Type 0} (unit : Option ℕ) (log : Log) (manner : Manner) (asked : List (List ℕ)) (new : World) (before after : Counts) (result : Result A ReportFault)
+      → opened_as (seen_in old.disk) ≡ Reads live log → PutsPart (audit_text log unit) (is_ok result) mid new → MayEnd (report_ending result) → HasFailedAs (report_ending result) before after → IsFirstBad log unit
+      → IsAudited (reported_as manner asked old new before after result)
+  unfolding is_reported
+  is_audited unit log manner asked new before after result reads part end failed first =
+      record { first_bad = unit; report = is_reported (λ l. audit_text l unit) log manner asked new before after result reads part end failed; first = first }

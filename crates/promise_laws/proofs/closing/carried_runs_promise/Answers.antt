@@ -1,5 +1,0 @@
-use Rattle.promise_laws.proofs.KeptRuns.{carried_promised}
-use Rattle.promise_laws.proofs.closing.carried_runs_promise.Goals as goal
-
-pub returns : goal.returns
-returns c = carried_promised

@@ -1,5 +1,0 @@
-use Rattle.promise_laws.proofs.ToldRuns.{traced-ends}
-use Rattle.promise_laws.proofs.gotten.units_got_what_the_core_shows.Goals as goal
-
-pub returns : goal.returns
-returns c = traced-ends

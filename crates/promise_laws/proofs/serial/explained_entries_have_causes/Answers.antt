@@ -1,5 +1,0 @@
-use Rattle.promise_laws.proofs.SerialCauses.{explained_causes}
-use Rattle.promise_laws.proofs.serial.explained_entries_have_causes.Goals as goal
-
-pub returns : goal.returns
-returns c = explained_causes

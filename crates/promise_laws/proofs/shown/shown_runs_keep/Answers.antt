@@ -1,5 +1,0 @@
-use Rattle.promise_laws.proofs.ShownRuns.{shown}
-use Rattle.promise_laws.proofs.shown.shown_runs_keep.Goals as goal
-
-pub returns : goal.returns
-returns c = shown

@@ -1,5 +1,0 @@
-use Rattle.promise_laws.proofs.ShownPromise.{promised}
-use Rattle.promise_laws.proofs.shown.shown_runs_promise.Goals as goal
-
-pub returns : goal.returns
-returns c m p r course is shows = promised p r course shows m is

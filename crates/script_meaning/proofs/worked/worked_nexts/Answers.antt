@@ -1,5 +1,0 @@
-use Rattle.script_meaning.proofs.Examples.{worked_nexts_lem}
-use Rattle.script_meaning.proofs.worked.worked_nexts.Goals as goal
-
-pub returns : goal.returns
-returns c = worked_nexts_lem

@@ -1,5 +1,0 @@
-use Rattle.script_meaning.proofs.Examples.{worked_plays_lem}
-use Rattle.script_meaning.proofs.worked.worked_plays.Goals as goal
-
-pub returns : goal.returns
-returns c = worked_plays_lem

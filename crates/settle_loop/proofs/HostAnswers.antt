@@ -1,0 +1,150 @@
+-- What is made of the host's answers, case by case.
+use Rattle.std.proofs.Common.{◌≡◌, ◌⊎◌, inl, inr, ℕ, List, ◌++◌, Bool, true, false, refl, sym, subst}
+use Rattle.std.specs.Prelude.{Result, Ok, Err, IsErr, if◌then◌else◌}
+use Rattle.base_types.specs.declared.calls.GrainId.{GrainId}
+use Rattle.base_types.specs.declared.calls.UnitNo.{UnitNo}
+use Rattle.base_types.specs.declared.entries.Entry.{Entry}
+use Rattle.base_types.specs.declared.shapes.Shape.{Shape}
+use Rattle.base_types.specs.declared.stores.Version.{Version}
+use Rattle.host_trait.specs.declared.channels.Channel.{Channel}
+use Rattle.host_trait.specs.declared.channels.Channel.TheVariants.{File}
+use Rattle.host_trait.specs.declared.channels.FileId.TheVariants.{Grain}
+use Rattle.host_trait.specs.Faults.{NoneFailed, FailedOn}
+use Rattle.host_trait.specs.World.{World}
+use Rattle.commit_log.specs.declared.gate.Sealing.{Sealing}
+use Rattle.commit_log.specs.declared.gate.Sealing.TheVariants as sealing
+use Rattle.core_model.specs.CoreState.{CoreState}
+use Rattle.core_model.specs.declared.effects.Effect.{Effect}
+use Rattle.core_model.specs.declared.events.CoreEvent.{CoreEvent}
+use Rattle.core_model.specs.declared.events.CoreEvent.TheVariants.{Vote, Decide, Sealed, NotSealed, Doubt, Learn, Emitted, Take}
+use Rattle.core_model.specs.Settler.{Step, Decides, Seals, Learns, Takes, settler_step, MakesEvent, to_commit}
+use Rattle.core_model.specs.declared.questions.SettlerWork.TheVariants as work
+use Rattle.batch_disk.specs.ImagesAtRest.{voted_from}
+use Rattle.batch_disk.specs.Writers.{file_end, voted_of}
+use Rattle.batch_disk.specs.declared.writer.BatchWriter.{BatchWriter}
+use Rattle.settle_loop.specs.ShownWork.{ShowsWork, event_of, tells_doubt, tells_entry}
+use Rattle.settle_loop.specs.HostSteps.{HasVoteCause, KeepsVotes, VotesOn, LacksRoom, SealsUnits, WritesEntry, DoesFor}
+use Rattle.settle_loop.specs.StepParts.{with_writer, IsToTell, LacksVersions, MadeAs}
+use Rattle.settle_loop.specs.declared.cases.Made.{Made}
+use Rattle.settle_loop.specs.declared.settler.Settler.{Settler}
+
+-- the cause of a vote, by its two kinds
+pub vote_cause : (live : ℕ) (g : GrainId) (kept : Bool) (f0 f1 : Channel → ℕ) → (kept ≡ true → NoneFailed f0 f1) → (kept ≡ false → FailedOn (File (Grain live g)) f0 f1) → HasVoteCause live g kept f0 f1
+vote_cause live g true f0 f1 calm fault = calm refl
+vote_cause live g false f0 f1 calm fault = fault refl
+
+-- and what is kept
+pub vote_kept : (kept : Bool) (n : ℕ) (g : GrainId) (versions : List Version) (before after : BatchWriter)
+    → voted_of n after ≡ (if kept then voted_of n before ++ voted_from g (file_end before g) versions else voted_of n before) → KeepsVotes kept n g versions before after
+vote_kept true n g versions before after is = is
+vote_kept false n g versions before after is = is
+
+module _ {H : Type 0} (tells : Bool) (world : H → World) (faults : H → Channel → ℕ) (shape : Shape) (w : CoreState) (before after : Settler) (old new : H) (same : after ≡ with_writer before after) where
+  -- a vote
+  pub vote_made : (n : ℕ) (g : GrainId) (kept : Bool) (versions : List Version) → ShowsWork w (settler_step w) (work.Vote n g versions)
+      → VotesOn tells world faults before.writer.slot n g kept versions before.writer after.writer old new → IsToTell tells world faults shape w before after old new (Vote n g kept) false false
+  vote_made n g kept versions shown votes = record {
+    makes = subst (λ (s : Step). MakesEvent s (Vote n g kept)) (sym shown.0) (kept, refl);
+    does = subst (λ (vs : List Version). VotesOn tells world faults before.writer.slot n g kept vs before.writer after.writer old new) shown.1 votes;
+    writes_is = refl;
+    doubts_is = refl;
+    settler = same;
+  }
+
+  -- none, for want of memory
+  pub vote_lacks : (n : ℕ) (g : GrainId) (versions : List Version) → ShowsWork w (settler_step w) (work.Vote n g versions)
+      → LacksRoom tells world faults before.writer.slot n g versions before.writer after.writer old new → LacksVersions tells world faults shape w before after old new
+  vote_lacks n g versions shown lacks = record {
+    n = n;
+    g = g;
+    votes = shown.0;
+    lacks = subst (λ (vs : List Version). LacksRoom tells world faults before.writer.slot n g vs before.writer after.writer old new) shown.1 lacks;
+    settler = same;
+  }
+
+  -- what a seal answered
+  seal_does : (n : ℕ) (effects : List Effect) (answer : Sealing) → SealsUnits tells world faults before.writer.slot n (event_of n answer) effects before.writer after.writer old new
+      → effects ≡ to_commit w w.manager.batch → DoesFor tells world faults before.writer.slot (event_of n answer) before.quiet shape w before.writer after.writer old new
+  seal_does n effects (sealing.Sealed next) seals is = subst (λ (es : List Effect). SealsUnits tells world faults before.writer.slot n (Sealed n) es before.writer after.writer old new) is seals
+  seal_does n effects sealing.NotSealed seals is = subst (λ (es : List Effect). SealsUnits tells world faults before.writer.slot n (NotSealed n) es before.writer after.writer old new) is seals
+  seal_does n effects sealing.InDoubt seals is = inl (subst (λ (es : List Effect). SealsUnits tells world faults before.writer.slot n (Doubt n) es before.writer after.writer old new) is seals)
+
+  seal_makes : (n : ℕ) (answer : Sealing) → MakesEvent (Seals n) (event_of n answer)
+  seal_makes n (sealing.Sealed next) = inl refl
+  seal_makes n sealing.NotSealed = inr (inl refl)
+  seal_makes n sealing.InDoubt = inr (inr refl)
+
+  seal_tells : (n : ℕ) (answer : Sealing) → false ≡ tells_entry (event_of n answer)
+  seal_tells n (sealing.Sealed next) = refl
+  seal_tells n sealing.NotSealed = refl
+  seal_tells n sealing.InDoubt = refl
+
+  -- a seal
+  pub seal_made : (n : ℕ) (effects : List Effect) (answer : Sealing) (e : CoreEvent) (doubts : Bool) → e ≡ event_of n answer → doubts ≡ tells_doubt e → ShowsWork w (settler_step w) (work.Seal n effects)
+      → SealsUnits tells world faults before.writer.slot n (event_of n answer) effects before.writer after.writer old new → IsToTell tells world faults shape w before after old new e false doubts
+  seal_made n effects answer e doubts is doubts_is shown seals = subst (λ (x : CoreEvent). doubts ≡ tells_doubt x → IsToTell tells world faults shape w before after old new x false doubts) (sym is)
+      (λ d. record {
+        makes = subst (λ (s : Step). MakesEvent s (event_of n answer)) (sym shown.0) (seal_makes n answer);
+        does = seal_does n effects answer seals shown.1;
+        writes_is = seal_tells n answer;
+        doubts_is = d;
+        settler = same;
+      })
+      doubts_is
+
+  -- a doubt that is told again
+  pub doubt_made : (n : ℕ) (effects : List Effect) → ShowsWork w (settler_step w) (work.Seal n effects) → before.writer.in_doubt ≡ true → new ≡ old → after.writer ≡ before.writer
+      → IsToTell tells world faults shape w before after old new (Doubt n) false true
+  doubt_made n effects shown unsure host writer = record {
+    makes = subst (λ (s : Step). MakesEvent s (Doubt n)) (sym shown.0) (inr (inr refl));
+    does = inr (record { unsure = unsure; none = record { host = host; writer = writer } });
+    writes_is = refl;
+    doubts_is = refl;
+    settler = same;
+  }
+
+  -- an entry
+  pub write_made : (entry : Entry) → ShowsWork w (settler_step w) (work.Write entry) → WritesEntry tells world faults before.quiet shape w before.writer after.writer old new
+      → IsToTell tells world faults shape w before after old new Emitted true false
+  write_made entry shown writes = record {
+    makes = subst (λ (s : Step). MakesEvent s Emitted) (sym shown.0) refl;
+    does = writes;
+    writes_is = refl;
+    doubts_is = refl;
+    settler = same;
+  }
+
+  module _ (host : new ≡ old) (writer : after.writer ≡ before.writer) where
+    -- the three cases without a host call
+    pub decide_made : (n : ℕ) → settler_step w ≡ Decides n → IsToTell tells world faults shape w before after old new (Decide n) false false
+    decide_made n shown = record {
+      makes = subst (λ (s : Step). MakesEvent s (Decide n)) (sym shown) refl;
+      does = record { host = host; writer = writer };
+      writes_is = refl;
+      doubts_is = refl;
+      settler = same;
+    }
+
+    pub learn_made : (u : UnitNo) (g : GrainId) → settler_step w ≡ Learns u g → IsToTell tells world faults shape w before after old new (Learn u g) false false
+    learn_made u g shown = record {
+      makes = subst (λ (s : Step). MakesEvent s (Learn u g)) (sym shown) refl;
+      does = record { host = host; writer = writer };
+      writes_is = refl;
+      doubts_is = refl;
+      settler = same;
+    }
+
+    pub take_made : settler_step w ≡ Takes → IsToTell tells world faults shape w before after old new Take false false
+    take_made shown = record {
+      makes = subst (λ (s : Step). MakesEvent s Take) (sym shown) refl;
+      does = record { host = host; writer = writer };
+      writes_is = refl;
+      doubts_is = refl;
+      settler = same;
+    }
+
+-- nothing is made, for want of memory
+pub none_made : {H : Type 0} (tells : Bool) (world : H → World) (faults : H → Channel → ℕ) (shape : Shape) (w : CoreState) (before after : Settler) (old new : H) {E : Type 0} (r : Result Made E) → IsErr r
+    → ((new ≡ old) × (after ≡ before)) ⊎ LacksVersions tells world faults shape w before after old new → MadeAs tells world faults shape w before after old new r
+none_made tells world faults shape w before after old new (Ok m) err why = absurd (cc err)
+none_made tells world faults shape w before after old new (Err lack) err why = why

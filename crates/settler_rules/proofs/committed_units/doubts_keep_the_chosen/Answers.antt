@@ -1,0 +1,8 @@
+use Rattle.settler_rules.proofs.Commits.{doubt-chosen, doubt-stays}
+use Rattle.settler_rules.proofs.committed_units.doubts_keep_the_chosen.Goals as goal
+
+pub returns : goal.returns
+returns c = record {
+  doubted = λ s r above keeps n a. doubt-chosen s r above keeps n a;
+  stays = λ r more d q. doubt-stays r more d q;
+}

@@ -1,5 +1,0 @@
-use Rattle.settler_rules.proofs.Logged.{shown-fit}
-use Rattle.settler_rules.proofs.logging.shown_versions_fit.Goals as goal
-
-pub returns : goal.returns
-returns c = λ s r above keeps kinds g x m. shown-fit s r above keeps kinds g x m

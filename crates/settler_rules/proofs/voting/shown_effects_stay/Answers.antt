@@ -1,5 +1,0 @@
-use Rattle.settler_rules.proofs.Shared.{shown-stay}
-use Rattle.settler_rules.proofs.voting.shown_effects_stay.Goals as goal
-
-pub returns : goal.returns
-returns c = λ s r above keeps e others. shown-stay s r above keeps e others

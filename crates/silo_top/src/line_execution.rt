@@ -1,0 +1,101 @@
+ghost use Rattle.std.specs.Prelude.{◌≤◌};
+ghost use Rattle.host_trait.specs.Files.{StaysReady};
+ghost use Rattle.core_access.specs.OneHolder.{own_sight};
+ghost use Rattle.history_core.specs.Cores.{run_of};
+ghost use Rattle.script_tree.specs.Programs.{program_tree};
+ghost use Rattle.txn_agent.specs.CoreLink.{IsLegalRun};
+ghost use Rattle.worker_rules.specs.SharedHistories.{NoneLoads};
+ghost use Rattle.silo_top.specs.CallAnswers.{turns_manner, workers_manner};
+ghost use Rattle.silo_top.specs.LineExecution.{CarriedLines};
+ghost use Rattle.run_books.specs.Stages.{side_of, stage_of, IsSafe};
+
+use base_types::List;
+use history_core::Core;
+use host_trait::Host;
+use interleaver::{RunFault, run_turns};
+use run_lines::Lines;
+use script_check::Checked;
+use settle_loop::{Gate, Settler};
+use silo_workers::run_with_workers;
+use std::alloc::Global;
+use std::sync::Wait;
+use std::thread::Threads;
+
+/// Carries all lines on the calling thread, so many in flight and by these picks, and hands the core back where all is carried and
+/// written.
+pub(crate) fn carry_in_turns<H: Host, G: Gate, L: Lines + Copy>(
+    alloc: Global,
+    checked: &Checked,
+    core: Core,
+    settler: &mut Settler,
+    lines: L,
+    host: &mut H,
+    gate: &G,
+    width: u32,
+    picks: &List<u32>,
+) -> Result<Core, RunFault>
+    requires legal { IsLegalRun (own_sight (run_of core)).first }
+    requires loads { NoneLoads (own_sight (run_of core)).mine }
+    requires safe { IsSafe H.tells settler.old.writer (H.world host.old) }
+    ensures carried { CarriedLines H.tells (turns_manner width picks.now) (program_tree checked.now) (L.lines lines)
+        (stage_of H.world H.faults (run_of core) settler.old host.old) (side_of H.world H.faults settler.new host.new) result }
+    ensures safe { IsSafe H.tells settler.new.writer (H.world host.new) }
+    ensures ready { StaysReady (H.is_ready host.old) (H.is_ready host.new) }
+{
+    let mut core = core;
+    let mut lines = lines;
+    let mut used = 0;
+    match run_turns(
+        alloc, checked, &mut core, settler, &mut lines, host, gate, width, picks, &mut used,
+    ) {
+        Ok(()) => return Ok(core),
+        Err(fault) => return Err(fault),
+    }
+}
+
+/// Carries all lines by so many workers, each a thread, and hands the core back where all is carried and written.
+pub(crate) fn carry_by_workers<
+    R: Threads + Wait + Sync,
+    H: Host,
+    G: Gate + Sync,
+    L: Lines + Copy + Sync,
+>(
+    rt: &R,
+    alloc: Global,
+    checked: &Checked,
+    core: Core,
+    settler: &mut Settler,
+    lines: L,
+    host: &mut H,
+    gate: &G,
+    workers: u32,
+) -> Result<Core, RunFault>
+    requires few { workers ≤ 16 }
+    requires legal { IsLegalRun (own_sight (run_of core)).first }
+    requires loads { NoneLoads (own_sight (run_of core)).mine }
+    requires safe { IsSafe H.tells settler.old.writer (H.world host.old) }
+    ensures carried { CarriedLines H.tells workers_manner (program_tree checked.now) (L.lines lines)
+        (stage_of H.world H.faults (run_of core) settler.old host.old) (side_of H.world H.faults settler.new host.new) result }
+    ensures safe { IsSafe H.tells settler.new.writer (H.world host.new) }
+    ensures ready { StaysReady (H.is_ready host.old) (H.is_ready host.new) }
+{
+    let (back, ended) = run_with_workers(
+        rt,
+        alloc,
+        checked,
+        core,
+        settler,
+        &lines,
+        host,
+        gate,
+        workers as usize,
+    );
+    match ended {
+        Err(fault) => return Err(fault),
+        Ok(()) => {}
+    }
+    match back {
+        Some(core) => return Ok(core),
+        None => unreachable!(),
+    }
+}

@@ -1,9 +1,0 @@
-use Rattle.turn_rules.proofs.Ended.{without-mover}
-use Rattle.turn_rules.proofs.Settlers.{never-halted}
-use Rattle.turn_rules.proofs.ending.without_a_mover_all_is_settled.Goals as goal
-
-pub returns-clause-all : goal.returns-clause-all
-returns-clause-all c = without-mover
-
-pub returns-clause-unstopped : goal.returns-clause-unstopped
-returns-clause-unstopped c = never-halted

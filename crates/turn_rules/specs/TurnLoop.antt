@@ -1,0 +1,54 @@
+-- What a loop of turns keeps.
+use Rattle.std.specs.Prelude.{◌≡◌, ◌<◌, ℕ, List, [], ◌∷◌, ◌++◌, length, get_or, Bool, true, false, Some, ⊤}
+use Rattle.core_model.specs.CoreState.{UnitNo, Member}
+use Rattle.core_model.specs.Changes.{new_unit}
+use Rattle.core_model.specs.declared.events.CoreEvent.{CoreEvent}
+use Rattle.core_model.specs.LegalRuns.{Run, ends}
+use Rattle.promise_spec.specs.UnitRule.{Basis, KeepsUnitRule}
+use Rattle.promise_spec.specs.TurnRule.{Mover, KeepsTurnRule, picked, picks_used}
+use Rattle.turn_rules.specs.NextEvent.{with_event}
+use Rattle.turn_rules.specs.CarriedUnits.{AreKept, movers_of, can_begin_by}
+
+-- each unit is older than those behind it
+abbrev pub AreOlder : List UnitNo → Type 0
+AreOlder [] = ⊤
+AreOlder (u ∷ us) = ((v : UnitNo) → Member v us → u.0 < v.0) × AreOlder us
+
+-- Where a loop of turns stands: what the unit rule is told, whether the run so far is of turns alone, the width and the picks, the
+-- run so far, the units that are looked at, and how many picks were used.
+pub record TurnLoop : Type 0 where
+  pub basis : Basis
+  pub ruled : Bool
+  pub width : ℕ
+  pub picks : List ℕ
+  pub run : Run
+  pub units : List UnitNo
+  pub used : ℕ
+
+-- The run keeps the unit rule and isn't stopped; the units that are looked at are in number order, and leave no mover out. Where the
+-- run so far is of turns alone, it keeps the turn rule too, and so many picks were used.
+pub record IsTurning (l : TurnLoop) : Type 0 where
+  pub first : 0 < l.run.base
+  pub unit_rule : KeepsUnitRule l.basis l.run
+  pub unstopped : (ends l.run).units.halt ≡ false
+  pub turn_rule : l.ruled ≡ true → KeepsTurnRule l.basis.types (length l.basis.lines) l.width l.picks l.run
+  pub kept : AreKept l.run l.units
+  pub older : AreOlder l.units
+  pub count : l.ruled ≡ true → l.used ≡ picks_used l.run (length l.run.events)
+
+-- a line may begin
+abbrev pub has_room : TurnLoop → Bool
+has_room l = can_begin_by l.width (length l.basis.lines) l.run l.units
+
+-- it is this mover's turn: no line may begin, and it is the one at the pick
+pub record IsPicked (l : TurnLoop) (m : Mover) : Type 0 where
+  pub none : has_room l ≡ false
+  pub pick : picked (movers_of l.basis.types l.run l.units) (get_or l.picks l.used 0) ≡ Some m
+
+-- the units that are looked at, and behind them the one that begins next
+abbrev pub with_new : TurnLoop → List UnitNo
+with_new l = l.units ++ (new_unit (ends l.run) ∷ [])
+
+-- one event more, with these units looked at and so many picks used
+abbrev pub turned : TurnLoop → CoreEvent → List UnitNo → ℕ → TurnLoop
+turned l e units used = record l { run = with_event l.run e; units = units; used = used }
