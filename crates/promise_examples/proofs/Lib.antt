@@ -7,6 +7,7 @@ pub mod WholeBatches
 pub mod DepositRules
 pub mod EmptyRun
 pub mod WholeInputs
+pub mod BadLines
 pub mod DepositRun
 pub mod EmittedReplies
 pub mod ShownRuns

@@ -25,7 +25,7 @@ pub use wrong_runs::{
     aborted_units_have_no_record, aborts_have_causes, any_folder_is_served_truly,
     bad_use_is_said_by_words, batches_are_small, batches_are_whole, calm_runs_sync_once,
     checks_tell_their_world, cut_lines_are_replies, endings_are_true, inits_make_their_input,
-    lines_are_answered_once, lines_begin_after_the_input, loads_tell_their_summary,
+    lines_are_answered_once, lines_begin_in_whole_windows, loads_tell_their_summary,
     logs_are_not_lost, nothing_stands_behind_the_log, other_files_stay, records_come_from_lines,
     refusals_are_true, replies_are_serial, replies_come_after_records, reports_tell_the_folder,
     syncs_are_bounded, the_block_in_doubt_is_the_batchs, the_opening_log_is_the_disks,
