@@ -8,6 +8,7 @@ pub mod DepositRules
 pub mod EmptyRun
 pub mod WholeInputs
 pub mod BadLines
+pub mod CountedWindows
 pub mod DepositRun
 pub mod EmittedReplies
 pub mod ShownRuns

@@ -9,6 +9,7 @@
 #![tactic(auto)]
 
 mod examples;
+mod windows;
 mod wrong_runs;
 
 pub use examples::{
@@ -21,6 +22,7 @@ pub use examples::{
     reports_tell_the_first_deposit, the_bank_is_a_program, torn_folders_have_no_log,
     transfers_read, vote_runs_keep, votes_keep_the_rules,
 };
+pub use windows::windows_are_counted_so;
 pub use wrong_runs::{
     aborted_units_have_no_record, aborts_have_causes, any_folder_is_served_truly,
     bad_use_is_said_by_words, batches_are_small, batches_are_whole, calm_runs_sync_once,
