@@ -169,7 +169,7 @@ module _ (p : Program) (r : Observed) (opening : Log) (run : IsEmptyRun p r open
       answered = λ all n low high. absurd (omega (arith, low, high));
       complete = λ none. record { calm = calm r.ending run.ending run.risen none; undisturbed = λ e none_there. absurd none_there };
       alone = λ single one none e there. absurd there;
-      syncs = λ calm is. run.syncs;
+      syncs = λ calm is. (let n = run.syncs in omega (arith, n));
       most = (let n = run.syncs in omega (arith, n));
     };
   }
