@@ -16,6 +16,7 @@ ghost use Rattle.silo_opening.specs.OpenedSilo.{Stays, is_header, in_program_fil
 
 use crate::faults::OpenFault;
 use base_types::{Ends, Store, UnitNo};
+use field_codec::Format;
 use host_trait::{Failed, FileId, Host, read_full};
 use log_reading::{FolderFault, read_contents};
 use program_file::{ProgramFileFault, read_program};
@@ -182,7 +183,7 @@ pub fn open_silo<H: Host>(alloc: Global, host: &mut H) -> Result<Opened, OpenFau
         Ok(shape) => shape,
         Err(AllocError) => return Err(OpenFault::Memory),
     };
-    match read_contents(alloc, host, LIVE, &shape) {
+    match read_contents(alloc, host, LIVE, &shape, Format::One) {
         Ok(contents) => Ok(Opened {
             slot: LIVE,
             checked,

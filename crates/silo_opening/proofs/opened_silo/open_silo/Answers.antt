@@ -1,6 +1,7 @@
 use Rattle.std.proofs.Common.{rules, ◌≡◌, Bool, true, if◌then◌else◌, None, Some, Ok, sym, ◌∙◌, ap, subst}
 use Rattle.base_types.specs.declared.shapes.Shape.{Shape}
 use Rattle.host_trait.specs.World.{Image}
+use Rattle.field_codec.specs.declared.formats.Format.TheVariants.{One}
 use Rattle.log_reading.specs.Steps.{seen_in}
 use Rattle.log_reading.specs.Contents.{HasContents, IsUnread}
 use Rattle.script_tree.specs.Programs.{program_tree}
@@ -51,8 +52,8 @@ returns-in-Err-read_contents-clause-refused g c told =
     let program : program_in_file (image program_file) ≡ Ok p = ap (λ (im : Image). program_in_file (im program_file)) (sym first) ∙ found.1 in
     let shape : c.in-Ok-shape.shape ≡ shape_in p = (λ i. record { types = c.in-Ok-shape.ensures i }) in
     subst (λ (e : OpenFault). IsRefusedBy image (opened_as image) (ending_of e)) (sym c.folder_fault.ensures)
-    (log_refused image 0 live p program c.in-Err-read_contents.fault (subst (λ (im : Image). IsUnread 0 (shape_in p) im c.in-Err-read_contents.fault) same
-    (subst (λ (s : Shape). IsUnread 0 s (seen_in (g.H.Host.world c.read_program.new.host).disk) c.in-Err-read_contents.fault) shape (c.in-Err-read_contents.ensures.refused told))))
+    (log_refused image 0 live p program c.in-Err-read_contents.fault (subst (λ (im : Image). IsUnread 0 One (shape_in p) im c.in-Err-read_contents.fault) same
+    (subst (λ (s : Shape). IsUnread 0 One s (seen_in (g.H.Host.world c.read_program.new.host).disk) c.in-Err-read_contents.fault) shape (c.in-Err-read_contents.ensures.refused told))))
 
 pub returns-in-Ok-read_contents-clause-opened : goal.returns-in-Ok-read_contents-clause-opened
 returns-in-Ok-read_contents-clause-opened g c told =
@@ -68,7 +69,7 @@ returns-in-Ok-read_contents-clause-opened g c told =
     let program : program_in_file (image program_file) ≡ Ok p = ap (λ (im : Image). program_in_file (im program_file)) (sym first) ∙ found.1 in
     let shape : c.in-Ok-shape.shape ≡ shape_in p = (λ i. record { types = c.in-Ok-shape.ensures i }) in
     is_opened image found.0 (record { slot = 0; checked = c.in-Ok-read_program.checked; count = o.count; store = o.store; ends = o.ends; next_unit = o.next_unit; gate_at = o.gate_at }) live silo program
-    (subst (λ (im : Image). HasContents 0 (shape_in p) im o) same (subst (λ (s : Shape). HasContents 0 s (seen_in (g.H.Host.world c.read_program.new.host).disk) o) shape (c.in-Ok-read_contents.ensures.opened told)))
+    (subst (λ (im : Image). HasContents 0 One (shape_in p) im o) same (subst (λ (s : Shape). HasContents 0 One s (seen_in (g.H.Host.world c.read_program.new.host).disk) o) shape (c.in-Ok-read_contents.ensures.opened told)))
 
 pub returns-in-Ok-read_contents-clause-once : goal.returns-in-Ok-read_contents-clause-once
 returns-in-Ok-read_contents-clause-once g c told =
