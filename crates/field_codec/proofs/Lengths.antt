@@ -10,7 +10,7 @@ use Rattle.base_types.specs.declared.calls.Outcome as outcome
 use Rattle.base_types.specs.declared.stores.Version.{Version}
 use Rattle.field_codec.specs.declared.formats.Format.{Format}
 use Rattle.field_codec.specs.declared.formats.Format.TheVariants.{One}
-use Rattle.field_codec.specs.Formats.{text_limit, field_limit, version_limit}
+use Rattle.field_codec.specs.Formats.{text_limit, version_limit}
 use Rattle.field_codec.specs.Spelling.{spelling_of_text, TextFits, spelling_of_value, ValueFits, spelling_of_values, ValuesFit, spelling_of_version, VersionFits, spelling_of_origin, spelling_of_call, CallFits, spelling_of_outcome, AnswerFits}
 
 -- so many spellings, each at most so long

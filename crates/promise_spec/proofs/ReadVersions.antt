@@ -14,6 +14,7 @@ use Rattle.host_trait.specs.declared.channels.FileId.{FileId}
 use Rattle.host_trait.specs.declared.channels.FileId.TheVariants.{Grain}
 use Rattle.host_trait.specs.World.{Image}
 use Rattle.field_codec.specs.declared.formats.Format.TheVariants.{One}
+use Rattle.field_codec.specs.Formats.{version_limit}
 use Rattle.field_codec.specs.Spelling.{spelling_of_values, spelling_of_version}
 use Rattle.field_codec.specs.Readers.{AreBytes}
 use Rattle.field_codec.specs.declared.units.Numbers.TheVariants.{Logged}
@@ -129,7 +130,7 @@ module _ (live : ℕ) (shape : Shape) (image : Image) where
     near_by None v e = absurd cc
     near_by (Some count) v e =
         let one = past (is_beyond One w.place) w.place.offset (text_in One count w.place (image (Grain live w.grain))) v e in
-        let low : w.place.offset ≤ 9223372036854775807 = ltb-false 9223372036854775807 w.place.offset (or_parts (nat_lt 9223372036854775807 w.place.offset) (nat_lt 4154 w.place.len) one.0).0 in
+        let low : w.place.offset ≤ 9223372036854775807 = ltb-false 9223372036854775807 w.place.offset (or_parts (nat_lt 9223372036854775807 w.place.offset) (nat_lt (version_limit One) w.place.len) one.0).0 in
         omega (arith, low)
 
     -- a version that is read stands there
