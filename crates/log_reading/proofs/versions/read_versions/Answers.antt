@@ -22,7 +22,7 @@ pub loop-one-init : goal.loop-one-init
 loop-one-init g c = record {
   at = refl;
   piece = c.no_piece-piece.ensures _ _ _;
-  passed = λ told. passed_none _ _ _ c.args.named.now;
+  passed = λ told. passed_none _ _ _ _ c.args.named.now;
   states = λ told grain. refl;
   ends = λ grain. refl;
   near = λ was. was;
