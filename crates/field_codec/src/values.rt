@@ -167,7 +167,7 @@ pub fn get_exactly(
     Err(CodecFault::Unknown { place: at })
 }
 
-/// The value that stands at a place, and the place behind it. The fault is the first from left to right.
+/// The value that stands at a place, within the limits of the format, and the place behind it. The fault is the first from left to right.
 pub fn get_value(
     alloc: Global,
     bytes: &[u8],
@@ -193,7 +193,7 @@ fn state_there(
     Ok((State::from_list(values), after))
 }
 
-/// The state that stands at a place, and the place behind it. The fault is the first from left to right.
+/// The state that stands at a place, within the limits of the format, and the place behind it. The fault is the first from left to right.
 pub fn get_state(
     alloc: Global,
     bytes: &[u8],

@@ -234,10 +234,11 @@ fn read_there<H: Host>(
     Ok(version)
 }
 
-/// Reads the version at a place of a grain's file, by one read, whosever it is, and changes no file. `Damaged` comes exactly where no version of
-/// the grain's type stands there with that length: at the first field that can't be read; at the first byte behind the
-/// version; at the place's offset where the place doesn't lie in the file, or is longer than any version, or begins at 2 to
-/// the 63 or beyond, or where the program has no such type. In the last three cases no host call is made.
+/// Reads the version at a place of a grain's file, by one read, whosever it is, and changes no file. `Damaged` comes exactly
+/// where no version of the grain's type, within the limits of the format, stands there with that length: at the first field that
+/// can't be read; at the first byte behind the version; at the place's offset where the place doesn't lie in the file, or is longer
+/// than any version of the format, or begins at 2 to the 63 or beyond, or where the program has no such type. In the last three
+/// cases no host call is made.
 pub fn read_version<H: Host>(
     alloc: Global,
     host: &mut H,

@@ -26,8 +26,8 @@ pub struct Contents {
     pub ends: Ends,
 }
 
-/// Reads the log of a slot's files in a format, block by block, and then each version that a record names, once, grain by grain and those of
-/// a grain in the log's order. `Damaged` names the first damage in this order.
+/// Reads the log of a slot's files, within the limits of a format: block by block, and then each version that a record names, once,
+/// grain by grain and those of a grain in the log's order. `Damaged` names the first damage in this order.
 pub fn read_contents<H: Host>(
     alloc: Global,
     host: &mut H,
