@@ -8,6 +8,7 @@ use Rattle.base_types.specs.declared.calls.Value.{Value}
 use Rattle.base_types.specs.declared.calls.GrainId.{GrainId}
 use Rattle.base_types.specs.declared.shapes.Shape.{Shape}
 use Rattle.host_trait.specs.World.{Image}
+use Rattle.field_codec.specs.declared.formats.Format.TheVariants.{One}
 use Rattle.gate_block.specs.Log.{HasBlocks}
 use Rattle.cell_model.specs.Units.{Member}
 use Rattle.field_codec.specs.declared.units.Numbers.TheVariants.{Logged}
@@ -69,7 +70,7 @@ AreVoted voted unit (w ∷ ws) (s ∷ ss) = Member (record { unit = unit; write 
 
 -- a record within the limits, all of whose versions the votes wrote
 pub record IsVoted (shape : Shape) (voted : List Voted) (c : Commit) : Type 0 where
-  pub fits : IsRecordIn Logged shape c.logged
+  pub fits : IsRecordIn One Logged shape c.logged
   pub whole : AreVoted voted c.logged.unit c.logged.writes c.states
 
 -- the records of the open batch's units to commit

@@ -12,6 +12,7 @@ use Rattle.host_trait.specs.Runs.{ChangesFile}
 use Rattle.host_trait.proofs.Names.{cases_file}
 use Rattle.host_trait.proofs.Moments.{weaker}
 use Rattle.host_trait.proofs.Runs.{each_image}
+use Rattle.field_codec.specs.declared.formats.Format.TheVariants.{One}
 use Rattle.field_codec.specs.Spelling.{spelling_of_version, VersionFits}
 use Rattle.gate_block.specs.Log.{HasBlocks}
 use Rattle.log_reading.specs.Blocks.{header_damage}
@@ -80,7 +81,7 @@ module _ (live : ℕ) (shape : Shape) (ends : GrainId → ℕ) (grain : GrainId)
 
 -- ---- the versions, once they were written
 
-stand_named : (live : ℕ) (shape : Shape) (image : Image) (grain : GrainId) (at : ℕ) (vs : List Version) → places.VersionsStand (image (Grain live grain)) at vs → AreOfType shape grain vs → AllByRecursion VersionFits vs
+stand_named : (live : ℕ) (shape : Shape) (image : Image) (grain : GrainId) (at : ℕ) (vs : List Version) → places.VersionsStand (image (Grain live grain)) at vs → AreOfType shape grain vs → AllByRecursion (VersionFits One) vs
     → at + length (spelling_of_versions vs) < 2 ^ 63 → AllByRecursion (StandsIn live shape image) (voted_from grain at vs)
 stand_named live shape image grain at [] stand typed fits low = tt
 stand_named live shape image grain at (v ∷ vs) stand typed fits low =
@@ -130,7 +131,7 @@ module _ (live : ℕ) (shape : Shape) (head : List ℕ) (log : Log) (bodies : Li
 
   -- and after Ok the versions stand too
   pub vote_yes : (new : World) (versions : List Version) → ChangesFile (Grain live grain) (Tears (ends grain) size) old (moment_of new)
-      → ((image : List ℕ) → MayLeave (new.disk (Grain live grain)) image → places.VersionsStand image (ends grain) versions) → AreOfType shape grain versions → AllByRecursion VersionFits versions
+      → ((image : List ℕ) → MayLeave (new.disk (Grain live grain)) image → places.VersionsStand image (ends grain) versions) → AreOfType shape grain versions → AllByRecursion (VersionFits One) versions
       → ends grain + length (spelling_of_versions versions) < 2 ^ 63 → EachImage (IsAtRest live shape head log bodies gate ends (voted ++ voted_from grain (ends grain) versions)) new.disk
   vote_yes new versions changes stand typed fits low image left =
       let rests = vote_rests (moment_of new) changes image left in

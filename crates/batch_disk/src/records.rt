@@ -1,5 +1,6 @@
 ghost use Rattle.std.specs.Prelude.{◌≡◌, ◌<◌, ◌≤◌, ◌^◌, List, true, false, IsTrue, length, map, None, IfOk, IfSome, IfNone, IsErrOf};
 ghost use Rattle.std.specs.List.{AllByRecursion};
+ghost use Rattle.field_codec.specs.declared.formats.Format.TheVariants.{One};
 ghost use Rattle.commit_log.specs.declared.records.CommitRecord.{CommitRecord as ARecord};
 ghost use Rattle.commit_log.specs.declared.records.Written.{Written as AWritten};
 ghost use Rattle.batch_disk.specs.declared.records.WorkFault.{WorkFault};
@@ -206,7 +207,7 @@ pub(crate) fn work_of(
     effects: List<Effect>,
 ) -> Result<SealWork, WorkFault>
     ensures records { IfOk result (λ work. AreRecordsFor (map voted_by kept.now) effects work.records) }
-    ensures fits { IfOk result (λ work. RecordsFit work.records) }
+    ensures fits { IfOk result (λ work. RecordsFit One work.records) }
     ensures small { IfOk result (λ work. length (spelling_of_body work.records) < 2 ^ 32) }
     ensures block { IfOk result (λ work. work.block ≡ spelling_of_block work.records) }
     ensures unlawful { IsErrOf result WorkFault.Unlawful → (records : List ARecord) → AreRecordsFor (map voted_by kept.now) effects records

@@ -9,6 +9,7 @@ use Rattle.host_trait.specs.Faults.{NoneFailed}
 use Rattle.host_trait.specs.World.{World, Moment, Disk, Image, IsImage, moment_of}
 use Rattle.host_trait.proofs.Moments.{both, weaker}
 use Rattle.host_trait.proofs.Runs.{settled_image}
+use Rattle.field_codec.specs.declared.formats.Format.TheVariants.{One}
 use Rattle.commit_log.specs.declared.records.CommitRecord.{CommitRecord}
 use Rattle.log_reading.specs.Steps.{seen_in}
 use Rattle.silo_spec.specs.Moments.{IsAsAtEntry}
@@ -41,8 +42,8 @@ Counts = Channel → ℕ
 pub record HasParts (image : Image) (live : ℕ) (p : Program) (log : Log) : Type 0 where
   pub records : List CommitRecord
   pub program : program_in_file (image (ProgramFile live)) ≡ Ok p
-  pub read : records_in_file (shape_in p) (image (Manager live)) ≡ Ok records
-  pub whole : first_missing live (shape_in p) image (named_by_grain (named_by records)) ≡ None
+  pub read : records_in_file One (shape_in p) (image (Manager live)) ≡ Ok records
+  pub whole : first_missing live One (shape_in p) image (named_by_grain (named_by records)) ≡ None
   pub are : grown (new_log p) (map (commit_of live (shape_in p) image) records) ≡ log
 
 module _ (image : Image) (live : ℕ) (p : Program) (log : Log) (is : (standing_of log).program ≡ p) where
@@ -55,16 +56,16 @@ module _ (image : Image) (live : ℕ) (p : Program) (log : Log) (is : (standing_
   own_program : (q : Program) (commits : List Commit) → grown (new_log q) commits ≡ log → q ≡ p
   own_program q commits are = sym (in_force (new_silo q) (map Recorded commits)) ∙ ap (λ (l : Log). (standing_of l).program) are ∙ is
 
-  records_by : (s : ℕ) (q : Program) → program_in_file (image (ProgramFile s)) ≡ Ok q → (r : Result (List CommitRecord) ℕ) → records_in_file (shape_in q) (image (Manager s)) ≡ r → with_log s q image r ≡ Reads live log → HasParts image live p log
+  records_by : (s : ℕ) (q : Program) → program_in_file (image (ProgramFile s)) ≡ Ok q → (r : Result (List CommitRecord) ℕ) → records_in_file One (shape_in q) (image (Manager s)) ≡ r → with_log s q image r ≡ Reads live log → HasParts image live p log
   records_by s q program (Ok records) read e =
-      let t = versions_by s q records (first_missing s (shape_in q) image (named_by_grain (named_by records))) e in
+      let t = versions_by s q records (first_missing s One (shape_in q) image (named_by_grain (named_by records))) e in
       let here : HasParts image s q log = record { records = records; program = program; read = read; whole = t.0; are = t.2 } in
       let own : q ≡ p = own_program q (map (commit_of s (shape_in q) image) records) t.2 in
       subst (λ (n : ℕ). HasParts image n p log) t.1 (subst (λ (x : Program). HasParts image s x log) own here)
   records_by s q program (Err place) read e = absurd cc
 
   program_by : (s : ℕ) (r : Result Program ℕ) → program_in_file (image (ProgramFile s)) ≡ r → with_program s image r ≡ Reads live log → HasParts image live p log
-  program_by s (Ok q) program e = records_by s q program (records_in_file (shape_in q) (image (Manager s))) refl e
+  program_by s (Ok q) program e = records_by s q program (records_in_file One (shape_in q) (image (Manager s))) refl e
   program_by s (Err place) program e = absurd cc
 
   slot_by : (o : Option ℕ) → with_slot image o ≡ Reads live log → HasParts image live p log

@@ -4,6 +4,7 @@ ghost use Rattle.host_trait.specs.Files.{StaysReady};
 ghost use Rattle.host_trait.specs.Faults.{NoneFailed};
 ghost use Rattle.host_trait.specs.Runs.{OnlyAsked};
 ghost use Rattle.host_trait.specs.declared.channels.FileId.TheVariants.{Manager};
+ghost use Rattle.field_codec.specs.declared.formats.Format.TheVariants.{One};
 ghost use Rattle.commit_log.specs.declared.records.CommitRecord.{CommitRecord as ARecord};
 ghost use Rattle.core_model.specs.Equality.{same_list};
 ghost use Rattle.log_reading.specs.Blocks.{records_in_file};
@@ -20,6 +21,7 @@ ghost use Rattle.log_audit.specs.Replays.{same_write, agree, first_states, as_co
 use base_types::{GrainId, Origin, Outcome, Shape, State, Store, UnitNo};
 use commit_log::{CommitRecord, Named};
 use core_equality::Same;
+use field_codec::Format;
 use host_trait::Host;
 use log_reading::{FolderFault, named_version, next_block};
 use script_check::Checked;
@@ -95,7 +97,7 @@ fn read_writes<H: Host>(
             unit: entry.unit,
             written: *one,
         };
-        let version = named_version(alloc, host, slot, shape, named)?;
+        let version = named_version(alloc, host, slot, shape, Format::One, named)?;
         kept.push((one.grain, version.state))?;
     }
     Ok(kept)
@@ -193,10 +195,10 @@ pub(crate) fn replay_log<H: Host>(
     shape: &Shape,
 ) -> Result<Option<Bad>, FolderFault>
     requires slot { slot ≤ 1 }
-    ensures replays { IfOk result (λ found. IsTrue H.tells → (records : Lists ARecord) → records_in_file shape.now ((H.world host.old).disk (Manager slot)).seen ≡ Ok records
+    ensures replays { IfOk result (λ found. IsTrue H.tells → (records : Lists ARecord) → records_in_file One shape.now ((H.world host.old).disk (Manager slot)).seen ≡ Ok records
         → let types = program_tree checked.now in
         IsFirstFailure types (first_states types) (as_commits slot shape.now (seen_in (H.world host.old).disk) records) found) }
-    ensures unread { IfErr result (λ e. IsTrue H.tells → (records : Lists ARecord) → records_in_file shape.now ((H.world host.old).disk (Manager slot)).seen ≡ Ok records
+    ensures unread { IfErr result (λ e. IsTrue H.tells → (records : Lists ARecord) → records_in_file One shape.now ((H.world host.old).disk (Manager slot)).seen ≡ Ok records
         → IsRereadFault slot shape.now (seen_in (H.world host.old).disk) records e) }
     ensures asked { IsTrue H.tells → OnlyAsked (H.world host.old) (H.world host.new) }
     ensures calm { OnOk result (NoneFailed (H.faults host.old) (H.faults host.new)) }
@@ -205,7 +207,14 @@ pub(crate) fn replay_log<H: Host>(
 {
     let mut store = Store::new(alloc);
     let mut gate_at = 15;
-    while let Some((records, behind)) = next_block(alloc, host, slot, shape, gate_at)? {
+    while let Some((records, behind)) = next_block(
+        alloc,
+        host,
+        slot,
+        shape,
+        Format::One,
+        gate_at,
+    )? {
         let found = replay_block(
             alloc,
             host,

@@ -17,6 +17,7 @@ use Rattle.host_trait.specs.declared.channels.FileId.TheVariants.{Manager, Progr
 use Rattle.host_trait.specs.Disk.{FileState, Untouched, MayLeave, settled}
 use Rattle.host_trait.specs.World.{Image, IsImage, World}
 use Rattle.host_trait.proofs.Crashes.{settled_only}
+use Rattle.field_codec.specs.declared.formats.Format.TheVariants.{One}
 use Rattle.gate_block.specs.Log.{LogsUpTo, gate_of}
 use Rattle.gate_block.proofs.Logs as blocks
 use Rattle.grain_log.specs.Places.{IsVersionAt}
@@ -87,7 +88,7 @@ module _ (image : Image) (program_is : image program_file ≡ program_bytes) whe
                 record {
                   near = stands.near;
                   fields = stands.fields;
-                  version = subst (λ (f : List ℕ). IsVersionAt 1 (record { offset = 0; len = 19 }) f first_version) (sym grain_is) stands.version;
+                  version = subst (λ (f : List ℕ). IsVersionAt One 1 (record { offset = 0; len = 19 }) f first_version) (sym grain_is) stands.version;
                 },
                 tt,
               );

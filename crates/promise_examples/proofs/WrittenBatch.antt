@@ -14,6 +14,7 @@ use Rattle.base_types.specs.declared.entries.Entry.{Entry}
 use Rattle.base_types.specs.declared.entries.Settled.TheVariants as settled_as
 use Rattle.base_types.specs.declared.stores.Version.{Version}
 use Rattle.core_model.specs.CoreState.{UnitNo, Member}
+use Rattle.field_codec.specs.declared.formats.Format.TheVariants.{One}
 use Rattle.field_codec.specs.declared.units.Numbers.TheVariants.{Logged}
 use Rattle.commit_log.specs.Bodies.{IsRecordIn}
 use Rattle.gate_block.specs.Blocks.{block_of}
@@ -78,13 +79,13 @@ abbrev last_version : Version
 last_version = record { unit = unit_no 2; state = Int (pos 9) ∷ [] }
 
 -- the file has both versions
-first_there : IsVersionAt 1 (record { offset = 0; len = 19 }) both_versions first_version
+first_there : IsVersionAt One 1 (record { offset = 0; len = 19 }) both_versions first_version
 first_there = record { version_is = logged_batch.kept.0.whole.0.version.version_is; here = refl }
 
-last_there : IsVersionAt 1 (record { offset = 19; len = 19 }) both_versions last_version
+last_there : IsVersionAt One 1 (record { offset = 19; len = 19 }) both_versions last_version
 last_there = record { version_is = record { fits = record { unit = lit< tt; state = (omega arith, (nine, tt)) }; count = refl; len = refl }; here = refl }
 
-last_fits : IsRecordIn Logged (shape_in account_program) (next_commit 4 9).logged
+last_fits : IsRecordIn One Logged (shape_in account_program) (next_commit 4 9).logged
 last_fits = record {
   units = record { unit = refl; parent = tt };
   fits = record {
@@ -129,7 +130,7 @@ module _ (image : Image) where
           record {
             near = lit< tt;
             fields = refl;
-            version = subst (λ (f : List ℕ). IsVersionAt 1 (record { offset = 0; len = 19 }) f first_version) (sym grain_is) first_there;
+            version = subst (λ (f : List ℕ). IsVersionAt One 1 (record { offset = 0; len = 19 }) f first_version) (sym grain_is) first_there;
           },
           tt,
         );
@@ -141,7 +142,7 @@ module _ (image : Image) where
             record {
               near = lit< tt;
               fields = refl;
-              version = subst (λ (f : List ℕ). IsVersionAt 1 (record { offset = 19; len = 19 }) f last_version) (sym grain_is) last_there;
+              version = subst (λ (f : List ℕ). IsVersionAt One 1 (record { offset = 19; len = 19 }) f last_version) (sym grain_is) last_there;
             },
             tt,
           );

@@ -4,6 +4,7 @@ use Rattle.base_types.specs.declared.calls.GrainId.{GrainId}
 use Rattle.host_trait.specs.declared.channels.FileId.{FileId}
 use Rattle.host_trait.specs.declared.channels.FileId.TheVariants.{Manager, Program as ProgramFile, Grain}
 use Rattle.host_trait.specs.World.{Image}
+use Rattle.field_codec.specs.declared.formats.Format.TheVariants.{One}
 use Rattle.commit_log.specs.declared.records.CommitRecord.{CommitRecord}
 use Rattle.core_model.specs.CoreState.{Member}
 use Rattle.core_model.specs.Tests.{is_before}
@@ -27,7 +28,7 @@ pub record IsNamedIn (live : ℕ) (image : Image) (grain : GrainId) : Type 0 whe
   pub program : Program
   pub records : List CommitRecord
   pub first : program_in_file (image (ProgramFile live)) ≡ Ok program
-  pub then_log : records_in_file (shape_in program) (image (Manager live)) ≡ Ok records
+  pub then_log : records_in_file One (shape_in program) (image (Manager live)) ≡ Ok records
   pub named : Member grain (map (λ n. n.written.grain) (named_by records))
 
 -- the file is a manager file, the program's of this slot, or that of a grain of this slot that a record names

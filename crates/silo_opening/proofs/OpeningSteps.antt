@@ -5,6 +5,7 @@ use Rattle.base_types.specs.declared.calls.Value.{Value}
 use Rattle.base_types.specs.Stores.{end_in}
 use Rattle.host_trait.specs.declared.channels.FileId.TheVariants.{Manager, Program as ProgramFile, Grain}
 use Rattle.host_trait.specs.World.{Image}
+use Rattle.field_codec.specs.declared.formats.Format.TheVariants.{One}
 use Rattle.commit_log.specs.declared.records.CommitRecord.{CommitRecord}
 use Rattle.log_reading.specs.Versions.{named_by, named_by_grain}
 use Rattle.log_reading.specs.Sums.{end_after}
@@ -28,7 +29,7 @@ none_more n = omega arith
 -- what was read, as an opened silo
 pub is_opened : (image : Image) (text : List ℕ) (o : Opened) → live_in image ≡ Some o.slot → is_silo (image (Manager o.slot)) ≡ true
     → program_in_file (image (ProgramFile o.slot)) ≡ Ok (record { text = text; types = program_tree o.checked })
-    → HasContents o.slot (shape_in (record { text = text; types = program_tree o.checked })) image (record { count = o.count; next_unit = o.next_unit; gate_at = o.gate_at; store = o.store; ends = o.ends }) → IsOpenedFrom image o
+    → HasContents o.slot One (shape_in (record { text = text; types = program_tree o.checked })) image (record { count = o.count; next_unit = o.next_unit; gate_at = o.gate_at; store = o.store; ends = o.ends }) → IsOpenedFrom image o
 is_opened image text o found silo program h =
     let slot : ℕ = o.slot in
     let p : Program = record { text = text; types = program_tree o.checked } in

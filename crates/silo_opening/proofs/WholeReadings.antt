@@ -9,6 +9,7 @@ use Rattle.host_trait.specs.declared.channels.FileId.{FileId}
 use Rattle.host_trait.specs.declared.channels.FileId.TheVariants.{Program as ProgramFile, Manager, Grain}
 use Rattle.host_trait.specs.Files.{same_grain}
 use Rattle.host_trait.specs.World.{Image}
+use Rattle.field_codec.specs.declared.formats.Format.TheVariants.{One}
 use Rattle.commit_log.specs.declared.records.CommitRecord.{CommitRecord}
 use Rattle.commit_log.specs.declared.records.Named.{Named}
 use Rattle.core_model.specs.CoreState.{Member}
@@ -64,9 +65,9 @@ module _ (live : ℕ) (shape : Shape) (image : Image) where
       file_or d None = d
       file_or d (Some x) = x.0
 
-  missing_grain : (ns : List Named) (f : FileId) (place : ℕ) → first_missing live shape image ns ≡ Some (f, place) → (last : GrainId) × (f ≡ Grain live last)
+  missing_grain : (ns : List Named) (f : FileId) (place : ℕ) → first_missing live One shape image ns ≡ Some (f, place) → (last : GrainId) × (f ≡ Grain live last)
   missing_grain [] f place e = absurd cc
-  missing_grain (n ∷ ns) f place e = one_missing n.written.grain (version_named live shape image n) (first_missing live shape image ns) f place (λ also. missing_grain ns f place also) e
+  missing_grain (n ∷ ns) f place e = one_missing n.written.grain (version_named live One shape image n) (first_missing live One shape image ns) f place (λ also. missing_grain ns f place also) e
 
 -- ---- the live slot
 
@@ -123,11 +124,11 @@ module _ (image : Image) where
 
     log_by : (p : Program) (r : Result (List CommitRecord) ℕ) → MustBeRead image (with_log live p image r) (ProgramFile live)
     log_by p (Err place) = inr refl
-    log_by p (Ok records) = versions_by p records (first_missing live (shape_in p) image (named_by_grain (named_by records))) refl
+    log_by p (Ok records) = versions_by p records (first_missing live One (shape_in p) image (named_by_grain (named_by records))) refl
 
     program_by : (r : Result Program ℕ) → MustBeRead image (with_program live image r) (ProgramFile live)
     program_by (Err place) = inr refl
-    program_by (Ok p) = log_by p (records_in_file (shape_in p) (image (Manager live)))
+    program_by (Ok p) = log_by p (records_in_file One (shape_in p) (image (Manager live)))
 
     pub program_read : Refuses (OpenFault.DiskFault (ProgramFile live))
     program_read = subst (λ (r : Reading). MustBeRead image r (ProgramFile live)) (sym opened_then) (program_by (program_in_file (image (ProgramFile live))))
@@ -136,32 +137,32 @@ module _ (image : Image) where
     program_damaged place e = opened_then ∙ ap (with_program live image) e
 
     module _ (p : Program) (program : program_in_file (image (ProgramFile live)) ≡ Ok p) where
-      then_log : reading ≡ with_log live p image (records_in_file (shape_in p) (image (Manager live)))
+      then_log : reading ≡ with_log live p image (records_in_file One (shape_in p) (image (Manager live)))
       then_log = opened_then ∙ ap (with_program live image) program
 
-      named_in : (records : List CommitRecord) → records_in_file (shape_in p) (image (Manager live)) ≡ Ok records → (file : FileId) → (s : StopsAt live (shape_in p) image (named_by_grain (named_by records)) file)
+      named_in : (records : List CommitRecord) → records_in_file One (shape_in p) (image (Manager live)) ≡ Ok records → (file : FileId) → (s : StopsAt live One (shape_in p) image (named_by_grain (named_by records)) file)
           → IsNamedIn live image s.here.written.grain
       named_in records read file s = record { program = p; records = records; first = program; then_log = read; named = in_map s.here (named_by records) (in_groups s.here (named_by records) (ascending (map (λ n. n.written.grain) (named_by records))) (subst (Member s.here) (sym s.are) (in_seam s.front s.here s.back))) }
 
-      grain_by : (records : List CommitRecord) → records_in_file (shape_in p) (image (Manager live)) ≡ Ok records → (file : FileId) → (s : StopsAt live (shape_in p) image (named_by_grain (named_by records)) file)
-          → (m : Option (FileId × ℕ)) → first_missing live (shape_in p) image (named_by_grain (named_by records)) ≡ m → MustBeRead image (with_versions live p image records m) file
+      grain_by : (records : List CommitRecord) → records_in_file One (shape_in p) (image (Manager live)) ≡ Ok records → (file : FileId) → (s : StopsAt live One (shape_in p) image (named_by_grain (named_by records)) file)
+          → (m : Option (FileId × ℕ)) → first_missing live One (shape_in p) image (named_by_grain (named_by records)) ≡ m → MustBeRead image (with_versions live p image records m) file
       grain_by records read file s None e = inr (s.here.written.grain, s.is, named_in records read file s)
       grain_by records read file s (Some x) e =
           let t = missing_grain live (shape_in p) image (named_by_grain (named_by records)) x.0 x.1 e in
-          let at : first_missing live (shape_in p) image (named_by_grain (named_by records)) ≡ Some (Grain live t.0, x.1) = e ∙ ap (λ (f : FileId). Some (f, x.1)) t.1 in
-          let order : is_before t.0 s.here.written.grain ≡ false = in_order live (shape_in p) image (named_by records) file s t.0 x.1 at in
+          let at : first_missing live One (shape_in p) image (named_by_grain (named_by records)) ≡ Some (Grain live t.0, x.1) = e ∙ ap (λ (f : FileId). Some (f, x.1)) t.1 in
+          let order : is_before t.0 s.here.written.grain ≡ false = in_order live One (shape_in p) image (named_by records) file s t.0 x.1 at in
           subst (λ (f : FileId). IsReadBefore image f file) (sym t.1) (inr (s.here.written.grain, s.is, named_in records read file s, order))
 
-      pub log_refused : (e : FolderFault) → IsUnread live (shape_in p) image e → Refuses (in_folder e)
+      pub log_refused : (e : FolderFault) → IsUnread live One (shape_in p) image e → Refuses (in_folder e)
       log_refused (FolderFault.Damaged file place) (inl at) = then_log ∙ ap (with_log live p image) at.1 ∙ ap (λ (f : FileId). DamagedAt f place) (sym at.0)
       log_refused (FolderFault.Damaged file place) (inr t) = then_log ∙ ap (with_log live p image) t.1 ∙ ap (with_versions live p image t.0) t.2
       log_refused (FolderFault.Failed file) (inl at) =
           let slot = (live_read live image found).slot in
           subst (λ (f : FileId). MustBeRead image reading f) (sym at) (manager_read live (omega (arith, slot)))
       log_refused (FolderFault.Failed file) (inr t) =
-          subst (λ (r : Reading). MustBeRead image r file) (sym (then_log ∙ ap (with_log live p image) t.1)) (grain_by t.0 t.1 file t.2 (first_missing live (shape_in p) image (named_by_grain (named_by t.0))) refl)
+          subst (λ (r : Reading). MustBeRead image r file) (sym (then_log ∙ ap (with_log live p image) t.1)) (grain_by t.0 t.1 file t.2 (first_missing live One (shape_in p) image (named_by_grain (named_by t.0))) refl)
       log_refused FolderFault.Memory any = tt
 
-      pub reads_log : (records : List CommitRecord) → records_in_file (shape_in p) (image (Manager live)) ≡ Ok records → first_missing live (shape_in p) image (named_by_grain (named_by records)) ≡ None
+      pub reads_log : (records : List CommitRecord) → records_in_file One (shape_in p) (image (Manager live)) ≡ Ok records → first_missing live One (shape_in p) image (named_by_grain (named_by records)) ≡ None
           → opened_as image ≡ Reads live (grown (new_log p) (map (commit_of live (shape_in p) image) records))
       reads_log records read whole = then_log ∙ ap (with_log live p image) read ∙ ap (with_versions live p image records) whole

@@ -17,6 +17,7 @@ ghost use Rattle.silo_opening.specs.OpenedSilo.{is_header, in_program_file, in_f
 
 use crate::faults::OpenFault;
 use base_types::{Ends, Store, UnitNo};
+use field_codec::Format;
 use host_trait::{Failed, FileId, Host, read_full};
 use log_reading::{FolderFault, read_contents};
 use program_file::{ProgramFileFault, read_program};
@@ -214,7 +215,7 @@ pub fn open_silo<H: Host>(alloc: Global, host: &mut H) -> Result<Opened, OpenFau
         Ok(shape) => shape,
         Err(AllocError) => return Err(OpenFault::Memory),
     };
-    match read_contents(alloc, host, slot, &shape) {
+    match read_contents(alloc, host, slot, &shape, Format::One) {
         Ok(contents) => Ok(Opened {
             slot,
             checked,

@@ -4,6 +4,7 @@ use Rattle.host_trait.specs.declared.channels.Channel.{Channel}
 use Rattle.host_trait.specs.Disk.{settled}
 use Rattle.host_trait.specs.World.{Disk, Image}
 use Rattle.host_trait.proofs.Counts.{none_then}
+use Rattle.field_codec.specs.declared.formats.Format.TheVariants.{One}
 use Rattle.log_reading.specs.Blocks.{records_in_file}
 use Rattle.host_trait.specs.declared.channels.FileId.TheVariants.{Manager}
 use Rattle.log_reading.specs.Steps.{seen_in}
@@ -40,7 +41,7 @@ returns-in-Ok-replay_log-clause-audited g c told =
     let same : seen_in mid.disk ≡ image = opens_same _ old mid (c.in-Ok.ensures.only told) in
     let shape : c.in-Ok-shape.shape ≡ shape_in p = (λ i. record { types = c.in-Ok-shape.ensures i }) in
     let whole = parts image opened o in
-    let read : records_in_file c.in-Ok-shape.shape ((mid.disk (Manager opened.slot)).seen) ≡ Ok whole.records = (λ i. records_in_file (shape i) (same i (Manager opened.slot))) ∙ whole.read in
+    let read : records_in_file One c.in-Ok-shape.shape ((mid.disk (Manager opened.slot)).seen) ≡ Ok whole.records = (λ i. records_in_file One (shape i) (same i (Manager opened.slot))) ∙ whole.read in
     let bad = c.in-Ok-replay_log.first_bad in
     let commits : List Commit = map (commit_of opened.slot (shape_in p) image) whole.records in
     let seen : as_commits opened.slot c.in-Ok-shape.shape (seen_in mid.disk) whole.records ≡ commits = (λ i. as_commits opened.slot (shape i) (same i) whole.records) in
@@ -84,7 +85,7 @@ returns-clause-refused g c told =
     let same : seen_in mid.disk ≡ image = opens_same _ old mid (c.in-Ok.ensures.only told) in
     let shape : c.in-Ok-shape.shape ≡ shape_in p = (λ i. record { types = c.in-Ok-shape.ensures i }) in
     let whole = parts image opened o in
-    let read : records_in_file c.in-Ok-shape.shape ((mid.disk (Manager opened.slot)).seen) ≡ Ok whole.records = (λ i. records_in_file (shape i) (same i (Manager opened.slot))) ∙ whole.read in
+    let read : records_in_file One c.in-Ok-shape.shape ((mid.disk (Manager opened.slot)).seen) ≡ Ok whole.records = (λ i. records_in_file One (shape i) (same i (Manager opened.slot))) ∙ whole.read in
     let fault = c.in-Err-replay_log.fault in
     let again : IsRereadFault opened.slot (shape_in p) image whole.records fault = subst (λ (im : Image). IsRereadFault opened.slot (shape_in p) im whole.records fault) same
     (subst (λ (s : Shape). IsRereadFault opened.slot s (seen_in mid.disk) whole.records fault) shape (c.in-Err-replay_log.ensures.unread told whole.records read)) in

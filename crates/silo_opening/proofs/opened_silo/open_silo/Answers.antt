@@ -2,6 +2,7 @@ use Rattle.std.proofs.Common.{rules, ◌≡◌, ℕ, Some, Ok, sym, ◌∙◌, a
 use Rattle.base_types.specs.declared.shapes.Shape.{Shape}
 use Rattle.host_trait.specs.declared.channels.FileId.TheVariants.{Program as ProgramFile}
 use Rattle.host_trait.specs.World.{Image}
+use Rattle.field_codec.specs.declared.formats.Format.TheVariants.{One}
 use Rattle.log_reading.specs.Steps.{seen_in}
 use Rattle.log_reading.specs.Contents.{HasContents, IsUnread}
 use Rattle.script_tree.specs.Programs.{program_tree}
@@ -61,8 +62,8 @@ returns-in-Err-read_contents-clause-refused g c told =
     let program : program_in_file (image (ProgramFile slot)) ≡ Ok p = ap (λ (im : Image). program_in_file (im (ProgramFile slot))) (sym first) ∙ read.1 in
     let shape : c.in-Ok-shape.shape ≡ shape_in p = (λ i. record { types = c.in-Ok-shape.ensures i }) in
     subst (λ (e : OpenFault). IsRefusedBy image (opened_as image) (ending_of e)) (sym c.folder_fault.ensures)
-    (log_refused image slot found p program c.in-Err-read_contents.fault (subst (λ (im : Image). IsUnread slot (shape_in p) im c.in-Err-read_contents.fault) same
-    (subst (λ (s : Shape). IsUnread slot s (seen_in (g.H.Host.world c.read_program.new.host).disk) c.in-Err-read_contents.fault) shape (c.in-Err-read_contents.ensures.refused told))))
+    (log_refused image slot found p program c.in-Err-read_contents.fault (subst (λ (im : Image). IsUnread slot One (shape_in p) im c.in-Err-read_contents.fault) same
+    (subst (λ (s : Shape). IsUnread slot One s (seen_in (g.H.Host.world c.read_program.new.host).disk) c.in-Err-read_contents.fault) shape (c.in-Err-read_contents.ensures.refused told))))
 
 pub returns-in-Ok-read_contents-clause-opened : goal.returns-in-Ok-read_contents-clause-opened
 returns-in-Ok-read_contents-clause-opened g c told =
@@ -78,4 +79,4 @@ returns-in-Ok-read_contents-clause-opened g c told =
     let program : program_in_file (image (ProgramFile slot)) ≡ Ok p = ap (λ (im : Image). program_in_file (im (ProgramFile slot))) (sym first) ∙ read.1 in
     let shape : c.in-Ok-shape.shape ≡ shape_in p = (λ i. record { types = c.in-Ok-shape.ensures i }) in
     is_opened image read.0 (record { slot = slot; checked = c.in-Ok.checked; count = o.count; store = o.store; ends = o.ends; next_unit = o.next_unit; gate_at = o.gate_at }) found (live_silo image slot found) program
-    (subst (λ (im : Image). HasContents slot (shape_in p) im o) same (subst (λ (s : Shape). HasContents slot s (seen_in (g.H.Host.world c.read_program.new.host).disk) o) shape (c.in-Ok-read_contents.ensures.opened told)))
+    (subst (λ (im : Image). HasContents slot One (shape_in p) im o) same (subst (λ (s : Shape). HasContents slot One s (seen_in (g.H.Host.world c.read_program.new.host).disk) o) shape (c.in-Ok-read_contents.ensures.opened told)))
