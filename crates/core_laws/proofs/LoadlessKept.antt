@@ -1,5 +1,5 @@
 -- What is kept after every list of events, whatever was loaded.
-use Rattle.std.proofs.Common.{◌≡◌, ℕ, suc, ◌+◌, ◌-◌, ◌<◌, ◌≤◌, List, [], ◌∷◌, length, get_or, true, refl, ap, ◌∙◌, subst, arith, Option, Some, None, take, map, is_some, length-drop, length-take}
+use Rattle.std.proofs.Common.{◌≡◌, ℕ, suc, ◌+◌, ◌<◌, ◌≤◌, List, [], ◌∷◌, length, get_or, true, refl, ap, ◌∙◌, subst, arith, Option, Some, None, take, map, is_some, length-drop, length-take}
 use Rattle.std.specs.Prelude.{if◌then◌else◌}
 use Rattle.std.proofs.lemmas.List.{length-map}
 use Rattle.base_types.specs.declared.entries.Settled.TheVariants as settled

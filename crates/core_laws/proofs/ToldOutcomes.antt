@@ -31,6 +31,7 @@ use Rattle.core_laws.proofs.EntryCauses.{caused-ends}
 use Rattle.core_laws.proofs.LineEntries.{once-ends}
 use Rattle.core_laws.proofs.Proper.{front, front-legal}
 use Rattle.core_laws.proofs.LoadlessRuns.{split-ends, batched-ends, answers-ends, children-ends}
+use Rattle.core_laws.proofs.LoadlessKept.{loadless-ends}
 
 -- a list of known outcomes
 known-at : (w : CoreState) (us : List UnitNo) (os : List Outcome) → map (outcome_of w) us ≡ map Some os → (i : ℕ) → i < length us → (o : Outcome) × (outcome_of w (get_or us i nobody) ≡ Some o)
@@ -169,24 +170,24 @@ true-iff false false f g = refl
 true-iff true false f g = sym (f refl)
 true-iff false true f g = g refl
 
-pub lines-ends : (plays : Effect → Bool) (r : Run) → IsLegal plays r → (ends r).manager.doubt ≡ None → LinesAreTold (ends r)
-lines-ends plays r l none u n b =
+pub lines-ends : (r : Run) → 0 < r.base → (ends r).manager.doubt ≡ None → LinesAreTold (ends r)
+lines-ends r above none u n b =
     true-iff (is_decided (ends r) u) (any (λ (x : Entry). same_unit x.unit u) (ends r).manager.settled) told decided
   where
     told : is_decided (ends r) u ≡ true → any (λ (x : Entry). same_unit x.unit u) (ends r).manager.settled ≡ true
     told e =
         let s = known-settled (ends r) u (λ f v. elim (cases_lt (ends r).manager.closed ((ends r).manager.place u)) [
-          | inl lt ↦ (let z : true ≡ false = sym v ∙ (batched-ends r l.above).1 u f lt in cc)
+          | inl lt ↦ (let z : true ≡ false = sym v ∙ (batched-ends r above).1 u f lt in cc)
           | inr le ↦ le
         ]) e in
-        let x = (once-ends r l.above).complete u n b s in
+        let x = (once-ends r above).complete u n b s in
         any-member (λ (x : Entry). same_unit x.unit u) (ends r).manager.settled x.0 x.1 (same_unit-is x.0.unit u x.2)
 
     decided : any (λ (x : Entry). same_unit x.unit u) (ends r).manager.settled ≡ true → is_decided (ends r) u ≡ true
     decided e =
         let x = any-true (λ (x : Entry). same_unit x.unit u) (ends r).manager.settled e in
         let is = same_unit-true x.0.unit u x.2 in
-        elim ((once-ends r l.above).entry x.0 x.1).2 [
-          | inl o ↦ absurd (b.0 (ap (ends r).units.phase (sym is ∙ o.0) ∙ (kept-ends plays r l).0.outside))
-          | inr o ↦ settled-known (ends r) u (subst (IsSettled (ends r)) is o.1) (λ f le. (split-ends r l.above).0 u f (omega (arith, le, ap (λ d. batch_begin d (ends r).manager.closed) none)))
+        elim ((once-ends r above).entry x.0 x.1).2 [
+          | inl o ↦ absurd (b.0 (ap (ends r).units.phase (sym is ∙ o.0) ∙ (loadless-ends r above).0.outside))
+          | inr o ↦ settled-known (ends r) u (subst (IsSettled (ends r)) is o.1) (λ f le. (split-ends r above).0 u f (omega (arith, le, ap (λ d. batch_begin d (ends r).manager.closed) none)))
         ]

@@ -13,7 +13,7 @@ ghost use Rattle.core_model.specs.DeadUnits.{IsDead, DeadEitherWay};
 ghost use Rattle.core_model.specs.Replies.{says_no, OnlyExtends};
 ghost use Rattle.core_model.specs.Tests.{ask_answer, outcome_of};
 ghost use Rattle.core_model.specs.CoreState.{GrainId, Mode, Batch, Decision, CoreState};
-ghost use Rattle.core_model.specs.LockAnswers.{AskExactly, GrantApplies, SettledStacksAreSingle, TakeApplies, TakesBatch};
+ghost use Rattle.core_model.specs.LockAnswers.{AskExactly, AskedLocks, GrantApplies, SettledStacksAreSingle, TakeApplies, TakesBatch};
 ghost use Rattle.core_model.specs.ComputedRuns.{RunsAreComputed};
 ghost use Rattle.core_model.specs.Settler.{settler_step, step_of, to_commit, work_in};
 ghost use Rattle.core_model.specs.Steps.{IsPlan, ShowsVersions, StepApplies, TellsDecided};
@@ -126,10 +126,11 @@ pub fn plans_are_kept()
 {}
 
 /// A unit that asks for a lock is answered exactly: that it isn't active; or the oldest source whose version, read by the
-/// unit, was taken off; or what the grain's locks say; or that the grain isn't in memory. A grant applies exactly where the
-/// answer is that the lock can be had, and no stop stands.
+/// unit, was taken off; or what the grain's locks say; or that the grain isn't in memory. What an answer says of the locks and
+/// of memory is so in every state. A grant applies exactly where the answer is that the lock can be had, and no stop stands.
 pub fn asking_is_told()
     ensures asked { (plays : Effect → Bool) (r : Run) → IsLegal plays r → (u : UnitNo) (g : GrainId) (mode : Mode) → AskExactly (ends r) u g mode (ask_answer (ends r) u g mode) }
+    ensures locks { (w : CoreState) (u : UnitNo) (g : GrainId) (mode : Mode) → AskedLocks w u g mode (ask_answer w u g mode) }
     ensures granted { (w : CoreState) (u : UnitNo) (g : GrainId) (mode : Mode) → GrantApplies w u g mode }
 {}
 
@@ -167,7 +168,7 @@ pub fn entries_are_proper()
 /// to its end. Unless a batch is in doubt, a line's unit is decided exactly where it has its entry.
 pub fn told_outcomes_are_final()
     ensures told { (plays : Effect → Bool) (r : Run) → IsLegal plays r → ToldIsFinal (ends r) }
-    ensures lines { (plays : Effect → Bool) (r : Run) → IsLegal plays r → (ends r).manager.doubt ≡ None → LinesAreTold (ends r) }
+    ensures lines { (r : Run) → 0 < r.base → (ends r).manager.doubt ≡ None → LinesAreTold (ends r) }
 {}
 
 /// What code may rely on holds after every list of events, whatever was loaded: the closed batches and the open one, that who is
