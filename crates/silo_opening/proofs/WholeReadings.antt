@@ -115,7 +115,7 @@ module _ (image : Image) where
     opened_then = ap (with_slot image) found
 
     -- the live slot's program file is read of each silo
-    versions_by : (p : Program) (records : List CommitRecord) (m : Option (FileId × ℕ)) → first_missing live (shape_in p) image (named_by_grain (named_by records)) ≡ m
+    versions_by : (p : Program) (records : List CommitRecord) (m : Option (FileId × ℕ)) → first_missing live One (shape_in p) image (named_by_grain (named_by records)) ≡ m
         → MustBeRead image (with_versions live p image records m) (ProgramFile live)
     versions_by p records None e = inl (inr refl)
     versions_by p records (Some x) e =

@@ -3,14 +3,11 @@ use Rattle.std.proofs.Common.{◌≡◌, ℕ, ◌+◌, ◌-◌, ◌<◌, ◌≤�
 use Rattle.std.specs.Prelude.{filter, take, slice_get, count_by}
 use Rattle.base_types.specs.declared.calls.Origin.TheVariants.{Line, Child}
 use Rattle.core_model.specs.CoreState.{UnitNo, Call, CoreState}
-use Rattle.core_model.specs.declared.effects.Effect.{Effect}
 use Rattle.core_model.specs.declared.events.CoreEvent.{CoreEvent}
 use Rattle.core_model.specs.declared.events.CoreEvent.TheVariants.{Begin, Halt}
 use Rattle.core_model.specs.Changes.{new_unit}
 use Rattle.core_model.specs.Events.{applies, can, run}
-use Rattle.core_model.specs.LegalRuns.{Run, IsLegal, begins, ends}
-use Rattle.core_laws.proofs.KeptInvariant.{Kept}
-use Rattle.core_laws.proofs.Ends.{kept-ends}
+use Rattle.core_model.specs.LegalRuns.{Run, begins, ends}
 use Rattle.core_laws.proofs.Replies.{no-change}
 use Rattle.promise_spec.specs.Cores.{applied_from}
 use Rattle.promise_spec.specs.UnitAnswers.{got_in}
@@ -26,22 +23,18 @@ use Rattle.turn_rules.specs.TurnLoop.{TurnLoop, IsTurning, IsPicked, has_room, w
 use Rattle.turn_rules.proofs.Movers.{begins-kept, drop-kept, kept-begun, kept-on, movers-kept}
 use Rattle.turn_rules.proofs.RunCounts.{counted-ends}
 use Rattle.turn_rules.proofs.Growth.{ends-more, turn-grows, unit-grows}
-use Rattle.turn_rules.proofs.LegalRuns.{legal-run}
 use Rattle.turn_rules.proofs.WithinWindows.{tests, stays, begins-fresh}
 use Rattle.turn_rules.proofs.Settlers.{going-by, settlers, settlers-due, settlers-go}
 use Rattle.turn_rules.proofs.Numbers.{older-filter, older-last}
 use Rattle.turn_rules.proofs.Picks.{used-none, used-one, used-unapplied}
 use Rattle.turn_rules.proofs.WaitOrder.{without-mover}
+use Rattle.core_laws.proofs.LoadlessKept.{LoadlessKept, loadless-ends}
 
 -- ---- the turns
 
 module _ (l : TurnLoop) (t : IsTurning l) where
-  -- what the core's laws ask for
-  legal : IsLegal (λ (e : Effect). true) l.run
-  legal = legal-run l.basis l.run t.first t.unit_rule
-
-  held : Kept l.run.opening (ends l.run)
-  held = kept-ends (λ (e : Effect). true) l.run legal
+  held : LoadlessKept (ends l.run)
+  held = loadless-ends l.run t.first
 
   -- a mover's event is no stop, where a stop isn't the mover's
   no_stop : (e : CoreEvent) (m : Mover) → mover_of e ≡ m → (OfSettler ≡ m → ⊥) → e ≡ Halt → ⊥
@@ -88,7 +81,7 @@ module _ (l : TurnLoop) (t : IsTurning l) where
     unstopped = going-by l.run e (no_stop e OfLine m (λ q. absurd cc)) t.unstopped;
     turn_rule = λ ruled. turn-grows l.basis.types l.windowed (length l.basis.lines) l.width l.picks l.run e (t.turn_rule ruled) (no_mover ruled);
     within = window-stays e no_mover;
-    kept = kept-on l.run.opening l.run e l.units held b t.kept;
+    kept = kept-on l.run e l.units held b t.kept;
     older = t.older;
     count = λ ruled. used-none l.run e l.used (t.count ruled) (ap takes_pick m);
   }
@@ -105,7 +98,7 @@ module _ (l : TurnLoop) (t : IsTurning l) where
     unstopped = going-by l.run (Begin (Line n) call plain) (no_stop (Begin (Line n) call plain) OfLine refl (λ q. absurd cc)) t.unstopped;
     turn_rule = λ ruled. turn-grows l.basis.types l.windowed (length l.basis.lines) l.width l.picks l.run (Begin (Line n) call plain) (t.turn_rule ruled) (λ b. can-begin ruled ∙ can);
     within = window-stays (Begin (Line n) call plain) (λ ruled b. can-begin ruled ∙ can);
-    kept = kept-begun l.run.opening l.run (Line n) call plain l.units held (counted-ends (λ (e : Effect). true) l.run legal).above a t.kept;
+    kept = kept-begun l.run (Line n) call plain l.units held (counted-ends l.run t.first).above a t.kept;
     older = older-last l.units (new_unit (ends l.run)) (λ v m. t.kept.below v m) t.older;
     count = λ ruled. used-none l.run (Begin (Line n) call plain) l.used (t.count ruled) refl;
   }
@@ -134,7 +127,7 @@ module _ (l : TurnLoop) (t : IsTurning l) where
         unstopped = going-by l.run e (settlers-go (settler_step (ends l.run)) e makes) t.unstopped;
         turn_rule = λ ruled. turn-grows l.basis.types l.windowed (length l.basis.lines) l.width l.picks l.run e (t.turn_rule ruled) (at_turn OfSettler e s.0 (none_begins ruled turn.none, chosen ruled OfSettler turn.pick, makes));
         within = window-stays e (λ ruled. (at_turn OfSettler e s.0 (none_begins ruled turn.none, chosen ruled OfSettler turn.pick, makes)));
-        kept = kept-on l.run.opening l.run e l.units held s.1 t.kept;
+        kept = kept-on l.run e l.units held s.1 t.kept;
         older = t.older;
         count = λ ruled. used-one l.run e l.used (t.count ruled) a (ap takes_pick s.0);
       }
@@ -148,7 +141,7 @@ module _ (l : TurnLoop) (t : IsTurning l) where
     unstopped = going-by l.run e (no_stop e (OfUnit u) is (λ q. absurd cc)) t.unstopped;
     turn_rule = λ ruled. turn-grows l.basis.types l.windowed (length l.basis.lines) l.width l.picks l.run e (t.turn_rule ruled) (at_turn (OfUnit u) e is (none_begins ruled turn.none, chosen ruled (OfUnit u) turn.pick));
     within = window-stays e (λ ruled. (at_turn (OfUnit u) e is (none_begins ruled turn.none, chosen ruled (OfUnit u) turn.pick)));
-    kept = kept-on l.run.opening l.run e l.units held b t.kept;
+    kept = kept-on l.run e l.units held b t.kept;
     older = t.older;
     count = λ ruled. used-one l.run e l.used (t.count ruled) a (ap takes_pick is);
   }
@@ -162,7 +155,7 @@ module _ (l : TurnLoop) (t : IsTurning l) where
     unstopped = going-by l.run (Begin (Child u index depth) call false) (no_stop (Begin (Child u index depth) call false) (OfUnit u) refl (λ q. absurd cc)) t.unstopped;
     turn_rule = λ ruled. turn-grows l.basis.types l.windowed (length l.basis.lines) l.width l.picks l.run (Begin (Child u index depth) call false) (t.turn_rule ruled) (at_turn (OfUnit u) (Begin (Child u index depth) call false) refl (none_begins ruled turn.none, chosen ruled (OfUnit u) turn.pick));
     within = window-stays (Begin (Child u index depth) call false) (λ ruled. (at_turn (OfUnit u) (Begin (Child u index depth) call false) refl (none_begins ruled turn.none, chosen ruled (OfUnit u) turn.pick)));
-    kept = kept-begun l.run.opening l.run (Child u index depth) call false l.units held (counted-ends (λ (e : Effect). true) l.run legal).above a t.kept;
+    kept = kept-begun l.run (Child u index depth) call false l.units held (counted-ends l.run t.first).above a t.kept;
     older = older-last l.units (new_unit (ends l.run)) (λ v m. t.kept.below v m) t.older;
     count = λ ruled. used-one l.run (Begin (Child u index depth) call false) l.used (t.count ruled) a refl;
   }
@@ -184,7 +177,7 @@ module _ (l : TurnLoop) (t : IsTurning l) where
   pub turn-ended : (ends l.run).manager.doubt ≡ None → movers_of l.basis.types l.run l.units ≡ [] → 0 < l.width → has_room l ≡ false →
       HasRun (length l.basis.lines) (ends l.run)
   turn-ended doubt none some cannot =
-      without-mover l.basis.types (λ (e : Effect). true) l.run l.width (length l.basis.lines) legal doubt t.unstopped (movers-kept l.basis.types l.run l.units t.kept ∙ none) some (begins-kept l.width (length l.basis.lines) l.run l.units t.kept ∙ cannot)
+      without-mover l.basis.types l.run l.width (length l.basis.lines) t.first doubt t.unstopped (movers-kept l.basis.types l.run l.units t.kept ∙ none) some (begins-kept l.width (length l.basis.lines) l.run l.units t.kept ∙ cannot)
 
 -- ---- the start
 
