@@ -1,4 +1,4 @@
-ghost use Rattle.std.specs.Prelude.{◌≡◌, ◌<◌, ◌≤◌, ◌+◌, ◌-◌, [], ◌∷◌, ◌++◌, length, nat_lt, slice_get, OnOk};
+ghost use Rattle.std.specs.Prelude.{◌≡◌, ◌<◌, ◌≤◌, ◌+◌, ◌-◌, [], ◌∷◌, ◌++◌, length, drop, nat_lt, slice_get, OnOk};
 ghost use Rattle.std.specs.Option.{option_copied};
 ghost use Rattle.core_lists.specs.LineEnds.{ends_of};
 
@@ -97,6 +97,13 @@ impl EntryList {
         ensures { result ≡ nat_lt self.now.emitted (length self.now.entries) }
     {
         !self.pending.is_empty()
+    }
+
+    /// The entries that aren't emitted, in the order in which they came, in two pieces.
+    pub fn pending(&self) -> (&[Entry], &[Entry])
+        ensures { result.0.now ++ result.1.now ≡ drop self.now.emitted self.now.entries }
+    {
+        self.pending.as_slices()
     }
 
     /// How the lines of all entries ended, emitted or not.

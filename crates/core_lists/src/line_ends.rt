@@ -1,5 +1,5 @@
 ghost use Rattle.std.specs.Prelude.{◌≡◌, ◌<◌, ◌+◌, ◌^◌, [], true};
-ghost use Rattle.core_lists.specs.LineEnds.{is_value, is_fault, is_abort, ends_of, ends_with, one_more, CountsWithin};
+ghost use Rattle.core_lists.specs.LineEnds.{ends_in_value, ends_in_fault, ends_in_abort, ends_of, ends_with, one_more, CountsWithin};
 
 use base_types::{Outcome, Settled};
 
@@ -34,9 +34,9 @@ impl LineEnds {
     {
         LineEnds {
             all: self.all + 1,
-            values: one_more(is_value(what), self.values),
-            faults: one_more(is_fault(what), self.faults),
-            aborts: one_more(is_abort(what), self.aborts),
+            values: one_more(ends_in_value(what), self.values),
+            faults: one_more(ends_in_fault(what), self.faults),
+            aborts: one_more(ends_in_abort(what), self.aborts),
         }
     }
 }
@@ -50,8 +50,8 @@ fn one_more(ended: bool, count: usize) -> usize
 }
 
 // Whether the line came to a value.
-fn is_value(what: &Settled) -> bool
-    ensures { result ≡ is_value what.now }
+fn ends_in_value(what: &Settled) -> bool
+    ensures { result ≡ ends_in_value what.now }
 {
     match what {
         Settled::Done(Outcome::Value(_)) => true,
@@ -67,8 +67,8 @@ fn is_value(what: &Settled) -> bool
 }
 
 // Whether the line came to a fault.
-fn is_fault(what: &Settled) -> bool
-    ensures { result ≡ is_fault what.now }
+fn ends_in_fault(what: &Settled) -> bool
+    ensures { result ≡ ends_in_fault what.now }
 {
     match what {
         Settled::Done(Outcome::Value(_)) => false,
@@ -84,8 +84,8 @@ fn is_fault(what: &Settled) -> bool
 }
 
 // Whether the line was aborted.
-fn is_abort(what: &Settled) -> bool
-    ensures { result ≡ is_abort what.now }
+fn ends_in_abort(what: &Settled) -> bool
+    ensures { result ≡ ends_in_abort what.now }
 {
     match what {
         Settled::Done(Outcome::Value(_)) => false,
