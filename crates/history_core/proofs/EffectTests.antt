@@ -11,8 +11,7 @@ use Rattle.core_model.specs.Events.{can_finish, can_end_plain, can_end_snapshot}
 use Rattle.rw_locks.specs.LockView.{holds_alone}
 use Rattle.cell_table.specs.Table.{cell_in}
 use Rattle.unit_table.specs.KnownUnits.{KnownUnit}
-use Rattle.unit_table.specs.Table.{known_in, first_in, past_in, phase_in, plain_in, kids_in, outcome_known}
-use Rattle.unit_table.specs.declared.table.UnitTable.{UnitTable}
+use Rattle.unit_table.specs.Table.{known_in, first_in, past_in, phase_in, kids_in, outcome_known}
 use Rattle.unit_table.proofs.RunningUnits.{running-late, later-kept}
 use Rattle.history_core.specs.declared.parts.Parts.{Parts}
 use Rattle.history_core.specs.Effects.{answered_in, outcome_kept, is_of_call_in, finishes_as, ends_as_plain, ends_as_snapshot}
@@ -39,8 +38,8 @@ answered-same f g (k ∷ ks) [] same = refl
 kids-kept : (p : Parts) (w : CoreState) (u k : UnitNo) → PartsStand p w → IsCoreReached w → is_running (phase_in p.units u) ≡ true → Member k (kids_in p.units u) → past_in p.units k ≡ None
 kids-kept p w u k s r runs kid =
     let first : first_in p.units ≤ u.0 = running-late p.units u runs in
-    let younger : u.0 < k.0 = younger w r u k (subst (λ (us : Units). Member k (us.kids u)) (sym s.units) kid) in
-    later-kept p.units k (omega (arith, first, younger))
+    let behind : u.0 < k.0 = younger w r u k (subst (λ (us : Units). Member k (us.kids u)) (sym s.units) kid) in
+    later-kept p.units k (omega (arith, first, behind))
 
 -- so their outcomes are
 kids-known : (p : Parts) (w : CoreState) (u : UnitNo) (os : List Outcome) → PartsStand p w → IsCoreReached w → is_running (phase_in p.units u) ≡ true →
