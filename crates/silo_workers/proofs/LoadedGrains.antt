@@ -14,8 +14,8 @@ use Rattle.core_access.specs.OneHolder.{answered, opened, own_sight}
 use Rattle.core_access.specs.SettlerEvents.{is_settling}
 use Rattle.promise_spec.specs.UnitRule.{Basis}
 use Rattle.worker_rules.specs.SharedHistories.{NoneLoads, is_load}
-use Rattle.worker_rules.proofs.CallPromises.{settling-loads}
 use Rattle.worker_rules.proofs.Workers.{work-loads}
+use Rattle.txn_agent.proofs.StepPromises.{settling-loads}
 use Rattle.run_books.specs.declared.faults.RunFault.{RunFault}
 use Rattle.run_books.specs.Stages.{Side}
 use Rattle.run_books.proofs.Fronts.{after-is, events_told}
