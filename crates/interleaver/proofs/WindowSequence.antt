@@ -15,13 +15,12 @@ use Rattle.promise_spec.specs.Windows.{window_lines}
 use Rattle.promise_spec.specs.TurnRule.{at_seam, picks_used}
 use Rattle.promise_spec.specs.UnitRule.{KeepsUnitRule}
 use Rattle.turn_rules.proofs.LegalRuns.{legal-run}
-use Rattle.turn_rules.proofs.Windows.{units-on, few-lines, turns-on}
 use Rattle.run_lines.specs.LineReadings.{lines_from_texts}
 use Rattle.run_books.specs.Beginnings.{Outset, IsOutset, CanTurn, GoUpFrom, basis_of, with_more}
 use Rattle.run_books.specs.Books.{Books}
 use Rattle.run_books.specs.Records.{HasCarriedAll}
 use Rattle.run_books.specs.Stages.{Stage}
-use Rattle.run_books.proofs.MoreLines.{books-more}
+use Rattle.run_books.proofs.MoreLines.{begun-lines, record-more, rule-more}
 use Rattle.interleaver.specs.Turns.{IsFreshRecord, KeepsTurns, LinesMayBegin, StandsBehind}
 use Rattle.interleaver.proofs.RunContinuation.{can-again, fresh-again}
 use Rattle.interleaver.proofs.RunningTurns.{turns-record}
@@ -72,17 +71,14 @@ inner-seams true start all seam most n lo hi = elim (cases_Bool (eqb (n % 4096) 
 module _ (tells : Bool) (o : Outset) (b : Books) (s : Stage) (kept : KeepsTurns tells o b s) where
   -- the record of the windows so far is that of these and the next
   pub turns-more : (more : List (List ℕ)) → at_seam o.windowed (length o.asked) ≡ true → KeepsTurns tells (with_more o more) b s
-  turns-more more seam = record {
-    above = kept.above;
-    units = units-on (basis_of o) more s.run kept.units;
-    turns = λ ruled. turns-on (basis_of o) more o.windowed o.width o.picks s.run kept.units seam (kept.turns ruled);
-    books = books-more o more tells b s kept.books;
-  }
+  turns-more more seam =
+      let k = record-more o more tells b s (turns-record kept) in
+      record { above = k.above; units = k.units; turns = λ ruled. rule-more o more s.run kept.units seam (kept.turns ruled); books = k.books }
 
   -- where all lines so far are carried, all have begun
   all-begun : HasCarriedAll o s → (ends s.run).units.lines ≡ length o.asked
   all-begun all =
-      let few = few-lines (basis_of o) s.run kept.units in
+      let few = begun-lines o s.run kept.units in
       let most = no-less (length o.asked) (omega arith) in
       omega (arith, few, most)
     where

@@ -1,5 +1,4 @@
 ghost use Rattle.std.specs.Prelude.{◌≡◌, ◌<◌, ◌≤◌, ℕ, Bool, true, List, [], length};
-ghost use Rattle.host_trait.specs.World.{World};
 ghost use Rattle.request_wire.specs.declared.requests.Line.{Line as ALine};
 ghost use Rattle.core_model.specs.LegalRuns.{Run, ends};
 ghost use Rattle.script_tree.specs.Programs.{ProgramTree};
@@ -8,11 +7,9 @@ ghost use Rattle.promise_spec.specs.UnitRule.{KeepsUnitRule};
 ghost use Rattle.promise_spec.specs.Windows.{window_lines};
 ghost use Rattle.turn_rules.specs.NextEvent.{movers_in};
 ghost use Rattle.settle_loop.specs.declared.settler.Settler.{Settler as ASettler};
-ghost use Rattle.batch_disk.specs.declared.writer.BatchWriter.{BatchWriter as AWriter};
 ghost use Rattle.run_lines.specs.LineReadings.{lines_from_texts};
 ghost use Rattle.run_books.specs.Beginnings.{Outset, CanTurn, GoUpFrom, basis_of, with_more};
 ghost use Rattle.run_books.specs.Books.{Books};
-ghost use Rattle.run_books.specs.Images.{LastsSo};
 ghost use Rattle.run_books.specs.Records.{KeepsRecord, HasCarriedAll};
 ghost use Rattle.interleaver.specs.Turns.{IsFreshRecord, KeepsTurns, LinesMayBegin, StandsBehind};
 ghost use Rattle.run_books.specs.Stages.{Stage};
@@ -33,8 +30,7 @@ pub fn who_has_carried_all_can_go_on()
 {}
 
 /// Window after window: where all lines so far were carried the run stands behind them, and there the lines of the next window may begin,
-/// over an outset with these behind those so far. The record of the windows so far is that of these and the next, and so is what the
-/// images keep.
+/// over an outset with these behind those so far. The record of the windows so far is that of these and the next.
 pub fn windows_follow()
     ensures ends { (tells : Bool) (o : Outset) (b : Books) (used : ℕ) (s : Stage) → KeepsTurns tells o b s → HasCarriedAll o s → b.rest ≡ []
         → (o.ruled ≡ true → picks_used s.run (length s.run.events) ≡ used) → StandsBehind tells o b used s }
@@ -43,6 +39,4 @@ pub fn windows_follow()
         → LinesMayBegin tells (with_more o more) b types (lines_from_texts types (length o.asked) more) o.width o.picks used s }
     ensures record_kept { (tells : Bool) (o : Outset) (b : Books) (s : Stage) (more : List (List ℕ)) → KeepsTurns tells o b s
         → at_seam o.windowed (length o.asked) ≡ true → KeepsTurns tells (with_more o more) b s }
-    ensures lasts { (o : Outset) (head : List ℕ) (b : Books) (r : Run) (writer : AWriter) (now : World) (more : List (List ℕ)) → LastsSo o head b r writer now
-        → LastsSo (with_more o more) head b r writer now }
 {}

@@ -1,17 +1,32 @@
--- The record of a run, and what its images keep, read no line that is asked; and the unit rule is kept over more of them.
-use Rattle.std.specs.Prelude.{◌≡◌, false, ℕ, Bool, IsTrue, List}
+-- The record of a run, and what its images keep, over more lines than were asked so far.
+use Rattle.std.proofs.Common.{◌≡◌, ◌≤◌, ◌++◌, ℕ, Bool, true, false, true≢false, List, length, sym, eqb-true}
 use Rattle.host_trait.specs.World.{World, Disk}
 use Rattle.host_trait.specs.declared.channels.Channel.{Channel}
-use Rattle.core_model.specs.LegalRuns.{Run}
+use Rattle.core_model.specs.LegalRuns.{Run, ends}
 use Rattle.batch_disk.specs.declared.writer.BatchWriter.{BatchWriter}
-use Rattle.turn_rules.proofs.Windows.{units-on}
+use Rattle.promise_spec.specs.TurnRule.{KeepsTurnRule, at_seam}
+use Rattle.promise_spec.specs.UnitRule.{KeepsUnitRule}
+use Rattle.promise_laws.proofs.WindowSeams.{few, turns-on, units-on}
 use Rattle.run_books.specs.Beginnings.{Outset, basis_of, with_more}
 use Rattle.run_books.specs.Books.{Books}
 use Rattle.run_books.specs.Images.{KeepsFolder, LastsSo}
-use Rattle.run_books.specs.Records.{CountsCalls, ShowsOutside, KeepsBooks, KeepsRecord, HasDoubted}
+use Rattle.run_books.specs.Records.{ShowsOutside, KeepsBooks, KeepsRecord}
 use Rattle.run_books.specs.Stages.{Stage}
 
+-- no more lines have begun than are asked
+pub begun-lines : (o : Outset) (r : Run) → KeepsUnitRule (basis_of o) r → (ends r).units.lines ≤ length o.asked
+begun-lines o r units = few (basis_of o) r units
+
 module _ (o : Outset) (more : List (List ℕ)) where
+  -- the turn rule of whole windows is that of these and more
+  pub rule-more : (r : Run) → KeepsUnitRule (basis_of o) r → at_seam o.windowed (length o.asked) ≡ true → KeepsTurnRule o.program.types o.windowed (length o.asked) o.width o.picks r
+      → KeepsTurnRule o.program.types o.windowed (length (o.asked ++ more)) o.width o.picks r
+  rule-more r units seam turns = by o.windowed seam turns
+    where
+      by : (w : Bool) → at_seam w (length o.asked) ≡ true → KeepsTurnRule o.program.types w (length o.asked) o.width o.picks r → KeepsTurnRule o.program.types w (length (o.asked ++ more)) o.width o.picks r
+      by false q k = absurd (true≢false (sym q))
+      by true q k = turns-on (basis_of o) more o.width o.picks r units (eqb-true _ _ q) k
+
   -- what is shown outside
   outside-more : (b : Books) (r : Run) (counts : Channel → ℕ) (now : World) → ShowsOutside o b r counts now → ShowsOutside (with_more o more) b r counts now
   outside-more b r counts now shown = record {

@@ -1,4 +1,3 @@
-use Rattle.run_books.proofs.MoreLines.{lasts-more}
 use Rattle.interleaver.proofs.WindowSequence.{turns-more, window-begins, window-ends}
 use Rattle.interleaver.proofs.laws.windows_follow.Goals as goal
 
@@ -10,6 +9,3 @@ returns-clause-begins c = λ tells o b used s types more stands seam most types_
 
 pub returns-clause-record_kept : goal.returns-clause-record_kept
 returns-clause-record_kept c = λ tells o b s more kept seam. turns-more tells o b s kept more seam
-
-pub returns-clause-lasts : goal.returns-clause-lasts
-returns-clause-lasts c = λ o head b r writer now more was. lasts-more o more head b r writer now was
