@@ -1,6 +1,5 @@
 -- Window after window: where one was carried the next begins, and the record of those so far is that of all of them.
 use Rattle.std.proofs.Common.{◌≡◌, ℕ, zero, suc, ◌+◌, ◌<◌, ◌≤◌, ◌%◌, Some, List, [], ◌∷◌, ◌++◌, length, length-append, Bool, true, false, true≢false, inl, inr, refl, sym, ap, ◌∙◌, subst, arith, eqb, eqb-true, slice_get}
-use Rattle.std.specs.Prelude.{⊤}
 use Rattle.std.proofs.lemmas.Bool.{cases_Bool}
 use Rattle.request_wire.specs.declared.requests.Line.{Line}
 use Rattle.request_wire.specs.Names.{names_in}
@@ -15,7 +14,7 @@ use Rattle.promise_spec.specs.Windows.{window_lines}
 use Rattle.promise_spec.specs.TurnRule.{at_seam, picks_used}
 use Rattle.promise_spec.specs.UnitRule.{KeepsUnitRule}
 use Rattle.turn_rules.proofs.LegalRuns.{legal-run}
-use Rattle.run_lines.specs.LineReadings.{lines_from_texts}
+use Rattle.run_lines.specs.LineReadings.{line_from_text, lines_from_texts}
 use Rattle.run_books.specs.Beginnings.{Outset, IsOutset, CanTurn, GoUpFrom, basis_of, with_more}
 use Rattle.run_books.specs.Books.{Books}
 use Rattle.run_books.specs.Records.{HasCarriedAll}
@@ -41,22 +40,23 @@ as-many types n (text ∷ texts) = ap suc (as-many types (n + 1) texts)
 reads-text : (types : ProgramTree) (n : ℕ) (texts : List (List ℕ)) (at : ℕ) (line : Line) → slice_get (lines_from_texts types n texts) at ≡ Some line
     → (text : List ℕ) × (slice_get texts at ≡ Some text) × (call_of (names_in types) text ≡ line.what)
 reads-text types n [] at line is = absurd (cc is)
-reads-text types n (text ∷ texts) zero line is = (text, refl, some-same _ line is)
+reads-text types n (text ∷ texts) zero line is = (text, refl, some-same (line_from_text types (n + 1) text) line is)
   where
     some-same : (a b : Line) → Some a ≡ Some b → a.what ≡ b.what
     some-same a b e = ap (λ (x : Line). x.what) (let same : a ≡ b = cc e in same)
 reads-text types n (text ∷ texts) (suc at) line is = reads-text types (n + 1) texts at line is
 
 -- what stands in a list stands so far behind another
-behind : {A : Type 0} (xs ys : List A) (at : ℕ) (y : A) → slice_get ys at ≡ Some y → slice_get (xs ++ ys) (length xs + at) ≡ Some y
-behind [] ys at y there = there
-behind (x ∷ xs) ys at y there = behind xs ys at y there
+behind : {A : Type 0} (xs ys : List A) (at i : ℕ) (y : A) → i ≡ length xs + at → slice_get ys at ≡ Some y → slice_get (xs ++ ys) i ≡ Some y
+behind [] ys at i y q there = subst (λ (k : ℕ). slice_get ys k ≡ Some y) (let same : at ≡ i = omega (arith, q) in same) there
+behind (x ∷ xs) ys at zero y q there = absurd (omega (arith, q))
+behind (x ∷ xs) ys at (suc i) y q there = behind xs ys at i y (omega (arith, q)) there
 
 reads-behind : (types : ProgramTree) (before texts : List (List ℕ)) (at : ℕ) (line : Line) → slice_get (lines_from_texts types (length before) texts) at ≡ Some line
     → ReadsLineAs types (before ++ texts) (length before + at + 1) line.what
 reads-behind types before texts at line is =
     let k = reads-text types (length before) texts at line is in
-    record { index = length before + at; text = k.0; number = refl; there = behind before texts at k.0 k.1; reads = k.2 }
+    record { index = length before + at; text = k.0; number = refl; there = behind before texts at (length before + at) k.0 refl k.1; reads = k.2 }
 
 -- ---- windows
 
@@ -65,7 +65,7 @@ inner-seams : (windowed : Bool) (start all : ℕ) → at_seam windowed start ≡
 inner-seams false start all seam most n lo hi = refl
 inner-seams true start all seam most n lo hi = elim (cases_Bool (eqb (n % 4096) 0)) [
   | inr fails ↦ fails
-  | inl holds ↦ absurd (let q : n % 4096 ≡ 0 = eqb-true _ _ holds in let z : start % 4096 ≡ 0 = eqb-true _ _ seam in omega (arith, q, z, lo, hi, most))
+  | inl holds ↦ absurd (let q : n % 4096 ≡ 0 = eqb-true _ _ holds in let z : start % 4096 ≡ 0 = eqb-true _ _ seam in let few : all ≤ start + 4096 = most in omega (arith, q, z, lo, hi, few))
 ]
 
 module _ (tells : Bool) (o : Outset) (b : Books) (s : Stage) (kept : KeepsTurns tells o b s) where
@@ -79,7 +79,7 @@ module _ (tells : Bool) (o : Outset) (b : Books) (s : Stage) (kept : KeepsTurns 
   all-begun : HasCarriedAll o s → (ends s.run).units.lines ≡ length o.asked
   all-begun all =
       let few = begun-lines o s.run kept.units in
-      let most = no-less (length o.asked) (omega arith) in
+      let most : length o.asked ≤ (ends s.run).units.lines = no-less (length o.asked) (omega arith) in
       omega (arith, few, most)
     where
       no-less : (n : ℕ) → n ≤ length o.asked → n ≤ (ends s.run).units.lines
@@ -118,7 +118,7 @@ window-begins tells o b used s types more stands seam most types-are kinds wide 
         picks_are = refl;
         all = omega (arith, at, many, both);
         reads = λ i line there. subst (λ (n : ℕ). ReadsLineAs types (o.asked ++ more) (n + i + 1) line.what) at (reads-behind types o.asked more i line there);
-        inner = λ n lo hi. inner-seams o.windowed (length o.asked) (length (o.asked ++ more)) seam (omega (arith, both, most)) n (omega (arith, at, lo)) hi;
+        inner = λ n lo hi. inner-seams o.windowed (length o.asked) (length (o.asked ++ more)) seam (let few : length more ≤ 4096 = most in omega (arith, both, few)) n (omega (arith, at, lo)) hi;
       };
       can = record {
         quiet = stands.can.quiet;
