@@ -46,12 +46,12 @@ outset-stays o types r r' lines width picks kinds same is = record {
 
 -- the loop where it stands, by its parts
 pub loop-into : (o : Outset) (r r' : Run) (us us' : List UnitNo) (used used' : ℕ) → r' ≡ r → us' ≡ us → used' ≡ used
-    → IsTurning (record { basis = basis_of o; ruled = o.ruled; windowed = o.windowed; width = o.width; picks = o.picks; run = r; units = us; used = used })
-    → IsTurning (record { basis = basis_of o; ruled = o.ruled; windowed = o.windowed; width = o.width; picks = o.picks; run = r'; units = us'; used = used' })
+    → IsTurning (record { basis = basis_of o; windowed = o.windowed; ruled = o.ruled; width = o.width; picks = o.picks; run = r; units = us; used = used })
+    → IsTurning (record { basis = basis_of o; windowed = o.windowed; ruled = o.ruled; width = o.width; picks = o.picks; run = r'; units = us'; used = used' })
 loop-into o r r' us us' used used' q p n t =
-    subst (λ (x : Run). IsTurning (record { basis = basis_of o; ruled = o.ruled; windowed = o.windowed; width = o.width; picks = o.picks; run = x; units = us'; used = used' })) (sym q)
-    (subst (λ (v : List UnitNo). IsTurning (record { basis = basis_of o; ruled = o.ruled; windowed = o.windowed; width = o.width; picks = o.picks; run = r; units = v; used = used' })) (sym p)
-    (subst (λ (k : ℕ). IsTurning (record { basis = basis_of o; ruled = o.ruled; windowed = o.windowed; width = o.width; picks = o.picks; run = r; units = us; used = k })) (sym n) t))
+    subst (λ (x : Run). IsTurning (record { basis = basis_of o; windowed = o.windowed; ruled = o.ruled; width = o.width; picks = o.picks; run = x; units = us'; used = used' })) (sym q)
+    (subst (λ (v : List UnitNo). IsTurning (record { basis = basis_of o; windowed = o.windowed; ruled = o.ruled; width = o.width; picks = o.picks; run = r; units = v; used = used' })) (sym p)
+    (subst (λ (k : ℕ). IsTurning (record { basis = basis_of o; windowed = o.windowed; ruled = o.ruled; width = o.width; picks = o.picks; run = r; units = us; used = k })) (sym n) t))
 
 module _ (tells : Bool) (o : Outset) (lines : List Line) (b : Books) (s s' : TurnStage) (way : IsUnderWay tells o o.program.types lines o.width o.picks b s) where
   abbrev l : TurnLoop

@@ -197,9 +197,9 @@ module _ (keeps : OthersKeep) (tells : Bool) (o : Outset) (lines : List Line) (b
     where
       into : (us : List UnitNo) → units_carried s'.agents ≡ us → IsTurning (turned l g.e us (s.used + 1)) → IsTurning (loop_at o s'.at.run s'.agents s'.used)
       into us q t =
-          subst (λ (x : Run). IsTurning (record { basis = basis_of o; ruled = o.ruled; windowed = o.windowed; width = o.width; picks = o.picks; run = x; units = units_carried s'.agents; used = s'.used })) (sym g.run)
-          (subst (λ (v : List UnitNo). IsTurning (record { basis = basis_of o; ruled = o.ruled; windowed = o.windowed; width = o.width; picks = o.picks; run = with_event s.at.run g.e; units = v; used = s'.used })) (sym q)
-          (subst (λ (n : ℕ). IsTurning (record { basis = basis_of o; ruled = o.ruled; windowed = o.windowed; width = o.width; picks = o.picks; run = with_event s.at.run g.e; units = us; used = n })) (sym used) t))
+          subst (λ (x : Run). IsTurning (record { basis = basis_of o; windowed = o.windowed; ruled = o.ruled; width = o.width; picks = o.picks; run = x; units = units_carried s'.agents; used = s'.used })) (sym g.run)
+          (subst (λ (v : List UnitNo). IsTurning (record { basis = basis_of o; windowed = o.windowed; ruled = o.ruled; width = o.width; picks = o.picks; run = with_event s.at.run g.e; units = v; used = s'.used })) (sym q)
+          (subst (λ (n : ℕ). IsTurning (record { basis = basis_of o; windowed = o.windowed; ruled = o.ruled; width = o.width; picks = o.picks; run = with_event s.at.run g.e; units = us; used = n })) (sym used) t))
 
       by : ((is_begin g.e ≡ false) × (units_carried s'.agents ≡ units_carried s.agents)) ⊎ ((index : ℕ) × (depth : ℕ) × (call : Call) × (g.e ≡ event.Begin (Child u index depth) call false) × (units_carried s'.agents ≡ units_carried s.agents ++ (new_unit (ends s.at.run) ∷ [])))
           → IsTurning (loop_at o s'.at.run s'.agents s'.used)
