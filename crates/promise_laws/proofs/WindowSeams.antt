@@ -1,5 +1,5 @@
 -- A run of which whole windows were carried, with the next window's lines: it keeps the rules over these too.
-use Rattle.std.proofs.Common.{◌≡◌, ◌⊎◌, inl, inr, ℕ, zero, suc, ◌+◌, ◌%◌, ◌<◌, ◌≤◌, Bool, true, false, true≢false, List, [], ◌∷◌, ◌++◌, length, length-append, Option, Some, None, refl, sym, ap, subst, ◌∙◌, arith, eqb, eq-eqb}
+use Rattle.std.proofs.Common.{◌≡◌, ◌⊎◌, inl, inr, ℕ, zero, suc, ◌+◌, ◌<◌, ◌≤◌, Bool, true, false, true≢false, List, [], ◌∷◌, ◌++◌, length, length-append, Option, Some, None, refl, sym, ap, subst, ◌∙◌, arith}
 use Rattle.std.specs.Prelude.{◌&&◌, ◌||◌, not, slice_get, nat_lt, take, is_none, get_or, Result}
 use Rattle.std.proofs.lemmas.Bool.{ltb-true, lt-ltb, cases_lt}
 use Rattle.base_types.specs.declared.calls.Call.{Call}
@@ -13,7 +13,6 @@ use Rattle.core_model.specs.LegalRuns.{Run, begins, ends}
 use Rattle.script_tree.specs.Programs.{ProgramTree}
 use Rattle.promise_spec.specs.Cores.{AppliesAt, state_before}
 use Rattle.promise_spec.specs.UnitAnswers.{Got, got_from}
-use Rattle.promise_spec.specs.Windows.{window_lines}
 use Rattle.promise_spec.specs.Lines.{ReadsLineAs}
 use Rattle.promise_spec.specs.UnitRule.{Basis, IsDue, KeepsUnitRule}
 use Rattle.promise_spec.specs.TurnRule.{Mover, OfLine, OfUnit, OfSettler, IsTurn, KeepsTurnRule, at_seam, is_nobody, line_can_begin, in_flight, movers, mover_of, picked, picks_used}
@@ -73,8 +72,8 @@ units-on s more r keeps at e a = due-on s more (state_before r at) (got_from (be
 
 -- ---- no more lines begin than there are
 
-pub few : (s : Basis) (r : Run) → KeepsUnitRule s r → (ends r).units.lines ≤ length s.lines
-few s r keeps = subst (λ (w : CoreState). w.units.lines ≤ length s.lines) (ends_alike r)
+pub few-lines : (s : Basis) (r : Run) → KeepsUnitRule s r → (ends r).units.lines ≤ length s.lines
+few-lines s r keeps = subst (λ (w : CoreState). w.units.lines ≤ length s.lines) (ends_alike r)
     (rule-run s.types s.lines r.base (applied_run r).events (begins (applied_run r)) (all_said s r keeps) (rule-begins s.types s.lines (applied_run r))).1
 
 -- a first part of the run
@@ -89,7 +88,7 @@ front-keeps s r n keeps at e a =
     (keeps at e (record { there = p.0; applied = subst (λ (l : List CoreEvent). applies (run (begins r) l) e ≡ true) same a.applied }))
 
 few-before : (s : Basis) (r : Run) (n : ℕ) → KeepsUnitRule s r → (state_before r n).units.lines ≤ length s.lines
-few-before s r n keeps = few s (front_of r n) (front-keeps s r n keeps)
+few-before s r n keeps = few-lines s (front_of r n) (front-keeps s r n keeps)
 
 -- ---- the turn rule over more lines
 
@@ -118,7 +117,7 @@ some-there ms pick m p = elim (which (is_nobody ms)) [
   | inl none ↦ absurd (none-picked ms pick m p none)
 ]
 
-module _ (width lines more : ℕ) (r : Run) (whole : lines % window_lines ≡ 0) (le : lines ≤ more) (w : CoreState) (ms : List Mover) where
+module _ (windowed : Bool) (width lines more : ℕ) (r : Run) (whole : at_seam windowed lines ≡ true) (le : lines ≤ more) (w : CoreState) (ms : List Mover) where
   abbrev calm : Bool
   calm = is_none w.manager.doubt
 
@@ -126,10 +125,10 @@ module _ (width lines more : ℕ) (r : Run) (whole : lines % window_lines ≡ 0)
   placed = nat_lt (in_flight r w) width
 
   abbrev opened : Bool
-  opened = not (at_seam true w.units.lines) || is_nobody ms
+  opened = not (at_seam windowed w.units.lines) || is_nobody ms
 
   -- where a line could begin it can
-  still-can : line_can_begin true width lines r w ms ≡ true → line_can_begin true width more r w ms ≡ true
+  still-can : line_can_begin windowed width lines r w ms ≡ true → line_can_begin windowed width more r w ms ≡ true
   still-can c =
       let rest = and-right calm _ c in
       let last = and-right placed _ rest in
@@ -137,13 +136,13 @@ module _ (width lines more : ℕ) (r : Run) (whole : lines % window_lines ≡ 0)
       both calm _ (and-left calm _ c) (both placed _ (and-left placed _ rest) (both (nat_lt w.units.lines more) opened (lt-ltb _ _ (omega (arith, lt, le))) (and-right (nat_lt w.units.lines lines) opened last)))
 
   -- where somebody moved none can, also behind the last line of the windows so far
-  still-cannot : w.units.lines ≤ lines → is_nobody ms ≡ false → line_can_begin true width lines r w ms ≡ false → line_can_begin true width more r w ms ≡ false
-  still-cannot most some c = elim (which (line_can_begin true width more r w ms)) [
+  still-cannot : w.units.lines ≤ lines → is_nobody ms ≡ false → line_can_begin windowed width lines r w ms ≡ false → line_can_begin windowed width more r w ms ≡ false
+  still-cannot most some c = elim (which (line_can_begin windowed width more r w ms)) [
     | inr fails ↦ fails
     | inl holds ↦ absurd (clash holds)
   ]
     where
-      clash : line_can_begin true width more r w ms ≡ true → ⊥
+      clash : line_can_begin windowed width more r w ms ≡ true → ⊥
       clash d =
           let rest = and-right calm _ d in
           let last = and-right placed _ rest in
@@ -152,19 +151,19 @@ module _ (width lines more : ℕ) (r : Run) (whole : lines % window_lines ≡ 0)
             | inl lt ↦ true≢false (sym (both calm _ (and-left calm _ d) (both placed _ (and-left placed _ rest) (both (nat_lt w.units.lines lines) opened (lt-ltb _ _ lt) open_))) ∙ c)
             | inr ge ↦ (
                 let at_end : w.units.lines ≡ lines = omega (arith, most, ge) in
-                let seam : eqb (w.units.lines % window_lines) 0 ≡ true = eq-eqb _ _ (ap (λ (n : ℕ). n % window_lines) at_end ∙ whole) in
+                let seam : at_seam windowed w.units.lines ≡ true = ap (at_seam windowed) at_end ∙ whole in
                 true≢false (sym (subst (λ (b : Bool). (not b || is_nobody ms) ≡ true) seam open_) ∙ some))
           ]
 
-  turn-on : (pick : ℕ) (e : CoreEvent) (m : Mover) → w.units.lines ≤ lines → IsTurn (line_can_begin true width lines r w ms) (picked ms pick) w e m → IsTurn (line_can_begin true width more r w ms) (picked ms pick) w e m
+  turn-on : (pick : ℕ) (e : CoreEvent) (m : Mover) → w.units.lines ≤ lines → IsTurn (line_can_begin windowed width lines r w ms) (picked ms pick) w e m → IsTurn (line_can_begin windowed width more r w ms) (picked ms pick) w e m
   turn-on pick e OfLine most t = still-can t
   turn-on pick e (OfUnit u) most t = (still-cannot most (some-there ms pick (OfUnit u) t.1) t.0, t.1)
   turn-on pick e OfSettler most t = (still-cannot most (some-there ms pick OfSettler t.1) t.0, t.1, t.2)
 
-pub turns-on : (s : Basis) (more : List (List ℕ)) (width : ℕ) (picks : List ℕ) (r : Run) → KeepsUnitRule s r → length s.lines % window_lines ≡ 0 → KeepsTurnRule s.types true (length s.lines) width picks r
-    → KeepsTurnRule s.types true (length (with_lines s more).lines) width picks r
-turns-on s more width picks r units whole keeps at e a =
-    turn-on width (length s.lines) (length (s.lines ++ more)) r whole (let q = length-append s.lines more in omega (arith, q)) (state_before r at)
+pub turns-on : (s : Basis) (more : List (List ℕ)) (windowed : Bool) (width : ℕ) (picks : List ℕ) (r : Run) → KeepsUnitRule s r → at_seam windowed (length s.lines) ≡ true → KeepsTurnRule s.types windowed (length s.lines) width picks r
+    → KeepsTurnRule s.types windowed (length (s.lines ++ more)) width picks r
+turns-on s more windowed width picks r units whole keeps at e a =
+    turn-on windowed width (length s.lines) (length (s.lines ++ more)) r whole (let q = length-append s.lines more in omega (arith, q)) (state_before r at)
     (movers s.types r (state_before r at) (got_from (begins r) (take at r.events))) (get_or picks (picks_used r at) 0) e (mover_of e) (few-before s r at units) (keeps at e a)
 
 -- ---- without windows
