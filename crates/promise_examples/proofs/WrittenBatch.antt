@@ -408,7 +408,7 @@ ends = record {
   given = refl;
   risen = tt;
   carried = tt;
-  read = whole_read account_program batched batch_course refl refl refl few_begun (λ none. absurd (cc none)) (λ all. all);
+  read = whole_read account_program batched batch_course refl refl refl few_begun (λ none. absurd (let zero : 2 ≡ 0 = none in omega (arith, zero))) (λ all. all);
   answered = λ is. answered;
   syncs = λ calm is. ap (λ (n : ℕ). batched.old.syncs + n) (sym four_syncs);
   most = (let few : most_syncs_of (core_run account_program batch_course) ≡ 4 = four_most in omega (arith, few));

@@ -305,7 +305,7 @@ ends = record {
   given = refl;
   risen = manager_fails.rose;
   carried = tt;
-  read = whole_read account_program unbegun unbegun_course refl refl refl few_begun (λ none. absurd (cc none)) (λ all. inl all);
+  read = whole_read account_program unbegun unbegun_course refl refl refl few_begun (λ none. absurd (let zero : 2 ≡ 0 = none in omega (arith, zero))) (λ all. inl all);
   answered = λ is. absurd is;
   syncs = λ calm is. absurd (not_calm calm);
   most = (let few : most_syncs_of (core_run account_program unbegun_course) ≡ 4 = four_most in omega (arith, few));
