@@ -22,7 +22,7 @@ use std::sync::Wait;
 use std::thread::Threads;
 
 /// Carries all lines on the calling thread, so many in flight and by these picks, and hands the core back where all is carried and
-/// written.
+/// written. `used` tells how many picks calls before used, and goes on by those of this call where it hands the core back.
 pub(crate) fn carry_in_turns<H: Host, G: Gate, L: Lines + Copy>(
     alloc: Global,
     checked: &Checked,
@@ -33,6 +33,7 @@ pub(crate) fn carry_in_turns<H: Host, G: Gate, L: Lines + Copy>(
     gate: &G,
     width: u32,
     picks: &List<u32>,
+    used: &mut usize,
 ) -> Result<Core, RunFault>
     requires legal { IsLegalRun (own_sight (run_of core)).first }
     requires loads { NoneLoads (own_sight (run_of core)).mine }
@@ -44,9 +45,8 @@ pub(crate) fn carry_in_turns<H: Host, G: Gate, L: Lines + Copy>(
 {
     let mut core = core;
     let mut lines = lines;
-    let mut used = 0;
     match run_turns(
-        alloc, checked, &mut core, settler, &mut lines, host, gate, width, picks, &mut used,
+        alloc, checked, &mut core, settler, &mut lines, host, gate, width, picks, used,
     ) {
         Ok(()) => return Ok(core),
         Err(fault) => return Err(fault),

@@ -179,6 +179,7 @@ pub(crate) fn load_in_turns<H: Host, G: Gate>(
         mut settler,
     } = started;
     let placed = ListLines::new(&lines);
+    let mut used = 0;
     let ended = carry_in_turns(
         alloc,
         &checked,
@@ -189,6 +190,7 @@ pub(crate) fn load_in_turns<H: Host, G: Gate>(
         gate,
         width,
         picks,
+        &mut used,
     );
     end_load(alloc, slot, ended, requests, host)
 }
