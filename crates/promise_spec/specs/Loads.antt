@@ -123,15 +123,16 @@ summary_text r c =
 
 -- ---- the promise
 
--- How a load ends: it reads no input; a fault is shown by its count; it is done, or fails to write its summary, only where
+-- How a load ends: it reads no input, and all its lines may begin; a fault is shown by its count; it is done, or fails to write its summary, only where
 -- each line has its entry and no batch is in doubt; and where no count rises, and none stands at its last value, it goes
 -- through, at width 1 without nested units with no abort, and asks for so many syncs. However it ends it asks for no more than
 -- so many.
 pub record HasLoaded (p : Program) (r : Observed) (c : Course) : Type 0 where
   pub unread : r.new.input ≡ r.old.input
-  pub carried : ending.IsBegun r.ending
+  pub carried : ending.IsLoadCarried r.ending
+  pub allowed : c.allowed ≡ length (lines r)
   pub risen : ending.HasRisen r.ending r.faults_before r.faults_after
-  pub done : (r.ending ≡ ending.Done) ⊎ (r.ending ≡ ending.WriteFault) → IsAnswered r c
+  pub done : (r.ending ≡ ending.Done) ⊎ (r.ending ≡ ending.WriteFault) → IsAnswered c
   pub undoubted : r.ending ≡ ending.WriteFault → RunHasDoubt (core_run p c) → ⊥
   pub complete : NoneRose r.faults_before r.faults_after → GoesThrough r c
   pub alone : r.manner.threaded ≡ false → r.manner.width ≡ 1 → HasNoChild p c → (e : Entry) → Member e c.entries → IsNoLock e.what
@@ -197,7 +198,8 @@ pub record LoadsFrom (n seed : ℕ) (r : Observed) : Type 0 where
   pub has : HasMade r made
   pub carried : IsUnopened (from_there r made) ⊎ ((c : Course) × ((program_in_force c).text ≡ bank_text) × KeepsLoad (program_in_force c) n seed (from_there r made) c)
 
--- What `load` promises, carried in the manner of its words: it makes no silo, or makes one and carries its lines in it.
+-- What `load` promises, carried in the manner of its words, without windows: it makes no silo, or makes one and carries its lines in it.
 pub record Loads (n seed : ℕ) (m : Manner) (r : Observed) : Type 0 where
   pub manner : r.manner ≡ m
+  pub windowed : r.windowed ≡ false
   pub answers : IsUnmade r ⊎ LoadsFrom n seed r
