@@ -11,7 +11,7 @@ use Rattle.core_model.specs.LegalRuns.{Run}
 use Rattle.history_core.specs.Cores.{run_of}
 use Rattle.promise_spec.specs.Entries.{new_log}
 use Rattle.promise_spec.specs.Endings as ending
-use Rattle.promise_spec.specs.Endings.{Ending, HasRisen, HasFailedAs, IsBegun, BadUse, ReadFault, WriteFault as Unwritten}
+use Rattle.promise_spec.specs.Endings.{Ending, HasRisen, HasFailedAs, IsLoadCarried, BadUse, ReadFault, WriteFault as Unwritten}
 use Rattle.settle_loop.specs.declared.settler.Settler.{Settler}
 use Rattle.run_books.specs.declared.faults.RunFault.{RunFault}
 use Rattle.run_books.specs.declared.faults.RunFault.TheVariants.{InDoubt, WriteFault, Memory}
@@ -33,7 +33,7 @@ use Rattle.silo_top.proofs.WholeLoads.{load_risen}
 use Rattle.run_books.specs.Stages.{stage_by}
 
 -- a load whose turns ended by a fault names it, and nothing of the input or the output failed
-faulted_answers : (live : ℕ) (fault : RunFault) (old new : Channel → ℕ) → HasRisen (load_ending live fault) old new → new Input ≡ old Input → new Output ≡ old Output → AnswersRun (load_ending live fault) old new
+faulted_answers : (live : ℕ) (fault : RunFault) (old new : Channel → ℕ) → HasRisen (load_ending live fault) old new → new Input ≡ old Input → new Output ≡ old Output → AnswersRun IsLoadCarried (load_ending live fault) old new
 faulted_answers live fault old new risen pulled calm = record {
   good = good fault;
   risen = risen;
@@ -47,25 +47,25 @@ faulted_answers live fault old new risen pulled calm = record {
     good WriteFault t = cc t
     good Memory t = cc t
 
-    begun : (f : RunFault) → IsBegun (load_ending live f)
+    begun : (f : RunFault) → IsLoadCarried (load_ending live f)
     begun InDoubt = tt
     begun WriteFault = tt
     begun Memory = tt
 
 -- so it is over every host
-pub turns_faulted : {T : Type 0} (tells : Bool) (m : Manner) (x : Opened) (st : Started) (texts : List (List ℕ)) (lines : List Line) (w1 w2 : World) (f1 f2 : Channel → ℕ) (result : Result T RunFault) (r' : Run) (s' : Settler)
+pub turns_faulted : {T : Type 0} (tells : Bool) (m : Manner) (x : Opened) (st : Started) (texts : List (List ℕ)) (lines : List Line) (w1 w2 : World) (f1 f2 : Channel → ℕ) (result : Result T RunFault) (r' : Run) (s' : Settler) (used : ℕ)
     → IsStartOf x st → st.settler.quiet ≡ true → 0 < m.width → 0 < x.next_unit.0 → AreReadFrom (program_tree x.checked) 0 texts lines
-    → CarriesOn tells m (program_tree x.checked) lines (stage_by (run_of st.core) st.settler f1 w1) (stage_by r' s' f2 w2) result
-    → TurnsBeside tells (stage_by (run_of st.core) st.settler f1 w1) (stage_by r' s' f2 w2) result → (fault : RunFault) → result ≡ Err fault → AnswersRun (load_ending x.slot fault) f1 f2
-turns_faulted {T} tells m x st texts lines w1 w2 f1 f2 result r' s' start hush wide above are carries beside fault q =
-    let o : Outset = record { live = x.slot; program = record { text = []; types = program_tree x.checked }; asked = texts; opening = new_log (record { text = []; types = program_tree x.checked }); ruled = not m.threaded; width = m.width; picks = m.picks; faults = f1; world = w1 } in
-    let goes : CarriedOn {T = T} tells m o no_books (stage_by (run_of st.core) st.settler f1 w1) (stage_by r' s' f2 w2) result =
+    → CarriesOn tells m (program_tree x.checked) lines 0 used (stage_by (run_of st.core) st.settler f1 w1) (stage_by r' s' f2 w2) result
+    → TurnsBeside tells (stage_by (run_of st.core) st.settler f1 w1) (stage_by r' s' f2 w2) result → (fault : RunFault) → result ≡ Err fault → AnswersRun IsLoadCarried (load_ending x.slot fault) f1 f2
+turns_faulted {T} tells m x st texts lines w1 w2 f1 f2 result r' s' used start hush wide above are carries beside fault q =
+    let o : Outset = record { live = x.slot; program = record { text = []; types = program_tree x.checked }; asked = texts; opening = new_log (record { text = []; types = program_tree x.checked }); ruled = not m.threaded; windowed = false; width = m.width; picks = m.picks; faults = f1; world = w1 } in
+    let goes : CarriedOn {T = T} tells m o no_books used (stage_by (run_of st.core) st.settler f1 w1) (stage_by r' s' f2 w2) result =
     carries o no_books (start_fresh tells m x st texts lines w1 w1 f1 f1 start (λ told. still_none w1) (λ c. omega arith) wide above are) in
     let ended : TurnsEndAs o goes.on.books (stage_by r' s' f2 w2) {T = T} (Err fault) = subst (TurnsEndAs o goes.on.books (stage_by r' s' f2 w2)) q goes.on.ended in
     faulted_answers x.slot fault f1 f2 (load_risen T o goes.on.books r' s' f2 w2 fault ended) beside.pulled (beside.calm hush)
 
 -- where the summary was to be printed
-pub summary_answers : (e : Ending) (old mid new : Channel → ℕ) → MaySaySummary e → HasFailedAs e mid new → mid Input ≡ old Input → mid Output ≡ old Output → AnswersRun e old new
+pub summary_answers : (e : Ending) (old mid new : Channel → ℕ) → MaySaySummary e → HasFailedAs e mid new → mid Input ≡ old Input → mid Output ≡ old Output → AnswersRun IsLoadCarried e old new
 summary_answers e old mid new may failed pulled calm =
     record {
       good = good_by e may;
@@ -95,7 +95,7 @@ summary_answers e old mid new may failed pulled calm =
     good_by y (inr (inl q)) t = (let z : Unwritten ≡ BadUse = sym q ∙ t in cc z)
     good_by y (inr (inr q)) t = (let z : ending.Memory ≡ BadUse = sym q ∙ t in cc z)
 
-    begun_by : (y : Ending) → MaySaySummary y → IsBegun y
-    begun_by y (inl q) = subst IsBegun (sym q) tt
-    begun_by y (inr (inl q)) = subst IsBegun (sym q) tt
-    begun_by y (inr (inr q)) = subst IsBegun (sym q) tt
+    begun_by : (y : Ending) → MaySaySummary y → IsLoadCarried y
+    begun_by y (inl q) = subst IsLoadCarried (sym q) tt
+    begun_by y (inr (inl q)) = subst IsLoadCarried (sym q) tt
+    begun_by y (inr (inr q)) = subst IsLoadCarried (sym q) tt

@@ -15,4 +15,4 @@ use Rattle.silo_top.proofs.ShownCalls.{observed_call}
 pub reported : {A : Type 0} (Obeys : Observed → Type 0) (m : Manner) (asked : List (List ℕ)) (old new : World) (before after : Channel → ℕ) (result : Result A ReportFault) (status : Status) → status_ending status ≡ report_ending result
     → Obeys (reported_as m asked old new before after result) → Obeys (observed_call m asked old new before after status)
 reported Obeys m asked old new before after result status is obeys =
-    subst (λ (e : Ending). Obeys (record { manner = m; asked = asked; old = old; new = new; faults_before = before; faults_after = after; ending = e })) (sym is) obeys
+    subst (λ (e : Ending). Obeys (record { manner = m; asked = asked; windowed = false; old = old; new = new; faults_before = before; faults_after = after; ending = e })) (sym is) obeys

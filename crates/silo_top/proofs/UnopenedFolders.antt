@@ -1,5 +1,5 @@
 -- A folder that wasn't opened.
-use Rattle.std.proofs.Common.{◌≡◌, inl, inr, ℕ, List, refl, sym, ap, subst, arith}
+use Rattle.std.proofs.Common.{◌≡◌, inl, inr, true, ℕ, List, refl, sym, ap, subst, arith}
 use Rattle.host_trait.specs.declared.channels.Channel.{Channel}
 use Rattle.host_trait.specs.declared.channels.FileId.{FileId}
 use Rattle.host_trait.specs.declared.channels.FileId.TheVariants.{Manager}
@@ -56,13 +56,13 @@ asked_untouched live old new run = record {
     ]
 
 -- a run that didn't open its folder keeps its promise
-pub unopened_promised : (m : Manner) (r : Observed) → r.manner ≡ m → IsUnopened r → Promises m r
-unopened_promised m r is u = record { manner = is; answers = inl u; over_whole = λ whole. inl u }
+pub unopened_promised : (m : Manner) (r : Observed) → r.manner ≡ m → r.windowed ≡ true → IsUnopened r → Promises m r
+unopened_promised m r is cut u = record { manner = is; windowed = cut; answers = inl u; over_whole = λ whole. inl u }
 
 -- so does one whose opening answered a fault
 pub refused_promised : (m : Manner) (old new : World) (before after : Channel → ℕ) (e : OpenFault) (status : Status) → status_ending status ≡ ending_of e → RunsOnFile (Manager 0) Stays 1 old new
     → IsRefusedBy (seen_in old.disk) (opened_as (seen_in old.disk)) (ending_of e) → OpenFaulted e before after → Promises m (observed_run m old new before after status)
-refused_promised m old new before after e status is run refused faulted = unopened_promised m (observed_run m old new before after status) refl (record {
+refused_promised m old new before after e status is run refused faulted = unopened_promised m (observed_run m old new before after status) refl refl (record {
   untouched = asked_untouched 0 old new run;
   unread = run.input;
   syncs = run.syncs;
@@ -89,8 +89,14 @@ starved_unopened m asked w counts = record {
   failed = λ channel. refl;
 }
 
-pub starved_promised : (m : Manner) (asked : List (List ℕ)) (w : World) (counts : Channel → ℕ) → Promises m (observed_call m asked w w counts counts Status.Memory)
-starved_promised m asked w counts = unopened_promised m (observed_call m asked w w counts counts Status.Memory) refl (starved_unopened m asked w counts)
+pub starved_promised : (m : Manner) (w : World) (counts : Channel → ℕ) → Promises m (observed_run m w w counts counts Status.Memory)
+starved_promised m w counts = unopened_promised m (observed_run m w w counts counts Status.Memory) refl refl (record {
+  untouched = nothing_touched w;
+  unread = refl;
+  syncs = omega arith;
+  refused = tt;
+  failed = λ channel. refl;
+})
 
 pub starved_made : (m : Manner) (asked : List (List ℕ)) (w : World) (counts : Channel → ℕ) → MakesSilo (observed_call m asked w w counts counts Status.Memory)
 starved_made m asked w counts = record {

@@ -1,14 +1,12 @@
-ghost use Rattle.std.specs.Prelude.{◌≡◌, ◌<◌, ◌≤◌, ℕ, IsTrue, IfOk, IfErr, List};
+ghost use Rattle.std.specs.Prelude.{◌≡◌, ◌<◌, ◌≤◌, IsTrue, IfOk};
 ghost use Rattle.host_trait.specs.Files.{StaysReady};
-ghost use Rattle.host_trait.specs.World.{World};
-ghost use Rattle.host_trait.specs.declared.channels.Channel.{Channel};
-ghost use Rattle.input_windows.specs.Windows.{given_in};
+ghost use Rattle.input_windows.specs.Given.{input_ending};
 ghost use Rattle.input_windows.specs.Pulls.{PulledOnly};
-ghost use Rattle.promise_spec.specs.Words as command;
+ghost use Rattle.input_windows.specs.Windows.{given_in};
 ghost use Rattle.silo_top.specs.CallAnswers.{turns_manner, workers_manner};
-ghost use Rattle.silo_top.specs.InputReads.{InputFaulted, WindowComes, input_ending};
+ghost use Rattle.silo_top.specs.InputReads.{InputFaulted, WindowComes};
 ghost use Rattle.silo_top.specs.RunBehindOpening.{ending_by_turns};
-ghost use Rattle.silo_top.specs.RunWindows.{IsUnderWay, GoesOnOrEnds};
+ghost use Rattle.silo_top.specs.RunWindows.{GoesOn, GoesToItsEnd};
 ghost use Rattle.silo_top.specs.Continuation.{CanCarry};
 ghost use Rattle.silo_top.specs.Statuses.{status_ending};
 
@@ -75,7 +73,7 @@ fn next_window<H: Host>(windows: &mut InputWindows, host: &mut H) -> Result<(), 
 }
 
 /// Carries the lines of the next window on one thread. Where none comes, or a fault ends the run, the error is its status.
-pub(crate) fn window_in_turns<H: Host, G: Gate>(
+fn window_in_turns<H: Host, G: Gate>(
     alloc: Global,
     running: Running,
     host: &mut H,
@@ -85,7 +83,7 @@ pub(crate) fn window_in_turns<H: Host, G: Gate>(
 ) -> Result<Running, Status>
     requires wide { 0 < width }
     requires can { CanCarry H.tells running.started (H.world host.old) }
-    ensures goes { GoesOnOrEnds H.tells (turns_manner width picks.now) running (H.faults host.old) (H.world host.old)
+    ensures goes { GoesOn H.tells (turns_manner width picks.now) running (H.faults host.old) (H.world host.old)
         result (H.faults host.new) (H.world host.new) }
     ensures can { IfOk result (λ run. CanCarry H.tells run.started (H.world host.new)) }
     ensures further { IfOk result (λ run. given_in running.windows < given_in run.windows) }
@@ -131,7 +129,7 @@ pub(crate) fn window_in_turns<H: Host, G: Gate>(
 }
 
 /// Carries the lines of the next window by so many workers. Where none comes, or a fault ends the run, the error is its status.
-pub(crate) fn window_by_workers<R: Threads + Wait + Sync, H: Host, G: Gate + Sync>(
+fn window_by_workers<R: Threads + Wait + Sync, H: Host, G: Gate + Sync>(
     rt: &R,
     alloc: Global,
     running: Running,
@@ -141,7 +139,7 @@ pub(crate) fn window_by_workers<R: Threads + Wait + Sync, H: Host, G: Gate + Syn
 ) -> Result<Running, Status>
     requires few { workers ≤ 16 }
     requires can { CanCarry H.tells running.started (H.world host.old) }
-    ensures goes { GoesOnOrEnds H.tells workers_manner running (H.faults host.old) (H.world host.old)
+    ensures goes { GoesOn H.tells workers_manner running (H.faults host.old) (H.world host.old)
         result (H.faults host.new) (H.world host.new) }
     ensures can { IfOk result (λ run. CanCarry H.tells run.started (H.world host.new)) }
     ensures further { IfOk result (λ run. given_in running.windows < given_in run.windows) }
@@ -182,5 +180,53 @@ pub(crate) fn window_by_workers<R: Threads + Wait + Sync, H: Host, G: Gate + Syn
             used,
         }),
         Err(fault) => Err(fault_status(slot, fault)),
+    }
+}
+
+/// Carries the lines of all windows on one thread, and tells how the run ends.
+pub(crate) fn windows_in_turns<H: Host, G: Gate>(
+    alloc: Global,
+    running: Running,
+    host: &mut H,
+    gate: &G,
+    width: u32,
+    picks: &List<u32>,
+) -> Status
+    requires wide { 0 < width }
+    requires can { CanCarry H.tells running.started (H.world host.old) }
+    ensures ends { GoesToItsEnd H.tells (turns_manner width picks.now) running (H.faults host.old) (H.world host.old)
+        result (H.faults host.new) (H.world host.new) }
+    ensures ready { StaysReady (H.is_ready host.old) (H.is_ready host.new) }
+{
+    let mut running = running;
+    loop {
+        match window_in_turns(alloc, running, host, gate, width, picks) {
+            Ok(further) => running = further,
+            Err(status) => return status,
+        }
+    }
+}
+
+/// Carries the lines of all windows by so many workers, and tells how the run ends.
+pub(crate) fn windows_by_workers<R: Threads + Wait + Sync, H: Host, G: Gate + Sync>(
+    rt: &R,
+    alloc: Global,
+    running: Running,
+    host: &mut H,
+    gate: &G,
+    workers: u32,
+) -> Status
+    requires few { workers ≤ 16 }
+    requires can { CanCarry H.tells running.started (H.world host.old) }
+    ensures ends { GoesToItsEnd H.tells workers_manner running (H.faults host.old) (H.world host.old)
+        result (H.faults host.new) (H.world host.new) }
+    ensures ready { StaysReady (H.is_ready host.old) (H.is_ready host.new) }
+{
+    let mut running = running;
+    loop {
+        match window_by_workers(rt, alloc, running, host, gate, workers) {
+            Ok(further) => running = further,
+            Err(status) => return status,
+        }
     }
 }

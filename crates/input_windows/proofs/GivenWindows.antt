@@ -1,0 +1,197 @@
+-- What is given of an input, window by window.
+use Rattle.std.proofs.Common.{◌≡◌, ℕ, zero, suc, ◌+◌, ◌*◌, ◌/◌, ◌%◌, ◌<◌, ◌≤◌, ◌==◌, Bool, true, false, IsTrue, if◌then◌else◌, List, [], ◌∷◌, ◌++◌, length, take, Option, Some, None, refl, sym, ap, subst, ◌∙◌, arith, append-nil, append_assoc, length-append, take_all}
+use Rattle.std.proofs.Math.Seq.{take-append_seam}
+use Rattle.std.proofs.lemmas.List.Sums.{sum_by-append}
+use Rattle.host_trait.specs.World.{World}
+use Rattle.request_wire.specs.Lines.{lines_of}
+use Rattle.promise_spec.specs.Endings as ending
+use Rattle.promise_spec.specs.Windows.{feeds, is_bad, first_bad, before_bad, in_windows, before_first, told_number, whole_windows}
+use Rattle.input_windows.specs.Lines.{IsFull}
+use Rattle.input_windows.specs.Pulls.{Took}
+use Rattle.input_windows.specs.Scans.{HasBadLine, HasNoEnd}
+use Rattle.input_windows.specs.declared.windows.InputWindows.{InputWindows}
+use Rattle.input_windows.specs.declared.windows.WindowFault.{WindowFault}
+use Rattle.input_windows.specs.Windows.{window_in, left_in, before_in, given_in, is_last_in, input_behind, HasEnded, EndsBy, GaveWindow, GaveEnd, Refused}
+use Rattle.input_windows.specs.Given.{AreWhole, GivenTo, HasGiven, HasNext, IsAll, IsGood, HasBad, EndsAs, InputEnds, input_ending}
+use Rattle.input_windows.proofs.Cuts.{bad_behind, fed_lines}
+use Rattle.input_windows.proofs.Following.{full_seam, before_is}
+
+-- ---- counts
+
+pub feeds_append : (xs ys : List ℕ) → feeds (xs ++ ys) ≡ feeds xs + feeds ys
+feeds_append xs ys = sum_by-append (λ (b : ℕ). if b == 10 then 1 else 0) xs ys
+
+-- behind whole windows the windows of what follows are added
+windows_on : (lines more : ℕ) → lines % 4096 ≡ 0 → more < 4096 → in_windows (lines + more) ≡ lines
+windows_on lines more whole few = omega (arith, whole, few)
+
+windows_most : (lines more : ℕ) → lines % 4096 ≡ 0 → lines ≤ in_windows (lines + more)
+windows_most lines more whole = omega (arith, whole)
+
+-- the first bad line comes behind those before
+bad_above : (before n : ℕ) (lines : List (List ℕ)) → first_bad before lines ≡ Some n → before < n
+bad_above before n [] e = absurd cc
+bad_above before n (line ∷ lines) e = by (is_bad (before + 1) line) e
+  where
+    some_same : (a b : ℕ) → Some a ≡ Some b → a ≡ b
+    some_same a b q = cc q
+
+    by : (bad : Bool) → (if bad then Some (before + 1) else first_bad (before + 1) lines) ≡ Some n → before < n
+    by true q = let s = some_same (before + 1) n q in omega (arith, s)
+    by false q = let s = bad_above (before + 1) n lines q in omega (arith, s)
+
+-- ---- at the begin
+
+pub given_none : (tells : Bool) (w : InputWindows) (now : World) → left_in w ≡ [] → given_in w ≡ 0 → is_last_in w ≡ false → HasGiven tells now.input [] w now
+given_none tells w now none zero_is first = record {
+  given = [];
+  whole = λ told. ap (λ (l : List ℕ). l ++ now.input) (sym none);
+  lines = refl;
+  good = refl;
+  count = zero_is;
+  ends = subst (λ (last : Bool). GivenTo last tells [] [] w now) (sym first) (record { fed = refl; seam = refl; later = λ more. refl });
+}
+
+-- ---- with what is pulled
+
+module _ (tells : Bool) (input : List ℕ) (asked : List (List ℕ)) (w w' : InputWindows) (old new : World) (g : HasGiven tells input asked w old) where
+  -- what was left and what was pulled, cut otherwise
+  cut_again : (a b : List ℕ) → Took tells old new (left_in w) (a ++ b) → IsTrue tells → input ≡ (g.given ++ a) ++ (b ++ new.input)
+  cut_again a b took told =
+      g.whole told
+      ∙ ap (λ (l : List ℕ). g.given ++ l)
+      (ap (λ (l : List ℕ). left_in w ++ l) (took.input told) ∙ sym (append_assoc (left_in w) took.bytes new.input) ∙ ap (λ (l : List ℕ). l ++ new.input) (sym took.stand) ∙ append_assoc a b new.input)
+      ∙ sym (append_assoc g.given a (b ++ new.input))
+
+  module _ (are : AreWhole g.given asked) where
+    -- the given lines are the first
+    front : (rest : List ℕ) → input ≡ g.given ++ rest → take (length asked) (lines_of input) ≡ asked
+    front rest is = ap (λ (l : List ℕ). take (length asked) (lines_of l)) is ∙ ap (take (length asked)) (are.later rest) ∙ take-append_seam asked (lines_of rest)
+
+    bad_on : (more : List ℕ) → first_bad 0 (lines_of (g.given ++ more)) ≡ first_bad (length asked) (lines_of more)
+    bad_on more = ap (first_bad 0) (are.later more) ∙ bad_behind 0 asked (lines_of more) g.good
+
+    -- ---- a window came
+
+    module _ (took : Took tells old new (left_in w) (window_in w' ++ left_in w')) (before : before_in w' ≡ given_in w) (lines : given_in w' ≡ before_in w' + length (lines_of (window_in w'))) where
+      given_further : GaveWindow tells w' new → HasGiven tells input (asked ++ lines_of (window_in w')) w' new
+      given_further gave = record {
+        given = g.given ++ window_in w';
+        whole = λ told. cut_again (window_in w') (left_in w') took told;
+        lines = are.later (window_in w');
+        good = bad_behind 0 asked (lines_of (window_in w')) g.good ∙ ap (λ (n : ℕ). first_bad n (lines_of (window_in w'))) (sym (before ∙ g.count)) ∙ gave.good;
+        count = (let l = length-append asked (lines_of (window_in w')) in let c = g.count in omega (arith, lines, before, l, c));
+        ends = by (is_last_in w') gave.ends;
+      }
+        where
+          by : (last : Bool) → EndsBy last tells w' new → GivenTo last tells (g.given ++ window_in w') (asked ++ lines_of (window_in w')) w' new
+          by true ends = ends
+          by false full =
+              let l = length-append asked (lines_of (window_in w')) in
+              let c = full.count in
+              let seam = are.seam in
+              let fed = are.fed in
+              let f = feeds_append g.given (window_in w') in
+              let all = full_fed full in
+              record {
+                fed = omega (arith, f, fed, all, l);
+                seam = omega (arith, l, c, seam);
+                later = λ more.
+                    ap lines_of (append_assoc g.given (window_in w') more) ∙ are.later (window_in w' ++ more) ∙ ap (λ (x : List (List ℕ)). asked ++ x) (full_seam (window_in w') more full)
+                    ∙ sym (append_assoc asked (lines_of (window_in w')) (lines_of more));
+              }
+            where
+              full_fed : IsFull (window_in w') → feeds (window_in w') ≡ length (lines_of (window_in w'))
+              full_fed full = ap feeds full.last ∙ fed_lines full.front ∙ ap (λ (x : List ℕ). length (lines_of x)) (sym full.last)
+
+      pub gives_next : GaveWindow tells w' new → HasNext tells input asked w' new
+      gives_next gave = record {
+        given = given_further gave;
+        before = before ∙ g.count;
+        seam = are.seam;
+        some = gave.some;
+        most = gave.most;
+      }
+
+    -- ---- none came
+
+    -- at the end of the input
+    pub gives_end : Took tells old new (left_in w) (window_in w' ++ left_in w') → GaveEnd tells w' new → InputEnds tells input asked ending.Done new
+    gives_end took gave =
+        let is : IsTrue tells → input ≡ g.given ++ new.input = (λ told. cut_again (window_in w') (left_in w') took told
+        ∙ ap (λ (l : List ℕ). l ++ (left_in w' ++ new.input)) (ap (λ (l : List ℕ). g.given ++ l) gave.window ∙ append-nil g.given) ∙ ap (λ (l : List ℕ). g.given ++ (l ++ new.input)) gave.ended.left) in
+        record {
+          pulled = g.given;
+          whole = is;
+          front = λ told. front new.input (is told);
+          good = g.good;
+          by = record { input = gave.ended.input; lines = g.lines };
+        }
+
+    -- by a fault
+    pub refuses : (e : WindowFault) → Took tells old new (left_in w) (window_in w' ++ left_in w') → window_in w' ≡ [] → Refused e (given_in w) (left_in w') → InputEnds tells input asked (input_ending e) new
+    refuses e took none refused = record {
+      pulled = g.given ++ left_in w';
+      whole = λ told. is told ∙ sym (append_assoc g.given (left_in w') new.input);
+      front = λ told. front (left_in w' ++ new.input) (is told);
+      good = g.good;
+      by = by e refused;
+    }
+      where
+        is : IsTrue tells → input ≡ g.given ++ (left_in w' ++ new.input)
+        is told = cut_again (window_in w') (left_in w') took told ∙ ap (λ (l : List ℕ). l ++ (left_in w' ++ new.input)) (ap (λ (l : List ℕ). g.given ++ l) none ∙ append-nil g.given)
+
+        no_end : HasNoEnd (given_in w) (left_in w') → IsGood (g.given ++ left_in w') asked
+        no_end n =
+            let good : first_bad 0 (lines_of (g.given ++ left_in w')) ≡ None = bad_on (left_in w') ∙ ap (λ (n : ℕ). first_bad n (lines_of (left_in w'))) (sym g.count) ∙ n.good in
+            let few = n.few in
+            let fed = are.fed in
+            record {
+              good = good;
+              windows = sym (ap (λ (x : Option ℕ). before_first x (feeds (g.given ++ left_in w'))) good ∙ ap in_windows (feeds_append g.given (left_in w') ∙ ap (λ (n : ℕ). n + feeds (left_in w')) fed)
+                  ∙ windows_on (length asked) (feeds (left_in w')) are.seam few);
+            }
+
+        by : (e : WindowFault) → Refused e (given_in w) (left_in w') → EndsAs (input_ending e) tells (g.given ++ left_in w') asked new
+        by WindowFault.Memory r = no_end r
+        by WindowFault.Failed r = no_end r
+        by (WindowFault.TooLong line) r =
+            let count = g.count in
+            let above = r.2 in
+            let within = r.3 in
+            record {
+              number = r.0;
+              bad = λ more. ap (λ (l : List ℕ). first_bad 0 (lines_of l)) (append_assoc g.given (left_in w') more) ∙ bad_on (left_in w' ++ more)
+                  ∙ ap (λ (n : ℕ). first_bad n (lines_of (left_in w' ++ more))) (sym count) ∙ r.1 more;
+              before = sym (before_is (length asked) r.0 are.seam (omega (arith, above, count)) (omega (arith, within, count)));
+              is_told = r.4;
+            }
+
+    -- ---- whole windows stand in what was pulled
+
+    pub whole_within : length asked ≤ whole_windows (g.given ++ left_in w)
+    whole_within = by (first_bad 0 (lines_of (g.given ++ left_in w))) refl
+      where
+        by : (bad : Option ℕ) → first_bad 0 (lines_of (g.given ++ left_in w)) ≡ bad → length asked ≤ before_first bad (feeds (g.given ++ left_in w))
+        by None q =
+            let f = feeds_append g.given (left_in w) in
+            let fed = are.fed in
+            let m = windows_most (length asked) (feeds (left_in w)) are.seam in
+            subst (λ (n : ℕ). length asked ≤ in_windows n) (omega (arith, f, fed)) m
+        by (Some n) q =
+            let above = bad_above (length asked) n (lines_of (left_in w)) (sym (bad_on (left_in w)) ∙ q) in
+            let seam = are.seam in
+            omega (arith, above, seam)
+
+  -- ---- the window was the last
+
+  pub ends_behind : HasEnded tells w old → InputEnds tells input asked ending.Done old
+  ends_behind ended =
+      let is : IsTrue tells → input ≡ g.given ++ old.input = (λ told. g.whole told ∙ ap (λ (l : List ℕ). g.given ++ (l ++ old.input)) ended.left) in
+      record {
+        pulled = g.given;
+        whole = is;
+        front = λ told. ap (λ (l : List ℕ). take (length asked) (lines_of l)) (is told ∙ ap (λ (l : List ℕ). g.given ++ l) (ended.input told) ∙ append-nil g.given) ∙ ap (take (length asked)) g.lines ∙ take_all (length asked) asked (omega arith);
+        good = g.good;
+        by = record { input = ended.input; lines = g.lines };
+      }
