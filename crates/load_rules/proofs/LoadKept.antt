@@ -10,7 +10,7 @@ use Rattle.promise_spec.specs.Programs.{Program}
 use Rattle.promise_spec.specs.Logs.{IsLog}
 use Rattle.promise_spec.specs.Causes.{NoneRose}
 use Rattle.promise_spec.specs.Endings as ending
-use Rattle.promise_spec.specs.Endings.{Ending, HasRisen, IsBegun, IsCalm}
+use Rattle.promise_spec.specs.Endings.{Ending, HasRisen, IsLoadCarried, IsCalm}
 use Rattle.promise_spec.specs.Courses.{Observed, Course, order, moments, core_end}
 use Rattle.promise_spec.specs.Loads.{HasLoaded, KeepsLoad}
 use Rattle.promise_laws.proofs.CalmRuns.{calm_undisturbed}
@@ -24,13 +24,13 @@ last_quiet output before [] same quiet = same
 last_quiet output before (x ∷ early) same quiet = last_quiet output x early (quiet x (inl refl)) (λ m there. quiet m (inr there))
 
 -- where no count rose, no fault ended it
-calm_by : (old new : Channel → ℕ) (e : Ending) → NoneRose old new → IsBegun e → HasRisen e old new → IsCalm e
+calm_by : (old new : Channel → ℕ) (e : Ending) → NoneRose old new → IsLoadCarried e → HasRisen e old new → IsCalm e
 calm_by old new e none begun risen = go e begun risen
   where
     rose : (channel : Channel) → Rose (old channel) (new channel) → ⊥
     rose channel more = (let k = none channel in absurd (omega (arith, more, k.0, k.1)))
 
-    go : (x : Ending) → IsBegun x → HasRisen x old new → IsCalm x
+    go : (x : Ending) → IsLoadCarried x → HasRisen x old new → IsCalm x
     go ending.Done b q = tt
     go ending.BadUse b q = absurd b
     go ending.Memory b q = tt
@@ -66,6 +66,7 @@ module _ (p : Program) (n seed : ℕ) (r : Observed) (c : Course) (mid : World) 
   ended = record {
     unread = s.unread;
     carried = s.carried;
+    allowed = s.allowed;
     risen = s.risen;
     done = s.done;
     undoubted = s.undoubted;

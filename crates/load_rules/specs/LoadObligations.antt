@@ -1,5 +1,5 @@
 -- What a load has to show, so that it keeps its promise: the rest follows.
-use Rattle.std.specs.Prelude.{◌≡◌, ◌≢◌, ◌⊎◌, ◌+◌, ◌≤◌, ℕ, List, [], ◌++◌}
+use Rattle.std.specs.Prelude.{◌≡◌, ◌≢◌, ◌⊎◌, ◌+◌, ◌≤◌, ℕ, List, [], ◌++◌, length}
 use Rattle.core_model.specs.CoreState.{Member}
 use Rattle.host_trait.specs.declared.channels.Channel.{Channel}
 use Rattle.host_trait.specs.World.{World, Moment, Image, IsImage}
@@ -50,9 +50,10 @@ pub record ShowsLoad (p : Program) (n seed : ℕ) (r : Observed) (c : Course) (m
   pub output : Prints (summary_text r c) r
   pub silent : r.ending ≢ ending.Done → r.ending ≢ ending.WriteFault → r.new.output ≡ r.old.output
   pub unread : r.new.input ≡ r.old.input
-  pub carried : ending.IsBegun r.ending
+  pub carried : ending.IsLoadCarried r.ending
+  pub allowed : c.allowed ≡ length (lines r)
   pub risen : ending.HasRisen r.ending r.faults_before r.faults_after
-  pub done : (r.ending ≡ ending.Done) ⊎ (r.ending ≡ ending.WriteFault) → IsAnswered r c
+  pub done : (r.ending ≡ ending.Done) ⊎ (r.ending ≡ ending.WriteFault) → IsAnswered c
   pub undoubted : r.ending ≡ ending.WriteFault → RunHasDoubt (core_run p c) → ⊥
   pub syncs : NoneRose r.faults_before r.faults_after → r.ending ≡ ending.Done → r.new.syncs ≡ r.old.syncs + syncs_of (core_run p c)
   pub most : r.new.syncs ≤ r.old.syncs + most_syncs_of (core_run p c)

@@ -90,7 +90,7 @@ batch_turns = (
   ),
 )
 
-pub batch_turn_rule : KeepsTurnRule accounts 2 2 [] core
+pub batch_turn_rule : KeepsTurnRule accounts true 2 2 [] core
 batch_turn_rule at e is = each_from_0 (TurnAt 2 2 [] core) batch_events at e batch_turns is.there
 
 -- ---- what it leaves

@@ -42,6 +42,7 @@ use Rattle.promise_examples.specs.DepositRuns.{MayHaveDeposit, LeavesOthers, IsB
 use Rattle.promise_spec.proofs.Lists.{none_is}
 use Rattle.promise_spec.proofs.OneLog.{one_log}
 use Rattle.promise_laws.proofs.JournalCrashes.{commits_of-append, chained, longest, holds, whole as all_whole, sound}
+use Rattle.promise_examples.proofs.WholeInputs.{whole_read}
 use Rattle.promise_examples.proofs.FirstDeposit.{five}
 use Rattle.promise_examples.proofs.MomentParts.{at_each, exit_there, all_less}
 use Rattle.promise_examples.proofs.WholeBatches.{no_batch}
@@ -287,10 +288,15 @@ module _ (r : Observed) (opened : Moment) (sealing : List Moment) (run : IsDepos
   unfolding put put_grain
   no_seals = refl
 
-  turns : KeepsTurnRule accounts (length (lines r)) r.manner.width r.manner.picks core
+  turns : KeepsTurnRule accounts r.windowed (length (lines r)) r.manner.width r.manner.picks core
   turns =
-      subst (λ n. KeepsTurnRule accounts n r.manner.width r.manner.picks core) (sym run.one)
-      (subst (λ w. KeepsTurnRule accounts 1 w r.manner.picks core) (sym run.single.1) (subst (λ (picks : List ℕ). KeepsTurnRule accounts 1 1 picks core) (sym run.single.2) one_turn_rule))
+      subst (λ (windowed : Bool). KeepsTurnRule accounts windowed (length (lines r)) r.manner.width r.manner.picks core) (sym run.windowed)
+      (subst (λ n. KeepsTurnRule accounts true n r.manner.width r.manner.picks core) (sym run.one)
+      (subst (λ w. KeepsTurnRule accounts true 1 w r.manner.picks core) (sym run.single.1) (subst (λ (picks : List ℕ). KeepsTurnRule accounts true 1 1 picks core) (sym run.single.2) one_turn_rule)))
+
+  few_begun : (core_end account_program course).units.lines ≡ 1
+  unfolding put put_grain
+  few_begun = refl
 
   written : AreSettled account_program r course
   written = record {
@@ -315,22 +321,21 @@ module _ (r : Observed) (opened : Moment) (sealing : List Moment) (run : IsDepos
     unvoted = λ g m none there. apart m there g (λ same. voted_on g same none);
   }
 
-  begins : ending.IsBegun r.ending
-  begins = subst ending.IsBegun (sym run.ending) tt
-
-  statuses : ending.HasRisen r.ending r.faults_before r.faults_after × ending.IsCarried r.ending × ending.HasLength r.ending (length r.old.input) × ending.IsCalm r.ending
+  statuses : ending.HasRisen r.ending r.faults_before r.faults_after × ending.IsCarried r.ending × ending.IsCalm r.ending
   statuses =
-      subst (λ e. ending.HasRisen e r.faults_before r.faults_after × ending.IsCarried e × ending.HasLength e (length r.old.input) × ending.IsCalm e) (sym run.ending) (tt, tt, run.small, tt)
+      subst (λ e. ending.HasRisen e r.faults_before r.faults_after × ending.IsCarried e × ending.IsCalm e) (sym run.ending) (tt, tt, tt)
 
   ended : HasEnded account_program r course
   ended = record {
     given = run.given;
     risen = statuses.0;
     carried = statuses.1;
-    long = statuses.2;
-    begun = inr (record { ending = begins; input = run.left; short = run.small });
-    done = λ is. record { input = run.left; answered = λ n low high. (first_entry, inl refl, (let one : length (lines r) ≡ 1 = run.one in omega arith)) };
-    complete = λ calm. record { calm = statuses.3; undisturbed = λ e there. only (λ (d : Entry). IsUndisturbed d.what) first_entry e tt there };
+    read =
+        whole_read account_program r course run.left refl run.good (let begun : (core_end account_program course).units.lines ≡ 1 = few_begun in let all : length (lines r) ≡ 1 = run.one in omega arith)
+        (λ none. absurd (let all : length (lines r) ≡ 1 = run.one in omega (arith, all, none)))
+        (λ all. subst (λ (e : ending.Ending). AllowedBy e r.old.input r course.allowed) (sym run.ending) (all));
+    answered = λ is n low high. (first_entry, inl refl, (let one : length (lines r) ≡ 1 = run.one in omega arith));
+    complete = λ calm. record { calm = statuses.2; undisturbed = λ e there. only (λ (d : Entry). IsUndisturbed d.what) first_entry e tt there };
     alone = λ single one none e there. only (λ (d : Entry). IsNoLock d.what) first_entry e tt there;
     syncs = λ calm is. run.syncs ∙ ap (λ (n : ℕ). r.old.syncs + n) (sym four_syncs);
     most = (let n = run.syncs in let few : most_syncs_of core ≡ 4 = four_most in omega (arith, n, few));

@@ -11,17 +11,19 @@ use Rattle.host_trait.specs.declared.channels.Channel.{Channel}
 use Rattle.host_trait.specs.declared.channels.FileId.TheVariants.{Grain}
 use Rattle.request_wire.specs.Lines.{lines_of}
 use Rattle.promise_spec.specs.Programs.{Program}
+use Rattle.promise_spec.specs.Windows.{first_bad}
 use Rattle.promise_spec.specs.Logs.{IsLog}
 use Rattle.promise_spec.specs.Moments.{IsImageOf}
 use Rattle.promise_spec.specs.Causes.{RoseBy}
-use Rattle.promise_spec.specs.Endings.{Done, DiskFault, HasRisen, IsCarried, HasLength, IsCalm}
+use Rattle.promise_spec.specs.Endings.{Ending, Done, DiskFault, HasRisen, IsCarried, IsCalm}
 use Rattle.promise_spec.specs.Crashes.{LeavesAlone}
 use Rattle.promise_spec.specs.Batches.{EndsABatch}
 use Rattle.promise_spec.specs.Courses.{Observed, moments, lines, core_end}
-use Rattle.promise_spec.specs.Promise.{Keeps}
+use Rattle.promise_spec.specs.Promise.{AllowedBy, Keeps}
 use Rattle.promise_spec.proofs.Lists.{none_at}
 use Rattle.promise_spec.proofs.WholeFolders.{whole_if}
 use Rattle.promise_spec.proofs.OneLog.{one_log}
+use Rattle.promise_examples.proofs.WholeInputs.{whole_read}
 use Rattle.promise_examples.proofs.FirstFamily.{no_family}
 use Rattle.promise_examples.proofs.WholeBatches.{no_batch}
 use Rattle.promise_examples.specs.EmptyRuns.{IsEmptyRun, empty_course}
@@ -56,10 +58,8 @@ module _ (p : Program) (r : Observed) (opening : Log) (run : IsEmptyRun p r open
   no_fault : (channel : Channel) → RoseBy 0 (r.faults_before channel) (r.faults_after channel)
   no_fault channel = let same : r.faults_after channel ≡ r.faults_before channel = run.faults channel in omega arith
 
-  ended : HasRisen r.ending r.faults_before r.faults_after × IsCarried r.ending × HasLength r.ending (length r.old.input) × IsCalm r.ending
-  ended =
-      let few : length r.old.input ≤ 16777216 = subst (λ (l : List ℕ). length l ≤ 16777216) (sym run.input) (omega arith) in
-      subst (λ e. HasRisen e r.faults_before r.faults_after × IsCarried e × HasLength e (length r.old.input) × IsCalm e) (sym run.ending) (tt, tt, few, tt)
+  ended : HasRisen r.ending r.faults_before r.faults_after × IsCarried r.ending × IsCalm r.ending
+  ended = subst (λ e. HasRisen e r.faults_before r.faults_after × IsCarried e × IsCalm e) (sym run.ending) (tt, tt, tt)
 
   no_lines : length (lines r) ≡ 0
   no_lines = ap (λ (l : List (List ℕ)). length l) run.given ∙ ap (λ (l : List ℕ). length (lines_of l)) run.input
@@ -144,10 +144,11 @@ module _ (p : Program) (r : Observed) (opening : Log) (run : IsEmptyRun p r open
       given = run.given;
       risen = ended.0;
       carried = ended.1;
-      long = ended.2;
-      begun = inl refl;
-      done = λ is. record { input = run.left; answered = λ n low high. absurd (omega (arith, no_lines)) };
-      complete = λ calm. record { calm = ended.3; undisturbed = λ e none. absurd none };
+      read =
+          whole_read p r (empty_course r opening) run.left (sym no_lines) (ap (first_bad 0) (run.given ∙ ap lines_of run.input)) (omega arith)
+          (λ none. refl) (λ all. subst (λ (e : Ending). AllowedBy e r.old.input r 0) (sym run.ending) all);
+      answered = λ is n low high. absurd (omega (arith, low, high));
+      complete = λ calm. record { calm = ended.2; undisturbed = λ e none. absurd none };
       alone = λ single one none e there. absurd there;
       syncs = λ calm is. run.syncs;
       most = (let n = run.syncs in omega (arith, n));

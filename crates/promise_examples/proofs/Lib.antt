@@ -6,6 +6,7 @@ pub mod MomentParts
 pub mod WholeBatches
 pub mod DepositRules
 pub mod EmptyRun
+pub mod WholeInputs
 pub mod DepositRun
 pub mod EmittedReplies
 pub mod ShownRuns

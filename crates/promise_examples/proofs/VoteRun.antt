@@ -46,6 +46,7 @@ use Rattle.promise_examples.specs.VoteRuns.{IsVoteRun, vote_course}
 use Rattle.promise_spec.proofs.Lists.{none_at, both_parts}
 use Rattle.promise_spec.proofs.OneLog.{one_log}
 use Rattle.promise_laws.proofs.JournalCrashes.{commits_of-append, chained, longest, holds, whole as all_whole, sound}
+use Rattle.promise_examples.proofs.WholeInputs.{whole_read}
 use Rattle.promise_examples.proofs.MomentParts.{at_each, exit_there, all_less}
 use Rattle.promise_examples.proofs.WholeBatches.{no_batch}
 use Rattle.promise_examples.proofs.ShownRuns.{shows}
@@ -308,10 +309,15 @@ module _ (r : Observed) (opened : Moment) (failing told : List Moment) (run : Is
   unfolding put put_grain
   few_emitted = omega arith
 
-  turns : KeepsTurnRule accounts (length (lines r)) r.manner.width r.manner.picks core
+  turns : KeepsTurnRule accounts r.windowed (length (lines r)) r.manner.width r.manner.picks core
   turns =
-      subst (λ n. KeepsTurnRule accounts n r.manner.width r.manner.picks core) (sym run.two)
-      (subst (λ w. KeepsTurnRule accounts 2 w r.manner.picks core) (sym run.pair.1) (subst (λ (picks : List ℕ). KeepsTurnRule accounts 2 2 picks core) (sym run.pair.2) vote_turn_rule))
+      subst (λ (windowed : Bool). KeepsTurnRule accounts windowed (length (lines r)) r.manner.width r.manner.picks core) (sym run.windowed)
+      (subst (λ n. KeepsTurnRule accounts true n r.manner.width r.manner.picks core) (sym run.two)
+      (subst (λ w. KeepsTurnRule accounts true 2 w r.manner.picks core) (sym run.pair.1) (subst (λ (picks : List ℕ). KeepsTurnRule accounts true 2 2 picks core) (sym run.pair.2) vote_turn_rule)))
+
+  few_begun : (core_end account_program course).units.lines ≡ 2
+  unfolding put put_grain
+  few_begun = refl
 
   account_votes : RoseBy (how_many (is_no account_1) core) (r.faults_before (File (Grain 0 account_1))) (r.faults_after (File (Grain 0 account_1)))
   account_votes =
@@ -349,12 +355,9 @@ module _ (r : Observed) (opened : Moment) (failing told : List Moment) (run : Is
     unvoted = λ g m none there. apart m there g (λ same. voted_on g same none);
   }
 
-  begins : ending.IsBegun r.ending
-  begins = subst ending.IsBegun (sym run.ending) tt
-
-  statuses : ending.HasRisen r.ending r.faults_before r.faults_after × ending.IsCarried r.ending × ending.HasLength r.ending (length r.old.input)
+  statuses : ending.HasRisen r.ending r.faults_before r.faults_after × ending.IsCarried r.ending
   statuses =
-      subst (λ e. ending.HasRisen e r.faults_before r.faults_after × ending.IsCarried e × ending.HasLength e (length r.old.input)) (sym run.ending) (tt, tt, run.small)
+      subst (λ e. ending.HasRisen e r.faults_before r.faults_after × ending.IsCarried e) (sym run.ending) (tt, tt)
 
   not_calm : NoneRose r.faults_before r.faults_after → ⊥
   not_calm calm =
@@ -367,9 +370,11 @@ module _ (r : Observed) (opened : Moment) (failing told : List Moment) (run : Is
     given = run.given;
     risen = statuses.0;
     carried = statuses.1;
-    long = statuses.2;
-    begun = inr (record { ending = begins; input = run.left; short = run.small });
-    done = λ is. record { input = run.left; answered = λ n low high. answered n low (let two : length (lines r) ≡ 2 = run.two in omega arith) };
+    read =
+        whole_read account_program r course run.left refl run.good (let begun : (core_end account_program course).units.lines ≡ 2 = few_begun in let all : length (lines r) ≡ 2 = run.two in omega arith)
+        (λ none. absurd (let all : length (lines r) ≡ 2 = run.two in omega (arith, all, none)))
+        (λ all. subst (λ (e : ending.Ending). AllowedBy e r.old.input r course.allowed) (sym run.ending) (all));
+    answered = λ is n low high. answered n low (let two : length (lines r) ≡ 2 = run.two in omega arith);
     complete = λ calm. absurd (not_calm calm);
     alone = λ single one none e there. absurd (let two : r.manner.width ≡ 2 = run.pair.1 in let width : r.manner.width ≡ 1 = one in omega arith);
     syncs = λ calm is. absurd (not_calm calm);

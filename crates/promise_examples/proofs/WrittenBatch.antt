@@ -1,4 +1,5 @@
 -- The run of two deposits in one batch that is written out shows what a run has to show, and so keeps its promise.
+use Rattle.promise_examples.proofs.WholeInputs.{whole_read}
 use Rattle.promise_examples.proofs.AccountLogs.{account_logged}
 use Rattle.std.proofs.Common.{◌≡◌, ◌⊎◌, inl, inr, ℕ, zero, suc, ◌+◌, ◌≤◌, List, [], ◌∷◌, ◌++◌, map, take, slice_index, pos, refl, sym, ◌∙◌, ap, subst, arith, lit<}
 use Rattle.std.specs.Prelude.{FitsSigned}
@@ -398,14 +399,18 @@ answered (suc zero) low high = (first_entry, inl refl, refl)
 answered (suc (suc zero)) low high = (second_entry, inr (inl refl), refl)
 answered (suc (suc (suc n))) low high = absurd (omega arith)
 
+-- both lines have begun
+few_begun : (core_end account_program batch_course).units.lines ≤ 2
+unfolding put put_grain
+few_begun = omega arith
+
 ends : EndsRightly account_program batched batch_course
 ends = record {
   given = refl;
   risen = tt;
   carried = tt;
-  long = omega arith;
-  begun = inr (record { ending = tt; input = refl; short = omega arith });
-  done = λ is. record { input = refl; answered = answered };
+  read = whole_read account_program batched batch_course refl refl refl few_begun (λ none. absurd (cc none)) (λ all. all);
+  answered = λ is. answered;
   syncs = λ calm is. ap (λ (n : ℕ). batched.old.syncs + n) (sym four_syncs);
   most = (let few : most_syncs_of (core_run account_program batch_course) ≡ 4 = four_most in omega (arith, few));
 }

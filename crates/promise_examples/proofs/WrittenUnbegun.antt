@@ -1,5 +1,6 @@
 -- The run that is written out, of a doubt whose gate's write never began, shows what has to be shown, and keeps the promise.
 use Rattle.log_reading.specs.Blocks.{header_damage}
+use Rattle.promise_examples.proofs.WholeInputs.{whole_read}
 use Rattle.promise_examples.proofs.AccountLogs.{account_begins}
 use Rattle.std.proofs.Common.{◌≡◌, ◌≢◌, inl, inr, ℕ, ◌≤◌, List, [], ◌∷◌, ◌++◌, length, take, drop, slice_index, refl, sym, ◌∙◌, ap, subst, arith}
 use Rattle.std.specs.Fmt.{digits}
@@ -293,15 +294,19 @@ leaves = record {
 not_calm : NoneRose unbegun.faults_before unbegun.faults_after → ⊥
 not_calm calm = let same : 1 ≡ 0 = (calm (File manager)).0 in absurd (omega (arith, same))
 
+-- both lines have begun
+few_begun : (core_end account_program unbegun_course).units.lines ≤ 2
+unfolding put put_grain
+few_begun = omega arith
+
 -- how it ended
 ends : EndsRightly account_program unbegun unbegun_course
 ends = record {
   given = refl;
   risen = manager_fails.rose;
   carried = tt;
-  long = omega arith;
-  begun = inr (record { ending = tt; input = refl; short = omega arith });
-  done = λ is. absurd (cc is);
+  read = whole_read account_program unbegun unbegun_course refl refl refl few_begun (λ none. absurd (cc none)) (λ all. inl all);
+  answered = λ is. absurd is;
   syncs = λ calm is. absurd (not_calm calm);
   most = (let few : most_syncs_of (core_run account_program unbegun_course) ≡ 4 = four_most in omega (arith, few));
 }

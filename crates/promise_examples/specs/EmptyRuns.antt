@@ -40,4 +40,4 @@ pub record IsEmptyRun (p : Program) (r : Observed) (opening : Log) : Type 0 wher
 -- the course of such a run: nothing was added, and no event came
 abbrev pub empty_course : Observed → Log → Course
 empty_course r opening =
-    record { live = 0; opening = opening; added = []; early = moment_of r.new ∷ []; late = []; events = []; entries = []; rest = [] }
+    record { live = 0; opening = opening; added = []; early = moment_of r.new ∷ []; late = []; allowed = 0; events = []; entries = []; rest = [] }

@@ -115,12 +115,12 @@ pub fn empty_runs_keep()
 /// one's lock and dies, and the first is left in doubt. With other picks, or at width 1, the second list keeps no turns.
 pub fn deposits_keep_the_rules()
     ensures one_unit { (lines : List (List ℕ)) → IsLineCall accounts lines 1 deposit_call → KeepsUnitRule (account_basis lines) (account_run deposit_events) }
-    ensures one_turn { KeepsTurnRule accounts 1 1 [] (account_run deposit_events) }
+    ensures one_turn { KeepsTurnRule accounts true 1 1 [] (account_run deposit_events) }
     ensures two_unit { (lines : List (List ℕ)) → AskDeposits lines → KeepsUnitRule (account_basis lines) (account_run conflict_events) }
-    ensures two_turn { KeepsTurnRule accounts 2 2 (0 ∷ 1 ∷ 1 ∷ []) (account_run conflict_events) }
+    ensures two_turn { KeepsTurnRule accounts true 2 2 (0 ∷ 1 ∷ 1 ∷ []) (account_run conflict_events) }
     ensures settled { (ends (account_run conflict_events)).manager.settled ≡ conflict_entries }
-    ensures picks { KeepsTurnRule accounts 2 2 [] (account_run conflict_events) → ⊥ }
-    ensures width { KeepsTurnRule accounts 2 1 (0 ∷ 1 ∷ 1 ∷ []) (account_run conflict_events) → ⊥ }
+    ensures picks { KeepsTurnRule accounts true 2 2 [] (account_run conflict_events) → ⊥ }
+    ensures width { KeepsTurnRule accounts true 2 1 (0 ∷ 1 ∷ 1 ∷ []) (account_run conflict_events) → ⊥ }
 {}
 
 /// A run of one deposit keeps all six clauses: it opens an empty log, seals the deposit's record and replies.
@@ -137,7 +137,7 @@ pub fn doubt_runs_keep()
 /// written, so the deposit is aborted for its vote and the read for what it depends on.
 pub fn votes_keep_the_rules()
     ensures unit { (lines : List (List ℕ)) → AskBoth lines → KeepsUnitRule (account_basis lines) (account_run vote_events) }
-    ensures turn { KeepsTurnRule accounts 2 2 [] (account_run vote_events) }
+    ensures turn { KeepsTurnRule accounts true 2 2 [] (account_run vote_events) }
     ensures settled { (ends (account_run vote_events)).manager.settled ≡ vote_entries }
 {}
 

@@ -354,12 +354,18 @@ told-true p r c known are numbered e m (settled.Bad why) t = t
 pub in_settled : (p : Program) (c : Course) → IsPrefix c.entries (core_end p c).manager.settled → (e : Entry) → Member e c.entries → Member e (core_end p c).manager.settled
 in_settled p c front e m = subst (Member e) (sym front.1) (Member-left e c.entries front.0 m)
 
+-- each is of a line that has begun
+pub replies_begun : (p : Program) (r : Observed) (c : Course) → 0 < c.opening.base.next → IsExplained p r c → IsPrefix c.entries (core_end p c).manager.settled → (e : Entry) → Member e c.entries → (1 ≤ e.line) × (e.line ≤ (core_end p c).units.lines)
+replies_begun p r c based is front e m =
+    let t = (known_of p r c based is).once.entry e (in_settled p c front e m) in
+    (omega (arith, t.0), t.1)
+
+-- and so of one that is asked
 pub replies_within : (p : Program) (r : Observed) (c : Course) → 0 < c.opening.base.next → IsExplained p r c → IsPrefix c.entries (core_end p c).manager.settled → (e : Entry) → Member e c.entries → (1 ≤ e.line) × (e.line ≤ length (lines r))
 replies_within p r c based is front e m =
-    let k = known_of p r c based is in
-    let t = k.once.entry e (in_settled p c front e m) in
-    let few = k.rule.1 in
-    (omega (arith, t.0), omega (arith, t.1, few))
+    let t = replies_begun p r c based is front e m in
+    let few = (known_of p r c based is).rule.1 in
+    (t.0, omega (arith, t.1, few))
 
 differ-front : (xs ys : List Entry) → core.DifferInLine (xs ++ ys) → core.DifferInLine xs
 differ-front [] ys d = tt

@@ -27,8 +27,8 @@ use Rattle.core_laws.proofs.EventCases.{Change, bad, begin, lock, raise, refuse,
 use Rattle.script_tree.specs.Programs.{ProgramTree}
 use Rattle.promise_spec.specs.UnitAnswers.{Got, wanted_by, got_in}
 use Rattle.core_model.specs.Settler.{has_step, settler_step}
-use Rattle.promise_spec.specs.TurnRule.{OfUnit, OfSettler, can_move, line_can_begin, in_flight, is_line, is_settled, is_unhindered, units_of, units_from}
-use Rattle.turn_rules.specs.NextEvent.{with_event, is_begin, is_own, movers_in}
+use Rattle.promise_spec.specs.TurnRule.{OfUnit, OfSettler, can_move, in_flight, is_line, is_settled, is_unhindered, units_of, units_from}
+use Rattle.turn_rules.specs.NextEvent.{with_event, is_begin, is_own, movers_in, line_has_place}
 use Rattle.turn_rules.specs.UnitFrame.{IsStill}
 use Rattle.turn_rules.specs.CarriedUnits.{is_live, is_flying, is_kept, AreKept, movers_of, can_begin_by}
 use Rattle.turn_rules.proofs.ListTests.{any-filter, filter-agree, filter-among, filter-stronger, or-left, or-right, some_of}
@@ -61,8 +61,8 @@ flying-kept r units kept =
     sym (length-filter (is_flying (ends r)) (units_of r (ends r)))
     ∙ ap length (filter-stronger (is_flying (ends r)) (is_kept (ends r)) (λ u e. or-right (is_live (ends r) u) (is_flying (ends r) u) e) (units_of r (ends r)) units (sym kept.kept))
 
--- so is whether a line can begin
-pub begins-kept : (width lines : ℕ) (r : Run) (units : List UnitNo) → AreKept r units → line_can_begin width lines r (ends r) ≡ can_begin_by width lines r units
+-- so is whether a line has a place
+pub begins-kept : (width lines : ℕ) (r : Run) (units : List UnitNo) → AreKept r units → line_has_place width lines r ≡ can_begin_by width lines r units
 begins-kept width lines r units kept = ap (λ (n : ℕ). is_none (ends r).manager.doubt && (nat_lt n width && nat_lt (ends r).units.lines lines)) (flying-kept r units kept)
 
 -- units that are no more to be looked at may go

@@ -32,8 +32,8 @@ use Rattle.core_laws.proofs.BatchPrefix.{free-holds, unfree-holds}
 use Rattle.script_tree.specs.Programs.{ProgramTree}
 use Rattle.promise_spec.specs.UnitAnswers.{Got, wanted_by, got_in, kids_got}
 use Rattle.core_model.specs.Settler.{has_step, settler_step}
-use Rattle.promise_spec.specs.TurnRule.{OfSettler, can_move, line_can_begin, in_flight, is_line, is_settled, is_unhindered, units_of}
-use Rattle.turn_rules.specs.NextEvent.{movers_in}
+use Rattle.promise_spec.specs.TurnRule.{OfSettler, can_move, in_flight, is_line, is_settled, is_unhindered, units_of}
+use Rattle.turn_rules.specs.NextEvent.{movers_in, line_has_place}
 use Rattle.turn_rules.specs.RunCounts.{IsCounted, HasEntry}
 use Rattle.turn_rules.specs.QuietRun.{IsQuiet, HasRun}
 use Rattle.turn_rules.proofs.SettlerRest.{Rested, no-doubt-list, no-step, rested}
@@ -194,7 +194,7 @@ module _ (types : ProgramTree) (plays : Effect → Bool) (r : Run) (legal : IsLe
 
 -- Where nobody moves and no line can begin, all is quiet and each line has its entry.
 pub without-mover : (types : ProgramTree) (plays : Effect → Bool) (r : Run) (width count : ℕ) → IsLegal plays r → (ends r).manager.doubt ≡ None → (ends r).units.halt ≡ false → movers_in types r ≡ [] →
-    0 < width → line_can_begin width count r (ends r) ≡ false → HasRun count (ends r)
+    0 < width → line_has_place width count r ≡ false → HasRun count (ends r)
 without-mover types plays r width count legal doubt halt none some over = record { quiet = quiet; answered = answered }
   where
     counted : IsCounted r.base (ends r) (got_in r)

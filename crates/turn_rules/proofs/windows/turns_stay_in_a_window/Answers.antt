@@ -1,0 +1,17 @@
+use Rattle.turn_rules.proofs.Windows.{tests, stays, begins-window, begins-fresh, plain}
+use Rattle.turn_rules.proofs.windows.turns_stay_in_a_window.Goals as goal
+
+pub returns-clause-tests : goal.returns-clause-tests
+returns-clause-tests c = tests
+
+pub returns-clause-stays : goal.returns-clause-stays
+returns-clause-stays c = stays
+
+pub returns-clause-begins : goal.returns-clause-begins
+returns-clause-begins c = begins-window
+
+pub returns-clause-first : goal.returns-clause-first
+returns-clause-first c = begins-fresh
+
+pub returns-clause-plain : goal.returns-clause-plain
+returns-clause-plain c = plain
