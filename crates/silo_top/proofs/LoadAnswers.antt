@@ -28,7 +28,7 @@ use Rattle.silo_top.proofs.ReadLines.{AreReadFrom}
 use Rattle.silo_top.specs.RunStart.{IsStartOf}
 use Rattle.silo_top.proofs.TurnStart.{no_books}
 use Rattle.silo_top.proofs.RunAnswers.{start_fresh}
-use Rattle.silo_top.proofs.InputPieces.{still_none}
+use Rattle.input_windows.proofs.Still.{still_none}
 use Rattle.silo_top.proofs.WholeLoads.{load_risen}
 use Rattle.run_books.specs.Stages.{stage_by}
 

@@ -42,7 +42,7 @@ use Rattle.silo_top.specs.Statuses.{status_ending}
 use Rattle.promise_spec.specs.Words.{Manner}
 use Rattle.silo_top.specs.CallAnswers.{AnswersRun}
 use Rattle.silo_top.specs.LineExecution.{CarriedOn}
-use Rattle.silo_top.specs.InputReads.{PulledOnly}
+use Rattle.input_windows.specs.Pulls.{PulledOnly}
 use Rattle.silo_top.specs.RunBehindOpening.{IsBehindOpening}
 use Rattle.run_books.specs.RecordFrame.{EmitsAs, TurnsBeside}
 use Rattle.silo_top.proofs.ShownCalls.{observed_run}

@@ -20,7 +20,7 @@ use Rattle.settle_loop.specs.declared.settler.Settler.{Settler}
 use Rattle.run_books.specs.Beginnings.{Outset, CanTurn, IsOutset}
 use Rattle.run_books.specs.Books.{Books, IsPutOut}
 use Rattle.interleaver.specs.Turns.{KeepsTurns, IsFreshRecord}
-use Rattle.silo_top.specs.InputReads.{PulledOnly}
+use Rattle.input_windows.specs.Pulls.{PulledOnly}
 use Rattle.silo_top.proofs.InputPieces.{still_file}
 use Rattle.silo_top.proofs.ReadLines.{AreReadFrom, as_many, go_up, read_as}
 use Rattle.run_books.specs.Stages.{stage_by}

@@ -77,7 +77,7 @@ use Rattle.silo_top.proofs.TurnStart.{no_books, starts_kept, starts_quiet, start
 use Rattle.silo_top.proofs.StartImages.{starts_lasting}
 use Rattle.silo_top.proofs.LoadStart.{bank_of, bank_checked, bank_whole, opened_same}
 use Rattle.silo_top.proofs.CoreOpening.{start_is}
-use Rattle.silo_top.proofs.InputPieces.{still_none}
+use Rattle.input_windows.proofs.Still.{still_none}
 use Rattle.silo_top.proofs.UnopenedFolders.{asked_untouched}
 use Rattle.run_books.specs.Stages.{stage_by}
 
