@@ -84,6 +84,7 @@ module _ (tells : Bool) (o : Outset) (types : ProgramTree) (lines : List Line) (
     unit_rule = way.turning.unit_rule;
     unstopped = way.turning.unstopped;
     turn_rule = way.turning.turn_rule;
+    within = way.turning.within;
     kept = record {
       kept = kept-same ∙ way.turning.kept.kept;
       below = λ u m. subst (λ (x : Run). u.0 < (ends x).units.next) (own-run s.at.run) (still.below u m);

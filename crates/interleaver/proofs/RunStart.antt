@@ -1,6 +1,6 @@
 -- Where a run of turns begins.
-use Rattle.std.proofs.Common.{◌≡◌, ◌⊎◌, ℕ, zero, suc, ◌+◌, ◌-◌, ◌≤◌, ◌<◌, List, [], Bool, true, false, true≢false, inl, inr, refl, sym, ap, ◌∙◌, arith}
-use Rattle.std.specs.Prelude.{not, ◌&&◌, ◌||◌}
+use Rattle.std.proofs.Common.{◌≡◌, ◌⊎◌, ℕ, zero, suc, ◌+◌, ◌-◌, ◌≤◌, ◌<◌, Option, None, Some, List, [], ◌∷◌, ◌++◌, map, Bool, true, false, true≢false, inl, inr, refl, sym, ap, ◌∙◌, arith}
+use Rattle.std.specs.Prelude.{not, ◌&&◌, ◌||◌, is_some, filter, if◌then◌else◌}
 use Rattle.std.proofs.lemmas.Bool.{cases_Bool}
 use Rattle.base_types.specs.declared.calls.Origin.{Origin}
 use Rattle.base_types.specs.declared.entries.Entry.{Entry}
@@ -17,18 +17,22 @@ use Rattle.core_model.specs.declared.phases.Phase.TheVariants.{Finished, Refused
 use Rattle.core_model.specs.Tests.{is_free, is_over, is_running}
 use Rattle.core_model.specs.LegalRuns.{Run, ends}
 use Rattle.core_model.specs.Lines.{EntriesAreOnce, IsSettled}
+use Rattle.core_model.specs.Settler.{Step, has_step, settler_step}
 use Rattle.core_laws.proofs.BatchPrefix.{unfree-holds}
 use Rattle.core_laws.proofs.LineEntries.{once-ends}
 use Rattle.script_check.specs.AcceptedPrograms.{IsAcceptedProgram}
 use Rattle.script_tree.specs.Programs.{ProgramTree}
 use Rattle.promise_spec.specs.Cores.{HasBegun}
 use Rattle.promise_spec.specs.UnitRule.{KeepsUnitRule}
-use Rattle.promise_spec.specs.TurnRule.{units_from, is_line, is_settled, units_of}
+use Rattle.promise_spec.specs.UnitAnswers.{got_in}
+use Rattle.promise_spec.specs.TurnRule.{OfUnit, OfSettler, can_move, units_from, is_line, is_settled, units_of}
+use Rattle.turn_rules.specs.NextEvent.{movers_in}
 use Rattle.turn_rules.specs.CarriedUnits.{is_flying, is_kept, AreKept}
 use Rattle.turn_rules.specs.QuietRun.{IsQuiet}
 use Rattle.turn_rules.proofs.RunCounts.{counted-ends}
 use Rattle.turn_rules.proofs.LegalRuns.{legal-run}
 use Rattle.turn_rules.proofs.ListTests.{filter-none}
+use Rattle.turn_rules.proofs.Movers.{movers-kept}
 use Rattle.turn_rules.proofs.Numbers.{units-below}
 use Rattle.settle_loop.specs.declared.settler.Settler.{Settler}
 use Rattle.run_books.specs.Beginnings.{Outset, IsOutset, CanTurn, basis_of}
@@ -96,6 +100,13 @@ module _ (o : Outset) (r : Run) (first : 0 < r.base) (rule : KeepsUnitRule (basi
     below = λ u m. absurd m;
   }
 
+-- where a run can begin, nobody can move
+pub nobody-moves : (types : ProgramTree) (o : Outset) (r : Run) (settler : Settler) (lines : List Line) → 0 < r.base → KeepsUnitRule (basis_of o) r → CanTurn r settler lines → movers_in types r ≡ []
+nobody-moves types o r settler lines above units can =
+    movers-kept types r [] (kept-none o r above units can.quiet)
+    ∙ ap (λ (d : Option ℕ). (if is_some d then [] else map OfUnit (filter (can_move types (ends r) (got_in r)) [])) ++ (if has_step (settler_step (ends r)) then OfSettler ∷ [] else [])) can.going.0
+    ∙ ap (λ (s : Step). if has_step s then OfSettler ∷ [] else []) can.rests
+
 module _ (tells : Bool) (o : Outset) (types : ProgramTree) (lines : List Line) (width : ℕ) (picks : List ℕ) (b : Books) (used : ℕ) (r : Run) (settler : Settler) (counts : Channel → ℕ) (now : World) where
   -- all that holds on the way holds where nobody is carried yet
   pub start : IsOutset o types r lines width picks → CanTurn r settler lines → IsFreshRecord o b used r → KeepsRecord tells o b (stage_by r settler counts now) → IsAcceptedProgram types → HasFewNumbers (ends r)
@@ -111,6 +122,12 @@ module _ (tells : Bool) (o : Outset) (types : ProgramTree) (lines : List Line) (
       unit_rule = k.units;
       unstopped = can.going.1;
       turn_rule = k.turns;
+      within = λ ruled. record {
+        start = (ends r).units.lines;
+        from = omega arith;
+        inner = is.inner;
+        first = λ seam same some. nobody-moves o.program.types o r settler lines k.above k.units can;
+      };
       kept = kept-none o r k.above k.units can.quiet;
       older = tt;
       count = λ ruled. sym (fresh.picks ruled);

@@ -18,7 +18,7 @@ use Rattle.core_access.proofs.OneHolder.{own-run, own-alone}
 use Rattle.core_access.proofs.Sights.{reply-alone, run-alone, looks-alone}
 use Rattle.worker_rules.specs.UnitOwnership.{leaves_unit}
 use Rattle.promise_spec.specs.UnitRule.{KeepsUnitRule}
-use Rattle.promise_spec.specs.TurnRule.{OfUnit, OfSettler, mover_of, can_move, picked, Mover}
+use Rattle.promise_spec.specs.TurnRule.{OfUnit, OfSettler, at_seam, mover_of, can_move, picked, Mover}
 use Rattle.turn_rules.specs.NextEvent.{with_event, is_begin, MayCome}
 use Rattle.turn_rules.specs.CarriedUnits.{movers_of}
 use Rattle.turn_rules.specs.TurnLoop.{IsTurning, IsPicked, turned, with_new, TurnLoop}
@@ -197,9 +197,9 @@ module _ (keeps : OthersKeep) (tells : Bool) (o : Outset) (lines : List Line) (b
     where
       into : (us : List UnitNo) → units_carried s'.agents ≡ us → IsTurning (turned l g.e us (s.used + 1)) → IsTurning (loop_at o s'.at.run s'.agents s'.used)
       into us q t =
-          subst (λ (x : Run). IsTurning (record { basis = basis_of o; ruled = o.ruled; width = o.width; picks = o.picks; run = x; units = units_carried s'.agents; used = s'.used })) (sym g.run)
-          (subst (λ (v : List UnitNo). IsTurning (record { basis = basis_of o; ruled = o.ruled; width = o.width; picks = o.picks; run = with_event s.at.run g.e; units = v; used = s'.used })) (sym q)
-          (subst (λ (n : ℕ). IsTurning (record { basis = basis_of o; ruled = o.ruled; width = o.width; picks = o.picks; run = with_event s.at.run g.e; units = us; used = n })) (sym used) t))
+          subst (λ (x : Run). IsTurning (record { basis = basis_of o; windowed = o.windowed; ruled = o.ruled; width = o.width; picks = o.picks; run = x; units = units_carried s'.agents; used = s'.used })) (sym g.run)
+          (subst (λ (v : List UnitNo). IsTurning (record { basis = basis_of o; windowed = o.windowed; ruled = o.ruled; width = o.width; picks = o.picks; run = with_event s.at.run g.e; units = v; used = s'.used })) (sym q)
+          (subst (λ (n : ℕ). IsTurning (record { basis = basis_of o; windowed = o.windowed; ruled = o.ruled; width = o.width; picks = o.picks; run = with_event s.at.run g.e; units = us; used = n })) (sym used) t))
 
       by : ((is_begin g.e ≡ false) × (units_carried s'.agents ≡ units_carried s.agents)) ⊎ ((index : ℕ) × (depth : ℕ) × (call : Call) × (g.e ≡ event.Begin (Child u index depth) call false) × (units_carried s'.agents ≡ units_carried s.agents ++ (new_unit (ends s.at.run) ∷ [])))
           → IsTurning (loop_at o s'.at.run s'.agents s'.used)
@@ -231,6 +231,7 @@ module _ (keeps : OthersKeep) (tells : Bool) (o : Outset) (lines : List Line) (b
             all = way.outset.all ∙ ap (λ (n : ℕ). n + length (drop s.begun lines)) (sym same) ∙ ap (λ (n : ℕ). (ends s'.at.run).units.lines + length (drop n lines)) (sym begun);
             reads = subst (λ (n : ℕ). (at : ℕ) (line : Line) → slice_get (drop n lines) at ≡ Some line → ReadsLineAs o.program.types o.asked ((ends s'.at.run).units.lines + at + 1) line.what) (sym begun)
                 (subst (λ (k : ℕ). (at : ℕ) (line : Line) → slice_get (drop s.begun lines) at ≡ Some line → ReadsLineAs o.program.types o.asked (k + at + 1) line.what) (sym same) way.outset.reads);
+            inner = subst (λ (k : ℕ). (n : ℕ) → k < n → n < length o.asked → at_seam o.windowed n ≡ false) (sym same) way.outset.inner;
           };
           numbers = subst (λ (n : ℕ). GoUpFrom (ends s'.at.run).units.lines (drop n lines)) (sym begun) (subst (λ (k : ℕ). GoUpFrom k (drop s.begun lines)) (sym same) way.numbers);
           accepted = way.accepted;

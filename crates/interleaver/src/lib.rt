@@ -24,6 +24,6 @@ mod laws;
 mod movers;
 mod turns;
 
-pub use laws::{nobody_moves_where_lines_begin, who_has_carried_all_can_go_on};
+pub use laws::{nobody_moves_where_lines_begin, who_has_carried_all_can_go_on, windows_follow};
 pub use run_books::RunFault;
 pub use turns::run_turns;

@@ -12,9 +12,9 @@ use Rattle.core_model.specs.Settler.{has_step, settler_step}
 use Rattle.core_model.specs.Tests.{is_running, is_over, is_free}
 use Rattle.core_laws.proofs.LineEntries.{once-ends}
 use Rattle.promise_spec.specs.UnitAnswers.{got_in, wanted_by}
-use Rattle.promise_spec.specs.TurnRule.{OfUnit, OfSettler, can_move, is_unhindered, in_flight, line_can_begin, units_of}
+use Rattle.promise_spec.specs.TurnRule.{OfUnit, OfSettler, can_move, is_unhindered, in_flight, units_of}
 use Rattle.promise_spec.specs.UnitRule.{KeepsUnitRule}
-use Rattle.turn_rules.specs.NextEvent.{movers_in}
+use Rattle.turn_rules.specs.NextEvent.{movers_in, line_has_place}
 use Rattle.turn_rules.specs.QuietRun.{HasRun}
 use Rattle.turn_rules.proofs.WaitOrder.{without-mover}
 use Rattle.turn_rules.proofs.LegalRuns.{legal-run}
@@ -56,8 +56,8 @@ module _ (tells : Bool) (o : Outset) (b : Books) (at : Stage)
       ∙ ap (λ (us : List UnitNo). map OfUnit us ++ (if has_step (settler_step (ends at.run)) then OfSettler ∷ [] else [])) (filter-none (can_move o.program.types (ends at.run) (got_in at.run)) (units_of at.run (ends at.run)) (λ u m. still u))
       ∙ ap (λ (s : Bool). if s then OfSettler ∷ [] else []) (ap has_step n.rests)
 
-  -- and no line can begin
-  over : line_can_begin 1 (ends at.run).units.lines at.run (ends at.run) ≡ false
+  -- and no line has a place
+  over : line_has_place 1 (ends at.run).units.lines at.run ≡ false
   over = by (is_none (ends at.run).manager.doubt) (nat_lt (in_flight at.run (ends at.run)) 1)
     where
       by : (x y : Bool) → (x && (y && nat_lt (ends at.run).units.lines (ends at.run).units.lines)) ≡ false

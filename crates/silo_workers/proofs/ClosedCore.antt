@@ -59,7 +59,7 @@ settles-or-stops s t none (inr p) = λ x i. ⊎_elim
     (λ j. ⊎_elim (λ (q : x ≡ entry p.mid.number Halt p.reply). inr (ap (λ (z : Told). z.event) q)) (λ k. absurd k) j)
     (in_append x p.mid.mine (entry p.mid.number Halt p.reply ∷ []) (subst (λ (z : Sight). In x z.mine) p.stop.sight i))
 
-ends-settle : {T : Type 0} (s t : Sight) (result : Result T RunFault) → s.mine ≡ [] → EndsAmong all_come s t result → SettlesOrStops t.mine
+pub ends-settle : {T : Type 0} (s t : Sight) (result : Result T RunFault) → s.mine ≡ [] → EndsAmong all_come s t result → SettlesOrStops t.mine
 ends-settle s t (Ok done) none a = settles-only s t none a
 ends-settle s t (Err InDoubt) none a = settles-only s t none a
 ends-settle s t (Err WriteFault) none a = settles-or-stops s t none a

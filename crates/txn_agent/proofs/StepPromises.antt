@@ -126,7 +126,7 @@ knows-tells may types c Stopped s t e r l h n k =
     tells-knows (leaves_unit c.unit) (λ x. IsBarred x c) (λ x f g p. stopped-on types x f c g p) (λ x. IsBarred x c) may s t e r l n (λ p. stopped-on types (run_seen (saw s l.rest)) e c h p) k
 
 -- the settler's events load nothing
-settling-loads : (e : CoreEvent) → is_settling e ≡ true → is_load e ≡ false
+pub settling-loads : (e : CoreEvent) → is_settling e ≡ true → is_load e ≡ false
 settling-loads (Load g u state) q = absurd (true≢false (sym q))
 settling-loads _ q = refl
 

@@ -12,6 +12,7 @@ use Rattle.interleaver.proofs.RunningTurns.{turns-record}
 use Rattle.silo_workers.proofs.LoneRun.{turned, turned-beside}
 use Rattle.silo_workers.proofs.RunStart.{own-legal, reads-lines, of-program, can-among}
 use Rattle.silo_workers.proofs.ClosedCore.{closed-from, has-gathered, gathered-beside, gathered-same}
+use Rattle.silo_workers.proofs.LoadedGrains.{and-well, loads-gathered}
 use Rattle.silo_workers.proofs.run.run_with_workers.Goals as goal
 
 pub gather-core-requires-clause-fresh : goal.gather-core-requires-clause-fresh
@@ -46,6 +47,10 @@ returns-in-Ok-new-2-clause-record_kept g c = λ o b is can fresh turns.
 
 pub returns-in-Ok-new-2-clause-beside : goal.returns-in-Ok-new-2-clause-beside
 returns-in-Ok-new-2-clause-beside g c = c.end_run-ended.ensures.beside _ (gathered-beside (closed-from c.in-Ok-new-2.ensures.first c.gather-core.ensures.closed))
+
+pub returns-in-Ok-new-2-clause-loads : goal.returns-in-Ok-new-2-clause-loads
+returns-in-Ok-new-2-clause-loads g c =
+    and-well c.end_run-ended.result (c.end_run-ended.ensures.loads (loads-gathered (closed-from c.in-Ok-new-2.ensures.first c.gather-core.ensures.closed) c.requires.loads))
 
 pub carry_in_turns-ended-requires-clause-loads : goal.carry_in_turns-ended-requires-clause-loads
 carry_in_turns-ended-requires-clause-loads g c =
