@@ -1,5 +1,5 @@
 -- What is given of an input, window by window.
-use Rattle.std.proofs.Common.{◌≡◌, ℕ, zero, suc, ◌+◌, ◌*◌, ◌/◌, ◌%◌, ◌<◌, ◌≤◌, ◌==◌, Bool, true, false, IsTrue, if◌then◌else◌, List, [], ◌∷◌, ◌++◌, length, take, Option, Some, None, refl, sym, ap, subst, ◌∙◌, arith, append-nil, append_assoc, length-append, take_all}
+use Rattle.std.proofs.Common.{◌≡◌, ◌⊎◌, inl, inr, ℕ, zero, suc, ◌+◌, ◌*◌, ◌/◌, ◌%◌, ◌<◌, ◌≤◌, ◌==◌, Bool, true, false, IsTrue, if◌then◌else◌, List, [], ◌∷◌, ◌++◌, length, take, Option, Some, None, refl, sym, ap, subst, ◌∙◌, arith, append-nil, append_assoc, length-append, take_all}
 use Rattle.std.proofs.Math.Seq.{take-append_seam}
 use Rattle.std.proofs.lemmas.List.Sums.{sum_by-append}
 use Rattle.host_trait.specs.World.{World}
@@ -42,10 +42,10 @@ bad_above before n (line ∷ lines) e = by (is_bad (before + 1) line) e
 
 -- ---- at the begin
 
-pub given_none : (tells : Bool) (w : InputWindows) (now : World) → left_in w ≡ [] → given_in w ≡ 0 → is_last_in w ≡ false → HasGiven tells now.input [] w now
-given_none tells w now none zero_is first = record {
+pub given_none : (tells : Bool) (input : List ℕ) (w : InputWindows) (now : World) → (IsTrue tells → input ≡ now.input) → left_in w ≡ [] → given_in w ≡ 0 → is_last_in w ≡ false → HasGiven tells input [] w now
+given_none tells input w now is none zero_is first = record {
   given = [];
-  whole = λ told. ap (λ (l : List ℕ). l ++ now.input) (sym none);
+  whole = λ told. is told ∙ ap (λ (l : List ℕ). l ++ now.input) (sym none);
   lines = refl;
   good = refl;
   count = zero_is;
@@ -195,3 +195,42 @@ module _ (tells : Bool) (input : List ℕ) (asked : List (List ℕ)) (w w' : Inp
         good = g.good;
         by = record { input = ended.input; lines = g.lines };
       }
+
+-- ---- what was given, while no input is pulled
+
+module _ (tells : Bool) (input : List ℕ) (asked : List (List ℕ)) (w : InputWindows) (now : World) (g : HasGiven tells input asked w now) where
+  pub given_still : (next : World) → (IsTrue tells → next.input ≡ now.input) → HasGiven tells input asked w next
+  given_still next same = record {
+    given = g.given;
+    whole = λ told. g.whole told ∙ ap (λ (l : List ℕ). g.given ++ (left_in w ++ l)) (sym (same told));
+    lines = g.lines;
+    good = g.good;
+    count = g.count;
+    ends = by (is_last_in w) g.ends;
+  }
+    where
+      by : (last : Bool) → GivenTo last tells g.given asked w now → GivenTo last tells g.given asked w next
+      by true e = record { left = e.left; input = λ told. same told ∙ e.input told }
+      by false e = e
+
+  -- the lines are the input's first
+  pub given_front : IsTrue tells → take (length asked) (lines_of input) ≡ asked
+  given_front told = by (is_last_in w) g.ends
+    where
+      by : (last : Bool) → GivenTo last tells g.given asked w now → take (length asked) (lines_of input) ≡ asked
+      by true e =
+          ap (λ (l : List ℕ). take (length asked) (lines_of l)) (g.whole told ∙ ap (λ (l : List ℕ). g.given ++ (l ++ now.input)) e.left ∙ ap (λ (l : List ℕ). g.given ++ l) (e.input told) ∙ append-nil g.given)
+          ∙ ap (take (length asked)) g.lines ∙ take_all (length asked) asked (omega arith)
+      by false e = front tells input asked w w now now g e (input_behind w now) (g.whole told)
+
+  -- all lines may begin, where the input has ended, or those of some windows that stand whole in what was pulled
+  pub given_allows : IsTrue tells → ((now.input ≡ []) × (length asked ≡ length (lines_of input))) ⊎ ((length asked % 4096 ≡ 0) × (length asked ≤ whole_windows (g.given ++ left_in w)))
+  given_allows told = by (is_last_in w) g.ends
+    where
+      by : (last : Bool) → GivenTo last tells g.given asked w now
+          → ((now.input ≡ []) × (length asked ≡ length (lines_of input))) ⊎ ((length asked % 4096 ≡ 0) × (length asked ≤ whole_windows (g.given ++ left_in w)))
+      by true e = inl (
+        e.input told,
+        ap length (sym (ap lines_of (g.whole told ∙ ap (λ (l : List ℕ). g.given ++ (l ++ now.input)) e.left ∙ ap (λ (l : List ℕ). g.given ++ l) (e.input told) ∙ append-nil g.given) ∙ g.lines)),
+      )
+      by false e = inr (e.seam, whole_within tells input asked w w now now g e)

@@ -20,17 +20,38 @@ use Rattle.run_books.specs.RecordFrame.{TurnsBeside}
 use Rattle.run_books.specs.Records.{TurnsEndAs}
 use Rattle.promise_spec.specs.Words.{Manner}
 use Rattle.silo_opening.specs.declared.opened_silo.Opened.{Opened}
+use Rattle.cell_table.specs.Table.{opening_state}
+use Rattle.script_check.specs.Shapes.{type_shapes}
+use Rattle.input_windows.specs.Pulls.{PulledOnly}
 use Rattle.silo_top.specs.declared.run_start.Started.{Started}
 use Rattle.silo_top.specs.CallAnswers.{AnswersRun}
-use Rattle.silo_top.specs.LineExecution.{CarriedOn, CarriesOn}
+use Rattle.silo_top.specs.LineExecution.{StartsRun, CarriedOn, CarriesOn}
 use Rattle.silo_top.specs.LoadSteps.{MaySaySummary, load_ending}
 use Rattle.silo_top.proofs.ReadLines.{AreReadFrom}
 use Rattle.silo_top.specs.RunStart.{IsStartOf}
-use Rattle.silo_top.proofs.TurnStart.{no_books}
-use Rattle.silo_top.proofs.RunAnswers.{start_fresh}
+use Rattle.silo_top.proofs.TurnStart.{no_books, starts_kept, starts_quiet, starts_fresh, starts_outset}
+use Rattle.silo_top.proofs.CoreOpening.{many_types}
 use Rattle.input_windows.proofs.Still.{still_none}
 use Rattle.silo_top.proofs.WholeLoads.{load_risen}
 use Rattle.run_books.specs.Stages.{stage_by}
+
+-- a core without events, and a settler that has written nothing: lines can be carried, whatever log the outset is told of
+start_fresh : (tells : Bool) (m : Manner) (x : Opened) (st : Started) (texts : List (List ℕ)) (lines : List Line) (w0 w1 : World) (f0 f1 : Channel → ℕ)
+    → IsStartOf x st → (IsTrue tells → PulledOnly w0 w1) → ((c : Channel) → f0 c ≤ f1 c) → 0 < m.width → 0 < x.next_unit.0 → AreReadFrom (program_tree x.checked) 0 texts lines
+    → StartsRun tells m (record { live = x.slot; program = record { text = []; types = program_tree x.checked }; asked = texts; opening = new_log (record { text = []; types = program_tree x.checked }); ruled = not m.threaded; windowed = false; width = m.width; picks = m.picks; faults = f0; world = w0 }) no_books (program_tree x.checked) lines 0 (stage_by (run_of st.core) st.settler f1 w1)
+start_fresh tells m x st texts lines w0 w1 f0 f1 start still later wide above are =
+    let types : ProgramTree = program_tree x.checked in
+    let o : Outset = record { live = x.slot; program = record { text = []; types = types }; asked = texts; opening = new_log (record { text = []; types = types }); ruled = not m.threaded; windowed = false; width = m.width; picks = m.picks; faults = f0; world = w0 } in
+    let base : ℕ = x.next_unit.0 in
+    let kinds : ℕ = length (type_shapes types) in
+    let opening = opening_state (record { types = type_shapes types }) x.store in
+    subst (λ (r : Run). StartsRun tells m o no_books types lines 0 (stage_by r st.settler f1 w1)) (sym start.run) (record {
+      outset = starts_outset base kinds opening o types texts lines m.width m.picks are (many_types types) refl refl refl wide refl (λ n low high. refl);
+      can = starts_quiet base kinds opening types texts lines st.settler are start.doubted start.written;
+      ruled = refl;
+      fresh = starts_fresh base kinds opening o;
+      kept = starts_kept base kinds opening tells o st.settler f1 w1 above later start.written start.doubted start.sealing start.settles still;
+    })
 
 -- a load whose turns ended by a fault names it, and nothing of the input or the output failed
 faulted_answers : (live : ℕ) (fault : RunFault) (old new : Channel → ℕ) → HasRisen (load_ending live fault) old new → new Input ≡ old Input → new Output ≡ old Output → AnswersRun IsLoadCarried (load_ending live fault) old new

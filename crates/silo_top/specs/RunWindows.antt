@@ -4,7 +4,6 @@ use Rattle.host_trait.specs.declared.channels.Channel.{Channel}
 use Rattle.host_trait.specs.declared.channels.Channel.TheVariants.{Input, Output}
 use Rattle.host_trait.specs.declared.channels.FileId.TheVariants.{Manager}
 use Rattle.host_trait.specs.World.{World, Moment}
-use Rattle.core_model.specs.LegalRuns.{ends}
 use Rattle.history_core.specs.Cores.{run_of}
 use Rattle.script_tree.specs.Programs.{program_tree}
 use Rattle.input_windows.specs.Given.{HasGiven}
@@ -15,7 +14,7 @@ use Rattle.promise_spec.specs.Journals.{AllLog}
 use Rattle.promise_spec.specs.Promise.{Promises}
 use Rattle.promise_spec.specs.Words.{Manner, Run}
 use Rattle.promise_laws.specs.Closings.{ReadsMayStay}
-use Rattle.interleaver.specs.Turns.{KeepsTurns, IsFreshRecord}
+use Rattle.interleaver.specs.Turns.{StandsBehind}
 use Rattle.run_books.specs.Beginnings.{Outset}
 use Rattle.run_books.specs.Books.{Books}
 use Rattle.run_books.specs.Images.{LastsSo}
@@ -55,8 +54,7 @@ outset_of m x text log asked before mid = record {
 -- All lines so far are carried, and nobody can move: the record is kept, so many picks were used, and nothing has happened where there
 -- are no lines yet. No call on the input or the output has failed.
 pub record IsBetween (tells : Bool) (o : Outset) (b : Books) (used : ℕ) (s : Stage) : Type 0 where
-  pub kept : KeepsTurns tells o b s
-  pub fresh : IsFreshRecord o b used s.run
+  pub stands : StandsBehind tells o b used s
   pub carried : HasCarriedAll o s
   pub kinds : s.run.kinds ≡ length o.program.types
   pub none : o.asked ≡ [] → s.run.events ≡ []
