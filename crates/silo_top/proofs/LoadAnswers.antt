@@ -1,12 +1,12 @@
 -- What a load answers over every host, where its turns ended.
-use Rattle.std.proofs.Common.{◌≡◌, ◌≢◌, inl, inr, ℕ, ◌<◌, Bool, true, List, [], Result, Err, sym, ◌∙◌, subst, arith}
+use Rattle.std.proofs.Common.{◌≡◌, ◌≢◌, inl, inr, ℕ, ◌<◌, ◌≤◌, Bool, true, false, IsTrue, List, [], length, Result, Err, refl, sym, ◌∙◌, subst, arith}
 use Rattle.std.specs.Prelude.{not}
 use Rattle.host_trait.specs.declared.channels.Channel.{Channel}
 use Rattle.host_trait.specs.declared.channels.Channel.TheVariants.{Input, Output}
 use Rattle.host_trait.specs.Faults.{Rose}
 use Rattle.host_trait.specs.World.{World}
 use Rattle.request_wire.specs.declared.requests.Line.{Line}
-use Rattle.script_tree.specs.Programs.{program_tree}
+use Rattle.script_tree.specs.Programs.{ProgramTree, program_tree}
 use Rattle.core_model.specs.LegalRuns.{Run}
 use Rattle.history_core.specs.Cores.{run_of}
 use Rattle.promise_spec.specs.Entries.{new_log}

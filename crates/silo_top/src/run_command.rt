@@ -52,11 +52,14 @@ fn begin_run<H: Host>(alloc: Global, host: &mut H) -> Result<Running, Status>
         Err(fault) => return Err(open_status(fault)),
     };
     match start(alloc, opened, false) {
-        Ok(started) => Ok(Running {
-            started,
-            windows: InputWindows::new(alloc),
-            used: 0,
-        }),
+        Ok(started) => {
+            let windows = InputWindows::new(alloc);
+            Ok(Running {
+                started,
+                windows,
+                used: 0,
+            })
+        }
         Err(AllocError) => Err(Status::Memory),
     }
 }
