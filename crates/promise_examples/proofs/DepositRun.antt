@@ -35,7 +35,7 @@ use Rattle.promise_spec.specs.Batches.{EndsABatch}
 use Rattle.promise_spec.specs.Exits.{IsExit, IsNowhere}
 use Rattle.promise_spec.specs.Explanation.{ComeOfEvents, AreAdded, AreSettled, IsExplained}
 use Rattle.promise_spec.specs.Journals.{Settlement, KeepsJournal, Backs, commits_of, entries_of}
-use Rattle.promise_spec.specs.Promise.{IsSoundFolder, IsUndisturbed, IsNoLock, HasEnded, Keeps}
+use Rattle.promise_spec.specs.Promise.{AllowedBy, IsSoundFolder, IsUndisturbed, IsNoLock, HasEnded, Keeps}
 use Rattle.promise_laws.specs.Obligations.{Shows}
 use Rattle.promise_examples.specs.Examples.{account_log, accounts, account_program, account_1, unit_no, first_commit, first_entry, deposit_events, account_run}
 use Rattle.promise_examples.specs.DepositRuns.{MayHaveDeposit, LeavesOthers, IsBetween, IsDepositRun, deposit_course}

@@ -38,7 +38,7 @@ use Rattle.promise_spec.specs.Batches.{EndsABatch}
 use Rattle.promise_spec.specs.Exits.{IsExit}
 use Rattle.promise_spec.specs.Explanation.{ComeOfEvents, AreSettled, IsExplained}
 use Rattle.promise_spec.specs.Journals.{Settlement, KeepsJournal, Backs, commits_of, entries_of}
-use Rattle.promise_spec.specs.Promise.{IsSoundFolder, HasEnded, Keeps}
+use Rattle.promise_spec.specs.Promise.{AllowedBy, IsSoundFolder, HasEnded, Keeps}
 use Rattle.promise_laws.specs.Obligations.{Shows}
 use Rattle.promise_examples.specs.Examples.{account_log, accounts, account_program, account_1, unit_no, voted_entry, dependent_entry, vote_entries, vote_events, account_run}
 use Rattle.promise_examples.specs.DepositRuns.{HasNone, LeavesOthers, IsBetween}

@@ -8,7 +8,7 @@ use Rattle.promise_spec.specs.Courses.{Observed, Course, lines, core_end}
 use Rattle.promise_spec.specs.Promise.{AllowsAll, AllowedBy, HasRead}
 
 -- the first lines, as many as there are, are all lines
-all_lines : (xs : List (List ℕ)) (n : ℕ) → n ≡ length xs → take n xs ≡ xs
+pub all_lines : (xs : List (List ℕ)) (n : ℕ) → n ≡ length xs → take n xs ≡ xs
 all_lines xs n all = ap (λ (m : ℕ). take m xs) all ∙ take-length xs
 
 pub whole_read : (p : Program) (r : Observed) (c : Course) → r.new.input ≡ [] → c.allowed ≡ length (lines r) → first_bad 0 (lines r) ≡ None → (core_end p c).units.lines ≤ c.allowed

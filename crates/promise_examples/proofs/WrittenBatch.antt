@@ -433,7 +433,7 @@ pub batched_keeps : Keeps account_program batched batch_course
 batched_keeps = shown account_program batched batch_course batched_shows
 
 pub batched_promises : Promises reading_manner batched
-batched_promises = promised account_program batched batch_course batched_shows reading_manner refl
+batched_promises = promised account_program batched batch_course batched_shows reading_manner refl refl
 
 -- ---- the host's calls
 

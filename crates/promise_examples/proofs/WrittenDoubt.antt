@@ -120,7 +120,8 @@ pub is_doubt_run : IsDoubtRun doubted opened told doubting
 is_doubt_run = record {
   ending = refl;
   pair = (refl, refl, refl);
-  small = omega arith;
+  windowed = refl;
+  good = refl;
   two = refl;
   given = refl;
   asks = asks;
@@ -160,7 +161,7 @@ pub doubted_shows : Shows account_program doubted (doubt_course opened told doub
 doubted_shows = shown doubted opened told doubting is_doubt_run sound_at_entry new_folder (seen_possible new_manager [])
 
 pub doubted_promises : Promises pair_manner doubted
-doubted_promises = promised account_program doubted (doubt_course opened told doubting doubted) doubted_shows pair_manner refl
+doubted_promises = promised account_program doubted (doubt_course opened told doubting doubted) doubted_shows pair_manner refl refl
 
 -- ---- the host's calls
 

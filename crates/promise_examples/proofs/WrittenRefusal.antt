@@ -32,7 +32,7 @@ pub unopened : IsUnopened refused
 unopened = record { untouched = untouched; unread = refl; syncs = omega arith; refused = reads; failed = λ channel. refl }
 
 pub refused_promises : Promises plain_manner refused
-refused_promises = record { manner = refl; answers = inl unopened; over_whole = λ whole. inl unopened }
+refused_promises = record { manner = refl; windowed = refl; answers = inl unopened; over_whole = λ whole. inl unopened }
 
 -- ---- the host's calls
 

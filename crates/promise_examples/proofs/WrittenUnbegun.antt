@@ -331,7 +331,7 @@ unbegun_keeps = shown account_program unbegun unbegun_course unbegun_shows
 
 -- in the manner of its words
 pub unbegun_promises : Promises pair_manner unbegun
-unbegun_promises = promised account_program unbegun unbegun_course unbegun_shows pair_manner refl
+unbegun_promises = promised account_program unbegun unbegun_course unbegun_shows pair_manner refl refl
 
 -- ---- the host's calls
 

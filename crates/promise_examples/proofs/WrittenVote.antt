@@ -87,7 +87,8 @@ pub is_vote_run : IsVoteRun voted opened failing vote_told
 is_vote_run = record {
   ending = refl;
   pair = (refl, refl, refl);
-  small = omega arith;
+  windowed = refl;
+  good = refl;
   two = refl;
   given = refl;
   asks = asks;
@@ -121,7 +122,7 @@ pub voted_shows : Shows account_program voted (vote_course opened failing vote_t
 voted_shows = shown voted opened failing vote_told is_vote_run sound_at_entry new_folder (seen_possible new_manager [])
 
 pub voted_promises : Promises reading_manner voted
-voted_promises = promised account_program voted (vote_course opened failing vote_told voted) voted_shows reading_manner refl
+voted_promises = promised account_program voted (vote_course opened failing vote_told voted) voted_shows reading_manner refl refl
 
 -- ---- the host's calls
 

@@ -106,7 +106,8 @@ pub fn transfers_read()
     ensures early { IsSerial bank (new_silo bank_program).states (moved 70 30 ∷ paid_in ∷ []) → ⊥ }
 {}
 
-/// The promise can be kept: a run that reads no line keeps all six clauses, over any log.
+/// The promise can be kept: a run of which no line may begin, as its input is empty, can't be read or begins with a line that is too
+/// long, keeps all six clauses, over any log.
 pub fn empty_runs_keep()
     ensures { (p : Program) (r : Observed) (opening : Log) → IsEmptyRun p r opening → Keeps p r (empty_course r opening) }
 {}

@@ -40,6 +40,7 @@ module _ (p : Program) (r : Observed) (c : Course) (k : KeepsAnywhere p r c) whe
         input = k.ended.read.input;
         allowed = c.allowed;
         by_ending = k.ended.read.allowed;
+        good = k.ended.read.good;
         entries = c.entries;
         output = subst (λ (rest : List ℕ). Grew (shape_in p) r.old.output r.new.output c.entries rest) whole k.output;
         once = k.once;

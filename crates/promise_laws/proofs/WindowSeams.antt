@@ -1,5 +1,5 @@
 -- A run of which whole windows were carried, with the next window's lines: it keeps the rules over these too.
-use Rattle.std.proofs.Common.{◌≡◌, ◌⊎◌, inl, inr, ℕ, zero, suc, ◌+◌, ◌%◌, ◌<◌, ◌≤◌, Bool, true, false, true≢false, List, [], ◌∷◌, ◌++◌, length, length-append, Option, Some, None, refl, sym, ap, subst, ◌∙◌, arith, eqb, eq-eqb}
+use Rattle.std.proofs.Common.{◌≡◌, ◌⊎◌, inl, inr, ℕ, zero, suc, ◌+◌, ◌<◌, ◌≤◌, Bool, true, false, true≢false, List, [], ◌∷◌, ◌++◌, length, length-append, Option, Some, None, refl, sym, ap, subst, ◌∙◌, arith}
 use Rattle.std.specs.Prelude.{◌&&◌, ◌||◌, not, slice_get, nat_lt, take, is_none, get_or, Result}
 use Rattle.std.proofs.lemmas.Bool.{ltb-true, lt-ltb, cases_lt}
 use Rattle.base_types.specs.declared.calls.Call.{Call}
@@ -13,7 +13,6 @@ use Rattle.core_model.specs.LegalRuns.{Run, begins, ends}
 use Rattle.script_tree.specs.Programs.{ProgramTree}
 use Rattle.promise_spec.specs.Cores.{AppliesAt, state_before}
 use Rattle.promise_spec.specs.UnitAnswers.{Got, got_from}
-use Rattle.promise_spec.specs.Windows.{window_lines}
 use Rattle.promise_spec.specs.Lines.{ReadsLineAs}
 use Rattle.promise_spec.specs.UnitRule.{Basis, IsDue, KeepsUnitRule}
 use Rattle.promise_spec.specs.TurnRule.{Mover, OfLine, OfUnit, OfSettler, IsTurn, KeepsTurnRule, at_seam, is_nobody, line_can_begin, in_flight, movers, mover_of, picked, picks_used}

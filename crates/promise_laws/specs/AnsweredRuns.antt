@@ -1,5 +1,5 @@
 -- What a reader may want of a run that opened its folder, whatever the folder is: how it ended, and what it answered.
-use Rattle.std.specs.Prelude.{◌≡◌, ℕ, ◌≤◌, List, [], ◌++◌}
+use Rattle.std.specs.Prelude.{◌≡◌, ℕ, ◌≤◌, List, [], ◌++◌, take, None}
 use Rattle.base_types.specs.declared.entries.Entry.{Entry}
 use Rattle.core_model.specs.CoreState.{Member}
 use Rattle.core_model.specs.Lines.{DifferInLine}
@@ -7,6 +7,7 @@ use Rattle.host_trait.specs.declared.channels.FileId.{FileId}
 use Rattle.host_trait.specs.declared.channels.FileId.TheVariants.{Manager}
 use Rattle.request_wire.specs.Lines.{lines_of}
 use Rattle.promise_spec.specs.Programs.{Program, shape_in}
+use Rattle.promise_spec.specs.Windows.{first_bad}
 use Rattle.promise_spec.specs.Entries.{Log, standing_of}
 use Rattle.promise_spec.specs.Outputs.{Grew}
 use Rattle.promise_spec.specs.Openings.{Reads, opened_as}
@@ -20,12 +21,14 @@ pub record IsOpenable (r : Observed) : Type 0 where
   pub log : Log
   pub reads : opened_as (seen_at_entry r) ≡ Reads live log
 
--- Of the input this was pulled, by which so many lines may begin; and what was written is one entry for each of them.
+-- Of the input this was pulled, by which so many lines may begin, of which none is bad; and what was written is one entry for each of
+-- them.
 pub record HasAnswered (p : Program) (r : Observed) : Type 0 where
   pub pulled : List ℕ
   pub input : r.old.input ≡ pulled ++ r.new.input
   pub allowed : ℕ
   pub by_ending : AllowedBy r.ending pulled r allowed
+  pub good : first_bad 0 (take allowed (lines r)) ≡ None
   pub entries : List Entry
   pub output : Grew (shape_in p) r.old.output r.new.output entries []
   pub once : DifferInLine entries

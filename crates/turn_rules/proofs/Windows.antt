@@ -1,6 +1,7 @@
 -- Within a window a line can begin where it has a place, and each turn stays within it.
-use Rattle.std.proofs.Common.{◌≡◌, ◌⊎◌, inl, inr, ℕ, suc, ◌+◌, ◌-◌, ◌<◌, ◌≤◌, Bool, true, false, true≢false, List, [], ◌∷◌, ◌++◌, length, map, Option, Some, None, refl, sym, ap, subst, ◌∙◌, arith, eqb, eqb-true, eq-eqb, append-nil, is_some, is_none}
-use Rattle.std.specs.Prelude.{◌%◌, ◌&&◌, ◌||◌, not, nat_lt, filter, if◌then◌else◌}
+use Rattle.std.proofs.Common.{◌≡◌, ◌⊎◌, inl, inr, ℕ, zero, suc, ◌+◌, ◌-◌, ◌<◌, ◌≤◌, Bool, true, false, true≢false, List, [], ◌∷◌, ◌++◌, length, map, Option, Some, None, refl, sym, ap, subst, ◌∙◌, arith, eqb, eqb-true, eq-eqb, append-nil, is_some, is_none}
+use Rattle.std.specs.Prelude.{◌↔◌, ◌%◌, ◌&&◌, ◌||◌, not, nat_lt, filter, take, get_or, count_by, slice_get, if◌then◌else◌}
+use Rattle.std.proofs.Math.Seq.{take-length}
 use Rattle.std.proofs.lemmas.Bool.{and_parts, cases_Bool, cases_lt, cond_both, cond-false, ltb-true}
 use Rattle.base_types.specs.declared.calls.Origin.TheVariants.{Line, Child}
 use Rattle.core_model.specs.CoreState.{UnitNo, CoreState}
@@ -12,9 +13,10 @@ use Rattle.core_model.specs.Settler.{has_step, settler_step}
 use Rattle.core_laws.proofs.EventCases.{Change, bad, begin, lock, raise, refuse, finish, end_plain, end_snapshot, release, take_batch, vote, decide_some, decide_none, seal_batch, spoil_batch, doubt_batch, learn, emit, halt_run, want, load, decode}
 use Rattle.core_laws.proofs.Replies.{no-change}
 use Rattle.script_tree.specs.Programs.{ProgramTree}
-use Rattle.promise_spec.specs.UnitAnswers.{Got, got_in, got_by}
+use Rattle.promise_spec.specs.Cores.{AppliesAt, applied_from}
+use Rattle.promise_spec.specs.UnitAnswers.{Got, got_from, got_in, got_by}
 use Rattle.promise_spec.specs.Windows.{window_lines}
-use Rattle.promise_spec.specs.TurnRule.{Mover, OfLine, OfUnit, OfSettler, IsTurn, at_seam, is_nobody, can_move, units_from, in_flight, line_can_begin, movers, mover_of, picked}
+use Rattle.promise_spec.specs.TurnRule.{Mover, OfLine, OfUnit, OfSettler, IsTurn, KeepsTurnRule, at_seam, is_nobody, can_move, units_from, in_flight, line_can_begin, movers, mover_of, takes_pick, picked}
 use Rattle.turn_rules.specs.NextEvent.{with_event, IsNext, movers_in, next_pick, line_has_place}
 use Rattle.turn_rules.specs.Windows.{InWindow}
 use Rattle.turn_rules.proofs.Growth.{ends-more, got-event}
@@ -215,3 +217,63 @@ begins-fresh types true lines r none few =
     let zero_lines : (ends r).units.lines ≡ 0 = ap (λ (l : List CoreEvent). (run (begins r) l).units.lines) none in
     let le : lines ≤ window_lines = few refl in
     begins-window types lines r (ap (λ (n : ℕ). n % 4096) zero_lines) (omega (arith, zero_lines, le)) (nobody-fresh types r none)
+
+-- ---- an input of one window
+
+-- the front of a list with one item more
+next-front : {A : Type 0} (xs : List A) (at : ℕ) → ((x : A) × (slice_get xs at ≡ Some x) × (take (suc at) xs ≡ take at xs ++ (x ∷ []))) ⊎ (take (suc at) xs ≡ take at xs)
+next-front [] zero = inr refl
+next-front [] (suc at) = inr refl
+next-front (x ∷ xs) zero = inl (x, refl, refl)
+next-front (x ∷ xs) (suc at) = elim (next-front xs at) [
+  | inl p ↦ inl (p.0, p.1, ap (λ (l : List _). x ∷ l) p.2)
+  | inr p ↦ inr (ap (λ (l : List _). x ∷ l) p)
+]
+
+-- a first part of the run
+abbrev front_of : Run → List CoreEvent → Run
+front_of r events = record r { events = events }
+
+module _ (types : ProgramTree) (lines width : ℕ) (picks : List ℕ) (r : Run) (few : lines ≤ window_lines) where
+  -- whether a line can begin behind these events
+  abbrev begins_line : Bool → List CoreEvent → Bool
+  begins_line windowed es = line_can_begin windowed width lines r (run (begins r) es) (movers types r (run (begins r) es) (got_from (begins r) es))
+
+  -- within the first window it is the same with windows and without
+  same-test : (windowed : Bool) (es : List CoreEvent) → InWindow types true lines (front_of r es) → begins_line windowed es ≡ begins_line true es
+  same-test true es w = refl
+  same-test false es w = tests types false width lines (front_of r es) (plain types lines (front_of r es)) ∙ sym (tests types true width lines (front_of r es) w)
+
+  -- whose turn it is behind these events
+  abbrev TurnBehind : Bool → List CoreEvent → CoreEvent → Type 0
+  TurnBehind b es e =
+      IsTurn b (picked (movers types r (run (begins r) es) (got_from (begins r) es)) (get_or picks (count_by (λ x. takes_pick (mover_of x)) (applied_from (begins r) es)) 0)) (run (begins r) es) e (mover_of e)
+
+  module _ (windowed : Bool) (keeps : KeepsTurnRule types windowed lines width picks r) where
+    -- an event that keeps one rule there keeps the other
+    next-turn : (at : ℕ) (e : CoreEvent) → InWindow types true lines (front_of r (take at r.events)) → AppliesAt r at e → TurnBehind (begins_line true (take at r.events)) (take at r.events) e
+    next-turn at e w a = subst (λ (b : Bool). TurnBehind b (take at r.events) e) (same-test windowed (take at r.events) w) (keeps at e a)
+
+    -- so each first part of the run is within the first window
+    all-within : (at : ℕ) → InWindow types true lines (front_of r (take at r.events))
+    all-within zero = begins-fresh types true lines (front_of r []) refl (λ is. few)
+    all-within (suc at) = elim (next-front r.events at) [
+      | inr same ↦ subst (λ (l : List CoreEvent). InWindow types true lines (front_of r l)) (sym same) (all-within at)
+      | inl p ↦
+          let w = all-within at in
+          subst (λ (l : List CoreEvent). InWindow types true lines (front_of r l)) (sym p.2)
+          (stays types true lines width picks (front_of r (take at r.events)) p.0 w
+          (λ a. subst (λ (l : List CoreEvent). IsTurn (begins_line true (take at r.events))
+          (picked (movers types r (run (begins r) (take at r.events)) (got_from (begins r) (take at r.events))) (get_or picks (count_by (λ x. takes_pick (mover_of x)) (applied_from (begins r) l)) 0)) (run (begins r) (take at r.events)) p.0 (mover_of p.0))
+          (sym (take-length (take at r.events))) (next-turn at p.0 w (record { there = p.1; applied = a }))))
+    ]
+
+    with-windows : KeepsTurnRule types true lines width picks r
+    with-windows at e a = next-turn at e (all-within at) a
+
+  without-windows : KeepsTurnRule types true lines width picks r → KeepsTurnRule types false lines width picks r
+  without-windows keeps at e a =
+      subst (λ (b : Bool). TurnBehind b (take at r.events) e) (sym (same-test false (take at r.events) (all-within true keeps at))) (keeps at e a)
+
+  pub one-window : KeepsTurnRule types true lines width picks r ↔ KeepsTurnRule types false lines width picks r
+  one-window = (without-windows, with-windows false)

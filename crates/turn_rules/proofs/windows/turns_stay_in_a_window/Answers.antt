@@ -1,4 +1,4 @@
-use Rattle.turn_rules.proofs.Windows.{tests, stays, begins-window, begins-fresh, plain}
+use Rattle.turn_rules.proofs.Windows.{tests, stays, begins-window, begins-fresh, plain, one-window}
 use Rattle.turn_rules.proofs.windows.turns_stay_in_a_window.Goals as goal
 
 pub returns-clause-tests : goal.returns-clause-tests
@@ -15,3 +15,6 @@ returns-clause-first c = begins-fresh
 
 pub returns-clause-plain : goal.returns-clause-plain
 returns-clause-plain c = plain
+
+pub returns-clause-one : goal.returns-clause-one
+returns-clause-one c = one-window
