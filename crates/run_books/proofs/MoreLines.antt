@@ -1,12 +1,12 @@
 -- The record of a run, and what its images keep, over more lines than were asked so far.
-use Rattle.std.proofs.Common.{◌≡◌, ◌≤◌, ◌++◌, ℕ, Bool, true, false, true≢false, List, length, sym, eqb-true}
+use Rattle.std.proofs.Common.{◌≡◌, ◌≤◌, ◌++◌, ℕ, Bool, true, List, length}
 use Rattle.host_trait.specs.World.{World, Disk}
 use Rattle.host_trait.specs.declared.channels.Channel.{Channel}
 use Rattle.core_model.specs.LegalRuns.{Run, ends}
 use Rattle.batch_disk.specs.declared.writer.BatchWriter.{BatchWriter}
 use Rattle.promise_spec.specs.TurnRule.{KeepsTurnRule, at_seam}
 use Rattle.promise_spec.specs.UnitRule.{KeepsUnitRule}
-use Rattle.promise_laws.proofs.WindowSeams.{few, turns-on, units-on}
+use Rattle.promise_laws.proofs.WindowSeams.{few-lines, turns-on, units-on}
 use Rattle.run_books.specs.Beginnings.{Outset, basis_of, with_more}
 use Rattle.run_books.specs.Books.{Books}
 use Rattle.run_books.specs.Images.{KeepsFolder, LastsSo}
@@ -15,17 +15,13 @@ use Rattle.run_books.specs.Stages.{Stage}
 
 -- no more lines have begun than are asked
 pub begun-lines : (o : Outset) (r : Run) → KeepsUnitRule (basis_of o) r → (ends r).units.lines ≤ length o.asked
-begun-lines o r units = few (basis_of o) r units
+begun-lines o r units = few-lines (basis_of o) r units
 
 module _ (o : Outset) (more : List (List ℕ)) where
   -- the turn rule of whole windows is that of these and more
   pub rule-more : (r : Run) → KeepsUnitRule (basis_of o) r → at_seam o.windowed (length o.asked) ≡ true → KeepsTurnRule o.program.types o.windowed (length o.asked) o.width o.picks r
       → KeepsTurnRule o.program.types o.windowed (length (o.asked ++ more)) o.width o.picks r
-  rule-more r units seam turns = by o.windowed seam turns
-    where
-      by : (w : Bool) → at_seam w (length o.asked) ≡ true → KeepsTurnRule o.program.types w (length o.asked) o.width o.picks r → KeepsTurnRule o.program.types w (length (o.asked ++ more)) o.width o.picks r
-      by false q k = absurd (true≢false (sym q))
-      by true q k = turns-on (basis_of o) more o.width o.picks r units (eqb-true _ _ q) k
+  rule-more r units seam turns = turns-on (basis_of o) more o.windowed o.width o.picks r units seam turns
 
   -- what is shown outside
   outside-more : (b : Books) (r : Run) (counts : Channel → ℕ) (now : World) → ShowsOutside o b r counts now → ShowsOutside (with_more o more) b r counts now
