@@ -28,6 +28,14 @@ windows_on lines more whole few = omega (arith, whole, few)
 windows_most : (lines more : ℕ) → lines % 4096 ≡ 0 → lines ≤ in_windows (lines + more)
 windows_most lines more whole = omega (arith, whole)
 
+-- a bad line behind whole windows leaves them
+windows_before : (lines number : ℕ) → lines % 4096 ≡ 0 → lines < number → lines ≤ before_bad number
+windows_before lines number whole above = omega (arith, whole, above)
+
+-- a whole window has as many line feeds as lines
+full_fed : (window : List ℕ) → IsFull window → feeds window ≡ length (lines_of window)
+full_fed window full = ap feeds full.last ∙ fed_lines full.front ∙ ap (λ (x : List ℕ). length (lines_of x)) (sym full.last)
+
 -- the first bad line comes behind those before
 bad_above : (before n : ℕ) (lines : List (List ℕ)) → first_bad before lines ≡ Some n → before < n
 bad_above before n [] e = absurd cc
@@ -49,7 +57,7 @@ given_none tells input w now is none zero_is first = record {
   lines = refl;
   good = refl;
   count = zero_is;
-  ends = subst (λ (last : Bool). GivenTo last tells [] [] w now) (sym first) (record { fed = refl; seam = refl; later = λ more. refl });
+  ends = subst (λ (last : Bool). GivenTo last tells [] [] w now) (sym first) (record { fed = refl; seam = omega arith; later = λ more. refl });
 }
 
 -- ---- with what is pulled
@@ -68,8 +76,11 @@ module _ (tells : Bool) (input : List ℕ) (asked : List (List ℕ)) (w w' : Inp
     front : (rest : List ℕ) → input ≡ g.given ++ rest → take (length asked) (lines_of input) ≡ asked
     front rest is = ap (λ (l : List ℕ). take (length asked) (lines_of l)) is ∙ ap (take (length asked)) (are.later rest) ∙ take-append_seam asked (lines_of rest)
 
+    bad_after : (more : List (List ℕ)) → first_bad 0 (asked ++ more) ≡ first_bad (length asked) more
+    bad_after more = bad_behind 0 asked more g.good ∙ ap (λ (n : ℕ). first_bad n more) (let same : 0 + length asked ≡ length asked = omega arith in same)
+
     bad_on : (more : List ℕ) → first_bad 0 (lines_of (g.given ++ more)) ≡ first_bad (length asked) (lines_of more)
-    bad_on more = ap (first_bad 0) (are.later more) ∙ bad_behind 0 asked (lines_of more) g.good
+    bad_on more = ap (first_bad 0) (are.later more) ∙ bad_after (lines_of more)
 
     -- ---- a window came
 
@@ -79,7 +90,7 @@ module _ (tells : Bool) (input : List ℕ) (asked : List (List ℕ)) (w w' : Inp
         given = g.given ++ window_in w';
         whole = λ told. cut_again (window_in w') (left_in w') took told;
         lines = are.later (window_in w');
-        good = bad_behind 0 asked (lines_of (window_in w')) g.good ∙ ap (λ (n : ℕ). first_bad n (lines_of (window_in w'))) (sym (before ∙ g.count)) ∙ gave.good;
+        good = bad_after (lines_of (window_in w')) ∙ ap (λ (n : ℕ). first_bad n (lines_of (window_in w'))) (sym (before ∙ g.count)) ∙ gave.good;
         count = (let l = length-append asked (lines_of (window_in w')) in let c = g.count in omega (arith, lines, before, l, c));
         ends = by (is_last_in w') gave.ends;
       }
@@ -92,7 +103,7 @@ module _ (tells : Bool) (input : List ℕ) (asked : List (List ℕ)) (w w' : Inp
               let seam = are.seam in
               let fed = are.fed in
               let f = feeds_append g.given (window_in w') in
-              let all = full_fed full in
+              let all = full_fed (window_in w') full in
               record {
                 fed = omega (arith, f, fed, all, l);
                 seam = omega (arith, l, c, seam);
@@ -100,9 +111,6 @@ module _ (tells : Bool) (input : List ℕ) (asked : List (List ℕ)) (w w' : Inp
                     ap lines_of (append_assoc g.given (window_in w') more) ∙ are.later (window_in w' ++ more) ∙ ap (λ (x : List (List ℕ)). asked ++ x) (full_seam (window_in w') more full)
                     ∙ sym (append_assoc asked (lines_of (window_in w')) (lines_of more));
               }
-            where
-              full_fed : IsFull (window_in w') → feeds (window_in w') ≡ length (lines_of (window_in w'))
-              full_fed full = ap feeds full.last ∙ fed_lines full.front ∙ ap (λ (x : List ℕ). length (lines_of x)) (sym full.last)
 
       pub gives_next : GaveWindow tells w' new → HasNext tells input asked w' new
       gives_next gave = record {
@@ -176,12 +184,10 @@ module _ (tells : Bool) (input : List ℕ) (asked : List (List ℕ)) (w w' : Inp
         by None q =
             let f = feeds_append g.given (left_in w) in
             let fed = are.fed in
-            let m = windows_most (length asked) (feeds (left_in w)) are.seam in
-            subst (λ (n : ℕ). length asked ≤ in_windows n) (omega (arith, f, fed)) m
+            let same : length asked + feeds (left_in w) ≡ feeds (g.given ++ left_in w) = omega (arith, f, fed) in
+            subst (λ (n : ℕ). length asked ≤ in_windows n) same (windows_most (length asked) (feeds (left_in w)) are.seam)
         by (Some n) q =
-            let above = bad_above (length asked) n (lines_of (left_in w)) (sym (bad_on (left_in w)) ∙ q) in
-            let seam = are.seam in
-            omega (arith, above, seam)
+            windows_before (length asked) n are.seam (bad_above (length asked) n (lines_of (left_in w)) (sym (bad_on (left_in w)) ∙ q))
 
   -- ---- the window was the last
 

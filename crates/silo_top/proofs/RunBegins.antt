@@ -43,12 +43,15 @@ use Rattle.silo_top.proofs.StartImages.{starts_lasting}
 use Rattle.silo_top.proofs.TurnStart.{start_run, no_books, starts_kept, starts_carried}
 use Rattle.silo_top.proofs.UnopenedFolders.{asked_untouched}
 
+is_true : IsTrue true
+is_true = cc
+
 -- what the opening tells, where the host tells: the program text and the log
 was_opened : (tells : Bool) (old mid : World) (x : Opened) → (IsTrue tells → IsBehindOpening old mid x) → (IsTrue tells → ReadsMayStay mid) → (text : List ℕ) × (log : Log) × (IsTrue tells → WasOpened old mid x text log)
 was_opened true old mid x behind stays = (
-  (behind cc).opened.text,
-  (behind cc).opened.log,
-  λ told. record { behind = behind cc; text_is = refl; log_is = refl; stays = stays cc },
+  (behind is_true).opened.text,
+  (behind is_true).opened.log,
+  λ told. record { behind = behind is_true; text_is = refl; log_is = refl; stays = stays is_true },
 )
 was_opened false old mid x behind stays = ([], new_log (record { text = []; types = program_tree x.checked }), λ told. absurd (true≢false (sym told)))
 
