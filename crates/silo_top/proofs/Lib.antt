@@ -13,6 +13,7 @@ pub mod RunEnds
 pub mod CoreOpening
 pub mod StartImages
 pub mod OpenedImages
+pub mod ReadWindows
 pub mod PulledRecord
 pub mod RunBegins
 pub mod RunWindows

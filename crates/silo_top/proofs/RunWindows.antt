@@ -45,13 +45,14 @@ use Rattle.run_books.specs.Images.{LastsSo}
 use Rattle.run_books.specs.RecordFrame.{TurnsBeside, EmitsAs}
 use Rattle.run_books.specs.Records.{KeepsRecord, HasCarriedAll, TurnsEndAs}
 use Rattle.run_books.specs.RunCourse.{turns_ending}
-use Rattle.run_books.specs.Stages.{Stage, stage_by, side_by}
+use Rattle.run_books.specs.Stages.{IsSafe, Stage, stage_by, side_by}
 use Rattle.run_books.specs.declared.faults.RunFault.{RunFault}
 use Rattle.run_books.specs.declared.faults.RunFault.TheVariants.{InDoubt, WriteFault, Memory}
 use Rattle.run_books.proofs.MoreLines.{lasts-more}
 use Rattle.run_books.proofs.ShownRecord.{ends-by, ends-carried}
 use Rattle.silo_opening.specs.declared.opened_silo.Opened.{Opened}
 use Rattle.silo_top.specs.CallAnswers.{AnswersRun}
+use Rattle.silo_top.specs.Continuation.{CanCarry}
 use Rattle.silo_top.specs.LineExecution.{StartsRun, CarriedOn, CarriedLines}
 use Rattle.silo_top.specs.RunBehindOpening.{IsBehindOpening, ending_by_turns}
 use Rattle.silo_top.specs.RunWindows.{WasOpened, outset_of, IsBetween, KeepsImages, IsUnderWay, HasKept}
@@ -460,13 +461,6 @@ module _ (tells : Bool) (m : Manner) (before : Counts) (old : World) (run : Runn
       images = λ told. subst (λ (z : Run). KeepsImages old out books (stage_by z settler f' now')) (sym core_is) (images told);
     }
 
-    -- and a further one can be
-    pub stays_legal : IsLegalRun (own_sight r).first → IsLegalRun (own_sight (run_of core)).first
-    stays_legal legal = subst (λ (z : Run). IsLegalRun (own_sight z).first) (sym (core_is ∙ beside.core)) legal
-
-    pub stays_unloaded : NoneLoads (own_sight (run_of core)).mine
-    stays_unloaded = subst (λ (y : Result Core RunFault). IfOk y (λ c. NoneLoads (own_sight (run_of c)).mine)) is carried_so.loads
-
   -- ---- a fault ends it
 
   module _ (fault : RunFault) (is : result ≡ Err fault) (status : Status) (ends_as : status_ending status ≡ ending_by_turns u.opened.slot fault) where
@@ -520,4 +514,16 @@ module _ (tells : Bool) (m : Manner) (before : Counts) (old : World) (run : Runn
             (subst (λ (y : Result Core RunFault). EmitsAs y (f Output) (f' Output)) is beside.emitted);
         exact = λ none. absurd (none (fault_carried u.opened.slot fault));
       });
+    }
+
+-- where all lines of a window are carried, those of a further one can be
+pub can_further : (tells : Bool) (st : Started) (core : Core) (settler : Settler) (now now' : World) (m : Manner) (types : ProgramTree) (lines : List Line) (used used' : ℕ) (f f' : Counts) (mid : World) (result : Result Core RunFault)
+    → CarriedLines tells m types lines used used' (stage_by (run_of st.core) st.settler f mid) (side_by settler f' now') result → result ≡ Ok core → CanCarry tells st now → IsSafe tells settler.writer now'
+    → CanCarry tells (record { slot = st.slot; checked = st.checked; core = core; settler = settler }) now'
+can_further tells st core settler now now' m types lines used used' f f' mid result carried is can safe =
+    let core_is : run_of core ≡ carried.left = subst (λ (y : Result Core RunFault). IfOk y (λ c. run_of c ≡ carried.left)) is carried.core in
+    record {
+      legal = subst (λ (z : Run). IsLegalRun (own_sight z).first) (sym (core_is ∙ carried.beside.core)) can.legal;
+      loads = subst (λ (y : Result Core RunFault). IfOk y (λ c. NoneLoads (own_sight (run_of c)).mine)) is carried.loads;
+      safe = safe;
     }

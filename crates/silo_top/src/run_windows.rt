@@ -94,7 +94,10 @@ fn window_in_turns<H: Host, G: Gate>(
         mut windows,
         mut used,
     } = running;
-    next_window(&mut windows, host)?;
+    match next_window(&mut windows, host) {
+        Ok(()) => {}
+        Err(status) => return Err(status),
+    }
     let Started {
         slot,
         checked,
@@ -150,7 +153,10 @@ fn window_by_workers<R: Threads + Wait + Sync, H: Host, G: Gate + Sync>(
         mut windows,
         used,
     } = running;
-    next_window(&mut windows, host)?;
+    match next_window(&mut windows, host) {
+        Ok(()) => {}
+        Err(status) => return Err(status),
+    }
     let Started {
         slot,
         checked,
