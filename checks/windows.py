@@ -1,5 +1,5 @@
 """Runs of several windows of input, against the turn rule written a second time over the core's rules (`core_rules.py`): the same
-replies in the same order, at widths and picks drawn at random; and what is read as it comes, by a client that streams."""
+replies in the same order, and the same batches, which tell what was in flight together where a window ends; and a client that streams."""
 import os
 import random
 import subprocess
@@ -7,10 +7,12 @@ import sys
 import tempfile
 
 import core_rules
-from harness import BANK, PROGRAM, Rows, run
+from harness import BANK, PROGRAM, TOP, Rows, run
+
+sys.path.insert(0, os.path.join(TOP, "tools", "python"))
+import silo
 
 WINDOW = 4096
-ACCOUNTS = range(1, 9)
 
 rows = Rows("windows")
 
@@ -52,10 +54,11 @@ class Core(core_rules.Plain):
 
 
 class Turns:
-    """A run of deposits on one thread: what each line asks is an account and a sum."""
+    """A run of deposits on one thread: what a line asks is an account and a sum, or it is empty."""
 
     def __init__(self, lines, width, picks):
         self.core, self.lines, self.width, self.picks, self.used = Core(), lines, width, picks, 0
+        self.batches = []  # How many records each sealed batch has.
         self.under_way = []  # The units that run or have a lock, or whose line has no entry.
 
     def grain(self, number):
@@ -87,6 +90,8 @@ class Turns:
         name, *rest = self.core.work()
         if name == "votes":
             return self.core.step(("vote", rest[0], rest[1], True))
+        if name == "seals":
+            self.batches.append(len(rest[1]))
         events = {"seals": "sealed", "decides": "decide", "learns": "learn", "takes": "take", "writes": "emitted"}
         return self.core.step((events[name], *(rest[:1] if name in ("seals", "decides") else rest if name == "learns" else [])))
 
@@ -97,8 +102,11 @@ class Turns:
         settled = {unit for _, unit, _ in core.settled[-2 * len(self.under_way) - 64:]} if self.under_way else set()
         self.under_way = [number for number in self.under_way if not (number in settled and self.is_free(number))]
         if begun < len(self.lines) and len(self.under_way) < self.width and (begun % WINDOW != 0 or not movers):
-            core.step(("begin", ("line", begun + 1), ((0, self.lines[begun][0]), 0), False))
-            self.under_way.append(core.next() - 1)
+            if self.lines[begun] is None:
+                core.step(("bad", begun + 1, "json"))
+            else:
+                core.step(("begin", ("line", begun + 1), ((0, self.lines[begun][0]), 0), False))
+                self.under_way.append(core.next() - 1)
             return True
         if not movers:
             return False
@@ -116,6 +124,8 @@ class Turns:
 
     @staticmethod
     def reply(line, unit, what):
+        if what[0] == "bad":
+            return b'{"bad":"json","n":%d}\n' % line
         if what[0] == "done":
             return b'{"n":%d,"reply":%d,"unit":%d}\n' % (line, what[1], unit)
         return b'{"aborted":"lock","by":%d,"grain":"account/%d","n":%d,"unit":%d}\n' % (what[1], what[2][1], line, unit)
@@ -125,20 +135,22 @@ def request(account, amount):
     return b'{"args":[%d],"call":"account/%d.deposit"}\n' % (amount, account)
 
 
-def is_as_ruled(room, draw, name, count, width, picks):
-    """Whether a run says what the rule says."""
-    lines = [(draw.choice(ACCOUNTS), draw.randrange(1, 100)) for _ in range(count)]
+def is_as_ruled(room, draw, name, count, accounts, width, picks, empty=0):
+    """Whether a run of deposits among so many accounts, behind so many empty lines, says what the rule says."""
+    lines = [None] * empty + [(draw.randrange(accounts) + 1, draw.randrange(1, 100)) for _ in range(count - empty)]
     turns = [draw.randrange(2**32) if draw.random() < 0.5 else draw.randrange(4) for _ in range(picks)]
     folder = os.path.join(room, name)
     os.mkdir(folder)
     assert run(folder, "init", given=BANK).number == 0
     words = ["--width", str(width)] + (["--turns", ",".join(map(str, turns))] if turns else [])
-    ended = run(folder, "run", *words, given=b"".join(request(*line) for line in lines))
+    ended = run(folder, "run", *words, given=b"".join(request(*line) if line else b"\n" for line in lines))
     rows.row(f"{name}: number", ended.number, 0)
-    found, wanted = ended.output.splitlines(keepends=True), Turns(lines, width, turns).replies()
+    ruled = Turns(lines, width, turns)
+    found, wanted = ended.output.splitlines(keepends=True), ruled.replies()
     first = next((at for at, (one, other) in enumerate(zip(found, wanted)) if one != other), None)
     rows.row(f"{name}: the first reply that differs", first and (found[first], wanted[first]), None)
     rows.row(f"{name}: replies", len(found), len(wanted))
+    rows.row(f"{name}: batches", silo.batches(folder), ruled.batches)
 
 
 def stream(room):
@@ -159,9 +171,9 @@ def stream(room):
 def main(seed=7):
     draw = random.Random(int(seed))
     with tempfile.TemporaryDirectory() as room:
-        is_as_ruled(room, draw, "8192-lines-at-width-64", 2 * WINDOW, 64, 4096)
-        is_as_ruled(room, draw, "a-seam-at-width-3", WINDOW + 9, 3, 4096)
-        is_as_ruled(room, draw, "no-picks", WINDOW + 1, 16, 0)
+        is_as_ruled(room, draw, "8192-lines-at-width-64", 2 * WINDOW, 8, 64, 4096)
+        is_as_ruled(room, draw, "a-seam-at-width-8", WINDOW + 60, 2, 8, 4096, WINDOW - 60)
+        is_as_ruled(room, draw, "no-picks", WINDOW + 1, 3, 16, 0)
         stream(room)
     rows.end()
 

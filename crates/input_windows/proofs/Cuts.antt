@@ -106,18 +106,33 @@ onto_count : (b : ℕ) (pieces : List (List ℕ)) (y : List ℕ) (ys : List (Lis
 onto_count b [] y ys e = absurd cc
 onto_count b (x ∷ xs) y ys e = refl
 
+-- a byte that is a line feed counts as one, and another as none
+feed_is_one : (b : ℕ) → (b == 10) ≡ true → feeds (b ∷ []) ≡ 1
+feed_is_one b e = rw e refl
+
+other_is_none : (b : ℕ) → (b == 10) ≡ false → feeds (b ∷ []) ≡ 0
+other_is_none b e = rw e refl
+
+feeds_more : (b : ℕ) (bytes : List ℕ) → feeds (b ∷ bytes) ≡ feeds (b ∷ []) + feeds bytes
+feeds_more b bytes = sum_by-append (λ (b : ℕ). if b == 10 then 1 else 0) (b ∷ []) bytes
+
 -- the line feeds cut bytes into one piece more than they are
 pieces_count : (bytes : List ℕ) → length (slice_split (λ b. b == 10) bytes) ≡ feeds bytes + 1
 pieces_count [] = refl
-pieces_count (b ∷ bytes) = by (pieces_count bytes) (b == 10)
+pieces_count (b ∷ bytes) = by (pieces_count bytes) (b == 10) refl
   where
-    by : length (slice_split (λ b. b == 10) bytes) ≡ feeds bytes + 1 → (is_feed : Bool)
-        → length (cond is_feed ([] ∷ slice_split (λ b. b == 10) bytes) (onto_first b (slice_split (λ b. b == 10) bytes))) ≡ (if is_feed then 1 else 0) + feeds bytes + 1
-    by later true = omega (arith, later)
-    by later false =
+    by : length (slice_split (λ b. b == 10) bytes) ≡ feeds bytes + 1 → (is_feed : Bool) → (b == 10) ≡ is_feed
+        → length (cond is_feed ([] ∷ slice_split (λ b. b == 10) bytes) (onto_first b (slice_split (λ b. b == 10) bytes))) ≡ feeds (b ∷ bytes) + 1
+    by later true e =
+        let all = feeds_more b bytes in
+        let one = feed_is_one b e in
+        omega (arith, later, all, one)
+    by later false e =
         let some = slice_split-cons (λ b. b == 10) bytes in
         let same = onto_count b (slice_split (λ b. b == 10) bytes) some.0 some.1 some.2 in
-        omega (arith, later, same)
+        let all = feeds_more b bytes in
+        let none = other_is_none b e in
+        omega (arith, later, same, all, none)
 
 -- bytes that end with a line feed have a line for each
 pub fed_lines : (front : List ℕ) → feeds (front ++ (10 ∷ [])) ≡ length (lines_of (front ++ (10 ∷ [])))

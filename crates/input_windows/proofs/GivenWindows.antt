@@ -39,14 +39,14 @@ full_fed window full = ap feeds full.last ∙ fed_lines full.front ∙ ap (λ (x
 -- the first bad line comes behind those before
 bad_above : (before n : ℕ) (lines : List (List ℕ)) → first_bad before lines ≡ Some n → before < n
 bad_above before n [] e = absurd cc
-bad_above before n (line ∷ lines) e = by (is_bad (before + 1) line) e
+bad_above before n (line ∷ lines) e = by (λ q. bad_above (before + 1) n lines q) (is_bad (before + 1) line) e
   where
     some_same : (a b : ℕ) → Some a ≡ Some b → a ≡ b
     some_same a b q = cc q
 
-    by : (bad : Bool) → (if bad then Some (before + 1) else first_bad (before + 1) lines) ≡ Some n → before < n
-    by true q = let s = some_same (before + 1) n q in omega (arith, s)
-    by false q = let s = bad_above (before + 1) n lines q in omega (arith, s)
+    by : (first_bad (before + 1) lines ≡ Some n → before + 1 < n) → (bad : Bool) → (if bad then Some (before + 1) else first_bad (before + 1) lines) ≡ Some n → before < n
+    by later true q = let s = some_same (before + 1) n q in omega (arith, s)
+    by later false q = let s = later q in omega (arith, s)
 
 -- ---- at the begin
 
