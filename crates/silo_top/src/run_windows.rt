@@ -1,4 +1,4 @@
-ghost use Rattle.std.specs.Prelude.{◌≡◌, ◌<◌, ◌≤◌, IsTrue, IfOk};
+ghost use Rattle.std.specs.Prelude.{◌≡◌, ◌<◌, ◌≤◌, IsTrue, IfOk, OnOk};
 ghost use Rattle.host_trait.specs.Files.{StaysReady};
 ghost use Rattle.input_windows.specs.Given.{input_ending};
 ghost use Rattle.input_windows.specs.Pulls.{PulledOnly};
@@ -58,6 +58,7 @@ fn window_status(fault: WindowFault) -> Status
 /// Reads the next window. Where none comes, the error is the status of the run: `Done` at the end of the input.
 fn next_window<H: Host>(windows: &mut InputWindows, host: &mut H) -> Result<(), Status>
     ensures comes { WindowComes H.tells windows.old (H.world host.old) windows.new (H.world host.new) result }
+    ensures further { OnOk result (given_in windows.old < given_in windows.new) }
     ensures counts { InputFaulted result (H.faults host.old) (H.faults host.new) }
     ensures only { IsTrue H.tells → PulledOnly (H.world host.old) (H.world host.new) }
     ensures ready { StaysReady (H.is_ready host.old) (H.is_ready host.new) }

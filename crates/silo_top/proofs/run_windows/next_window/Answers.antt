@@ -1,4 +1,4 @@
-use Rattle.std.proofs.Common.{◌≡◌, true, Bool, sym, subst, ap, ◌∙◌}
+use Rattle.std.proofs.Common.{◌≡◌, true, Bool, sym, subst, ap, ◌∙◌, arith}
 use Rattle.host_trait.specs.declared.channels.Channel.{Channel}
 use Rattle.input_windows.specs.Given.{GivenTo, InputEnds, input_ending}
 use Rattle.input_windows.specs.Windows.{is_last_in, HasEnded, PullFaulted}
@@ -22,6 +22,13 @@ returns-in-Ok-true-clause-comes g c = λ input asked given.
     gives_next g.H.Host.tells input asked c.args.windows.now c.next_window.new.self (g.H.Host.world c.args.host.now) (g.H.Host.world c.next_window.new.host) given
     (not_last g.H.Host.tells input asked c.args.windows.now (g.H.Host.world c.args.host.now) given (sym c.is_last.ensures ∙ c.else))
     c.next_window.ensures.took c.next_window.ensures.before c.next_window.ensures.lines c.in-Ok-true.ensures.gave
+
+pub returns-in-Ok-true-clause-further : goal.returns-in-Ok-true-clause-further
+returns-in-Ok-true-clause-further g c =
+    let before = c.next_window.ensures.before in
+    let lines = c.next_window.ensures.lines in
+    let some = c.in-Ok-true.ensures.gave.some in
+    omega (arith, before, lines, some)
 
 pub returns-in-Ok-false-clause-comes : goal.returns-in-Ok-false-clause-comes
 returns-in-Ok-false-clause-comes g c = λ input asked given.
