@@ -322,7 +322,7 @@ module _ {T : Type 0} (n seed : ℕ) (m : Manner) (x : Opened) (st : Started) (o
     unvoted_so g no_vote = (goes.on.record_kept.books.outside told).calls.unvoted g (subst (λ (y : Run). how_many (is_vote_of g) y ≡ 0) run_is no_vote)
 
     pub explains_so : ExplainsEvents p seen c0
-    explains_so = explains true out b r' s' seen c0 goes.on.record_kept (ends-by out b r' s' after new result (turns_ending x.slot result) goes.on.ended refl) goes.turns course (unvoted_behind p seen c0 mid stands unvoted_so)
+    explains_so = explains true out b r' s' seen c0 goes.on.record_kept (ends-by out b (stage_by r' s' after new) result (turns_ending x.slot result) goes.on.ended refl) goes.turns course (unvoted_behind p seen c0 mid stands unvoted_so)
 
     -- ---- a load that ends so
 
