@@ -1,5 +1,5 @@
 -- A report of a folder, as a call shows it.
-use Rattle.std.proofs.Common.{◌≡◌, ℕ, List, Result, sym, subst}
+use Rattle.std.proofs.Common.{◌≡◌, ℕ, List, Result, sym, subst, false}
 use Rattle.host_trait.specs.declared.channels.Channel.{Channel}
 use Rattle.host_trait.specs.World.{World}
 use Rattle.promise_spec.specs.Words.{Manner}
