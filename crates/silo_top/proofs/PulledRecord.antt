@@ -9,7 +9,6 @@ use Rattle.host_trait.specs.World.{World, Moment, Disk, IsImage, moment_of}
 use Rattle.host_trait.proofs.Moments.{both, weaker, same_moment}
 use Rattle.input_windows.specs.Pulls.{PulledOnly}
 use Rattle.core_model.specs.LegalRuns.{Run, ends}
-use Rattle.batch_disk.specs.ImagesAtRest.{SomeImage}
 use Rattle.batch_disk.specs.Writers.{FitsDisk}
 use Rattle.batch_disk.specs.declared.writer.BatchWriter.{BatchWriter}
 use Rattle.promise_spec.specs.Causes.{NoneRose, RoseBy, is_no, is_unsealed, RunHasDoubt}

@@ -1,5 +1,5 @@
 -- What reading a window tells.
-use Rattle.std.proofs.Common.{◌≡◌, ℕ, Bool, true, false, List, subst}
+use Rattle.std.proofs.Common.{◌≡◌, ℕ, Bool, false, List, subst}
 use Rattle.host_trait.specs.declared.channels.Channel.{Channel}
 use Rattle.host_trait.specs.World.{World}
 use Rattle.input_windows.specs.Given.{AreWhole, GivenTo, HasGiven, input_ending}

@@ -6,16 +6,14 @@ use Rattle.host_trait.specs.declared.channels.Channel.TheVariants.{Input, Output
 use Rattle.host_trait.specs.declared.channels.FileId.TheVariants.{Manager}
 use Rattle.host_trait.specs.Disk.{FileState, MayLeave}
 use Rattle.host_trait.specs.Faults.{NoneFailed}
-use Rattle.host_trait.specs.World.{World, Disk, IsImage}
+use Rattle.host_trait.specs.World.{World, IsImage}
 use Rattle.host_trait.proofs.Crashes.{settled_only}
 use Rattle.script_tree.specs.Programs.{ProgramTree, program_tree}
 use Rattle.script_check.specs.Shapes.{type_shapes}
 use Rattle.cell_table.specs.Table.{opening_state}
 use Rattle.core_model.specs.LegalRuns.{Run}
-use Rattle.core_model.specs.declared.events.CoreEvent.{CoreEvent}
 use Rattle.history_core.specs.Cores.{run_of}
 use Rattle.log_reading.specs.Steps.{seen_in}
-use Rattle.input_windows.specs.Given.{HasGiven}
 use Rattle.input_windows.specs.Windows.{left_in, given_in, is_last_in}
 use Rattle.input_windows.specs.declared.windows.InputWindows.{InputWindows}
 use Rattle.input_windows.proofs.GivenWindows.{given_none}
@@ -25,7 +23,6 @@ use Rattle.promise_spec.specs.Entries.{Log, new_log, standing_of}
 use Rattle.promise_spec.specs.Journals.{AllLog}
 use Rattle.promise_spec.specs.Words.{Manner}
 use Rattle.promise_laws.specs.Closings.{ReadsMayStay}
-use Rattle.settle_loop.specs.declared.settler.Settler.{Settler}
 use Rattle.interleaver.specs.Turns.{KeepsTurns}
 use Rattle.interleaver.proofs.WindowSequence.{window-ends}
 use Rattle.run_books.specs.Beginnings.{Outset}

@@ -1,6 +1,6 @@
 -- The end of a run: what it leaves there is its promise.
-use Rattle.std.proofs.Common.{◌≡◌, ◌≢◌, inl, inr, ℕ, ◌+◌, ◌*◌, ◌≤◌, Bool, true, false, IsTrue, List, [], ◌∷◌, ◌++◌, length, None, refl, sym, ◌∙◌, ap, subst, arith, append_assoc}
-use Rattle.std.specs.Prelude.{take, drop, not}
+use Rattle.std.proofs.Common.{◌≡◌, ◌≢◌, inl, ℕ, ◌+◌, ◌*◌, ◌≤◌, true, false, IsTrue, List, [], ◌∷◌, ◌++◌, length, None, refl, sym, ◌∙◌, ap, subst, arith}
+use Rattle.std.specs.Prelude.{take, drop}
 use Rattle.std.proofs.lemmas.List.{take-append-drop}
 use Rattle.base_types.specs.declared.entries.Entry.{Entry}
 use Rattle.host_trait.specs.declared.channels.Channel.{Channel}
@@ -9,7 +9,6 @@ use Rattle.host_trait.specs.World.{World, Moment}
 use Rattle.request_wire.specs.Lines.{lines_of}
 use Rattle.core_model.specs.CoreState.{Member}
 use Rattle.core_model.specs.LegalRuns.{Run, ends}
-use Rattle.core_model.specs.declared.events.CoreEvent.{CoreEvent}
 use Rattle.turn_rules.specs.RunCounts.{HasEntry}
 use Rattle.promise_spec.specs.Programs.{Program, shape_in}
 use Rattle.promise_spec.specs.Entries.{Log, standing_of}
@@ -17,15 +16,15 @@ use Rattle.promise_spec.specs.Outputs.{Grew}
 use Rattle.promise_spec.specs.Cores.{core_from, how_many}
 use Rattle.promise_spec.specs.Causes.{is_vote, is_vote_of, is_sealed, is_unsealed, syncs_of, most_syncs_of}
 use Rattle.promise_spec.specs.Journals.{AllLog, commits_of, entries_of}
-use Rattle.promise_spec.specs.Endings.{Ending, WriteFault as Unwritten, HasRisen, IsCarried, IsAllWritten}
-use Rattle.promise_spec.specs.Courses.{Observed, Course, seen_at_entry, core_run, core_end}
+use Rattle.promise_spec.specs.Endings.{WriteFault as Unwritten, HasRisen, IsCarried, IsAllWritten}
+use Rattle.promise_spec.specs.Courses.{Observed, Course, seen_at_entry, core_run}
 use Rattle.promise_spec.specs.Explanation.{AreSettled}
 use Rattle.promise_spec.specs.Promise.{AllowedBy, Promises}
 use Rattle.promise_spec.specs.TurnRule.{KeepsTurnRule}
 use Rattle.promise_spec.specs.Windows.{first_bad}
 use Rattle.promise_spec.specs.Words.{Manner}
 use Rattle.promise_laws.specs.Closings.{ReadsMayStay, IsBehind}
-use Rattle.promise_laws.specs.Obligations.{ShowsAnywhere, Opens}
+use Rattle.promise_laws.specs.Obligations.{ShowsAnywhere}
 use Rattle.promise_laws.proofs.KeptRuns.{carried_promised}
 use Rattle.settle_loop.specs.declared.settler.Settler.{Settler}
 use Rattle.run_books.specs.Beginnings.{Outset, with_more}
@@ -42,7 +41,6 @@ use Rattle.opening_rules.specs.RunsBehindOpening.{program_of, FollowsOpening}
 use Rattle.opening_rules.proofs.RunsBehindOpening.{behind}
 use Rattle.silo_opening.specs.declared.opened_silo.Opened.{Opened}
 use Rattle.silo_top.specs.declared.status.Status.{Status}
-use Rattle.silo_top.specs.Statuses.{status_ending}
 use Rattle.silo_top.specs.RunBehindOpening.{IsBehindOpening}
 use Rattle.silo_top.specs.RunWindows.{outset_of}
 use Rattle.silo_top.proofs.ShownCalls.{observed_run}

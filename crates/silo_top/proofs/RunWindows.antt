@@ -1,17 +1,17 @@
 -- A run goes on with the next window of its input, or to its end.
-use Rattle.std.proofs.Common.{◌≡◌, ◌≢◌, inl, inr, ◌⊎◌, ℕ, ◌+◌, ◌*◌, ◌/◌, ◌%◌, ◌<◌, ◌≤◌, ◌==◌, Bool, true, false, IsTrue, List, [], ◌∷◌, ◌++◌, length, Option, Some, None, Result, Ok, Err, refl, sym, ◌∙◌, ap, subst, arith, append-nil, append_assoc, length-append}
+use Rattle.std.proofs.Common.{◌≡◌, ◌≢◌, inl, inr, ◌⊎◌, ℕ, ◌+◌, ◌*◌, ◌/◌, ◌%◌, ◌<◌, ◌≤◌, ◌==◌, Bool, true, false, IsTrue, List, [], ◌∷◌, ◌++◌, length, Option, Result, Ok, Err, refl, sym, ◌∙◌, ap, subst, arith, append-nil, append_assoc, length-append}
 use Rattle.std.specs.Prelude.{take, not, IfOk}
 use Rattle.host_trait.specs.declared.channels.Channel.{Channel}
 use Rattle.host_trait.specs.declared.channels.Channel.TheVariants.{Input, Output, File}
 use Rattle.host_trait.specs.declared.channels.FileId.{FileId}
 use Rattle.host_trait.specs.declared.channels.FileId.TheVariants.{Manager}
-use Rattle.host_trait.specs.Faults.{NoneFailed, FailedOn, Rose}
+use Rattle.host_trait.specs.Faults.{NoneFailed, Rose}
 use Rattle.host_trait.specs.World.{World, Moment}
 use Rattle.request_wire.specs.Lines.{lines_of}
 use Rattle.request_wire.specs.declared.requests.Line.{Line}
 use Rattle.run_lines.specs.LineReadings.{lines_from_texts}
 use Rattle.script_tree.specs.Programs.{ProgramTree, program_tree}
-use Rattle.core_model.specs.LegalRuns.{Run, ends}
+use Rattle.core_model.specs.LegalRuns.{Run}
 use Rattle.core_model.specs.Laws.{extended}
 use Rattle.core_model.specs.declared.events.CoreEvent.{CoreEvent}
 use Rattle.core_access.specs.OneHolder.{own_sight}
@@ -19,29 +19,27 @@ use Rattle.history_core.specs.Cores.{run_of}
 use Rattle.history_core.specs.declared.whole_core.Core.{Core}
 use Rattle.txn_agent.specs.CoreLink.{IsLegalRun}
 use Rattle.worker_rules.specs.SharedHistories.{NoneLoads}
-use Rattle.input_windows.specs.Given.{HasGiven, HasNext, IsAll, IsGood, HasBad, EndsAs, InputEnds}
+use Rattle.input_windows.specs.Given.{HasGiven, HasNext, IsGood, EndsAs, InputEnds}
 use Rattle.input_windows.specs.Pulls.{PulledOnly}
-use Rattle.input_windows.specs.Windows.{window_in, left_in, before_in, is_last_in}
+use Rattle.input_windows.specs.Windows.{window_in, left_in, before_in}
 use Rattle.input_windows.specs.declared.windows.InputWindows.{InputWindows}
 use Rattle.input_windows.proofs.GivenWindows.{given_still, given_front, given_allows}
 use Rattle.promise_spec.specs.Cores.{core_from}
 use Rattle.promise_spec.specs.Endings as ending
 use Rattle.promise_spec.specs.Endings.{Ending, IsCarried, IsDiskFault, IsAllWritten, HasRisen, HasFailedAs}
 use Rattle.promise_spec.specs.Entries.{Log, standing_of}
-use Rattle.promise_spec.specs.Journals.{AllLog}
 use Rattle.promise_spec.specs.Courses.{Observed}
-use Rattle.promise_spec.specs.Promise.{AllowsAll, AllowsSome, AllowedBy, Promises}
+use Rattle.promise_spec.specs.Promise.{AllowsAll, AllowsSome, AllowedBy}
 use Rattle.promise_spec.specs.TurnRule.{at_seam, picks_used}
 use Rattle.promise_spec.specs.Windows.{feeds, first_bad, in_windows, before_first, whole_windows}
-use Rattle.promise_spec.specs.Words.{Manner, Run as RunWords}
+use Rattle.promise_spec.specs.Words.{Manner}
 use Rattle.promise_laws.specs.Closings.{ReadsMayStay}
 use Rattle.settle_loop.specs.declared.settler.Settler.{Settler}
 use Rattle.interleaver.specs.Turns.{StandsBehind, LinesMayBegin}
 use Rattle.interleaver.proofs.RunningTurns.{turns-record}
 use Rattle.interleaver.proofs.WindowSequence.{window-begins, window-ends}
-use Rattle.run_books.specs.Beginnings.{Outset, with_more}
+use Rattle.run_books.specs.Beginnings.{Outset}
 use Rattle.run_books.specs.Books.{Books}
-use Rattle.run_books.specs.Images.{LastsSo}
 use Rattle.run_books.specs.RecordFrame.{TurnsBeside, EmitsAs}
 use Rattle.run_books.specs.Records.{KeepsRecord, HasCarriedAll, TurnsEndAs}
 use Rattle.run_books.specs.RunCourse.{turns_ending}
@@ -53,7 +51,7 @@ use Rattle.run_books.proofs.ShownRecord.{ends-by, ends-carried}
 use Rattle.silo_opening.specs.declared.opened_silo.Opened.{Opened}
 use Rattle.silo_top.specs.CallAnswers.{AnswersRun}
 use Rattle.silo_top.specs.Continuation.{CanCarry}
-use Rattle.silo_top.specs.LineExecution.{StartsRun, CarriedOn, CarriedLines}
+use Rattle.silo_top.specs.LineExecution.{CarriedOn, CarriedLines}
 use Rattle.silo_top.specs.RunBehindOpening.{IsBehindOpening, ending_by_turns}
 use Rattle.silo_top.specs.RunWindows.{WasOpened, outset_of, IsBetween, KeepsImages, IsUnderWay, HasKept}
 use Rattle.silo_top.specs.Statuses.{status_ending}

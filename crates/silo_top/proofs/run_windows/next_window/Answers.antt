@@ -1,8 +1,5 @@
-use Rattle.std.proofs.Common.{◌≡◌, true, Bool, sym, subst, ap, ◌∙◌, arith}
-use Rattle.host_trait.specs.declared.channels.Channel.{Channel}
-use Rattle.input_windows.specs.Given.{GivenTo, InputEnds, input_ending}
-use Rattle.input_windows.specs.Windows.{is_last_in, HasEnded, PullFaulted}
-use Rattle.input_windows.specs.declared.windows.WindowFault.{WindowFault}
+use Rattle.std.proofs.Common.{◌≡◌, Bool, sym, subst, ◌∙◌, arith}
+use Rattle.input_windows.specs.Given.{GivenTo, InputEnds}
 use Rattle.input_windows.proofs.GivenWindows.{gives_next, gives_end, refuses, ends_behind}
 use Rattle.input_windows.proofs.Still.{still_none}
 use Rattle.promise_spec.specs.Endings.{Ending, HasFailedAs}

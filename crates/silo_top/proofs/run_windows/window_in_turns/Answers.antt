@@ -1,6 +1,6 @@
-use Rattle.std.proofs.Common.{◌+◌, ◌<◌, ℕ, List, sym, ap, subst, ◌∙◌, arith}
+use Rattle.std.proofs.Common.{◌+◌, ◌<◌, ℕ, List, ap, subst, ◌∙◌}
 use Rattle.history_core.specs.Cores.{run_of}
-use Rattle.input_windows.specs.Windows.{window_in, before_in}
+use Rattle.input_windows.specs.Windows.{before_in}
 use Rattle.request_wire.specs.Lines.{lines_of}
 use Rattle.request_wire.specs.declared.requests.Line.{Line}
 use Rattle.run_lines.specs.LineReadings.{lines_from_texts}
