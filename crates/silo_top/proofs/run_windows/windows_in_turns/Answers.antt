@@ -5,14 +5,14 @@ pub loop-running-init : goal.loop-running-init
 loop-running-init g c = record {
   stays = λ before old u. u;
   can = c.requires.can;
-  ready = λ ready. ready;
+  ready = λ file ready. ready;
 }
 
 pub loop-running-preserved : goal.loop-running-preserved
 loop-running-preserved g c = record {
   stays = λ before old u. c.in-Ok.ensures.goes before old (c.loop-running.invariant.stays before old u);
   can = c.in-Ok.ensures.can;
-  ready = λ ready. c.window_in_turns.ensures.ready (c.loop-running.invariant.ready ready);
+  ready = λ file ready. c.window_in_turns.ensures.ready file (c.loop-running.invariant.ready file ready);
 }
 
 pub loop-running-smaller : goal.loop-running-smaller
