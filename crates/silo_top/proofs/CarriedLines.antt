@@ -106,6 +106,10 @@ core_left : {T : Type 0} (core : Core) (r' : Run) (result : Result T RunFault) �
 core_left core r' (Ok done) q = q
 core_left core r' (Err fault) q = tt
 
+loads_left : {T : Type 0} (core : Core) (result : Result T RunFault) → IfOk result (λ _. NoneLoads (own_sight (run_of core)).mine) → IfOk (with_core core result) (λ c. NoneLoads (own_sight (run_of c)).mine)
+loads_left core (Ok done) n = n
+loads_left core (Err fault) n = tt
+
 -- it ended by this fault, whatever else it would have come to
 abbrev fault_of : {T : Type 0} → Result T RunFault → Result Core RunFault
 fault_of (Ok done) = Err Memory
