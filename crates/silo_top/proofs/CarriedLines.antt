@@ -161,6 +161,7 @@ module _ {T : Type 0} (tells : Bool) (types : ProgramTree) (lines : List Line) (
   workers_all used back core some result kept beside loads answer q =
       let kept_so : WorkersKeep (Some core) result = subst (λ (x : Option Core). WorkersKeep x result) some kept in
       let beside_core : TurnsBeside tells (stage_by r s f w) (stage_by (run_of core) s' f' w') result = subst (λ (x : Option Core). IfSome x (λ c. TurnsBeside tells (stage_by r s f w) (stage_by (run_of c) s' f' w') result)) some beside in
+      let loads_core : IfOk result (λ _. NoneLoads (own_sight (run_of core)).mine) = subst (λ (x : Option Core). IfSome x (λ c. IfOk result (λ _. NoneLoads (own_sight (run_of c)).mine))) some loads in
       subst (CarriedLines tells workers_manner types lines used used (stage_by r s f w) (side_by s' f' w')) q (record {
         left = run_of core;
         carries = workers_carried tells types lines r s s' f f' w w' core result (run_of core) used kept_so;
