@@ -99,6 +99,11 @@ pub settled_is : (ends core).manager.settled ≡ both_entries
 unfolding put put_grain
 settled_is = refl
 
+-- both lines have begun
+pub begun_is : (ends core).units.lines ≡ 2
+unfolding put put_grain
+begun_is = refl
+
 pub emitted_is : (ends core).manager.emitted ≡ 2
 unfolding put put_grain
 emitted_is = refl

@@ -6,20 +6,18 @@ use Rattle.promise_spec.specs.Programs.{Program}
 use Rattle.promise_spec.specs.Windows.{line_limit, feeds, first_bad, told_number, before_bad, before_first, whole_windows}
 use Rattle.promise_spec.specs.Endings as ending
 use Rattle.promise_spec.specs.Courses.{Observed, Course, lines}
-use Rattle.promise_spec.specs.Promise.{AllowedBy, KeepsAnywhere}
+use Rattle.promise_spec.specs.Promise.{AllowsWindows, AllowsBefore, AllowedBy, KeepsAnywhere}
 use Rattle.promise_spec.proofs.Lists.{some_is}
 use Rattle.promise_examples.proofs.BadLines.{one_front}
 
 -- one line, by how long it is
-of_length : ℕ → ℕ → Option ℕ
+abbrev of_length : ℕ → ℕ → Option ℕ
 of_length before size = if nat_lt line_limit size || nat_lt 4294967295 (before + 1) then Some (before + 1) else None
 
 pub longest_line : (line : List ℕ) → length line ≡ 65536 → first_bad 0 (line ∷ []) ≡ None
-unfolding of_length
 longest_line line long = ap (of_length 0) long
 
 pub longer_line : (line : List ℕ) → length line ≡ 65537 → first_bad 0 (line ∷ []) ≡ Some 1
-unfolding of_length
 longer_line line long = ap (of_length 0) long
 
 -- so many lines have ended, and none is bad
@@ -35,7 +33,7 @@ module _ (p : Program) (r : Observed) (c : Course) (keeps : KeepsAnywhere p r c)
   pub long_line : (told n : ℕ) → r.ending ≡ ending.InputTooLong told → first_bad 0 (lines r) ≡ Some n → (c.allowed ≡ before_bad n) × (told ≡ told_number n)
   long_line told n is first =
       let k = keeps.ended.read in
-      let l = subst (λ (x : ending.Ending). AllowedBy x k.pulled r c.allowed) is k.allowed in
+      let l : AllowsBefore k.pulled told r c.allowed = subst (λ (x : ending.Ending). AllowedBy x k.pulled r c.allowed) is k.allowed in
       let same : l.number ≡ n = some_is l.number n (sym l.first ∙ first) in
       (l.before ∙ ap before_bad same, l.is_told ∙ ap told_number same)
 
@@ -43,6 +41,6 @@ module _ (p : Program) (r : Observed) (c : Course) (keeps : KeepsAnywhere p r c)
   pub read_lines : (front : List ℕ) (n : ℕ) → r.ending ≡ ending.ReadFault → r.old.input ≡ front ++ r.new.input → feeds front ≡ n → c.allowed ≡ before_first None n
   read_lines front n is split ended =
       let k = keeps.ended.read in
-      let a = subst (λ (x : ending.Ending). AllowedBy x k.pulled r c.allowed) is k.allowed in
+      let a : AllowsWindows k.pulled c.allowed = subst (λ (x : ending.Ending). AllowedBy x k.pulled r c.allowed) is k.allowed in
       let same : k.pulled ≡ front = one_front r.old.input r.new.input k.pulled front k.input split in
       a.windows ∙ ended_lines k.pulled n a.good (ap feeds same ∙ ended)

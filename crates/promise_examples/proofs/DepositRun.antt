@@ -294,9 +294,13 @@ module _ (r : Observed) (opened : Moment) (sealing : List Moment) (run : IsDepos
       (subst (λ n. KeepsTurnRule accounts true n r.manner.width r.manner.picks core) (sym run.one)
       (subst (λ w. KeepsTurnRule accounts true 1 w r.manner.picks core) (sym run.single.1) (subst (λ (picks : List ℕ). KeepsTurnRule accounts true 1 1 picks core) (sym run.single.2) one_turn_rule)))
 
-  few_begun : (core_end account_program course).units.lines ≡ 1
+  begun_is : (core_end account_program course).units.lines ≡ 1
   unfolding put put_grain
-  few_begun = refl
+  begun_is = refl
+
+  -- no more lines than are asked
+  few : (core_end account_program course).units.lines ≤ length (lines r)
+  few = (let begun : (core_end account_program course).units.lines ≡ 1 = begun_is in let all : length (lines r) ≡ 1 = run.one in omega (arith, begun, all))
 
   written : AreSettled account_program r course
   written = record {
@@ -331,10 +335,10 @@ module _ (r : Observed) (opened : Moment) (sealing : List Moment) (run : IsDepos
     risen = statuses.0;
     carried = statuses.1;
     read =
-        whole_read account_program r course run.left refl run.good (let begun : (core_end account_program course).units.lines ≡ 1 = few_begun in let all : length (lines r) ≡ 1 = run.one in omega arith)
-        (λ none. absurd (let all : length (lines r) ≡ 1 = run.one in omega (arith, all, none)))
-        (λ all. subst (λ (e : ending.Ending). AllowedBy e r.old.input r course.allowed) (sym run.ending) (all));
-    answered = λ is n low high. (first_entry, inl refl, (let one : length (lines r) ≡ 1 = run.one in omega arith));
+        whole_read account_program r course run.left refl run.good few
+        (λ none. absurd (let all : length (lines r) ≡ 1 = run.one in let zero : length (lines r) ≡ 0 = none in omega (arith, all, zero)))
+        (λ all. subst (λ (e : ending.Ending). AllowedBy e r.old.input r course.allowed) (sym run.ending) all);
+    answered = λ is n low high. (first_entry, inl refl, (let one : length (lines r) ≡ 1 = run.one in let most : n ≤ length (lines r) = high in omega (arith, one, low, most)));
     complete = λ calm. record { calm = statuses.2; undisturbed = λ e there. only (λ (d : Entry). IsUndisturbed d.what) first_entry e tt there };
     alone = λ single one none e there. only (λ (d : Entry). IsNoLock d.what) first_entry e tt there;
     syncs = λ calm is. run.syncs ∙ ap (λ (n : ℕ). r.old.syncs + n) (sym four_syncs);

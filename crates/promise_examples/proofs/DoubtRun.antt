@@ -387,9 +387,13 @@ module _ (r : Observed) (opened : Moment) (told doubting : List Moment) (run : I
       (subst (λ n. KeepsTurnRule accounts true n r.manner.width r.manner.picks core) (sym run.two)
       (subst (λ w. KeepsTurnRule accounts true 2 w r.manner.picks core) (sym run.pair.1) (subst (λ (picks : List ℕ). KeepsTurnRule accounts true 2 2 picks core) (sym run.pair.2) two_turn_rule)))
 
-  few_begun : (core_end account_program course).units.lines ≡ 2
+  begun_is : (core_end account_program course).units.lines ≡ 2
   unfolding put put_grain
-  few_begun = refl
+  begun_is = refl
+
+  -- no more lines than are asked
+  few : (core_end account_program course).units.lines ≤ length (lines r)
+  few = (let begun : (core_end account_program course).units.lines ≡ 2 = begun_is in let all : length (lines r) ≡ 2 = run.two in omega (arith, begun, all))
 
   other_file : (g : GrainId) → File (Grain 0 g) ≢ File manager
   other_file g same = let files : Grain 0 g ≡ Manager 0 = cc same in absurd (cc files)
@@ -441,8 +445,8 @@ module _ (r : Observed) (opened : Moment) (told doubting : List Moment) (run : I
     risen = statuses.0;
     carried = statuses.1;
     read =
-        whole_read account_program r course run.left refl run.good (let begun : (core_end account_program course).units.lines ≡ 2 = few_begun in let all : length (lines r) ≡ 2 = run.two in omega arith)
-        (λ none. absurd (let all : length (lines r) ≡ 2 = run.two in omega (arith, all, none)))
+        whole_read account_program r course run.left refl run.good few
+        (λ none. absurd (let all : length (lines r) ≡ 2 = run.two in let zero : length (lines r) ≡ 0 = none in omega (arith, all, zero)))
         (λ all. subst (λ (e : ending.Ending). AllowedBy e r.old.input r course.allowed) (sym run.ending) (inl all));
     answered = λ is. absurd (subst ending.IsAllWritten run.ending is);
     complete = λ calm. absurd (not_calm calm);

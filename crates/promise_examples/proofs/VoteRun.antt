@@ -315,9 +315,13 @@ module _ (r : Observed) (opened : Moment) (failing told : List Moment) (run : Is
       (subst (λ n. KeepsTurnRule accounts true n r.manner.width r.manner.picks core) (sym run.two)
       (subst (λ w. KeepsTurnRule accounts true 2 w r.manner.picks core) (sym run.pair.1) (subst (λ (picks : List ℕ). KeepsTurnRule accounts true 2 2 picks core) (sym run.pair.2) vote_turn_rule)))
 
-  few_begun : (core_end account_program course).units.lines ≡ 2
+  begun_is : (core_end account_program course).units.lines ≡ 2
   unfolding put put_grain
-  few_begun = refl
+  begun_is = refl
+
+  -- no more lines than are asked
+  few : (core_end account_program course).units.lines ≤ length (lines r)
+  few = (let begun : (core_end account_program course).units.lines ≡ 2 = begun_is in let all : length (lines r) ≡ 2 = run.two in omega (arith, begun, all))
 
   account_votes : RoseBy (how_many (is_no account_1) core) (r.faults_before (File (Grain 0 account_1))) (r.faults_after (File (Grain 0 account_1)))
   account_votes =
@@ -371,10 +375,10 @@ module _ (r : Observed) (opened : Moment) (failing told : List Moment) (run : Is
     risen = statuses.0;
     carried = statuses.1;
     read =
-        whole_read account_program r course run.left refl run.good (let begun : (core_end account_program course).units.lines ≡ 2 = few_begun in let all : length (lines r) ≡ 2 = run.two in omega arith)
-        (λ none. absurd (let all : length (lines r) ≡ 2 = run.two in omega (arith, all, none)))
-        (λ all. subst (λ (e : ending.Ending). AllowedBy e r.old.input r course.allowed) (sym run.ending) (all));
-    answered = λ is n low high. answered n low (let two : length (lines r) ≡ 2 = run.two in omega arith);
+        whole_read account_program r course run.left refl run.good few
+        (λ none. absurd (let all : length (lines r) ≡ 2 = run.two in let zero : length (lines r) ≡ 0 = none in omega (arith, all, zero)))
+        (λ all. subst (λ (e : ending.Ending). AllowedBy e r.old.input r course.allowed) (sym run.ending) all);
+    answered = λ is n low high. answered n low (let two : length (lines r) ≡ 2 = run.two in let most : n ≤ length (lines r) = high in omega (arith, two, most));
     complete = λ calm. absurd (not_calm calm);
     alone = λ single one none e there. absurd (let two : r.manner.width ≡ 2 = run.pair.1 in let width : r.manner.width ≡ 1 = one in omega arith);
     syncs = λ calm is. absurd (not_calm calm);

@@ -60,7 +60,7 @@ use Rattle.promise_examples.proofs.SealingDisks.{sealed_front, gate_front, alone
 use Rattle.promise_examples.proofs.HostSteps.{pulled, ended, wrote_grain, wrote_log, synced_grain, synced_log, emitted}
 use Rattle.promise_examples.proofs.MomentParts.{at_each, exit_there, all_less}
 use Rattle.promise_examples.proofs.WholeBatches.{no_batch}
-use Rattle.promise_examples.proofs.BatchRules.{batch_unit_rule, batch_turn_rule, settled_is, emitted_is, records_are, both_end, no_doubt, no_votes, no_seals, voted_on, four_most, four_syncs}
+use Rattle.promise_examples.proofs.BatchRules.{batch_unit_rule, batch_turn_rule, settled_is, emitted_is, begun_is, records_are, both_end, no_doubt, no_votes, no_seals, voted_on, four_most, four_syncs}
 use Rattle.promise_examples.proofs.WrittenDoubt.{asks, sound_at_entry}
 
 -- ---- the bytes
@@ -401,15 +401,14 @@ answered (suc (suc (suc n))) low high = absurd (omega arith)
 
 -- both lines have begun
 few_begun : (core_end account_program batch_course).units.lines ≤ 2
-unfolding put put_grain
-few_begun = omega arith
+few_begun = (let two : (core_end account_program batch_course).units.lines ≡ 2 = begun_is in omega (arith, two))
 
 ends : EndsRightly account_program batched batch_course
 ends = record {
   given = refl;
   risen = tt;
   carried = tt;
-  read = whole_read account_program batched batch_course refl refl refl few_begun (λ none. absurd (cc none)) (λ all. all);
+  read = whole_read account_program batched batch_course refl refl refl few_begun (λ none. absurd (let zero : 2 ≡ 0 = none in omega (arith, zero))) (λ all. all);
   answered = λ is. answered;
   syncs = λ calm is. ap (λ (n : ℕ). batched.old.syncs + n) (sym four_syncs);
   most = (let few : most_syncs_of (core_run account_program batch_course) ≡ 4 = four_most in omega (arith, few));

@@ -2,7 +2,7 @@
 use Rattle.log_reading.specs.Blocks.{header_damage}
 use Rattle.promise_examples.proofs.WholeInputs.{whole_read}
 use Rattle.promise_examples.proofs.AccountLogs.{account_begins}
-use Rattle.std.proofs.Common.{◌≡◌, ◌≢◌, inl, inr, ℕ, ◌≤◌, List, [], ◌∷◌, ◌++◌, length, take, drop, slice_index, refl, sym, ◌∙◌, ap, subst, arith}
+use Rattle.std.proofs.Common.{◌≡◌, ◌≢◌, inl, ℕ, ◌≤◌, List, [], ◌∷◌, ◌++◌, length, take, drop, slice_index, refl, sym, ◌∙◌, ap, subst, arith}
 use Rattle.std.specs.Fmt.{digits}
 use Rattle.std.specs.List.{AllByRecursion}
 use Rattle.serde_json.proofs.OnLiterals.{serde_json_on_literals}
@@ -305,7 +305,7 @@ ends = record {
   given = refl;
   risen = manager_fails.rose;
   carried = tt;
-  read = whole_read account_program unbegun unbegun_course refl refl refl few_begun (λ none. absurd (cc none)) (λ all. inl all);
+  read = whole_read account_program unbegun unbegun_course refl refl refl few_begun (λ none. absurd (let zero : 2 ≡ 0 = none in omega (arith, zero))) (λ all. inl all);
   answered = λ is. absurd is;
   syncs = λ calm is. absurd (not_calm calm);
   most = (let few : most_syncs_of (core_run account_program unbegun_course) ≡ 4 = four_most in omega (arith, few));

@@ -64,7 +64,7 @@ use Rattle.promise_spec.specs.Crashes.{Acknowledges, IsAside}
 use Rattle.promise_spec.specs.Batches.{kept_by}
 use Rattle.promise_spec.specs.Explanation.{AreAdded}
 use Rattle.promise_spec.specs.Exits.{HasBlock, IsExit}
-use Rattle.promise_spec.specs.Promise.{AllowedBy, Keeps, KeepsAnywhere}
+use Rattle.promise_spec.specs.Promise.{AllowsBefore, AllowedBy, Keeps, KeepsAnywhere}
 use Rattle.promise_spec.specs.Loads.{KeepsLoad}
 use Rattle.promise_spec.proofs.Lists.{head_of, none_is, none_at, some_is, each_of, in_append, either_in, get_seam, member_at}
 use Rattle.promise_spec.proofs.OpenedRuns.{in_settled, no_events}
@@ -348,7 +348,7 @@ module _ (p : Program) (r : Observed) (c : Course) where
   pub begun_in_bad : (told number : ℕ) → Keeps p r c → r.ending ≡ ending.InputTooLong told → first_bad 0 (lines r) ≡ Some number → before_bad number < (core_end p c).units.lines → ⊥
   begun_in_bad told number keeps is first more =
       let k = keeps.ended.read in
-      let l = subst (λ (x : ending.Ending). AllowedBy x k.pulled r c.allowed) is k.allowed in
+      let l : AllowsBefore k.pulled told r c.allowed = subst (λ (x : ending.Ending). AllowedBy x k.pulled r c.allowed) is k.allowed in
       let so_many : c.allowed ≡ before_bad number = l.before ∙ ap before_bad (some_is l.number number (sym l.first ∙ first)) in
       let few = k.few in
       omega (arith, so_many, few, more)

@@ -12,7 +12,7 @@ use Rattle.promise_spec.specs.Cores.{applied_from}
 use Rattle.promise_spec.specs.UnitAnswers.{Got, got_from, got_in}
 use Rattle.promise_spec.specs.UnitRule.{Basis, IsDue, KeepsUnitRule}
 use Rattle.promise_spec.specs.TurnRule.{IsTurn, KeepsTurnRule, line_can_begin, movers, mover_of, takes_pick, picked}
-use Rattle.turn_rules.specs.NextEvent.{with_event, got_next, MayCome, IsNext}
+use Rattle.turn_rules.specs.NextEvent.{with_event, got_next, MayCome, IsNext, movers_in}
 use Rattle.promise_spec.proofs.Lists.{some_is}
 
 -- what stands in a list with one more stands in the list, or is the last

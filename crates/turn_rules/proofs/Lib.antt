@@ -12,5 +12,5 @@ pub mod OthersEvents
 pub mod LegalRuns
 pub mod Picks
 pub mod Settlers
-pub mod Windows
+pub mod WithinWindows
 pub mod Turns

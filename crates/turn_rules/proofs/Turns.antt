@@ -27,7 +27,7 @@ use Rattle.turn_rules.proofs.Movers.{begins-kept, drop-kept, kept-begun, kept-on
 use Rattle.turn_rules.proofs.RunCounts.{counted-ends}
 use Rattle.turn_rules.proofs.Growth.{ends-more, turn-grows, unit-grows}
 use Rattle.turn_rules.proofs.LegalRuns.{legal-run}
-use Rattle.turn_rules.proofs.Windows.{tests, stays, begins-fresh}
+use Rattle.turn_rules.proofs.WithinWindows.{tests, stays, begins-fresh}
 use Rattle.turn_rules.proofs.Settlers.{going-by, settlers, settlers-due, settlers-go}
 use Rattle.turn_rules.proofs.Numbers.{older-filter, older-last}
 use Rattle.turn_rules.proofs.Picks.{used-none, used-one, used-unapplied}

@@ -1,5 +1,5 @@
 -- A run within a window of its input.
-use Rattle.std.specs.Prelude.{◌≡◌, ◌<◌, ◌≤◌, ℕ, Bool, true, false, List, []}
+use Rattle.std.specs.Prelude.{◌≡◌, ◌<◌, ◌≤◌, ℕ, Bool, true, false, []}
 use Rattle.core_model.specs.LegalRuns.{Run, ends}
 use Rattle.script_tree.specs.Programs.{ProgramTree}
 use Rattle.promise_spec.specs.TurnRule.{at_seam}

@@ -1,4 +1,4 @@
-use Rattle.turn_rules.proofs.Windows.{tests, stays, begins-window, begins-fresh, plain, one-window}
+use Rattle.turn_rules.proofs.WithinWindows.{tests, stays, begins-window, begins-fresh, plain, one-window}
 use Rattle.turn_rules.proofs.windows.turns_stay_in_a_window.Goals as goal
 
 pub returns-clause-tests : goal.returns-clause-tests
