@@ -22,8 +22,8 @@ use Rattle.turn_rules.specs.NextEvent.{with_event, MayCome, IsNext, movers_in, n
 use Rattle.turn_rules.specs.CarriedUnits.{movers_of}
 use Rattle.turn_rules.specs.TurnLoop.{IsPicked, TurnLoop, has_room}
 use Rattle.turn_rules.proofs.Growth.{unit-grows, turn-grows}
-use Rattle.turn_rules.proofs.Movers.{movers-kept}
-use Rattle.turn_rules.proofs.Turns.{can-begin}
+use Rattle.turn_rules.proofs.Movers.{begins-kept, movers-kept}
+use Rattle.turn_rules.proofs.WithinWindows.{tests}
 use Rattle.txn_agent.specs.AgentStep.{Acts}
 use Rattle.unit_carrier.specs.Lines.{PutsLine, IsEventOf}
 use Rattle.run_books.specs.declared.faults.RunFault.TheVariants.{Memory}
@@ -71,11 +71,15 @@ module _ (keeps : OthersKeep) (tells : Bool) (o : Outset) (lines : List Line) (b
         ended = on.1.rest;
       })
 
+  -- whether a line can begin is told by the units that are carried
+  can-begin : o.ruled ≡ true → line_can_begin o.windowed o.width (length o.asked) s.at.run (ends s.at.run) (movers_in o.program.types s.at.run) ≡ has_room l
+  can-begin ruled = tests o.program.types o.windowed o.width (length o.asked) s.at.run (way.turning.within ruled) ∙ begins-kept o.width (length o.asked) s.at.run l.units way.turning.kept
+
   -- the picked unit's event is the next
   unit-next : o.ruled ≡ true → (u : UnitNo) → IsPicked l (OfUnit u) → (e : CoreEvent) → mover_of e ≡ OfUnit u → IsNext o.program.types o.windowed (length o.asked) o.width o.picks s.at.run e
   unit-next ruled u pick e own a =
       subst (λ (m : Mover). IsTurn (line_can_begin o.windowed o.width (length o.asked) s.at.run (ends s.at.run) (movers_in o.program.types s.at.run)) (picked (movers_in o.program.types s.at.run) (next_pick o.picks s.at.run)) (ends s.at.run) e m) (sym own) (
-        can-begin l way.turning ruled ∙ pick.none,
+        can-begin ruled ∙ pick.none,
         ap (λ (ms : List Mover). picked ms (next_pick o.picks s.at.run)) (movers-kept o.program.types s.at.run l.units way.turning.kept)
             ∙ ap (λ (n : ℕ). picked (movers_of o.program.types s.at.run l.units) (get_or o.picks n 0)) (sym (way.turning.count ruled)) ∙ pick.pick,
       )
@@ -83,7 +87,7 @@ module _ (keeps : OthersKeep) (tells : Bool) (o : Outset) (lines : List Line) (b
   line-next : o.ruled ≡ true → has_room l ≡ true → (e : CoreEvent) → mover_of e ≡ OfLine → IsNext o.program.types o.windowed (length o.asked) o.width o.picks s.at.run e
   line-next ruled room e own a =
       subst (λ (m : Mover). IsTurn (line_can_begin o.windowed o.width (length o.asked) s.at.run (ends s.at.run) (movers_in o.program.types s.at.run)) (picked (movers_in o.program.types s.at.run) (next_pick o.picks s.at.run)) (ends s.at.run) e m) (sym own)
-      (can-begin l way.turning ruled ∙ room)
+      (can-begin ruled ∙ room)
 
   -- a unit's step that had no memory
   pub unit-lacks : (u : UnitNo) → IsPicked l (OfUnit u) → Acts none_comes o.program.types u (own_sight s.at.run) (own_sight r') → Ends r'

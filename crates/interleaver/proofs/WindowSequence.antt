@@ -1,26 +1,25 @@
 -- Window after window: where one was carried the next begins, and the record of those so far is that of all of them.
-use Rattle.std.proofs.Common.{◌≡◌, ℕ, zero, suc, ◌+◌, ◌<◌, ◌≤◌, ◌%◌, Some, List, [], ◌∷◌, ◌++◌, length, length-append, Bool, true, false, true≢false, inl, inr, refl, sym, ap, ◌∙◌, subst, arith, eqb, eqb-true, slice_get}
+use Rattle.std.proofs.Common.{◌≡◌, ℕ, zero, suc, ◌+◌, ◌<◌, ◌≤◌, ◌%◌, Some, List, [], ◌∷◌, ◌++◌, length, length-append, Bool, true, false, inl, inr, refl, sym, ap, subst, arith, eqb, eqb-true, slice_get}
 use Rattle.std.proofs.lemmas.Bool.{cases_Bool}
 use Rattle.request_wire.specs.declared.requests.Line.{Line}
 use Rattle.request_wire.specs.Names.{names_in}
 use Rattle.request_wire.specs.Request.{call_of}
 use Rattle.core_model.specs.declared.effects.Effect.{Effect}
-use Rattle.core_model.specs.LegalRuns.{Run, ends}
+use Rattle.core_model.specs.LegalRuns.{ends}
 use Rattle.core_model.specs.Lines.{EntriesAreOnce}
 use Rattle.core_laws.proofs.LineEntries.{once-ends}
 use Rattle.script_tree.specs.Programs.{ProgramTree}
 use Rattle.promise_spec.specs.Lines.{ReadsLineAs}
 use Rattle.promise_spec.specs.Windows.{window_lines}
 use Rattle.promise_spec.specs.TurnRule.{at_seam, picks_used}
-use Rattle.promise_spec.specs.UnitRule.{KeepsUnitRule}
 use Rattle.turn_rules.proofs.LegalRuns.{legal-run}
 use Rattle.run_lines.specs.LineReadings.{line_from_text, lines_from_texts}
-use Rattle.run_books.specs.Beginnings.{Outset, IsOutset, CanTurn, GoUpFrom, basis_of, with_more}
+use Rattle.run_books.specs.Beginnings.{Outset, GoUpFrom, basis_of, with_more}
 use Rattle.run_books.specs.Books.{Books}
 use Rattle.run_books.specs.Records.{HasCarriedAll}
 use Rattle.run_books.specs.Stages.{Stage}
 use Rattle.run_books.proofs.MoreLines.{begun-lines, record-more, rule-more}
-use Rattle.interleaver.specs.Turns.{IsFreshRecord, KeepsTurns, LinesMayBegin, StandsBehind}
+use Rattle.interleaver.specs.Turns.{KeepsTurns, LinesMayBegin, StandsBehind}
 use Rattle.interleaver.proofs.RunContinuation.{can-again, fresh-again}
 use Rattle.interleaver.proofs.RunningTurns.{turns-record}
 

@@ -6,7 +6,6 @@ use mathlib.Core.List.{append_assoc}
 use Rattle.base_types.specs.declared.entries.Entry.{Entry}
 use Rattle.host_trait.specs.declared.channels.FileId.{FileId}
 use Rattle.host_trait.specs.declared.channels.FileId.TheVariants.{Manager}
-use Rattle.host_trait.specs.World.{World}
 use Rattle.host_trait.specs.declared.channels.Channel.{Channel}
 use Rattle.core_model.specs.CoreState.{CoreState}
 use Rattle.core_model.specs.declared.effects.Effect.{Effect}
@@ -20,7 +19,7 @@ use Rattle.promise_spec.specs.Journals.{Settlement, commits_of, entries_of}
 use Rattle.promise_spec.specs.UnitRule.{Basis, KeepsUnitRule}
 use Rattle.promise_spec.specs.TurnRule.{KeepsTurnRule}
 use Rattle.promise_spec.specs.Causes.{AreFaults, RunHasDoubt}
-use Rattle.promise_spec.specs.Endings.{Ending, Done, DiskFault, EndingMayDoubt, IsAllWritten, IsDiskFault, WriteFault as Unwritten, Memory as NoMemory}
+use Rattle.promise_spec.specs.Endings.{Ending, Done, DiskFault, IsAllWritten, IsDiskFault, WriteFault as Unwritten, Memory as NoMemory}
 use Rattle.promise_spec.specs.Courses.{Observed, Course, basis, core_run, core_end}
 use Rattle.promise_spec.specs.Explanation.{AreAdded, AreSettled, FileMayEndInDoubt, LeavesUnvoted, EndsWritten, IsCutShort}
 use Rattle.promise_laws.specs.Obligations.{ExplainsEvents}
