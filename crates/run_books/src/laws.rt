@@ -22,8 +22,9 @@ ghost use Rattle.run_books.specs.RunCourse.{EndsSo, IsCourseOf, turns_ending};
 ghost use Rattle.run_books.specs.Stages.{Stage, stage_by};
 
 /// What the record of a run says, however it ended, is what a whole run has to show over any folder: that the core's events explain
-/// what it did, where those of one thread keep the turn rule; that a grain's file is written for a vote alone; that what it wrote is what is settled; and, where the images keep the
-/// books, what has to last. A run may end as its turns were answered, and where all so far was carried in any way but by a file's fault.
+/// what it did, where those of one thread keep the turn rule; that a grain's file is written for a vote alone; that what it wrote is
+/// what is settled; and, where the images keep the books, what has to last. A run may end as its turns were answered, and where all so
+/// far was carried in any way but by a file's fault.
 pub fn records_show<T>()
     ensures by_turns { (o : Outset) (b : Books) (s : Stage) (result : AResult T AFault) (ending : Ending) → TurnsEndAs o b s result → ending ≡ turns_ending o.live result
         → EndsSo o s.run ending }
