@@ -38,12 +38,12 @@ can_carry tells x s now start above bounds fits =
 
 -- what was carried, of the program that was opened
 pub of_opened : (tells : Bool) (x : Opened) (s : Started) (lines_by : ProgramTree → List Line) (counts : Channel → ℕ) (now : World) (m : Manner) (settler' : Settler) (after : Channel → ℕ) (new : World) (result : Result Core RunFault) → IsStartOf x s
-    → WasCarried tells s (lines_by (program_tree s.checked)) counts now m (side_by settler' after new) result
-    → CarriedLines tells m (program_tree x.checked) (lines_by (program_tree x.checked)) (stage_by (run_of s.core) s.settler counts now) (side_by settler' after new) result
+    → (went : WasCarried tells s (lines_by (program_tree s.checked)) counts now m (side_by settler' after new) result)
+    → CarriedLines tells m (program_tree x.checked) (lines_by (program_tree x.checked)) 0 went.used (stage_by (run_of s.core) s.settler counts now) (side_by settler' after new) result
 of_opened tells x s lines_by counts now m settler' after new result start went =
-    subst (λ (k : ProgramTree). CarriedLines tells m k (lines_by k) (stage_by (run_of s.core) s.settler counts now) (side_by settler' after new) result) (ap program_tree start.checked) went.carried
+    subst (λ (k : ProgramTree). CarriedLines tells m k (lines_by k) 0 went.used (stage_by (run_of s.core) s.settler counts now) (side_by settler' after new) result) (ap program_tree start.checked) went.carried
 
 -- over a host that tells
-pub told_lines : (tells : Bool) (m : Manner) (types : ProgramTree) (lines : List Line) (r : Run) (s s' : Settler) (counts counts' : Channel → ℕ) (now now' : World) (result : Result Core RunFault) → IsTrue tells
-    → CarriedLines tells m types lines (stage_by r s counts now) (side_by s' counts' now') result → CarriedLines true m types lines (stage_by r s counts now) (side_by s' counts' now') result
-told_lines tells m types lines r s s' counts counts' now now' result told carried = subst (λ (t : Bool). CarriedLines t m types lines (stage_by r s counts now) (side_by s' counts' now') result) told carried
+pub told_lines : (tells : Bool) (m : Manner) (types : ProgramTree) (lines : List Line) (used : ℕ) (r : Run) (s s' : Settler) (counts counts' : Channel → ℕ) (now now' : World) (result : Result Core RunFault) → IsTrue tells
+    → CarriedLines tells m types lines 0 used (stage_by r s counts now) (side_by s' counts' now') result → CarriedLines true m types lines 0 used (stage_by r s counts now) (side_by s' counts' now') result
+told_lines tells m types lines used r s s' counts counts' now now' result told carried = subst (λ (t : Bool). CarriedLines t m types lines 0 used (stage_by r s counts now) (side_by s' counts' now') result) told carried

@@ -1,5 +1,5 @@
 -- The making of a load's silo, and its opening.
-use Rattle.std.proofs.Common.{◌≡◌, ◌⊎◌, inl, inr, ℕ, ◌+◌, ◌≤◌, List, Result, Ok, Err, refl, sym, subst}
+use Rattle.std.proofs.Common.{◌≡◌, ◌⊎◌, inl, inr, ℕ, ◌+◌, ◌≤◌, List, Result, Ok, Err, refl, sym, subst, false}
 use Rattle.host_trait.specs.declared.channels.Channel.{Channel}
 use Rattle.host_trait.specs.Faults.{NoneFailed}
 use Rattle.host_trait.specs.Disk.{FileState, MayLeave, settled}
@@ -18,7 +18,7 @@ use Rattle.promise_spec.specs.Openings.{opened_as}
 use Rattle.promise_spec.specs.Refusals.{IsRefusedBy}
 use Rattle.promise_spec.specs.Words.{Manner}
 use Rattle.promise_spec.specs.Endings as ending
-use Rattle.promise_spec.specs.Endings.{Ending, HasFailedAs, HasRisen}
+use Rattle.promise_spec.specs.Endings.{Ending, HasFailedAs, HasRisen, IsLoadCarried}
 use Rattle.promise_spec.specs.Courses.{Observed}
 use Rattle.promise_spec.specs.Loads.{bank_text, IsUnmade, Loads}
 use Rattle.promise_laws.specs.Closings.{ReadsMayStay}
@@ -49,7 +49,7 @@ done_of A done = Ok done
 
 module _ (m : Manner) (asked : List (List ℕ)) (old new : World) (before after : Channel → ℕ) where
   abbrev ended_so : Ending → Observed
-  ended_so e = record { manner = m; asked = asked; old = old; new = new; faults_before = before; faults_after = after; ending = e }
+  ended_so e = record { manner = m; asked = asked; windowed = false; old = old; new = new; faults_before = before; faults_after = after; ending = e }
 
   pub uncreated : (A : Type 0) (e : CreateFault) (status : Status) → status_ending status ≡ creation_ending e → StaysBeside old new → CameThisFar magic bank_text old new → CreateFaulted e before after
       → (fault_of A e ≡ fault_of A CreateFault.AlreadyASilo → IsSilo magic (old.disk manager).seen × (new.disk manager ≡ settled (old.disk manager).seen))
@@ -74,12 +74,12 @@ module _ (m : Manner) (asked : List (List ℕ)) (old new : World) (before after 
         failed = f.1;
       }
 
-pub uncreated_answers : (e : CreateFault) (status : Status) (before after : Channel → ℕ) → status_ending status ≡ creation_ending e → CreateFaulted e before after → AnswersRun (status_ending status) before after
-uncreated_answers e status before after is faulted = subst (λ (y : Ending). AnswersRun y before after) (sym is) (by e faulted)
+pub uncreated_answers : (e : CreateFault) (status : Status) (before after : Channel → ℕ) → status_ending status ≡ creation_ending e → CreateFaulted e before after → AnswersRun IsLoadCarried (status_ending status) before after
+uncreated_answers e status before after is faulted = subst (λ (y : Ending). AnswersRun IsLoadCarried y before after) (sym is) (by e faulted)
   where
-    by : (x : CreateFault) → CreateFaulted x before after → AnswersRun (creation_ending x) before after
-    by CreateFault.AlreadyASilo f = exactly_answers before after ending.AlreadyASilo (λ q. cc q) f
-    by (CreateFault.DiskFault file) f = exactly_answers before after (ending.DiskFault file) (λ q. cc q) f.1
+    by : (x : CreateFault) → CreateFaulted x before after → AnswersRun IsLoadCarried (creation_ending x) before after
+    by CreateFault.AlreadyASilo f = exactly_answers before after IsLoadCarried ending.AlreadyASilo (λ q. cc q) f
+    by (CreateFault.DiskFault file) f = exactly_answers before after IsLoadCarried (ending.DiskFault file) (λ q. cc q) f.1
 
 -- ---- it was made
 
@@ -107,6 +107,7 @@ made_loads n seed m asked old made new before between after status is none carri
     let k : CarriesLoad n seed (observed_call m asked made new before after status) = subst (λ (f : Channel → ℕ). CarriesLoad n seed (observed_call m asked made new f after status)) (λ i c. none c i) carries in
     record {
       manner = refl;
+      windowed = refl;
       answers = inr (record {
         made = made;
         has = record { absent = is.absent; beside = is.beside; makes = is.makes; new = is.new; syncs = is.syncs };
@@ -122,8 +123,8 @@ unopened_carries n seed m asked bank old new before after e status reads is run 
   carried = inl (refused_unopened m asked old new before after e status is run refused faulted);
 }
 
-pub unopened_answers : (e : OpenFault) (status : Status) (before after : Channel → ℕ) → status_ending status ≡ ending_of e → OpenFaulted e before after → AnswersRun (status_ending status) before after
-unopened_answers e status before after is faulted = subst (λ (y : Ending). AnswersRun y before after) (sym is) (exactly_answers before after (ending_of e) (open_good before after e) (open_failed before after e faulted))
+pub unopened_answers : (may : Ending → Type 0) (e : OpenFault) (status : Status) (before after : Channel → ℕ) → status_ending status ≡ ending_of e → OpenFaulted e before after → AnswersRun may (status_ending status) before after
+unopened_answers may e status before after is faulted = subst (λ (y : Ending). AnswersRun may y before after) (sym is) (exactly_answers before after may (ending_of e) (open_good before after e) (open_failed before after e faulted))
 
 -- where there was no memory behind the opening
 pub starved_carries : (n seed : ℕ) (m : Manner) (asked : List (List ℕ)) (x : Opened) (old mid : World) (before after : Channel → ℕ) → program_in bank_text ≡ Ok (program_tree x.checked) → IsBehindOpening old mid x → NoneFailed before after

@@ -69,7 +69,7 @@ same_opened x bank seen same is = record {
 pub same_behind : (x : Opened) (bank : Tree) (old mid : World) → program_in bank_text ≡ Ok (program_tree bank) → IsNewBank old → ReadsMayStay old → IsBehindOpening old mid x → IsBehindOpening old mid (with_checked x bank)
 same_behind x bank old mid reads new stay is = record {
   opened = same_opened x bank (seen_in old.disk) (ap (λ (p : Program). p.types) (opened_same (program_tree bank) reads x (seen_in old.disk) (new (seen_in old.disk) stay) is.opened).0) is.opened;
-  settled = is.settled;
+  left = is.left;
   count = is.count;
   left = is.left;
   run = is.run;

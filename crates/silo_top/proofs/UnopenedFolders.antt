@@ -1,10 +1,10 @@
 -- A folder that wasn't opened.
-use Rattle.std.proofs.Common.{◌≡◌, inl, ℕ, List, refl, sym, subst, arith}
+use Rattle.std.proofs.Common.{◌≡◌, inl, true, ℕ, List, refl, sym, subst, arith}
 use Rattle.host_trait.specs.declared.channels.Channel.{Channel}
 use Rattle.host_trait.specs.World.{World}
 use Rattle.host_trait.proofs.Moments.{started}
-use Rattle.silo_spec.specs.Moments.{IsAsAtEntry, IsUntouched}
 use Rattle.silo_spec.specs.OpenedDisks.{OnlyOpens}
+use Rattle.silo_spec.specs.Moments.{IsAsAtEntry, IsUntouched}
 use Rattle.silo_spec.specs.Creation.{IsBeside}
 use Rattle.log_reading.specs.Steps.{seen_in}
 use Rattle.promise_spec.specs.Words.{Manner}
@@ -18,8 +18,8 @@ use Rattle.promise_spec.specs.Promise.{Promises}
 use Rattle.silo_opening.specs.OpenedSilo.{ending_of}
 use Rattle.silo_opening.specs.Counts.{OpenFaulted}
 use Rattle.silo_opening.specs.declared.faults.OpenFault.{OpenFault}
-use Rattle.silo_opening.proofs.OpeningCalls.{opens_untouched}
 use Rattle.silo_top.specs.declared.status.Status.{Status}
+use Rattle.silo_opening.proofs.OpeningCalls.{opens_untouched}
 use Rattle.silo_top.specs.Statuses.{status_ending}
 use Rattle.silo_top.proofs.ShownCalls.{observed_call, observed_run}
 use Rattle.silo_top.proofs.FaultCounts.{open_failed}
@@ -27,13 +27,13 @@ use Rattle.silo_top.proofs.FaultCounts.{open_failed}
 -- ---- nothing but looking
 
 -- a run that didn't open its folder keeps its promise
-pub unopened_promised : (m : Manner) (r : Observed) → r.manner ≡ m → IsUnopened r → Promises m r
-unopened_promised m r is u = record { manner = is; answers = inl u; over_whole = λ whole. inl u }
+pub unopened_promised : (m : Manner) (r : Observed) → r.manner ≡ m → r.windowed ≡ true → IsUnopened r → Promises m r
+unopened_promised m r is cut u = record { manner = is; windowed = cut; answers = inl u; over_whole = λ whole. inl u }
 
 -- so does one whose opening answered a fault
 pub refused_promised : (m : Manner) (old new : World) (before after : Channel → ℕ) (e : OpenFault) (status : Status) → status_ending status ≡ ending_of e → OnlyOpens old new
     → IsRefusedBy (seen_in old.disk) (opened_as (seen_in old.disk)) (ending_of e) → OpenFaulted e before after → Promises m (observed_run m old new before after status)
-refused_promised m old new before after e status is run refused faulted = unopened_promised m (observed_run m old new before after status) refl (record {
+refused_promised m old new before after e status is run refused faulted = unopened_promised m (observed_run m old new before after status) refl refl (record {
   untouched = opens_untouched _ old new run;
   unread = run.input;
   syncs = run.syncs;
@@ -60,8 +60,14 @@ starved_unopened m asked w counts = record {
   failed = λ channel. refl;
 }
 
-pub starved_promised : (m : Manner) (asked : List (List ℕ)) (w : World) (counts : Channel → ℕ) → Promises m (observed_call m asked w w counts counts Status.Memory)
-starved_promised m asked w counts = unopened_promised m (observed_call m asked w w counts counts Status.Memory) refl (starved_unopened m asked w counts)
+pub starved_promised : (m : Manner) (w : World) (counts : Channel → ℕ) → Promises m (observed_run m w w counts counts Status.Memory)
+starved_promised m w counts = unopened_promised m (observed_run m w w counts counts Status.Memory) refl refl (record {
+  untouched = nothing_touched w;
+  unread = refl;
+  syncs = omega arith;
+  refused = tt;
+  failed = λ channel. refl;
+})
 
 pub starved_made : (m : Manner) (asked : List (List ℕ)) (w : World) (counts : Channel → ℕ) → MakesSilo (observed_call m asked w w counts counts Status.Memory)
 starved_made m asked w counts = record {

@@ -1,5 +1,5 @@
 -- A load from its opening to its end, over a host that tells.
-use Rattle.std.proofs.Common.{◌≡◌, ◌≢◌, ◌⊎◌, inl, inr, ℕ, ◌+◌, ◌<◌, ◌≤◌, Bool, true, IsTrue, List, [], ◌∷◌, ◌++◌, length, Result, Ok, Err, refl, sym, ◌∙◌, ap, subst, arith, append-nil, append_assoc}
+use Rattle.std.proofs.Common.{◌≡◌, ◌≢◌, ◌⊎◌, inl, inr, ℕ, ◌+◌, ◌<◌, ◌≤◌, Bool, true, IsTrue, List, [], ◌∷◌, ◌++◌, length, Result, Ok, Err, refl, sym, ◌∙◌, ap, subst, arith, append-nil, append_assoc, false}
 use Rattle.std.specs.Prelude.{take, not}
 use Rattle.std.proofs.lemmas.List.{append_cancel_left}
 use Rattle.base_types.specs.declared.calls.GrainId.{GrainId}
@@ -28,7 +28,7 @@ use Rattle.promise_spec.specs.Cores.{core_from, how_many}
 use Rattle.promise_spec.specs.Causes.{NoneRose, AreFaults, RoseBy, RunHasDoubt, is_vote, is_vote_of, is_no, is_unsealed, is_sealed, syncs_of, most_syncs_of}
 use Rattle.promise_spec.specs.Commands.{MayCut, Prints}
 use Rattle.promise_spec.specs.Endings as ending
-use Rattle.promise_spec.specs.Endings.{Ending, HasRisen, HasFailedAs, IsBegun, EndingMayDoubt}
+use Rattle.promise_spec.specs.Endings.{Ending, HasRisen, HasFailedAs, IsLoadCarried, EndingMayDoubt}
 use Rattle.promise_spec.specs.Promise.{IsAnswered}
 use Rattle.promise_spec.specs.Journals.{Settlement, AllLog, commits_of, entries_of}
 use Rattle.promise_spec.specs.Courses.{Observed, Course, core_run, core_end}
@@ -50,7 +50,7 @@ use Rattle.run_books.specs.Records.{KeepsFile, TurnsEndAs, HasCarriedAll}
 use Rattle.interleaver.specs.Turns.{KeepsTurns}
 use Rattle.promise_spec.specs.Words.{Manner}
 use Rattle.silo_top.specs.LineExecution.{StartsRun, CarriedOn, CarriesOn}
-use Rattle.run_books.proofs.ShownRecord.{explains}
+use Rattle.run_books.proofs.ShownRecord.{explains, ends-by}
 use Rattle.run_books.proofs.TurnImages.{lasts}
 use Rattle.run_books.proofs.BooksCalls.{file-on}
 use Rattle.run_books.proofs.UnvotedFiles.{unvoted_behind}
@@ -78,7 +78,7 @@ use Rattle.silo_top.proofs.TurnStart.{no_books, starts_kept, starts_quiet, start
 use Rattle.silo_top.proofs.StartImages.{starts_lasting}
 use Rattle.silo_top.proofs.LoadStart.{bank_of, bank_checked, bank_whole, opened_same}
 use Rattle.silo_top.proofs.CoreOpening.{start_is}
-use Rattle.silo_top.proofs.InputPieces.{still_none}
+use Rattle.input_windows.proofs.Still.{still_none}
 use Rattle.silo_opening.proofs.OpeningCalls.{opens_untouched}
 use Rattle.run_books.specs.Stages.{stage_by}
 
@@ -101,10 +101,10 @@ summary_risen e old mid new (inr (inl q)) f calm =
     subst (λ (y : Ending). HasRisen y old new) (sym q) (subst (λ (k : ℕ). Rose k (new Output)) calm (subst (λ (y : Ending). HasFailedAs y mid new) q f).rose)
 summary_risen e old mid new (inr (inr q)) f calm = subst (λ (y : Ending). HasRisen y old new) (sym q) tt
 
-summary_begun : (e : Ending) → MaySaySummary e → IsBegun e
-summary_begun e (inl q) = subst IsBegun (sym q) tt
-summary_begun e (inr (inl q)) = subst IsBegun (sym q) tt
-summary_begun e (inr (inr q)) = subst IsBegun (sym q) tt
+summary_begun : (e : Ending) → MaySaySummary e → IsLoadCarried e
+summary_begun e (inl q) = subst IsLoadCarried (sym q) tt
+summary_begun e (inr (inl q)) = subst IsLoadCarried (sym q) tt
+summary_begun e (inr (inr q)) = subst IsLoadCarried (sym q) tt
 
 summary_no_file : (e : Ending) → MaySaySummary e → (file : FileId) → e ≡ ending.DiskFault file → ⊥
 summary_no_file e (inl q) file t = (let z : ending.Done ≡ ending.DiskFault file = sym q ∙ t in cc z)
@@ -129,7 +129,7 @@ faults_same live r old mid new same f = record {
 }
 
 -- how a load ends whose turns ended by a fault
-load_begun : (live : ℕ) (fault : RunFault) → IsBegun (load_ending live fault)
+load_begun : (live : ℕ) (fault : RunFault) → IsLoadCarried (load_ending live fault)
 load_begun live InDoubt = tt
 load_begun live WriteFault = tt
 load_begun live Memory = tt
@@ -178,7 +178,7 @@ module _ {T : Type 0} (n seed : ℕ) (m : Manner) (x : Opened) (st : Started) (o
   text = ap (λ (q : Program). q.text) same.0
 
   abbrev pub out : Outset
-  out = record { live = x.slot; program = p; asked = load_texts n seed; opening = log; ruled = not m.threaded; width = m.width; picks = m.picks; faults = before; world = mid }
+  out = record { live = x.slot; program = p; asked = load_texts n seed; opening = log; ruled = not m.threaded; windowed = false; width = m.width; picks = m.picks; faults = before; world = mid }
 
   abbrev pub r0 : Run
   r0 = core_from p.types (standing_of log) []
@@ -189,7 +189,7 @@ module _ {T : Type 0} (n seed : ℕ) (m : Manner) (x : Opened) (st : Started) (o
   -- ---- the turns begin
 
   module _ (lines : List Line) (are : AreReadFrom (program_tree x.checked) 0 (load_texts n seed) lines) (wide : 0 < m.width) (above : 0 < x.next_unit.0) (none : NoneFailed before between) (r' : Run) (s' : Settler)
-      (carried : CarriesOn true m (program_tree x.checked) lines (stage_by (run_of st.core) st.settler between mid) (stage_by r' s' after new) result)
+      (used : ℕ) (carried : CarriesOn true m (program_tree x.checked) lines 0 used (stage_by (run_of st.core) st.settler between mid) (stage_by r' s' after new) result)
       (aside : TurnsBeside true (stage_by (run_of st.core) st.settler between mid) (stage_by r' s' after new) result) where
     began : run_of st.core ≡ r0
     began = start_is (seen_in old.disk) x st is.opened start
@@ -200,18 +200,18 @@ module _ {T : Type 0} (n seed : ℕ) (m : Manner) (x : Opened) (st : Started) (o
     kept_first : KeepsTurns true out no_books (stage_by r0 st.settler between mid)
     kept_first = starts_kept r0.base r0.kinds r0.opening true out st.settler between mid base (λ c. let e = none c in omega (arith, e)) start.written start.doubted start.sealing start.settles (λ told. still_none mid)
 
-    first : StartsRun true m out no_books (program_tree x.checked) lines (stage_by r0 st.settler between mid)
+    first : StartsRun true m out no_books (program_tree x.checked) lines 0 (stage_by r0 st.settler between mid)
     first = record {
-      outset = starts_outset r0.base r0.kinds r0.opening out (program_tree x.checked) (load_texts n seed) lines m.width m.picks are refl refl refl refl wide refl;
+      outset = starts_outset r0.base r0.kinds r0.opening out (program_tree x.checked) (load_texts n seed) lines m.width m.picks are refl refl refl refl wide refl (λ n low high. refl);
       can = starts_quiet r0.base r0.kinds r0.opening (program_tree x.checked) (load_texts n seed) lines st.settler are start.doubted start.written;
       ruled = refl;
       fresh = starts_fresh r0.base r0.kinds r0.opening out;
       kept = kept_first;
     }
 
-    pub goes : CarriedOn true m out no_books (stage_by r0 st.settler between mid) (stage_by r' s' after new) result
-    goes = subst (λ (r : Run). CarriedOn true m out no_books (stage_by r st.settler between mid) (stage_by r' s' after new) result) began
-        (carried out no_books (subst (λ (r : Run). StartsRun true m out no_books (program_tree x.checked) lines (stage_by r st.settler between mid)) (sym began) first))
+    pub goes : CarriedOn true m out no_books used (stage_by r0 st.settler between mid) (stage_by r' s' after new) result
+    goes = subst (λ (r : Run). CarriedOn true m out no_books used (stage_by r st.settler between mid) (stage_by r' s' after new) result) began
+        (carried out no_books (subst (λ (r : Run). StartsRun true m out no_books (program_tree x.checked) lines 0 (stage_by r st.settler between mid)) (sym began) first))
 
     pub beside : TurnsBeside true (stage_by r0 st.settler between mid) (stage_by r' s' after new) result
     beside = subst (λ (r : Run). TurnsBeside true (stage_by r st.settler between mid) (stage_by r' s' after new) result) began aside
@@ -247,10 +247,10 @@ module _ {T : Type 0} (n seed : ℕ) (m : Manner) (x : Opened) (st : Started) (o
     -- ---- the course of the turns
 
     abbrev pub c0 : Course
-    c0 = record { live = x.slot; opening = log; added = commits_of (booked_journal b); early = is.run.clock.more; late = later.0; events = r'.events; entries = []; rest = [] }
+    c0 = record { live = x.slot; opening = log; added = commits_of (booked_journal b); early = is.run.clock.more; late = later.0; allowed = length (load_texts n seed); events = r'.events; entries = []; rest = [] }
 
     abbrev pub seen : Observed
-    seen = record { manner = m; asked = load_texts n seed; old = old; new = new; faults_before = before; faults_after = after; ending = turns_ending x.slot result }
+    seen = record { manner = m; asked = load_texts n seed; windowed = false; old = old; new = new; faults_before = before; faults_after = after; ending = turns_ending x.slot result }
 
     pub run_is : core_run p c0 ≡ r'
     run_is = ap (λ (es : List CoreEvent). core_from p.types (standing_of log) es) (ap (λ (r : Run). r.events) beside.core) ∙ sym beside.core
@@ -323,7 +323,7 @@ module _ {T : Type 0} (n seed : ℕ) (m : Manner) (x : Opened) (st : Started) (o
     unvoted_so g no_vote = (goes.on.record_kept.books.outside told).calls.unvoted g (subst (λ (y : Run). how_many (is_vote_of g) y ≡ 0) run_is no_vote)
 
     pub explains_so : ExplainsEvents p seen c0
-    explains_so = explains true out b r' s' seen c0 result goes.on.record_kept goes.on.ended refl goes.turns course (unvoted_behind p seen c0 mid stands unvoted_so)
+    explains_so = explains true out b r' s' seen c0 goes.on.record_kept (ends-by out b (stage_by r' s' after new) result (turns_ending x.slot result) goes.on.ended refl) goes.turns course (unvoted_behind p seen c0 mid stands unvoted_so)
 
     -- ---- a load that ends so
 
@@ -333,7 +333,7 @@ module _ {T : Type 0} (n seed : ℕ) (m : Manner) (x : Opened) (st : Started) (o
       e = status_ending status
 
       abbrev pub r : Observed
-      r = observed_call (m) (load_texts n seed) old last before final status
+      r = observed_call m (load_texts n seed) old last before final status
 
       abbrev pub c : Course
       c = record c0 { late = later.0 ++ behind_turns; entries = (core_end p c0).manager.settled }
@@ -356,9 +356,9 @@ module _ {T : Type 0} (n seed : ℕ) (m : Manner) (x : Opened) (st : Started) (o
       }
 
       -- so many syncs were asked at most
-      most_so : last.syncs ≡ new.syncs → last.syncs ≤ old.syncs + most_syncs_of (seen_in old.disk) (core_run p c0)
+      most_so : last.syncs ≡ new.syncs → last.syncs ≤ old.syncs + most_syncs_of (core_run p c0)
       most_so said =
-          subst (λ (k : ℕ). k ≤ old.syncs + most_syncs_of (seen_in old.disk) (core_run p c0)) (sym said)
+          subst (λ (k : ℕ). k ≤ old.syncs + most_syncs_of (core_run p c0)) (sym said)
           (subst (λ (y : Run). new.syncs ≤ old.syncs + most_syncs_of (seen_in old.disk) y) (sym run_is)
           (most_syncs new.syncs mid.syncs old.syncs (opening_syncs (seen_in old.disk)) (how_many is_vote r') (how_many is_sealed r') (how_many is_unsealed r') (goes.on.record_kept.books.outside told).calls.most is.count))
 
@@ -379,7 +379,7 @@ module _ {T : Type 0} (n seed : ℕ) (m : Manner) (x : Opened) (st : Started) (o
 
       -- what it has to show, but how it ended
       shows : ExplainsEvents p r c → ((behind_turns ≡ []) × (last.output ≡ old.output)) ⊎ (RunHasDoubt (core_run p c) → ⊥) → Prints (summary_text r c) r → (e ≢ ending.Done → e ≢ ending.WriteFault → last.output ≡ old.output)
-          → IsBegun e → HasRisen e before final → ((e ≡ ending.Done) ⊎ (e ≡ ending.WriteFault) → IsAnswered r c) → (e ≡ ending.WriteFault → RunHasDoubt (core_run p c) → ⊥)
+          → IsLoadCarried e → HasRisen e before final → ((e ≡ ending.Done) ⊎ (e ≡ ending.WriteFault) → IsAnswered c) → (e ≡ ending.WriteFault → RunHasDoubt (core_run p c) → ⊥)
           → (NoneRose before final → e ≡ ending.Done → last.syncs ≡ old.syncs + syncs_of (seen_in old.disk) (core_run p c)) → last.syncs ≡ new.syncs → ShowsLoad p n seed r c new after (turns_ending x.slot result) later.0 behind_turns
       shows explains_r printed output silent begun risen done undoubted syncs said = record {
         in_force = is.opened.program;
@@ -398,6 +398,7 @@ module _ {T : Type 0} (n seed : ℕ) (m : Manner) (x : Opened) (st : Started) (o
         silent = silent;
         unread = last_input ∙ beside.input told ∙ is.run.input;
         carried = begun;
+        allowed = refl;
         risen = risen;
         done = done;
         undoubted = undoubted;
@@ -416,7 +417,7 @@ module _ {T : Type 0} (n seed : ℕ) (m : Manner) (x : Opened) (st : Started) (o
 
     -- the turns ended by a fault
     pub failed_carries : AskFor (program_tree x.checked) (load_texts n seed) (load_calls n seed) → (fault : RunFault) → result ≡ Err fault → (status : Status) → status_ending status ≡ load_ending x.slot fault
-        → CarriesLoad n seed (observed_call (m) (load_texts n seed) old new before after status)
+        → CarriesLoad n seed (observed_call m (load_texts n seed) old new before after status)
     failed_carries asks fault q status ends_as =
         let ended : TurnsEndAs out b (stage_by r' s' after new) {T = T} (Err fault) = subst (TurnsEndAs out b (stage_by r' s' after new)) q goes.on.ended in
         let past : new.past ≡ new.past ++ [] = sym (append-nil new.past) in
@@ -427,7 +428,7 @@ module _ {T : Type 0} (n seed : ℕ) (m : Manner) (x : Opened) (st : Started) (o
         (inl (refl, same_output))
         (record { added = []; output = same_output ∙ sym (append-nil old.output); front = (_, refl); whole = λ t. absurd (load_undone x.slot fault (sym ends_as ∙ t)); none = inl refl })
         (λ one other. same_output)
-        (subst IsBegun (sym ends_as) (load_begun x.slot fault))
+        (subst IsLoadCarried (sym ends_as) (load_begun x.slot fault))
         (subst (λ (y : Ending). HasRisen y before after) (sym ends_as) (load_risen T out b r' s' after new fault ended))
         (λ which. elim which [ inl t ↦ absurd (load_undone x.slot fault (sym ends_as ∙ t)) | inr t ↦ absurd (load_unwritten x.slot fault (sym ends_as ∙ t)) ])
         (λ t d. load_unwritten x.slot fault (sym ends_as ∙ t))
@@ -436,7 +437,7 @@ module _ {T : Type 0} (n seed : ℕ) (m : Manner) (x : Opened) (st : Started) (o
     -- all lines are carried, and the summary was to be printed
     pub summed_carries : AskFor (program_tree x.checked) (load_texts n seed) (load_calls n seed) → (done : T) → result ≡ Ok done → (status : Status) (last : World) (final : Channel → ℕ) (requests : ℕ) → requests ≡ length (load_texts n seed)
         → SaysSummary (summary_line (ends r').manager.settled requests (total_kept (ends r') 64)) (status_ending status) new last → HasFailedAs (status_ending status) after final → MaySaySummary (status_ending status)
-        → CarriesLoad n seed (observed_call (m) (load_texts n seed) old last before final status)
+        → CarriesLoad n seed (observed_call m (load_texts n seed) old last before final status)
     summed_carries asks done q status last final requests many says failed may =
         let ended : HasCarriedAll out (stage_by r' s' after new) = (subst (TurnsEndAs out b (stage_by r' s' after new)) q goes.on.ended).0 in
         let same_files : (file : FileId) → final (File file) ≡ after (File file) = files_same (status_ending status) after final may failed in
@@ -444,7 +445,7 @@ module _ {T : Type 0} (n seed : ℕ) (m : Manner) (x : Opened) (st : Started) (o
         let explains_r = explains_at asks last final status says.told says.past says.disk says.left says.input same_files (λ file t. absurd (summary_no_file (status_ending status) may file t)) (λ d. absurd (sure d)) in
         let opens_above : 0 < log.base.next = reads_above x.slot (seen_in old.disk) log is.opened.reads in
         let opening_is : log ≡ new_log p = same.1 ∙ ap new_log (sym same.0) in
-        let rr : Observed = observed_call (m) (load_texts n seed) old last before final status in
+        let rr : Observed = observed_call m (load_texts n seed) old last before final status in
         let cc0 : Course = record c0 { late = later.0 ++ says.told; entries = (core_end p c0).manager.settled } in
         let text_is : summary_line (ends r').manager.settled requests (total_kept (ends r') 64) ≡ summary_text rr cc0 =
         (λ i. summary_line (ends (run_is' i)).manager.settled (many i) (total_kept (ends (run_is' i)) 64))

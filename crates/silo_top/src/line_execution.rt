@@ -1,4 +1,4 @@
-ghost use Rattle.std.specs.Prelude.{◌≤◌};
+ghost use Rattle.std.specs.Prelude.{◌≤◌, ℕ};
 ghost use Rattle.host_trait.specs.Files.{StaysReady};
 ghost use Rattle.core_access.specs.OneHolder.{own_sight};
 ghost use Rattle.history_core.specs.Cores.{run_of};
@@ -22,7 +22,7 @@ use std::sync::Wait;
 use std::thread::Threads;
 
 /// Carries all lines on the calling thread, so many in flight and by these picks, and hands the core back where all is carried and
-/// written.
+/// written. `used` tells how many picks calls before used, and goes on by those of this call where it hands the core back.
 pub(crate) fn carry_in_turns<H: Host, G: Gate, L: Lines + Copy>(
     alloc: Global,
     checked: &Checked,
@@ -33,20 +33,20 @@ pub(crate) fn carry_in_turns<H: Host, G: Gate, L: Lines + Copy>(
     gate: &G,
     width: u32,
     picks: &List<u32>,
+    used: &mut usize,
 ) -> Result<Core, RunFault>
     requires legal { IsLegalRun (own_sight (run_of core)).first }
     requires loads { NoneLoads (own_sight (run_of core)).mine }
     requires safe { IsSafe H.tells settler.old.writer (H.world host.old) }
-    ensures carried { CarriedLines H.tells (turns_manner width picks.now) (program_tree checked.now) (L.lines lines)
+    ensures carried { CarriedLines H.tells (turns_manner width picks.now) (program_tree checked.now) (L.lines lines) used.old used.new
         (stage_of H.world H.faults (run_of core) settler.old host.old) (side_of H.world H.faults settler.new host.new) result }
     ensures safe { IsSafe H.tells settler.new.writer (H.world host.new) }
     ensures ready { StaysReady (H.is_ready host.old) (H.is_ready host.new) }
 {
     let mut core = core;
     let mut lines = lines;
-    let mut used = 0;
     match run_turns(
-        alloc, checked, &mut core, settler, &mut lines, host, gate, width, picks, &mut used,
+        alloc, checked, &mut core, settler, &mut lines, host, gate, width, picks, used,
     ) {
         Ok(()) => return Ok(core),
         Err(fault) => return Err(fault),
@@ -74,7 +74,7 @@ pub(crate) fn carry_by_workers<
     requires legal { IsLegalRun (own_sight (run_of core)).first }
     requires loads { NoneLoads (own_sight (run_of core)).mine }
     requires safe { IsSafe H.tells settler.old.writer (H.world host.old) }
-    ensures carried { CarriedLines H.tells workers_manner (program_tree checked.now) (L.lines lines)
+    ensures carried { (used : ℕ) → CarriedLines H.tells workers_manner (program_tree checked.now) (L.lines lines) used used
         (stage_of H.world H.faults (run_of core) settler.old host.old) (side_of H.world H.faults settler.new host.new) result }
     ensures safe { IsSafe H.tells settler.new.writer (H.world host.new) }
     ensures ready { StaysReady (H.is_ready host.old) (H.is_ready host.new) }
