@@ -3,14 +3,12 @@ use Rattle.std.proofs.Common.{◌≡◌, ◌⊎◌, inl, inr, ⊎_elim, ℕ, ◌
 use Rattle.std.proofs.lemmas.Bool.{cases_Bool}
 use Rattle.core_model.specs.LockAnswers.{IsGoing}
 use Rattle.core_model.specs.CoreState.{UnitNo}
-use Rattle.core_model.specs.declared.effects.Effect.{Effect}
 use Rattle.core_model.specs.declared.events.CoreEvent.TheVariants.{Halt}
 use Rattle.core_model.specs.declared.events.CoreReply.TheVariants.{Began}
-use Rattle.core_model.specs.LegalRuns.{Run, IsLegal, ends}
+use Rattle.core_model.specs.LegalRuns.{Run, ends}
 use Rattle.core_model.specs.Lines.{IsSettled}
 use Rattle.core_model.specs.Tests.{is_over, is_free}
 use Rattle.core_laws.proofs.BatchPrefix.{unfree-holds}
-use Rattle.core_laws.proofs.Ends.{kept-ends}
 use Rattle.promise_spec.specs.Cores.{HasBegun}
 use Rattle.promise_spec.specs.UnitRule.{Basis, KeepsUnitRule}
 use Rattle.turn_cell.specs.History.{In, entries_of}
@@ -32,7 +30,8 @@ use Rattle.closing_rules.specs.JoinedPasses.{sight_by, Knew, WasShown}
 use Rattle.closing_rules.specs.ClosedCore.{IsClosed, PutsNothing, SettlesOrStops, IsOverAndFree, AreOverAndFree, HasBegunLines}
 use Rattle.closing_rules.proofs.JoinedPasses.{knew-less}
 use Rattle.closing_rules.proofs.Growth.{going-before, lines-after}
-use Rattle.closing_rules.proofs.SharedHistories.{Story, story-rest, story-end, story-sound, begun-after, reply-there, none-began, settles-no-begin, done-after}
+use Rattle.closing_rules.proofs.SharedHistories.{Story, story-rest, story-end, begun-after, reply-there, none-began, settles-no-begin, done-after}
+use Rattle.core_laws.proofs.LoadlessKept.{loadless-ends}
 
 -- less is known
 abbrev pub closed-less : (Own Own' Their Their' : Sight → Type 0) → ((s : Sight) → Own s → Own' s) → ((s : Sight) → Their s → Their' s) → (first last : Run) → IsClosed Own Their first last → IsClosed Own' Their' first last
@@ -110,8 +109,8 @@ module _ (first last : Run) (c : IsClosed Counts (λ s. OnlyWorks s.mine) first 
 -- ---- the units
 
 -- who is settled and holds nothing is done
-pub quiet-done : (r : Run) (u : UnitNo) → IsLegal (λ (e : Effect). true) r → IsQuiet (ends r) → HasBegun (ends r) u → IsOverAndFree u r
-quiet-done r u legal q born going = (over (q.settled u born), free)
+pub quiet-done : (r : Run) (u : UnitNo) → IsQuiet (ends r) → HasBegun (ends r) u → IsOverAndFree u r
+quiet-done r u q born going = (over (q.settled u born), free)
   where
     over : IsSettled (ends r) u → is_over ((ends r).units.phase u) ≡ true
     over (inl p) = ap is_over p
@@ -144,7 +143,7 @@ module _ (b : Basis) (first last : Run) (c : IsClosed (λ s. SettlesOrStops s.mi
         let y = p.2.promise.owns x u (subst (In x) p.1 (in_entries c.log x.by x refl i)) o in
         let there = of-log x.by c.log y.0 (subst (In y.0) (sym p.1) y.1) in
         let high = began-above c.log first y.0 u c.legal there.0 y.2 in
-        absurd (born ((kept-ends (λ (e : Effect). true) first (story-sound b first c.log story)).0.unborn u high)))
+        absurd (born ((loadless-ends first above).0.unborn u high)))
   ]
 
   -- the one who settles begins none
@@ -168,7 +167,7 @@ module _ (b : Basis) (first last : Run) (c : IsClosed (λ s. SettlesOrStops s.mi
       let since = saw-harmless (leaves_unit u) (sight_by first x.by k.shown mine) k.begins.0 k.holds.0.some there in
       let rest : Story b (run_after first k.shown) k.begins.0 = story-rest b k.shown k.begins.0 first (subst (Story b first) k.begins.1 story) in
       let last-is : run_after first c.log ≡ run_after (run_after first k.shown) k.begins.0 = ap (run_after first) k.begins.1 ∙ run-on k.shown k.begins.0 first in
-      subst (IsOverAndFree u) (sym last-is) (done-after b k.begins.0 (run_after first k.shown) u rest (λ y j. (leaves-is u y.event (since y j)).0) now)
+      subst (IsOverAndFree u) (sym last-is) (done-after b k.begins.0 (run_after first k.shown) u rest (λ y j. leaves-is u y.event (since y j)) now)
 
   -- so is each unit
   pub closed-done : (u : UnitNo) → HasBegun (ends last) u → IsOverAndFree u last

@@ -5,13 +5,11 @@ use Rattle.std.proofs.lemmas.Bool.{cases_Bool, cases_lt, cond-true, cond-false}
 use Rattle.core_model.specs.CoreState.{UnitNo, Call, Origin, CoreState}
 use Rattle.core_model.specs.Changes.{swept}
 use Rattle.core_model.specs.Tests.{is_over}
-use Rattle.core_model.specs.declared.effects.Effect.{Effect}
 use Rattle.core_model.specs.declared.events.CoreEvent.{CoreEvent}
 use Rattle.core_model.specs.declared.events.CoreEvent.TheVariants.{Begin}
 use Rattle.core_model.specs.declared.events.CoreReply.TheVariants.{Began}
 use Rattle.core_model.specs.Events.{applies, does, step, reply_to, reply_with, reply_without}
-use Rattle.core_model.specs.LegalRuns.{Run, IsLegal, ends}
-use Rattle.core_laws.proofs.Ends.{kept-ends}
+use Rattle.core_model.specs.LegalRuns.{Run, ends}
 use Rattle.promise_spec.specs.Cores.{HasBegun}
 use Rattle.promise_spec.specs.UnitAnswers.{got_in}
 use Rattle.promise_spec.specs.UnitRule.{Basis, KeepsUnitRule}
@@ -22,7 +20,6 @@ use Rattle.turn_rules.specs.UnitFrame.{IsStill}
 use Rattle.turn_rules.proofs.RunCounts.{counted-ends}
 use Rattle.turn_rules.proofs.Frame.{still-step}
 use Rattle.turn_rules.proofs.Growth.{ends-more, unit-grows}
-use Rattle.turn_rules.proofs.LegalRuns.{legal-run}
 use Rattle.turn_rules.proofs.Movers.{still-free}
 use Rattle.turn_rules.proofs.Numbers.{next-stays, next-begun}
 use Rattle.core_access.specs.Histories.{Told, reply_in, run_after, IsTrue}
@@ -31,6 +28,7 @@ use Rattle.worker_rules.specs.SharedHistories.{IsRuled}
 use Rattle.worker_rules.proofs.Numbers.{began-next}
 use Rattle.closing_rules.specs.ClosedCore.{IsOverAndFree}
 use Rattle.closing_rules.proofs.Growth.{going-event}
+use Rattle.core_laws.proofs.LoadlessKept.{loadless-ends}
 
 -- The run keeps the unit rule, and behind it the history is true and each of its events is due.
 pub record Story (b : Basis) (r : Run) (log : List Told) : Type 0 where
@@ -53,11 +51,7 @@ pub story-rest : (b : Basis) (shown rest : List Told) (r : Run) → Story b r (s
 story-rest b [] rest r s = s
 story-rest b (x ∷ shown) rest r s = story-rest b shown rest (with_event r x.event) (story-tail b r x (shown ++ rest) s)
 
--- such a run is legal
-pub story-sound : (b : Basis) (r : Run) (log : List Told) → Story b r log → IsLegal (λ (e : Effect). true) r
-story-sound b r log s = legal-run b r s.above s.rule
-
--- and so is the last one
+-- the last run keeps the unit rule
 pub story-end : (b : Basis) (log : List Told) (r : Run) → Story b r log → KeepsUnitRule b (run_after r log)
 story-end b [] r s = s.rule
 story-end b (x ∷ log) r s = story-end b log (with_event r x.event) (story-tail b r x log s)
@@ -73,9 +67,8 @@ begins-or (Begin origin call plain) = inl (origin, call, plain, refl)
 begins-or _ = inr refl
 
 -- a unit that has begun behind an event had begun before it, or the event is answered by its number
-begun-event : (r : Run) (e : CoreEvent) (u : UnitNo) → IsLegal (λ (x : Effect). true) r → IsLegal (λ (x : Effect). true) (with_event r e)
-    → HasBegun (ends (with_event r e)) u → HasBegun (ends r) u ⊎ (reply_in r e ≡ Began u)
-begun-event r e u legal legal' born = elim (cases_lt u.0 (ends r).units.next) [
+begun-event : (r : Run) (e : CoreEvent) (u : UnitNo) → 0 < r.base → HasBegun (ends (with_event r e)) u → HasBegun (ends r) u ⊎ (reply_in r e ≡ Began u)
+begun-event r e u above born = elim (cases_lt u.0 (ends r).units.next) [
   | inl less ↦ inl (counted.born u low less)
   | inr le ↦ inr (elim (begins-or e) [
     | inl g ↦ subst (λ (x : CoreEvent). reply_in r x ≡ Began u) (sym g.3) (begun g.0 g.1 g.2 g.3 le)
@@ -84,15 +77,15 @@ begun-event r e u legal legal' born = elim (cases_lt u.0 (ends r).units.next) [
 ]
   where
     counted : IsCounted r.base (ends r) (got_in r)
-    counted = counted-ends (λ (x : Effect). true) r legal
+    counted = counted-ends r above
 
     low : r.base ≤ u.0
-    low = (counted-ends (λ (x : Effect). true) (with_event r e) legal').numbered u born
+    low = (counted-ends (with_event r e) above).numbered u born
 
     high : u.0 < (ends (with_event r e)).units.next
     high = elim (cases_lt u.0 (ends (with_event r e)).units.next) [
       | inl less ↦ less
-      | inr le ↦ absurd (born ((kept-ends (λ (x : Effect). true) (with_event r e) legal').0.unborn u le))
+      | inr le ↦ absurd (born ((loadless-ends (with_event r e) above).0.unborn u le))
     ]
 
     begun : (origin : Origin) (call : Call) (plain : Bool) → e ≡ Begin origin call plain → (ends r).units.next ≤ u.0 → reply_in r (Begin origin call plain) ≡ Began u
@@ -115,7 +108,7 @@ begun-after b [] r u s born = inl born
 begun-after b (x ∷ log) r u s born =
     let t = story-tail b r x log s in
     elim (begun-after b log (with_event r x.event) u t born) [
-      | inl there ↦ elim (begun-event r x.event u (story-sound b r (x ∷ log) s) (story-sound b (with_event r x.event) log t) there) [
+      | inl there ↦ elim (begun-event r x.event u s.above there) [
         | inl here ↦ inl here
         | inr said ↦ inr (x, inl refl, s.legal.0 ∙ said)
       ]
@@ -145,7 +138,7 @@ done-event : (b : Basis) (r : Run) (x : Told) (log : List Told) (u : UnitNo) →
 done-event b r x log u s other done going =
     let d = done (going-event r x.event going) in
     let still : IsStill u (ends r) (ends (with_event r x.event)) = subst (IsStill u (ends r)) (sym (ends-more r x.event))
-    (still-step r.opening u (ends r) x.event (kept-ends (λ (e : Effect). true) r (story-sound b r (x ∷ log) s))
+    (still-step u (ends r) x.event (loadless-ends r s.above)
     (λ q. true≢false (sym d.0 ∙ ap is_over q)) other) in (
       ap is_over still.phase ∙ d.0,
       still-free u (ends r) (ends (with_event r x.event)) still ∙ d.1,

@@ -7,7 +7,7 @@ ghost use Rattle.turn_cell.specs.History.{entries_of};
 ghost use Rattle.turn_rules.specs.NextEvent.{MayCome};
 ghost use Rattle.turn_rules.specs.QuietRun.{IsQuiet};
 ghost use Rattle.core_access.specs.Histories.{Told, run_after};
-ghost use Rattle.core_access.specs.Sights.{Sight, AllPass, Counts, IsAlone};
+ghost use Rattle.core_access.specs.Sights.{AllPass, Counts, IsAlone};
 ghost use Rattle.worker_rules.specs.UnitOwnership.{KeepsPromise};
 ghost use Rattle.worker_rules.specs.SharedHistories.{AllPromise};
 ghost use Rattle.worker_rules.specs.Work.{is_work, OnlyWorks};
@@ -39,7 +39,7 @@ pub fn who_settles_is_alone()
 pub fn all_units_are_done()
     ensures all { (b : Basis) (first last : Run) → IsClosed (λ s. SettlesOrStops s.mine × KeepsPromise b s) (λ s. KeepsPromise b s × AreOverAndFree s) first last
         → 0 < first.base → KeepsUnitRule b first → ((u : UnitNo) → HasBegun (ends first) u → IsOverAndFree u first) → (u : UnitNo) → HasBegun (ends last) u → IsOverAndFree u last }
-    ensures quiet { (b : Basis) (r : Run) (u : UnitNo) → 0 < r.base → KeepsUnitRule b r → IsQuiet (ends r) → HasBegun (ends r) u → IsOverAndFree u r }
+    ensures quiet { (r : Run) (u : UnitNo) → IsQuiet (ends r) → HasBegun (ends r) u → IsOverAndFree u r }
 {}
 
 /// As many lines have begun by the last run as had when a worker looked, unless there is a doubt or a stop.

@@ -11,7 +11,6 @@ use Rattle.host_trait.specs.declared.channels.Channel.{Channel}
 use Rattle.request_wire.specs.declared.requests.Line.{Line}
 use Rattle.cell_model.proofs.Units.{same_unit-is, any-member}
 use Rattle.core_model.specs.CoreState.{UnitNo, Member, CoreState, same_unit}
-use Rattle.core_model.specs.declared.effects.Effect.{Effect}
 use Rattle.core_model.specs.declared.phases.Phase.{Phase}
 use Rattle.core_model.specs.declared.phases.Phase.TheVariants.{Finished, Refused, Ended}
 use Rattle.core_model.specs.Tests.{is_free, is_over, is_running}
@@ -30,7 +29,6 @@ use Rattle.turn_rules.specs.NextEvent.{movers_in}
 use Rattle.turn_rules.specs.CarriedUnits.{is_flying, is_kept, AreKept}
 use Rattle.turn_rules.specs.QuietRun.{IsQuiet}
 use Rattle.turn_rules.proofs.RunCounts.{counted-ends}
-use Rattle.turn_rules.proofs.LegalRuns.{legal-run}
 use Rattle.turn_rules.proofs.ListTests.{filter-none}
 use Rattle.turn_rules.proofs.Movers.{movers-kept}
 use Rattle.turn_rules.proofs.Numbers.{units-below}
@@ -69,7 +67,7 @@ module _ (o : Outset) (r : Run) (first : 0 < r.base) (rule : KeepsUnitRule (basi
 
   told : (u : UnitNo) → HasBegun (ends r) u → (x : Origin) → (ends r).units.origin u ≡ x → is_line x ≡ true → is_settled (ends r) u ≡ true
   told u begun (OfLineOrigin n) q line =
-      let once : EntriesAreOnce (ends r) = once-ends (λ (e : Effect). true) r (legal-run (basis_of o) r first rule) in
+      let once : EntriesAreOnce (ends r) = once-ends r first in
       let e = once.complete u n (begun, q) (quiet.settled u begun) in
       any-member (λ (x : Entry). same_unit x.unit u) (ends r).manager.settled e.0 e.1 (same_unit-is e.0.unit u e.2)
   told u begun (Child p i d) q line = absurd (true≢false (sym line))
@@ -92,7 +90,7 @@ module _ (o : Outset) (r : Run) (first : 0 < r.base) (rule : KeepsUnitRule (basi
   pub kept-none : AreKept r []
   kept-none = record {
     kept = sym (filter-none (is_kept (ends r)) (units_of r (ends r)) (λ u m.
-        let counted = counted-ends (λ (e : Effect). true) r (legal-run (basis_of o) r first rule) in
+        let counted = counted-ends r first in
         let up = counted.above in
         let lo = units-above ((ends r).units.next - r.base) r.base u m in
         let hi = units-below ((ends r).units.next - r.base) r.base u m in

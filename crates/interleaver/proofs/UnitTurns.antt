@@ -23,11 +23,9 @@ use Rattle.turn_rules.specs.NextEvent.{with_event, is_begin, MayCome}
 use Rattle.turn_rules.specs.CarriedUnits.{movers_of}
 use Rattle.turn_rules.specs.TurnLoop.{IsTurning, IsPicked, turned, with_new, TurnLoop}
 use Rattle.turn_rules.proofs.Growth.{ends-more}
-use Rattle.turn_rules.proofs.LegalRuns.{legal-run}
 use Rattle.turn_rules.proofs.Turns.{turn-unit, turn-child}
 use Rattle.txn_agent.specs.declared.agent.Advanced.{Advanced}
 use Rattle.txn_agent.specs.declared.agent.Advanced.TheVariants as advanced
-use Rattle.txn_agent.specs.CoreLink.{IsLegalRun}
 use Rattle.txn_agent.specs.AgentStep.{Puts, AnswerSays, is_move}
 use Rattle.txn_agent.proofs.LoneSteps.{puts-applied, missed-not}
 use Rattle.txn_agent.proofs.MoveAnswers.{alone-tells}
@@ -128,9 +126,9 @@ module _ (o : Outset) (r r' : Run) (u : UnitNo) (units units' : List UnitNo) (go
   pub by-step : (first : 0 < r.base) (rule : KeepsUnitRule (basis_of o) r) (w : Went) → StepsOn none_comes o.program.types u s t units units' w → can_move o.program.types (ends r) (got_in r) u ≡ true
       → GoesByUnit o u r r' units units'
   by-step first rule w st moves =
-      let legal : IsLegalRun (run_seen s) = subst IsLegalRun (sym at) (legal-run (basis_of o) r first rule) in
+      let above : 0 < (run_seen s).base = subst (λ (x : Run). 0 < x.base) (sym at) first in
       let move : is_move st.answer ≡ true =
-      alone-tells (basis_of o) u st.kids s t st.answer st.says alone (ap (λ (x : Run). x.kinds) at ∙ kinds) (ap (λ (x : Run). x.capacity) at ∙ here) goes-seen legal
+      alone-tells (basis_of o) u st.kids s t st.answer st.says alone (ap (λ (x : Run). x.kinds) at ∙ kinds) (ap (λ (x : Run). x.capacity) at ∙ here) goes-seen above
       ∙ ap (λ (x : Run). can_move o.program.types (ends x) (got_in x) u) at ∙ moves in
       by-answer st.kids st.answer st.says move st.units
 

@@ -185,7 +185,7 @@ module _ (types : ProgramTree) (lines : List (List ℕ)) (shape : Shape) (plays 
     front-legal = legal-front plays front (cause.event ∷ cause.later) lawful
 
     grows : Grows (ends front) (ends r)
-    grows = subst (λ (q : Run). Grows (ends front) (ends q)) (sym whole) (grows-ends plays front (cause.event ∷ cause.later) lawful)
+    grows = subst (λ (q : Run). Grows (ends front) (ends q)) (sym whole) (grows-ends front (cause.event ∷ cause.later) lawful.above)
 
     event-in : IsEventIn shape cause.event
     event-in = each_of (IsEventIn shape) r.events cause.event fit (subst (Member cause.event) (sym cause.split) (in_append cause.event cause.before (cause.event ∷ cause.later) (inr (inl refl))))
@@ -231,7 +231,7 @@ module _ (types : ProgramTree) (lines : List (List ℕ)) (shape : Shape) (plays 
 
     proper-one : IsProper shape x
     proper-one =
-        let place = (once-ends plays r l).entry x there in
+        let place = (once-ends r l.above).entry x there in
         let tells = telling-ends plays types lines r l said x there in
         let many = rule.1 in
         let low = place.1 in

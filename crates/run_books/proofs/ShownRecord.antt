@@ -1,5 +1,5 @@
 -- What the record of the turns is of a whole run.
-use Rattle.std.proofs.Common.{◌≡◌, ℕ, zero, suc, ◌+◌, ◌≤◌, List, [], ◌∷◌, ◌++◌, length, Bool, true, false, ◌⊎◌, inl, inr, refl, sym, ap, ◌∙◌, subst, arith, append-nil, Some}
+use Rattle.std.proofs.Common.{◌≡◌, ℕ, zero, suc, ◌+◌, ◌≤◌, List, [], ◌∷◌, ◌++◌, length, Bool, false, ◌⊎◌, inl, inr, refl, sym, ap, ◌∙◌, subst, arith, append-nil, Some}
 use Rattle.std.specs.Prelude.{Result, Ok, Err, take, slice_get}
 use Rattle.std.specs.List.{flat_map}
 use mathlib.Core.List.{append_assoc}
@@ -31,7 +31,6 @@ use Rattle.run_books.specs.Books.{Books, booked_journal, AreInDoubt, IsPutOut}
 use Rattle.run_books.specs.Records.{KeepsRecord, HasCarriedAll, TurnsEndAs}
 use Rattle.request_wire.specs.Reply.{reply_line}
 use Rattle.core_laws.proofs.LineEntries.{once-ends}
-use Rattle.turn_rules.proofs.LegalRuns.{legal-run}
 use Rattle.run_books.specs.RunCourse.{EndsSo, IsCourseOf, turns_ending}
 use Rattle.run_books.specs.Stages.{Stage, stage_by}
 
@@ -176,7 +175,7 @@ settled tells o b r settler seen c loud k e is =
     let end : core_end o.program c ≡ w = ap ends is.run in
     let put : IsPutOut false b w = subst (λ (quiet : Bool). IsPutOut quiet b w) loud k.books.said in
     let shape = shape_in o.program in
-    let told : w.manager.emitted ≤ length w.manager.settled = (once-ends (λ (x : Effect). true) r (legal-run (basis_of o) r k.above k.units)).written in
+    let told : w.manager.emitted ≤ length w.manager.settled = (once-ends r k.above).written in
     record {
       entries = (
         entries_of b.unsaid,

@@ -1,17 +1,12 @@
 -- What was started can be carried, and what carrying it left is told of the program that was opened.
-use Rattle.std.proofs.Common.{ℕ, ◌<◌, Bool, true, IsTrue, List, length, Result, sym, ap, subst}
+use Rattle.std.proofs.Common.{ℕ, ◌<◌, Bool, true, IsTrue, List, Result, sym, ap, subst}
 use Rattle.host_trait.specs.declared.channels.Channel.{Channel}
 use Rattle.host_trait.specs.World.{World}
-use Rattle.cell_table.specs.Table.{opening_state}
-use Rattle.core_access.specs.OneHolder.{own_sight}
 use Rattle.core_model.specs.LegalRuns.{Run}
 use Rattle.history_core.specs.Cores.{run_of}
 use Rattle.history_core.specs.declared.whole_core.Core.{Core}
 use Rattle.request_wire.specs.declared.requests.Line.{Line}
-use Rattle.script_check.specs.Shapes.{type_shapes}
 use Rattle.script_tree.specs.Programs.{ProgramTree, program_tree}
-use Rattle.txn_agent.specs.CoreLink.{IsLegalRun}
-use Rattle.worker_rules.specs.SharedHistories.{NoneLoads}
 use Rattle.batch_disk.specs.Writers.{IsInBounds, FitsDisk}
 use Rattle.settle_loop.specs.declared.settler.Settler.{Settler}
 use Rattle.run_books.specs.declared.faults.RunFault.{RunFault}
@@ -21,20 +16,14 @@ use Rattle.silo_top.specs.LineExecution.{CarriedLines}
 use Rattle.silo_top.specs.Continuation.{CanCarry, WasCarried}
 use Rattle.silo_top.specs.RunStart.{IsStartOf}
 use Rattle.silo_top.specs.declared.run_start.Started.{Started}
-use Rattle.silo_top.proofs.TurnStart.{starts_legal, starts_unloaded}
 use Rattle.run_books.specs.Stages.{side_by, stage_by}
 
 -- a core without events can be gone on with
 pub can_carry : (tells : Bool) (x : Opened) (s : Started) (now : World) → IsStartOf x s → 0 < x.next_unit.0 → IsInBounds s.settler.writer → (IsTrue tells → FitsDisk s.settler.writer now.disk) → CanCarry tells s now
-can_carry tells x s now start above bounds fits =
-    let base : ℕ = x.next_unit.0 in
-    let kinds : ℕ = length (type_shapes (program_tree x.checked)) in
-    let opening = opening_state (record { types = type_shapes (program_tree x.checked) }) x.store in
-    record {
-      legal = subst (λ (r : Run). IsLegalRun (own_sight r).first) (sym start.run) (starts_legal base kinds opening above);
-      loads = subst (λ (r : Run). NoneLoads (own_sight r).mine) (sym start.run) (starts_unloaded base kinds opening);
-      safe = record { bounds = bounds; fits = fits };
-    }
+can_carry tells x s now start above bounds fits = record {
+  above = subst (λ (r : Run). 0 < r.base) (sym start.run) above;
+  safe = record { bounds = bounds; fits = fits };
+}
 
 -- what was carried, of the program that was opened
 pub of_opened : (tells : Bool) (x : Opened) (s : Started) (lines_by : ProgramTree → List Line) (counts : Channel → ℕ) (now : World) (m : Manner) (settler' : Settler) (after : Channel → ℕ) (new : World) (result : Result Core RunFault) → IsStartOf x s

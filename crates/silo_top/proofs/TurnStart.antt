@@ -10,13 +10,10 @@ use Rattle.script_tree.specs.Programs.{ProgramTree}
 use Rattle.core_model.specs.CoreState.{GrainId, Value}
 use Rattle.core_model.specs.declared.events.CoreEvent.{CoreEvent}
 use Rattle.core_model.specs.LegalRuns.{Run, ends}
-use Rattle.core_access.specs.OneHolder.{own_sight}
 use Rattle.promise_spec.specs.Cores.{AppliesAt}
 use Rattle.promise_spec.specs.Lines.{ReadsLineAs}
 use Rattle.promise_spec.specs.Causes.{RoseBy}
 use Rattle.promise_spec.specs.TurnRule.{at_seam}
-use Rattle.txn_agent.specs.CoreLink.{IsLegalRun}
-use Rattle.worker_rules.specs.SharedHistories.{NoneLoads}
 use Rattle.settle_loop.specs.declared.settler.Settler.{Settler}
 use Rattle.run_books.specs.Beginnings.{Outset, CanTurn, IsOutset}
 use Rattle.run_books.specs.Books.{Books, IsPutOut}
@@ -53,13 +50,6 @@ few_syncs n m is = omega (arith, is)
 module _ (base kinds : ℕ) (opening : GrainId → List Value) where
   abbrev r : Run
   r = start_run base kinds opening
-
-  -- the core may be gone on with
-  pub starts_legal : 0 < base → IsLegalRun (own_sight r).first
-  starts_legal above = record { above = above; effects = tt; loads = tt }
-
-  pub starts_unloaded : NoneLoads (own_sight r).mine
-  starts_unloaded e there = absurd there
 
   -- nothing was put out
   none_put : (quiet : Bool) → IsPutOut quiet no_books (ends r)

@@ -2,14 +2,11 @@
 use Rattle.std.specs.Prelude.{◌≡◌, ◌<◌, ◌≤◌, ℕ, Bool, List, length, Result, Ok, Err}
 use Rattle.host_trait.specs.declared.channels.Channel.{Channel}
 use Rattle.host_trait.specs.World.{World}
-use Rattle.core_access.specs.OneHolder.{own_sight}
 use Rattle.core_model.specs.LegalRuns.{ends}
 use Rattle.history_core.specs.Cores.{run_of}
 use Rattle.history_core.specs.declared.whole_core.Core.{Core}
 use Rattle.request_wire.specs.declared.requests.Line.{Line}
 use Rattle.script_tree.specs.Programs.{program_tree}
-use Rattle.txn_agent.specs.CoreLink.{IsLegalRun}
-use Rattle.worker_rules.specs.SharedHistories.{NoneLoads}
 use Rattle.settle_loop.specs.declared.settler.Settler.{Settler}
 use Rattle.promise_laws.specs.Closings.{ReadsMayStay}
 use Rattle.promise_spec.specs.Words.{Manner, Load}
@@ -27,8 +24,7 @@ use Rattle.silo_top.specs.LoadSteps.{load_ending, SaysSummary, MaySaySummary}
 
 -- lines can be carried by what was started
 pub record CanCarry (tells : Bool) (s : Started) (now : World) : Type 0 where
-  pub legal : IsLegalRun (own_sight (run_of s.core)).first
-  pub loads : NoneLoads (own_sight (run_of s.core)).mine
+  pub above : 0 < (run_of s.core).base
   pub safe : IsSafe tells s.settler.writer now
 
 -- they were, in this manner and from the first pick on, and ended so

@@ -1,10 +1,7 @@
-ghost use Rattle.std.specs.Prelude.{◌≤◌, ℕ};
+ghost use Rattle.std.specs.Prelude.{◌≤◌, ◌<◌, ℕ};
 ghost use Rattle.host_trait.specs.Files.{StaysReady};
-ghost use Rattle.core_access.specs.OneHolder.{own_sight};
 ghost use Rattle.history_core.specs.Cores.{run_of};
 ghost use Rattle.script_tree.specs.Programs.{program_tree};
-ghost use Rattle.txn_agent.specs.CoreLink.{IsLegalRun};
-ghost use Rattle.worker_rules.specs.SharedHistories.{NoneLoads};
 ghost use Rattle.silo_top.specs.CallAnswers.{turns_manner, workers_manner};
 ghost use Rattle.silo_top.specs.LineExecution.{CarriedLines};
 ghost use Rattle.run_books.specs.Stages.{side_of, stage_of, IsSafe};
@@ -35,8 +32,7 @@ pub(crate) fn carry_in_turns<H: Host, G: Gate, L: Lines + Copy>(
     picks: &List<u32>,
     used: &mut usize,
 ) -> Result<Core, RunFault>
-    requires legal { IsLegalRun (own_sight (run_of core)).first }
-    requires loads { NoneLoads (own_sight (run_of core)).mine }
+    requires above { 0 < (run_of core).base }
     requires safe { IsSafe H.tells settler.old.writer (H.world host.old) }
     ensures carried { CarriedLines H.tells (turns_manner width picks.now) (program_tree checked.now) (L.lines lines) used.old used.new
         (stage_of H.world H.faults (run_of core) settler.old host.old) (side_of H.world H.faults settler.new host.new) result }
@@ -71,8 +67,7 @@ pub(crate) fn carry_by_workers<
     workers: u32,
 ) -> Result<Core, RunFault>
     requires few { workers ≤ 16 }
-    requires legal { IsLegalRun (own_sight (run_of core)).first }
-    requires loads { NoneLoads (own_sight (run_of core)).mine }
+    requires above { 0 < (run_of core).base }
     requires safe { IsSafe H.tells settler.old.writer (H.world host.old) }
     ensures carried { (used : ℕ) → CarriedLines H.tells workers_manner (program_tree checked.now) (L.lines lines) used used
         (stage_of H.world H.faults (run_of core) settler.old host.old) (side_of H.world H.faults settler.new host.new) result }

@@ -16,7 +16,6 @@ use Rattle.turn_cell.specs.History.{In, entry, entries_of}
 use Rattle.turn_cell.proofs.Lists.{in_append}
 use Rattle.turn_rules.specs.NextEvent.{MayCome}
 use Rattle.turn_rules.specs.QuietRun.{IsQuiet}
-use Rattle.turn_rules.proofs.LegalRuns.{legal-run}
 use Rattle.core_access.specs.Histories.{Told, run_after}
 use Rattle.core_access.specs.Sights.{Sight, run_seen, Counts}
 use Rattle.core_access.specs.PassSights.{all_come}
@@ -179,7 +178,7 @@ module _ {T : Type 0} {tells : Bool} {shape : Shape} {before after : Side} {resu
       program = program-on;
       units = ruled;
       books = gathered-books;
-      done = λ through. closed-done (basis_of o) r r' (carried through) program.above units (λ u born. quiet-done r u (legal-run (basis_of o) r program.above units) quiet born);
+      done = λ through. closed-done (basis_of o) r r' (carried through) program.above units (λ u born. quiet-done r u quiet born);
       lines = λ through. subst (λ (n : ℕ). HasBegunLines n r') all (g.shown through);
     }
 
