@@ -15,12 +15,14 @@ use Rattle.host_trait.proofs.Runs.{each_image}
 use Rattle.field_codec.specs.Spelling.{spelling_of_version, VersionFits}
 use Rattle.gate_block.specs.Log.{HasBlocks}
 use Rattle.log_reading.specs.Blocks.{header_damage}
+use Rattle.silo_spec.specs.Silos.{IsSilo}
 use Rattle.grain_log.specs.Places as places
 use Rattle.grain_log.specs.Places.{spelling_of_versions}
 use Rattle.commit_log.specs.declared.records.Written.{Written}
 use Rattle.promise_spec.specs.Records.{Commit}
 use Rattle.promise_spec.specs.Crashes.{IsAside}
 use Rattle.promise_spec.specs.Entries.{Log, records_of}
+use Rattle.promise_spec.specs.Logs.{magic}
 use Rattle.batch_disk.specs.ImagesAtRest.{EachImage, IsBelow, AreBelow, PlacesAreNamed, Voted, StandsIn, NotAmong, IsAtRest, voted_from, AreOfType}
 use Rattle.batch_disk.specs.Moments.{KeepsLog}
 use Rattle.batch_disk.proofs.Lists.{each_leads, each_both, both_parts}
@@ -67,7 +69,7 @@ module _ (live : ℕ) (shape : Shape) (ends : GrainId → ℕ) (grain : GrainId)
       let manager : image (Manager live) ≡ was (Manager live) = others (Manager live) (not_manager live grain) in
       record {
         header = ap (take 15) manager ∙ is.header;
-        stands = stands_up_same live shape was image log bodies gate is.stands (ap header_damage manager ∙ is.stands.header) (others (ProgramFile live) (λ e. absurd cc))
+        stands = stands_up_same live shape was image log bodies gate is.stands (subst (IsSilo magic) (sym manager) is.stands.silo) (ap header_damage manager ∙ is.stands.header) (others (ProgramFile live) (λ e. absurd cc))
             (subst (HasBlocks bodies gate) (sym manager) is.stands.stand)
             (each_leads (λ (c : Commit). AllByRecursion (IsBelow ends) c.logged.writes) (λ (c : Commit). AllByRecursion (IsSameAt live shape was image) c.logged.writes)
             (λ c each. each_leads (IsBelow ends) (IsSameAt live shape was image) same_below c.logged.writes each) (records_of log) below);

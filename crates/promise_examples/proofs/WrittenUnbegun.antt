@@ -14,11 +14,11 @@ use Rattle.host_trait.proofs.Crashes.{settled_only}
 use Rattle.core_model.specs.SerialOrder.{chosen}
 use Rattle.core_model.specs.CoreState.{GrainId, Member, put, put_grain}
 use Rattle.gate_block.specs.Log.{HasBlocks}
-use Rattle.silo_spec.specs.Silos.{manager, program_file}
+use Rattle.silo_spec.specs.Silos.{manager, program_file, IsSilo}
 use Rattle.promise_spec.specs.Programs.{shape_in}
 use Rattle.promise_spec.specs.Entries.{Log}
 use Rattle.promise_spec.specs.Records.{AreRecordsOf}
-use Rattle.promise_spec.specs.Logs.{IsLog, StandsUpTo}
+use Rattle.promise_spec.specs.Logs.{magic, IsLog, StandsUpTo}
 use Rattle.promise_spec.specs.Outputs.{Grew, reply_lines}
 use Rattle.promise_spec.specs.Causes.{RoseBy, NoneRose, most_syncs_of}
 use Rattle.promise_spec.specs.Endings.{DiskFault}
@@ -40,7 +40,7 @@ use Rattle.promise_examples.specs.HostCalls.{IsHosted}
 use Rattle.promise_examples.specs.WrittenRun.{new_manager, new_disk, version_pending, block_pending, staged_disk, opened}
 use Rattle.promise_examples.specs.WrittenDoubt.{pair_manner, locked_text, doubt_text, pair_before, one_fault}
 use Rattle.promise_examples.specs.WrittenUnbegun.{gate_failing, unbegun_after, unbegun, unbegun_course, unbegun_steps}
-use Rattle.promise_examples.proofs.NewSilo.{new_images, seen_possible, new_folder, has_program}
+use Rattle.promise_examples.proofs.NewSilo.{gate_is_silo, new_images, seen_possible, new_folder, has_program}
 use Rattle.promise_examples.proofs.SealingDisks.{at_new, at_block, at_staged}
 use Rattle.promise_examples.proofs.HostSteps.{pulled, ended, wrote_grain, wrote_log, unbegun_log, synced_grain, synced_log, emitted}
 use Rattle.promise_examples.proofs.MomentParts.{at_each, exit_there, all_less}
@@ -253,7 +253,7 @@ module _ (image : Image) (left : IsImage staged_disk image) where
 
   -- the empty log stands up to its gate
   front : StandsUpTo 0 image (account_log []) [] 15
-  front = account_begins image (ap header_damage staged_is) (has_program image (settled_only program_bytes (image program_file) (left program_file)))
+  front = account_begins image (subst (IsSilo magic) (sym staged_is) (gate_is_silo block_bytes 0)) (ap header_damage staged_is) (has_program image (settled_only program_bytes (image program_file) (left program_file)))
       (subst (λ (f : List ℕ). HasBlocks [] 15 f) (sym staged_is) (record { small = tt; at = refl; within = omega arith; blocks = refl }))
 
   -- it is the batch's

@@ -5,7 +5,7 @@ use Rattle.host_trait.specs.declared.channels.FileId.TheVariants.{Manager, Progr
 use Rattle.host_trait.specs.World.{Image}
 use Rattle.gate_block.specs.Log.{HasBlocks}
 use Rattle.log_reading.specs.Blocks.{header_damage}
-use Rattle.silo_spec.specs.Silos.{HasProgram}
+use Rattle.silo_spec.specs.Silos.{IsSilo, HasProgram}
 use Rattle.silo_spec.specs.Slots.{IsLive}
 use Rattle.promise_spec.specs.Programs.{Program, IsChecked}
 use Rattle.promise_spec.specs.Entries.{Log, new_silo}
@@ -15,10 +15,11 @@ use Rattle.promise_spec.specs.Blocks.{Block, entries_in, body_of, BlockFits, Are
 abbrev pub magic : List ℕ
 magic = codes "OTXLOG01"
 
--- This log stands in a slot's files, up to this gate: the manager file has zeros at bytes 13 and 14; the program file has a
--- checked program, over which a new silo is the base; and from byte 15 on stand the open blocks of the entries, each of which
--- is kept whole.
+-- This log stands in a slot's files, up to this gate: the manager file is a silo's, and has zeros at bytes 13 and 14; the program
+-- file has a checked program, over which a new silo is the base; and from byte 15 on stand the open blocks of the entries, each of
+-- which is kept whole.
 pub record StandsUpTo (slot : ℕ) (image : Image) (log : Log) (bodies : List (List ℕ)) (gate : ℕ) : Type 0 where
+  pub silo : IsSilo magic (image (Manager slot))
   pub header : header_damage (image (Manager slot)) ≡ None
   pub program : Program
   pub checked : IsChecked program
