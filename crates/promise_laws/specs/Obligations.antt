@@ -87,7 +87,7 @@ pub record EndsRightly (p : Program) (r : Observed) (c : Course) : Type 0 where
   pub risen : HasRisen r.ending r.faults_before r.faults_after
   pub carried : IsCarried r.ending
   pub long : HasLength r.ending (length r.old.input)
-  pub begun : (c.events ≡ []) ⊎ HasReadAll r
+  pub begun : ((core_run p c).events ≡ []) ⊎ HasReadAll r
   pub done : r.ending ≡ Done → IsDone r c
   pub syncs : NoneRose r.faults_before r.faults_after → CountsSyncs r.ending → r.new.syncs ≡ r.old.syncs + syncs_of (core_run p c)
   pub most : r.new.syncs ≤ r.old.syncs + most_syncs_of (core_run p c)
