@@ -7,7 +7,7 @@ use Rattle.promise_spec.specs.Programs.{Program}
 use Rattle.promise_spec.specs.Logs.{IsLog}
 use Rattle.promise_spec.specs.Causes.{NoneRose, RunHasDoubt, syncs_of, most_syncs_of}
 use Rattle.promise_spec.specs.Endings as ending
-use Rattle.promise_spec.specs.Courses.{Observed, Course, order, lines, program_in_force, core_run, core_end}
+use Rattle.promise_spec.specs.Courses.{Observed, Course, order, lines, seen_at_entry, program_in_force, core_run, core_end}
 use Rattle.promise_spec.specs.Promise.{IsAnswered}
 use Rattle.promise_spec.specs.Commands.{Prints}
 use Rattle.promise_spec.specs.Loads.{load_calls, AskFor, summary_text}
@@ -54,5 +54,5 @@ pub record ShowsLoad (p : Program) (n seed : ℕ) (r : Observed) (c : Course) (m
   pub risen : ending.HasRisen r.ending r.faults_before r.faults_after
   pub done : (r.ending ≡ ending.Done) ⊎ (r.ending ≡ ending.WriteFault) → IsAnswered r c
   pub undoubted : r.ending ≡ ending.WriteFault → RunHasDoubt (core_run p c) → ⊥
-  pub syncs : NoneRose r.faults_before r.faults_after → r.ending ≡ ending.Done → r.new.syncs ≡ r.old.syncs + syncs_of (core_run p c)
-  pub most : r.new.syncs ≤ r.old.syncs + most_syncs_of (core_run p c)
+  pub syncs : NoneRose r.faults_before r.faults_after → r.ending ≡ ending.Done → r.new.syncs ≡ r.old.syncs + syncs_of (seen_at_entry r) (core_run p c)
+  pub most : r.new.syncs ≤ r.old.syncs + most_syncs_of (seen_at_entry r) (core_run p c)

@@ -17,6 +17,7 @@ use Rattle.host_trait.specs.declared.channels.Channel.TheVariants.{File}
 use Rattle.host_trait.specs.declared.channels.FileId.TheVariants.{Grain}
 use Rattle.host_trait.specs.World.{Moment, Image, IsImage, moment_of}
 use Rattle.silo_spec.specs.Silos.{manager, program_file, HasProgram}
+use Rattle.silo_spec.specs.OpenedDisks.{opening_syncs}
 use Rattle.promise_spec.specs.Programs.{shape_in}
 use Rattle.promise_spec.specs.Entries.{Log}
 use Rattle.promise_spec.specs.Logs.{IsLog, IsPrefix}
@@ -27,7 +28,7 @@ use Rattle.promise_spec.specs.TurnRule.{KeepsTurnRule}
 use Rattle.promise_spec.specs.Causes.{RoseBy, RunHasDoubt, AreCaused, is_no, is_vote_of, is_unsealed, syncs_of, most_syncs_of}
 use Rattle.promise_spec.specs.Family.{IsUnitOf, IsReached, by_line}
 use Rattle.promise_spec.specs.Endings as ending
-use Rattle.promise_spec.specs.Courses.{Observed, Course, moments, lines, core_end}
+use Rattle.promise_spec.specs.Courses.{Observed, Course, moments, lines, core_end, seen_at_entry}
 use Rattle.promise_spec.specs.Orders.{IsOrdered}
 use Rattle.promise_spec.specs.Replies.{AreReplies, IsTrueOf, HasNoRecord}
 use Rattle.promise_spec.specs.Crashes.{LeavesAlone, SurvivesCrashes, StaySound, HoldsReplies}
@@ -105,14 +106,14 @@ voted_on : (g : GrainId) → g ≡ account_1 → how_many (is_vote_of g) core �
 voted_on g same none = (let one : how_many (is_vote_of g) core ≡ 1 = subst (λ (x : GrainId). how_many (is_vote_of x) core ≡ 1) (sym same) one_vote in absurd (omega (arith, one, none)))
 
 -- as many syncs are asked for at most
-four_most : most_syncs_of core ≡ 4
+four_most : (image : Image) → most_syncs_of image core ≡ opening_syncs image + 3
 unfolding put put_grain
-four_most = refl
+four_most image = refl
 
 -- one of the opening, one of the vote, and two of the batch
-four_syncs : syncs_of core ≡ 4
+four_syncs : (image : Image) → syncs_of image core ≡ opening_syncs image + 3
 unfolding put put_grain
-four_syncs = refl
+four_syncs image = refl
 
 -- each image of the moment has the deposit or not
 abbrev AllMayHave : Moment → Type 0
@@ -332,8 +333,8 @@ module _ (r : Observed) (opened : Moment) (sealing : List Moment) (run : IsDepos
     done = λ is. record { input = run.left; answered = λ n low high. (first_entry, inl refl, (let one : length (lines r) ≡ 1 = run.one in omega arith)) };
     complete = λ calm. record { calm = statuses.3; undisturbed = λ e there. only (λ (d : Entry). IsUndisturbed d.what) first_entry e tt there };
     alone = λ single one none e there. only (λ (d : Entry). IsNoLock d.what) first_entry e tt there;
-    syncs = λ calm is. run.syncs ∙ ap (λ (n : ℕ). r.old.syncs + n) (sym four_syncs);
-    most = (let n = run.syncs in let few : most_syncs_of core ≡ 4 = four_most in omega (arith, n, few));
+    syncs = λ calm is. run.syncs ∙ ap (λ (n : ℕ). r.old.syncs + n) (sym (four_syncs (seen_at_entry r)));
+    most = (let n = run.syncs in let few : most_syncs_of (seen_at_entry r) core ≡ opening_syncs (seen_at_entry r) + 3 = four_most (seen_at_entry r) in omega (arith, n, few));
   }
 
   pub kept : Keeps account_program r course

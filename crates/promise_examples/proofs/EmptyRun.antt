@@ -149,7 +149,7 @@ module _ (p : Program) (r : Observed) (opening : Log) (run : IsEmptyRun p r open
       done = λ is. record { input = run.left; answered = λ n low high. absurd (omega (arith, no_lines)) };
       complete = λ calm. record { calm = ended.3; undisturbed = λ e none. absurd none };
       alone = λ single one none e there. absurd there;
-      syncs = λ calm is. run.syncs;
+      syncs = λ calm is. (let n = run.syncs in omega (arith, n));
       most = (let n = run.syncs in omega (arith, n));
     };
   }

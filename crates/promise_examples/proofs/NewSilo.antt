@@ -26,6 +26,7 @@ use Rattle.silo_spec.specs.Silos.{manager, program_file, IsSilo, HasProgram}
 use Rattle.request_wire.specs.Names.{TypeNames, names_in}
 use Rattle.request_wire.specs.Request.{shape_of, grain_of, method_of, args_of, passed, call_of}
 use Rattle.request_wire.proofs.Arguments.{json_of-read}
+use Rattle.silo_spec.specs.OpenedDisks.{opened_disk}
 use Rattle.promise_spec.specs.Programs.{ProgramFault, program_in}
 use Rattle.promise_spec.specs.Openings.{with_types, program_in_file}
 use Rattle.promise_spec.specs.Logs.{magic, HasLog}
@@ -191,6 +192,13 @@ same_aside log grain later_log later_grain (Manager zero) is = absurd (is refl)
 same_aside log grain later_log later_grain (Manager (suc slot)) is = refl
 same_aside log grain later_log later_grain (Grain zero g) is = absurd (is refl)
 same_aside log grain later_log later_grain (Grain (suc slot) g) is = refl
+
+-- and an opening leaves them as they are
+pub opened_aside : (log grain : FileState) (file : FileId) → IsAside 0 file → opened_disk (disk_of log grain) file ≡ disk_of log grain file
+opened_aside log grain (ProgramFile slot) is = refl
+opened_aside log grain (Manager zero) is = absurd (is refl)
+opened_aside log grain (Manager (suc slot)) is = refl
+opened_aside log grain (Grain slot g) is = refl
 
 pub settled_stays : (bytes : List ℕ) → MayLeave (settled bytes) bytes
 settled_stays bytes = record { no_shorter = omega arith; no_longer = omega arith; same = λ i low untouched. refl }

@@ -31,7 +31,7 @@ use Rattle.promise_spec.specs.Blocks.{Records, body_of}
 use Rattle.promise_spec.specs.Logs.{magic, IsLog}
 use Rattle.promise_spec.specs.Outputs.{IsProper, Grew, reply_lines}
 use Rattle.promise_spec.specs.Causes.{RoseBy, most_syncs_of}
-use Rattle.promise_spec.specs.Courses.{moments, core_run, core_end}
+use Rattle.promise_spec.specs.Courses.{moments, core_run, core_end, seen_at_entry}
 use Rattle.promise_spec.specs.Crashes.{Acknowledges, LeavesAlone}
 use Rattle.promise_spec.specs.Batches.{EndsABatch}
 use Rattle.promise_spec.specs.Explanation.{AreSettled}
@@ -406,8 +406,8 @@ ends = record {
   long = omega arith;
   begun = inr (record { ending = tt; input = refl; short = omega arith });
   done = λ is. record { input = refl; answered = answered };
-  syncs = λ calm is. ap (λ (n : ℕ). batched.old.syncs + n) (sym four_syncs);
-  most = (let few : most_syncs_of (core_run account_program batch_course) ≡ 4 = four_most in omega (arith, few));
+  syncs = λ calm is. ap (λ (n : ℕ). batched.old.syncs + n) (sym (four_syncs (seen_at_entry batched)));
+  most = (let few : most_syncs_of (seen_at_entry batched) (core_run account_program batch_course) ≡ 4 = four_most (seen_at_entry batched) in omega (arith, few));
 }
 
 pub batched_shows : Shows account_program batched batch_course

@@ -1,6 +1,7 @@
 -- The run that is written out, of two deposits of which one is left in doubt, meets all that is asked of such a run.
 use Rattle.host_trait.proofs.Crashes.{settled_only}
 use Rattle.log_reading.specs.Blocks.{header_damage}
+use Rattle.silo_spec.specs.OpenedDisks.{opening_syncs}
 use Rattle.promise_spec.specs.Logs.{magic, StandsUpTo}
 use Rattle.promise_examples.proofs.AccountLogs.{account_begins}
 use Rattle.std.proofs.Common.{◌≡◌, ◌≢◌, ◌⊎◌, inl, inr, ℕ, zero, suc, ◌+◌, ◌<◌, ◌≤◌, List, [], ◌∷◌, ◌++◌, length, take, drop, slice_index, refl, sym, ◌∙◌, ap, subst, arith}
@@ -19,7 +20,7 @@ use Rattle.gate_block.specs.Log.{HasBlocks}
 use Rattle.silo_spec.specs.Silos.{manager, program_file, IsSilo}
 use Rattle.promise_spec.specs.Programs.{shape_in}
 use Rattle.promise_spec.specs.Outputs.{reply_lines}
-use Rattle.promise_spec.specs.Courses.{lines}
+use Rattle.promise_spec.specs.Courses.{lines, seen_at_entry}
 use Rattle.promise_spec.specs.Exits.{HasBlock, DifferAt}
 use Rattle.promise_spec.specs.Promise.{IsSoundFolder, Keeps, Promises}
 use Rattle.promise_laws.specs.Obligations.{Shows}
@@ -141,7 +142,7 @@ is_doubt_run = record {
   differ = differ;
   alone = ((at_new doubted refl [] (settled [])).alone, (at_sealing doubted refl (locked_text ++ doubt_text)).alone);
   apart = ((at_new doubted refl [] (settled [])).apart, (at_sealing doubted refl (locked_text ++ doubt_text)).apart);
-  syncs = omega arith;
+  syncs = (let own : opening_syncs (seen_at_entry doubted) ≡ 1 = refl in omega (arith, own));
   some = seen_at_exit;
   possible = exit_possible;
   there = exit_has;

@@ -22,7 +22,7 @@ use Rattle.promise_spec.specs.Logs.{magic, IsLog, StandsUpTo}
 use Rattle.promise_spec.specs.Outputs.{Grew, reply_lines}
 use Rattle.promise_spec.specs.Causes.{RoseBy, NoneRose, most_syncs_of}
 use Rattle.promise_spec.specs.Endings.{DiskFault}
-use Rattle.promise_spec.specs.Courses.{moments, core_run, core_end}
+use Rattle.promise_spec.specs.Courses.{moments, core_run, core_end, seen_at_entry}
 use Rattle.promise_spec.specs.Crashes.{LeavesAlone}
 use Rattle.promise_spec.specs.Batches.{EndsABatch}
 use Rattle.promise_spec.specs.Explanation.{AreAdded, AreSettled}
@@ -303,7 +303,7 @@ ends = record {
   begun = inr (record { ending = tt; input = refl; short = omega arith });
   done = λ is. absurd (cc is);
   syncs = λ calm is. absurd (not_calm calm);
-  most = (let few : most_syncs_of (core_run account_program unbegun_course) ≡ 4 = four_most in omega (arith, few));
+  most = (let few : most_syncs_of (seen_at_entry unbegun) (core_run account_program unbegun_course) ≡ 4 = four_most (seen_at_entry unbegun) in omega (arith, few));
 }
 
 -- all that has to be shown

@@ -1,4 +1,5 @@
 -- Answers that don't keep the promise, over any folder and to any words.
+use Rattle.silo_spec.specs.OpenedDisks.{opening_syncs}
 use Rattle.promise_spec.specs.Entries.{Log, standing_of}
 use Rattle.std.proofs.Common.{false, ◌≡◌, ◌≢◌, ◌⊎◌, inl, inr, ℕ, ◌+◌, ◌-◌, ◌^◌, ◌<◌, ◌≤◌, List, [], ◌∷◌, ◌++◌, length, Ok, Err, refl, sym, ap, subst, ◌∙◌, arith, true}
 use Rattle.std.proofs.lemmas.List.{append-nil, append_cancel_left}
@@ -26,7 +27,7 @@ use Rattle.promise_spec.specs.Outputs.{reply_lines}
 use Rattle.promise_spec.specs.Words.{Command, Init, Run, Show, History, Audit, Load, Check, Manner}
 use Rattle.promise_spec.specs.Endings as ending
 use Rattle.promise_spec.specs.Courses.{Observed, seen_at_entry}
-use Rattle.promise_spec.specs.Refusals.{IsHead, IsNamedIn, IsReadFor, IsRefusedBy, MustBeRead, IsUnopened}
+use Rattle.promise_spec.specs.Refusals.{IsEitherManager, IsHead, IsNamedIn, IsReadFor, IsRefusedBy, MustBeRead, IsUnopened}
 use Rattle.promise_spec.specs.Reports.{show_text, history_text}
 use Rattle.promise_spec.specs.Promise.{Promises}
 use Rattle.promise_laws.specs.AnsweredRuns.{HasOpened}
@@ -52,25 +53,29 @@ not_none reading live log a b = let e : Reads live log ≡ NoSilo = sym a ∙ b 
 pub not_opened : (r : Observed) → IsUnopened r → r.ending ≡ ending.Done → ⊥
 not_opened r unopened is = subst (IsRefusedBy (seen_at_entry r) (opened_as (seen_at_entry r))) is unopened.refused
 
-pub two_syncs : (r : Observed) → IsUnopened r → r.old.syncs + 1 < r.new.syncs → ⊥
-two_syncs r unopened more = let most = unopened.syncs in omega (arith, most, more)
+pub more_syncs : (r : Observed) → IsUnopened r → r.old.syncs + opening_syncs (seen_at_entry r) < r.new.syncs → ⊥
+more_syncs r unopened more = let most = unopened.syncs in omega (arith, most, more)
 
 pub read_unopened : (r : Observed) → IsUnopened r → r.old.input ≢ [] → r.new.input ≡ [] → ⊥
 read_unopened r unopened some all = some (sym unopened.unread ∙ all)
 
--- a grain's file is not the manager file, nor the program's
+-- a grain's file is not a manager file, nor a program's
 not_manager : (live slot : ℕ) (grain : GrainId) → file.Grain slot grain ≡ file.Manager live → ⊥
 not_manager live slot grain same = absurd (cc same)
 
-no_head : (slot : ℕ) (grain : GrainId) → IsHead (file.Grain slot grain) → ⊥
-no_head slot grain (inl same) = absurd (cc same)
-no_head slot grain (inr same) = absurd (cc same)
+neither_manager : (slot : ℕ) (grain : GrainId) → IsEitherManager (file.Grain slot grain) → ⊥
+neither_manager slot grain (inl same) = absurd (cc same)
+neither_manager slot grain (inr same) = absurd (cc same)
+
+no_head : (live slot : ℕ) (grain : GrainId) → IsHead live (file.Grain slot grain) → ⊥
+no_head live slot grain (inl either) = neither_manager slot grain either
+no_head live slot grain (inr same) = absurd (cc same)
 
 same_file : (live slot : ℕ) (grain other : GrainId) → file.Grain slot grain ≡ file.Grain live other → (live ≡ slot) × (other ≡ grain)
 same_file live slot grain other same = (cc, cc)
 
 named_of_file : (image : Image) (live slot : ℕ) (grain : GrainId) → IsReadFor live image (file.Grain slot grain) → IsNamedIn slot image grain
-named_of_file image live slot grain (inl head) = absurd (no_head slot grain head)
+named_of_file image live slot grain (inl head) = absurd (no_head live slot grain head)
 named_of_file image live slot grain (inr named) =
     let same = same_file live slot grain named.0 named.1 in
     subst (λ (n : ℕ). IsNamedIn n image grain) same.0 (subst (IsNamedIn live image) same.1 named.2)
@@ -127,18 +132,17 @@ module _ (m : Manner) (r : Observed) where
   grain_blamed slot grain keeps none is = elim (answered m r keeps) [
     | inl unopened ↦
         let must : MustBeRead (seen_at_entry r) (opened_as (seen_at_entry r)) (file.Grain slot grain) = subst (IsRefusedBy (seen_at_entry r) (opened_as (seen_at_entry r))) is unopened.refused in
-        let same : file.Grain slot grain ≡ manager = subst (λ (reading : Reading). MustBeRead (seen_at_entry r) reading (file.Grain slot grain)) ((no_silo_is_read (seen_at_entry r)).1 none) must in
-        absurd (cc same)
+        neither_manager slot grain (subst (λ (reading : Reading). MustBeRead (seen_at_entry r) reading (file.Grain slot grain)) ((no_silo_is_read (seen_at_entry r)).1 none) must)
     | inr opened ↦ not_none (opened_as (seen_at_entry r)) opened.openable.live opened.openable.log opened.openable.reads ((no_silo_is_read (seen_at_entry r)).1 none)
   ]
 
   -- where a grain's file is blamed a record names the grain
   named_of_reading : (image : Image) (reading : Reading) (slot : ℕ) (grain : GrainId) → MustBeRead image reading (file.Grain slot grain) → IsNamedIn slot image grain
-  named_of_reading image NoSilo slot grain must = absurd (cc must)
-  named_of_reading image (DamagedAt (file.Program other) place) slot grain must = absurd (no_head slot grain must)
-  named_of_reading image (DamagedAt (file.Manager other) place) slot grain must = absurd (no_head slot grain must)
+  named_of_reading image NoSilo slot grain must = absurd (neither_manager slot grain must)
+  named_of_reading image (DamagedAt (file.Program other) place) slot grain must = absurd (no_head other slot grain must)
+  named_of_reading image (DamagedAt (file.Manager other) place) slot grain must = absurd (no_head other slot grain must)
   named_of_reading image (DamagedAt (file.Grain other last) place) slot grain must = elim must [
-    | inl head ↦ absurd (no_head slot grain head)
+    | inl head ↦ absurd (no_head other slot grain head)
     | inr g ↦ named_of_file image other slot grain (inr (g.0, g.1, g.2))
   ]
   named_of_reading image (Reads live log) slot grain must = named_of_file image live slot grain must
@@ -153,7 +157,7 @@ module _ (m : Manner) (r : Observed) where
   -- a grain behind the first damaged one has not to be read
   not_behind : (last grain : GrainId) (live place slot : ℕ) → is_before last grain ≡ true → MustBeRead (seen_at_entry r) (DamagedAt (file.Grain live last) place) (file.Grain slot grain) → ⊥
   not_behind last grain live place slot later must = elim must [
-    | inl head ↦ no_head slot grain head
+    | inl head ↦ no_head live slot grain head
     | inr g ↦
         let same : g.0 ≡ grain = (same_file live slot grain g.0 g.1).1 in
         let early : is_before last grain ≡ false = subst (λ (k : GrainId). is_before last k ≡ false) same g.3 in

@@ -1,4 +1,5 @@
 -- Runs that don't keep the promise.
+use Rattle.silo_spec.specs.OpenedDisks.{opening_syncs, opened_disk}
 use Rattle.promise_spec.specs.Prefixes.{IsPrefixOf}
 use Rattle.promise_spec.proofs.Prefixes.{grown_front}
 use Rattle.promise_spec.proofs.Standings.{grown_none, grown_records}
@@ -152,19 +153,19 @@ module _ (p : Program) (r : Observed) (c : Course) where
       let below : length (l ∷ []) < length (kept_by (core_end p c) (0 + 1)) = omega (arith, two) in
       part_of_batch image (l ∷ []) 0 keeps left is (omega (arith, none)) below
 
-  pub more_syncs : Keeps p r c → NoneRose r.faults_before r.faults_after → ending.CountsSyncs r.ending → r.old.syncs + syncs_of (core_run p c) < r.new.syncs → ⊥
-  more_syncs keeps calm is more = let same : r.new.syncs ≡ r.old.syncs + syncs_of (core_run p c) = keeps.ended.syncs calm is in omega (arith, same, more)
+  pub more_syncs : Keeps p r c → NoneRose r.faults_before r.faults_after → ending.CountsSyncs r.ending → r.old.syncs + syncs_of (seen_at_entry r) (core_run p c) < r.new.syncs → ⊥
+  more_syncs keeps calm is more = let same : r.new.syncs ≡ r.old.syncs + syncs_of (seen_at_entry r) (core_run p c) = keeps.ended.syncs calm is in omega (arith, same, more)
 
-  pub fewer_syncs : Keeps p r c → NoneRose r.faults_before r.faults_after → ending.CountsSyncs r.ending → r.new.syncs < r.old.syncs + syncs_of (core_run p c) → ⊥
-  fewer_syncs keeps calm is fewer = let same : r.new.syncs ≡ r.old.syncs + syncs_of (core_run p c) = keeps.ended.syncs calm is in omega (arith, same, fewer)
+  pub fewer_syncs : Keeps p r c → NoneRose r.faults_before r.faults_after → ending.CountsSyncs r.ending → r.new.syncs < r.old.syncs + syncs_of (seen_at_entry r) (core_run p c) → ⊥
+  fewer_syncs keeps calm is fewer = let same : r.new.syncs ≡ r.old.syncs + syncs_of (seen_at_entry r) (core_run p c) = keeps.ended.syncs calm is in omega (arith, same, fewer)
 
-  pub other_long_syncs : (line : ℕ) → Keeps p r c → NoneRose r.faults_before r.faults_after → r.ending ≡ ending.InputTooLong line → r.new.syncs ≢ r.old.syncs + 1 → ⊥
+  pub other_long_syncs : (line : ℕ) → Keeps p r c → NoneRose r.faults_before r.faults_after → r.ending ≡ ending.InputTooLong line → r.new.syncs ≢ r.old.syncs + opening_syncs (seen_at_entry r) → ⊥
   other_long_syncs line keeps calm is differ = differ (long_syncs p r c line keeps calm is)
 
   pub closed : (image : Image) → Keeps p r c → IsImage r.new.disk image → (IsLive magic c.live image → ⊥) → ⊥
   closed image keeps left none = none (keeps.exit.logs image left).is.is_live
 
-  pub changed_aside : (m : Moment) (f : FileId) → Keeps p r c → Member m (moments r c) → IsAside c.live f → m.disk f ≢ r.old.disk f → ⊥
+  pub changed_aside : (m : Moment) (f : FileId) → Keeps p r c → Member m (moments r c) → IsAside c.live f → m.disk f ≢ opened_disk r.old.disk f → ⊥
   changed_aside m f keeps there aside differ = differ ((keeps.headline.crashes.alone m there).aside f aside)
 
   pub changed_header : (m : Moment) (image : Image) → Keeps p r c → Member m (moments r c) → IsImage m.disk image → take 15 (image (file.Manager c.live)) ≢ take 15 (seen_at_entry r (file.Manager c.live)) → ⊥
@@ -297,16 +298,16 @@ module _ (p : Program) (r : Observed) (c : Course) where
   pub twice_anywhere : (front between back : List Entry) (d e : Entry) → KeepsAnywhere p r c → c.entries ≡ front ++ (d ∷ (between ++ (e ∷ back))) → d.line ≡ e.line → ⊥
   twice_anywhere front between back d e keeps split same = twice front between back d e (subst DifferInLine split keeps.once) same
 
-  pub more_anywhere : KeepsAnywhere p r c → r.old.syncs + most_syncs_of (core_run p c) < r.new.syncs → ⊥
+  pub more_anywhere : KeepsAnywhere p r c → r.old.syncs + most_syncs_of (seen_at_entry r) (core_run p c) < r.new.syncs → ⊥
   more_anywhere keeps more = let most = keeps.ended.most in omega (arith, most, more)
 
   pub written_unvoted : (g : GrainId) (m : Moment) → KeepsAnywhere p r c → how_many (is_vote_of g) (core_run p c) ≡ 0 → Member m (moments r c) → m.disk (file.Grain c.live g) ≢ r.old.disk (file.Grain c.live g) → ⊥
   written_unvoted g m keeps none there differ = differ (keeps.explained.unvoted g m none there)
 
-  pub too_many_syncs : Keeps p r c → r.old.syncs + most_syncs_of (core_run p c) < r.new.syncs → ⊥
+  pub too_many_syncs : Keeps p r c → r.old.syncs + most_syncs_of (seen_at_entry r) (core_run p c) < r.new.syncs → ⊥
   too_many_syncs keeps more = let most = keeps.ended.most in omega (arith, most, more)
 
-  pub load_too_many : (n seed : ℕ) → KeepsLoad p n seed r c → r.old.syncs + most_syncs_of (core_run p c) < r.new.syncs → ⊥
+  pub load_too_many : (n seed : ℕ) → KeepsLoad p n seed r c → r.old.syncs + most_syncs_of (seen_at_entry r) (core_run p c) < r.new.syncs → ⊥
   load_too_many n seed keeps more = let most = keeps.ended.most in omega (arith, most, more)
 
   pub blamed_alive : (e : Entry) (on : UnitNo) → Keeps p r c → Member e c.entries → e.what ≡ settled.Dependency on

@@ -7,6 +7,7 @@ use Rattle.host_trait.specs.declared.channels.FileId.TheVariants.{Grain}
 use Rattle.host_trait.specs.World.{Moment, Image, IsImage, moment_of}
 use Rattle.silo_spec.specs.Silos.{program_file, HasProgram}
 use Rattle.request_wire.specs.Lines.{lines_of}
+use Rattle.silo_spec.specs.OpenedDisks.{opening_syncs}
 use Rattle.promise_spec.specs.Programs.{shape_in}
 use Rattle.promise_spec.specs.Logs.{IsLog}
 use Rattle.promise_spec.specs.Outputs.{reply_lines}
@@ -44,7 +45,7 @@ MayHaveDeposit image = HasNone image ⊎ HasDeposit image
 
 -- The files read as an empty log at entry. The run synced it, had moments at which it sealed the deposit, and one at
 -- which it replied. At the first each image is one of those at entry and has an empty log, while it seals each has the
--- deposit or not, and at the last each has it; there is one. It asked for four syncs: the opening's, one of the version,
+-- deposit or not, and at the last each has it; there is one. It asked for the opening's syncs and three more: one of the version,
 -- one of the block and one of its gate. No count of faults changed.
 pub record IsDepositRun (r : Observed) (opened : Moment) (sealing : List Moment) : Type 0 where
   pub ending : r.ending ≡ Done
@@ -58,7 +59,7 @@ pub record IsDepositRun (r : Observed) (opened : Moment) (sealing : List Moment)
   pub past : r.new.past ≡ r.old.past ++ (opened ∷ (sealing ++ moment_of r.new ∷ []))
   pub quiet : opened.output ≡ r.old.output
   pub output : r.new.output ≡ r.old.output ++ reply_lines (shape_in account_program) (first_entry ∷ [])
-  pub syncs : r.new.syncs ≡ r.old.syncs + 4
+  pub syncs : r.new.syncs ≡ r.old.syncs + (opening_syncs (seen_at_entry r) + 3)
   pub entry : (image : Image) → IsImage opened.disk image → IsImage r.old.disk image × HasNone image
   pub sealed : AllByRecursion (IsBetween r r.old.output MayHaveDeposit) sealing
   pub logged : (image : Image) → IsImage r.new.disk image → HasDeposit image

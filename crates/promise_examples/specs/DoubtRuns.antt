@@ -6,6 +6,7 @@ use Rattle.host_trait.specs.declared.channels.Channel.TheVariants.{File}
 use Rattle.host_trait.specs.World.{Moment, Image, IsImage, moment_of}
 use Rattle.silo_spec.specs.Silos.{manager}
 use Rattle.request_wire.specs.Lines.{lines_of}
+use Rattle.silo_spec.specs.OpenedDisks.{opening_syncs}
 use Rattle.promise_spec.specs.Programs.{shape_in}
 use Rattle.promise_spec.specs.Logs.{IsLog, StandsUpTo}
 use Rattle.promise_spec.specs.Outputs.{reply_lines}
@@ -46,7 +47,7 @@ pub record IsDoubtRun (r : Observed) (opened : Moment) (told doubting : List Mom
       DifferAt 15 (one manager) (other manager)
   pub alone : LeavesAlone 0 r opened × LeavesAlone 0 r (moment_of r.new)
   pub apart : LeavesOthers r opened × LeavesOthers r (moment_of r.new)
-  pub syncs : r.new.syncs ≤ r.old.syncs + 4
+  pub syncs : r.new.syncs ≤ r.old.syncs + (opening_syncs (seen_at_entry r) + 3)
   pub some : Image
   pub possible : IsImage r.new.disk some
   pub there : HasDeposit some

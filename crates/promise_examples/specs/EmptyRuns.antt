@@ -5,6 +5,7 @@ use Rattle.host_trait.specs.declared.channels.Channel.{Channel}
 use Rattle.host_trait.specs.declared.channels.FileId.TheVariants.{Grain}
 use Rattle.host_trait.specs.World.{Image, IsImage, moment_of}
 use Rattle.request_wire.specs.Lines.{lines_of}
+use Rattle.silo_spec.specs.OpenedDisks.{opening_syncs}
 use Rattle.promise_spec.specs.Programs.{Program}
 use Rattle.promise_spec.specs.Logs.{IsLog}
 use Rattle.promise_spec.specs.Images.{IsSoundIfSilo}
@@ -14,8 +15,8 @@ use Rattle.promise_spec.specs.Courses.{Observed, Course, seen_at_entry, lines}
 use Rattle.promise_spec.specs.Exits.{EndsAsRead}
 use Rattle.promise_spec.specs.Entries.{Log, standing_of}
 
--- The files read as this log at entry, at whose end this program is in force. The run synced it, read that the input is empty, and ended. Each image is one of
--- those at entry, has this log, ends behind it as the file read, and is sound; there is one. It asked for no other sync. No count of faults changed,
+-- The files read as this log at entry, at whose end this program is in force. The run opened it, read that the input is empty, and ended. Each image is one of
+-- those at entry, has this log, ends behind it as the file read, and is sound; there is one. It asked for no sync but the opening's. No count of faults changed,
 -- nor did another file or the header.
 pub record IsEmptyRun (p : Program) (r : Observed) (opening : Log) : Type 0 where
   pub ending : r.ending ≡ Done
@@ -23,7 +24,7 @@ pub record IsEmptyRun (p : Program) (r : Observed) (opening : Log) : Type 0 wher
   pub given : lines r ≡ lines_of r.old.input
   pub left : r.new.input ≡ []
   pub output : r.new.output ≡ r.old.output
-  pub syncs : r.new.syncs ≡ r.old.syncs + 1
+  pub syncs : r.new.syncs ≡ r.old.syncs + opening_syncs (seen_at_entry r)
   pub read : IsLog 0 (seen_at_entry r) opening
   pub in_force : (standing_of opening).program ≡ p
   pub synced : r.new.past ≡ r.old.past ++ moment_of r.new ∷ []

@@ -6,6 +6,7 @@ use Rattle.host_trait.specs.declared.channels.Channel.TheVariants.{File}
 use Rattle.host_trait.specs.declared.channels.FileId.TheVariants.{Grain}
 use Rattle.host_trait.specs.World.{Moment, Image, IsImage, moment_of}
 use Rattle.request_wire.specs.Lines.{lines_of}
+use Rattle.silo_spec.specs.OpenedDisks.{opening_syncs}
 use Rattle.promise_spec.specs.Programs.{shape_in}
 use Rattle.promise_spec.specs.Logs.{IsLog}
 use Rattle.promise_spec.specs.Outputs.{reply_lines}
@@ -38,7 +39,7 @@ pub record IsVoteRun (r : Observed) (opened : Moment) (failing told : List Momen
   pub behind : (image : Image) → IsImage r.new.disk image → EndsAsRead 0 r image
   pub alone : LeavesAlone 0 r opened × LeavesAlone 0 r (moment_of r.new)
   pub apart : LeavesOthers r opened × LeavesOthers r (moment_of r.new)
-  pub syncs : r.new.syncs ≤ r.old.syncs + 2
+  pub syncs : r.new.syncs ≤ r.old.syncs + (opening_syncs (seen_at_entry r) + 1)
   pub some : Image
   pub possible : IsImage r.new.disk some
   pub rose : r.faults_after (File (Grain 0 account_1)) ≡ r.faults_before (File (Grain 0 account_1)) + 1

@@ -27,6 +27,7 @@ ghost use Rattle.request_wire.specs.Reply.{reply_line};
 ghost use Rattle.script_meaning.specs.Play.{IsTransaction};
 ghost use Rattle.silo_spec.specs.Silos.{manager, program_file, IsSilo, HasProgram};
 ghost use Rattle.silo_spec.specs.Slots.{IsLive};
+ghost use Rattle.silo_spec.specs.OpenedDisks.{opening_syncs, opened_disk};
 ghost use Rattle.promise_spec.specs.Programs.{Program, ProgramFault, IsChecked, shape_in, program_in};
 ghost use Rattle.promise_spec.specs.Entries.{Log, standing_of, grown, records_of};
 ghost use Rattle.promise_spec.specs.Images.{IsSound};
@@ -91,22 +92,23 @@ pub fn batches_are_whole()
 /// opening's, one for each vote, and two for each batch on disk; or for fewer. An input too long asks for the opening's alone.
 pub fn calm_runs_sync_once()
     ensures more { (p : Program) (r : Observed) (c : Course) → Keeps p r c → NoneRose r.faults_before r.faults_after → ending.CountsSyncs r.ending
-        → r.old.syncs + syncs_of (core_run p c) < r.new.syncs → ⊥ }
+        → r.old.syncs + syncs_of (seen_at_entry r) (core_run p c) < r.new.syncs → ⊥ }
     ensures fewer { (p : Program) (r : Observed) (c : Course) → Keeps p r c → NoneRose r.faults_before r.faults_after → ending.CountsSyncs r.ending
-        → r.new.syncs < r.old.syncs + syncs_of (core_run p c) → ⊥ }
+        → r.new.syncs < r.old.syncs + syncs_of (seen_at_entry r) (core_run p c) → ⊥ }
     ensures long { (p : Program) (r : Observed) (c : Course) (line : ℕ) → Keeps p r c → NoneRose r.faults_before r.faults_after
-        → r.ending ≡ ending.InputTooLong line → r.new.syncs ≢ r.old.syncs + 1 → ⊥ }
+        → r.ending ≡ ending.InputTooLong line → r.new.syncs ≢ r.old.syncs + opening_syncs (seen_at_entry r) → ⊥ }
     ensures load { (p : Program) (n seed : ℕ) (r : Observed) (c : Course) → KeepsLoad p n seed r c → NoneRose r.faults_before r.faults_after
-        → r.ending ≡ ending.Done → r.new.syncs ≢ r.old.syncs + syncs_of (core_run p c) → ⊥ }
+        → r.ending ≡ ending.Done → r.new.syncs ≢ r.old.syncs + syncs_of (seen_at_entry r) (core_run p c) → ⊥ }
 {}
 
-/// Whatever fails, and however it ends: no run or load keeps its promise that asks for more syncs than one at opening, one for each
-/// vote, and two for each batch that was to be on disk, over any folder; nor a call that doesn't open its folder and asks for two.
+/// Whatever fails, and however it ends: no run or load keeps its promise that asks for more syncs than the opening's, one for each
+/// vote, and two for each batch that was to be on disk, over any folder; nor a call that doesn't open its folder and asks for more
+/// than the opening's.
 pub fn syncs_are_bounded()
-    ensures run { (p : Program) (r : Observed) (c : Course) → Keeps p r c → r.old.syncs + most_syncs_of (core_run p c) < r.new.syncs → ⊥ }
-    ensures anywhere { (p : Program) (r : Observed) (c : Course) → KeepsAnywhere p r c → r.old.syncs + most_syncs_of (core_run p c) < r.new.syncs → ⊥ }
-    ensures load { (p : Program) (r : Observed) (c : Course) (n seed : ℕ) → KeepsLoad p n seed r c → r.old.syncs + most_syncs_of (core_run p c) < r.new.syncs → ⊥ }
-    ensures unopened { (r : Observed) → IsUnopened r → r.old.syncs + 1 < r.new.syncs → ⊥ }
+    ensures run { (p : Program) (r : Observed) (c : Course) → Keeps p r c → r.old.syncs + most_syncs_of (seen_at_entry r) (core_run p c) < r.new.syncs → ⊥ }
+    ensures anywhere { (p : Program) (r : Observed) (c : Course) → KeepsAnywhere p r c → r.old.syncs + most_syncs_of (seen_at_entry r) (core_run p c) < r.new.syncs → ⊥ }
+    ensures load { (p : Program) (r : Observed) (c : Course) (n seed : ℕ) → KeepsLoad p n seed r c → r.old.syncs + most_syncs_of (seen_at_entry r) (core_run p c) < r.new.syncs → ⊥ }
+    ensures unopened { (r : Observed) → IsUnopened r → r.old.syncs + opening_syncs (seen_at_entry r) < r.new.syncs → ⊥ }
 {}
 
 /// No run or load keeps the promise in which no batch failed to be sealed and that leaves anything behind the log's closed gate in
@@ -136,7 +138,7 @@ pub fn any_folder_is_served_truly()
 /// header before the first gate.
 pub fn other_files_stay()
     ensures aside { (p : Program) (r : Observed) (c : Course) (m : Moment) (f : FileId) → Keeps p r c → Member m (moments r c)
-        → IsAside c.live f → m.disk f ≢ r.old.disk f → ⊥ }
+        → IsAside c.live f → m.disk f ≢ opened_disk r.old.disk f → ⊥ }
     ensures header { (p : Program) (r : Observed) (c : Course) (m : Moment) (image : Image) → Keeps p r c → Member m (moments r c)
         → IsImage m.disk image → take 15 (image (file.Manager c.live)) ≢ take 15 (seen_at_entry r (file.Manager c.live)) → ⊥ }
 {}

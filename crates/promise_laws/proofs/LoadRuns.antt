@@ -10,7 +10,7 @@ use Rattle.promise_spec.specs.Logs.{IsLog}
 use Rattle.promise_spec.specs.Causes.{syncs_of}
 use Rattle.promise_spec.specs.Moments.{IsImageOf}
 use Rattle.promise_spec.specs.Endings.{Done, WriteFault, CountsSyncs, IsBegun, IsAllWritten, EndingMayDoubt}
-use Rattle.promise_spec.specs.Courses.{Observed, Course, order, moments, lines, core_run, core_end}
+use Rattle.promise_spec.specs.Courses.{Observed, Course, order, moments, lines, core_run, core_end, seen_at_entry}
 use Rattle.promise_spec.specs.Images.{IsSoundFolder}
 use Rattle.promise_spec.specs.Orders.{IsOrdered}
 use Rattle.host_trait.specs.declared.channels.FileId.TheVariants.{Grain}
@@ -240,7 +240,7 @@ module _ (p : Program) (r s : Observed) (c : Course) (told : List Moment) (told_
     undoubted = λ fault doubt. absurd (let e : Done ≡ WriteFault = sym done ∙ fault in cc e);
     complete = λ calm. let o = k.ended.complete calm in record { calm = o.calm; undisturbed = o.undisturbed };
     alone = k.ended.alone;
-    syncs = λ calm is. after ∙ k.ended.syncs calm (subst CountsSyncs (sym is) tt) ∙ ap (λ (n : ℕ). n + syncs_of (core_run p c)) (sym before);
+    syncs = λ calm is. after ∙ k.ended.syncs calm (subst CountsSyncs (sym is) tt) ∙ ap (λ (n : ℕ). n + syncs_of (seen_at_entry r) (core_run p c)) (sym before);
     most = (let m = k.ended.most in omega (arith, m, after, before));
   }
 

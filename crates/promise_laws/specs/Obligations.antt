@@ -89,8 +89,8 @@ pub record EndsRightly (p : Program) (r : Observed) (c : Course) : Type 0 where
   pub long : HasLength r.ending (length r.old.input)
   pub begun : ((core_run p c).events ≡ []) ⊎ HasReadAll r
   pub done : r.ending ≡ Done → IsDone r c
-  pub syncs : NoneRose r.faults_before r.faults_after → CountsSyncs r.ending → r.new.syncs ≡ r.old.syncs + syncs_of (core_run p c)
-  pub most : r.new.syncs ≤ r.old.syncs + most_syncs_of (core_run p c)
+  pub syncs : NoneRose r.faults_before r.faults_after → CountsSyncs r.ending → r.new.syncs ≡ r.old.syncs + syncs_of (seen_at_entry r) (core_run p c)
+  pub most : r.new.syncs ≤ r.old.syncs + most_syncs_of (seen_at_entry r) (core_run p c)
 
 -- what a run has to show; the program is that in force
 pub record Shows (p : Program) (r : Observed) (c : Course) : Type 0 where

@@ -10,7 +10,7 @@ use Rattle.core_model.specs.CoreState.{Member}
 use Rattle.host_trait.specs.World.{World, Moment, Image, IsImage}
 use Rattle.request_wire.specs.Reply.{value_data, counted}
 use Rattle.serde_json.specs.Data.{object, member, no_members}
-use Rattle.silo_spec.specs.Silos.{IsNewSilo}
+use Rattle.silo_spec.specs.Silos.{IsMadeFile, IsNewSilo}
 use Rattle.silo_spec.specs.Moments.{IsUntouched}
 use Rattle.silo_spec.specs.Creation.{StaysBeside, IsNewAt, FromFirstSync, CameThisFar}
 use Rattle.script_tree.specs.Programs.{ProgramTree}
@@ -22,7 +22,7 @@ use Rattle.promise_spec.specs.Lines.{IsLineCall}
 use Rattle.promise_spec.specs.Kinds.{kind_of}
 use Rattle.promise_spec.specs.Causes.{NoneRose, RunHasDoubt, syncs_of, most_syncs_of}
 use Rattle.promise_spec.specs.Endings as ending
-use Rattle.promise_spec.specs.Courses.{Observed, Course, order, moments, lines, program_in_force, core_run, core_end}
+use Rattle.promise_spec.specs.Courses.{Observed, Course, order, moments, lines, seen_at_entry, program_in_force, core_run, core_end}
 use Rattle.promise_spec.specs.Images.{IsSoundFolder}
 use Rattle.promise_spec.specs.Orders.{IsOrdered}
 use Rattle.promise_spec.specs.Crashes.{SurvivesCrashes, StaySound}
@@ -31,7 +31,7 @@ use Rattle.promise_spec.specs.Explanation.{ComeOfEvents, IsExplained}
 use Rattle.promise_spec.specs.Promise.{IsAnswered, GoesThrough, HasNoChild, IsNoLock}
 use Rattle.promise_spec.specs.Reports.{line_of}
 use Rattle.promise_spec.specs.Words.{Manner}
-use Rattle.promise_spec.specs.Refusals.{IsHead, IsUnopened}
+use Rattle.promise_spec.specs.Refusals.{IsUnopened}
 use Rattle.promise_spec.specs.Commands.{Prints, WasSilo, StaysSilo, ManagerLasts}
 
 -- ---- what is asked
@@ -135,8 +135,8 @@ pub record HasLoaded (p : Program) (r : Observed) (c : Course) : Type 0 where
   pub undoubted : r.ending ≡ ending.WriteFault → RunHasDoubt (core_run p c) → ⊥
   pub complete : NoneRose r.faults_before r.faults_after → GoesThrough r c
   pub alone : r.manner.threaded ≡ false → r.manner.width ≡ 1 → HasNoChild p c → (e : Entry) → Member e c.entries → IsNoLock e.what
-  pub syncs : NoneRose r.faults_before r.faults_after → r.ending ≡ ending.Done → r.new.syncs ≡ r.old.syncs + syncs_of (core_run p c)
-  pub most : r.new.syncs ≤ r.old.syncs + most_syncs_of (core_run p c)
+  pub syncs : NoneRose r.faults_before r.faults_after → r.ending ≡ ending.Done → r.new.syncs ≡ r.old.syncs + syncs_of (seen_at_entry r) (core_run p c)
+  pub most : r.new.syncs ≤ r.old.syncs + most_syncs_of (seen_at_entry r) (core_run p c)
 
 -- A load keeps the clauses of a run but those that speak of written replies: it asks for its calls, its entries are
 -- those that the core settles, and it prints the summary alone: nothing unless it is done or the output failed, and
@@ -166,7 +166,7 @@ bank_text = codes "type account {\n  field balance = 0;\n  method deposit(n) cre
 -- untouched; or where a call on one of the two files failed.
 abbrev pub IsUnmadeBy : ending.Ending → Observed → Type 0
 IsUnmadeBy ending.Memory r = IsUntouched r.old r.new
-IsUnmadeBy (ending.DiskFault file) r = IsHead file × StaysSilo r file
+IsUnmadeBy (ending.DiskFault file) r = IsMadeFile file × StaysSilo r file
 IsUnmadeBy ending.AlreadyASilo r = WasSilo r × IsUntouched r.old r.new × ManagerLasts r
 IsUnmadeBy _ r = ⊥
 

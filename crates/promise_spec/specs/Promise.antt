@@ -77,8 +77,8 @@ pub record HasEnded (p : Program) (r : Observed) (c : Course) : Type 0 where
   pub done : r.ending ≡ Done → IsDone r c
   pub complete : NoneRose r.faults_before r.faults_after → GoesThrough r c
   pub alone : r.manner.threaded ≡ false → r.manner.width ≡ 1 → HasNoChild p c → (e : Entry) → Member e c.entries → IsNoLock e.what
-  pub syncs : NoneRose r.faults_before r.faults_after → CountsSyncs r.ending → r.new.syncs ≡ r.old.syncs + syncs_of (core_run p c)
-  pub most : r.new.syncs ≤ r.old.syncs + most_syncs_of (core_run p c)
+  pub syncs : NoneRose r.faults_before r.faults_after → CountsSyncs r.ending → r.new.syncs ≡ r.old.syncs + syncs_of (seen_at_entry r) (core_run p c)
+  pub most : r.new.syncs ≤ r.old.syncs + most_syncs_of (seen_at_entry r) (core_run p c)
 
 -- ---- the promise
 

@@ -11,6 +11,8 @@ use Rattle.request_wire.specs.Lines.{lines_of}
 use Rattle.core_model.specs.CoreState.{Member}
 use Rattle.core_model.specs.LegalRuns.{Run, ends}
 use Rattle.core_model.specs.declared.events.CoreEvent.{CoreEvent}
+use Rattle.log_reading.specs.Steps.{seen_in}
+use Rattle.silo_spec.specs.OpenedDisks.{opening_syncs}
 use Rattle.promise_spec.specs.Programs.{Program, shape_in}
 use Rattle.promise_spec.specs.Entries.{Log, standing_of}
 use Rattle.promise_spec.specs.Outputs.{Grew}
@@ -111,11 +113,11 @@ turns_answer tells o b r r' s s' mid after now now' result calm e beside = recor
 pub told : IsTrue true
 told = cc
 
-pub all_syncs : (new mid old v s : ℕ) → new ≡ mid + (v + 2 * s) → mid ≡ old + 1 → new ≡ old + (1 + (v + 2 * s))
-all_syncs new mid old v s a b = omega (arith, a, b)
+pub all_syncs : (new mid old own v s : ℕ) → new ≡ mid + (v + 2 * s) → mid ≡ old + own → new ≡ old + (own + (v + 2 * s))
+all_syncs new mid old own v s a b = omega (arith, a, b)
 
-pub most_syncs : (new mid old v s u : ℕ) → new ≤ mid + (v + 2 * (s + u)) → mid ≡ old + 1 → new ≤ old + (1 + (v + 2 * (s + u)))
-most_syncs new mid old v s u a b = omega (arith, a, b)
+pub most_syncs : (new mid old own v s u : ℕ) → new ≤ mid + (v + 2 * (s + u)) → mid ≡ old + own → new ≤ old + (own + (v + 2 * (s + u)))
+most_syncs new mid old own v s u a b = omega (arith, a, b)
 
 module _ {T : Type 0} (m : Manner) (x : Opened) (old mid now new : World) (before after : Channel → ℕ) (status : Status) (result : Result T RunFault) (is : IsBehindOpening old mid x) (pulled : PulledOnly mid now)
     (stay_mid : ReadsMayStay mid) (stay_new : ReadsMayStay new) (end : now.input ≡ []) (short : length old.input ≤ input_limit) (ends_as : status_ending status ≡ turns_ending x.slot result) where
@@ -168,7 +170,7 @@ module _ {T : Type 0} (m : Manner) (x : Opened) (old mid now new : World) (befor
       live = refl;
       opening = refl;
       run = is.run;
-      settled = is.settled;
+      left = is.left;
       early = is.run.clock.past;
       late = later.1 ∙ ap (λ (l : List Moment). l ++ later.0) pulled.moments.past ∙ append_assoc mid.past pulled.moments.more later.0;
     }
@@ -203,10 +205,10 @@ module _ {T : Type 0} (m : Manner) (x : Opened) (old mid now new : World) (befor
         long = subst (λ (e : Ending). HasLength e (length old.input)) (sym ends_as) (long_by x.slot result (length old.input) short);
         begun = inr (record { ending = subst IsBegun (sym ends_as) (begun_by x.slot result); input = beside.input told ∙ end; short = short });
         done = λ q. is_done result goes.on.ended (sym ends_as ∙ q) (are_settled.all (inl (written q)) ∙ ap (λ (r : Run). (ends r).manager.settled) run_is);
-        syncs = λ none counts. subst (λ (r : Run). new.syncs ≡ old.syncs + syncs_of r) (sym run_is)
-            (all_syncs new.syncs mid.syncs old.syncs (how_many is_vote r') (how_many is_sealed r') ((goes.on.record_kept.books.outside told).calls.each none) is.count);
-        most = subst (λ (r : Run). new.syncs ≤ old.syncs + most_syncs_of r) (sym run_is)
-            (most_syncs new.syncs mid.syncs old.syncs (how_many is_vote r') (how_many is_sealed r') (how_many is_unsealed r') (goes.on.record_kept.books.outside told).calls.most is.count);
+        syncs = λ none counts. subst (λ (r : Run). new.syncs ≡ old.syncs + syncs_of (seen_in old.disk) r) (sym run_is)
+            (all_syncs new.syncs mid.syncs old.syncs (opening_syncs (seen_in old.disk)) (how_many is_vote r') (how_many is_sealed r') ((goes.on.record_kept.books.outside told).calls.each none) is.count);
+        most = subst (λ (r : Run). new.syncs ≤ old.syncs + most_syncs_of (seen_in old.disk) r) (sym run_is)
+            (most_syncs new.syncs mid.syncs old.syncs (opening_syncs (seen_in old.disk)) (how_many is_vote r') (how_many is_sealed r') (how_many is_unsealed r') (goes.on.record_kept.books.outside told).calls.most is.count);
       };
     }
       where

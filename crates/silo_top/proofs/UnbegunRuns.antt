@@ -10,6 +10,8 @@ use Rattle.host_trait.specs.World.{World, Moment, Disk, Image, IsImage, moment_o
 use Rattle.host_trait.proofs.Crashes.{settled_only}
 use Rattle.host_trait.proofs.Moments.{weaker}
 use Rattle.gate_block.specs.Log.{gate_of}
+use Rattle.log_reading.specs.Steps.{seen_in}
+use Rattle.silo_spec.specs.OpenedDisks.{opening_syncs}
 use Rattle.promise_spec.specs.Logs.{IsLog}
 use Rattle.promise_spec.specs.Programs.{Program, shape_in}
 use Rattle.promise_spec.specs.Entries.{Log, grown}
@@ -54,11 +56,11 @@ pub record EndsUnbegun (e : Ending) (size : ℕ) (before after : Channel → ℕ
 not_manager : (live : ℕ) (file : FileId) → IsAside live file → file ≢ Manager live
 not_manager live file aside e = (subst (λ (f : FileId). IsAside live f) e aside) refl
 
-one_sync : (n mid old : ℕ) → n ≡ mid → mid ≡ old + 1 → n ≡ old + (1 + (0 + 2 * 0))
-one_sync n mid old a b = omega (arith, a, b)
+own_syncs : (n mid old own : ℕ) → n ≡ mid → mid ≡ old + own → n ≡ old + (own + (0 + 2 * 0))
+own_syncs n mid old own a b = omega (arith, a, b)
 
-one_most : (n mid old : ℕ) → n ≡ mid → mid ≡ old + 1 → n ≤ old + (1 + (0 + 2 * (0 + 0)))
-one_most n mid old a b = omega (arith, a, b)
+own_most : (n mid old own : ℕ) → n ≡ mid → mid ≡ old + own → n ≤ old + (own + (0 + 2 * (0 + 0)))
+own_most n mid old own a b = omega (arith, a, b)
 
 module _ (m : Manner) (o : Opened) (old mid new : World) (before after : Channel → ℕ) (status : Status) (is : IsBehindOpening old mid o) (pulled : PulledOnly mid new) (stay_mid : ReadsMayStay mid)
     (above : 0 < o.next_unit.0) (end : EndsUnbegun (status_ending status) (length old.input) before after) where
@@ -72,7 +74,7 @@ module _ (m : Manner) (o : Opened) (old mid new : World) (before after : Channel
   c = record { live = o.slot; opening = is.opened.log; added = []; early = is.run.clock.more; late = pulled.moments.more; events = []; entries = []; rest = [] }
 
   follows : FollowsOpening r c mid o.slot is.opened.log
-  follows = record { live = refl; opening = refl; run = is.run; settled = is.settled; early = is.run.clock.past; late = pulled.moments.past }
+  follows = record { live = refl; opening = refl; run = is.run; left = is.left; early = is.run.clock.past; late = pulled.moments.past }
 
   stands : IsBehind r c mid
   stands = behind o r c mid is.opened follows
@@ -105,8 +107,8 @@ module _ (m : Manner) (o : Opened) (old mid new : World) (before after : Channel
       long = end.long;
       begun = inl refl;
       done = λ q. absurd (end.undone q);
-      syncs = λ none counts. one_sync new.syncs mid.syncs old.syncs pulled.syncs is.count;
-      most = one_most new.syncs mid.syncs old.syncs pulled.syncs is.count;
+      syncs = λ none counts. own_syncs new.syncs mid.syncs old.syncs (opening_syncs (seen_in old.disk)) pulled.syncs is.count;
+      most = own_most new.syncs mid.syncs old.syncs (opening_syncs (seen_in old.disk)) pulled.syncs is.count;
     };
   }
 

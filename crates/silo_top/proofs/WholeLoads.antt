@@ -19,6 +19,7 @@ use Rattle.core_model.specs.declared.events.CoreEvent.{CoreEvent}
 use Rattle.history_core.specs.Cores.{run_of}
 use Rattle.log_reading.specs.Steps.{seen_in}
 use Rattle.program_file.specs.Programs.{program_in}
+use Rattle.silo_spec.specs.OpenedDisks.{opening_syncs}
 use Rattle.promise_spec.specs.Logs.{IsLog, IsPrefix}
 use Rattle.promise_spec.specs.Programs.{Program, IsChecked, shape_in}
 use Rattle.promise_spec.specs.Entries.{Log, standing_of, new_log, grown}
@@ -78,7 +79,7 @@ use Rattle.silo_top.proofs.StartImages.{starts_lasting}
 use Rattle.silo_top.proofs.LoadStart.{bank_of, bank_checked, bank_whole, opened_same}
 use Rattle.silo_top.proofs.CoreOpening.{start_is}
 use Rattle.silo_top.proofs.InputPieces.{still_none}
-use Rattle.silo_top.proofs.UnopenedFolders.{asked_untouched}
+use Rattle.silo_opening.proofs.OpeningCalls.{opens_untouched}
 use Rattle.run_books.specs.Stages.{stage_by}
 
 -- what a list of books that are none says
@@ -270,7 +271,7 @@ module _ {T : Type 0} (n seed : ℕ) (m : Manner) (x : Opened) (st : Started) (o
     }
 
     follows : FollowsOpening seen c0 mid x.slot log
-    follows = record { live = refl; opening = refl; run = is.run; settled = is.settled; early = is.run.clock.past; late = later.1 }
+    follows = record { live = refl; opening = refl; run = is.run; left = is.left; early = is.run.clock.past; late = later.1 }
 
     stands : IsBehind seen c0 mid
     stands = behind x seen c0 mid is.opened follows
@@ -284,7 +285,7 @@ module _ {T : Type 0} (n seed : ℕ) (m : Manner) (x : Opened) (st : Started) (o
     all = subst (λ (m : Moment). AllLog x.slot log m.disk) stands.last opens.opened
 
     seen_left : IsImage mid.disk (seen_in old.disk)
-    seen_left file = subst (MayLeave (mid.disk file)) ((asked_untouched x.slot old mid is.run).seen file) (stay_mid file)
+    seen_left file = subst (MayLeave (mid.disk file)) ((opens_untouched _ old mid is.run).seen file) (stay_mid file)
 
     lasting : LastsSo out head b r' s'.writer new
     lasting = goes.on.lasts told head (starts_lasting out head r0.base r0.kinds r0.opening st.settler.writer mid (still_none mid) all base
@@ -343,7 +344,7 @@ module _ {T : Type 0} (n seed : ℕ) (m : Manner) (x : Opened) (st : Started) (o
         live = refl;
         opening = refl;
         run = is.run;
-        settled = is.settled;
+        left = is.left;
         early = is.run.clock.past;
         late = last_past ∙ ap (λ (l : List Moment). l ++ behind_turns) later.1 ∙ append_assoc mid.past later.0 behind_turns;
       })
@@ -355,11 +356,11 @@ module _ {T : Type 0} (n seed : ℕ) (m : Manner) (x : Opened) (st : Started) (o
       }
 
       -- so many syncs were asked at most
-      most_so : last.syncs ≡ new.syncs → last.syncs ≤ old.syncs + most_syncs_of (core_run p c0)
+      most_so : last.syncs ≡ new.syncs → last.syncs ≤ old.syncs + most_syncs_of (seen_in old.disk) (core_run p c0)
       most_so said =
-          subst (λ (k : ℕ). k ≤ old.syncs + most_syncs_of (core_run p c0)) (sym said)
-          (subst (λ (y : Run). new.syncs ≤ old.syncs + most_syncs_of y) (sym run_is)
-          (most_syncs new.syncs mid.syncs old.syncs (how_many is_vote r') (how_many is_sealed r') (how_many is_unsealed r') (goes.on.record_kept.books.outside told).calls.most is.count))
+          subst (λ (k : ℕ). k ≤ old.syncs + most_syncs_of (seen_in old.disk) (core_run p c0)) (sym said)
+          (subst (λ (y : Run). new.syncs ≤ old.syncs + most_syncs_of (seen_in old.disk) y) (sym run_is)
+          (most_syncs new.syncs mid.syncs old.syncs (opening_syncs (seen_in old.disk)) (how_many is_vote r') (how_many is_sealed r') (how_many is_unsealed r') (goes.on.record_kept.books.outside told).calls.most is.count))
 
       -- what its events explain
       explains_at : ((file : FileId) → e ≡ ending.DiskFault file → turns_ending x.slot result ≡ ending.DiskFault file) → (RunHasDoubt (core_run p c0) → EndingMayDoubt e) → ExplainsEvents p r c
@@ -379,7 +380,7 @@ module _ {T : Type 0} (n seed : ℕ) (m : Manner) (x : Opened) (st : Started) (o
       -- what it has to show, but how it ended
       shows : ExplainsEvents p r c → ((behind_turns ≡ []) × (last.output ≡ old.output)) ⊎ (RunHasDoubt (core_run p c) → ⊥) → Prints (summary_text r c) r → (e ≢ ending.Done → e ≢ ending.WriteFault → last.output ≡ old.output)
           → IsBegun e → HasRisen e before final → ((e ≡ ending.Done) ⊎ (e ≡ ending.WriteFault) → IsAnswered r c) → (e ≡ ending.WriteFault → RunHasDoubt (core_run p c) → ⊥)
-          → (NoneRose before final → e ≡ ending.Done → last.syncs ≡ old.syncs + syncs_of (core_run p c)) → last.syncs ≡ new.syncs → ShowsLoad p n seed r c new after (turns_ending x.slot result) later.0 behind_turns
+          → (NoneRose before final → e ≡ ending.Done → last.syncs ≡ old.syncs + syncs_of (seen_in old.disk) (core_run p c)) → last.syncs ≡ new.syncs → ShowsLoad p n seed r c new after (turns_ending x.slot result) later.0 behind_turns
       shows explains_r printed output silent begun risen done undoubted syncs said = record {
         in_force = is.opened.program;
         asked = asked;
@@ -464,8 +465,8 @@ module _ {T : Type 0} (n seed : ℕ) (m : Manner) (x : Opened) (st : Started) (o
         (summary_risen (status_ending status) before after final may failed (beside.calm hush ∙ none Output))
         (λ which i low high. (let k = ended.run.answered i low high in (k.0, subst (λ (w : CoreState). Member k.0 w.manager.settled) (sym (ap ends run_is)) k.1, k.2)))
         (λ t d. sure d)
-        (λ calm t. says.syncs ∙ subst (λ (y : Run). new.syncs ≡ old.syncs + syncs_of y) (sym run_is)
-        (all_syncs new.syncs mid.syncs old.syncs (how_many is_vote r') (how_many is_sealed r')
+        (λ calm t. says.syncs ∙ subst (λ (y : Run). new.syncs ≡ old.syncs + syncs_of (seen_in old.disk) y) (sym run_is)
+        (all_syncs new.syncs mid.syncs old.syncs (opening_syncs (seen_in old.disk)) (how_many is_vote r') (how_many is_sealed r')
         ((goes.on.record_kept.books.outside told).calls.each (λ ch. (let a = calm ch in let f = (subst (λ (y : Ending). HasFailedAs y after final) t failed) ch in (sym f ∙ a.0, a.1))))
         is.count)) says.syncs)
       where

@@ -38,7 +38,7 @@ use Rattle.silo_top.proofs.TurnStart.{no_books, starts_kept, starts_quiet, start
 use Rattle.silo_top.proofs.RunEnds.{out, r0, stands, turns_promised}
 use Rattle.silo_top.proofs.StartImages.{starts_lasting}
 use Rattle.silo_top.proofs.OpenedImages.{starts_resting}
-use Rattle.silo_top.proofs.UnopenedFolders.{asked_untouched}
+use Rattle.silo_opening.proofs.OpeningCalls.{opens_untouched}
 use Rattle.silo_top.proofs.CoreOpening.{start_is}
 use Rattle.run_books.specs.Stages.{stage_by}
 
@@ -58,7 +58,7 @@ module _ {T : Type 0} (m : Manner) (x : Opened) (st : Started) (old mid now new 
   -- what was read is an image still
   seen_left : IsImage now.disk (seen_in old.disk)
   seen_left = subst (λ (d : Disk). IsImage d (seen_in old.disk)) (sym pulled.disk)
-      (λ file. subst (MayLeave (mid.disk file)) ((asked_untouched x.slot old mid is.run).seen file) (stay_mid file))
+      (λ file. subst (MayLeave (mid.disk file)) ((opens_untouched _ old mid is.run).seen file) (stay_mid file))
 
   -- where the lines begin to be carried
   starts : (lines : List Line) → 0 < m.width → 0 < x.next_unit.0 → NoneFailed before between → AreReadFrom (program_tree x.checked) 0 (lines_of old.input) lines

@@ -44,7 +44,7 @@ returns-in-Err-open_silo-clause-loads g c = λ told m.
     (subst (λ (t : List ℕ). IsMade magic t (g.H.Host.world c.create.new.host).disk) c.bank_text-2.ensures (c.in-Ok-create.ensures.files told)) (λ file. g.met.H.Host.seen_may_stay c.create.new.host file told)
     (c.in-Ok-create.ensures.least told) (c.in-Ok-create.ensures.most told) in
     made_loads c.args.transfers c.args.seed m (load_texts c.args.transfers c.args.seed) (g.H.Host.world c.args.host.now) (g.H.Host.world c.create.new.host) (g.H.Host.world c.open_silo.new.host) (g.H.Host.faults c.args.host.now) (g.H.Host.faults c.create.new.host) (g.H.Host.faults c.open_silo.new.host) c.open_status.result made c.in-Ok-create.ensures.calm
-    (unopened_carries c.args.transfers c.args.seed m (load_texts c.args.transfers c.args.seed) c.in-Ok.bank (g.H.Host.world c.create.new.host) (g.H.Host.world c.open_silo.new.host) (g.H.Host.faults c.create.new.host) (g.H.Host.faults c.open_silo.new.host) c.in-Err-open_silo.fault c.open_status.result bank_is c.open_status.ensures (c.in-Err-open_silo.ensures.looked told) (c.in-Err-open_silo.ensures.refused told) c.in-Err-open_silo.ensures.fault)
+    (unopened_carries c.args.transfers c.args.seed m (load_texts c.args.transfers c.args.seed) c.in-Ok.bank (g.H.Host.world c.create.new.host) (g.H.Host.world c.open_silo.new.host) (g.H.Host.faults c.create.new.host) (g.H.Host.faults c.open_silo.new.host) c.in-Err-open_silo.fault c.open_status.result bank_is c.open_status.ensures (c.in-Err-open_silo.ensures.only told) (c.in-Err-open_silo.ensures.refused told) c.in-Err-open_silo.ensures.fault)
 
 pub returns-in-Err-open_silo-clause-answers : goal.returns-in-Err-open_silo-clause-answers
 returns-in-Err-open_silo-clause-answers g c = answers_behind (status_ending c.open_status.result) (g.H.Host.faults c.args.host.now) (g.H.Host.faults c.create.new.host) (g.H.Host.faults c.open_silo.new.host) c.in-Ok-create.ensures.calm
@@ -62,7 +62,8 @@ returns-in-Err-start-clause-loads g c = λ told m.
       opened = c.in-Ok-open_silo.ensures.opened told;
       settled = c.in-Ok-open_silo.ensures.settled told;
       count = c.in-Ok-open_silo.ensures.count told;
-      run = c.in-Ok-open_silo.ensures.run told;
+      left = c.in-Ok-open_silo.ensures.left told;
+      run = c.in-Ok-open_silo.ensures.only told;
       stays = λ file. g.met.H.Host.seen_may_stay c.create.new.host file told;
     } in
     let behind_bank : IsBehindOpening (g.H.Host.world c.create.new.host) (g.H.Host.world c.open_silo.new.host) (with_checked c.in-Ok-open_silo.opened c.in-Ok.bank) = same_behind c.in-Ok-open_silo.opened c.in-Ok.bank (g.H.Host.world c.create.new.host) (g.H.Host.world c.open_silo.new.host) bank_is new_bank (λ file. g.met.H.Host.seen_may_stay c.create.new.host file told) behind in
@@ -84,7 +85,8 @@ returns-in-Err-load_lines-clause-loads g c = λ told m.
       opened = c.in-Ok-open_silo.ensures.opened told;
       settled = c.in-Ok-open_silo.ensures.settled told;
       count = c.in-Ok-open_silo.ensures.count told;
-      run = c.in-Ok-open_silo.ensures.run told;
+      left = c.in-Ok-open_silo.ensures.left told;
+      run = c.in-Ok-open_silo.ensures.only told;
       stays = λ file. g.met.H.Host.seen_may_stay c.create.new.host file told;
     } in
     let behind_bank : IsBehindOpening (g.H.Host.world c.create.new.host) (g.H.Host.world c.open_silo.new.host) (with_checked c.in-Ok-open_silo.opened c.in-Ok.bank) = same_behind c.in-Ok-open_silo.opened c.in-Ok.bank (g.H.Host.world c.create.new.host) (g.H.Host.world c.open_silo.new.host) bank_is new_bank (λ file. g.met.H.Host.seen_may_stay c.create.new.host file told) behind in
@@ -101,7 +103,8 @@ returns-in-Ok-load_lines-clause-can g c = can_carry g.H.Host.tells (with_checked
       opened = c.in-Ok-open_silo.ensures.opened told;
       settled = c.in-Ok-open_silo.ensures.settled told;
       count = c.in-Ok-open_silo.ensures.count told;
-      run = c.in-Ok-open_silo.ensures.run told;
+      left = c.in-Ok-open_silo.ensures.left told;
+      run = c.in-Ok-open_silo.ensures.only told;
       stays = λ file. g.met.H.Host.seen_may_stay c.create.new.host file told;
     } in
     fits_within (with_checked c.in-Ok-open_silo.opened c.in-Ok.bank) c.in-Ok-start.started (g.H.Host.world c.open_silo.new.host).disk (lies_within c.in-Ok-open_silo.opened c.in-Ok.bank (g.H.Host.world c.create.new.host) (g.H.Host.world c.open_silo.new.host) behind) c.in-Ok-start.ensures.start)
@@ -118,7 +121,8 @@ returns-in-Ok-load_lines-clause-keeps g c = λ told m settler' after new result 
       opened = c.in-Ok-open_silo.ensures.opened told;
       settled = c.in-Ok-open_silo.ensures.settled told;
       count = c.in-Ok-open_silo.ensures.count told;
-      run = c.in-Ok-open_silo.ensures.run told;
+      left = c.in-Ok-open_silo.ensures.left told;
+      run = c.in-Ok-open_silo.ensures.only told;
       stays = λ file. g.met.H.Host.seen_may_stay c.create.new.host file told;
     } in
     let behind_bank : IsBehindOpening (g.H.Host.world c.create.new.host) (g.H.Host.world c.open_silo.new.host) (with_checked c.in-Ok-open_silo.opened c.in-Ok.bank) = same_behind c.in-Ok-open_silo.opened c.in-Ok.bank (g.H.Host.world c.create.new.host) (g.H.Host.world c.open_silo.new.host) bank_is new_bank (λ file. g.met.H.Host.seen_may_stay c.create.new.host file told) behind in

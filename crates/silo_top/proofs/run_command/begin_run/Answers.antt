@@ -21,12 +21,13 @@ use Rattle.silo_top.proofs.ReadLines.{AreReadFrom, lines_are_read}
 use Rattle.silo_top.proofs.WholeRuns.{served}
 use Rattle.silo_top.proofs.UnbegunRuns.{unbegun_promised, EndsUnbegun}
 use Rattle.silo_top.proofs.UnreadInput.{unread_ends}
-use Rattle.silo_top.proofs.UnopenedFolders.{asked_untouched, refused_promised, unopened_promised}
+use Rattle.silo_opening.proofs.OpeningCalls.{opens_untouched}
+use Rattle.silo_top.proofs.UnopenedFolders.{refused_promised, unopened_promised}
 use Rattle.silo_top.proofs.run_command.begin_run.Goals as goal
 
 pub returns-in-Err-clause-promises : goal.returns-in-Err-clause-promises
 returns-in-Err-clause-promises g c = λ told m. refused_promised m (g.H.Host.world c.args.host.now) (g.H.Host.world c.open_silo.new.host) (g.H.Host.faults c.args.host.now) (g.H.Host.faults c.open_silo.new.host)
-    c.in-Err.fault c.open_status.result c.open_status.ensures (c.in-Err.ensures.looked told) (c.in-Err.ensures.refused told) c.in-Err.ensures.fault
+    c.in-Err.fault c.open_status.result c.open_status.ensures (c.in-Err.ensures.only told) (c.in-Err.ensures.refused told) c.in-Err.ensures.fault
 
 pub returns-in-Err-clause-answers : goal.returns-in-Err-clause-answers
 returns-in-Err-clause-answers g c = unopened_answers c.in-Err.fault c.open_status.result (g.H.Host.faults c.args.host.now) (g.H.Host.faults c.open_silo.new.host) c.open_status.ensures c.in-Err.ensures.fault
@@ -34,7 +35,7 @@ returns-in-Err-clause-answers g c = unopened_answers c.in-Err.fault c.open_statu
 pub returns-in-Err-start-clause-promises : goal.returns-in-Err-start-clause-promises
 returns-in-Err-start-clause-promises g c = λ told m.
     unopened_promised m (observed_run m (g.H.Host.world c.args.host.now) (g.H.Host.world c.open_silo.new.host) (g.H.Host.faults c.args.host.now) (g.H.Host.faults c.open_silo.new.host) Status.Memory) refl
-    (record { untouched = asked_untouched c.in-Ok.opened.slot (g.H.Host.world c.args.host.now) (g.H.Host.world c.open_silo.new.host) (c.in-Ok.ensures.run told); unread = (c.in-Ok.ensures.run told).input; syncs = (c.in-Ok.ensures.run told).syncs; refused = tt; failed = c.in-Ok.ensures.calm })
+    (record { untouched = opens_untouched _ (g.H.Host.world c.args.host.now) (g.H.Host.world c.open_silo.new.host) (c.in-Ok.ensures.only told); unread = (c.in-Ok.ensures.only told).input; syncs = (c.in-Ok.ensures.only told).syncs; refused = tt; failed = c.in-Ok.ensures.calm })
 
 pub returns-in-Err-read_input-clause-promises : goal.returns-in-Err-read_input-clause-promises
 returns-in-Err-read_input-clause-promises g c = λ told m.
@@ -42,7 +43,8 @@ returns-in-Err-read_input-clause-promises g c = λ told m.
       opened = c.in-Ok.ensures.opened told;
       settled = c.in-Ok.ensures.settled told;
       count = c.in-Ok.ensures.count told;
-      run = c.in-Ok.ensures.run told;
+      left = c.in-Ok.ensures.left told;
+      run = c.in-Ok.ensures.only told;
       stays = λ file. g.met.H.Host.seen_may_stay c.args.host.now file told;
     }) in
     let ends : EndsUnbegun (input_ending c.in-Err-read_input.fault) (length (g.H.Host.world c.args.host.now).input) (g.H.Host.faults c.args.host.now) (g.H.Host.faults c.read_input.new.host) = unread_ends (length (g.H.Host.world c.args.host.now).input) (g.H.Host.faults c.args.host.now) (g.H.Host.faults c.open_silo.new.host) (g.H.Host.faults c.read_input.new.host) c.in-Ok.ensures.calm c.in-Err-read_input.fault c.in-Err-read_input.ensures.counts
@@ -53,7 +55,7 @@ returns-in-Err-read_input-clause-promises g c = λ told m.
 pub returns-in-Ok-read_input-clause-can : goal.returns-in-Ok-read_input-clause-can
 returns-in-Ok-read_input-clause-can g c = can_carry g.H.Host.tells c.in-Ok.opened c.in-Ok-start.started (g.H.Host.world c.read_input.new.host) c.in-Ok-start.ensures.start c.in-Ok.ensures.bound.1.0 c.in-Ok-start.ensures.bounds
     (λ told. fits_at (seen_in (g.H.Host.world c.args.host.now).disk) c.in-Ok.opened c.in-Ok-start.started (g.H.Host.world c.read_input.new.host).disk (c.in-Ok.ensures.opened told) c.in-Ok-start.ensures.start
-    (λ file. ap (λ (d : Disk). (d file).seen) (c.read_input.ensures.only told).disk ∙ (asked_untouched c.in-Ok.opened.slot (g.H.Host.world c.args.host.now) (g.H.Host.world c.open_silo.new.host) (c.in-Ok.ensures.run told)).seen file))
+    (λ file. ap (λ (d : Disk). (d file).seen) (c.read_input.ensures.only told).disk ∙ (opens_untouched _ (g.H.Host.world c.args.host.now) (g.H.Host.world c.open_silo.new.host) (c.in-Ok.ensures.only told)).seen file))
 
 pub returns-in-Ok-read_input-clause-keeps : goal.returns-in-Ok-read_input-clause-keeps
 returns-in-Ok-read_input-clause-keeps g c = λ told m settler' after new result status went stay within ends_as.
@@ -61,7 +63,8 @@ returns-in-Ok-read_input-clause-keeps g c = λ told m settler' after new result 
       opened = c.in-Ok.ensures.opened told;
       settled = c.in-Ok.ensures.settled told;
       count = c.in-Ok.ensures.count told;
-      run = c.in-Ok.ensures.run told;
+      left = c.in-Ok.ensures.left told;
+      run = c.in-Ok.ensures.only told;
       stays = λ file. g.met.H.Host.seen_may_stay c.args.host.now file told;
     }) in
     let types : ProgramTree = program_tree c.in-Ok.opened.checked in
