@@ -23,7 +23,7 @@
 //! | `transfers` | tells how a copy of the host carries six transfers, and by how many calls |
 //! | `stops`, `fails CALL CHANNEL N` | stops a copy after each of those calls; has one of them fail: see [`stops`] and [`faults`] |
 //!
-//! A channel is `input`, `output` or a file, which is `manager`, `program` or an account as `account/1`.
+//! A channel is `input`, `output` or a file, which is `manager`, `program` or an account as `account/1`, all of slot 0, or `manager-1`.
 #![tactic(auto)]
 
 mod answers;
