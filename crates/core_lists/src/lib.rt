@@ -3,12 +3,15 @@
 //! the grains. Each knows nothing of the core: contracts see lists, and functions of units and grains.
 #![tactic(auto)]
 
+mod emitted_entries;
 mod entry_list;
 mod handed_states;
 mod last_states;
 mod learn_queue;
+mod line_ends;
 
 pub use entry_list::EntryList;
 pub use handed_states::HandedStates;
 pub use last_states::LastStates;
 pub use learn_queue::LearnQueue;
+pub use line_ends::LineEnds;
