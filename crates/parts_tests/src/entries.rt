@@ -60,7 +60,7 @@ impl Part for EntryList {
             "next" => add_next(out, self),
             "more" => add_flag(out, self.has_next()),
             "emit" => emit(self, out),
-            "count" => add_count(out, self.entries().len()),
+            "count" => add_count(out, self.ends().all),
             _ => no_step(out),
         }
     }
