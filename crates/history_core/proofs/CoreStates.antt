@@ -15,8 +15,8 @@ use Rattle.core_model.specs.Consistency.{IsConsistent, ClosedBatchesArePrefix}
 use Rattle.core_model.specs.Batches.{BatchesFollow}
 use Rattle.core_laws.proofs.Votes.{follows-ends}
 use Rattle.core_model.specs.Holders.{HoldersHaveRead}
-use Rattle.core_model.specs.Laws.{NoLockIsHeldUntilCommit}
-use Rattle.core_laws.proofs.FurtherLaws.{no-lock-ends}
+use Rattle.core_model.specs.Laws.{NoLockIsHeldUntilCommit, ChildrenAreKnown}
+use Rattle.core_laws.proofs.FurtherLaws.{no-lock-ends, children-ends}
 use Rattle.core_model.specs.LoadlessLaws.{HoldsWithoutLoads}
 use Rattle.core_laws.proofs.Orders.{Member-at, Member-take}
 use Rattle.core_laws.proofs.Loadless.{LoadlessAt}
@@ -130,3 +130,7 @@ follows w r = subst BatchesFollow r.3 (follows-ends any_play r.0 (legal r.0 r.1 
 -- a committed unit has finished, with a place up to the closed ones
 pub committed-closed : (w : CoreState) → IsCoreReached w → (u : UnitNo) → w.manager.verdict u ≡ Committed → (w.units.phase u ≡ Finished) × (w.manager.place u ≤ w.manager.closed)
 committed-closed w r = (subst NoLockIsHeldUntilCommit r.3 (no-lock-ends any_play r.0 (legal r.0 r.1 r.2))).committed
+
+-- a child is younger than its parent
+pub younger : (w : CoreState) → IsCoreReached w → (p c : UnitNo) → Member c (w.units.kids p) → p.0 < c.0
+younger w r = (subst ChildrenAreKnown r.3 (children-ends any_play r.0 (legal r.0 r.1 r.2))).younger

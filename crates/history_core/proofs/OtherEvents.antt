@@ -102,7 +102,7 @@ does-want p unit grain units u v o = λ w s r a. (
 )
 
 -- an entry is written
-pub does-emit : (p : Parts) (entries : EntriesInRoom) → entries.entries ≡ p.entries.entries → entries.emitted ≡ p.entries.emitted + 1 → entries.spare ≡ p.entries.spare →
+pub does-emit : (p : Parts) (entries : EntriesInRoom) → entries.entries ≡ p.entries.entries → entries.emitted ≡ p.entries.emitted + 1 → p.entries.spare ≤ entries.spare →
     Does p Emitted reply.Done (record p { entries = entries })
 does-emit p entries es em room = λ w s r a. (
   record {
@@ -121,7 +121,7 @@ does-emit p entries es em room = λ w s r a. (
     learn = s.learn;
     handed = s.handed;
     last = s.last;
-    room = record { entries = subst (λ n. owed_in p.batch ≤ n) (sym room) s.room.entries; learn = s.room.learn; places = s.room.places };
+    room = record { entries = (let owed = s.room.entries in omega (arith, owed, room)); learn = s.room.learn; places = s.room.places };
   },
   refl,
 )
