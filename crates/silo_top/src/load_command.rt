@@ -40,7 +40,7 @@ fn print_summary<H: Host>(alloc: Global, core: &Core, requests: usize, host: &mu
     ensures ready { StaysReady (H.is_ready host.old) (H.is_ready host.new) }
 {
     let total = total_balance(core);
-    let text = match load_summary(alloc, core.settled(), requests, total) {
+    let text = match load_summary(alloc, core, requests, total) {
         Ok(text) => text,
         Err(AllocError) => return Status::Memory,
     };
