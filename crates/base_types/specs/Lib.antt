@@ -1,3 +1,4 @@
 pub mod Texts
 pub mod Stores
 pub mod Grains
+pub mod Origins
