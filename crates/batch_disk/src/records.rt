@@ -5,14 +5,14 @@ ghost use Rattle.commit_log.specs.declared.records.CommitRecord.{CommitRecord as
 ghost use Rattle.commit_log.specs.declared.records.Written.{Written as AWritten};
 ghost use Rattle.batch_disk.specs.declared.records.WorkFault.{WorkFault};
 ghost use Rattle.commit_log.specs.EncodableRecords.{MaySpell, IsNoAbort};
-ghost use Rattle.commit_log.specs.Orders.{is_above, IsAscending};
+ghost use Rattle.commit_log.specs.Orders.{IsAscending};
 ghost use Rattle.commit_log.specs.Spelling.{spelling_of_body, spelling_of_block, RecordsFit};
 ghost use Rattle.batch_disk.specs.Writers.{voted_by};
 ghost use Rattle.batch_disk.specs.Records.{is_version, place_among, HavePlaces, IsRecordFor, AreRecordsFor};
 
 use crate::writer::KeptVersion;
 use base_types::{GrainId, List, Outcome, Place, State, UnitNo};
-use commit_log::{CommitRecord, Written, encode_block};
+use commit_log::{CommitRecord, Written, encode_block, is_above};
 use core_model::Effect;
 use std::alloc::{AllocError, Global};
 
@@ -142,18 +142,6 @@ fn is_abort(outcome: &Outcome) -> bool
         Outcome::Aborted => true,
         Outcome::Value(_) => false,
         Outcome::Fault(_) => false,
-    }
-}
-
-// Whether the grain is above the one before it, where there is one.
-fn is_above(last: Option<GrainId>, grain: GrainId) -> bool
-    ensures { result ≡ is_above last grain }
-{
-    match last {
-        Some(last) => {
-            last.kind < grain.kind || (last.kind == grain.kind && last.key < grain.key)
-        }
-        None => true,
     }
 }
 

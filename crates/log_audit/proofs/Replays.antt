@@ -25,7 +25,8 @@ use Rattle.log_reading.proofs.LogBlocks.{follows_begins, follows_on}
 use Rattle.script_tree.specs.Programs.{ProgramTree}
 use Rattle.script_meaning.specs.Play.{Played, found_in, initial_of, play}
 use Rattle.promise_spec.specs.Records.{Commit, States, written, put_state, after_writes}
-use Rattle.promise_spec.specs.SerialExecution.{IsSerial, Replays, depth_of, played}
+use Rattle.base_types.specs.Origins.{depth_of}
+use Rattle.promise_spec.specs.SerialExecution.{IsSerial, Replays, played}
 use Rattle.promise_spec.specs.Family.{states_after}
 use Rattle.promise_spec.specs.Openings.{commit_of}
 use Rattle.log_audit.specs.declared.replay.Bad.{Bad}

@@ -14,7 +14,6 @@ ghost use Rattle.script_tree.specs.Programs.{ProgramTree, program_tree};
 ghost use Rattle.script_meaning.specs.Play.{found_in};
 ghost use Rattle.promise_spec.specs.Records.{written, put_state};
 ghost use Rattle.promise_spec.specs.Openings.{commit_of};
-ghost use Rattle.promise_spec.specs.SerialExecution.{depth_of};
 ghost use Rattle.log_audit.specs.RereadFaults.{IsVersionFault, IsRereadFault};
 ghost use Rattle.log_audit.specs.Replays.{same_write, agree, first_states, as_commits, ReplaysTo, AllReplayTo, IsFirstFailure};
 
@@ -58,20 +57,6 @@ fn are_same_writes(ours: &[(GrainId, State)], theirs: &[(GrainId, State)]) -> bo
         }
     }
     true
-}
-
-// The depth of a unit's first frame.
-fn depth_of(origin: Origin) -> u16
-    ensures { result ≡ depth_of origin }
-{
-    match origin {
-        Origin::Line(_) => 1,
-        Origin::Child {
-            parent: _parent,
-            index: _index,
-            depth,
-        } => depth,
-    }
 }
 
 // The grains that a record wrote, with the states of their versions in a slot's files.
@@ -140,7 +125,7 @@ fn replay<H: Host>(
     ensures ready { StaysReady (H.is_ready host.old) (H.is_ready host.new) }
 {
     let kept = read_writes(alloc, host, slot, shape, entry)?;
-    let depth = depth_of(entry.origin);
+    let depth = entry.origin.depth();
     let answers = entry.answers.as_slice();
     let played = play(alloc, checked, &entry.call, depth, store, answers)?;
     let same = are_same_writes(played.writes.as_slice(), kept.as_slice());

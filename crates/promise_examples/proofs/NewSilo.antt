@@ -33,7 +33,8 @@ use Rattle.promise_spec.specs.Openings.{with_types, program_in_file}
 use Rattle.promise_spec.specs.Logs.{magic, HasLog}
 use Rattle.promise_spec.specs.Crashes.{IsAside}
 use Rattle.promise_spec.specs.Promise.{IsSoundFolder}
-use Rattle.promise_examples.specs.Examples.{account_log, account_text, accounts, account_program, program_bytes, account_1, deposit_of, read_call, first_version, grain_bytes, block_bytes, manager_of, manager_bytes, first_commit}
+use Rattle.field_codec.specs.Examples.{first_version}
+use Rattle.promise_examples.specs.Examples.{account_log, account_text, accounts, account_program, program_bytes, account_1, deposit_of, read_call, grain_bytes, block_bytes, manager_of, manager_bytes, first_commit}
 use Rattle.promise_examples.specs.DepositRuns.{HasNone, HasDeposit}
 use Rattle.promise_examples.specs.WrittenRun.{new_manager, disk_of, new_disk, pending_gate, sealing_disk, sealed_disk}
 use Rattle.promise_examples.proofs.FirstDeposit.{logged_batch, logged}

@@ -47,7 +47,8 @@ use Rattle.promise_spec.proofs.OneLog.{one_log}
 use Rattle.promise_laws.specs.Obligations.{SaysIn, Opens, Journals, ExplainsEvents, LeavesAtExit, EndsRightly, Shows}
 use Rattle.promise_laws.proofs.ShownRuns.{shown}
 use Rattle.promise_laws.proofs.ShownPromise.{promised}
-use Rattle.promise_examples.specs.Examples.{account_log, account_program, account_1, program_bytes, unit_no, first_commit, next_commit, first_version, first_entry, manager_of, account_text}
+use Rattle.field_codec.specs.Examples.{first_version}
+use Rattle.promise_examples.specs.Examples.{account_log, account_program, account_1, program_bytes, unit_no, first_commit, next_commit, first_entry, manager_of, account_text}
 use Rattle.promise_examples.specs.DepositRuns.{HasNone, LeavesOthers, IsBetween}
 use Rattle.promise_examples.specs.HostCalls.{IsHosted}
 use Rattle.promise_examples.specs.WrittenRun.{new_manager, disk_of, new_disk, pending_block, pending_gate, reply_text, opened}

@@ -23,7 +23,8 @@ use Rattle.script_meaning.proofs.Plays.{plays_are_orderly_lem}
 use Rattle.promise_spec.specs.Programs.{Program, shape_in}
 use Rattle.promise_spec.specs.Records.{Commit, States, after_writes}
 use Rattle.promise_spec.specs.Entries.{Log, new_silo, records_of, standing_of}
-use Rattle.promise_spec.specs.SerialExecution.{depth_of, IsSerial}
+use Rattle.base_types.specs.Origins.{depth_of}
+use Rattle.promise_spec.specs.SerialExecution.{IsSerial}
 use Rattle.promise_spec.specs.Logs.{IsPrefix}
 use Rattle.promise_spec.specs.Images.{IsWholeSilo, AreNumbered}
 use Rattle.promise_spec.specs.Lines.{IsBadLine}

@@ -29,7 +29,8 @@ use Rattle.script_meaning.specs.Trails.{answers_of, reads_of, Has, states_of}
 use Rattle.promise_spec.specs.Programs.{Program}
 use Rattle.promise_spec.specs.Records.{Commit, States, IsRecordOf}
 use Rattle.promise_spec.specs.Entries.{records_of, standing_of}
-use Rattle.promise_spec.specs.SerialExecution.{depth_of, played}
+use Rattle.base_types.specs.Origins.{depth_of}
+use Rattle.promise_spec.specs.SerialExecution.{played}
 use Rattle.promise_spec.specs.Lines.{IsLineCall}
 use Rattle.promise_spec.specs.Images.{IsAboveParent, AreNumbered}
 use Rattle.promise_spec.specs.Cores.{HasBegun}

@@ -33,7 +33,7 @@ use Rattle.promise_spec.specs.Programs.{Program}
 use Rattle.promise_spec.specs.Records.{Commit, IsRecordOf, AreRecordsOf}
 use Rattle.promise_spec.specs.Entries as entry
 use Rattle.promise_spec.specs.Entries.{LogEntry, records_among, Standing, new_silo, after_entry, after_entries, Log, records_of, standing_of}
-use Rattle.promise_spec.specs.SerialExecution.{depth_of}
+use Rattle.base_types.specs.Origins.{depth_of}
 use Rattle.promise_spec.specs.Logs.{IsPrefix}
 use Rattle.promise_spec.specs.Images.{IsAboveParent, AreNumbered}
 use Rattle.promise_spec.specs.Family.{is_child, answer_of, AreAnswers}

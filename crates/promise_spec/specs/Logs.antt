@@ -1,6 +1,7 @@
 -- The log of an image: that of its live slot.
-use Rattle.std.specs.Prelude.{◌≡◌, ◌≢◌, ℕ, List, ◌++◌, map, codes, slice_index, None}
+use Rattle.std.specs.Prelude.{◌≡◌, ◌≢◌, ℕ, List, map, codes, slice_index, None}
 use Rattle.std.specs.List.{flat_map, AllByRecursion}
+pub use Rattle.base_types.specs.Lists.{IsPrefix}
 use Rattle.host_trait.specs.declared.channels.FileId.TheVariants.{Manager, Program as ProgramFile}
 use Rattle.host_trait.specs.World.{Image}
 use Rattle.gate_block.specs.Log.{HasBlocks}
@@ -47,7 +48,3 @@ pub record IsLog (live : ℕ) (image : Image) (log : Log) : Type 0 where
 -- whichever slot is live
 abbrev pub HasLog : Image → Log → Type 0
 HasLog image log = (live : ℕ) × IsLog live image log
-
--- one list is a first part of the other
-abbrev pub IsPrefix : {A : Type 0} → List A → List A → Type 0
-IsPrefix {A} front whole = (rest : List A) × (whole ≡ front ++ rest)

@@ -18,7 +18,7 @@ use Rattle.core_laws.proofs.Puts.{put-other, grain-at}
 use Rattle.core_laws.proofs.EventCases.{Change, bad, begin, lock, raise, refuse, finish, end_plain, end_snapshot, release, take_batch, vote, decide_some, decide_none, seal_batch, spoil_batch, doubt_batch, learn, emit, halt_run, want, load, decode}
 use Rattle.script_tree.specs.Programs.{ProgramTree}
 use Rattle.script_meaning.specs.Trails.{Given, GivenLock, GivenRaise, GivenOutcome, locks_of, answers_of}
-use Rattle.promise_spec.specs.SerialExecution.{depth_of}
+use Rattle.base_types.specs.Origins.{depth_of}
 use Rattle.promise_spec.specs.UnitAnswers.{Got, GotLock, GotRaise, GotChild, got_lock, got_by, and_given, given_by, wanted_by, got_in}
 use Rattle.turn_rules.specs.NextEvent.{with_event, is_begin, is_own}
 use Rattle.turn_rules.specs.UnitFrame.{own_holds, IsStill}

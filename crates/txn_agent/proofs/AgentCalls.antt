@@ -24,7 +24,7 @@ use Rattle.script_machine.specs.declared.machine.Machine.{Machine}
 use Rattle.script_machine.specs.declared.machine.Pause.{Pause}
 use Rattle.script_machine.specs.declared.machine.Pause.TheVariants.{NeedGrain, NeedUnit, Done}
 use Rattle.script_machine.specs.Machines.{FollowsTrail, has_begun, rest}
-use Rattle.promise_spec.specs.SerialExecution.{depth_of}
+use Rattle.base_types.specs.Origins.{depth_of}
 use Rattle.turn_rules.specs.NextEvent.{with_event}
 use Rattle.worker_rules.specs.SharedHistories.{Told}
 use Rattle.worker_rules.specs.UnitOwnership.{leaves_unit}

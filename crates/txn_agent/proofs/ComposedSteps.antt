@@ -22,7 +22,7 @@ use Rattle.script_meaning.specs.Trails.{answers_of, locks_of}
 use Rattle.script_meaning.proofs.AskedTypes.{next_is_of_types_lem}
 use Rattle.script_machine.specs.declared.machine.Pause.TheVariants.{NeedGrain}
 use Rattle.script_machine.specs.Machines.{pause_for, rest}
-use Rattle.promise_spec.specs.SerialExecution.{depth_of}
+use Rattle.base_types.specs.Origins.{depth_of}
 use Rattle.promise_spec.specs.UnitAnswers.{got_in, wanted_by, wanted_lock}
 use Rattle.turn_rules.proofs.AgentLinks.{wants}
 use Rattle.worker_rules.specs.UnitOwnership.{leaves_unit}

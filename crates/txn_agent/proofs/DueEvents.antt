@@ -26,7 +26,7 @@ use Rattle.script_meaning.specs.Trails.{Given, GivenLock, GivenRaise, GivenOutco
 use Rattle.script_meaning.proofs.Plays.{plain_runs_lock_nothing_lem}
 use Rattle.script_machine.specs.declared.machine.Pause.TheVariants.{NeedGrain, NeedUnit}
 use Rattle.script_machine.specs.Machines.{pause_for, rest}
-use Rattle.promise_spec.specs.SerialExecution.{depth_of}
+use Rattle.base_types.specs.Origins.{depth_of}
 use Rattle.promise_spec.specs.UnitAnswers.{Got, GotLock, GotRaise, GotChild, and_given, given_by, got_in}
 use Rattle.promise_spec.specs.UnitRule.{Basis, IsDue, IsPlayOf}
 use Rattle.promise_spec.proofs.Lists.{some_is}

@@ -26,7 +26,7 @@ use Rattle.script_machine.specs.declared.machine.Input.TheVariants as input
 use Rattle.script_machine.specs.declared.machine.Pause.{Pause}
 use Rattle.script_machine.specs.declared.machine.Pause.TheVariants.{NeedGrain}
 use Rattle.script_machine.specs.Machines.{AnswersRequest, FollowsTrail, asks_raise, given_by, has_begun, rest}
-use Rattle.promise_spec.specs.SerialExecution.{depth_of}
+use Rattle.base_types.specs.Origins.{depth_of}
 use Rattle.promise_spec.specs.UnitAnswers.{given_by as given_in}
 use Rattle.turn_rules.proofs.AgentLinks.{heard}
 use Rattle.worker_rules.specs.UnitOwnership.{leaves_unit}
