@@ -359,9 +359,6 @@ pub fn run_turns<H: Host, G: Gate, L: Lines>(
         (λ o b. o.ruled ≡ true → IfOk result (λ _. picks_used (run_of core.new) (length (run_of core.new).events) ≡ used.new)) }
     ensures unused { IfErr result (λ _. used.new ≡ used.old) }
 
-    // Where it is done no grain was loaded, so a further call may go on from there.
-    ensures loads { IfOk result (λ _. NoneLoads (own_sight (run_of core.new)).mine) }
-
     ensures same { L.lines lines.new ≡ L.lines lines.old }
     ensures safe { IsSafe H.tells settler.new.writer (H.world host.new) }
     ensures ready { StaysReady (H.is_ready host.old) (H.is_ready host.new) }

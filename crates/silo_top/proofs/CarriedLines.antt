@@ -5,10 +5,8 @@ use Rattle.host_trait.specs.declared.channels.Channel.{Channel}
 use Rattle.host_trait.specs.World.{World}
 use Rattle.request_wire.specs.declared.requests.Line.{Line}
 use Rattle.script_tree.specs.Programs.{ProgramTree}
-use Rattle.core_access.specs.OneHolder.{own_sight}
 use Rattle.core_model.specs.LegalRuns.{Run}
 use Rattle.promise_spec.specs.TurnRule.{picks_used}
-use Rattle.worker_rules.specs.SharedHistories.{NoneLoads}
 use Rattle.history_core.specs.Cores.{run_of}
 use Rattle.history_core.specs.declared.whole_core.Core.{Core}
 use Rattle.settle_loop.specs.declared.settler.Settler.{Settler}
@@ -106,10 +104,6 @@ core_left : {T : Type 0} (core : Core) (r' : Run) (result : Result T RunFault) �
 core_left core r' (Ok done) q = q
 core_left core r' (Err fault) q = tt
 
-loads_left : {T : Type 0} (core : Core) (result : Result T RunFault) → IfOk result (λ _. NoneLoads (own_sight (run_of core)).mine) → IfOk (with_core core result) (λ c. NoneLoads (own_sight (run_of c)).mine)
-loads_left core (Ok done) n = n
-loads_left core (Err fault) n = tt
-
 -- it ended by this fault, whatever else it would have come to
 abbrev fault_of : {T : Type 0} → Result T RunFault → Result Core RunFault
 fault_of (Ok done) = Err Memory
@@ -131,7 +125,6 @@ module _ (tells : Bool) (types : ProgramTree) (lines : List Line) (r : Run) (s s
         carries = lost_carried tells types lines r s f w used;
         beside = none-beside tells r r s f w (Err Memory) refl;
         core = tt;
-        loads = tt;
       })))
 
 module _ {T : Type 0} (tells : Bool) (types : ProgramTree) (lines : List Line) (r : Run) (s s' : Settler) (f f' : Channel → ℕ) (w w' : World) where
@@ -139,15 +132,14 @@ module _ {T : Type 0} (tells : Bool) (types : ProgramTree) (lines : List Line) (
   pub turns_all : (core : Core) (result : Result T RunFault) (width : ℕ) (picks : List ℕ) (used used' : ℕ)
       → WhereTurnsBegin tells types lines width picks used (stage_by r s f w) (λ o b. TurnsGoOn tells o b (stage_by r s f w) (stage_by (run_of core) s' f' w') result)
       → WhereTurnsBegin tells types lines width picks used (stage_by r s f w) (λ o b. o.ruled ≡ true → IfOk result (λ _. picks_used (run_of core) (length (run_of core).events) ≡ used'))
-      → TurnsBeside tells (stage_by r s f w) (stage_by (run_of core) s' f' w') result → IfOk result (λ _. NoneLoads (own_sight (run_of core)).mine) → (answer : Result Core RunFault) → with_core core result ≡ answer
+      → TurnsBeside tells (stage_by r s f w) (stage_by (run_of core) s' f' w') result → (answer : Result Core RunFault) → with_core core result ≡ answer
       → CarriedLines tells (turns_manner width picks) types lines used used' (stage_by r s f w) (side_by s' f' w') answer
-  turns_all core result width picks used used' turns counted beside loads answer q =
+  turns_all core result width picks used used' turns counted beside answer q =
       subst (CarriedLines tells (turns_manner width picks) types lines used used' (stage_by r s f w) (side_by s' f' w')) q (record {
         left = run_of core;
         carries = turns_carried tells types lines r (run_of core) s s' f f' w w' core result width picks used used' turns counted;
         beside = beside_so tells types lines r (run_of core) s s' f f' w w' core result beside;
         core = core_left core (run_of core) result refl;
-        loads = loads_left core result loads;
       })
 
   -- what `run_with_workers` says of its record and beside it
@@ -157,27 +149,25 @@ module _ {T : Type 0} (tells : Bool) (types : ProgramTree) (lines : List Line) (
 
   -- by workers, where the core came back
   pub workers_all : (used : ℕ) (back : Option Core) (core : Core) → back ≡ Some core → (result : Result T RunFault) → WorkersKeep back result
-      → IfSome back (λ c. TurnsBeside tells (stage_by r s f w) (stage_by (run_of c) s' f' w') result) → IfSome back (λ c. IfOk result (λ _. NoneLoads (own_sight (run_of c)).mine)) → (answer : Result Core RunFault) → with_core core result ≡ answer → CarriedLines tells workers_manner types lines used used (stage_by r s f w) (side_by s' f' w') answer
-  workers_all used back core some result kept beside loads answer q =
+      → IfSome back (λ c. TurnsBeside tells (stage_by r s f w) (stage_by (run_of c) s' f' w') result) → (answer : Result Core RunFault) → with_core core result ≡ answer → CarriedLines tells workers_manner types lines used used (stage_by r s f w) (side_by s' f' w') answer
+  workers_all used back core some result kept beside answer q =
       let kept_so : WorkersKeep (Some core) result = subst (λ (x : Option Core). WorkersKeep x result) some kept in
       let beside_core : TurnsBeside tells (stage_by r s f w) (stage_by (run_of core) s' f' w') result = subst (λ (x : Option Core). IfSome x (λ c. TurnsBeside tells (stage_by r s f w) (stage_by (run_of c) s' f' w') result)) some beside in
-      let loads_core : IfOk result (λ _. NoneLoads (own_sight (run_of core)).mine) = subst (λ (x : Option Core). IfSome x (λ c. IfOk result (λ _. NoneLoads (own_sight (run_of c)).mine))) some loads in
       subst (CarriedLines tells workers_manner types lines used used (stage_by r s f w) (side_by s' f' w')) q (record {
         left = run_of core;
         carries = workers_carried tells types lines r s s' f f' w w' core result (run_of core) used kept_so;
         beside = beside_so tells types lines r (run_of core) s s' f f' w w' core result beside_core;
         core = core_left core (run_of core) result refl;
-        loads = loads_left core result loads_core;
       })
 
   -- by workers, where it ended by a fault
   pub workers_faulted : (used : ℕ) (back : Option Core) (result : Result T RunFault) → WorkersKeep back result
-      → IfSome back (λ c. TurnsBeside tells (stage_by r s f w) (stage_by (run_of c) s' f' w') result) → IfSome back (λ c. IfOk result (λ _. NoneLoads (own_sight (run_of c)).mine)) → (back ≡ None → (result ≡ Err Memory) × (s' ≡ s) × (f' ≡ f) × (w' ≡ w))
+      → IfSome back (λ c. TurnsBeside tells (stage_by r s f w) (stage_by (run_of c) s' f' w') result) → (back ≡ None → (result ≡ Err Memory) × (s' ≡ s) × (f' ≡ f) × (w' ≡ w))
       → (fault : RunFault) → result ≡ Err fault → CarriedLines tells workers_manner types lines used used (stage_by r s f w) (side_by s' f' w') (Err fault)
-  workers_faulted used back result kept beside loads lost fault q = by back refl
+  workers_faulted used back result kept beside lost fault q = by back refl
     where
       by : (b : Option Core) → back ≡ b → CarriedLines tells workers_manner types lines used used (stage_by r s f w) (side_by s' f' w') (Err fault)
-      by (Some core) some = workers_all used back core some result kept beside loads (Err fault) (ap (with_core core) q)
+      by (Some core) some = workers_all used back core some result kept beside (Err fault) (ap (with_core core) q)
       by None none =
           let l = lost none in
           subst (CarriedLines tells workers_manner types lines used used (stage_by r s f w) (side_by s' f' w')) (ap fault_of (sym l.0 ∙ q)) (workers_lost tells types lines r s s' f f' w w' used l.1 l.2 l.3)

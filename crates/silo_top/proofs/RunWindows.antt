@@ -1,5 +1,5 @@
 -- A run goes on with the next window of its input, or to its end.
-use Rattle.std.proofs.Common.{◌≡◌, ◌≢◌, inl, inr, ◌⊎◌, ℕ, ◌+◌, ◌*◌, ◌/◌, ◌%◌, ◌<◌, ◌≤◌, ◌==◌, Bool, true, false, IsTrue, List, [], ◌∷◌, ◌++◌, length, Option, Result, Ok, Err, refl, sym, ◌∙◌, ap, subst, arith, append-nil, append_assoc, length-append}
+use Rattle.std.proofs.Common.{◌≡◌, ◌≢◌, inl, inr, ◌⊎◌, ℕ, ◌+◌, ◌%◌, ◌<◌, ◌≤◌, ◌==◌, Bool, true, false, IsTrue, List, [], ◌++◌, length, Option, Result, Ok, Err, refl, sym, ◌∙◌, ap, subst, arith, append-nil, append_assoc, length-append}
 use Rattle.std.specs.Prelude.{take, not, IfOk}
 use Rattle.host_trait.specs.declared.channels.Channel.{Channel}
 use Rattle.host_trait.specs.declared.channels.Channel.TheVariants.{Input, Output, File}
@@ -14,11 +14,8 @@ use Rattle.script_tree.specs.Programs.{ProgramTree, program_tree}
 use Rattle.core_model.specs.LegalRuns.{Run}
 use Rattle.core_model.specs.Laws.{extended}
 use Rattle.core_model.specs.declared.events.CoreEvent.{CoreEvent}
-use Rattle.core_access.specs.OneHolder.{own_sight}
 use Rattle.history_core.specs.Cores.{run_of}
 use Rattle.history_core.specs.declared.whole_core.Core.{Core}
-use Rattle.txn_agent.specs.CoreLink.{IsLegalRun}
-use Rattle.worker_rules.specs.SharedHistories.{NoneLoads}
 use Rattle.input_windows.specs.Given.{HasGiven, HasNext, IsGood, EndsAs, InputEnds}
 use Rattle.input_windows.specs.Pulls.{PulledOnly}
 use Rattle.input_windows.specs.Windows.{window_in, left_in, before_in}
@@ -521,7 +518,6 @@ pub can_further : (tells : Bool) (st : Started) (core : Core) (settler : Settler
 can_further tells st core settler now now' m types lines used used' f f' mid result carried is can safe =
     let core_is : run_of core ≡ carried.left = subst (λ (y : Result Core RunFault). IfOk y (λ c. run_of c ≡ carried.left)) is carried.core in
     record {
-      legal = subst (λ (z : Run). IsLegalRun (own_sight z).first) (sym (core_is ∙ carried.beside.core)) can.legal;
-      loads = subst (λ (y : Result Core RunFault). IfOk y (λ c. NoneLoads (own_sight (run_of c)).mine)) is carried.loads;
+      above = subst (λ (z : Run). 0 < z.base) (sym (core_is ∙ carried.beside.core)) can.above;
       safe = safe;
     }

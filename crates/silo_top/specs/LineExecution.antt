@@ -2,13 +2,11 @@
 use Rattle.std.specs.Prelude.{◌≡◌, ℕ, Bool, false, not, List, length, Result, IfOk}
 use Rattle.request_wire.specs.declared.requests.Line.{Line}
 use Rattle.script_tree.specs.Programs.{ProgramTree}
-use Rattle.core_access.specs.OneHolder.{own_sight}
 use Rattle.core_model.specs.LegalRuns.{Run}
 use Rattle.promise_spec.specs.TurnRule.{KeepsTurnRule, picks_used}
 use Rattle.promise_spec.specs.Words.{Manner}
 use Rattle.history_core.specs.Cores.{run_of}
 use Rattle.history_core.specs.declared.whole_core.Core.{Core}
-use Rattle.worker_rules.specs.SharedHistories.{NoneLoads}
 use Rattle.run_books.specs.declared.faults.RunFault.{RunFault}
 use Rattle.run_books.specs.Beginnings.{Outset, IsOutset, CanTurn}
 use Rattle.run_books.specs.RecordFrame.{TurnsBeside}
@@ -36,11 +34,9 @@ pub record CarriedOn {T : Type 0} (tells : Bool) (m : Manner) (o : Outset) (b : 
 abbrev pub CarriesOn : {T : Type 0} → Bool → Manner → ProgramTree → List Line → ℕ → ℕ → Stage → Stage → Result T RunFault → Type 0
 CarriesOn tells m types lines used used' before after result = (o : Outset) (b : Books) → StartsRun tells m o b types lines used before → CarriedOn tells m o b used' before after result
 
--- The lines were carried, and this is the run that they left: the core's, which comes back where all are carried, and no grain was
--- loaded by then.
+-- The lines were carried, and this is the run that they left: the core's, which comes back where all are carried.
 pub record CarriedLines (tells : Bool) (m : Manner) (types : ProgramTree) (lines : List Line) (used used' : ℕ) (before : Stage) (after : Side) (result : Result Core RunFault) : Type 0 where
   pub left : Run
   pub carries : CarriesOn tells m types lines used used' before (stage_with left after) result
   pub beside : TurnsBeside tells before (stage_with left after) result
   pub core : IfOk result (λ c. run_of c ≡ left)
-  pub loads : IfOk result (λ c. NoneLoads (own_sight (run_of c)).mine)

@@ -2,7 +2,6 @@ pub mod CoreMoves
 pub mod PassReturns
 pub mod JoinedPasses
 pub mod ClosedCore
-pub mod LoadedGrains
 pub mod LoneRun
 pub mod SettledRest
 pub mod RunStart

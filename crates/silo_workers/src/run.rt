@@ -66,7 +66,6 @@ fn carry_in_turns<H: Host, G: Gate, L: Lines + Copy>(
     ensures carries { TurnsCarry H.tells (program_tree checked.now) (L.lines lines.now) 1 [] 0
         (stage_of H.world H.faults (run_of core.old) settler.old host.old)
         (stage_of H.world H.faults (run_of core.new) settler.new host.new) result }
-    ensures loads { IfOk result (λ _. NoneLoads (own_sight (run_of core.new)).mine) }
     ensures safe { IsSafe H.tells settler.new.writer (H.world host.new) }
     ensures ready { StaysReady (H.is_ready host.old) (H.is_ready host.new) }
 {
@@ -127,8 +126,6 @@ pub fn run_with_workers<R: Threads + Wait + Sync, H: Host, G: Gate + Sync, L: Li
     ensures beside { IfSome result.0 (λ c. TurnsBeside H.tells
         (stage_of H.world H.faults (run_of core) settler.old host.old)
         (stage_of H.world H.faults (run_of c) settler.new host.new) result.1) }
-    // Where it is done no grain was loaded, so a further call may go on from there.
-    ensures loads { IfSome result.0 (λ c. IfOk result.1 (λ _. NoneLoads (own_sight (run_of c)).mine)) }
     ensures lost { result.0 ≡ None → (result.1 ≡ Err Memory) × (settler.new ≡ settler.old) × (host.new ≡ host.old) }
 
     ensures safe { IsSafe H.tells settler.new.writer (H.world host.new) }

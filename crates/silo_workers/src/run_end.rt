@@ -2,7 +2,6 @@
 ghost use Rattle.host_trait.specs.Files.{StaysReady};
 ghost use Rattle.core_access.specs.OneHolder.{own_sight};
 ghost use Rattle.history_core.specs.Cores.{run_of};
-ghost use Rattle.worker_rules.specs.SharedHistories.{NoneLoads};
 ghost use Rattle.run_books.specs.Beginnings.{Outset};
 ghost use Rattle.run_books.specs.RecordFrame.{TurnsBeside};
 ghost use Rattle.run_books.specs.Books.{Books};
@@ -35,7 +34,6 @@ pub(crate) fn end_run<H: Host, G: Gate>(
     ensures beside { (s : Stage)
         → TurnsBeside H.tells s (stage_of H.world H.faults (run_of core.old) settler.old host.old) gathered.settled
         → TurnsBeside H.tells s (stage_of H.world H.faults (run_of core.new) settler.new host.new) result }
-    ensures loads { NoneLoads (own_sight (run_of core.old)).mine → NoneLoads (own_sight (run_of core.new)).mine }
     ensures safe { IsSafe H.tells settler.new.writer (H.world host.new) }
     ensures ready { StaysReady (H.is_ready host.old) (H.is_ready host.new) }
 {

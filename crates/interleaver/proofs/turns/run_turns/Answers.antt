@@ -95,9 +95,6 @@ returns-then-not-branch-clause-used g c = λ o b is can fresh kept ruled.
     c.loop-turn.invariant.lines c.as_slice.ensures (c.loop-turn.invariant.went o b is can fresh kept) c.turn.result (c.turn.ensures.turns.says o)
     (c.in_ok-turn.was ∙ ap Ok c.if-not-branch.true) ruled
 
-pub returns-then-not-branch-clause-loads : goal.returns-then-not-branch-clause-loads
-returns-then-not-branch-clause-loads g c = c.in_ok-turn.ensures.units.carried.holds.loads
-
 pub loop-turn-preserved : goal.loop-turn-preserved
 loop-turn-preserved g c = record {
   units = c.in_ok-turn.ensures.units;

@@ -9,7 +9,6 @@ use Rattle.interleaver.proofs.RunningTurns.{turns-record}
 use Rattle.silo_workers.proofs.LoneRun.{turned, turned-beside}
 use Rattle.silo_workers.proofs.RunStart.{reads-lines, of-program, can-among}
 use Rattle.silo_workers.proofs.ClosedCore.{closed-from, has-gathered, gathered-beside, gathered-same}
-use Rattle.silo_workers.proofs.LoadedGrains.{and-well, loads-gathered}
 use Rattle.silo_workers.proofs.run.run_with_workers.Goals as goal
 
 pub gather-core-requires-clause-fresh : goal.gather-core-requires-clause-fresh

@@ -11,7 +11,6 @@ use Rattle.silo_workers.specs.RunEnd.{HasGathered}
 use Rattle.silo_workers.specs.declared.work.WorkEnd.{WorkEnd}
 use Rattle.silo_workers.specs.declared.work.WorkEnd.TheVariants.{Through}
 use Rattle.silo_workers.proofs.SettledRest.{can-rest, rest-ends}
-use Rattle.silo_workers.proofs.LoadedGrains.{loads-settled}
 use Rattle.silo_workers.proofs.run_end.end_run.Goals as goal
 use Rattle.run_books.specs.Stages.{stage_by, stage_of}
 
@@ -41,6 +40,3 @@ returns-in-Through-clause-beside g c = λ s h.
     let well = subst (λ (x : Result (Unit {0}) RunFault). TurnsBeside {T = Unit {0}} g.H.Host.tells s (stage_of g.H.Host.world g.H.Host.faults (run_of c.args.core.now) c.args.settler.now c.args.host.now) x) c.in-Ok.is h in
     one-after-another g.H.Host.tells s.run (run_of c.args.core.now) (run_of c.settle_rest.new.core) s.settler c.args.settler.now c.settle_rest.new.settler s.faults (g.H.Host.faults c.args.host.now) (g.H.Host.faults c.settle_rest.new.host)
     s.world (g.H.Host.world c.args.host.now) (g.H.Host.world c.settle_rest.new.host) c.in-Ok.field-0 c.settle_rest.result well c.settle_rest.ensures.beside
-
-pub returns-in-Through-clause-loads : goal.returns-in-Through-clause-loads
-returns-in-Through-clause-loads g c = λ none. loads-settled (run_of c.args.core.now) (run_of c.settle_rest.new.core) c.settle_rest.ensures.own none
