@@ -4,8 +4,8 @@ use Rattle.base_types.specs.declared.calls.Outcome.TheVariants.{Value, Fault, Ab
 use Rattle.base_types.specs.declared.entries.Entry.{Entry}
 use Rattle.base_types.specs.declared.entries.Settled.{Settled}
 use Rattle.base_types.specs.declared.entries.Settled.TheVariants.{Done, Lock, Vote, Dependency, Disk, InDoubt, Bad}
-use Rattle.core_lists.specs.declared.line_ends.LineEnds.{LineEnds}
-use Rattle.core_lists.specs.LineEnds.{ends_in_value, ends_in_fault, ends_in_abort, ends_of}
+use Rattle.core_parts.specs.declared.line_ends.LineEnds.{LineEnds}
+use Rattle.core_parts.specs.LineEnds.{ends_in_value, ends_in_fault, ends_in_abort, ends_of}
 use Rattle.promise_spec.specs.Loads.{line_valued, is_faulted, line_aborted, how_many_lines}
 
 same-value : (what : Settled) → ends_in_value what ≡ line_valued what

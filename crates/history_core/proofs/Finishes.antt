@@ -19,8 +19,8 @@ use Rattle.core_laws.proofs.EventCases.{Change, finish, decode}
 use Rattle.core_laws.proofs.UnitPlays.{parts-of}
 use Rattle.core_model.specs.Events.{applies, does}
 use Rattle.core_laws.proofs.Basics.{is_running-true}
-use Rattle.core_lists.specs.States.{handed_in, has_place}
-use Rattle.core_lists.specs.declared.handed_states.HandedStates.{HandedStates}
+use Rattle.core_parts.specs.States.{handed_in, has_place}
+use Rattle.core_parts.specs.declared.handed_states.HandedStates.{HandedStates}
 use Rattle.unit_table.specs.Parts.{units_over}
 use Rattle.unit_table.specs.Table.{units_of, verdict_in, result_in, deps_in, phase_in}
 use Rattle.unit_table.specs.declared.table.UnitTable.{UnitTable}

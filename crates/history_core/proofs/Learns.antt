@@ -18,8 +18,8 @@ use Rattle.core_laws.proofs.Basics.{written-member}
 use Rattle.core_laws.proofs.Puts.{put-is, put-other, grain-at, grain-is, grain-other}
 use Rattle.core_laws.proofs.Orders.{Member-get, take_length}
 use Rattle.core_laws.proofs.Plans.{flat-member, member-flat}
-use Rattle.core_lists.specs.Pairs.{is_pair, has_pair, without_first, other_pairs}
-use Rattle.core_lists.specs.Room.{PairsInRoom}
+use Rattle.core_parts.specs.Pairs.{is_pair, has_pair, without_first, other_pairs}
+use Rattle.core_parts.specs.Room.{PairsInRoom}
 use Rattle.grain_cell.specs.Room.{CellInRoom}
 use Rattle.cell_table.specs.Table.{cell_in, opens_with, cell_at, cell_or, has_cell}
 use Rattle.cell_table.specs.declared.table.CellTable.{CellTable}

@@ -6,7 +6,7 @@ use Rattle.base_types.specs.declared.entries.Settled.TheVariants as settled
 use Rattle.core_model.specs.CoreState.{UnitNo, GrainId, nobody, Entry, Units, CoreState}
 use Rattle.core_model.specs.declared.events.CoreEvent.TheVariants.{Bad, Emitted, Halt, Want}
 use Rattle.core_model.specs.declared.events.CoreReply.TheVariants as reply
-use Rattle.core_lists.specs.Room.{EntriesInRoom}
+use Rattle.core_parts.specs.Room.{EntriesInRoom}
 use Rattle.unit_table.specs.Parts.{units_bad_line, units_halted, units_wanting}
 use Rattle.unit_table.specs.Table.{units_of, verdict_in, result_in}
 use Rattle.unit_table.specs.declared.table.UnitTable.{UnitTable}

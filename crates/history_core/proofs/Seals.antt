@@ -16,7 +16,7 @@ use Rattle.core_model.specs.Changes.{closed, sealed, spoiled, in_doubt, leave, o
 use Rattle.core_model.specs.Events.{applies, does, is_judged, is_after_doubt, is_after_halt}
 use Rattle.core_laws.proofs.EventCases.{Change, seal_batch, spoil_batch, doubt_batch, decode, none-true}
 use Rattle.core_laws.proofs.Orders.{Member-take, take_length}
-use Rattle.core_lists.specs.States.{has_place}
+use Rattle.core_parts.specs.States.{has_place}
 use Rattle.unit_table.specs.Table.{phase_in}
 use Rattle.open_batch.specs.declared.members.FinishedUnit.{FinishedUnit}
 use Rattle.open_batch.specs.Members.{effect_in}

@@ -8,8 +8,8 @@ ghost use Rattle.history_core.specs.Effects.{is_of_call_in, answered_in, outcome
 
 use crate::parts::Parts;
 use base_types::{Outcome, UnitNo};
-use core_equality::Same;
 use core_model::{Effect, Phase, Verdict};
+use core_parts::Same;
 use unit_table::RunningUnit;
 
 impl Parts {

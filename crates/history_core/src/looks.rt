@@ -1,14 +1,14 @@
 // What a core has settled, and the last states.
 ghost use Rattle.std.specs.Prelude.{◌≡◌, ◌++◌, length, drop};
 ghost use Rattle.std.specs.Option.{option_copied};
-ghost use Rattle.core_lists.specs.LineEnds.{ends_of};
+ghost use Rattle.core_parts.specs.LineEnds.{ends_of};
 ghost use Rattle.core_model.specs.LegalRuns.{ends};
 ghost use Rattle.history_core.specs.ClosedUnits.{last_state};
 ghost use Rattle.history_core.specs.Cores.{run_of};
 
 use crate::whole_core::Core;
 use base_types::{Entry, GrainId, State};
-use core_lists::LineEnds;
+use core_parts::LineEnds;
 
 impl Core {
     /// The settled entries that aren't written, in the order in which they came, in two pieces. One that is written isn't kept.

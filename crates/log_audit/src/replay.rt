@@ -19,7 +19,7 @@ ghost use Rattle.log_audit.specs.Replays.{same_write, agree, first_states, as_co
 
 use base_types::{GrainId, Origin, Outcome, Shape, State, Store, UnitNo};
 use commit_log::{CommitRecord, Named};
-use core_equality::Same;
+use core_parts::Same;
 use field_codec::Format;
 use host_trait::Host;
 use log_reading::{FolderFault, named_version, next_block};

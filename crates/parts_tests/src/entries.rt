@@ -10,7 +10,7 @@ use crate::cases::{Part, carry, no_step};
 use crate::printer::{add_count, add_flag};
 use crate::steps::Step;
 use base_types::{BadRequest, Entry, Settled, UnitNo};
-use core_lists::EntryList;
+use core_parts::EntryList;
 use std::alloc::{AllocError, Global};
 
 /// Puts a list of entries through the steps.

@@ -17,7 +17,7 @@ use Rattle.promise_spec.proofs.Openings.{program_checked, log_is_read, reads_is}
 use Rattle.promise_spec.proofs.WholeFolders.{whole_folder}
 use Rattle.promise_laws.proofs.SoundFolders.{fresh, new_folder}
 use Rattle.promise_laws.specs.Closings.{ReadsMayStay}
-use Rattle.opening_rules.specs.RunsBehindOpening.{program_of}
+use Rattle.command_rules.specs.RunsBehindOpening.{program_of}
 use Rattle.script_tree.specs.declared.programs.Program.{Program as Tree}
 use Rattle.silo_opening.specs.OpenedSilo.{IsOpenedFrom}
 use Rattle.silo_opening.specs.declared.opened_silo.Opened.{Opened}

@@ -39,8 +39,8 @@ use Rattle.run_books.proofs.MoreLines.{begun-lines, record-more, lasts-more}
 use Rattle.run_books.proofs.ShownRecord.{explains, settled}
 use Rattle.run_books.proofs.TurnImages.{lasts}
 use Rattle.run_books.proofs.UnvotedFiles.{unvoted_behind}
-use Rattle.opening_rules.specs.RunsBehindOpening.{program_of, FollowsOpening}
-use Rattle.opening_rules.proofs.RunsBehindOpening.{behind}
+use Rattle.command_rules.specs.RunsBehindOpening.{program_of, FollowsOpening}
+use Rattle.command_rules.proofs.RunsBehindOpening.{behind}
 use Rattle.silo_opening.specs.declared.opened_silo.Opened.{Opened}
 use Rattle.silo_top.specs.declared.status.Status.{Status}
 use Rattle.silo_top.specs.RunBehindOpening.{IsBehindOpening}

@@ -54,14 +54,14 @@ use Rattle.run_books.proofs.ShownRecord.{explains, ends-by}
 use Rattle.run_books.proofs.TurnImages.{lasts}
 use Rattle.run_books.proofs.BooksCalls.{file-on}
 use Rattle.run_books.proofs.UnvotedFiles.{unvoted_behind}
-use Rattle.opening_rules.specs.RunsBehindOpening.{program_of, FollowsOpening}
-use Rattle.opening_rules.proofs.RunsBehindOpening.{behind}
+use Rattle.command_rules.specs.RunsBehindOpening.{program_of, FollowsOpening}
+use Rattle.command_rules.proofs.RunsBehindOpening.{behind}
 use Rattle.silo_opening.specs.declared.opened_silo.Opened.{Opened}
 use Rattle.bank_load.specs.Requests.{load_texts}
 use Rattle.bank_load.specs.Summaries.{summary_line, total_kept}
-use Rattle.load_rules.specs.LoadObligations.{HasWhole, ShowsLoad}
-use Rattle.load_rules.proofs.LoadKept.{kept_load}
-use Rattle.load_rules.proofs.Balances.{totals_kept}
+use Rattle.command_rules.specs.LoadObligations.{HasWhole, ShowsLoad}
+use Rattle.command_rules.proofs.LoadKept.{kept_load}
+use Rattle.command_rules.proofs.Balances.{totals_kept}
 use Rattle.promise_laws.proofs.Bases.{reads_above}
 use Rattle.promise_laws.proofs.ShownRuns.{explained}
 use Rattle.silo_top.specs.declared.status.Status.{Status}

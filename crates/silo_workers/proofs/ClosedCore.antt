@@ -36,9 +36,9 @@ use Rattle.run_books.proofs.Reliance.{counts-on, relies-before}
 use Rattle.run_books.proofs.SettlerSights.{going-all}
 use Rattle.shared_settling.specs.SharedSettler.{SettlesAmong, StopsAmong, EndsAmong, CanSettleAmong, SettledAmong}
 use Rattle.shared_settling.proofs.OthersBooks.{fault-on}
-use Rattle.closing_rules.specs.ClosedCore.{IsClosed, PutsNothing, SettlesOrStops, AreOverAndFree, HasBegunLines}
-use Rattle.closing_rules.specs.JoinedPasses.{sight_by}
-use Rattle.closing_rules.proofs.Closes.{closed-less, closed-rule, settles-alone, works-since, last-since, closed-done, quiet-done, closed-same}
+use Rattle.worker_rules.specs.ClosedCore.{IsClosed, PutsNothing, SettlesOrStops, AreOverAndFree, HasBegunLines}
+use Rattle.worker_rules.specs.JoinedPasses.{sight_by}
+use Rattle.worker_rules.proofs.Closes.{closed-less, closed-rule, settles-alone, works-since, last-since, closed-done, quiet-done, closed-same}
 use Rattle.silo_workers.specs.SettlerThread.{HasSettled}
 use Rattle.silo_workers.specs.RunEnd.{IsOfProgram, HasGathered}
 use Rattle.silo_workers.specs.WorkerPasses.{HasWorked, SaysOfUnits, IsGathered}

@@ -17,7 +17,7 @@ use Rattle.run_books.specs.Records.{KeepsRecord}
 use Rattle.run_books.proofs.EvenBooks.{even-at-rest}
 use Rattle.shared_settling.specs.SharedSettler.{CanSettleAmong}
 use Rattle.unit_crew.specs.Crews.{IsBasisOf}
-use Rattle.closing_rules.specs.JoinedPasses.{sight_by}
+use Rattle.worker_rules.specs.JoinedPasses.{sight_by}
 use Rattle.silo_workers.specs.RunEnd.{IsOfProgram}
 use Rattle.std.specs.Prelude.{slice_get, Some, ◌+◌}
 use Rattle.run_books.specs.Stages.{side_by, stage_by}

@@ -17,8 +17,8 @@ use Rattle.turn_cell.specs.Passes.{IsPassOf, pass_view}
 use Rattle.unit_crew.specs.Crews.{IsBasisOf}
 use Rattle.worker_rules.specs.UnitOwnership.{KeepsPromise}
 use Rattle.worker_rules.specs.Work.{OnlyWorks}
-use Rattle.closing_rules.specs.ClosedCore.{IsClosed, PutsNothing, AreOverAndFree, HasBegunLines}
-use Rattle.closing_rules.specs.JoinedPasses.{Returns, GathersSights, WasShown}
+use Rattle.worker_rules.specs.ClosedCore.{IsClosed, PutsNothing, AreOverAndFree, HasBegunLines}
+use Rattle.worker_rules.specs.JoinedPasses.{Returns, GathersSights, WasShown}
 use Rattle.silo_workers.specs.declared.work.WorkEnd.{WorkEnd}
 use Rattle.silo_workers.specs.declared.work.WorkEnd.TheVariants.{Idle, Through, Lacking}
 

@@ -1,5 +1,5 @@
 use Rattle.std.proofs.Common.{◌∙◌, sym, ap}
-use Rattle.core_lists.specs.LineEnds.{ends_of}
+use Rattle.core_parts.specs.LineEnds.{ends_of}
 use Rattle.core_model.specs.LegalRuns.{ends}
 use Rattle.history_core.specs.Cores.{CoreData, run_of}
 use Rattle.history_core.proofs.whole_core.Core.line_ends.Goals as goal
