@@ -4,7 +4,6 @@ use Rattle.std.proofs.lemmas.Bool.{cases_Bool}
 use Rattle.request_wire.specs.declared.requests.Line.{Line}
 use Rattle.request_wire.specs.Names.{names_in}
 use Rattle.request_wire.specs.Request.{call_of}
-use Rattle.core_model.specs.declared.effects.Effect.{Effect}
 use Rattle.core_model.specs.LegalRuns.{ends}
 use Rattle.core_model.specs.Lines.{EntriesAreOnce}
 use Rattle.core_laws.proofs.LineEntries.{once-ends}
@@ -12,9 +11,8 @@ use Rattle.script_tree.specs.Programs.{ProgramTree}
 use Rattle.promise_spec.specs.Lines.{ReadsLineAs}
 use Rattle.promise_spec.specs.Windows.{window_lines}
 use Rattle.promise_spec.specs.TurnRule.{at_seam, picks_used}
-use Rattle.turn_rules.proofs.LegalRuns.{legal-run}
 use Rattle.run_lines.specs.LineReadings.{line_from_text, lines_from_texts}
-use Rattle.run_books.specs.Beginnings.{Outset, GoUpFrom, basis_of, with_more}
+use Rattle.run_books.specs.Beginnings.{Outset, GoUpFrom, with_more}
 use Rattle.run_books.specs.Books.{Books}
 use Rattle.run_books.specs.Records.{HasCarriedAll}
 use Rattle.run_books.specs.Stages.{Stage}
@@ -84,7 +82,7 @@ module _ (tells : Bool) (o : Outset) (b : Books) (s : Stage) (kept : KeepsTurns 
       no-less : (n : ℕ) → n ≤ length o.asked → n ≤ (ends s.run).units.lines
       no-less zero le = omega arith
       no-less (suc n) le =
-          let once : EntriesAreOnce (ends s.run) = once-ends (λ (e : Effect). true) s.run (legal-run (basis_of o) s.run kept.above kept.units) in
+          let once : EntriesAreOnce (ends s.run) = once-ends s.run kept.above in
           let a = all.run.answered (suc n) (omega arith) le in
           let e = once.entry a.0 a.1 in
           let line = a.2 in
