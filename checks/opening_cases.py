@@ -82,7 +82,7 @@ def changed(content, at, byte):
 
 
 def openings():
-    title("The first deposit is opened, by one sync.")
+    title("The first deposit is opened, by one sync of its manager file.")
     lay_deposit()
     case("open", OPENED)
     case("syncs", "1")
@@ -119,6 +119,27 @@ def openings():
             case("open", OPENED)
     title("An opening that stops after each of its calls leaves the folder.")
     case("stopped-open 1", "so after each")
+    other_slot()
+
+
+def other_slot():
+    title("The other slot's manager file is looked at, synced where it has 16 bytes or more, and never live.")
+    lay_deposit()
+    for content, syncs in [(HEADER, 1), (bytes(16), 3), (MANAGER, 5)]:
+        put("manager-1", content)
+        case("open", OPENED)
+        case("syncs", str(syncs))
+    for call in ("length", "sync"):
+        case(f"fail {call} manager-1 1")
+        case("open", "fault of manager-1")
+        case("open", OPENED)
+    case("stopped-open 1", "so after each")
+    title("With no silo in slot 0 there is none, whatever stands there.")
+    put("manager", b"")
+    case("open", "no silo")
+    case("fail length manager-1 1")
+    case("open", "fault of manager-1")
+    case("open", "no silo")
 
 
 def transfer():

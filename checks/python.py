@@ -170,7 +170,7 @@ with tempfile.TemporaryDirectory() as room:
         found = it.batch([("account/1.deposit", [1])] * 3)
         rows.row("behind an ended run", ([shown(result)[0] if isinstance(result, silo.SiloError) else result for result in found], [result.sent for result in found[1:]]), ([1, "Unanswered", "Unanswered"], [False, False]))
     try:
-        silo.line_of("a/1.m", ["x" * silo.INPUT_LIMIT])
+        silo.line_of("a/1.m", ["x" * silo.LINE_LIMIT])
         found = None
     except ValueError as fault:
         found = "bytes" in str(fault)

@@ -4,7 +4,7 @@ import tempfile
 
 from harness import BANK, Ended, Rows, ask, deposit, reply, run
 
-INPUT_LIMIT = 16_777_216
+LINE_LIMIT = 65_536
 PROGRAM_LIMIT = 262_144
 
 rows = Rows("statuses")
@@ -45,11 +45,11 @@ with tempfile.TemporaryDirectory() as room:
         rows.row(f"words {words[1:]}", run(*words, given=deposit(5)), says(2, b"bad use"))
     rows.row("an unused folder", os.listdir(unused), [])
 
-    # 3: no memory. Nothing was carried, since the input has more bytes than the program may have at all, though it starts.
+    # 3: no memory. Nothing was carried, since the first 4,096 lines have more bytes than the program may have at all, though it starts.
     tight = folder("tight", BANK)
     starts = [megabytes << 20 for megabytes in range(5, 15) if run(tight, "run", memory=megabytes << 20).number == 0]
     if starts:
-        rows.row("an input that memory doesn't suffice for", run(tight, "run", given=b" " * INPUT_LIMIT, memory=starts[0]), says(3, b"no memory"))
+        rows.row("an input that memory doesn't suffice for", run(tight, "run", given=(b" " * LINE_LIMIT + b"\n") * 4096, memory=starts[0]), says(3, b"no memory"))
     else:
         print("statuses: the program doesn't start in little memory, so 3 isn't shown")
     rows.row("no memory: afterwards", after(tight), silent(0, reply(1, 0, 1)))
@@ -104,12 +104,15 @@ with tempfile.TemporaryDirectory() as room:
         rows.row("bad program: afterwards", os.listdir(bad), [])
         os.rmdir(bad)
 
-    # 11: too long an input. Nothing was answered.
+    # 11: too long a line, of which and of the others of its 4,096 nothing was answered; or too long a program.
     long = folder("long", BANK)
-    rows.row("an input above the limit", run(long, "run", given=b"\n" * (INPUT_LIMIT + 1)), says(11, b"input too long"))
+    rows.row("a line above the limit", run(long, "run", given=ask() + b" " * (LINE_LIMIT + 1)), says(11, b"input too long"))
+    rows.row("a line at the limit", run(long, "run", given=b" " * LINE_LIMIT), silent(0, b'{"bad":"json","n":1}\n'))
+    empty = b"".join(b'{"bad":"json","n":%d}\n' % n for n in range(1, 4097))
+    rows.row("a line above the limit behind 4,096", run(long, "run", given=b"\n" * 4096 + b" " * (LINE_LIMIT + 1)), says(11, b"input too long", empty))
     wide = folder("wide")
     rows.row("a program above the limit", run(wide, "init", given=b" " * (PROGRAM_LIMIT + 1)), says(11, b"input too long"))
     rows.row("program too long: afterwards", os.listdir(wide), [])
-    rows.row("input too long: afterwards", after(long), silent(0, reply(1, 0, 1)))
+    rows.row("line too long: afterwards", after(long), silent(0, reply(1, 0, 1)))
 
 rows.end()

@@ -27,10 +27,11 @@ import shutil
 import struct
 import subprocess
 
-__all__ = "Silo Sent SiloError Fault Bad Aborted InDoubt Unanswered Ended records batches find_program INPUT_LIMIT".split()
+__all__ = "Silo Sent SiloError Fault Bad Aborted InDoubt Unanswered Ended records batches find_program LINE_LIMIT INPUT_LIMIT".split()
 
 # The most bytes that the input of a run has.
-INPUT_LIMIT = 16_777_216
+LINE_LIMIT = 65_536  # the most bytes of a request line
+INPUT_LIMIT = 16_777_216  # the most bytes that one run is given here: what a run takes of memory grows with its lines
 
 DISK = 6
 # With these numbers nothing was carried.
@@ -155,13 +156,13 @@ def records(folder):
 def line_of(call, args):
     """The request line of a call, in bytes."""
     line = json.dumps({"args": list(args), "call": call}, ensure_ascii=False, separators=(",", ":")).encode() + b"\n"
-    if len(line) > INPUT_LIMIT:
-        raise ValueError(f"a request line has {len(line)} bytes, and an input at most {INPUT_LIMIT}")
+    if len(line) - 1 > LINE_LIMIT:
+        raise ValueError(f"a request line has {len(line) - 1} bytes, and may have {LINE_LIMIT}")
     return line
 
 
 def parts(lines, limit=INPUT_LIMIT):
-    """The places of these lines, in parts that one input holds each."""
+    """The places of these lines, in parts that one run is given each."""
     part, size = [], 0
     for place, line in enumerate(lines):
         if part and size + len(line) > limit:
@@ -191,7 +192,7 @@ class Silo:
     """A silo's folder, over which requests are run and reports are made.
 
     Clients of one folder take turns by a lock on FOLDER.lock, which a Silo has while its `with` block goes, or else for each call. `limit`
-    is the most bytes that one input has: longer ones are split.
+    is the most bytes that one run is given: longer inputs are split, since a run keeps a little of each line.
 
     Once a batch is in doubt, a Silo asks its folder nothing more, and raises `Ended` with 6: what has to be done first is told in
     docs/OPERATIONS.md, and then another Silo goes on."""

@@ -10,7 +10,7 @@ ghost use Rattle.access_tests.specs.Lines.{line_run, is_carried, applies_to, cou
 
 use core_access::Access;
 use core_model::{AskAnswer, CoreAnswer, CoreEvent, CoreQuestion, CoreReply, KnownOutcome};
-use event_history::History;
+use core_parts::History;
 use std::alloc::AllocError;
 
 /// A core that takes bad lines, written entries and a stop, and never finds memory for another event.

@@ -1,5 +1,4 @@
-ghost use Rattle.std.specs.Prelude.{◌≡◌, [], true, IfOk};
-ghost use Rattle.core_model.specs.LegalRuns.{IsLegal};
+ghost use Rattle.std.specs.Prelude.{◌≡◌, [], IfOk, ◌<◌};
 ghost use Rattle.history_core.specs.Cores.{run_of};
 ghost use Rattle.turn_cell.specs.Passes.{IsPassOf, pass_view};
 
@@ -80,7 +79,7 @@ fn add_times(out: &mut String, line: &str, times: u32) -> Result<(), AllocError>
 
 // A core without units, whose grains all have the fields of their types.
 fn new_core(alloc: Global, checked: &Checked) -> Result<Core, AllocError>
-    ensures { IfOk result (λ core. IsLegal (λ e. true) (run_of core)) }
+    ensures { IfOk result (λ core. 0 < (run_of core).base) }
 {
     let opened = Opening {
         shape: checked.shape()?,
@@ -101,7 +100,7 @@ fn carry<R: Wait>(
     other: Pass<Core>,
 ) -> Result<String, AllocError>
     requires own { IsPassOf cell.now pass × IsPassOf cell.now other }
-    requires legal { IsLegal (λ e. true) (run_of (pass_view pass).first) }
+    requires above { 0 < (run_of (pass_view pass).first).base }
     requires fresh { (pass_view pass).hand.mine ≡ [] }
 {
     let _named: PhantomData<(CoreQuestion, CoreAnswer)> = PhantomData;

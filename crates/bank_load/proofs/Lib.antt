@@ -4,3 +4,4 @@ pub mod LoadTexts
 pub mod Numbering
 pub mod SummaryText
 pub mod Bounds
+mod CountedEnds

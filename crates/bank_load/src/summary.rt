@@ -2,99 +2,12 @@ ghost use Rattle.std.specs.Prelude.{◌≡◌, ◌^◌, ◌≤ℤ◌, pos, neg_�
 ghost use Rattle.core_model.specs.LegalRuns.{ends};
 ghost use Rattle.history_core.specs.ClosedUnits.{last_state};
 ghost use Rattle.history_core.specs.Cores.{run_of};
-ghost use Rattle.promise_spec.specs.Loads.{account, balance_in, line_valued, is_faulted, line_aborted, how_many_lines};
+ghost use Rattle.promise_spec.specs.Loads.{account, balance_in};
 ghost use Rattle.bank_load.specs.Summaries.{said_line, summary_line, kept_balance, total_kept};
 
-use base_types::{Entry, GrainId, List, Outcome, Settled, State, Value};
+use base_types::{GrainId, List, State, Value};
 use history_core::Core;
 use std::alloc::{AllocError, Global};
-
-fn is_valued(what: &Settled) -> bool
-    ensures { result ≡ line_valued what.now }
-{
-    match what {
-        Settled::Done(Outcome::Value(_)) => true,
-        Settled::Done(Outcome::Fault(_)) => false,
-        Settled::Done(Outcome::Aborted) => false,
-        Settled::Lock { .. } => false,
-        Settled::Vote { .. } => false,
-        Settled::Dependency { .. } => false,
-        Settled::Disk => false,
-        Settled::InDoubt => false,
-        Settled::Bad(_) => false,
-    }
-}
-
-fn is_faulted(what: &Settled) -> bool
-    ensures { result ≡ is_faulted what.now }
-{
-    match what {
-        Settled::Done(Outcome::Value(_)) => false,
-        Settled::Done(Outcome::Fault(_)) => true,
-        Settled::Done(Outcome::Aborted) => false,
-        Settled::Lock { .. } => false,
-        Settled::Vote { .. } => false,
-        Settled::Dependency { .. } => false,
-        Settled::Disk => false,
-        Settled::InDoubt => false,
-        Settled::Bad(_) => false,
-    }
-}
-
-fn is_aborted(what: &Settled) -> bool
-    ensures { result ≡ line_aborted what.now }
-{
-    match what {
-        Settled::Done(Outcome::Value(_)) => false,
-        Settled::Done(Outcome::Fault(_)) => false,
-        Settled::Done(Outcome::Aborted) => false,
-        Settled::Lock { .. } => true,
-        Settled::Vote { .. } => true,
-        Settled::Dependency { .. } => true,
-        Settled::Disk => true,
-        Settled::InDoubt => false,
-        Settled::Bad(_) => false,
-    }
-}
-
-#[tactic(auto, using(std::proofs::lemmas::List::Sums::count_by_more_yes, std::proofs::lemmas::List::Sums::count_by_more_no))]
-fn valued_in(entries: &[Entry]) -> usize
-    ensures { result ≡ how_many_lines line_valued entries.now }
-{
-    let mut found = 0usize;
-    for entry in entries {
-        if is_valued(&entry.what) {
-            found += 1;
-        }
-    }
-    found
-}
-
-#[tactic(auto, using(std::proofs::lemmas::List::Sums::count_by_more_yes, std::proofs::lemmas::List::Sums::count_by_more_no))]
-fn faulted_in(entries: &[Entry]) -> usize
-    ensures { result ≡ how_many_lines is_faulted entries.now }
-{
-    let mut found = 0usize;
-    for entry in entries {
-        if is_faulted(&entry.what) {
-            found += 1;
-        }
-    }
-    found
-}
-
-#[tactic(auto, using(std::proofs::lemmas::List::Sums::count_by_more_yes, std::proofs::lemmas::List::Sums::count_by_more_no))]
-fn aborted_in(entries: &[Entry]) -> usize
-    ensures { result ≡ how_many_lines line_aborted entries.now }
-{
-    let mut found = 0usize;
-    for entry in entries {
-        if is_aborted(&entry.what) {
-            found += 1;
-        }
-    }
-    found
-}
 
 /// The balance of an account, 0 where no committed unit wrote one.
 fn balance(core: &Core, key: u32) -> i128
@@ -151,15 +64,20 @@ fn summary_text(
 /// The one line that a load prints, with its line feed: how its lines ended, how many there are, and the sum of the balances.
 pub fn load_summary(
     alloc: Global,
-    entries: &[Entry],
+    core: &Core,
     requests: usize,
     total: i128,
 ) -> Result<List<u8>, AllocError>
-    ensures { IfOk result (λ text. text ≡ summary_line entries.now requests total) }
+    ensures { IfOk result (λ text. text ≡ summary_line (ends (run_of core.now)).manager.settled requests total) }
 {
-    let aborted = aborted_in(entries);
-    let committed = valued_in(entries);
-    let faulted = faulted_in(entries);
-    let text = summary_text(alloc, aborted, committed, faulted, requests, total)?;
+    let ended = core.line_ends();
+    let text = summary_text(
+        alloc,
+        ended.aborts,
+        ended.values,
+        ended.faults,
+        requests,
+        total,
+    )?;
     Ok(List::from_vec(text.into_bytes()))
 }

@@ -1,3 +1,5 @@
 pub mod Texts
 pub mod Stores
 pub mod Grains
+pub mod Lists
+pub mod Origins

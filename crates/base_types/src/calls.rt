@@ -1,4 +1,5 @@
 ghost use Rattle.std.specs.Prelude.{◌≡◌, IfOk};
+ghost use Rattle.base_types.specs.Origins.{depth_of};
 
 use crate::list::{List, TryCopy};
 use crate::text::Text;
@@ -120,4 +121,20 @@ pub enum Origin {
         index: u32,
         depth: u16,
     },
+}
+
+impl Origin {
+    /// The depth of the unit's first frame: 1 of a line's.
+    pub fn depth(&self) -> u16
+        ensures { result ≡ depth_of self.now }
+    {
+        match self {
+            Origin::Line(_line) => 1,
+            Origin::Child {
+                parent: _parent,
+                index: _index,
+                depth,
+            } => *depth,
+        }
+    }
 }

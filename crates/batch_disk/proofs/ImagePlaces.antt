@@ -8,7 +8,8 @@ use Rattle.base_types.specs.declared.calls.Value.{Value}
 use Rattle.base_types.specs.declared.calls.GrainId.{GrainId}
 use Rattle.base_types.specs.declared.shapes.Shape.{Shape}
 use Rattle.host_trait.specs.World.{Image}
-use Rattle.gate_block.specs.Log.{HasBlocks, LogsUpTo}
+use Rattle.field_codec.specs.declared.formats.Format.TheVariants.{One}
+use Rattle.gate_block.specs.Log.{HasBlocks}
 use Rattle.cell_model.specs.Units.{Member}
 use Rattle.field_codec.specs.declared.units.Numbers.TheVariants.{Logged}
 use Rattle.commit_log.specs.Bodies.{IsRecordIn}
@@ -69,7 +70,7 @@ AreVoted voted unit (w ∷ ws) (s ∷ ss) = Member (record { unit = unit; write 
 
 -- a record within the limits, all of whose versions the votes wrote
 pub record IsVoted (shape : Shape) (voted : List Voted) (c : Commit) : Type 0 where
-  pub fits : IsRecordIn Logged shape c.logged
+  pub fits : IsRecordIn One Logged shape c.logged
   pub whole : AreVoted voted c.logged.unit c.logged.writes c.states
 
 -- the records of the open batch's units to commit
@@ -88,11 +89,11 @@ pub batch_stands : (live : ℕ) (shape : Shape) (image : Image) (voted : List Vo
 batch_stands live shape image voted [] are each = tt
 batch_stands live shape image voted (c ∷ batch) are each = (record { fits = are.0.fits; whole = voted_stand live shape image voted c.logged.unit c.logged.writes c.states are.0.whole each }, batch_stands live shape image voted batch are.1 each)
 
--- a file with a log and a silo's header is a silo's
-pub silo_of : (head : List ℕ) (bodies : List (List ℕ)) (gate : ℕ) (file : List ℕ) → BeginsSilo head → take 15 file ≡ head → LogsUpTo bodies gate file → IsSilo magic file
-silo_of head bodies gate file is header logs =
+-- a file with blocks and a silo's header is a silo's
+pub silo_of : (head : List ℕ) (bodies : List (List ℕ)) (gate : ℕ) (file : List ℕ) → BeginsSilo head → take 15 file ≡ head → HasBlocks bodies gate file → IsSilo magic file
+silo_of head bodies gate file is header blocks =
     record {
-      long = omega (arith, logs.blocks.at, logs.blocks.within);
+      long = omega (arith, blocks.at, blocks.within);
       gate = sym (get_or-take 15 file 0 0 (omega arith)) ∙ ap (λ (l : List ℕ). slice_index l 0) header ∙ is.gate;
       named = below_same (take 15 file) file 1 8 15 (sym (take-take 15 15 file (omega arith))) (omega arith) ∙ ap (λ (l : List ℕ). take 8 (drop 1 l)) header ∙ is.named;
     }
@@ -115,12 +116,13 @@ silo_begins file silo whole = record {
   whole = header_front file ∙ whole;
 }
 
--- A log stands in an image as in another, where the blocks stand there, the header isn't damaged, the program's file is the same,
--- and so are the bytes at its places.
+-- A log stands in an image as in another, where the blocks stand there, the manager file is a silo's, its header isn't damaged, the
+-- program's file is the same, and so are the bytes at its places.
 pub stands_up_same : (live : ℕ) (shape : Shape) (was image : Image) (log : Log) (bodies : List (List ℕ)) (gate : ℕ) → StandsUpTo live was log bodies gate
-    → header_damage (image (Manager live)) ≡ None → image (ProgramFile live) ≡ was (ProgramFile live) → HasBlocks bodies gate (image (Manager live))
+    → IsSilo magic (image (Manager live)) → header_damage (image (Manager live)) ≡ None → image (ProgramFile live) ≡ was (ProgramFile live) → HasBlocks bodies gate (image (Manager live))
     → AllByRecursion (λ c. AllByRecursion (IsSameAt live shape was image) c.logged.writes) (records_of log) → StandsUpTo live image log bodies gate
-stands_up_same live shape was image log bodies gate is whole same blocks places = record {
+stands_up_same live shape was image log bodies gate is silo whole same blocks places = record {
+  silo = silo;
   header = whole;
   program = is.program;
   checked = is.checked;
@@ -138,6 +140,6 @@ stands_up_same live shape was image log bodies gate is whole same blocks places 
 pub rests_log : (live : ℕ) (shape : Shape) (head : List ℕ) (log : Log) (bodies : List (List ℕ)) (gate : ℕ) (ends : GrainId → ℕ) (voted : List Voted) (image : Image) → PlacesAreNamed live shape head log ends
     → IsAtRest live shape head log bodies gate ends voted image → IsLog live image log
 rests_log live shape head log bodies gate ends voted image named rests = record {
-  is_live = named.is_live image (silo_of head bodies gate (image (Manager live)) named.silo rests.header (record { blocks = rests.stands.stand; closed = rests.closed }));
+  is_live = named.is_live image rests.stands.silo;
   is = record { bodies = bodies; gate = gate; stands = rests.stands; closed = rests.closed };
 }

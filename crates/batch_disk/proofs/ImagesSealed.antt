@@ -75,7 +75,7 @@ module _ (live : ℕ) (shape : Shape) (head : List ℕ) (log : Log) (bodies : Li
 
     -- the log stands up to the gate
     pub still_stands : StandsUpTo live image log bodies gate
-    still_stands = stands_up_same live shape was image log bodies gate at.stands (whole_of head (image (Manager live)) named.silo still_head) (others (ProgramFile live) (λ e. absurd cc)) still_front
+    still_stands = stands_up_same live shape was image log bodies gate at.stands (silo_of head bodies gate (image (Manager live)) named.silo still_head still_front) (whole_of head (image (Manager live)) named.silo still_head) (others (ProgramFile live) (λ e. absurd cc)) still_front
         (each_any (λ (c : Commit). AllByRecursion (IsSameAt live shape was image) c.logged.writes) (λ c. each_any (IsSameAt live shape was image) any_same c.logged.writes) (records_of log))
 
     still_long : (g : GrainId) → ends g ≤ length (image (Grain live g))
@@ -92,7 +92,7 @@ module _ (live : ℕ) (shape : Shape) (head : List ℕ) (log : Log) (bodies : Li
 
     pub log_still : LogsUpTo bodies gate (image (Manager live)) → IsLog live image log
     log_still logs = record {
-      is_live = named.is_live image (silo_of head bodies gate (image (Manager live)) named.silo still_head logs);
+      is_live = named.is_live image still_stands.silo;
       is = record { bodies = bodies; gate = gate; stands = still_stands; closed = logs.closed };
     }
 
@@ -103,7 +103,7 @@ module _ (live : ℕ) (shape : Shape) (head : List ℕ) (log : Log) (bodies : Li
 
     pub log_more : (to : ℕ) → LogsUpTo (bodies ++ body_of (Records batch) ∷ []) to (image (Manager live)) → IsLog live image (grown log batch)
     log_more to logs = record {
-      is_live = named.is_live image (silo_of head (bodies ++ body_of (Records batch) ∷ []) to (image (Manager live)) named.silo still_head logs);
+      is_live = named.is_live image (more_stands to logs).silo;
       is = record { bodies = bodies ++ body_of (Records batch) ∷ []; gate = to; stands = more_stands to logs; closed = logs.closed };
     }
 

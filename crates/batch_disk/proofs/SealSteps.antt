@@ -12,6 +12,7 @@ use Rattle.host_trait.specs.World.{World, Image, Passes, with_bytes}
 use Rattle.host_trait.specs.Runs.{RunsOnFile}
 use Rattle.host_trait.proofs.Crashes.{Tears-overlaid}
 use Rattle.host_trait.proofs.Runs.{with_bytes-there}
+use Rattle.field_codec.specs.declared.formats.Format.TheVariants.{One}
 use Rattle.gate_block.specs.Blocks.{block_of}
 use Rattle.gate_block.specs.Gates.{IsClosedAt}
 use Rattle.gate_block.specs.Log.{LogsUpTo, EachLogs, EachLogsOrMore}
@@ -110,7 +111,7 @@ module _ (live : ℕ) (a b : BatchWriter) (n most : ℕ) (old new : World) (run 
 
 -- ---- in each image
 
-module _ (live : ℕ) (shape : Shape) (head : List ℕ) (log : Log) (bodies : List (List ℕ)) (batch : ℕ) (es : List Effect) (a : BatchWriter) (rs : List CommitRecord) (block : List ℕ) (fits : RecordsFit rs) (small : length (spelling_of_body rs) < 2 ^ 32) (is : block ≡ spelling_of_block rs)
+module _ (live : ℕ) (shape : Shape) (head : List ℕ) (log : Log) (bodies : List (List ℕ)) (batch : ℕ) (es : List Effect) (a : BatchWriter) (rs : List CommitRecord) (block : List ℕ) (fits : RecordsFit One rs) (small : length (spelling_of_body rs) < 2 ^ 32) (is : block ≡ spelling_of_block rs)
     (are : AreRecordsFor (voted_of batch a) es rs) (logged : AllByRecursion (MayBeLogged shape) es) (true_of : AllByRecursion (IsAsWritten (voted_of batch a)) es)
     (old new : World) (keeps : KeepsDisk live shape head log bodies a old.disk) (old_seen : (f : FileId) → MayLeave (old.disk f) (old.disk f).seen) where
   abbrev commits : List Commit

@@ -12,15 +12,18 @@ use Rattle.host_trait.specs.Runs.{ChangesFile}
 use Rattle.host_trait.proofs.Names.{cases_file}
 use Rattle.host_trait.proofs.Moments.{weaker}
 use Rattle.host_trait.proofs.Runs.{each_image}
+use Rattle.field_codec.specs.declared.formats.Format.TheVariants.{One}
 use Rattle.field_codec.specs.Spelling.{spelling_of_version, VersionFits}
 use Rattle.gate_block.specs.Log.{HasBlocks}
 use Rattle.log_reading.specs.Blocks.{header_damage}
+use Rattle.silo_spec.specs.Silos.{IsSilo}
 use Rattle.grain_log.specs.Places as places
 use Rattle.grain_log.specs.Places.{spelling_of_versions}
 use Rattle.commit_log.specs.declared.records.Written.{Written}
 use Rattle.promise_spec.specs.Records.{Commit}
 use Rattle.promise_spec.specs.Crashes.{IsAside}
 use Rattle.promise_spec.specs.Entries.{Log, records_of}
+use Rattle.promise_spec.specs.Logs.{magic}
 use Rattle.batch_disk.specs.ImagesAtRest.{EachImage, IsBelow, AreBelow, PlacesAreNamed, Voted, StandsIn, NotAmong, IsAtRest, voted_from, AreOfType}
 use Rattle.batch_disk.specs.Moments.{KeepsLog}
 use Rattle.batch_disk.proofs.Lists.{each_leads, each_both, both_parts}
@@ -67,7 +70,7 @@ module _ (live : ℕ) (shape : Shape) (ends : GrainId → ℕ) (grain : GrainId)
       let manager : image (Manager live) ≡ was (Manager live) = others (Manager live) (not_manager live grain) in
       record {
         header = ap (take 15) manager ∙ is.header;
-        stands = stands_up_same live shape was image log bodies gate is.stands (ap header_damage manager ∙ is.stands.header) (others (ProgramFile live) (λ e. absurd cc))
+        stands = stands_up_same live shape was image log bodies gate is.stands (subst (IsSilo magic) (sym manager) is.stands.silo) (ap header_damage manager ∙ is.stands.header) (others (ProgramFile live) (λ e. absurd cc))
             (subst (HasBlocks bodies gate) (sym manager) is.stands.stand)
             (each_leads (λ (c : Commit). AllByRecursion (IsBelow ends) c.logged.writes) (λ (c : Commit). AllByRecursion (IsSameAt live shape was image) c.logged.writes)
             (λ c each. each_leads (IsBelow ends) (IsSameAt live shape was image) same_below c.logged.writes each) (records_of log) below);
@@ -78,7 +81,7 @@ module _ (live : ℕ) (shape : Shape) (ends : GrainId → ℕ) (grain : GrainId)
 
 -- ---- the versions, once they were written
 
-stand_named : (live : ℕ) (shape : Shape) (image : Image) (grain : GrainId) (at : ℕ) (vs : List Version) → places.VersionsStand (image (Grain live grain)) at vs → AreOfType shape grain vs → AllByRecursion VersionFits vs
+stand_named : (live : ℕ) (shape : Shape) (image : Image) (grain : GrainId) (at : ℕ) (vs : List Version) → places.VersionsStand (image (Grain live grain)) at vs → AreOfType shape grain vs → AllByRecursion (VersionFits One) vs
     → at + length (spelling_of_versions vs) < 2 ^ 63 → AllByRecursion (StandsIn live shape image) (voted_from grain at vs)
 stand_named live shape image grain at [] stand typed fits low = tt
 stand_named live shape image grain at (v ∷ vs) stand typed fits low =
@@ -128,7 +131,7 @@ module _ (live : ℕ) (shape : Shape) (head : List ℕ) (log : Log) (bodies : Li
 
   -- and after Ok the versions stand too
   pub vote_yes : (new : World) (versions : List Version) → ChangesFile (Grain live grain) (Tears (ends grain) size) old (moment_of new)
-      → ((image : List ℕ) → MayLeave (new.disk (Grain live grain)) image → places.VersionsStand image (ends grain) versions) → AreOfType shape grain versions → AllByRecursion VersionFits versions
+      → ((image : List ℕ) → MayLeave (new.disk (Grain live grain)) image → places.VersionsStand image (ends grain) versions) → AreOfType shape grain versions → AllByRecursion (VersionFits One) versions
       → ends grain + length (spelling_of_versions versions) < 2 ^ 63 → EachImage (IsAtRest live shape head log bodies gate ends (voted ++ voted_from grain (ends grain) versions)) new.disk
   vote_yes new versions changes stand typed fits low image left =
       let rests = vote_rests (moment_of new) changes image left in

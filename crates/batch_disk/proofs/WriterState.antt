@@ -17,6 +17,7 @@ use Rattle.host_trait.specs.Runs.{RunsOnFile}
 use Rattle.host_trait.proofs.Crashes.{Tears-refl}
 use Rattle.host_trait.proofs.Names.{cases_file}
 use Rattle.host_trait.proofs.Runs.{run_started, run_more_syncs}
+use Rattle.field_codec.specs.declared.formats.Format.TheVariants.{One}
 use Rattle.field_codec.specs.Spelling.{VersionFits, spelling_of_version}
 use Rattle.gate_block.specs.Gates.{IsClosedAt}
 use Rattle.grain_log.specs.Places as places
@@ -184,7 +185,7 @@ module _ (live : ℕ) (shape : Shape) (head : List ℕ) (log : Log) (bodies : Li
   -- after a vote of yes
   pub keeps_yes : (a : BatchWriter) (batch : ℕ) (grain : GrainId) (vs : List Version) (old new : World) → NotAmong grain (voted_of batch a) → KeepsDisk live shape head log bodies a old.disk
       → RunsOnFile (Grain live grain) (Tears (file_end a grain) (length (spelling_of_versions vs))) 1 old new → (b : BatchWriter) → HasSameEnds a b → kept_of b ≡ voted_of batch a ++ voted_from grain (file_end a grain) vs
-      → ((image : List ℕ) → MayLeave (new.disk (Grain live grain)) image → places.VersionsStand image (file_end a grain) vs) → AreOfType shape grain vs → AllByRecursion VersionFits vs
+      → ((image : List ℕ) → MayLeave (new.disk (Grain live grain)) image → places.VersionsStand image (file_end a grain) vs) → AreOfType shape grain vs → AllByRecursion (VersionFits One) vs
       → file_end a grain + length (spelling_of_versions vs) < 2 ^ 63 → KeepsDisk live shape head log bodies b new.disk
   keeps_yes a batch grain vs old new fresh keeps run b same kept stand typed fits low =
       keeps_with a b (voted_of batch a ++ voted_from grain (file_end a grain) vs) new.disk same kept keeps.named

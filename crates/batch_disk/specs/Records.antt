@@ -9,6 +9,7 @@ use Rattle.base_types.specs.declared.stores.Place.{Place}
 use Rattle.host_trait.specs.Files.{same_grain}
 use Rattle.cell_model.specs.Units.{same_unit, Member}
 use Rattle.core_model.specs.declared.effects.Effect.{Effect}
+use Rattle.field_codec.specs.declared.formats.Format.TheVariants.{One}
 use Rattle.field_codec.specs.Units.{may_be_unit, HasParent}
 use Rattle.field_codec.specs.declared.units.Numbers.TheVariants.{Logged}
 use Rattle.commit_log.specs.declared.records.Written.{Written}
@@ -68,7 +69,7 @@ pub record IsPlaceOfOne (kept : List Voted) (w : Written) : Type 0 where
 -- The block is that of the records, within the format's limits, and all that they name is kept: it can be sealed, and count,
 -- without memory.
 pub record IsSealable (writer : BatchWriter) (work : SealWork) : Type 0 where
-  pub fits : RecordsFit work.records
+  pub fits : RecordsFit One work.records
   pub small : length (spelling_of_body work.records) < 2 ^ 32
   pub block : work.block ≡ spelling_of_block work.records
   pub kept : AllByRecursion (λ r. AllByRecursion (IsPlaceOfOne (kept_of writer)) r.writes) work.records

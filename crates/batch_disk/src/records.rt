@@ -1,17 +1,18 @@
 ghost use Rattle.std.specs.Prelude.{◌≡◌, ◌<◌, ◌≤◌, ◌^◌, List, true, false, IsTrue, length, map, None, IfOk, IfSome, IfNone, IsErrOf};
 ghost use Rattle.std.specs.List.{AllByRecursion};
+ghost use Rattle.field_codec.specs.declared.formats.Format.TheVariants.{One};
 ghost use Rattle.commit_log.specs.declared.records.CommitRecord.{CommitRecord as ARecord};
 ghost use Rattle.commit_log.specs.declared.records.Written.{Written as AWritten};
 ghost use Rattle.batch_disk.specs.declared.records.WorkFault.{WorkFault};
 ghost use Rattle.commit_log.specs.EncodableRecords.{MaySpell, IsNoAbort};
-ghost use Rattle.commit_log.specs.Orders.{is_above, IsAscending};
+ghost use Rattle.commit_log.specs.Orders.{IsAscending};
 ghost use Rattle.commit_log.specs.Spelling.{spelling_of_body, spelling_of_block, RecordsFit};
 ghost use Rattle.batch_disk.specs.Writers.{voted_by};
 ghost use Rattle.batch_disk.specs.Records.{is_version, place_among, HavePlaces, IsRecordFor, AreRecordsFor};
 
 use crate::writer::KeptVersion;
 use base_types::{GrainId, List, Outcome, Place, State, UnitNo};
-use commit_log::{CommitRecord, Written, encode_block};
+use commit_log::{CommitRecord, Written, encode_block, is_above};
 use core_model::Effect;
 use std::alloc::{AllocError, Global};
 
@@ -144,18 +145,6 @@ fn is_abort(outcome: &Outcome) -> bool
     }
 }
 
-// Whether the grain is above the one before it, where there is one.
-fn is_above(last: Option<GrainId>, grain: GrainId) -> bool
-    ensures { result ≡ is_above last grain }
-{
-    match last {
-        Some(last) => {
-            last.kind < grain.kind || (last.kind == grain.kind && last.key < grain.key)
-        }
-        None => true,
-    }
-}
-
 // Whether the grains of these writes ascend.
 fn are_ascending(writes: &[Written]) -> bool
     ensures yes { IsTrue result → IsAscending None writes.now }
@@ -206,7 +195,7 @@ pub(crate) fn work_of(
     effects: List<Effect>,
 ) -> Result<SealWork, WorkFault>
     ensures records { IfOk result (λ work. AreRecordsFor (map voted_by kept.now) effects work.records) }
-    ensures fits { IfOk result (λ work. RecordsFit work.records) }
+    ensures fits { IfOk result (λ work. RecordsFit One work.records) }
     ensures small { IfOk result (λ work. length (spelling_of_body work.records) < 2 ^ 32) }
     ensures block { IfOk result (λ work. work.block ≡ spelling_of_block work.records) }
     ensures unlawful { IsErrOf result WorkFault.Unlawful → (records : List ARecord) → AreRecordsFor (map voted_by kept.now) effects records

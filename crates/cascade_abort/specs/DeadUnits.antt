@@ -1,9 +1,9 @@
 -- Who is dead while a batch is decided.
-use Rattle.std.specs.Prelude.{List, Bool, ◌&&◌, ◌||◌, not, Option, Some, None, zip}
+use Rattle.std.specs.Prelude.{List, Bool, ◌&&◌, ◌||◌, not, zip}
 use Rattle.std.specs.List.{list_any as any}
 use Rattle.cell_model.specs.declared.outcomes.Prepared.{Prepared}
 use Rattle.cell_model.specs.declared.outcomes.Decision.{Decision}
-use Rattle.cell_model.specs.Units.{UnitNo, same_unit, older_first}
+use Rattle.cell_model.specs.Units.{UnitNo, same_unit}
 use Rattle.cell_model.specs.Decisions.{is_commit}
 
 -- the unit is this one, which can't commit
@@ -13,8 +13,3 @@ has_fallen unit decided = same_unit unit decided.0.unit && not (is_commit decide
 -- the dead, and those units of a batch that can't commit by these decisions
 abbrev pub dead_by : (UnitNo → Bool) → List Prepared → List Decision → UnitNo → Bool
 dead_by dead batch decisions unit = any (has_fallen unit) (zip batch decisions) || dead unit
-
--- the older of two units that may both be missing
-abbrev pub joined : Option UnitNo → Option UnitNo → Option UnitNo
-joined None other = other
-joined (Some unit) other = older_first unit other

@@ -3,7 +3,8 @@ ghost use Rattle.std.specs.List.{list_any};
 ghost use Rattle.cell_model.specs.Units.{oldest};
 ghost use Rattle.cell_model.specs.Sources.{is_among};
 ghost use Rattle.cell_model.specs.Decisions.{is_commit, decision, all_decided};
-ghost use Rattle.cascade_abort.specs.DeadUnits.{has_fallen, dead_by, joined};
+ghost use Rattle.cell_model.specs.Units.{joined};
+ghost use Rattle.cascade_abort.specs.DeadUnits.{has_fallen, dead_by};
 
 use base_types::{List, UnitNo};
 use cell_model::{Decision, Prepared};

@@ -1,8 +1,9 @@
--- Units and grains by their numbers, and members of lists.
-use Rattle.std.specs.Prelude.{List, [], ◌∷◌, Bool, Option, Some, None, ◌==◌, nat_lt, if◌then◌else◌, ◌≡◌, ◌⊎◌}
+-- Units and grains by their numbers.
+use Rattle.std.specs.Prelude.{List, [], ◌∷◌, Bool, Option, Some, None, ◌==◌, nat_lt, if◌then◌else◌}
 pub use Rattle.base_types.specs.declared.calls.UnitNo.{UnitNo}
 pub use Rattle.base_types.specs.declared.calls.GrainId.{GrainId}
 pub use Rattle.base_types.specs.Grains.{same_grain}
+pub use Rattle.base_types.specs.Lists.{Member}
 
 -- nobody, whose version is the opening state
 abbrev pub nobody : UnitNo
@@ -21,12 +22,12 @@ abbrev pub older_first : UnitNo → Option UnitNo → Option UnitNo
 older_first u None = Some u
 older_first u (Some v) = Some (older u v)
 
+-- the older of two units that may both be missing
+abbrev pub joined : Option UnitNo → Option UnitNo → Option UnitNo
+joined None other = other
+joined (Some unit) other = older_first unit other
+
 -- the oldest of these units, none where there is none
 abbrev pub oldest : List UnitNo → Option UnitNo
 oldest [] = None
 oldest (u ∷ us) = older_first u (oldest us)
-
--- x is in the list
-abbrev pub Member : {A : Type 0} → A → List A → Type 0
-Member x [] = ⊥
-Member x (y ∷ ys) = (x ≡ y) ⊎ Member x ys

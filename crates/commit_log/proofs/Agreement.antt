@@ -6,6 +6,7 @@ use Rattle.std.specs.List.{AllByRecursion}
 use Rattle.base_types.specs.declared.calls.Origin.{Origin}
 use Rattle.base_types.specs.declared.calls.Origin.TheVariants.{Line, Child}
 use Rattle.base_types.specs.declared.shapes.Shape.{Shape}
+use Rattle.field_codec.specs.declared.formats.Format.{Format}
 use Rattle.field_codec.specs.declared.faults.CodecFault.{CodecFault}
 use Rattle.field_codec.specs.declared.faults.CodecFault.TheVariants.{Short, BadTag, Unknown, Trailing}
 use Rattle.field_codec.specs.declared.units.Numbers.TheVariants.{Free, Logged}
@@ -175,32 +176,32 @@ module _ (bytes : List ℕ) where
       (λ parent here. same_alike (field (number_at w32) λ index there. field (number_at w16) λ depth end. whole (Child (record { 0 = parent }) index depth)))
       (λ parent here. field_onward (number_at w32) _ (onward (number_at w32) reads32) (λ index there. field_onward (number_at w16) _ (onward (number_at w16) reads16) (λ depth end. whole_onward (Child (record { 0 = parent }) index depth))))))) at
 
-  module _ (shape : Shape) where
+  module _ (format : Format) (shape : Shape) where
     -- a record behind its origin
     abbrev behind_origin : ℕ → Origin → Reader CommitRecord
-    behind_origin unit origin = field (call_in shape) λ call p2. field answers_at λ answers p3. field result_at λ result p4. field (writes_in shape) λ writes p5.
+    behind_origin unit origin = field (call_in format shape) λ call p2. field (answers_at format) λ answers p3. field (result_at format) λ result p4. field (writes_in shape) λ writes p5.
         whole (record { unit = record { 0 = unit }; origin = origin; call = call; answers = answers; result = result; writes = writes })
 
     behind_onward : (unit : ℕ) (origin : Origin) → Onward (behind_origin unit origin)
     behind_onward unit origin =
-        field_onward (call_in shape) _ (onward (call_in shape) (call_reads shape)) (λ call p2.
-        field_onward answers_at _ (onward answers_at answers_read) (λ answers p3.
-        field_onward result_at _ (onward result_at result_reads) (λ result p4.
+        field_onward (call_in format shape) _ (onward (call_in format shape) (call_reads format shape)) (λ call p2.
+        field_onward (answers_at format) _ (onward (answers_at format) (answers_read format)) (λ answers p3.
+        field_onward (result_at format) _ (onward (result_at format) (result_reads format)) (λ result p4.
         field_onward (writes_in shape) _ (onward (writes_in shape) (writes_reads shape)) (λ writes p5.
         whole_onward (record { unit = record { 0 = unit }; origin = origin; call = call; answers = answers; result = result; writes = writes })))))
 
-    record_alike : Alike (record_in Logged shape) (record_in Free shape)
+    record_alike : Alike (record_in format Logged shape) (record_in format Free shape)
     unfolding record_in
     record_alike at =
         field_alike (unit_at Logged) (unit_at Free) _ _ unit_alike
         (λ unit p0. field_alike (origin_at Logged) (origin_at Free) _ _ origin_alike (λ origin p1. same_alike (behind_origin unit origin)) (λ origin p1. behind_onward unit origin))
         (λ unit p0. field_onward (origin_at Free) _ (onward (origin_at Free) (origin_reads Free)) (λ origin p1. behind_onward unit origin)) at
 
-    records_alike : Alike (records_in Logged shape) (records_in Free shape)
+    records_alike : Alike (records_in format Logged shape) (records_in format Free shape)
     unfolding list_at
     records_alike at =
         field_same (count_at w32 64) _ _ (λ n place.
-        chain_alike {S = Unit {0}} (λ s. record_in Logged shape) (λ s. record_in Free shape) (λ s x. s) (λ s. record_alike) (λ s. onward (record_in Free shape) (record_reads Free shape)) n tt) at
+        chain_alike {S = Unit {0}} (λ s. record_in format Logged shape) (λ s. record_in format Free shape) (λ s x. s) (λ s. record_alike) (λ s. onward (record_in format Free shape) (record_reads format Free shape)) n tt) at
 
   -- two readings that agree, each of a whole text
   whole_agree : {A : Type 0} (r s : Result (A × ℕ) CodecFault) (end : ℕ) → AgreesOn r s
@@ -210,13 +211,13 @@ module _ (bytes : List ℕ) where
   whole_agree {A} r (Err d) end (inr bad) = inr (bad.0, ap (λ (t : Result (A × ℕ) CodecFault). and_then t (λ x. cond (eqb x.1 end) (Ok x.0) (Err (Trailing x.1)))) bad.1, bad.2, bad.3)
 
 -- the two readings of a body
-pub bodies_agree : (shape : Shape) (body : List ℕ) → Agrees body (body_in Logged shape body) (body_in Free shape body)
-bodies_agree shape body = whole_agree body (records_in Logged shape body 0) (records_in Free shape body 0) (length body) (records_alike body shape 0)
+pub bodies_agree : (format : Format) (shape : Shape) (body : List ℕ) → Agrees body (body_in format Logged shape body) (body_in format Free shape body)
+bodies_agree format shape body = whole_agree body (records_in format Logged shape body 0) (records_in format Free shape body 0) (length body) (records_alike body format shape 0)
 
 -- records that are a program's, with numbers that a log has
-numbered : (shape : Shape) (records : List CommitRecord) → AllByRecursion (IsRecordIn Free shape) records → AllByRecursion (HasNumbers Logged) records → AllByRecursion (IsRecordIn Logged shape) records
-numbered shape [] each all = tt
-numbered shape (r ∷ rs) each all = (record { fits = each.0.fits; units = all.0; call = each.0.call; writes = each.0.writes }, numbered shape rs each.1 all.1)
+numbered : (format : Format) (shape : Shape) (records : List CommitRecord) → AllByRecursion (IsRecordIn format Free shape) records → AllByRecursion (HasNumbers Logged) records → AllByRecursion (IsRecordIn format Logged shape) records
+numbered format shape [] each all = tt
+numbered format shape (r ∷ rs) each all = (record { fits = each.0.fits; units = all.0; call = each.0.call; writes = each.0.writes }, numbered format shape rs each.1 all.1)
 
-pub body_is_logged : (shape : Shape) (records : List CommitRecord) (body : List ℕ) → IsBlockBody Free shape records body → AllByRecursion (HasNumbers Logged) records → IsBlockBody Logged shape records body
-body_is_logged shape records body is all = record { count = is.count; each = numbered shape records is.each all; spelled = is.spelled }
+pub body_is_logged : (format : Format) (shape : Shape) (records : List CommitRecord) (body : List ℕ) → IsBlockBody format Free shape records body → AllByRecursion (HasNumbers Logged) records → IsBlockBody format Logged shape records body
+body_is_logged format shape records body is all = record { count = is.count; each = numbered format shape records is.each all; spelled = is.spelled }

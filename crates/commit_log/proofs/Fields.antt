@@ -6,6 +6,7 @@ use Rattle.std.proofs.lemmas.Bool.{ltb-true, ltb-false}
 use Rattle.base_types.specs.declared.calls.GrainId.{GrainId}
 use Rattle.base_types.specs.declared.calls.Call.{Call}
 use Rattle.base_types.specs.declared.shapes.Shape.{Shape}
+use Rattle.field_codec.specs.declared.formats.Format.{Format}
 use Rattle.field_codec.specs.declared.faults.CodecFault.TheVariants.{BadOrder, Unknown}
 use Rattle.field_codec.specs.Spelling.{spelling_of_values, spelling_of_origin, spelling_of_call, CallFits, spelling_of_outcome, AnswerFits, ResultFits}
 use Rattle.field_codec.specs.Chains.{Chained}
@@ -51,26 +52,26 @@ module _ (shape : Shape) where
 some_is : (a b : ℕ) → Some a ≡ Some b → a ≡ b
 some_is a b e = cc
 
-module _ (shape : Shape) where
+module _ (format : Format) (shape : Shape) where
   -- what is left of a call behind its grain and its method
   abbrev MethodFits : Call → Type 0
-  MethodFits call = (params : ℕ) × (params_in shape call.grain.kind call.method ≡ Some params) × ValuesFitExactly 8 params call.args
+  MethodFits call = (params : ℕ) × (params_in shape call.grain.kind call.method ≡ Some params) × ValuesFitExactly format 8 params call.args
 
   method_behind : (g : GrainId) (m from : ℕ) → Reads from (λ (c : Call). (Any c × (c.grain ≡ g)) × (c.method ≡ m)) (λ c. spelling_of_values c.args) MethodFits
-      (when_known (params_in shape g.kind m) (Unknown from) λ params. field (exactly_at 8 params) λ args there. whole (record { grain = g; method = m; args = args }))
+      (when_known (params_in shape g.kind m) (Unknown from) λ params. field (exactly_at format 8 params) λ args there. whole (record { grain = g; method = m; args = args }))
   method_behind g m from =
       let P : Call → Type 0 = λ c. (Any c × (c.grain ≡ g)) × (c.method ≡ m) in
       let here : (c : Call) → P c → params_in shape c.grain.kind c.method ≡ params_in shape g.kind m = λ c p i. params_in shape (p.0.1 i).kind (p.1 i) in
       where_known from P (λ c. spelling_of_values c.args) MethodFits (params_in shape g.kind m) (Unknown from) _ (omega arith)
-      (λ params is. said from P P (λ c. spelling_of_values c.args ++ []) (λ c. spelling_of_values c.args) (λ c. ValuesFitExactly 8 params c.args × Unit {0}) MethodFits _ (λ c p. p) (λ c p. p) (λ c p. simp append-nil)
+      (λ params is. said from P P (λ c. spelling_of_values c.args ++ []) (λ c. spelling_of_values c.args) (λ c. ValuesFitExactly format 8 params c.args × Unit {0}) MethodFits _ (λ c p. p) (λ c p. p) (λ c p. simp append-nil)
       (λ c p fits. (params, here c p ∙ is, fits.0))
-      (λ c p fits. (subst (λ (k : ℕ). ValuesFitExactly 8 k c.args) (some_is fits.0 params (sym fits.1 ∙ here c p ∙ is)) fits.2, tt))
-      (then (λ (c : Call). c.args) spelling_of_values (ValuesFitExactly 8 params) (exactly_at 8 params) from P _ _ _ (exactly_reads 8 params (omega arith) from) λ args from1.
+      (λ c p fits. (subst (λ (k : ℕ). ValuesFitExactly format 8 k c.args) (some_is fits.0 params (sym fits.1 ∙ here c p ∙ is)) fits.2, tt))
+      (then (λ (c : Call). c.args) spelling_of_values (ValuesFitExactly format 8 params) (exactly_at format 8 params) from P _ _ _ (exactly_reads format 8 params (omega arith) from) λ args from1.
       done from1 _ (record { grain = g; method = m; args = args }) (((tt, refl), refl), refl) (λ d p i. record { grain = p.0.0.1 i; method = p.0.1 i; args = p.1 i })))
       (λ none c p fits. let no : None ≡ Some fits.0 = sym none ∙ sym (here c p) ∙ fits.1 in cc)
 
   abbrev CallFitsIn : Call → Type 0
-  CallFitsIn call = CallFits call × IsCallIn shape call
+  CallFitsIn call = CallFits format call × IsCallIn shape call
 
   call_into : (c : Call) → GrainFitsIn shape c.grain × ((c.method < 2 ^ 16) × MethodFits c) → CallFitsIn c
   call_into c fits =
@@ -80,16 +81,17 @@ module _ (shape : Shape) where
   call_out : (c : Call) → CallFitsIn c → GrainFitsIn shape c.grain × ((c.method < 2 ^ 16) × MethodFits c)
   call_out c fits = ((fits.0.kind, (fits.0.key, fits.1.0)), (fits.0.method, (length c.args, fits.1.1, (fits.0.args.0, (fits.0.args.1, refl)))))
 
-  pub call_reads : (low : ℕ) → Reads low Any spelling_of_call CallFitsIn (call_in shape)
+  pub call_reads : (low : ℕ) → Reads low Any spelling_of_call CallFitsIn (call_in format shape)
   unfolding call_in
   call_reads low =
-      said low Any Any _ spelling_of_call (λ c. GrainFitsIn shape c.grain × ((c.method < 2 ^ 16) × MethodFits c)) CallFitsIn (call_in shape) (λ c p. tt) (λ c p. tt) (λ c p. simp append_assoc) (λ c p. call_into c) (λ c p. call_out c)
+      said low Any Any _ spelling_of_call (λ c. GrainFitsIn shape c.grain × ((c.method < 2 ^ 16) × MethodFits c)) CallFitsIn (call_in format shape) (λ c p. tt) (λ c p. tt) (λ c p. simp append_assoc) (λ c p. call_into c) (λ c p. call_out c)
       (then (λ (c : Call). c.grain) spelling_of_grain (GrainFitsIn shape) (grain_in shape) low Any (λ c. to_le_bytes w16 c.method ++ spelling_of_values c.args) _ _ (grain_reads shape low) λ g from1.
       then (λ (c : Call). c.method) (to_le_bytes w16) (λ n. n < 2 ^ 16) (number_at w16) from1 _ (λ c. spelling_of_values c.args) _ _ (reads16 from1) λ m from2.
       method_behind g m from2)
 
-  -- ---- writes
+-- ---- writes
 
+module _ (shape : Shape) where
   abbrev WriteFitsIn : Option GrainId → Written → Type 0
   WriteFitsIn last w = WriteFits w × (IsShapeType shape w.grain.kind × (is_above last w.grain ≡ true))
 
@@ -150,14 +152,14 @@ module _ (shape : Shape) where
 
 -- ---- records and bodies
 
-pub answers_read : (low : ℕ) → Reads low Any (λ xs. to_le_bytes w16 (length xs) ++ flat_map spelling_of_outcome xs) AnswersFit answers_at
-answers_read low = list_reads spelling_of_outcome AnswerFits answer_at answer_reads w16 (2 ^ 16) 64 wide16 (omega arith) low
+pub answers_read : (format : Format) (low : ℕ) → Reads low Any (λ xs. to_le_bytes w16 (length xs) ++ flat_map spelling_of_outcome xs) (AnswersFit format) (answers_at format)
+answers_read format low = list_reads spelling_of_outcome (AnswerFits format) (answer_at format) (answer_reads format) w16 (2 ^ 16) 64 wide16 (omega arith) low
 
-module _ (numbers : Numbers) (shape : Shape) where
+module _ (format : Format) (numbers : Numbers) (shape : Shape) where
   abbrev FieldsFit : CommitRecord → Type 0
-  FieldsFit r = ((r.unit.0 < 2 ^ 64) × (may_be_unit numbers r.unit.0 ≡ true)) × (OriginFitsIn numbers r.origin × (CallFitsIn shape r.call × (AnswersFit r.answers × (ResultFits r.result × (WritesFitIn shape r.writes × Unit {0})))))
+  FieldsFit r = ((r.unit.0 < 2 ^ 64) × (may_be_unit numbers r.unit.0 ≡ true)) × (OriginFitsIn numbers r.origin × (CallFitsIn format shape r.call × (AnswersFit format r.answers × (ResultFits format r.result × (WritesFitIn shape r.writes × Unit {0})))))
 
-  record_into : (r : CommitRecord) → FieldsFit r → IsRecordIn numbers shape r
+  record_into : (r : CommitRecord) → FieldsFit r → IsRecordIn format numbers shape r
   record_into r f = record {
     fits = record { unit = f.0.0; origin = f.1.0.0; call = f.1.1.0.0; answers = f.1.1.1.0; result = f.1.1.1.1.0; writes = f.1.1.1.1.1.0.0 };
     units = record { unit = f.0.1; parent = f.1.0.1 };
@@ -165,25 +167,25 @@ module _ (numbers : Numbers) (shape : Shape) where
     writes = f.1.1.1.1.1.0.1;
   }
 
-  record_out : (r : CommitRecord) → IsRecordIn numbers shape r → FieldsFit r
+  record_out : (r : CommitRecord) → IsRecordIn format numbers shape r → FieldsFit r
   record_out r is = ((is.fits.unit, is.units.unit), ((is.fits.origin, is.units.parent), ((is.fits.call, is.call), (is.fits.answers, (is.fits.result, ((is.fits.writes, is.writes), tt))))))
 
-  pub record_reads : (low : ℕ) → Reads low Any spelling_of_record (IsRecordIn numbers shape) (record_in numbers shape)
+  pub record_reads : (low : ℕ) → Reads low Any spelling_of_record (IsRecordIn format numbers shape) (record_in format numbers shape)
   unfolding record_in
   record_reads low =
-      said low Any Any _ spelling_of_record FieldsFit (IsRecordIn numbers shape) (record_in numbers shape) (λ r p. tt) (λ r p. tt) (λ r p. simp append-nil) (λ r p. record_into r) (λ r p. record_out r)
+      said low Any Any _ spelling_of_record FieldsFit (IsRecordIn format numbers shape) (record_in format numbers shape) (λ r p. tt) (λ r p. tt) (λ r p. simp append-nil) (λ r p. record_into r) (λ r p. record_out r)
       (then (λ (r : CommitRecord). r.unit.0) (to_le_bytes w64) (λ n. (n < 2 ^ 64) × (may_be_unit numbers n ≡ true)) (unit_at numbers) low Any _ _ _ (unit_reads numbers low) λ unit from1.
       then (λ (r : CommitRecord). r.origin) spelling_of_origin (OriginFitsIn numbers) (origin_at numbers) from1 _ _ _ _ (origin_reads numbers from1) λ origin from2.
-      then (λ (r : CommitRecord). r.call) spelling_of_call (CallFitsIn shape) (call_in shape) from2 _ _ _ _ (call_reads shape from2) λ call from3.
-      then (λ (r : CommitRecord). r.answers) (λ xs. to_le_bytes w16 (length xs) ++ flat_map spelling_of_outcome xs) AnswersFit answers_at from3 _ _ _ _ (answers_read from3) λ answers from4.
-      then (λ (r : CommitRecord). r.result) spelling_of_outcome ResultFits result_at from4 _ _ _ _ (result_reads from4) λ result from5.
+      then (λ (r : CommitRecord). r.call) spelling_of_call (CallFitsIn format shape) (call_in format shape) from2 _ _ _ _ (call_reads format shape from2) λ call from3.
+      then (λ (r : CommitRecord). r.answers) (λ xs. to_le_bytes w16 (length xs) ++ flat_map spelling_of_outcome xs) (AnswersFit format) (answers_at format) from3 _ _ _ _ (answers_read format from3) λ answers from4.
+      then (λ (r : CommitRecord). r.result) spelling_of_outcome (ResultFits format) (result_at format) from4 _ _ _ _ (result_reads format from4) λ result from5.
       then (λ (r : CommitRecord). r.writes) (λ ws. to_le_bytes w16 (length ws) ++ flat_map spelling_of_write ws) (WritesFitIn shape) (writes_in shape) from5 _ _ _ _ (writes_reads shape from5) λ writes from6.
       done from6 _ (record { unit = record { 0 = unit }; origin = origin; call = call; answers = answers; result = result; writes = writes }) ((((((tt, refl), refl), refl), refl), refl), refl)
       (λ d p i. record { unit = record { 0 = p.0.0.0.0.0.1 i }; origin = p.0.0.0.0.1 i; call = p.0.0.0.1 i; answers = p.0.0.1 i; result = p.0.1 i; writes = p.1 i }))
 
   -- at most 64 records, each of which the reading takes
   abbrev pub AreRecords : List CommitRecord → Type 0
-  AreRecords rs = (length rs ≤ 64) × AllByRecursion (IsRecordIn numbers shape) rs
+  AreRecords rs = (length rs ≤ 64) × AllByRecursion (IsRecordIn format numbers shape) rs
 
-  pub records_reads : (low : ℕ) → Reads low Any spelling_of_body AreRecords (records_in numbers shape)
-  records_reads low = list_reads spelling_of_record (IsRecordIn numbers shape) (record_in numbers shape) record_reads w32 (2 ^ 32) 64 wide32 (omega arith) low
+  pub records_reads : (low : ℕ) → Reads low Any spelling_of_body AreRecords (records_in format numbers shape)
+  records_reads low = list_reads spelling_of_record (IsRecordIn format numbers shape) (record_in format numbers shape) record_reads w32 (2 ^ 32) 64 wide32 (omega arith) low

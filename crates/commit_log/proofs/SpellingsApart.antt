@@ -2,6 +2,7 @@
 use Rattle.std.proofs.Common.{◌≡◌, ℕ, ◌<◌, ◌≤◌, ◌^◌, List, [], ◌∷◌, ◌++◌, length, refl, sym, ap, ◌∙◌, append_assoc, append-nil, arith}
 use Rattle.std.specs.Int.{w16, w32, w64, to_le_bytes}
 use Rattle.std.specs.List.{flat_map, AllByRecursion}
+use Rattle.field_codec.specs.declared.formats.Format.{Format}
 use Rattle.field_codec.specs.declared.units.Numbers.TheVariants.{Free}
 use Rattle.field_codec.specs.SpellingsApart.{AreApart}
 use Rattle.field_codec.specs.Spelling.{spelling_of_origin, spelling_of_call, CallFits, spelling_of_outcome, AnswerFits, ResultFits}
@@ -35,55 +36,55 @@ write_reads low =
     (λ d known i. record { grain = record { kind = known.0.0.0.1 i; key = known.0.0.1 i }; place = record { offset = known.0.1 i; len = known.1 i } }))
 
 -- a record of any program, with its writes in any order
-abbrev record_at : Reader CommitRecord
-record_at = field (number_at w64) λ unit p0. field (origin_at Free) λ origin p1. field call_at λ call p2. field answers_at λ answers p3. field result_at λ result p4. field (list_at w16 64 write_at) λ writes p5.
+abbrev record_at : Format → Reader CommitRecord
+record_at format = field (number_at w64) λ unit p0. field (origin_at Free) λ origin p1. field (call_at format) λ call p2. field (answers_at format) λ answers p3. field (result_at format) λ result p4. field (list_at w16 64 write_at) λ writes p5.
     whole (record { unit = record { 0 = unit }; origin = origin; call = call; answers = answers; result = result; writes = writes })
 
 abbrev WritesFitAnywhere : List Written → Type 0
 WritesFitAnywhere ws = (length ws ≤ 64) × AllByRecursion WriteFits ws
 
-abbrev FieldsFit : CommitRecord → Type 0
-FieldsFit r = (r.unit.0 < 2 ^ 64) × (OriginFitsIn Free r.origin × (CallFits r.call × (AnswersFit r.answers × (ResultFits r.result × (WritesFitAnywhere r.writes × Unit {0})))))
+abbrev FieldsFit : Format → CommitRecord → Type 0
+FieldsFit format r = (r.unit.0 < 2 ^ 64) × (OriginFitsIn Free r.origin × (CallFits format r.call × (AnswersFit format r.answers × (ResultFits format r.result × (WritesFitAnywhere r.writes × Unit {0})))))
 
-record_reads : (low : ℕ) → Reads low Any spelling_of_record FieldsFit record_at
-record_reads low =
-    said low Any Any _ spelling_of_record FieldsFit FieldsFit record_at (λ r p. tt) (λ r p. tt) (λ r p. simp append-nil) (λ r p f. f) (λ r p f. f)
+record_reads : (format : Format) (low : ℕ) → Reads low Any spelling_of_record (FieldsFit format) (record_at format)
+record_reads format low =
+    said low Any Any _ spelling_of_record (FieldsFit format) (FieldsFit format) (record_at format) (λ r p. tt) (λ r p. tt) (λ r p. simp append-nil) (λ r p f. f) (λ r p f. f)
     (then (λ (r : CommitRecord). r.unit.0) (to_le_bytes w64) (λ n. n < 2 ^ 64) (number_at w64) low Any _ _ _ (reads64 low) λ unit from1.
     then (λ (r : CommitRecord). r.origin) spelling_of_origin (OriginFitsIn Free) (origin_at Free) from1 _ _ _ _ (origin_reads Free from1) λ origin from2.
-    then (λ (r : CommitRecord). r.call) spelling_of_call CallFits call_at from2 _ _ _ _ (call_reads from2) λ call from3.
-    then (λ (r : CommitRecord). r.answers) (λ xs. to_le_bytes w16 (length xs) ++ flat_map spelling_of_outcome xs) AnswersFit answers_at from3 _ _ _ _ (list_reads spelling_of_outcome AnswerFits answer_at answer_reads w16 (2 ^ 16) 64 wide16 (omega arith) from3) λ answers from4.
-    then (λ (r : CommitRecord). r.result) spelling_of_outcome ResultFits result_at from4 _ _ _ _ (result_reads from4) λ result from5.
+    then (λ (r : CommitRecord). r.call) spelling_of_call (CallFits format) (call_at format) from2 _ _ _ _ (call_reads format from2) λ call from3.
+    then (λ (r : CommitRecord). r.answers) (λ xs. to_le_bytes w16 (length xs) ++ flat_map spelling_of_outcome xs) (AnswersFit format) (answers_at format) from3 _ _ _ _ (list_reads spelling_of_outcome (AnswerFits format) (answer_at format) (answer_reads format) w16 (2 ^ 16) 64 wide16 (omega arith) from3) λ answers from4.
+    then (λ (r : CommitRecord). r.result) spelling_of_outcome (ResultFits format) (result_at format) from4 _ _ _ _ (result_reads format from4) λ result from5.
     then (λ (r : CommitRecord). r.writes) (λ ws. to_le_bytes w16 (length ws) ++ flat_map spelling_of_write ws) WritesFitAnywhere (list_at w16 64 write_at) from5 _ _ _ _ (list_reads spelling_of_write WriteFits write_at write_reads w16 (2 ^ 16) 64 wide16 (omega arith) from5) λ writes from6.
     done from6 _ (record { unit = record { 0 = unit }; origin = origin; call = call; answers = answers; result = result; writes = writes }) ((((((tt, refl), refl), refl), refl), refl), refl)
     (λ d p i. record { unit = record { 0 = p.0.0.0.0.0.1 i }; origin = p.0.0.0.0.1 i; call = p.0.0.0.1 i; answers = p.0.0.1 i; result = p.0.1 i; writes = p.1 i }))
 
-fields_fit : (r : CommitRecord) → RecordFits r → FieldsFit r
-fields_fit r is = (is.unit, ((is.origin, any_parent r.origin), (is.call, (is.answers, (is.result, ((is.writes.0, is.writes.1.0), tt))))))
+fields_fit : (format : Format) (r : CommitRecord) → RecordFits format r → FieldsFit format r
+fields_fit format r is = (is.unit, ((is.origin, any_parent r.origin), (is.call, (is.answers, (is.result, ((is.writes.0, is.writes.1.0), tt))))))
 
-all_fields_fit : (rs : List CommitRecord) → AllByRecursion RecordFits rs → AllByRecursion FieldsFit rs
-all_fields_fit [] fits = tt
-all_fields_fit (r ∷ rs) fits = (fields_fit r fits.0, all_fields_fit rs fits.1)
+all_fields_fit : (format : Format) (rs : List CommitRecord) → AllByRecursion (RecordFits format) rs → AllByRecursion (FieldsFit format) rs
+all_fields_fit format [] fits = tt
+all_fields_fit format (r ∷ rs) fits = (fields_fit format r fits.0, all_fields_fit format rs fits.1)
 
 pub writes_apart : AreApart spelling_of_write WriteFits
 writes_apart = apart spelling_of_write WriteFits write_at (write_reads 0)
 
-pub records_apart : AreApart spelling_of_record RecordFits
-records_apart a b x y fits also e = apart spelling_of_record FieldsFit record_at (record_reads 0) a b x y (fields_fit a fits) (fields_fit b also) e
+pub records_apart : (format : Format) → AreApart spelling_of_record (RecordFits format)
+records_apart format a b x y fits also e = apart spelling_of_record (FieldsFit format) (record_at format) (record_reads format 0) a b x y (fields_fit format a fits) (fields_fit format b also) e
 
-pub bodies_apart : AreApart spelling_of_body RecordsFit
-bodies_apart a b x y fits also e =
-    apart spelling_of_body (λ rs. (length rs ≤ 64) × AllByRecursion FieldsFit rs) (list_at w32 64 record_at) (list_reads spelling_of_record FieldsFit record_at record_reads w32 (2 ^ 32) 64 wide32 (omega arith) 0)
-    a b x y (fits.0, all_fields_fit a fits.1) (also.0, all_fields_fit b also.1) e
+pub bodies_apart : (format : Format) → AreApart spelling_of_body (RecordsFit format)
+bodies_apart format a b x y fits also e =
+    apart spelling_of_body (λ rs. (length rs ≤ 64) × AllByRecursion (FieldsFit format) rs) (list_at w32 64 (record_at format)) (list_reads spelling_of_record (FieldsFit format) (record_at format) (record_reads format) w32 (2 ^ 32) 64 wide32 (omega arith) 0)
+    a b x y (fits.0, all_fields_fit format a fits.1) (also.0, all_fields_fit format b also.1) e
 
 -- a block's length, and then its body
 block_split : (body x : List ℕ) → block_of body ++ x ≡ (to_le_bytes w32 (length body) ++ body) ++ (0 ∷ x)
 block_split body x = simp append_assoc refl
 
-pub blocks_apart : AreApart spelling_of_block RecordsFit
-blocks_apart a b x y fits also e =
+pub blocks_apart : (format : Format) → AreApart spelling_of_block (RecordsFit format)
+blocks_apart format a b x y fits also e =
     let one : List ℕ = spelling_of_body a in
     let other : List ℕ = spelling_of_body b in
-    let counted = counted_apart w32 (2 ^ 32) wide32 one other (0 ∷ x) (0 ∷ y) (body_short a fits) (body_short b also) (sym (block_split one x) ∙ e ∙ block_split other y) in
-    let same = bodies_apart a b [] [] fits also (ap (λ (l : List ℕ). l ++ []) counted.0) in
+    let counted = counted_apart w32 (2 ^ 32) wide32 one other (0 ∷ x) (0 ∷ y) (body_short format a fits) (body_short format b also) (sym (block_split one x) ∙ e ∙ block_split other y) in
+    let same = bodies_apart format a b [] [] fits also (ap (λ (l : List ℕ). l ++ []) counted.0) in
     let behind : 0 ∷ x ≡ 0 ∷ y = counted.1 in
     (same.0, cc)

@@ -4,6 +4,7 @@ use Rattle.std.specs.List.{AllByRecursion}
 use Rattle.base_types.specs.declared.calls.Call.{Call}
 use Rattle.base_types.specs.declared.shapes.Shape.{Shape}
 use Rattle.base_types.specs.declared.shapes.TypeShape.{TypeShape}
+use Rattle.field_codec.specs.declared.formats.Format.{Format}
 use Rattle.field_codec.specs.declared.units.Numbers.{Numbers}
 use Rattle.field_codec.specs.Units.{may_be_unit, HasParent}
 use Rattle.commit_log.specs.declared.records.CommitRecord.{CommitRecord}
@@ -31,15 +32,16 @@ pub record HasNumbers (numbers : Numbers) (r : CommitRecord) : Type 0 where
   pub unit : may_be_unit numbers r.unit.0 ≡ true
   pub parent : HasParent numbers r.origin
 
--- the types, the method and the number of arguments are the program's, and the units' numbers ones that are taken
-pub record IsRecordIn (numbers : Numbers) (shape : Shape) (r : CommitRecord) : Type 0 where
-  pub fits : RecordFits r
+-- the record is within the limits of the format, its types, its method and its number of arguments are the program's, and the units'
+-- numbers ones that are taken
+pub record IsRecordIn (format : Format) (numbers : Numbers) (shape : Shape) (r : CommitRecord) : Type 0 where
+  pub fits : RecordFits format r
   pub units : HasNumbers numbers r
   pub call : IsCallIn shape r.call
   pub writes : AllByRecursion (λ write. IsShapeType shape write.grain.kind) r.writes
 
 -- the bytes are the body of these records, and nothing follows them
-pub record IsBlockBody (numbers : Numbers) (shape : Shape) (records : List CommitRecord) (body : List ℕ) : Type 0 where
+pub record IsBlockBody (format : Format) (numbers : Numbers) (shape : Shape) (records : List CommitRecord) (body : List ℕ) : Type 0 where
   pub count : length records ≤ 64
-  pub each : AllByRecursion (IsRecordIn numbers shape) records
+  pub each : AllByRecursion (IsRecordIn format numbers shape) records
   pub spelled : body ≡ spelling_of_body records

@@ -5,6 +5,7 @@ use Rattle.base_types.specs.declared.calls.GrainId.{GrainId}
 use Rattle.base_types.specs.declared.calls.Call.{Call}
 use Rattle.base_types.specs.declared.calls.Outcome as outcome
 use Rattle.base_types.specs.declared.shapes.Shape.{Shape}
+use Rattle.field_codec.specs.declared.formats.Format.{Format}
 use Rattle.field_codec.specs.declared.faults.CodecFault.{CodecFault}
 use Rattle.field_codec.specs.declared.faults.CodecFault.TheVariants.{BadOrder, Unknown}
 use Rattle.field_codec.specs.declared.units.Numbers.{Numbers}
@@ -20,8 +21,8 @@ unfoldable pub grain_in : Shape → Reader GrainId
 grain_in shape = field (number_at w16) λ kind place. choice (nat_lt kind (length shape.types)) (field (number_at w32) λ key here. whole (record { kind = kind; key = key })) (refused (Unknown place))
 
 -- a call of one of the program's methods
-unfoldable pub call_in : Shape → Reader Call
-call_in shape = field (grain_in shape) λ grain place. field (number_at w16) λ method here. when_known (params_in shape grain.kind method) (Unknown here) λ params. field (exactly_at 8 params) λ args there.
+unfoldable pub call_in : Format → Shape → Reader Call
+call_in format shape = field (grain_in shape) λ grain place. field (number_at w16) λ method here. when_known (params_in shape grain.kind method) (Unknown here) λ params. field (exactly_at format 8 params) λ args there.
     whole (record { grain = grain; method = method; args = args })
 
 -- a write on a grain that is above the one before it; where it isn't, the fault names the write's first byte
@@ -39,18 +40,18 @@ unfoldable pub writes_in : Shape → Reader (List Written)
 writes_in shape = field (count_at w16 64) λ n place. writes_behind shape None n
 
 -- the answers of a record's children, at most 64
-abbrev pub answers_at : Reader (List outcome.Outcome)
-answers_at = list_at w16 64 answer_at
+abbrev pub answers_at : Format → Reader (List outcome.Outcome)
+answers_at format = list_at w16 64 (answer_at format)
 
--- a record; which numbers of units are taken is the first argument
-unfoldable pub record_in : Numbers → Shape → Reader CommitRecord
-record_in numbers shape = field (unit_at numbers) λ unit p0. field (origin_at numbers) λ origin p1. field (call_in shape) λ call p2. field answers_at λ answers p3. field result_at λ result p4. field (writes_in shape) λ writes p5.
+-- a record, within the limits of a format; which numbers of units are taken is the second argument
+unfoldable pub record_in : Format → Numbers → Shape → Reader CommitRecord
+record_in format numbers shape = field (unit_at numbers) λ unit p0. field (origin_at numbers) λ origin p1. field (call_in format shape) λ call p2. field (answers_at format) λ answers p3. field (result_at format) λ result p4. field (writes_in shape) λ writes p5.
     whole (record { unit = record { 0 = unit }; origin = origin; call = call; answers = answers; result = result; writes = writes })
 
 -- the records of a body, at most 64
-abbrev pub records_in : Numbers → Shape → Reader (List CommitRecord)
-records_in numbers shape = list_at w32 64 (record_in numbers shape)
+abbrev pub records_in : Format → Numbers → Shape → Reader (List CommitRecord)
+records_in format numbers shape = list_at w32 64 (record_in format numbers shape)
 
 -- the records of a whole body
-abbrev pub body_in : Numbers → Shape → List ℕ → Result (List CommitRecord) CodecFault
-body_in numbers shape body = whole_text (records_in numbers shape) body
+abbrev pub body_in : Format → Numbers → Shape → List ℕ → Result (List CommitRecord) CodecFault
+body_in format numbers shape body = whole_text (records_in format numbers shape) body

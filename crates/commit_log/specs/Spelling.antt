@@ -1,9 +1,10 @@
--- The one spelling of a commit record and of the bodies and blocks of a log, and the limits within which there is one.
+-- The one spelling of a commit record and of the bodies and blocks of a log, and the limits of a format within which there is one.
 use Rattle.std.specs.Prelude.{ℕ, ◌<◌, ◌≤◌, ◌^◌, List, ◌++◌, length, None}
 use Rattle.std.specs.Int.{w16, w32, w64, to_le_bytes}
 use Rattle.std.specs.List.{flat_map, AllByRecursion}
 use Rattle.base_types.specs.declared.calls.GrainId.{GrainId}
 use Rattle.base_types.specs.declared.calls.Outcome as outcome
+use Rattle.field_codec.specs.declared.formats.Format.{Format}
 use Rattle.field_codec.specs.Spelling.{spelling_of_origin, OriginFits, spelling_of_call, CallFits, spelling_of_outcome, AnswerFits, ResultFits}
 use Rattle.gate_block.specs.Blocks.{block_of}
 use Rattle.commit_log.specs.declared.records.Written.{Written}
@@ -30,8 +31,8 @@ abbrev pub WritesFit : List Written → Type 0
 WritesFit writes = (length writes ≤ 64) × (AllByRecursion WriteFits writes × IsAscending None writes)
 
 -- there are at most 64 answers, and each has a spelling
-abbrev pub AnswersFit : List outcome.Outcome → Type 0
-AnswersFit answers = (length answers ≤ 64) × AllByRecursion AnswerFits answers
+abbrev pub AnswersFit : Format → List outcome.Outcome → Type 0
+AnswersFit format answers = (length answers ≤ 64) × AllByRecursion (AnswerFits format) answers
 
 -- a record: the unit, its origin and call, the answers' count and each, the result, and the writes' count and each
 abbrev pub spelling_of_record : CommitRecord → List ℕ
@@ -39,13 +40,13 @@ spelling_of_record r = to_le_bytes w64 r.unit.0 ++ (spelling_of_origin r.origin 
     ++ ((to_le_bytes w16 (length r.answers) ++ flat_map spelling_of_outcome r.answers)
     ++ (spelling_of_outcome r.result ++ (to_le_bytes w16 (length r.writes) ++ flat_map spelling_of_write r.writes)))))
 
--- each part of a record has a spelling
-pub record RecordFits (r : CommitRecord) : Type 0 where
+-- each part of a record has a spelling within the limits of the format
+pub record RecordFits (format : Format) (r : CommitRecord) : Type 0 where
   pub unit : r.unit.0 < 2 ^ 64
   pub origin : OriginFits r.origin
-  pub call : CallFits r.call
-  pub answers : AnswersFit r.answers
-  pub result : ResultFits r.result
+  pub call : CallFits format r.call
+  pub answers : AnswersFit format r.answers
+  pub result : ResultFits format r.result
   pub writes : WritesFit r.writes
 
 -- a body: the records' count, and each
@@ -53,8 +54,8 @@ abbrev pub spelling_of_body : List CommitRecord → List ℕ
 spelling_of_body records = to_le_bytes w32 (length records) ++ flat_map spelling_of_record records
 
 -- there are at most 64 records, and each has a spelling
-abbrev pub RecordsFit : List CommitRecord → Type 0
-RecordsFit records = (length records ≤ 64) × AllByRecursion RecordFits records
+abbrev pub RecordsFit : Format → List CommitRecord → Type 0
+RecordsFit format records = (length records ≤ 64) × AllByRecursion (RecordFits format) records
 
 -- a block: the body's length, the body, and the closed gate of the next block
 abbrev pub spelling_of_block : List CommitRecord → List ℕ

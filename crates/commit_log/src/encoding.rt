@@ -1,6 +1,7 @@
 ghost use Rattle.std.specs.Prelude.{◌≡◌, ◌<◌, ◌≤◌, ◌^◌, ◌++◌, length, take, drop, OnOk, IfOk};
 ghost use Rattle.std.specs.Int.{w16, w32, to_le_bytes};
 ghost use Rattle.std.specs.List.{flat_map, AllByRecursion};
+ghost use Rattle.field_codec.specs.declared.formats.Format.TheVariants.{One};
 ghost use Rattle.field_codec.specs.Spelling.{spelling_of_outcome};
 ghost use Rattle.commit_log.specs.Spelling.{spelling_of_write, spelling_of_body, spelling_of_block, AnswersFit, WriteFits, RecordsFit};
 ghost use Rattle.commit_log.specs.EncodableRecords.{MaySpell};
@@ -32,7 +33,7 @@ impl Spelled for Written {
 fn append_answers(into: &mut Vec<u8>, answers: &[Outcome]) -> Result<(), AllocError>
     requires { length answers.now ≤ 64 }
     ensures ok { OnOk result (into.new.items ≡ into.old.items ++ (to_le_bytes w16 (length answers.now) ++ flat_map spelling_of_outcome answers.now)) }
-    ensures fits { OnOk result (AnswersFit answers.now) }
+    ensures fits { OnOk result (AnswersFit One answers.now) }
     ensures begins { take (length into.old.items) into.new.items ≡ into.old.items }
 {
     put_u16(into, answers.len() as u16)?;
@@ -53,6 +54,7 @@ fn append_writes(into: &mut Vec<u8>, writes: &[Written]) -> Result<(), AllocErro
 }
 
 impl Spelled for CommitRecord {
+    ghost use Rattle.field_codec.specs.declared.formats.Format.TheVariants.{One};
     ghost use Rattle.commit_log.specs.Spelling.{spelling_of_record, RecordFits};
     ghost use Rattle.commit_log.specs.EncodableRecords.{MaySpell};
 
@@ -60,7 +62,7 @@ impl Spelled for CommitRecord {
 
     ghost spelling = { spelling_of_record };
 
-    ghost fits = { RecordFits };
+    ghost fits = { RecordFits One };
 
     fn append(&self, into: &mut Vec<u8>) -> Result<(), AllocError> {
         put_u64(into, self.unit.0)?;
@@ -78,7 +80,7 @@ fn append_body(into: &mut Vec<u8>, records: &[CommitRecord]) -> Result<(), Alloc
     requires count { length records.now ≤ 64 }
     requires each { AllByRecursion MaySpell records.now }
     ensures ok { OnOk result (into.new.items ≡ into.old.items ++ spelling_of_body records.now) }
-    ensures fits { OnOk result (RecordsFit records.now) }
+    ensures fits { OnOk result (RecordsFit One records.now) }
 {
     put_u32(into, records.len() as u32)?;
     append_all(into, records)?;
@@ -101,7 +103,7 @@ pub fn encode_block(alloc: Global, records: &List<CommitRecord>) -> Result<List<
     requires count { length records.now ≤ 64 }
     requires each { AllByRecursion MaySpell records.now }
     ensures spelled { IfOk result (λ block. block ≡ spelling_of_block records.now) }
-    ensures fits { OnOk result (RecordsFit records.now) }
+    ensures fits { OnOk result (RecordsFit One records.now) }
     ensures small { OnOk result (length (spelling_of_body records.now) < 2 ^ 32) }
 {
     let mut block = Vec::new(alloc);

@@ -4,7 +4,7 @@ ghost use Rattle.commit_log.specs.Bodies.{params_in};
 ghost use Rattle.commit_log.specs.Fields.{grain_in, call_in};
 
 use base_types::{Call, GrainId, Shape};
-use field_codec::{CodecFault, get_exactly, get_u16, get_u32};
+use field_codec::{CodecFault, Format, get_exactly, get_u16, get_u32};
 use std::alloc::Global;
 
 /// The grain that stands at a place. `Unknown` names the type's place where the program has no such type.
@@ -37,15 +37,16 @@ pub fn get_call_in(
     bytes: &[u8],
     at: usize,
     shape: &Shape,
+    format: Format,
 ) -> Result<(Call, usize), CodecFault>
-    ensures { GivesRead result (call_in shape.now bytes.now at) }
+    ensures { GivesRead result (call_in format shape.now bytes.now at) }
 {
     let (grain, place) = get_grain(bytes, at, shape)?;
     let (method, after) = get_u16(bytes, place)?;
     let Some(params) = params_in(shape, grain, method) else {
         return Err(CodecFault::Unknown { place });
     };
-    let (args, after) = get_exactly(alloc, bytes, after, 8, params as usize)?;
+    let (args, after) = get_exactly(alloc, bytes, after, 8, params as usize, format)?;
     Ok((
         Call {
             grain,

@@ -18,3 +18,4 @@ pub use encoding::encode_block;
 pub use gate::{Sealing, seal};
 pub use laws::{first_deposit_is_spelled, readings_agree, spellings_are_apart};
 pub use records::{CommitRecord, Named, Written};
+pub use writes::is_above;

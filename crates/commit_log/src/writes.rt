@@ -9,8 +9,8 @@ use base_types::{GrainId, List, Place, Shape};
 use field_codec::{CodecFault, get_count, get_u32, get_u64};
 use std::alloc::Global;
 
-// Whether the grain is above the one before it, where there is one.
-fn is_above(last: Option<GrainId>, grain: GrainId) -> bool
+/// Whether the grain is above the one before it, where there is one: grains are ordered by type, then key.
+pub fn is_above(last: Option<GrainId>, grain: GrainId) -> bool
     ensures { result ≡ is_above last grain }
 {
     match last {

@@ -7,7 +7,7 @@ use Rattle.core_model.specs.declared.events.CoreEvent.TheVariants.{Take}
 use Rattle.core_model.specs.declared.phases.Phase.TheVariants.{Finished}
 use Rattle.core_model.specs.CoreState.{UnitNo, GrainId, nobody, Value, Batch, CoreState, Member}
 use Rattle.core_model.specs.Tests.{members, waiting}
-use Rattle.core_laws.proofs.Invariant.{Inv}
+use Rattle.core_laws.proofs.Invariant.{Inv, loadless-of}
 use Rattle.core_laws.proofs.Orders.{in_drop, take_length, at_part, Member-take, Member-get}
 use Rattle.core_laws.proofs.KeptInvariant.{Kept}
 use Rattle.core_history.specs.Histories.{Applied}
@@ -39,7 +39,7 @@ within bs i u m = elim (cases_lt i (length bs)) [
 pub batch-finished : (opening : GrainId → List Value) (h : List Applied) (w : CoreState) → Kept opening w → Tells h w → (n : ℕ) (u : UnitNo) → InBatch h n u → w.units.phase u ≡ Finished
 batch-finished opening h w k t n u b =
     let m : Member u w.manager.order = parts-member (sizes_of w.manager.past w.manager.batch) w.manager.order b.0 u (subst (λ (bs : List (List UnitNo)). Member u (get_or bs b.0 [])) (sym t.batches) b.2) in
-    (in_drop opening _ w k.0 0 u m).0
+    (in_drop _ w (loadless-of opening _ w k.0) 0 u m).0
 
 -- how many batches there are
 pub batch-count : (h : List Applied) (w : CoreState) → Tells h w → length (batches_in h) ≡ w.manager.batches

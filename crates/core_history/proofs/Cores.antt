@@ -22,9 +22,10 @@ use Rattle.core_laws.proofs.CommitOrder.{Split, split-step}
 use Rattle.core_laws.proofs.Verdicts.{Turned, turned-step}
 use Rattle.core_laws.proofs.BatchPrefix.{Unheld, unheld-step}
 use Rattle.core_laws.proofs.Ends.{kept-begins}
-use Rattle.core_laws.proofs.Orders.{in_part}
-use Rattle.core_laws.proofs.EntryCauses.{member-place}
+use Rattle.core_laws.proofs.Orders.{in_part, member-place}
 use Rattle.core_history.proofs.BatchPlaces.{placed-member}
+use Rattle.core_laws.proofs.LoadlessKept.{loadless-kept}
+use Rattle.core_laws.proofs.Invariant.{loadless-of}
 
 -- what the core model keeps along a legal run
 pub record Core (opening : GrainId → List Value) (w : CoreState) : Type 0 where
@@ -42,12 +43,12 @@ pub core-step : (opening : GrainId → List Value) (w : CoreState) (e : CoreEven
 core-step opening w e l c = record {
   kept = kept-step opening w e l c.kept;
   depends = depends-step opening w e l c.kept c.depends;
-  batched = batched-step opening w e l c.kept c.batched;
+  batched = batched-step w e (loadless-kept opening w c.kept) c.batched;
   argued = argued-step opening w e c.kept c.depends c.argued;
-  tidy = tidy-step opening w e l c.kept c.tidy;
-  split = split-step opening w e l c.kept c.split;
-  turned = turned-step opening w e l c.kept c.turned;
-  unheld = unheld-step opening w e l c.kept c.unheld;
+  tidy = tidy-step w e (loadless-kept opening w c.kept) c.tidy;
+  split = split-step w e (loadless-kept opening w c.kept) c.split;
+  turned = turned-step w e (loadless-kept opening w c.kept) c.turned;
+  unheld = unheld-step w e (loadless-kept opening w c.kept) c.unheld;
 }
 
 -- it holds where a run begins
@@ -100,8 +101,8 @@ pub member-judged : (opening : GrainId → List Value) (w : CoreState) (b : Batc
     (w.manager.verdict x ≡ Open → ⊥) × (is_final (w.manager.verdict x) ≡ false)
 member-judged opening w b ds c q d x m =
     let i = inv-judged opening w b ds c.kept q d in
-    let p = member-place opening (w.manager.closed + b.size) w b i x m in
-    let t = in_part opening (w.manager.closed + b.size) w i w.manager.closed b.size x m in
+    let p = member-place (w.manager.closed + b.size) w b (loadless-of opening _ w i) x m in
+    let t = in_part (w.manager.closed + b.size) w (loadless-of opening _ w i) w.manager.closed b.size x m in
     (i.early x p.0 p.1, c.batched.1 x p.0 t.1)
 
 pub spoil-aborted : (v : Verdict) → (v ≡ Open → ⊥) → is_final v ≡ false → spoil v ≡ Aborted

@@ -33,6 +33,7 @@ use Rattle.core_history.proofs.BatchPlaces.{batch-before, open-batch, open-membe
 use Rattle.core_history.proofs.Cores.{Core, chosen-undecided, member-judged}
 use Rattle.core_history.proofs.Fates.{Step, FatesOf, dead-more, dead-by, decided-dead, decided-reason, old-batch}
 use Rattle.core_laws.proofs.Verdicts.{member-or-not}
+use Rattle.core_laws.proofs.Invariant.{loadless-of}
 
 -- What the history tells of decided batches: who is aborted after its finish had a batch that has ended; in a batch in
 -- doubt nobody is to abort any more; and in a decided one somebody is to abort only where somebody is to commit.
@@ -259,7 +260,7 @@ condemned-old opening h w e w' (refuse u g mode why running q) s k n v i m =
     (t.0, batch-before h (answered w e) n t.0 t.1, put-other w.manager.verdict u Aborted t.0 (λ p. (let x : Open ≡ Chosen = sym (ap w.manager.verdict p ∙ s.core.kept.0.undecided u (inr running)) ∙ t.2 in cc)) ∙ t.2)))
 condemned-old opening h w e w' (decide_some j b q number d voted some) s k n v i m = λ z. elim (member-or-not v (members w b)) [
   | inl y ↦ (let p = inv-open opening w b s.core.kept q d in
-      let t = in_part opening w.manager.closed w p w.manager.closed b.size v y in
+      let t = in_part w.manager.closed w (loadless-of opening _ w p) w.manager.closed b.size v y in
       absurd (k.decided n v i m (p.late v t.0 t.1)))
   | inr y ↦ (let t = k.condemned n v i m (sym (judged-other (members w b) (decisions_of w b) w.manager.verdict v y) ∙ z) in
       absurd (chosen-undecided opening w b s.core (no_doubt w (Decide j) s.applied refl) q d t.0 t.2))

@@ -26,6 +26,7 @@ use Rattle.core_history.proofs.DeadUnits.{Endings, endings-after, decided-dead-i
 use Rattle.core_history.proofs.GoneVersions.{OffOf, GoneOf, SameGone, off-after, gone-after, same-gone}
 use Rattle.core_history.proofs.EntryCauses.{CausesOf, causes-after}
 use Rattle.core_history.proofs.AbortCauses.{AbortsOf, aborts-after}
+use Rattle.core_laws.proofs.LoadlessKept.{loadless-kept}
 
 -- the state is a core's, and the history tells it
 pub record Knows (opening : GrainId → List Value) (h : List Applied) (w : CoreState) : Type 0 where
@@ -41,7 +42,7 @@ pub record Knows (opening : GrainId → List Value) (h : List Applied) (w : Core
 
 -- what is known at an event
 pub at-event : (opening : GrainId → List Value) (h : List Applied) (w : CoreState) (e : CoreEvent) (w' : CoreState) → applies w e ≡ true → Knows opening h w → Change w e w' → Step opening h w e w'
-at-event opening h w e w' a k c = record { core = k.core; told = k.tells; next = tells-after h w e w' c k.tells; fates = k.fates; applied = a; grows = grows-change opening w e w' c a k.core.kept }
+at-event opening h w e w' a k c = record { core = k.core; told = k.tells; next = tells-after h w e w' c k.tells; fates = k.fates; applied = a; grows = grows-change w e w' c a (loadless-kept opening w k.core.kept) }
 
 -- which grains are in memory doesn't matter
 endings-here : (h : List Applied) (w : CoreState) (here : GrainId → Bool) → Endings h w → Endings h (with_here w here)

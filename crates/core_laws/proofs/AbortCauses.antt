@@ -28,6 +28,7 @@ use Rattle.core_laws.proofs.Reasons.{Reason, Reasons, Argued, argued-decided, ar
 use Rattle.core_laws.proofs.Verdicts.{Turned, turned-step, member-or-not}
 use Rattle.core_laws.proofs.EntryCauses.{voted-down, depends-on, can-commit, refused-cause}
 use Rattle.core_laws.proofs.Ends.{kept-begins}
+use Rattle.core_laws.proofs.LoadlessKept.{loadless-kept}
 
 -- the event aborts the unit, with a cause
 abbrev pub Stopped : CoreState → CoreEvent → CoreState → UnitNo → Type 0
@@ -238,7 +239,7 @@ stops-run : (opening : GrainId → List Value) (es : List CoreEvent) (w : CoreSt
     → (w.manager.verdict u ≡ Aborted) ⊎ StoppedFrom w es u
 stops-run opening [] w l k dep arg s t u h = inl h
 stops-run opening (e ∷ es) w l k dep arg s t u h =
-    elim (stops-run opening es (step w e) l.1 (kept-step opening w e l.0 k) (depends-step opening w e l.0 k dep) (argued-step opening w e k dep arg) (split-step opening w e l.0 k s) (turned-step opening w e l.0 k t) u h) [
+    elim (stops-run opening es (step w e) l.1 (kept-step opening w e l.0 k) (depends-step opening w e l.0 k dep) (argued-step opening w e k dep arg) (split-step w e (loadless-kept opening w k) s) (turned-step w e (loadless-kept opening w k) t) u h) [
       | inl y ↦ elim (stops-step opening w e k dep arg s t u y) [
         | inl z ↦ inl z
         | inr z ↦ inr ([], (e, (es, refl, z.0, z.1)))

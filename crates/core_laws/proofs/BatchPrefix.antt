@@ -3,14 +3,13 @@ use Rattle.std.proofs.Common.{◌≡◌, ℕ, zero, suc, ◌+◌, ◌<◌, ◌�
 use Rattle.std.proofs.lemmas.Bool.{and_parts, cases_lt, not-true, not-false, cond_both}
 use Rattle.cell_model.specs.Locks.{is_hold_of, holds_lock, dropped}
 use Rattle.cell_model.proofs.Units.{same_unit-true, same_unit-is, any-true, any-false, all-true}
-use Rattle.core_model.specs.CoreState.{UnitNo, GrainId, nobody, put, put_grain, Member, Value, Hold, Mode, Batch, CoreState}
+use Rattle.core_model.specs.CoreState.{UnitNo, GrainId, nobody, put, put_grain, Member, Hold, Mode, Batch, CoreState}
 use Rattle.core_model.specs.declared.phases.Phase.{Phase}
 use Rattle.core_model.specs.declared.phases.Phase.TheVariants.{Running, Finished, Refused, Ended}
 use Rattle.core_model.specs.declared.phases.Verdict.TheVariants.{Committed}
 use Rattle.core_model.specs.declared.effects.Read.{Read}
 use Rattle.core_model.specs.Tests.{all}
 use Rattle.core_laws.proofs.Puts.{put-from, put-is, put-other, grain-from}
-use Rattle.core_laws.proofs.Invariant.{Inv}
 use Rattle.std.proofs.Common.{take, length-take, length-drop}
 use Rattle.core_model.specs.Tests.{members, waiting, free_prefix, is_free}
 use Rattle.core_model.specs.Laws.{HoldsNothing, IsLongestFreePrefix, NoLockIsHeldUntilCommit}
@@ -21,16 +20,17 @@ use Rattle.core_model.specs.Changes.{new_unit, swept, swept_by}
 use Rattle.core_model.specs.Events.{batch_size}
 use Rattle.core_model.specs.Events.{applies, can, does, step, run, is_allowed}
 use Rattle.core_model.specs.declared.events.CoreEvent.{CoreEvent}
-use Rattle.core_model.specs.SerialOrder.{IsTrueLoad, AllLoadsTrue}
 use Rattle.core_laws.proofs.EventCases.{Change, bad, begin, lock, raise, refuse, finish, end_plain, end_snapshot, release, take_batch, vote, decide_some, decide_none, seal_batch, spoil_batch, doubt_batch, learn, emit, halt_run, want, load, decode}
 use Rattle.core_laws.proofs.Orders.{free_prefix-length, take_length, in_part, Member-at, Member-get, at_part, at_take}
-use Rattle.core_laws.proofs.KeptInvariant.{Kept, kept-step, open_size}
+use Rattle.core_laws.proofs.KeptInvariant.{open_size}
 use Rattle.std.proofs.lemmas.Bool.{and_cases}
 use Rattle.std.proofs.Common.{◌-◌}
+use Rattle.core_laws.proofs.LoadlessKept.{LoadlessKept, loadless-step}
+use Rattle.core_laws.proofs.Loadless.{LoadlessAt}
 
 -- a unit that passes the test of freedom holds nothing
-pub free-holds : (opening : GrainId → List Value) (n : ℕ) (w : CoreState) → Inv opening n w → (u : UnitNo) → is_free w u ≡ true → HoldsNothing w u
-free-holds opening n w i u e g h m q =
+pub free-holds : (n : ℕ) (w : CoreState) → LoadlessAt n w → (u : UnitNo) → is_free w u ≡ true → HoldsNothing w u
+free-holds n w i u e g h m q =
     let t = i.told g h m in
     let s = i.seen g t.0 t.1 in
     let mine : Member s.0 (w.units.reads u) = subst (λ z. Member s.0 (w.units.reads z)) (t.2 ∙ q) s.1 in
@@ -78,11 +78,11 @@ take-take-64 (suc k) zero xs h = absurd (omega arith)
 take-take-64 (suc k) (suc m) [] h = refl
 take-take-64 (suc k) (suc m) (x ∷ xs) h = ap (λ t. x ∷ t) (take-take-64 k m xs (omega arith))
 
-pub longest : (opening : GrainId → List Value) (n : ℕ) (w : CoreState) → Inv opening n w → IsLongestFreePrefix w (batch_size w)
-longest opening n w i = record {
+pub longest : (n : ℕ) (w : CoreState) → LoadlessAt n w → IsLongestFreePrefix w (batch_size w)
+longest n w i = record {
   limit = omega (arith, short, length-take 64 (waiting w));
   within = omega (arith, short, length-take 64 (waiting w));
-  free = λ u m. free-holds opening n w i u (free_prefix-free w first u (subst (Member u) (sym (take-take-64 (batch_size w) 64 (waiting w) (omega (arith, short, length-take 64 (waiting w))))) m));
+  free = λ u m. free-holds n w i u (free_prefix-free w first u (subst (Member u) (sym (take-take-64 (batch_size w) 64 (waiting w) (omega (arith, short, length-take 64 (waiting w))))) m));
   longest = elim (free_prefix-next w first) [
     | inl e ↦ all_taken e
     | inr h ↦ inr (inr (subst (λ z. (g : GrainId) × ((h : Hold) × Member h (w.cells.holds g) × (h.unit ≡ z))) (next h.0) (unfree-holds w _ h.1)))
@@ -121,17 +121,17 @@ unheld-phase : (w : CoreState) (u : UnitNo) (end : Phase) → (end ≡ Finished 
 unheld-phase w u end n s x = put-from w.units.phase u end (λ p. p ≡ Finished) (w.manager.place x ≤ w.manager.closed + size_of w.manager.batch → HoldsNothing w x) x (λ q f. absurd (n f)) (λ q f. s x f)
 
 -- an open batch stands in the finish order
-size-within : (opening : GrainId → List Value) (w : CoreState) → Kept opening w → w.manager.closed + size_of w.manager.batch ≤ length w.manager.order
-size-within opening w k = go w.manager.batch refl
+pub size-within : (w : CoreState) → LoadlessKept w → w.manager.closed + size_of w.manager.batch ≤ length w.manager.order
+size-within w k = go w.manager.batch refl
   where
     go : (o : Option Batch) → w.manager.batch ≡ o → w.manager.closed + size_of w.manager.batch ≤ length w.manager.order
     go None q = omega (arith, k.1, ap open_size q, ap size_of q)
     go (Some b) q = omega (arith, k.1, ap open_size q, ap size_of q)
 
 -- a finished unit after the closed batches and up to the batch's end is one of the batch
-free_member : (opening : GrainId → List Value) (w : CoreState) → Kept opening w → (x : UnitNo) → w.units.phase x ≡ Finished → w.manager.closed < w.manager.place x → IsLongestFreePrefix w (batch_size w) →
+free_member : (w : CoreState) → LoadlessKept w → (x : UnitNo) → w.units.phase x ≡ Finished → w.manager.closed < w.manager.place x → IsLongestFreePrefix w (batch_size w) →
     w.manager.place x ≤ w.manager.closed + batch_size w → HoldsNothing w x
-free_member opening w k x f new l le =
+free_member w k x f new l le =
     let t = k.0.placed x f in
     let j : ℕ = t.0 - w.manager.closed in
     let at : w.manager.closed + j ≡ t.0 = omega (arith, t.2, new) in
@@ -141,37 +141,37 @@ free_member opening w k x f new l le =
     (at_part (batch_size w) w.manager.closed w.manager.order j lt ∙ ap (λ z. get_or w.manager.order z nobody) at ∙ t.3)
     (Member-get (take (batch_size w) (waiting w)) j (omega (arith, short, lt))))
 
-pub unheld-change : (opening : GrainId → List Value) (w : CoreState) (e : CoreEvent) (w' : CoreState) → Change w e w' → applies w e ≡ true → Kept opening w → Unheld w → Unheld w'
-unheld-change opening w e w' (bad line why q) a k s = s
-unheld-change opening w e w' (begin origin call plain c) a k s = unheld-phase w (new_unit w) Running (λ z. cc) s
-unheld-change opening w e w' (lock u g mode running free first here) a k s = λ x f le. unheld-held w u g mode running s x f le
-unheld-change opening w e w' (raise u g mode running free held here uncovered) a k s = λ x f le. unheld-held w u g mode running s x f le
-unheld-change opening w e w' (refuse u g mode why running q) a k s = unheld-phase w u Refused (λ z. cc) s
-unheld-change opening w e w' (finish u effect running plain of_call reads alone) a k s =
+pub unheld-change : (w : CoreState) (e : CoreEvent) (w' : CoreState) → Change w e w' → applies w e ≡ true → LoadlessKept w → Unheld w → Unheld w'
+unheld-change w e w' (bad line why q) a k s = s
+unheld-change w e w' (begin origin call plain c) a k s = unheld-phase w (new_unit w) Running (λ z. cc) s
+unheld-change w e w' (lock u g mode running free first here) a k s = λ x f le. unheld-held w u g mode running s x f le
+unheld-change w e w' (raise u g mode running free held here uncovered) a k s = λ x f le. unheld-held w u g mode running s x f le
+unheld-change w e w' (refuse u g mode why running q) a k s = unheld-phase w u Refused (λ z. cc) s
+unheld-change w e w' (finish u effect running plain of_call reads alone) a k s =
     λ x. put-from w.units.phase u Finished (λ p. p ≡ Finished) (put w.manager.place u (length w.manager.order + 1) x ≤ w.manager.closed + size_of w.manager.batch → HoldsNothing w x) x
-    (λ z f le. absurd (omega (arith, put-is w.manager.place u (length w.manager.order + 1) x z, le, size-within opening w k)))
+    (λ z f le. absurd (omega (arith, put-is w.manager.place u (length w.manager.order + 1) x z, le, size-within w k)))
     (λ z f le. s x f (subst (λ m. m ≤ w.manager.closed + size_of w.manager.batch) (put-other w.manager.place u (length w.manager.order + 1) x z) le))
-unheld-change opening w e w' (end_plain u effect running plain of_call bare) a k s = unheld-phase w u Ended (λ z. cc) s
-unheld-change opening w e w' (end_snapshot u at outcome running plain kids answer) a k s = unheld-phase w u Ended (λ z. cc) s
-unheld-change opening w e w' (release u g over held) a k s =
+unheld-change w e w' (end_plain u effect running plain of_call bare) a k s = unheld-phase w u Ended (λ z. cc) s
+unheld-change w e w' (end_snapshot u at outcome running plain kids answer) a k s = unheld-phase w u Ended (λ z. cc) s
+unheld-change w e w' (release u g over held) a k s =
     λ x f le j h m q. s x f le j h (grain-from w.cells.holds g (dropped (w.cells.holds g) u) (Member h) (Member h (w.cells.holds j)) j
     (λ z m'. subst (λ y. Member h (w.cells.holds y)) (sym z) (dropped-member u (w.cells.holds g) h m').0) (λ z m'. m') m) q
-unheld-change opening w e w' (take_batch none some) a k s =
+unheld-change w e w' (take_batch none some) a k s =
     λ x f le. elim (cases_lt w.manager.closed (w.manager.place x)) [
       | inr old ↦ s x f (omega (arith, old, ap size_of none))
-      | inl new ↦ free_member opening w k x f new (longest opening _ w k.0) le
+      | inl new ↦ free_member w k x f new (longest _ w k.0) le
     ]
-unheld-change opening w e w' (vote n g kept b q number d planned fresh) a k s = λ x f le. s x f (subst (λ z. w.manager.place x ≤ w.manager.closed + size_of z) (sym q) le)
-unheld-change opening w e w' (decide_some n b q number d voted some) a k s = λ x f le. s x f (subst (λ z. w.manager.place x ≤ w.manager.closed + size_of z) (sym q) le)
-unheld-change opening w e w' (decide_none n b q number d voted none) a k s = λ x f le. s x f (omega (arith, le, ap size_of q))
-unheld-change opening w e w' (seal_batch n b ds q number d) a k s = λ x f le. s x f (omega (arith, le, ap size_of q))
-unheld-change opening w e w' (spoil_batch n b ds q number d) a k s = λ x f le. s x f (omega (arith, le, ap size_of q))
-unheld-change opening w e w' (doubt_batch n b ds q number d) a k s = λ x f le. s x f (omega (arith, le, ap size_of q))
-unheld-change opening w e w' (learn u g wrote final fresh) a k s = s
-unheld-change opening w e w' (emit q) a k s = s
-unheld-change opening w e w' (halt_run q) a k s = s
-unheld-change opening w e w' (want u g running free fresh) a k s = s
-unheld-change opening w e w' (load g u state gone wanted) a k s = s
+unheld-change w e w' (vote n g kept b q number d planned fresh) a k s = λ x f le. s x f (subst (λ z. w.manager.place x ≤ w.manager.closed + size_of z) (sym q) le)
+unheld-change w e w' (decide_some n b q number d voted some) a k s = λ x f le. s x f (subst (λ z. w.manager.place x ≤ w.manager.closed + size_of z) (sym q) le)
+unheld-change w e w' (decide_none n b q number d voted none) a k s = λ x f le. s x f (omega (arith, le, ap size_of q))
+unheld-change w e w' (seal_batch n b ds q number d) a k s = λ x f le. s x f (omega (arith, le, ap size_of q))
+unheld-change w e w' (spoil_batch n b ds q number d) a k s = λ x f le. s x f (omega (arith, le, ap size_of q))
+unheld-change w e w' (doubt_batch n b ds q number d) a k s = λ x f le. s x f (omega (arith, le, ap size_of q))
+unheld-change w e w' (learn u g wrote final fresh) a k s = s
+unheld-change w e w' (emit q) a k s = s
+unheld-change w e w' (halt_run q) a k s = s
+unheld-change w e w' (want u g running free fresh) a k s = s
+unheld-change w e w' (load g u state gone wanted) a k s = s
 
 swept-unheld : (w : CoreState) → Unheld w → Unheld (swept w)
 swept-unheld w s = go w.cells.capacity
@@ -180,21 +180,21 @@ swept-unheld w s = go w.cells.capacity
     go None = s
     go (Some m) = s
 
-pub unheld-step : (opening : GrainId → List Value) (w : CoreState) (e : CoreEvent) → IsTrueLoad opening w e → Kept opening w → Unheld w → Unheld (step w e)
-unheld-step opening w e t k s = cond_both (applies w e) (swept (does w e)) w Unheld
+pub unheld-step : (w : CoreState) (e : CoreEvent) → LoadlessKept w → Unheld w → Unheld (step w e)
+unheld-step w e k s = cond_both (applies w e) (swept (does w e)) w Unheld
     (λ a. (let c = decode w e (and_parts (is_allowed w e) (can w e) a).1 in
-    swept-unheld (does w e) (unheld-change opening w e (does w e) c a k s)))
+    swept-unheld (does w e) (unheld-change w e (does w e) c a k s)))
     (λ a. s)
 
-pub unheld-run : (opening : GrainId → List Value) (es : List CoreEvent) (w : CoreState) → AllLoadsTrue opening w es → Kept opening w → Unheld w → Unheld (run w es)
-unheld-run opening [] w l k s = s
-unheld-run opening (e ∷ es) w l k s = unheld-run opening es (step w e) l.1 (kept-step opening w e l.0 k) (unheld-step opening w e l.0 k s)
+pub unheld-run : (es : List CoreEvent) (w : CoreState) → LoadlessKept w → Unheld w → Unheld (run w es)
+unheld-run [] w k s = s
+unheld-run (e ∷ es) w k s = unheld-run es (step w e) (loadless-step w e k) (unheld-step w e k s)
 
-pub no-lock : (opening : GrainId → List Value) (w : CoreState) → Kept opening w → Unheld w → ((u : UnitNo) → w.manager.verdict u ≡ Committed → (w.units.phase u ≡ Finished) × (w.manager.place u ≤ w.manager.closed)) → NoLockIsHeldUntilCommit w
-no-lock opening w k s done = record {
+pub no-lock : (w : CoreState) → LoadlessKept w → Unheld w → ((u : UnitNo) → w.manager.verdict u ≡ Committed → (w.units.phase u ≡ Finished) × (w.manager.place u ≤ w.manager.closed)) → NoLockIsHeldUntilCommit w
+no-lock w k s done = record {
   committed = done;
   closed = λ u f le. s u f (omega (arith, le));
-  taken = λ b u q m. (let t = in_part opening _ w k.0 w.manager.closed b.size u m in s u t.0 (omega (arith, last b u q m, ap size_of q)));
+  taken = λ b u q m. (let t = in_part _ w k.0 w.manager.closed b.size u m in s u t.0 (omega (arith, last b u q m, ap size_of q)));
 }
   where
     last : (b : Batch) (u : UnitNo) → w.manager.batch ≡ Some b → Member u (members w b) → w.manager.place u ≤ w.manager.closed + b.size

@@ -2,7 +2,7 @@
 use Rattle.std.proofs.Common.{◌≡◌, ℕ, ◌<◌, List, [], ◌∷◌, ◌++◌, length, get_or, Bool, true, ◌⊎◌, inl, inr, refl, sym, ap, ◌∙◌, subst, arith, Option, Some, None}
 use Rattle.std.proofs.lemmas.Bool.{and_parts, cases_lt, cond_both}
 use Rattle.cell_model.proofs.Units.{cases_unit, Member-append}
-use Rattle.core_model.specs.CoreState.{UnitNo, GrainId, nobody, put, Member, Value, Origin, CoreState}
+use Rattle.core_model.specs.CoreState.{UnitNo, nobody, put, Member, Origin, CoreState}
 use Rattle.core_model.specs.declared.phases.Phase.{Phase}
 use Rattle.core_model.specs.declared.phases.Phase.TheVariants.{Unborn, Running, Finished, Refused, Ended}
 use Rattle.core_laws.proofs.Puts.{put-at, put-from, put-same, put-is, put-other}
@@ -16,13 +16,12 @@ use Rattle.core_model.specs.Changes.{begun, new_unit, kids_with, swept, swept_by
 use Rattle.core_model.specs.Events.{can_begin}
 use Rattle.core_model.specs.Events.{applies, can, does, step, run, is_allowed}
 use Rattle.core_model.specs.declared.events.CoreEvent.{CoreEvent}
-use Rattle.core_model.specs.SerialOrder.{IsTrueLoad, AllLoadsTrue}
 use Rattle.core_laws.proofs.EventCases.{Change, bad, begin, lock, raise, refuse, finish, end_plain, end_snapshot, release, take_batch, vote, decide_some, decide_none, seal_batch, spoil_batch, doubt_batch, learn, emit, halt_run, want, load, decode}
 use Rattle.core_laws.proofs.Basics.{is_running-true, same_outcome-true}
 use Rattle.core_laws.proofs.LoadlessEvents.{get_or-before, get_or-end, length-push}
 use Rattle.core_laws.proofs.UnitPlays.{parts-of}
 use Rattle.core_laws.proofs.Growth.{Grows, grows-change, grows-outcome}
-use Rattle.core_laws.proofs.KeptInvariant.{Kept, kept-step}
+use Rattle.core_laws.proofs.LoadlessKept.{LoadlessKept, loadless-step}
 
 -- a child is known by its parent and index, and is younger
 abbrev pub Kin : CoreState → Type 0
@@ -40,8 +39,8 @@ kin-phase w u end running n s = (
   s.2,
 )
 
-kin-begun : (opening : GrainId → List Value) (w : CoreState) (origin : Origin) (call : Call) (plain : Bool) → Kept opening w → can_begin w origin ≡ true → Kin w → Kin (begun w origin call plain)
-kin-begun opening w (Line m) call plain k c s = (
+kin-begun : (w : CoreState) (origin : Origin) (call : Call) (plain : Bool) → LoadlessKept w → can_begin w origin ≡ true → Kin w → Kin (begun w origin call plain)
+kin-begun w (Line m) call plain k c s = (
   (λ x p i d born. put-from w.units.origin n (Line m) (λ z. z ≡ Child p i d) ((i < length (w.units.kids p)) × (get_or (w.units.kids p) i nobody ≡ x)) x
       (λ q e. cc)
       (λ q e. s.0 x p i d (λ z. born (put-other w.units.phase n Running x q ∙ z)) e)),
@@ -56,7 +55,7 @@ kin-begun opening w (Line m) call plain k c s = (
 
     new : w.units.phase (new_unit w) ≡ Unborn
     new = k.0.unborn (new_unit w) (le_refl w.units.next)
-kin-begun opening w (Child q i0 d0) call plain k c s = (
+kin-begun w (Child q i0 d0) call plain k c s = (
   (λ x p i d born. put-from w.units.origin n (Child q i0 d0) (λ z. z ≡ Child p i d) ((i < length (kids p)) × (get_or (kids p) i nobody ≡ x)) x
       (λ e h. (let parent : q ≡ p = cc in let index : i0 ≡ i = cc in
       subst (λ z. (i < length (kids z)) × (get_or (kids z) i nobody ≡ x)) parent
@@ -116,28 +115,28 @@ kin-begun opening w (Child q i0 d0) call plain k c s = (
         let apart : x ≡ n → ⊥ = λ z. t.2 (ap w.units.phase z ∙ k.0.unborn (new_unit w) (le_refl w.units.next)) in
         (t.0, put-other w.units.origin n (Child q i0 d0) x apart ∙ t.1, λ z. t.2 (sym (put-other w.units.phase n Running x apart) ∙ z))
 
-pub kin-change : (opening : GrainId → List Value) (w : CoreState) (e : CoreEvent) (w' : CoreState) → Change w e w' → applies w e ≡ true → Kept opening w → Kin w → Kin w'
-kin-change opening w e w' (bad line why q) a k s = s
-kin-change opening w e w' (begin origin call plain c) a k s = kin-begun opening w origin call plain k c s
-kin-change opening w e w' (lock u g mode running free first here) a k s = s
-kin-change opening w e w' (raise u g mode running free held here uncovered) a k s = s
-kin-change opening w e w' (refuse u g mode why running q) a k s = kin-phase w u Refused running (λ z. cc) s
-kin-change opening w e w' (finish u effect running plain of_call reads alone) a k s = kin-phase w u Finished running (λ z. cc) s
-kin-change opening w e w' (end_plain u effect running plain of_call bare) a k s = kin-phase w u Ended running (λ z. cc) s
-kin-change opening w e w' (end_snapshot u at outcome running plain kids answer) a k s = kin-phase w u Ended running (λ z. cc) s
-kin-change opening w e w' (release u g over held) a k s = s
-kin-change opening w e w' (take_batch none some) a k s = s
-kin-change opening w e w' (vote n g kept b q number d planned fresh) a k s = s
-kin-change opening w e w' (decide_some n b q number d voted some) a k s = s
-kin-change opening w e w' (decide_none n b q number d voted none) a k s = s
-kin-change opening w e w' (seal_batch n b ds q number d) a k s = s
-kin-change opening w e w' (spoil_batch n b ds q number d) a k s = s
-kin-change opening w e w' (doubt_batch n b ds q number d) a k s = s
-kin-change opening w e w' (learn u g wrote final fresh) a k s = s
-kin-change opening w e w' (emit q) a k s = s
-kin-change opening w e w' (halt_run q) a k s = s
-kin-change opening w e w' (want u g running free fresh) a k s = s
-kin-change opening w e w' (load g u state gone wanted) a k s = s
+pub kin-change : (w : CoreState) (e : CoreEvent) (w' : CoreState) → Change w e w' → applies w e ≡ true → LoadlessKept w → Kin w → Kin w'
+kin-change w e w' (bad line why q) a k s = s
+kin-change w e w' (begin origin call plain c) a k s = kin-begun w origin call plain k c s
+kin-change w e w' (lock u g mode running free first here) a k s = s
+kin-change w e w' (raise u g mode running free held here uncovered) a k s = s
+kin-change w e w' (refuse u g mode why running q) a k s = kin-phase w u Refused running (λ z. cc) s
+kin-change w e w' (finish u effect running plain of_call reads alone) a k s = kin-phase w u Finished running (λ z. cc) s
+kin-change w e w' (end_plain u effect running plain of_call bare) a k s = kin-phase w u Ended running (λ z. cc) s
+kin-change w e w' (end_snapshot u at outcome running plain kids answer) a k s = kin-phase w u Ended running (λ z. cc) s
+kin-change w e w' (release u g over held) a k s = s
+kin-change w e w' (take_batch none some) a k s = s
+kin-change w e w' (vote n g kept b q number d planned fresh) a k s = s
+kin-change w e w' (decide_some n b q number d voted some) a k s = s
+kin-change w e w' (decide_none n b q number d voted none) a k s = s
+kin-change w e w' (seal_batch n b ds q number d) a k s = s
+kin-change w e w' (spoil_batch n b ds q number d) a k s = s
+kin-change w e w' (doubt_batch n b ds q number d) a k s = s
+kin-change w e w' (learn u g wrote final fresh) a k s = s
+kin-change w e w' (emit q) a k s = s
+kin-change w e w' (halt_run q) a k s = s
+kin-change w e w' (want u g running free fresh) a k s = s
+kin-change w e w' (load g u state gone wanted) a k s = s
 
 swept-kin : (w : CoreState) → Kin w → Kin (swept w)
 swept-kin w s = go w.cells.capacity
@@ -146,15 +145,15 @@ swept-kin w s = go w.cells.capacity
     go None = s
     go (Some m) = s
 
-pub kin-step : (opening : GrainId → List Value) (w : CoreState) (e : CoreEvent) → IsTrueLoad opening w e → Kept opening w → Kin w → Kin (step w e)
-kin-step opening w e t k s = cond_both (applies w e) (swept (does w e)) w Kin
+pub kin-step : (w : CoreState) (e : CoreEvent) → LoadlessKept w → Kin w → Kin (step w e)
+kin-step w e k s = cond_both (applies w e) (swept (does w e)) w Kin
     (λ a. (let c = decode w e (and_parts (is_allowed w e) (can w e) a).1 in
-    swept-kin (does w e) (kin-change opening w e (does w e) c a k s)))
+    swept-kin (does w e) (kin-change w e (does w e) c a k s)))
     (λ a. s)
 
-pub kin-run : (opening : GrainId → List Value) (es : List CoreEvent) (w : CoreState) → AllLoadsTrue opening w es → Kept opening w → Kin w → Kin (run w es)
-kin-run opening [] w l k s = s
-kin-run opening (e ∷ es) w l k s = kin-run opening es (step w e) l.1 (kept-step opening w e l.0 k) (kin-step opening w e l.0 k s)
+pub kin-run : (es : List CoreEvent) (w : CoreState) → LoadlessKept w → Kin w → Kin (run w es)
+kin-run [] w k s = s
+kin-run (e ∷ es) w k s = kin-run es (step w e) (loadless-step w e k) (kin-step w e k s)
 
 -- the unit came to its end
 abbrev pub IsAtEnd : CoreState → UnitNo → Type 0
@@ -212,36 +211,36 @@ not-at-end w u end p n m e o = elim o [ inl f ↦ n (sym (put-is w.units.phase u
 answered-now : (w : CoreState) (u : UnitNo) (answers : List Outcome) (p : UnitNo) → p ≡ u → answered_by w (w.units.kids u) answers ≡ true → answered_by w (w.units.kids p) (put w.manager.answers u answers p) ≡ true
 answered-now w u answers p z e = (λ i. answered_by w (w.units.kids (z i)) (put-is w.manager.answers u answers p z i)) ∙ e
 
-pub answered-change : (opening : GrainId → List Value) (w : CoreState) (e : CoreEvent) (w' : CoreState) → Change w e w' → applies w e ≡ true → Kept opening w → AnswersAreOutcomes w → AnswersAreOutcomes w'
-answered-change opening w e w' c a k s = answered-from w w' (grows-change opening w e w' c a k) s (from opening w e w' c a k s)
+pub answered-change : (w : CoreState) (e : CoreEvent) (w' : CoreState) → Change w e w' → applies w e ≡ true → LoadlessKept w → AnswersAreOutcomes w → AnswersAreOutcomes w'
+answered-change w e w' c a k s = answered-from w w' (grows-change w e w' c a k) s (from w e w' c a k s)
   where
-    from : (opening : GrainId → List Value) (w : CoreState) (e : CoreEvent) (w' : CoreState) → Change w e w' → applies w e ≡ true → Kept opening w → AnswersAreOutcomes w →
+    from : (w : CoreState) (e : CoreEvent) (w' : CoreState) → Change w e w' → applies w e ≡ true → LoadlessKept w → AnswersAreOutcomes w →
         (p : UnitNo) → IsAtEnd w' p → IsAtEnd w p ⊎ (answered_by w (w'.units.kids p) (w'.manager.answers p) ≡ true)
-    from opening w e w' (bad line why q) a k s = λ p o. inl o
-    from opening w e w' (begin origin call plain c) a k s = λ p o. at-end-put w (new_unit w) Running p (IsAtEnd w p ⊎ (answered_by w (kids_with w.units.kids origin (new_unit w) p) (w.manager.answers p) ≡ true)) (λ z. absurd (not-at-end w (new_unit w) Running p (λ y. cc) (λ y. cc) z o)) (λ z q. inl q) o
-    from opening w e w' (lock u g mode running free first here) a k s = λ p o. inl o
-    from opening w e w' (raise u g mode running free held here uncovered) a k s = λ p o. inl o
-    from opening w e w' (refuse u g mode why running q) a k s = λ p o. at-end-put w u Refused p (IsAtEnd w p ⊎ (answered_by w (w.units.kids p) (w.manager.answers p) ≡ true)) (λ z. absurd (not-at-end w u Refused p (λ y. cc) (λ y. cc) z o)) (λ z q. inl q) o
-    from opening w e w' (finish u effect running plain of_call reads alone) a k s = λ p o. at-end-put w u Finished p (IsAtEnd w p ⊎ (answered_by w (w.units.kids p) (put w.manager.answers u effect.answers p) ≡ true)) (λ z. inr (answered-now w u effect.answers p z (parts-of w u effect of_call).3)) (λ z q. inl q) o
-    from opening w e w' (end_plain u effect running plain of_call bare) a k s = λ p o. at-end-put w u Ended p (IsAtEnd w p ⊎ (answered_by w (w.units.kids p) (put w.manager.answers u effect.answers p) ≡ true)) (λ z. inr (answered-now w u effect.answers p z (parts-of w u effect of_call).3)) (λ z q. inl q) o
-    from opening w e w' (end_snapshot u at outcome running plain kids answer) a k s = λ p o. at-end-put w u Ended p (IsAtEnd w p ⊎ (answered_by w (w.units.kids p) (put w.manager.answers u [] p) ≡ true)) (λ z. inr (answered-now w u [] p z (answers-empty w (w.units.kids u) kids))) (λ z q. inl q) o
-    from opening w e w' (release u g over held) a k s = λ p o. inl o
-    from opening w e w' (take_batch none some) a k s = λ p o. inl o
-    from opening w e w' (vote n g kept b q number d planned fresh) a k s = λ p o. inl o
-    from opening w e w' (decide_some n b q number d voted some) a k s = λ p o. inl o
-    from opening w e w' (decide_none n b q number d voted none) a k s = λ p o. inl o
-    from opening w e w' (seal_batch n b ds q number d) a k s = λ p o. inl o
-    from opening w e w' (spoil_batch n b ds q number d) a k s = λ p o. inl o
-    from opening w e w' (doubt_batch n b ds q number d) a k s = λ p o. inl o
-    from opening w e w' (learn u g wrote final fresh) a k s = λ p o. inl o
-    from opening w e w' (emit q) a k s = λ p o. inl o
-    from opening w e w' (halt_run q) a k s = λ p o. inl o
-    from opening w e w' (want u g running free fresh) a k s = λ p o. inl o
-    from opening w e w' (load g u state gone wanted) a k s = λ p o. inl o
+    from w e w' (bad line why q) a k s = λ p o. inl o
+    from w e w' (begin origin call plain c) a k s = λ p o. at-end-put w (new_unit w) Running p (IsAtEnd w p ⊎ (answered_by w (kids_with w.units.kids origin (new_unit w) p) (w.manager.answers p) ≡ true)) (λ z. absurd (not-at-end w (new_unit w) Running p (λ y. cc) (λ y. cc) z o)) (λ z q. inl q) o
+    from w e w' (lock u g mode running free first here) a k s = λ p o. inl o
+    from w e w' (raise u g mode running free held here uncovered) a k s = λ p o. inl o
+    from w e w' (refuse u g mode why running q) a k s = λ p o. at-end-put w u Refused p (IsAtEnd w p ⊎ (answered_by w (w.units.kids p) (w.manager.answers p) ≡ true)) (λ z. absurd (not-at-end w u Refused p (λ y. cc) (λ y. cc) z o)) (λ z q. inl q) o
+    from w e w' (finish u effect running plain of_call reads alone) a k s = λ p o. at-end-put w u Finished p (IsAtEnd w p ⊎ (answered_by w (w.units.kids p) (put w.manager.answers u effect.answers p) ≡ true)) (λ z. inr (answered-now w u effect.answers p z (parts-of w u effect of_call).3)) (λ z q. inl q) o
+    from w e w' (end_plain u effect running plain of_call bare) a k s = λ p o. at-end-put w u Ended p (IsAtEnd w p ⊎ (answered_by w (w.units.kids p) (put w.manager.answers u effect.answers p) ≡ true)) (λ z. inr (answered-now w u effect.answers p z (parts-of w u effect of_call).3)) (λ z q. inl q) o
+    from w e w' (end_snapshot u at outcome running plain kids answer) a k s = λ p o. at-end-put w u Ended p (IsAtEnd w p ⊎ (answered_by w (w.units.kids p) (put w.manager.answers u [] p) ≡ true)) (λ z. inr (answered-now w u [] p z (answers-empty w (w.units.kids u) kids))) (λ z q. inl q) o
+    from w e w' (release u g over held) a k s = λ p o. inl o
+    from w e w' (take_batch none some) a k s = λ p o. inl o
+    from w e w' (vote n g kept b q number d planned fresh) a k s = λ p o. inl o
+    from w e w' (decide_some n b q number d voted some) a k s = λ p o. inl o
+    from w e w' (decide_none n b q number d voted none) a k s = λ p o. inl o
+    from w e w' (seal_batch n b ds q number d) a k s = λ p o. inl o
+    from w e w' (spoil_batch n b ds q number d) a k s = λ p o. inl o
+    from w e w' (doubt_batch n b ds q number d) a k s = λ p o. inl o
+    from w e w' (learn u g wrote final fresh) a k s = λ p o. inl o
+    from w e w' (emit q) a k s = λ p o. inl o
+    from w e w' (halt_run q) a k s = λ p o. inl o
+    from w e w' (want u g running free fresh) a k s = λ p o. inl o
+    from w e w' (load g u state gone wanted) a k s = λ p o. inl o
 
-pub answered-step : (opening : GrainId → List Value) (w : CoreState) (e : CoreEvent) → Kept opening w → AnswersAreOutcomes w → AnswersAreOutcomes (step w e)
-answered-step opening w e k s = cond_both (applies w e) (swept (does w e)) w AnswersAreOutcomes
-    (λ a. swept-answered (does w e) (answered-change opening w e (does w e) (decode w e (and_parts (is_allowed w e) (can w e) a).1) a k s))
+pub answered-step : (w : CoreState) (e : CoreEvent) → LoadlessKept w → AnswersAreOutcomes w → AnswersAreOutcomes (step w e)
+answered-step w e k s = cond_both (applies w e) (swept (does w e)) w AnswersAreOutcomes
+    (λ a. swept-answered (does w e) (answered-change w e (does w e) (decode w e (and_parts (is_allowed w e) (can w e) a).1) a k s))
     (λ a. s)
   where
     swept-answered : (w : CoreState) → AnswersAreOutcomes w → AnswersAreOutcomes (swept w)
@@ -251,6 +250,6 @@ answered-step opening w e k s = cond_both (applies w e) (swept (does w e)) w Ans
         go None = s
         go (Some m) = s
 
-pub answered-run : (opening : GrainId → List Value) (es : List CoreEvent) (w : CoreState) → AllLoadsTrue opening w es → Kept opening w → AnswersAreOutcomes w → AnswersAreOutcomes (run w es)
-answered-run opening [] w l k s = s
-answered-run opening (e ∷ es) w l k s = answered-run opening es (step w e) l.1 (kept-step opening w e l.0 k) (answered-step opening w e k s)
+pub answered-run : (es : List CoreEvent) (w : CoreState) → LoadlessKept w → AnswersAreOutcomes w → AnswersAreOutcomes (run w es)
+answered-run [] w k s = s
+answered-run (e ∷ es) w k s = answered-run es (step w e) (loadless-step w e k) (answered-step w e k s)

@@ -1,8 +1,8 @@
 -- The nine facts.
-use Rattle.std.proofs.Common.{◌≡◌, ℕ, ◌+◌, ◌<◌, ◌≤◌, List, [], ◌∷◌, length, Bool, true, false, ◌⊎◌, inl, inr, refl, sym, ap, ◌∙◌, subst, arith, Option, Some, None}
+use Rattle.std.proofs.Common.{◌≡◌, ℕ, ◌<◌, ◌≤◌, List, [], ◌∷◌, Bool, true, false, ◌⊎◌, inl, inr, refl, sym, ap, ◌∙◌, subst, arith, Some}
 use Rattle.std.proofs.lemmas.Bool.{cases_lt}
 use Rattle.cell_model.specs.Locks.{is_update}
-use Rattle.core_model.specs.CoreState.{UnitNo, GrainId, Member, Value, Version, top, Hold, Batch, CoreState}
+use Rattle.core_model.specs.CoreState.{UnitNo, GrainId, Member, Value, Version, top, Hold, CoreState}
 use Rattle.core_model.specs.declared.phases.Phase.TheVariants.{Finished}
 use Rattle.core_model.specs.declared.phases.Verdict.TheVariants.{Committed}
 use Rattle.core_model.specs.declared.effects.Effect.{Effect}
@@ -12,15 +12,14 @@ use Rattle.core_model.specs.Chains.{Chain, WroteGrain, IsBottom, IsLink}
 use Rattle.core_laws.proofs.Invariant.{Inv, same_place, wrote-finished}
 use Rattle.core_model.specs.LegalRuns.{Run, IsLegal, begins, ends}
 use Rattle.core_model.specs.SerialOrder.{IsLastVersion}
-use Rattle.core_model.specs.Consistency.{IsConsistent, bottom, size_of}
+use Rattle.core_model.specs.Consistency.{ClosedBatchesArePrefix, IsConsistent, bottom}
+use Rattle.core_laws.proofs.LoadlessRuns.{prefix-ends}
 use Rattle.core_laws.proofs.Alive.{good-alive}
-use Rattle.core_laws.proofs.KeptInvariant.{Kept, open_size}
+use Rattle.core_laws.proofs.KeptInvariant.{Kept}
 use Rattle.core_laws.proofs.ReleasedGrains.{Gone, gone-run}
 use Rattle.core_laws.proofs.Dependencies.{Depends, depends-run}
-use Rattle.core_laws.proofs.Batches.{Batched, batched-run}
-use Rattle.core_laws.proofs.CommitOrder.{Split}
 use Rattle.core_laws.proofs.UnitPlays.{Valid}
-use Rattle.core_laws.proofs.Ends.{kept-begins, kept-ends, valid-ends, split-ends}
+use Rattle.core_laws.proofs.Ends.{kept-begins, kept-ends, valid-ends}
 
 -- A released writer that isn't dead is in the stack, or stands before the bottom's unit.
 pub in_stack_or_below : (opening : GrainId → List Value) (n : ℕ) (w : CoreState) → Inv opening n w →
@@ -87,16 +86,9 @@ depends-earlier opening n w i s u d f m =
       | inr o ↦ subst (λ z. (w.units.phase z ≡ Finished) × (w.manager.place z < w.manager.place u)) t.2 (o.0, o.2 f)
     ]
 
-pub consistent : (plays : Effect → Bool) (opening : GrainId → List Value) (w : CoreState) → Kept opening w → Valid plays w → Split w → Gone w → Depends w → Batched w → IsConsistent plays opening w
-consistent plays opening w k v s gone depends batched = record {
-  closed_batches_are_a_prefix = record {
-    order = record { listed = k.0.listed; placed = k.0.placed };
-    within = within w.manager.batch refl;
-    size = batched.0;
-    decided = s.0;
-    in_doubt = batched.2;
-    undecided = batched.1;
-  };
+pub consistent : (plays : Effect → Bool) (opening : GrainId → List Value) (w : CoreState) → Kept opening w → Valid plays w → ClosedBatchesArePrefix w → Gone w → Depends w → IsConsistent plays opening w
+consistent plays opening w k v prefix gone depends = record {
+  closed_batches_are_a_prefix = prefix;
   exclusive_holder_is_alone = record { alone = k.0.alone; holds = k.0.keeps };
   sources_are_truthful = k.0.source;
   no_live_writer_between = k.0.gap;
@@ -118,10 +110,6 @@ consistent plays opening w k v s gone depends batched = record {
   };
   effects_are_plays = v;
 }
-  where
-    within : (o : Option Batch) → w.manager.batch ≡ o → w.manager.closed + size_of w.manager.batch ≤ length w.manager.order
-    within None q = omega (arith, k.1, ap open_size q, ap size_of q)
-    within (Some b) q = omega (arith, k.1, ap open_size q, ap size_of q)
 
 pub gone-ends : (plays : Effect → Bool) (r : Run) → IsLegal plays r → Gone (ends r)
 gone-ends plays r l = gone-run r.opening r.events (begins r) l.loads (kept-begins plays r l) (λ g x h m n. absurd n)
@@ -129,9 +117,6 @@ gone-ends plays r l = gone-run r.opening r.events (begins r) l.loads (kept-begin
 pub depends-ends : (plays : Effect → Bool) (r : Run) → IsLegal plays r → Depends (ends r)
 depends-ends plays r l = depends-run r.opening r.events (begins r) l.loads (kept-begins plays r l) ((λ u. tt), (λ u d m. absurd m))
 
-pub batched-ends : (plays : Effect → Bool) (r : Run) → IsLegal plays r → Batched (ends r)
-batched-ends plays r l = batched-run r.opening r.events (begins r) l.loads (kept-begins plays r l) ((λ b q. cc), (λ u f. cc), (λ u f. cc))
-
 pub consistent-ends : (plays : Effect → Bool) (r : Run) → IsLegal plays r → IsConsistent plays r.opening (ends r)
 consistent-ends plays r l =
-    consistent plays r.opening (ends r) (kept-ends plays r l) (valid-ends plays r l) (split-ends plays r l) (gone-ends plays r l) (depends-ends plays r l) (batched-ends plays r l)
+    consistent plays r.opening (ends r) (kept-ends plays r l) (valid-ends plays r l) (prefix-ends r l.above) (gone-ends plays r l) (depends-ends plays r l)

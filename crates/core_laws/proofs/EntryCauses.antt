@@ -1,7 +1,6 @@
 -- Each settled entry has its cause.
-use Rattle.std.proofs.Common.{◌≡◌, ℕ, ◌+◌, ◌≤◌, List, [], ◌∷◌, ◌++◌, get_or, Bool, true, false, ◌⊎◌, inl, inr, refl, sym, ap, ◌∙◌, subst, arith, Option, Some, None}
+use Rattle.std.proofs.Common.{◌≡◌, ℕ, ◌+◌, List, [], ◌∷◌, ◌++◌, Bool, true, false, ◌⊎◌, inl, inr, refl, sym, ap, ◌∙◌, subst, arith, Option, Some, None}
 use Rattle.std.proofs.lemmas.Bool.{and_parts, cases_Bool, cond-true, cond-false, not-true, or_parts}
-use Rattle.cell_model.specs.Locks.{is_update, is_hold_of, holds_lock, conflicts, covers, dropped}
 use Rattle.cell_model.proofs.Units.{same_unit-false, Member-append, filter-member, filter-stays}
 use Rattle.core_model.specs.CoreState.{UnitNo, GrainId, nobody, Member, Value, Origin, Write, Mode, Settled, Batch, Decision, CoreState}
 use Rattle.core_model.specs.declared.phases.Phase.TheVariants.{Running, Finished, Ended}
@@ -14,8 +13,8 @@ use Rattle.cell_model.specs.Decisions.{is_commit}
 use Rattle.core_model.specs.DeadUnits.{Dead, itself}
 use Rattle.core_laws.proofs.Puts.{put-same}
 use Rattle.core_laws.proofs.Basics.{good_from}
-use Rattle.core_laws.proofs.Invariant.{Inv}
-use Rattle.std.proofs.Common.{map, filter, length-drop, length-take}
+use Rattle.core_laws.proofs.Invariant.{Inv, loadless-of}
+use Rattle.std.proofs.Common.{map, filter}
 use Rattle.base_types.specs.declared.calls.Origin.TheVariants.{Line, Child}
 use Rattle.base_types.specs.declared.entries.Settled.TheVariants as settled
 use Rattle.cell_model.specs.declared.outcomes.Decision.TheVariants as decision
@@ -24,7 +23,7 @@ use Rattle.cell_model.proofs.LockAnswers.{ask-die}
 use Rattle.core_model.specs.CoreState.{Entry, Outcome}
 use Rattle.cell_model.specs.Locks as locks
 use Rattle.cell_model.specs.declared.locks.Ask.TheVariants.{MustDie}
-use Rattle.core_model.specs.Tests.{doomed_by, members, waiting, outcome_of, outcome_in, is_gone, ask_answer}
+use Rattle.core_model.specs.Tests.{doomed_by, members, outcome_of, outcome_in, is_gone, ask_answer}
 use Rattle.core_model.specs.Changes.{entry_for, told, entries_in, result_told, refusal, after_end, verdict_of, decisions_of, with_decisions, seal, swept, swept_by}
 use Rattle.core_model.specs.Causes.{IsVotedDown, DependsOnDead, CanCommit, EndsWith, IsRefusedFor, IsRefusedLock, AtDecision, HasCause, HasLine, IsCaused}
 use Rattle.core_model.specs.LegalRuns.{Run, IsLegal, begins, ends}
@@ -34,7 +33,7 @@ use Rattle.core_model.specs.declared.events.CoreEvent.TheVariants.{Bad, Refuse, 
 use Rattle.core_model.specs.SerialOrder.{AllLoadsTrue}
 use Rattle.core_laws.proofs.EventCases.{Change, bad, begin, lock, raise, refuse, finish, end_plain, end_snapshot, release, take_batch, vote, decide_some, decide_none, seal_batch, spoil_batch, doubt_batch, learn, emit, halt_run, want, load, decode}
 use Rattle.core_laws.proofs.EventCases.{ask-refused}
-use Rattle.core_laws.proofs.Orders.{at_part, Member-at}
+use Rattle.core_laws.proofs.Orders.{member-place}
 use Rattle.core_laws.proofs.Alive.{good-alive}
 use Rattle.core_laws.proofs.Failures.{failed-some, failed-none}
 use Rattle.core_laws.proofs.Dependencies.{Depends, depends-step}
@@ -77,19 +76,11 @@ entries-parts w answer votes verdict (u ∷ us) (d ∷ ds) x r m =
       | inr h ↦ (let t = entries-parts w answer votes verdict us ds x r.2 h in (t.0, (t.1.0, inr t.1.1, t.1.2, t.1.3, t.1.4, t.1.5, t.1.6)))
     ]
 
-pub member-place : (opening : GrainId → List Value) (n : ℕ) (w : CoreState) (b : Batch) → Inv opening n w → (u : UnitNo) → Member u (members w b) → (w.units.phase u ≡ Finished) × (w.manager.place u ≤ w.manager.closed + b.size)
-member-place opening n w b i u m =
-    let t = Member-at u (members w b) m in
-    let len = length-take b.size (waiting w) in
-    let e : get_or w.manager.order (w.manager.closed + t.0) nobody ≡ u = sym (at_part b.size w.manager.closed w.manager.order t.0 (omega (arith, t.1, len))) ∙ t.2 in
-    let l = i.listed (w.manager.closed + t.0) (omega (arith, t.1, len, length-drop w.manager.closed w.manager.order)) in
-    (subst (λ z. w.units.phase z ≡ Finished) e l.0, subst (λ z. w.manager.place z ≤ w.manager.closed + b.size) e (omega (arith, l.1, t.1, len)))
-
 -- in a decided batch a dependency that is dead is aborted, or to abort
 pub dead-bad : (opening : GrainId → List Value) (v : CoreState) (b : Batch) → Inv opening (v.manager.closed + b.size) v → Depends v → (u : UnitNo) → Member u (members v b) → (d : UnitNo) → Member d (v.units.deps u) →
     Dead v.manager.verdict v.units.reads d → is_bad (v.manager.verdict d) ≡ true
 dead-bad opening v b i s u m d n dead =
-    let p = member-place opening _ v b i u m in
+    let p = member-place _ v b (loadless-of opening _ v i) u m in
     let t = depends-earlier opening _ v i s u d p.0 n in
     elim (cases_Bool (is_bad (v.manager.verdict d))) [
       | inl e ↦ e
@@ -134,7 +125,7 @@ batch-told opening w v e next answer b ds i s q same origin at reasons commits x
     go : (d : Decision) → t.1.0 ≡ d → Told w e next x
     go decision.Commit p =
         let r = subst (Reason b.votes (v.manager.writes t.0) (v.units.deps t.0) v.manager.verdict) p t.1.3 in
-        let c = commits t.0 t.1.1 (member-place opening _ v b i t.0 t.1.1).0 (t.1.2 ∙ ap verdict_of p) (can-commit opening v b i s t.0 t.1.1 r) in
+        let c = commits t.0 t.1.1 (member-place _ v b (loadless-of opening _ v i) t.0 t.1.1).0 (t.1.2 ∙ ap verdict_of p) (can-commit opening v b i s t.0 t.1.1 r) in
         told-from w e next x t.0 (answer t.0) t.1.4 (t.1.5 ∙ ap (told (answer t.0)) p) c.0 (c.1 x line)
     go (decision.Vote g) p =
         let r = subst (Reason b.votes (v.manager.writes t.0) (v.units.deps t.0) v.manager.verdict) p t.1.3 in

@@ -2,7 +2,7 @@
 use Rattle.std.proofs.Common.{◌≡◌, ℕ, List, [], ◌∷◌, ◌++◌, Bool, true, false, inr, refl, sym, ap, ◌∙◌, subst, Option, Some, None}
 use Rattle.std.proofs.lemmas.Bool.{and_parts, cond_both}
 use Rattle.cell_model.proofs.Units.{Member-left}
-use Rattle.core_model.specs.CoreState.{UnitNo, GrainId, put_grain, Member, Value, Origin, top, Batch, Decision, CoreState}
+use Rattle.core_model.specs.CoreState.{UnitNo, put_grain, Member, Origin, top, Batch, Decision, CoreState}
 use Rattle.core_model.specs.declared.phases.Phase.{Phase}
 use Rattle.core_model.specs.declared.phases.Phase.TheVariants.{Unborn, Running, Finished, Refused, Ended}
 use Rattle.core_model.specs.declared.phases.Verdict.{Verdict}
@@ -22,10 +22,9 @@ use Rattle.base_types.specs.declared.calls.Origin.TheVariants.{Line, Child}
 use Rattle.core_model.specs.Events.{can_begin}
 use Rattle.core_model.specs.Events.{applies, can, does, step, run, is_allowed}
 use Rattle.core_model.specs.declared.events.CoreEvent.{CoreEvent}
-use Rattle.core_model.specs.SerialOrder.{AllLoadsTrue}
 use Rattle.core_laws.proofs.EventCases.{Change, bad, begin, lock, raise, refuse, finish, end_plain, end_snapshot, release, take_batch, vote, decide_some, decide_none, seal_batch, spoil_batch, doubt_batch, learn, emit, halt_run, want, load, decode}
-use Rattle.core_laws.proofs.Orders.{judged-other}
-use Rattle.core_laws.proofs.KeptInvariant.{Kept, kept-step, inv-open, members-open}
+use Rattle.core_laws.proofs.Orders.{judged-other, members-open}
+use Rattle.core_laws.proofs.LoadlessKept.{LoadlessKept, open-at, loadless-step}
 
 -- Bad verdicts stay bad, final ones stay, reads stay, and a unit that is over stays as it is.
 abbrev pub Grows : CoreState → CoreState → Type 0
@@ -111,8 +110,8 @@ leave-final Condemned e = cc
 leave-final Committed e = refl
 leave-final Aborted e = refl
 
-pub grows-decided : (opening : GrainId → List Value) (w : CoreState) (b : Batch) (ds : List Decision) → Kept opening w → w.manager.batch ≡ Some b → b.decisions ≡ None → Grows w (with_decisions w b ds)
-grows-decided opening w b ds k q d = (
+pub grows-decided : (w : CoreState) (b : Batch) (ds : List Decision) → LoadlessKept w → w.manager.batch ≡ Some b → b.decisions ≡ None → Grows w (with_decisions w b ds)
+grows-decided w b ds k q d = (
   (λ x e. ap is_bad (other x (λ m. open-bad _ (is_open x m) e)) ∙ e),
   (λ x e. other x (λ m. open-final _ (is_open x m) e)),
   (λ x r m. m),
@@ -120,7 +119,7 @@ grows-decided opening w b ds k q d = (
 )
   where
     is_open : (x : UnitNo) → Member x (members w b) → w.manager.verdict x ≡ Open
-    is_open x m = (members-open opening w b (inv-open opening w b k q d) x m).1
+    is_open x m = (members-open w b (open-at w b k q d) x m).1
 
     other : (x : UnitNo) → (Member x (members w b) → ⊥) → judged (members w b) ds w.manager.verdict x ≡ w.manager.verdict x
     other x n = judged-other (members w b) ds w.manager.verdict x n
@@ -134,8 +133,8 @@ grows-ended w u answers result at running = (
       (put-other w.units.phase u Ended x apart, put-other w.manager.result u result x apart, put-other w.manager.answers u answers x apart, refl))),
 )
 
-grows-begun : (opening : GrainId → List Value) (w : CoreState) (origin : Origin) (call : Call) (plain : Bool) → Kept opening w → can_begin w origin ≡ true → Grows w (begun w origin call plain)
-grows-begun opening w origin call plain k c = (
+grows-begun : (w : CoreState) (origin : Origin) (call : Call) (plain : Bool) → LoadlessKept w → can_begin w origin ≡ true → Grows w (begun w origin call plain)
+grows-begun w origin call plain k c = (
   (λ x e. e),
   (λ x e. refl),
   (λ x r m. m),
@@ -146,46 +145,46 @@ grows-begun opening w origin call plain k c = (
     kids (Line n) x c o = refl
     kids (Child p i d) x c o = put-other w.units.kids p _ x (λ q. running-over _ (ap w.units.phase q ∙ is_running-true _ (and_parts (is_running (w.units.phase p)) _ c).0) o)
 
-pub grows-change : (opening : GrainId → List Value) (w : CoreState) (e : CoreEvent) (w' : CoreState) → Change w e w' → applies w e ≡ true → Kept opening w → Grows w w'
-grows-change opening w e w' (bad line why q) a k = grows-same w
-grows-change opening w e w' (begin origin call plain c) a k = grows-begun opening w origin call plain k c
-grows-change opening w e w' (lock u g mode running free first here) a k = (
+pub grows-change : (w : CoreState) (e : CoreEvent) (w' : CoreState) → Change w e w' → applies w e ≡ true → LoadlessKept w → Grows w w'
+grows-change w e w' (bad line why q) a k = grows-same w
+grows-change w e w' (begin origin call plain c) a k = grows-begun w origin call plain k c
+grows-change w e w' (lock u g mode running free first here) a k = (
   (λ x z. z),
   (λ x z. refl),
   (λ x r m. put-at w.units.reads u (w.units.reads u ++ read_of g (top (put_grain w.cells.stack g (cleaned w g) g)) ∷ []) (Member r) x (λ z. Member-left r (w.units.reads u) (read_of g (top (put_grain w.cells.stack g (cleaned w g) g)) ∷ []) (subst (λ y. Member r (w.units.reads y)) z m)) (λ z. m)),
   (λ x o. (refl, refl, refl, refl)),
 )
-grows-change opening w e w' (raise u g mode running free held here uncovered) a k = grows-same w
-grows-change opening w e w' (refuse u g mode why running q) a k = (
+grows-change w e w' (raise u g mode running free held here uncovered) a k = grows-same w
+grows-change w e w' (refuse u g mode why running q) a k = (
   (λ x z. put-at w.manager.verdict u Aborted (λ v. is_bad v ≡ true) x (λ y. refl) (λ y. z)),
   (λ x z. put-other w.manager.verdict u Aborted x (λ y. open-final _ (ap w.manager.verdict y ∙ k.0.undecided u (inr running)) z)),
   (λ x r m. m),
   (λ x o. (put-other w.units.phase u Refused x (λ y. running-over _ (ap w.units.phase y ∙ running) o), refl, refl, refl)),
 )
-grows-change opening w e w' (finish u effect running plain of_call reads alone) a k = (
+grows-change w e w' (finish u effect running plain of_call reads alone) a k = (
   (λ x z. z),
   (λ x z. refl),
   (λ x r m. m),
   (λ x o. (let apart : x ≡ u → ⊥ = λ y. running-over _ (ap w.units.phase y ∙ running) o in
       (put-other w.units.phase u Finished x apart, put-other w.manager.result u effect.result x apart, put-other w.manager.answers u effect.answers x apart, refl))),
 )
-grows-change opening w e w' (end_plain u effect running plain of_call bare) a k = grows-ended w u effect.answers effect.result None running
-grows-change opening w e w' (end_snapshot u at outcome running plain kids answer) a k = grows-ended w u [] outcome (Some at) running
-grows-change opening w e w' (release u g over held) a k = grows-same w
-grows-change opening w e w' (take_batch none some) a k = grows-same w
-grows-change opening w e w' (vote n g kept b q number d planned fresh) a k = grows-same w
-grows-change opening w e w' (decide_some n b q number d voted some) a k = grows-decided opening w b (decisions_of w b) k q d
-grows-change opening w e w' (decide_none n b q number d voted none) a k =
-    grows-more w (with_decisions w b (decisions_of w b)) (sealed (with_decisions w b (decisions_of w b)) b (decisions_of w b)) (grows-decided opening w b (decisions_of w b) k q d)
+grows-change w e w' (end_plain u effect running plain of_call bare) a k = grows-ended w u effect.answers effect.result None running
+grows-change w e w' (end_snapshot u at outcome running plain kids answer) a k = grows-ended w u [] outcome (Some at) running
+grows-change w e w' (release u g over held) a k = grows-same w
+grows-change w e w' (take_batch none some) a k = grows-same w
+grows-change w e w' (vote n g kept b q number d planned fresh) a k = grows-same w
+grows-change w e w' (decide_some n b q number d voted some) a k = grows-decided w b (decisions_of w b) k q d
+grows-change w e w' (decide_none n b q number d voted none) a k =
+    grows-more w (with_decisions w b (decisions_of w b)) (sealed (with_decisions w b (decisions_of w b)) b (decisions_of w b)) (grows-decided w b (decisions_of w b) k q d)
     (grows-mapped (with_decisions w b (decisions_of w b)) seal seal-bad seal-final (sealed (with_decisions w b (decisions_of w b)) b (decisions_of w b)) refl refl refl refl)
-grows-change opening w e w' (seal_batch n b ds q number d) a k = grows-mapped w seal seal-bad seal-final (sealed w b ds) refl refl refl refl
-grows-change opening w e w' (spoil_batch n b ds q number d) a k = grows-mapped w spoil spoil-bad spoil-final (spoiled w b ds) refl refl refl refl
-grows-change opening w e w' (doubt_batch n b ds q number d) a k = grows-mapped w leave leave-bad leave-final (in_doubt w b ds) refl refl refl refl
-grows-change opening w e w' (learn u g wrote final fresh) a k = grows-same w
-grows-change opening w e w' (emit q) a k = grows-same w
-grows-change opening w e w' (halt_run q) a k = grows-same w
-grows-change opening w e w' (want u g running free fresh) a k = grows-same w
-grows-change opening w e w' (load g u state gone wanted) a k = grows-same w
+grows-change w e w' (seal_batch n b ds q number d) a k = grows-mapped w seal seal-bad seal-final (sealed w b ds) refl refl refl refl
+grows-change w e w' (spoil_batch n b ds q number d) a k = grows-mapped w spoil spoil-bad spoil-final (spoiled w b ds) refl refl refl refl
+grows-change w e w' (doubt_batch n b ds q number d) a k = grows-mapped w leave leave-bad leave-final (in_doubt w b ds) refl refl refl refl
+grows-change w e w' (learn u g wrote final fresh) a k = grows-same w
+grows-change w e w' (emit q) a k = grows-same w
+grows-change w e w' (halt_run q) a k = grows-same w
+grows-change w e w' (want u g running free fresh) a k = grows-same w
+grows-change w e w' (load g u state gone wanted) a k = grows-same w
 
 pub grows-swept : (w w' : CoreState) → Grows w w' → Grows w (swept w')
 grows-swept w w' g = go w'.cells.capacity
@@ -194,14 +193,14 @@ grows-swept w w' g = go w'.cells.capacity
     go None = g
     go (Some m) = g
 
-pub grows-step : (opening : GrainId → List Value) (w : CoreState) (e : CoreEvent) → Kept opening w → Grows w (step w e)
-grows-step opening w e k = cond_both (applies w e) (swept (does w e)) w (Grows w)
-    (λ a. grows-swept w (does w e) (grows-change opening w e (does w e) (decode w e (and_parts (is_allowed w e) (can w e) a).1) a k))
+pub grows-step : (w : CoreState) (e : CoreEvent) → LoadlessKept w → Grows w (step w e)
+grows-step w e k = cond_both (applies w e) (swept (does w e)) w (Grows w)
+    (λ a. grows-swept w (does w e) (grows-change w e (does w e) (decode w e (and_parts (is_allowed w e) (can w e) a).1) a k))
     (λ a. grows-same w)
 
-pub grows-run : (opening : GrainId → List Value) (es : List CoreEvent) (w : CoreState) → AllLoadsTrue opening w es → Kept opening w → Grows w (run w es)
-grows-run opening [] w l k = grows-same w
-grows-run opening (e ∷ es) w l k = grows-more w (step w e) (run (step w e) es) (grows-step opening w e k) (grows-run opening es (step w e) l.1 (kept-step opening w e l.0 k))
+pub grows-run : (es : List CoreEvent) (w : CoreState) → LoadlessKept w → Grows w (run w es)
+grows-run [] w k = grows-same w
+grows-run (e ∷ es) w k = grows-more w (step w e) (run (step w e) es) (grows-step w e k) (grows-run es (step w e) (loadless-step w e k))
 
 -- the dead stay dead
 pub grows-dead : (w w' : CoreState) → Grows w w' → (u : UnitNo) → Dead w.manager.verdict w.units.reads u → Dead w'.manager.verdict w'.units.reads u

@@ -21,19 +21,16 @@ use Rattle.cell_model.proofs.Units.{cases_grain}
 use Rattle.core_model.specs.Holders.{DifferInUnit, HoldersHaveRead}
 use Rattle.core_model.specs.Changes.{restacked, cleaned, after_lock, after_release, finished, read_of, after_refusal, decisions_of, with_decisions, sealed, spoiled, in_doubt, swept, swept_by}
 use Rattle.core_model.specs.Events.{holds_alone}
-use Rattle.core_model.specs.LegalRuns.{Run, IsLegal, begins, ends}
+use Rattle.core_model.specs.LegalRuns.{Run, begins, ends}
 use Rattle.core_model.specs.Events.{applies, can, does, step, run, is_allowed}
 use Rattle.core_model.specs.declared.events.CoreEvent.{CoreEvent}
 use Rattle.core_model.specs.declared.events.CoreEvent.TheVariants.{Refuse, Decide, Sealed, NotSealed, Doubt}
-use Rattle.core_model.specs.SerialOrder.{IsTrueLoad, AllLoadsTrue}
 use Rattle.core_laws.proofs.EventCases.{Change, bad, begin, lock, raise, refuse, finish, end_plain, end_snapshot, release, take_batch, vote, decide_some, decide_none, seal_batch, spoil_batch, doubt_batch, learn, emit, halt_run, want, load, decode}
 use Rattle.core_laws.proofs.Growth.{grows-change}
-use Rattle.core_laws.proofs.Ends.{kept-begins, kept-ends}
-use Rattle.core_laws.proofs.KeptInvariant.{Kept, decided_size, kept-step}
-use Rattle.core_laws.proofs.Invariant.{loadless-of}
+use Rattle.core_laws.proofs.KeptInvariant.{decided_size}
 use Rattle.core_laws.proofs.Loadless.{LoadlessAt}
-use Rattle.core_laws.proofs.LoadlessRuns.{LoadlessKept, loadless-change, loadless-begins}
 use Rattle.core_laws.proofs.AnyEvents.{run-keeps}
+use Rattle.core_laws.proofs.LoadlessKept.{LoadlessKept, loadless-change, loadless-begins, loadless-step, loadless-ends}
 
 abbrev pub Tidy : CoreState → Type 0
 Tidy w =
@@ -164,10 +161,10 @@ swept-tidy w s = go w.cells.capacity
     go None = s
     go (Some m) = s
 
-pub tidy-step : (opening : GrainId → List Value) (w : CoreState) (e : CoreEvent) → IsTrueLoad opening w e → Kept opening w → Tidy w → Tidy (step w e)
-tidy-step opening w e t k s = cond_both (applies w e) (swept (does w e)) w Tidy
+pub tidy-step : (w : CoreState) (e : CoreEvent) → LoadlessKept w → Tidy w → Tidy (step w e)
+tidy-step w e k s = cond_both (applies w e) (swept (does w e)) w Tidy
     (λ a. (let c = decode w e (and_parts (is_allowed w e) (can w e) a).1 in
-    swept-tidy (does w e) (tidy-change w e (does w e) c a (loadless-of opening _ w k.0) s)))
+    swept-tidy (does w e) (tidy-change w e (does w e) c a k.0 s)))
     (λ a. s)
 
 -- that along with what needs no loads
@@ -187,27 +184,27 @@ wrote-some : (o : Option (List Value)) → is_some o ≡ true → (v : List Valu
 wrote-some None e = cc
 wrote-some (Some v) e = (v, refl)
 
-pub knows-change : (opening : GrainId → List Value) (w : CoreState) (e : CoreEvent) (w' : CoreState) → Change w e w' → applies w e ≡ true → Kept opening w → Knows w → Knows w'
-knows-change opening w e w' (bad line why q) a k s = s
-knows-change opening w e w' (begin origin call plain c) a k s = s
-knows-change opening w e w' (lock u g mode running free first here) a k s = s
-knows-change opening w e w' (raise u g mode running free held here uncovered) a k s = s
-knows-change opening w e w' (refuse u g mode why running q) a k s = knows-from w (put w.manager.verdict u Aborted) (grows-change opening w (Refuse u g mode) (after_refusal w u why) (refuse u g mode why running q) a k).1 s
-knows-change opening w e w' (finish u effect running plain of_call reads alone) a k s =
+pub knows-change : (w : CoreState) (e : CoreEvent) (w' : CoreState) → Change w e w' → applies w e ≡ true → LoadlessKept w → Knows w → Knows w'
+knows-change w e w' (bad line why q) a k s = s
+knows-change w e w' (begin origin call plain c) a k s = s
+knows-change w e w' (lock u g mode running free first here) a k s = s
+knows-change w e w' (raise u g mode running free held here uncovered) a k s = s
+knows-change w e w' (refuse u g mode why running q) a k s = knows-from w (put w.manager.verdict u Aborted) (grows-change w (Refuse u g mode) (after_refusal w u why) (refuse u g mode why running q) a k).1 s
+knows-change w e w' (finish u effect running plain of_call reads alone) a k s =
     λ x g z. (let t = s x g z in
     let apart : x ≡ u → ⊥ = λ q. (let y : false ≡ true = sym (ap is_final (ap w.manager.verdict q ∙ k.0.undecided u (inr running))) ∙ t.0 in cc) in
     (t.0, (t.1.0, ap (state_written g) (put-other w.manager.writes u effect.writes x apart) ∙ t.1.1)))
-knows-change opening w e w' (end_plain u effect running plain of_call bare) a k s = s
-knows-change opening w e w' (end_snapshot u at outcome running plain kids answer) a k s = s
-knows-change opening w e w' (release u g over held) a k s = s
-knows-change opening w e w' (take_batch none some) a k s = s
-knows-change opening w e w' (vote n g kept b q number d planned fresh) a k s = s
-knows-change opening w e w' (decide_some n b q number d voted some) a k s = knows-from w (with_decisions w b (decisions_of w b)).manager.verdict (grows-change opening w (Decide n) (with_decisions w b (decisions_of w b)) (decide_some n b q number d voted some) a k).1 s
-knows-change opening w e w' (decide_none n b q number d voted none) a k s = knows-from w (sealed (with_decisions w b (decisions_of w b)) b (decisions_of w b)).manager.verdict (grows-change opening w (Decide n) (sealed (with_decisions w b (decisions_of w b)) b (decisions_of w b)) (decide_none n b q number d voted none) a k).1 s
-knows-change opening w e w' (seal_batch n b ds q number d) a k s = knows-from w (sealed w b ds).manager.verdict (grows-change opening w (Sealed n) (sealed w b ds) (seal_batch n b ds q number d) a k).1 s
-knows-change opening w e w' (spoil_batch n b ds q number d) a k s = knows-from w (spoiled w b ds).manager.verdict (grows-change opening w (NotSealed n) (spoiled w b ds) (spoil_batch n b ds q number d) a k).1 s
-knows-change opening w e w' (doubt_batch n b ds q number d) a k s = knows-from w (in_doubt w b ds).manager.verdict (grows-change opening w (Doubt n) (in_doubt w b ds) (doubt_batch n b ds q number d) a k).1 s
-knows-change opening w e w' (learn u g wrote final fresh) a k s =
+knows-change w e w' (end_plain u effect running plain of_call bare) a k s = s
+knows-change w e w' (end_snapshot u at outcome running plain kids answer) a k s = s
+knows-change w e w' (release u g over held) a k s = s
+knows-change w e w' (take_batch none some) a k s = s
+knows-change w e w' (vote n g kept b q number d planned fresh) a k s = s
+knows-change w e w' (decide_some n b q number d voted some) a k s = knows-from w (with_decisions w b (decisions_of w b)).manager.verdict (grows-change w (Decide n) (with_decisions w b (decisions_of w b)) (decide_some n b q number d voted some) a k).1 s
+knows-change w e w' (decide_none n b q number d voted none) a k s = knows-from w (sealed (with_decisions w b (decisions_of w b)) b (decisions_of w b)).manager.verdict (grows-change w (Decide n) (sealed (with_decisions w b (decisions_of w b)) b (decisions_of w b)) (decide_none n b q number d voted none) a k).1 s
+knows-change w e w' (seal_batch n b ds q number d) a k s = knows-from w (sealed w b ds).manager.verdict (grows-change w (Sealed n) (sealed w b ds) (seal_batch n b ds q number d) a k).1 s
+knows-change w e w' (spoil_batch n b ds q number d) a k s = knows-from w (spoiled w b ds).manager.verdict (grows-change w (NotSealed n) (spoiled w b ds) (spoil_batch n b ds q number d) a k).1 s
+knows-change w e w' (doubt_batch n b ds q number d) a k s = knows-from w (in_doubt w b ds).manager.verdict (grows-change w (Doubt n) (in_doubt w b ds) (doubt_batch n b ds q number d) a k).1 s
+knows-change w e w' (learn u g wrote final fresh) a k s =
     λ x j z. elim (cases_unit x u) [
       | inl q ↦ elim (cases_grain j g) [
         | inl y ↦ (let t = wrote-some (state_written g (w.manager.writes u)) wrote in
@@ -216,10 +213,10 @@ knows-change opening w e w' (learn u g wrote final fresh) a k s =
       ]
       | inr q ↦ s x j (ap (λ (f : GrainId → Bool). f j) (sym (put-other w.cells.learnt u (put_grain (w.cells.learnt u) g true) x q)) ∙ z)
     ]
-knows-change opening w e w' (emit q) a k s = s
-knows-change opening w e w' (halt_run q) a k s = s
-knows-change opening w e w' (want u g running free fresh) a k s = s
-knows-change opening w e w' (load g u state gone wanted) a k s = s
+knows-change w e w' (emit q) a k s = s
+knows-change w e w' (halt_run q) a k s = s
+knows-change w e w' (want u g running free fresh) a k s = s
+knows-change w e w' (load g u state gone wanted) a k s = s
 
 swept-knows : (w : CoreState) → Knows w → Knows (swept w)
 swept-knows w s = go w.cells.capacity
@@ -228,19 +225,19 @@ swept-knows w s = go w.cells.capacity
     go None = s
     go (Some m) = s
 
-pub knows-step : (opening : GrainId → List Value) (w : CoreState) (e : CoreEvent) → IsTrueLoad opening w e → Kept opening w → Knows w → Knows (step w e)
-knows-step opening w e t k s = cond_both (applies w e) (swept (does w e)) w Knows
+pub knows-step : (w : CoreState) (e : CoreEvent) → LoadlessKept w → Knows w → Knows (step w e)
+knows-step w e k s = cond_both (applies w e) (swept (does w e)) w Knows
     (λ a. (let c = decode w e (and_parts (is_allowed w e) (can w e) a).1 in
-    swept-knows (does w e) (knows-change opening w e (does w e) c a k s)))
+    swept-knows (does w e) (knows-change w e (does w e) c a k s)))
     (λ a. s)
 
-pub knows-run : (opening : GrainId → List Value) (es : List CoreEvent) (w : CoreState) → AllLoadsTrue opening w es → Kept opening w → Knows w → Knows (run w es)
-knows-run opening [] w l k s = s
-knows-run opening (e ∷ es) w l k s = knows-run opening es (step w e) l.1 (kept-step opening w e l.0 k) (knows-step opening w e l.0 k s)
+pub knows-run : (es : List CoreEvent) (w : CoreState) → LoadlessKept w → Knows w → Knows (run w es)
+knows-run [] w k s = s
+knows-run (e ∷ es) w k s = knows-run es (step w e) (loadless-step w e k) (knows-step w e k s)
 
-pub holders-ends : (plays : Effect → Bool) (r : Run) → IsLegal plays r → HoldersHaveRead (ends r)
-holders-ends plays r l =
-    let i = (kept-ends plays r l).0 in
-    let t = tidy-ends r l.above in
-    let n = knows-run r.opening r.events (begins r) l.loads (kept-begins plays r l) (λ u g e. cc) in
+pub holders-ends : (r : Run) → 0 < r.base → HoldersHaveRead (ends r)
+holders-ends r above =
+    let i = (loadless-ends r above).0 in
+    let t = tidy-ends r above in
+    let n = knows-run r.events (begins r) (loadless-begins r above) (λ u g e. cc) in
     record { one_lock = t.0; one_reading = t.1; reading = i.told; lock = i.kept; source = i.seen; once = t.2; overwrites = t.3; learnt = n }

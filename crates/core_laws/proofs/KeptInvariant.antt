@@ -5,14 +5,14 @@ use Rattle.std.proofs.lemmas.Bool.{and_parts, cases_Bool, cond-false, cond_both}
 use Rattle.cell_model.specs.Locks.{covers}
 use Rattle.cell_model.proofs.Units.{same_unit-true, Member-append}
 use Rattle.core_model.specs.CoreState.{UnitNo, GrainId, nobody, same_unit, put, Member, Value, top, Mode, Settled, Batch, Decision, CoreState}
-use Rattle.core_model.specs.declared.phases.Phase.TheVariants.{Finished, Ended}
+use Rattle.core_model.specs.declared.phases.Phase.TheVariants.{Ended}
 use Rattle.core_model.specs.declared.phases.Verdict.{Verdict}
 use Rattle.core_model.specs.declared.phases.Verdict.TheVariants.{Open, Committed, Aborted}
 use Rattle.core_model.specs.declared.effects.Read.{Read}
 use Rattle.core_model.specs.Tests.{is_bad, is_committed}
 use Rattle.core_laws.proofs.Puts.{put-at, put-from, put-is, put-other}
 use Rattle.core_laws.proofs.Basics.{is_committed-true}
-use Rattle.core_laws.proofs.Invariant.{Inv}
+use Rattle.core_laws.proofs.Invariant.{Inv, loadless-of}
 use Rattle.std.proofs.Common.{take, is_some, length-drop, length-take}
 use Rattle.cell_model.specs.Sources.{with_source}
 use Rattle.cell_model.proofs.Sources.{with-has, with-keeps}
@@ -24,7 +24,7 @@ use Rattle.core_model.specs.Changes.{swept_by, restacked, cleaned, after_lock, d
 use Rattle.core_model.specs.Events.{can, applies, does, step, run, start, is_allowed}
 use Rattle.core_model.specs.declared.events.CoreEvent.{CoreEvent}
 use Rattle.core_model.specs.SerialOrder.{IsTrueLoad, AllLoadsTrue}
-use Rattle.core_laws.proofs.Orders.{free_prefix-length, take_length, at_part, in_part, judged-other}
+use Rattle.core_laws.proofs.Orders.{free_prefix-length, take_length, at_part, judged-other, members-open}
 use Rattle.core_laws.proofs.EventCases.{Change, bad, begin, lock, raise, refuse, finish, end_plain, end_snapshot, release, take_batch, vote, decide_some, decide_none, seal_batch, spoil_batch, doubt_batch, learn, emit, halt_run, want, load, decode}
 use Rattle.core_laws.proofs.KeptBegin.{kept-begun}
 use Rattle.core_laws.proofs.KeptStack.{kept-cleaned, kept-learnt}
@@ -114,12 +114,6 @@ inv-judged opening w b ds k e d =
 pub size-open : (opening : GrainId → List Value) (w : CoreState) (b : Batch) → Kept opening w → w.manager.batch ≡ Some b → w.manager.closed + b.size ≤ length w.manager.order
 size-open opening w b k e = subst (λ z. w.manager.closed + open_size z ≤ length w.manager.order) e k.1
 
--- the units of an open batch are undecided until it is decided
-pub members-open : (opening : GrainId → List Value) (w : CoreState) (b : Batch) → Inv opening w.manager.closed w → (x : UnitNo) → Member x (members w b) → (w.units.phase x ≡ Finished) × (w.manager.verdict x ≡ Open)
-members-open opening w b i x m =
-    let t = in_part opening w.manager.closed w i w.manager.closed b.size x m in
-    (t.0, i.late x t.0 t.1)
-
 pub inv-decided : (opening : GrainId → List Value) (w : CoreState) (b : Batch) → Kept opening w → w.manager.batch ≡ Some b → b.decisions ≡ None →
     Inv opening (w.manager.closed + b.size) (with_decisions w b (decisions_of w b))
 inv-decided opening w b k e d =
@@ -133,7 +127,7 @@ inv-decided opening w b k e d =
 covers-decided : (opening : GrainId → List Value) (w : CoreState) (b : Batch) (ds : List Decision) → Kept opening w → w.manager.batch ≡ Some b → b.decisions ≡ None →
     Covers w.units.reads w.units.deps (with_decisions w b ds).manager.verdict
 covers-decided opening w b ds k e d = covers-more w.units.reads w.units.deps w.manager.verdict _
-    (λ x c. judged-other (members w b) ds w.manager.verdict x (λ m. (let t : Open ≡ Committed = sym (members-open opening w b (inv-open opening w b k e d) x m).1 ∙ c in cc)) ∙ c) k.2
+    (λ x c. judged-other (members w b) ds w.manager.verdict x (λ m. (let t : Open ≡ Committed = sym (members-open w b (loadless-of opening _ w (inv-open opening w b k e d)) x m).1 ∙ c in cc)) ∙ c) k.2
 
 pub kept-change : (opening : GrainId → List Value) (w : CoreState) (e : CoreEvent) (w' : CoreState) → Change w e w' → applies w e ≡ true → IsTrueLoad opening w e → Kept opening w → Kept opening w'
 kept-change opening w e w' (bad line why q) a t k = k

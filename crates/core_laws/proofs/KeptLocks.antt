@@ -1,35 +1,32 @@
 -- Who runs keeps its locks.
-use Rattle.std.proofs.Common.{◌≡◌, ℕ, List, [], ◌∷◌, Bool, true, false, ◌||◌, not, inl, inr, refl, sym, ap, ◌∙◌, subst, Option, Some, None}
+use Rattle.std.proofs.Common.{◌≡◌, ℕ, List, [], ◌∷◌, true, false, ◌||◌, not, inl, inr, refl, sym, ap, ◌∙◌, subst, Option, Some, None, ◌<◌}
 use Rattle.std.proofs.lemmas.Bool.{and_parts, and_from, cond_both}
 use Rattle.cell_model.specs.Locks.{is_update, is_hold_of, covers, dropped}
 use Rattle.cell_model.proofs.Units.{same_unit-false, same_unit-is, cases_unit, any-false}
-use Rattle.core_model.specs.CoreState.{UnitNo, GrainId, put, put_grain, Member, Value, Hold, Mode, CoreState}
+use Rattle.core_model.specs.CoreState.{UnitNo, GrainId, put, put_grain, Member, Hold, Mode, CoreState}
 use Rattle.core_model.specs.declared.phases.Phase.{Phase}
 use Rattle.core_model.specs.declared.phases.Phase.TheVariants.{Unborn, Running, Finished, Refused, Ended}
-use Rattle.core_model.specs.declared.effects.Effect.{Effect}
 use Rattle.core_laws.proofs.Puts.{put-at, grain-at}
-use Rattle.core_laws.proofs.Invariant.{Inv}
 use Rattle.std.proofs.lemmas.Bool.{or_left}
 use Rattle.cell_model.specs.Locks.{granted}
 use Rattle.cell_model.proofs.LockAnswers.{granted-new, granted-stays, dropped-stays}
 use Rattle.core_model.specs.Tests.{is_over}
 use Rattle.core_model.specs.Holders.{RunnersKeepLocks}
 use Rattle.core_model.specs.Changes.{new_unit, swept, swept_by}
-use Rattle.core_model.specs.LegalRuns.{Run, IsLegal, begins, ends}
+use Rattle.core_model.specs.LegalRuns.{Run, begins, ends}
 use Rattle.core_model.specs.Laws.{extended}
 use Rattle.core_model.specs.Events.{applies, can, does, step, run, is_allowed}
 use Rattle.core_model.specs.declared.events.CoreEvent.{CoreEvent}
-use Rattle.core_model.specs.SerialOrder.{AllLoadsTrue}
 use Rattle.core_laws.proofs.EventCases.{Change, bad, begin, lock, raise, refuse, finish, end_plain, end_snapshot, release, take_batch, vote, decide_some, decide_none, seal_batch, spoil_batch, doubt_batch, learn, emit, halt_run, want, load, decode}
 use Rattle.core_laws.proofs.Basics.{is_over-not}
 use Rattle.core_laws.proofs.Growth.{Grows, grows-run}
-use Rattle.core_laws.proofs.FurtherLaws.{run-append, loads-append, legal-front}
-use Rattle.core_laws.proofs.Ends.{kept-ends}
-use Rattle.core_laws.proofs.KeptInvariant.{Kept, kept-step}
+use Rattle.core_laws.proofs.FurtherLaws.{run-append}
+use Rattle.core_laws.proofs.LoadlessKept.{LoadlessKept, loadless-step, loadless-ends}
+use Rattle.core_laws.proofs.Loadless.{LoadlessAt}
 
 -- a holder has begun
-holder-born : (opening : GrainId → List Value) (n : ℕ) (w : CoreState) → Inv opening n w → (g : GrainId) (h : Hold) → Member h (w.cells.holds g) → w.units.phase h.unit ≡ Unborn → ⊥
-holder-born opening n w i g h m p =
+holder-born : (n : ℕ) (w : CoreState) → LoadlessAt n w → (g : GrainId) (h : Hold) → Member h (w.cells.holds g) → w.units.phase h.unit ≡ Unborn → ⊥
+holder-born n w i g h m p =
     let t = i.told g h m in
     let s = i.seen g t.0 t.1 in
     subst (Member s.0) (i.blank h.unit p) (subst (λ z. Member s.0 (w.units.reads z)) t.2 s.1)
@@ -135,18 +132,16 @@ runs-now w later g u born p = go (w.units.phase u) refl
     go Refused e = over Refused e refl
     go Ended e = over Ended e refl
 
-keeping-run : (opening : GrainId → List Value) (es : List CoreEvent) (w : CoreState) → AllLoadsTrue opening w es → Kept opening w → RunnersKeepLocks w (run w es)
-keeping-run opening [] w l k g h m p = (h, m, refl, λ z. z)
-keeping-run opening (e ∷ es) w l k g h m p =
+keeping-run : (es : List CoreEvent) (w : CoreState) → LoadlessKept w → RunnersKeepLocks w (run w es)
+keeping-run [] w k g h m p = (h, m, refl, λ z. z)
+keeping-run (e ∷ es) w k g h m p =
     let s = keeping-step w e in
-    let kept = kept-step opening w e l.0 k in
-    let born = s.1 h.unit (holder-born opening _ w k.0 g h m) in
-    let runs = runs-now (step w e) (run (step w e) es) (grows-run opening es (step w e) l.1 kept) h.unit born p in
+    let kept = loadless-step w e k in
+    let born = s.1 h.unit (holder-born _ w k.0 g h m) in
+    let runs = runs-now (step w e) (run (step w e) es) (grows-run es (step w e) kept) h.unit born p in
     let one = s.0 g h m runs in
-    let two = keeping-run opening es (step w e) l.1 kept g one.0 one.1 (ap (run (step w e) es).units.phase one.2 ∙ p) in
+    let two = keeping-run es (step w e) kept g one.0 one.1 (ap (run (step w e) es).units.phase one.2 ∙ p) in
     (two.0, two.1, two.2 ∙ one.2, λ z. two.3 (one.3 z))
 
-pub keeping-ends : (plays : Effect → Bool) (r : Run) (more : List CoreEvent) → IsLegal plays (extended r more) → RunnersKeepLocks (ends r) (ends (extended r more))
-keeping-ends plays r more l =
-    subst (RunnersKeepLocks (ends r)) (sym (run-append (begins r) r.events more))
-    (keeping-run r.opening more (ends r) (loads-append r.opening (begins r) r.events more l.loads).1 (kept-ends plays r (legal-front plays r more l)))
+pub keeping-ends : (r : Run) (more : List CoreEvent) → 0 < r.base → RunnersKeepLocks (ends r) (ends (extended r more))
+keeping-ends r more above = subst (RunnersKeepLocks (ends r)) (sym (run-append (begins r) r.events more)) (keeping-run more (ends r) (loadless-ends r above))

@@ -18,6 +18,7 @@ pub mod EventCases
 pub mod KeptMemory
 pub mod Orders
 pub mod KeptInvariant
+pub mod LoadlessKept
 pub mod UnitPlays
 pub mod SerialOrder
 pub mod CommitOrder
@@ -43,9 +44,11 @@ pub mod Votes
 pub mod AnyEvents
 pub mod Numbers
 pub mod TakenLines
+pub mod EachDecided
 pub mod LineEntries
 pub mod LoadlessRuns
 pub mod HeldLocks
+pub mod HeldGrains
 pub mod LoadlessLaws
 pub mod DeadUnits
 pub mod Replies

@@ -2,13 +2,12 @@
 use Rattle.std.proofs.Common.{◌≡◌, ℕ, suc, ◌+◌, ◌<◌, ◌≤◌, List, [], ◌∷◌, ◌++◌, length, get_or, Bool, true, ◌⊎◌, inl, inr, refl, sym, ap, ◌∙◌, subst, arith, Option, Some, None}
 use Rattle.std.proofs.lemmas.Bool.{and_parts, cases_lt, cond_both}
 use Rattle.cell_model.proofs.Units.{cases_unit, Member-append, Member-left}
-use Rattle.core_model.specs.CoreState.{UnitNo, GrainId, nobody, put, Member, Value, Origin, Write, Settled, Batch, Decision, CoreState}
+use Rattle.core_model.specs.CoreState.{UnitNo, nobody, put, Member, Origin, Settled, Batch, Decision, CoreState}
 use Rattle.core_model.specs.declared.phases.Phase.{Phase}
 use Rattle.core_model.specs.declared.phases.Phase.TheVariants.{Unborn, Running, Finished, Refused, Ended}
 use Rattle.core_model.specs.declared.phases.Verdict.{Verdict}
 use Rattle.core_model.specs.declared.effects.Effect.{Effect}
 use Rattle.core_laws.proofs.Puts.{put-from, put-is, put-other}
-use Rattle.core_laws.proofs.Invariant.{Inv}
 use Rattle.std.specs.Prelude.{⊤}
 use Rattle.std.proofs.Common.{◌-◌, le_refl, length-append, append-nil, length-drop, eqb-true}
 use Rattle.base_types.specs.declared.calls.Origin.TheVariants.{Line, Child}
@@ -19,17 +18,16 @@ use Rattle.core_model.specs.Lines.{HasBegunFor, IsSettled, DifferInLine, SettleI
 use Rattle.core_laws.proofs.TakenLines.{taken-change}
 use Rattle.core_model.specs.Changes.{begun, new_unit, lines_with, entry_for, told, entries_in, after_refusal, finished, after_end, decisions_of, with_decisions, closed, result_told, seal, spoil, leave, swept, swept_by}
 use Rattle.core_model.specs.Events.{can_begin}
-use Rattle.core_model.specs.LegalRuns.{Run, IsLegal, begins, ends}
+use Rattle.core_model.specs.LegalRuns.{Run, begins, ends}
 use Rattle.core_model.specs.Events.{applies, can, does, step, run, is_allowed}
 use Rattle.core_model.specs.declared.events.CoreEvent.{CoreEvent}
-use Rattle.core_model.specs.SerialOrder.{AllLoadsTrue}
 use Rattle.core_laws.proofs.EventCases.{Change, bad, begin, lock, raise, refuse, finish, end_plain, end_snapshot, release, take_batch, vote, decide_some, decide_none, seal_batch, spoil_batch, doubt_batch, learn, emit, halt_run, want, load, decode}
-use Rattle.core_laws.proofs.Orders.{at_part, in_part, take_length, Member-at, Member-get}
-use Rattle.core_laws.proofs.Dependencies.{Depends, depends-step}
-use Rattle.core_laws.proofs.Reasons.{Reasons, Argued, argued-decided, argued-step}
-use Rattle.core_laws.proofs.EntryCauses.{entry-parts, member-place}
-use Rattle.core_laws.proofs.Ends.{kept-begins}
-use Rattle.core_laws.proofs.KeptInvariant.{Kept, kept-step, inv-decided, size-open}
+use Rattle.core_laws.proofs.Orders.{at_part, in_part, take_length, Member-at, Member-get, member-place}
+use Rattle.core_laws.proofs.EntryCauses.{entry-parts}
+use Rattle.core_laws.proofs.LoadlessKept.{LoadlessKept, size-at, decided-at, loadless-begins, loadless-step}
+use Rattle.core_laws.proofs.Loadless.{LoadlessAt}
+use Rattle.core_laws.proofs.EachDecided.{decided-many, each-step}
+use Rattle.core_model.specs.LoadlessLaws.{EachIsDecided}
 
 -- all of it, in parts
 abbrev pub Once : CoreState → Type 0
@@ -120,8 +118,8 @@ settled-running w u (inr (inl o)) p = (let t : Ended ≡ Running = sym o ∙ p i
 settled-running w u (inr (inr o)) p = (let t : Finished ≡ Running = sym o.0 ∙ p in cc)
 
 -- an entry isn't of a unit that runs
-entry-running : (opening : GrainId → List Value) (n : ℕ) (w : CoreState) → Inv opening n w → Once w → (x : Entry) → Member x w.manager.settled → w.units.phase x.unit ≡ Running → ⊥
-entry-running opening n w i s x m p = elim (s.3 x m).2 [
+entry-running : (n : ℕ) (w : CoreState) → LoadlessAt n w → Once w → (x : Entry) → Member x w.manager.settled → w.units.phase x.unit ≡ Running → ⊥
+entry-running n w i s x m p = elim (s.3 x m).2 [
   | inl o ↦ (let t : Unborn ≡ Running = sym i.outside ∙ ap w.units.phase (sym o.0) ∙ p in cc)
   | inr o ↦ settled-running w x.unit o.1 p
 ]
@@ -147,9 +145,9 @@ pub record Stops (w w' : CoreState) (u : UnitNo) (end : Phase) (what : Settled) 
   pub emitted : w'.manager.emitted ≡ w.manager.emitted
   pub all : w'.manager.settled ≡ w.manager.settled ++ entry_for (w.units.origin u) u what
 
-settles-stops : (opening : GrainId → List Value) (n : ℕ) (w w' : CoreState) (u : UnitNo) (end : Phase) (what : Settled) → Inv opening n w → w.units.phase u ≡ Running → (end ≡ Refused) ⊎ (end ≡ Ended) → Stops w w' u end what → Once w →
+settles-stops : (n : ℕ) (w w' : CoreState) (u : UnitNo) (end : Phase) (what : Settled) → LoadlessAt n w → w.units.phase u ≡ Running → (end ≡ Refused) ⊎ (end ≡ Ended) → Stops w w' u end what → Once w →
     Settles w w' (entry_for (w.units.origin u) u what)
-settles-stops opening n w w' u end what i running kind t s = record {
+settles-stops n w w' u end what i running kind t s = record {
   all = t.all;
   emitted = t.emitted;
   lines = t.lines;
@@ -179,7 +177,7 @@ settles-stops opening n w w' u end what i running kind t s = record {
   ));
   differ = (one-entry w u what).0;
   order = (one-entry w u what).1 w';
-  same = λ x m f. (let apart : x.unit ≡ u → ⊥ = λ q. entry-running opening n w i s x m (ap w.units.phase q ∙ running) in
+  same = λ x m f. (let apart : x.unit ≡ u → ⊥ = λ q. entry-running n w i s x m (ap w.units.phase q ∙ running) in
       (sym (put-other w.units.phase u end x.unit apart) ∙ sym (phase_of x.unit) ∙ f, ap (λ f. f x.unit) t.place));
   after = λ x y m k f g. (let e = entry-parts w u what y k in absurd (not_finished (sym (put-is w.units.phase u end y.unit e.0) ∙ sym (phase_of y.unit) ∙ g)));
 }
@@ -223,15 +221,15 @@ entries-of w answer (u ∷ us) (d ∷ ds) x m = elim (Member-append x (entry_for
   | inr h ↦ (let t = entries-of w answer us ds x h in (inr t.0, t.1))
 ]
 
-entries-complete : (w : CoreState) (answer : UnitNo → Settled) (votes : List (GrainId × Bool)) (ws : UnitNo → List Write) (deps : UnitNo → List UnitNo) (v : UnitNo → Verdict) (us : List UnitNo) (ds : List Decision) → Reasons votes ws deps v us ds →
+entries-complete : (w : CoreState) (answer : UnitNo → Settled) (us : List UnitNo) (ds : List Decision) → length ds ≡ length us →
     (u : UnitNo) (n : ℕ) → Member u us → w.units.origin u ≡ Line n → (y : Entry) × Member y (entries_in w answer us ds) × (y.unit ≡ u) × (y.line ≡ n)
-entries-complete w answer votes ws deps v [] ds r u n m q = absurd m
-entries-complete w answer votes ws deps v (x ∷ us) [] r u n m q = absurd r
-entries-complete w answer votes ws deps v (x ∷ us) (d ∷ ds) r u n (inl e) q =
+entries-complete w answer [] ds r u n m q = absurd m
+entries-complete w answer (x ∷ us) [] r u n m q = absurd (omega (arith, r))
+entries-complete w answer (x ∷ us) (d ∷ ds) r u n (inl e) q =
     let t = its-entry w x (told (answer x) d) n (ap w.units.origin (sym e) ∙ q) in
     (t.0, Member-left t.0 (entry_for (w.units.origin x) x (told (answer x) d)) (entries_in w answer us ds) t.1, t.2 ∙ sym e, t.3)
-entries-complete w answer votes ws deps v (x ∷ us) (d ∷ ds) r u n (inr e) q =
-    let t = entries-complete w answer votes ws deps v us ds r.2 u n e q in
+entries-complete w answer (x ∷ us) (d ∷ ds) r u n (inr e) q =
+    let t = entries-complete w answer us ds (omega (arith, r)) u n e q in
     (t.0, skip t.0 (entry_for (w.units.origin x) x (told (answer x) d)) t.1, t.2, t.3)
   where
     skip : (y : Entry) (xs : List Entry) → Member y (entries_in w answer us ds) → Member y (xs ++ entries_in w answer us ds)
@@ -243,16 +241,16 @@ abbrev pub Rises : (UnitNo → ℕ) → List UnitNo → Type 0
 Rises place [] = ⊤
 Rises place (u ∷ us) = ((x : UnitNo) → Member x us → place u < place x) × Rises place us
 
-pub rises-part : (opening : GrainId → List Value) (n : ℕ) (w : CoreState) → Inv opening n w → (us : List UnitNo) (k : ℕ) →
+pub rises-part : (n : ℕ) (w : CoreState) → LoadlessAt n w → (us : List UnitNo) (k : ℕ) →
     ((j : ℕ) → j < length us → (k + j < length w.manager.order) × (get_or us j nobody ≡ get_or w.manager.order (k + j) nobody)) → Rises w.manager.place us
-rises-part opening n w i [] k at = tt
-rises-part opening n w i (u ∷ us) k at = (
+rises-part n w i [] k at = tt
+rises-part n w i (u ∷ us) k at = (
   (λ x m. (let t = Member-at x us m in
       let r = rest t.0 t.1 in
       let l = i.listed (k + 1 + t.0) r.0 in
       let place : w.manager.place x ≡ k + 1 + t.0 + 1 = ap w.manager.place (sym t.2 ∙ r.1) ∙ l.1 in
       omega (arith, place, here))),
-  rises-part opening n w i us (k + 1) rest,
+  rises-part n w i us (k + 1) rest,
 )
   where
     here : w.manager.place u ≡ k + 1
@@ -290,9 +288,9 @@ entries-order w w' answer (u ∷ us) (d ∷ ds) rises =
     let b = entries-of w answer us ds y n in
     let lt = rises.0 y.unit b.0 in omega (arith, lt, ap w'.manager.place a.0)))
 
-once-closed : (opening : GrainId → List Value) (w : CoreState) (f : Verdict → Verdict) (answer : UnitNo → Settled) (b : Batch) (ds : List Decision) → (n : ℕ) → Inv opening n w → w.manager.closed + b.size ≤ length w.manager.order →
-    Reasons b.votes w.manager.writes w.units.deps w.manager.verdict (members w b) ds → Once w → Once (closed w f answer b ds)
-once-closed opening w f answer b ds n i le reasons s = once-settles w (closed w f answer b ds) (entries_in w answer (members w b) ds) (record {
+once-closed : (w : CoreState) (f : Verdict → Verdict) (answer : UnitNo → Settled) (b : Batch) (ds : List Decision) → (n : ℕ) → LoadlessAt n w → w.manager.closed + b.size ≤ length w.manager.order →
+    length ds ≡ length (members w b) → Once w → Once (closed w f answer b ds)
+once-closed w f answer b ds n i le many s = once-settles w (closed w f answer b ds) (entries_in w answer (members w b) ds) (record {
   all = refl;
   emitted = refl;
   lines = refl;
@@ -305,13 +303,13 @@ once-closed opening w f answer b ds n i le reasons s = once-settles w (closed w 
       | inl c ↦ inl (inr (inl c))
       | inr c ↦ elim (cases_lt w.manager.closed (w.manager.place u)) [
         | inr old ↦ inl (inr (inr (c.0, old)))
-        | inl new ↦ inr (entries-complete w answer b.votes w.manager.writes w.units.deps w.manager.verdict (members w b) ds reasons u m (is_member u c.0 new c.1) h.1)
+        | inl new ↦ inr (entries-complete w answer (members w b) ds many u m (is_member u c.0 new c.1) h.1)
       ]
     ]
   ];
   fresh = λ y m. (let e = entries-of w answer (members w b) ds y m in
-      let p = member-place opening n w b i y.unit e.0 in
-      let late = (in_part opening n w i w.manager.closed b.size y.unit e.0).1 in (
+      let p = member-place n w b i y.unit e.0 in
+      let late = (in_part n w i w.manager.closed b.size y.unit e.0).1 in (
         ((λ z. (let t : Finished ≡ Unborn = sym p.0 ∙ z in cc)), e.1),
         (λ o. elim o [
           | inl a ↦ (let t : Finished ≡ Refused = sym p.0 ∙ a in cc)
@@ -319,11 +317,11 @@ once-closed opening w f answer b ds n i le reasons s = once-settles w (closed w 
         ]),
         inr (inr p),
       ));
-  differ = entries-differ w answer (members w b) ds rises (λ u m z. (let t : Finished ≡ Unborn = sym (member-place opening n w b i u m).0 ∙ z in cc)) s.1;
+  differ = entries-differ w answer (members w b) ds rises (λ u m z. (let t : Finished ≡ Unborn = sym (member-place n w b i u m).0 ∙ z in cc)) s.1;
   order = entries-order w (closed w f answer b ds) answer (members w b) ds rises;
   same = λ x m g. (g, refl);
   after = λ x y m k g h. (let e = entries-of w answer (members w b) ds y k in
-      let late = (in_part opening n w i w.manager.closed b.size y.unit e.0).1 in
+      let late = (in_part n w i w.manager.closed b.size y.unit e.0).1 in
       elim (s.3 x m).2 [
         | inl o ↦ (let t : Unborn ≡ Finished = sym i.outside ∙ ap w.units.phase (sym o.0) ∙ g in cc)
         | inr o ↦ elim o.1 [
@@ -337,7 +335,7 @@ once-closed opening w f answer b ds n i le reasons s = once-settles w (closed w 
     len = take_length b.size (waiting w) (omega (arith, length-drop w.manager.closed w.manager.order, le))
 
     rises : Rises w.manager.place (members w b)
-    rises = rises-part opening n w i (members w b) w.manager.closed (λ j h. (omega (arith, len, h, le), at_part b.size w.manager.closed w.manager.order j (omega (arith, len, h))))
+    rises = rises-part n w i (members w b) w.manager.closed (λ j h. (omega (arith, len, h, le), at_part b.size w.manager.closed w.manager.order j (omega (arith, len, h))))
 
     is_member : (u : UnitNo) → w.units.phase u ≡ Finished → w.manager.closed < w.manager.place u → w.manager.place u ≤ w.manager.closed + b.size → Member u (members w b)
     is_member u f new old =
@@ -349,9 +347,9 @@ once-closed opening w f answer b ds n i le reasons s = once-settles w (closed w 
         (at_part b.size w.manager.closed w.manager.order j lt ∙ ap (λ z. get_or w.manager.order z nobody) at ∙ t.3)
         (Member-get (members w b) j (omega (arith, len, lt)))
 
-once-bad : (opening : GrainId → List Value) (n : ℕ) (w : CoreState) (line : ℕ) (what : Settled) → Inv opening n w → line ≡ w.units.lines + 1 → Once w →
+once-bad : (n : ℕ) (w : CoreState) (line : ℕ) (what : Settled) → LoadlessAt n w → line ≡ w.units.lines + 1 → Once w →
     Once (record w { units = record w.units { lines = w.units.lines + 1 }; manager = record w.manager { settled = w.manager.settled ++ record { line = line; unit = nobody; what = what } ∷ [] } })
-once-bad opening n w line what i q s = (
+once-bad n w line what i q s = (
   (λ u m b. (let z = s.0 u m b in (z.0, omega (arith, z.1)))),
   s.1,
   differ-append w.manager.settled (record { line = line; unit = nobody; what = what } ∷ []) s.2 ((λ y m. absurd m), tt)
@@ -369,8 +367,8 @@ once-bad opening n w line what i q s = (
   omega (arith, s.6, length-append w.manager.settled (record { line = line; unit = nobody; what = what } ∷ [])),
 )
 
-once-begun : (opening : GrainId → List Value) (n : ℕ) (w : CoreState) (origin : Origin) (call : Call) (plain : Bool) → Inv opening n w → can_begin w origin ≡ true → Once w → Once (begun w origin call plain)
-once-begun opening n w origin call plain i c s = (
+once-begun : (n : ℕ) (w : CoreState) (origin : Origin) (call : Call) (plain : Bool) → LoadlessAt n w → can_begin w origin ≡ true → Once w → Once (begun w origin call plain)
+once-begun n w origin call plain i c s = (
   (λ u m b. elim (begun_of u m b) [ inl o ↦ (omega (arith, (new_line m o.1).0), omega (arith, (new_line m o.1).0, (new_line m o.1).1)) | inr o ↦ (let z = s.0 u m o in (z.0, omega (arith, z.1, more))) ]),
   (λ u v m a b. elim (begun_of u m a) [
     | inl x ↦ elim (begun_of v m b) [ inl y ↦ x.0 ∙ sym y.0 | inr y ↦ absurd (omega (arith, (new_line m x.1).0, (s.0 v m y).1)) ]
@@ -424,14 +422,14 @@ once-begun opening n w origin call plain i c s = (
         go (Line m) = omega arith
         go (Child p j d) = omega arith
 
-once-ended : (opening : GrainId → List Value) (w : CoreState) (u : UnitNo) (answers : List Outcome) (result : Outcome) (at : Option ℕ) → Kept opening w → w.units.phase u ≡ Running → Once w → Once (after_end w u answers result at)
-once-ended opening w u answers result at k running s =
+once-ended : (w : CoreState) (u : UnitNo) (answers : List Outcome) (result : Outcome) (at : Option ℕ) → LoadlessKept w → w.units.phase u ≡ Running → Once w → Once (after_end w u answers result at)
+once-ended w u answers result at k running s =
     once-settles w (after_end w u answers result at) (entry_for (w.units.origin u) u (settled.Done result))
-    (settles-stops opening _ w (after_end w u answers result at) u Ended (settled.Done result) k.0 running (inr refl) (record { phase = refl; origin = refl; lines = refl; place = refl; closed = refl; emitted = refl; all = refl }) s) s
+    (settles-stops _ w (after_end w u answers result at) u Ended (settled.Done result) k.0 running (inr refl) (record { phase = refl; origin = refl; lines = refl; place = refl; closed = refl; emitted = refl; all = refl }) s) s
 
 -- who finishes isn't settled yet
-once-finished : (opening : GrainId → List Value) (w : CoreState) (u : UnitNo) (effect : Effect) → Kept opening w → w.units.phase u ≡ Running → Once w → Once (finished w u effect)
-once-finished opening w u effect k running s = once-settles w (finished w u effect) [] (record {
+once-finished : (w : CoreState) (u : UnitNo) (effect : Effect) → LoadlessKept w → w.units.phase u ≡ Running → Once w → Once (finished w u effect)
+once-finished w u effect k running s = once-settles w (finished w u effect) [] (record {
   all = sym (append-nil _);
   emitted = refl;
   lines = refl;
@@ -457,40 +455,40 @@ once-finished opening w u effect k running s = once-settles w (finished w u effe
   fresh = λ y m. absurd m;
   differ = tt;
   order = tt;
-  same = λ x m f. (let apart : x.unit ≡ u → ⊥ = λ q. entry-running opening _ w k.0 s x m (ap w.units.phase q ∙ running) in
+  same = λ x m f. (let apart : x.unit ≡ u → ⊥ = λ q. entry-running _ w k.0 s x m (ap w.units.phase q ∙ running) in
       (sym (put-other w.units.phase u Finished x.unit apart) ∙ f, put-other w.manager.place u (length w.manager.order + 1) x.unit apart));
   after = λ x y m n. absurd n;
 }) s
 
-pub once-change : (opening : GrainId → List Value) (w : CoreState) (e : CoreEvent) (w' : CoreState) → Change w e w' → applies w e ≡ true → Kept opening w → Depends w → Argued w → Once w → Once w'
-once-change opening w e w' (bad line why q) a k dep arg s = once-bad opening _ w line (settled.Bad why) k.0 q s
-once-change opening w e w' (begin origin call plain c) a k dep arg s = once-begun opening _ w origin call plain k.0 c s
-once-change opening w e w' (lock u g mode running free first here) a k dep arg s = s
-once-change opening w e w' (raise u g mode running free held here uncovered) a k dep arg s = s
-once-change opening w e w' (refuse u g mode why running q) a k dep arg s =
+pub once-change : (w : CoreState) (e : CoreEvent) (w' : CoreState) → Change w e w' → applies w e ≡ true → LoadlessKept w → EachIsDecided w → Once w → Once w'
+once-change w e w' (bad line why q) a k each s = once-bad _ w line (settled.Bad why) k.0 q s
+once-change w e w' (begin origin call plain c) a k each s = once-begun _ w origin call plain k.0 c s
+once-change w e w' (lock u g mode running free first here) a k each s = s
+once-change w e w' (raise u g mode running free held here uncovered) a k each s = s
+once-change w e w' (refuse u g mode why running q) a k each s =
     once-settles w (after_refusal w u why) (entry_for (w.units.origin u) u why)
-    (settles-stops opening _ w (after_refusal w u why) u Refused why k.0 running (inl refl) (record { phase = refl; origin = refl; lines = refl; place = refl; closed = refl; emitted = refl; all = refl }) s) s
-once-change opening w e w' (finish u effect running plain of_call reads alone) a k dep arg s = once-finished opening w u effect k running s
-once-change opening w e w' (end_plain u effect running plain of_call bare) a k dep arg s = once-ended opening w u effect.answers effect.result None k running s
-once-change opening w e w' (end_snapshot u at outcome running plain kids answer) a k dep arg s = once-ended opening w u [] outcome (Some at) k running s
-once-change opening w e w' (release u g over held) a k dep arg s = s
-once-change opening w e w' (take_batch none some) a k dep arg s = s
-once-change opening w e w' (vote n g kept b q number d planned fresh) a k dep arg s = s
-once-change opening w e w' (decide_some n b q number d voted some) a k dep arg s = s
-once-change opening w e w' (decide_none n b q number d voted none) a k dep arg s =
-    once-closed opening (with_decisions w b (decisions_of w b)) seal (result_told (with_decisions w b (decisions_of w b))) b (decisions_of w b) _ (inv-decided opening w b k q d) (size-open opening w b k q) (argued-decided opening w b k dep q d) s
-once-change opening w e w' (seal_batch n b ds q number d) a k dep arg s = once-closed opening w seal (result_told w) b ds _ k.0 (size-open opening w b k q) (arg b ds q d) s
-once-change opening w e w' (spoil_batch n b ds q number d) a k dep arg s = once-closed opening w spoil (λ u. settled.Disk) b ds _ k.0 (size-open opening w b k q) (arg b ds q d) s
-once-change opening w e w' (doubt_batch n b ds q number d) a k dep arg s = once-closed opening w leave (λ u. settled.InDoubt) b ds _ k.0 (size-open opening w b k q) (arg b ds q d) s
-once-change opening w e w' (learn u g wrote final fresh) a k dep arg s = s
-once-change opening w e w' (emit q) a k dep arg s = (s.0, s.1, s.2, s.3, s.4, s.5, omega (arith, q))
-once-change opening w e w' (halt_run q) a k dep arg s = s
-once-change opening w e w' (want u g running free fresh) a k dep arg s = s
-once-change opening w e w' (load g u state gone wanted) a k dep arg s = s
+    (settles-stops _ w (after_refusal w u why) u Refused why k.0 running (inl refl) (record { phase = refl; origin = refl; lines = refl; place = refl; closed = refl; emitted = refl; all = refl }) s) s
+once-change w e w' (finish u effect running plain of_call reads alone) a k each s = once-finished w u effect k running s
+once-change w e w' (end_plain u effect running plain of_call bare) a k each s = once-ended w u effect.answers effect.result None k running s
+once-change w e w' (end_snapshot u at outcome running plain kids answer) a k each s = once-ended w u [] outcome (Some at) k running s
+once-change w e w' (release u g over held) a k each s = s
+once-change w e w' (take_batch none some) a k each s = s
+once-change w e w' (vote n g kept b q number d planned fresh) a k each s = s
+once-change w e w' (decide_some n b q number d voted some) a k each s = s
+once-change w e w' (decide_none n b q number d voted none) a k each s =
+    once-closed (with_decisions w b (decisions_of w b)) seal (result_told (with_decisions w b (decisions_of w b))) b (decisions_of w b) _ (decided-at w b k q d) (size-at w b k q) (decided-many w b) s
+once-change w e w' (seal_batch n b ds q number d) a k each s = once-closed w seal (result_told w) b ds _ k.0 (size-at w b k q) (each b ds q d) s
+once-change w e w' (spoil_batch n b ds q number d) a k each s = once-closed w spoil (λ u. settled.Disk) b ds _ k.0 (size-at w b k q) (each b ds q d) s
+once-change w e w' (doubt_batch n b ds q number d) a k each s = once-closed w leave (λ u. settled.InDoubt) b ds _ k.0 (size-at w b k q) (each b ds q d) s
+once-change w e w' (learn u g wrote final fresh) a k each s = s
+once-change w e w' (emit q) a k each s = (s.0, s.1, s.2, s.3, s.4, s.5, omega (arith, q))
+once-change w e w' (halt_run q) a k each s = s
+once-change w e w' (want u g running free fresh) a k each s = s
+once-change w e w' (load g u state gone wanted) a k each s = s
 
-once-step : (opening : GrainId → List Value) (w : CoreState) (e : CoreEvent) → Kept opening w → Depends w → Argued w → Once w → Once (step w e)
-once-step opening w e k dep arg s = cond_both (applies w e) (swept (does w e)) w Once
-    (λ a. swept-once (does w e) (once-change opening w e (does w e) (decode w e (and_parts (is_allowed w e) (can w e) a).1) a k dep arg s))
+once-step : (w : CoreState) (e : CoreEvent) → LoadlessKept w → EachIsDecided w → Once w → Once (step w e)
+once-step w e k each s = cond_both (applies w e) (swept (does w e)) w Once
+    (λ a. swept-once (does w e) (once-change w e (does w e) (decode w e (and_parts (is_allowed w e) (can w e) a).1) a k each s))
     (λ a. s)
   where
     swept-once : (w : CoreState) → Once w → Once (swept w)
@@ -500,15 +498,15 @@ once-step opening w e k dep arg s = cond_both (applies w e) (swept (does w e)) w
         go None = s
         go (Some m) = s
 
-once-run : (opening : GrainId → List Value) (es : List CoreEvent) (w : CoreState) → AllLoadsTrue opening w es → Kept opening w → Depends w → Argued w → Once w → Once (run w es)
-once-run opening [] w l k dep arg s = s
-once-run opening (e ∷ es) w l k dep arg s =
-    once-run opening es (step w e) l.1 (kept-step opening w e l.0 k) (depends-step opening w e l.0 k dep) (argued-step opening w e k dep arg) (once-step opening w e k dep arg s)
+once-run : (es : List CoreEvent) (w : CoreState) → LoadlessKept w → EachIsDecided w → Once w → Once (run w es)
+once-run [] w k each s = s
+once-run (e ∷ es) w k each s =
+    once-run es (step w e) (loadless-step w e k) (each-step w e k each) (once-step w e k each s)
 
 -- and each line has its unit or its entry
-taken-step : (opening : GrainId → List Value) (w : CoreState) (e : CoreEvent) → Kept opening w → LinesAreTaken w → LinesAreTaken (step w e)
-taken-step opening w e k s = cond_both (applies w e) (swept (does w e)) w LinesAreTaken
-    (λ a. swept-taken (does w e) (taken-change opening w e (does w e) (decode w e (and_parts (is_allowed w e) (can w e) a).1) k s))
+taken-step : (w : CoreState) (e : CoreEvent) → LoadlessKept w → LinesAreTaken w → LinesAreTaken (step w e)
+taken-step w e k s = cond_both (applies w e) (swept (does w e)) w LinesAreTaken
+    (λ a. swept-taken (does w e) (taken-change w e (does w e) (decode w e (and_parts (is_allowed w e) (can w e) a).1) k s))
     (λ a. s)
   where
     swept-taken : (w : CoreState) → LinesAreTaken w → LinesAreTaken (swept w)
@@ -518,12 +516,12 @@ taken-step opening w e k s = cond_both (applies w e) (swept (does w e)) w LinesA
         go None = s
         go (Some m) = s
 
-taken-run : (opening : GrainId → List Value) (es : List CoreEvent) (w : CoreState) → AllLoadsTrue opening w es → Kept opening w → LinesAreTaken w → LinesAreTaken (run w es)
-taken-run opening [] w l k s = s
-taken-run opening (e ∷ es) w l k s = taken-run opening es (step w e) l.1 (kept-step opening w e l.0 k) (taken-step opening w e k s)
+taken-run : (es : List CoreEvent) (w : CoreState) → LoadlessKept w → LinesAreTaken w → LinesAreTaken (run w es)
+taken-run [] w k s = s
+taken-run (e ∷ es) w k s = taken-run es (step w e) (loadless-step w e k) (taken-step w e k s)
 
-pub once-ends : (plays : Effect → Bool) (r : Run) → IsLegal plays r → EntriesAreOnce (ends r)
-once-ends plays r l =
-    let t = once-run r.opening r.events (begins r) l.loads (kept-begins plays r l) ((λ u. tt), (λ u d n. absurd n)) (λ b ds q. cc)
+pub once-ends : (r : Run) → 0 < r.base → EntriesAreOnce (ends r)
+once-ends r above =
+    let t = once-run r.events (begins r) (loadless-begins r above) (λ b ds q. cc)
     ((λ u n b. absurd (b.0 refl)), (λ u v n a b. absurd (a.0 refl)), tt, (λ x m. absurd m), (λ u n b. absurd (b.0 refl)), tt, omega arith) in
-    record { within = t.0; one_unit = t.1; differ = t.2; entry = t.3; complete = t.4; order = t.5; written = t.6; taken = taken-run r.opening r.events (begins r) l.loads (kept-begins plays r l) (λ n low high. absurd (omega (arith, low, high))) }
+    record { within = t.0; one_unit = t.1; differ = t.2; entry = t.3; complete = t.4; order = t.5; written = t.6; taken = taken-run r.events (begins r) (loadless-begins r above) (λ n low high. absurd (omega (arith, low, high))) }

@@ -1,35 +1,30 @@
 -- What code may rely on, after every list of events.
-use Rattle.std.proofs.Common.{◌≡◌, ◌+◌, ◌<◌, ◌≤◌, length, refl, ap, arith, Option, Some, None}
-use Rattle.core_model.specs.CoreState.{Batch, CoreState}
-use Rattle.core_model.specs.Consistency.{size_of}
+use Rattle.std.proofs.Common.{◌<◌}
 use Rattle.core_model.specs.LoadlessLaws.{HoldsWithoutLoads}
 use Rattle.core_model.specs.LegalRuns.{Run, ends}
-use Rattle.core_laws.proofs.KeptInvariant.{open_size}
-use Rattle.core_laws.proofs.LoadlessRuns.{LoadlessKept, steady-ends, only-judged}
-use Rattle.core_laws.proofs.HeldLocks.{tidy-ends}
+use Rattle.core_laws.proofs.LoadlessRuns.{steady-ends, only-judged, prefix-ends, no-lock-ends, children-ends, answers-ends}
+use Rattle.core_laws.proofs.HeldLocks.{holders-ends}
+use Rattle.core_laws.proofs.HeldGrains.{here-ends}
+use Rattle.core_laws.proofs.Memory.{bounded-ends}
+use Rattle.core_laws.proofs.LineEntries.{once-ends}
+use Rattle.core_laws.proofs.EachDecided.{each-ends}
 
 pub holds-ends : (r : Run) → 0 < r.base → HoldsWithoutLoads (ends r)
 holds-ends r above =
     let s = steady-ends r above in
     let i = s.0.0 in
-    let t = tidy-ends r above in
     record {
-      ordered = record { listed = i.listed; placed = i.placed };
-      within = within (ends r) s.0 (ends r).manager.batch refl;
-      size = s.0.2;
+      prefix = prefix-ends r above;
       judged = λ none. only-judged (ends r) s none;
+      decisions = each-ends r above;
+      locks = no-lock-ends r above;
       holders = record { alone = i.alone; holds = i.keeps };
       writers = i.strong;
-      reading = i.told;
-      lock = i.kept;
-      source = i.seen;
-      one_lock = t.0;
-      one_reading = t.1;
-      once = t.2;
-      overwrites = t.3;
+      read = holders-ends r above;
+      here = here-ends r;
+      memory = bounded-ends r above;
+      children = children-ends r above;
+      answers = answers-ends r above;
+      entries = once-ends r above;
       fresh = i.unborn;
     }
-  where
-    within : (w : CoreState) → LoadlessKept w → (o : Option Batch) → w.manager.batch ≡ o → w.manager.closed + size_of w.manager.batch ≤ length w.manager.order
-    within w k None q = omega (arith, k.1, ap open_size q, ap size_of q)
-    within w k (Some b) q = omega (arith, k.1, ap open_size q, ap size_of q)

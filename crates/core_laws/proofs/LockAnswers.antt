@@ -15,7 +15,7 @@ use Rattle.core_model.specs.declared.phases.Phase.TheVariants.{Running}
 use Rattle.core_model.specs.declared.effects.Effect.{Effect}
 use Rattle.core_model.specs.Tests.{is_running, is_gone, is_active, doomed_by, ask_answer, ask_lock, ask_doom}
 use Rattle.core_model.specs.Causes.{IsRemoved, GoneIsRemoved}
-use Rattle.core_model.specs.LockAnswers.{IsActive, IsOldestRemoved, AskExactly, IsGoing, GrantApplies, TakeApplies, TakesBatch}
+use Rattle.core_model.specs.LockAnswers.{IsActive, IsOldestRemoved, AskExactly, AskedLocks, IsGoing, GrantApplies, TakeApplies, TakesBatch}
 use Rattle.core_model.specs.Changes.{after_take, new_batch, swept, swept_by}
 use Rattle.core_model.specs.Events.{applies, batch_size, can, does, step, is_allowed, is_after_doubt, is_after_halt, is_free_answer}
 use Rattle.core_model.specs.declared.events.CoreEvent.{CoreEvent}
@@ -35,13 +35,31 @@ member-source [] r m = absurd m
 member-source (x ∷ rs) r (inl q) = inl (ap (λ (z : Read). z.source) q)
 member-source (x ∷ rs) r (inr m) = inr (member-source rs r m)
 
-module _ (w : CoreState) (gone : GoneIsRemoved w) (u : UnitNo) (g : GrainId) (mode : Mode) where
+module _ (w : CoreState) (u : UnitNo) (g : GrainId) (mode : Mode) where
   active-is : is_active w u g ≡ true → IsActive w u g
   active-is e = (let p = and_parts (is_running (w.units.phase u)) (nat_lt g.kind w.units.kinds) e in (is_running-true _ p.0, ltb-true _ _ p.1))
 
   inactive-is : is_active w u g ≡ false → IsActive w u g → ⊥
   inactive-is e a = (let z : true ≡ false = sym (and_from (is_running (w.units.phase u)) (nat_lt g.kind w.units.kinds) (ap is_running a.0) (lt-ltb g.kind w.units.kinds a.1)) ∙ e in cc)
 
+  lock-asked : IsActive w u g → (a : Ask) → AnswersExactly (w.cells.holds g) u mode a → (here : Bool) → w.cells.here g ≡ here → AskedLocks w u g mode (ask_lock here a)
+  lock-asked act said.Free x true h = (act, x, h)
+  lock-asked act said.Free x false h = (act, x, h)
+  lock-asked act said.Held x here h = (act, x)
+  lock-asked act (said.MustWait v) x here h = (act, x)
+  lock-asked act (said.MustDie v) x here h = (act, x)
+
+  doom-asked : IsActive w u g → (o : Option UnitNo) → AskedLocks w u g mode (ask_doom o (ask_lock (w.cells.here g) (locks.ask (w.cells.holds g) u mode)))
+  doom-asked act None = lock-asked act (locks.ask (w.cells.holds g) u mode) (ask-exact (w.cells.holds g) u mode) (w.cells.here g) refl
+  doom-asked act (Some s) = act
+
+  -- what an answer says of the locks, in every state
+  pub asked-locks : AskedLocks w u g mode (ask_answer w u g mode)
+  asked-locks = cond_both (is_active w u g) (ask_doom (doomed_by w u) (ask_lock (w.cells.here g) (locks.ask (w.cells.holds g) u mode))) answer.NotActive (AskedLocks w u g mode)
+      (λ e. doom-asked (active-is e) (doomed_by w u))
+      (λ e. inactive-is e)
+
+module _ (w : CoreState) (gone : GoneIsRemoved w) (u : UnitNo) (g : GrainId) (mode : Mode) where
   by_lock : IsActive w u g → ((r : Read) → Member r (w.units.reads u) → IsRemoved w r → ⊥) → (a : Ask) → AnswersExactly (w.cells.holds g) u mode a → (here : Bool) → w.cells.here g ≡ here → AskExactly w u g mode (ask_lock here a)
   by_lock act un said.Free x true h = (record { active = act; unharmed = un; lock = x }, h)
   by_lock act un said.Free x false h = (record { active = act; unharmed = un; lock = x }, h)
@@ -70,8 +88,8 @@ module _ (w : CoreState) (gone : GoneIsRemoved w) (u : UnitNo) (g : GrainId) (mo
 
   asked : AskExactly w u g mode (ask_answer w u g mode)
   asked = cond_both (is_active w u g) (ask_doom (doomed_by w u) (ask_lock (w.cells.here g) (locks.ask (w.cells.holds g) u mode))) answer.NotActive (AskExactly w u g mode)
-      (λ e. by_doom (active-is e) (doomed_by w u) refl)
-      (λ e. inactive-is e)
+      (λ e. by_doom (active-is w u g mode e) (doomed_by w u) refl)
+      (λ e. inactive-is w u g mode e)
 
 pub ask-ends : (plays : Effect → Bool) (r : Run) → IsLegal plays r → (u : UnitNo) (g : GrainId) (mode : Mode) → AskExactly (ends r) u g mode (ask_answer (ends r) u g mode)
 ask-ends plays r l u g mode = asked (ends r) (removed-ends plays r l) u g mode

@@ -1,12 +1,11 @@
 -- Which grains are in memory, and who wants them.
-use Rattle.std.proofs.Common.{◌≡◌, ℕ, zero, suc, ◌≤◌, List, [], ◌∷◌, length, Bool, true, false, ◌&&◌, not, ◌⊎◌, inl, inr, refl, sym, ap, ◌∙◌, subst, arith, Option, Some, None}
+use Rattle.std.proofs.Common.{◌≡◌, ℕ, zero, suc, ◌≤◌, List, [], ◌∷◌, length, Bool, true, false, ◌&&◌, not, ◌⊎◌, inl, inr, refl, sym, ap, ◌∙◌, subst, arith, Option, Some, None, ◌<◌}
 use Rattle.std.proofs.lemmas.Bool.{and_parts, and_from, not-true, cond_both}
 use Rattle.cell_model.specs.Locks.{is_hold_of, dropped}
 use Rattle.cell_model.proofs.Units.{same_unit-true, same_unit-false, same_unit-is, any-true, any-false, any-member, Member-append, filter-member}
-use Rattle.core_model.specs.CoreState.{UnitNo, GrainId, same_unit, same_grain, put, Member, Value, Hold, CoreState}
+use Rattle.core_model.specs.CoreState.{UnitNo, GrainId, same_unit, same_grain, put, Member, Hold, CoreState}
 use Rattle.core_model.specs.declared.phases.Phase.{Phase}
 use Rattle.core_model.specs.declared.phases.Phase.TheVariants.{Running, Finished, Refused, Ended}
-use Rattle.core_model.specs.declared.effects.Effect.{Effect}
 use Rattle.core_model.specs.Tests.{any}
 use Rattle.core_laws.proofs.Puts.{put-at, put-other, grain-at, grain-from, grain-is}
 use Rattle.std.proofs.Common.{take, filter, is_none}
@@ -18,13 +17,11 @@ use Rattle.std.proofs.lemmas.Bool.{or_left}
 use Rattle.core_model.specs.Tests.{is_recent, is_idle}
 use Rattle.core_model.specs.Memory.{MemoryIsBounded}
 use Rattle.core_model.specs.Changes.{new_unit, touched, without_wants, swept, swept_by}
-use Rattle.core_model.specs.LegalRuns.{Run, IsLegal, begins, ends}
+use Rattle.core_model.specs.LegalRuns.{Run, begins, ends}
 use Rattle.core_model.specs.Events.{applies, can, does, step, run, is_allowed}
 use Rattle.core_model.specs.declared.events.CoreEvent.{CoreEvent}
-use Rattle.core_model.specs.SerialOrder.{AllLoadsTrue}
 use Rattle.core_laws.proofs.EventCases.{Change, bad, begin, lock, raise, refuse, finish, end_plain, end_snapshot, release, take_batch, vote, decide_some, decide_none, seal_batch, spoil_batch, doubt_batch, learn, emit, halt_run, want, load, decode}
-use Rattle.core_laws.proofs.Ends.{kept-begins}
-use Rattle.core_laws.proofs.KeptInvariant.{Kept, kept-step}
+use Rattle.core_laws.proofs.LoadlessKept.{LoadlessKept, loadless-begins, loadless-step}
 
 abbrev pub Limited : CoreState → Type 0
 Limited w = (n : ℕ) → w.cells.capacity ≡ Some n → length w.cells.recent ≤ n
@@ -82,10 +79,10 @@ remembers-phase w u end s = (s.0, s.1, s.2, λ x g m. wants-phase w u end s.3 x 
 not_wanted : {u : UnitNo} {g : GrainId} (x : UnitNo) (j : GrainId) → x ≡ u → j ≡ g → (same_unit x u && same_grain j g) ≡ false → ⊥
 not_wanted {u} {g} x j p q e = (let t : true ≡ false = sym (and_from _ _ (same_unit-is x u p) (same_grain-is j g q)) ∙ e in cc)
 
-pub remembers-change : (opening : GrainId → List Value) (w : CoreState) (e : CoreEvent) (w' : CoreState) → Change w e w' → applies w e ≡ true → Kept opening w → Remembers w → Remembers w'
-remembers-change opening w e w' (bad line why q) a k s = s
-remembers-change opening w e w' (begin origin call plain c) a k s = (s.0, s.1, s.2, λ x g m. (let t = s.3 x g m in (put-at w.units.phase (new_unit w) Running (λ p. p ≡ Running) x (λ z. refl) (λ z. t.0), t.1)))
-remembers-change opening w e w' (lock u g mode running free first here) a k s = (
+pub remembers-change : (w : CoreState) (e : CoreEvent) (w' : CoreState) → Change w e w' → applies w e ≡ true → LoadlessKept w → Remembers w → Remembers w'
+remembers-change w e w' (bad line why q) a k s = s
+remembers-change w e w' (begin origin call plain c) a k s = (s.0, s.1, s.2, λ x g m. (let t = s.3 x g m in (put-at w.units.phase (new_unit w) Running (λ p. p ≡ Running) x (λ z. refl) (λ z. t.0), t.1)))
+remembers-change w e w' (lock u g mode running free first here) a k s = (
   limited-touched w.cells.capacity g w.cells.recent s.0,
   (λ j z. elim (touched-recent w.cells.capacity g w.cells.recent j z) [ inl y ↦ ap w.cells.here y ∙ here | inr y ↦ s.1 j y ]),
   s.2,
@@ -100,7 +97,7 @@ remembers-change opening w e w' (lock u g mode running free first here) a k s = 
             (λ z n'. o.1 h n' q) n,
       ))),
 )
-remembers-change opening w e w' (raise u g mode running free held here uncovered) a k s = (
+remembers-change w e w' (raise u g mode running free held here uncovered) a k s = (
   s.0,
   s.1,
   s.2,
@@ -115,11 +112,11 @@ remembers-change opening w e w' (raise u g mode running free held here uncovered
         (λ z n'. o.1 h n' q) n,
   ))),
 )
-remembers-change opening w e w' (refuse u g mode why running q) a k s = remembers-phase w u Refused s
-remembers-change opening w e w' (finish u effect running plain of_call reads alone) a k s = remembers-phase w u Finished s
-remembers-change opening w e w' (end_plain u effect running plain of_call bare) a k s = remembers-phase w u Ended s
-remembers-change opening w e w' (end_snapshot u at outcome running plain kids answer) a k s = remembers-phase w u Ended s
-remembers-change opening w e w' (release u g over held) a k s = (
+remembers-change w e w' (refuse u g mode why running q) a k s = remembers-phase w u Refused s
+remembers-change w e w' (finish u effect running plain of_call reads alone) a k s = remembers-phase w u Finished s
+remembers-change w e w' (end_plain u effect running plain of_call bare) a k s = remembers-phase w u Ended s
+remembers-change w e w' (end_snapshot u at outcome running plain kids answer) a k s = remembers-phase w u Ended s
+remembers-change w e w' (release u g over held) a k s = (
   s.0,
   s.1,
   s.2,
@@ -129,17 +126,17 @@ remembers-change opening w e w' (release u g over held) a k s = (
         (λ z n'. subst (λ i. Member h (w.cells.holds i)) (sym z) (dropped-member u (w.cells.holds g) h n').0) (λ z n'. n') n) q,
   ))),
 )
-remembers-change opening w e w' (take_batch none some) a k s = s
-remembers-change opening w e w' (vote n g kept b q number d planned fresh) a k s = s
-remembers-change opening w e w' (decide_some n b q number d voted some) a k s = s
-remembers-change opening w e w' (decide_none n b q number d voted none) a k s = s
-remembers-change opening w e w' (seal_batch n b ds q number d) a k s = s
-remembers-change opening w e w' (spoil_batch n b ds q number d) a k s = s
-remembers-change opening w e w' (doubt_batch n b ds q number d) a k s = s
-remembers-change opening w e w' (learn u g wrote final fresh) a k s = s
-remembers-change opening w e w' (emit q) a k s = s
-remembers-change opening w e w' (halt_run q) a k s = s
-remembers-change opening w e w' (want u g running free fresh) a k s = (
+remembers-change w e w' (take_batch none some) a k s = s
+remembers-change w e w' (vote n g kept b q number d planned fresh) a k s = s
+remembers-change w e w' (decide_some n b q number d voted some) a k s = s
+remembers-change w e w' (decide_none n b q number d voted none) a k s = s
+remembers-change w e w' (seal_batch n b ds q number d) a k s = s
+remembers-change w e w' (spoil_batch n b ds q number d) a k s = s
+remembers-change w e w' (doubt_batch n b ds q number d) a k s = s
+remembers-change w e w' (learn u g wrote final fresh) a k s = s
+remembers-change w e w' (emit q) a k s = s
+remembers-change w e w' (halt_run q) a k s = s
+remembers-change w e w' (want u g running free fresh) a k s = (
   s.0,
   s.1,
   s.2,
@@ -154,7 +151,7 @@ remembers-change opening w e w' (want u g running free fresh) a k s = (
     ]
   ]),
 )
-remembers-change opening w e w' (load g u state gone wanted) a k s = (
+remembers-change w e w' (load g u state gone wanted) a k s = (
   limited-touched w.cells.capacity g w.cells.recent s.0,
   (λ j z. elim (touched-recent w.cells.capacity g w.cells.recent j z) [
     | inl y ↦ grain-is w.cells.here g true j y
@@ -177,9 +174,9 @@ swept-remembers w s = go w.cells.capacity refl
       s.3,
     )
 
-pub remembers-step : (opening : GrainId → List Value) (w : CoreState) (e : CoreEvent) → Kept opening w → Remembers w → Remembers (step w e)
-remembers-step opening w e k s = cond_both (applies w e) (swept (does w e)) w Remembers
-    (λ a. swept-remembers (does w e) (remembers-change opening w e (does w e) (decode w e (and_parts (is_allowed w e) (can w e) a).1) a k s))
+pub remembers-step : (w : CoreState) (e : CoreEvent) → LoadlessKept w → Remembers w → Remembers (step w e)
+remembers-step w e k s = cond_both (applies w e) (swept (does w e)) w Remembers
+    (λ a. swept-remembers (does w e) (remembers-change w e (does w e) (decode w e (and_parts (is_allowed w e) (can w e) a).1) a k s))
     (λ a. s)
 
 -- a grain in memory was used lately, or isn't idle
@@ -199,13 +196,13 @@ swept-used w = go w.cells.capacity refl
 used-step : (w : CoreState) (e : CoreEvent) → Used w → Used (step w e)
 used-step w e s = cond_both (applies w e) (swept (does w e)) w Used (λ a. swept-used (does w e)) (λ a. s)
 
-remembers-run : (opening : GrainId → List Value) (es : List CoreEvent) (w : CoreState) → AllLoadsTrue opening w es → Kept opening w → Remembers w → Used w → Remembers (run w es) × Used (run w es)
-remembers-run opening [] w l k s u = (s, u)
-remembers-run opening (e ∷ es) w l k s u = remembers-run opening es (step w e) l.1 (kept-step opening w e l.0 k) (remembers-step opening w e k s) (used-step w e u)
+remembers-run : (es : List CoreEvent) (w : CoreState) → LoadlessKept w → Remembers w → Used w → Remembers (run w es) × Used (run w es)
+remembers-run [] w k s u = (s, u)
+remembers-run (e ∷ es) w k s u = remembers-run es (step w e) (loadless-step w e k) (remembers-step w e k s) (used-step w e u)
 
-pub bounded-ends : (plays : Effect → Bool) (r : Run) → IsLegal plays r → MemoryIsBounded (ends r)
-bounded-ends plays r l =
-    let t = remembers-run r.opening r.events (begins r) l.loads (kept-begins plays r l)
+pub bounded-ends : (r : Run) → 0 < r.base → MemoryIsBounded (ends r)
+bounded-ends r above =
+    let t = remembers-run r.events (begins r) (loadless-begins r above)
     ((λ n q. omega arith), (λ g q. cc), (λ g q. ap is_none q), (λ u g m. absurd m))
     (λ n g q h. (let z : true ≡ false = sym h ∙ ap is_none q in cc)) in
     record { limit = t.0.0; used = t.1; kept = t.0.1; all = t.0.2; wanted = t.0.3 }

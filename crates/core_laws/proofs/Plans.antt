@@ -19,11 +19,12 @@ use Rattle.core_model.specs.SerialOrder.{AllLoadsTrue}
 use Rattle.core_laws.proofs.Puts.{put-other}
 use Rattle.core_laws.proofs.Failures.{before-true, before-false, named-written, written-named}
 use Rattle.core_laws.proofs.EventCases.{Change, bad, begin, lock, raise, refuse, finish, end_plain, end_snapshot, release, take_batch, vote, decide_some, decide_none, seal_batch, spoil_batch, doubt_batch, learn, emit, halt_run, want, load, decode}
-use Rattle.core_laws.proofs.Reasons.{take-drop-push, member-finished}
+use Rattle.core_laws.proofs.Reasons.{member-finished}
 use Rattle.core_laws.proofs.Dependencies.{Depends, depends-step}
 use Rattle.core_laws.proofs.Consistency.{depends-earlier}
 use Rattle.core_laws.proofs.Ends.{kept-begins}
 use Rattle.core_laws.proofs.KeptInvariant.{Kept, kept-step, size-open}
+use Rattle.core_laws.proofs.Orders.{take-drop-push}
 
 -- ---- grains in order
 

@@ -174,7 +174,7 @@ module _ (plays : Effect → Bool) (r : Run) (l : IsLegal plays r) (never : Neve
 
 pub proper-ends : (plays : Effect → Bool) (r : Run) → IsLegal plays r → NeverAborts plays → (x : Entry) → Member x (ends r).manager.settled → IsProperEntry r.base (ends r) x
 proper-ends plays r l never x m =
-    let e = (once-ends plays r l).entry x m in
+    let e = (once-ends r l.above).entry x m in
     let c = caused-ends plays r l x m in
     record {
       line = (e.0, e.1);

@@ -1,5 +1,5 @@
 -- Why each unit of a decided batch is decided so.
-use Rattle.std.proofs.Common.{◌≡◌, ℕ, zero, suc, ◌+◌, ◌<◌, ◌≤◌, List, [], ◌∷◌, ◌++◌, length, get_or, Bool, true, false, inl, inr, refl, sym, ap, ◌∙◌, subst, arith, Option, Some, None}
+use Rattle.std.proofs.Common.{◌≡◌, ℕ, suc, ◌+◌, ◌<◌, ◌≤◌, List, [], ◌∷◌, length, get_or, Bool, true, false, inl, inr, refl, sym, ap, ◌∙◌, subst, arith, Option, Some, None}
 use Rattle.std.proofs.lemmas.Bool.{and_parts, cond_both}
 use Rattle.cell_model.proofs.Units.{filter-stays}
 use Rattle.core_model.specs.CoreState.{UnitNo, GrainId, nobody, put, Member, Value, Write, Batch, Decision, CoreState}
@@ -8,9 +8,9 @@ use Rattle.core_model.specs.declared.phases.Verdict.{Verdict}
 use Rattle.core_model.specs.declared.phases.Verdict.TheVariants.{Open, Aborted}
 use Rattle.core_model.specs.Tests.{is_bad}
 use Rattle.core_laws.proofs.Puts.{put-same, put-other}
-use Rattle.core_laws.proofs.Invariant.{Inv}
+use Rattle.core_laws.proofs.Invariant.{Inv, loadless-of}
 use Rattle.std.specs.Prelude.{⊤}
-use Rattle.std.proofs.Common.{take, drop, map, filter, length-drop}
+use Rattle.std.proofs.Common.{map, filter, length-drop}
 use Rattle.cell_model.specs.declared.outcomes.Decision.TheVariants as decision
 use Rattle.cell_model.specs.Units.{oldest}
 use Rattle.cell_model.specs.Decisions.{by_cause, decision, all_decided, and_itself}
@@ -22,11 +22,11 @@ use Rattle.core_model.specs.Changes.{finished, voted, verdict_of, judged, decisi
 use Rattle.core_model.specs.Events.{applies, can, does, step, is_allowed}
 use Rattle.core_model.specs.declared.events.CoreEvent.{CoreEvent}
 use Rattle.core_laws.proofs.EventCases.{Change, bad, begin, lock, raise, refuse, finish, end_plain, end_snapshot, release, take_batch, vote, decide_some, decide_none, seal_batch, spoil_batch, doubt_batch, learn, emit, halt_run, want, load, decode}
-use Rattle.core_laws.proofs.Orders.{judged-other, at_part, take_length, Member-at, in_part}
+use Rattle.core_laws.proofs.Orders.{judged-other, at_part, take_length, Member-at, in_part, members-open, take-drop-push}
 use Rattle.core_laws.proofs.KeptBatch.{prepare, dead-agrees}
 use Rattle.core_laws.proofs.Dependencies.{Depends}
 use Rattle.core_laws.proofs.Consistency.{depends-earlier}
-use Rattle.core_laws.proofs.KeptInvariant.{Kept, inv-open, members-open, size-open}
+use Rattle.core_laws.proofs.KeptInvariant.{Kept, inv-open, size-open}
 
 -- what a decision says of the unit's files and dependencies
 abbrev pub Reason : List (GrainId × Bool) → List Write → List UnitNo → (UnitNo → Verdict) → Decision → Type 0
@@ -136,20 +136,12 @@ argued-decided opening w b k s q d =
     let le = size-open opening w b k q in
     let l : length (members w b) ≡ b.size = take_length b.size (waiting w) (omega (arith, length-drop w.manager.closed w.manager.order, le)) in
     reasons-decide b.votes w.manager.writes w.units.deps (members w b) (λ u. is_bad (w.manager.verdict u)) w.manager.verdict (λ x. refl)
-    (λ u m. (members-open opening w b i u m).1)
+    (λ u m. (members-open w b (loadless-of opening _ w i) u m).1)
     (ordered-from opening w.manager.closed w i s (members w b) w.manager.closed (λ j h. (omega (arith, l, h, le), at_part b.size w.manager.closed w.manager.order j (omega (arith, l, h)))))
 
 -- a member of the open batch has finished
 pub member-finished : (opening : GrainId → List Value) (w : CoreState) (b : Batch) → Kept opening w → (u : UnitNo) → Member u (members w b) → w.units.phase u ≡ Finished
-member-finished opening w b k u m = (in_part opening _ w k.0 w.manager.closed b.size u m).0
-
--- one more at the end of the finish order leaves the batch
-pub take-drop-push : (m n : ℕ) (xs : List UnitNo) (x : UnitNo) → n + m ≤ length xs → take m (drop n (xs ++ x ∷ [])) ≡ take m (drop n xs)
-take-drop-push m (suc n) [] x h = absurd (omega arith)
-take-drop-push m (suc n) (y ∷ xs) x h = take-drop-push m n xs x (omega arith)
-take-drop-push zero zero xs x h = refl
-take-drop-push (suc m) zero [] x h = absurd (omega arith)
-take-drop-push (suc m) zero (y ∷ xs) x h = ap (λ t. y ∷ t) (take-drop-push m zero xs x (omega arith))
+member-finished opening w b k u m = (in_part _ w (loadless-of opening _ w k.0) w.manager.closed b.size u m).0
 
 some-is : {A : Type 0} (x y : A) → Some x ≡ Some y → x ≡ y
 some-is x y e = cc

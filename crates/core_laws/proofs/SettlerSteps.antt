@@ -29,6 +29,7 @@ use Rattle.core_laws.proofs.KeptInvariant.{inv-judged}
 use Rattle.core_laws.proofs.Ends.{kept-ends}
 use Rattle.core_laws.proofs.CommitOrder.{no_doubt}
 use Rattle.std.proofs.lemmas.List.Elements.{filter-append}
+use Rattle.core_laws.proofs.Invariant.{loadless-of}
 
 -- after a doubt no batch is open
 abbrev pub Ended : CoreState → Type 0
@@ -290,7 +291,7 @@ shows-chosen plays r l b ds q d =
     let none : w.manager.doubt ≡ None = no_doubt_yet w (ended-ends r) Emitted b q in
     let good : UnitNo → Bool = λ u. is_good (w.manager.verdict u) in
     let rest : filter good (drop b.size (waiting w)) ≡ [] = filter-none good (drop b.size (waiting w)) (λ u m.
-    (let t = in_drop r.opening _ w i (w.manager.closed + b.size) u (subst (Member u) (drop-sum w.manager.closed b.size w.manager.order) m) in
+    (let t = in_drop _ w (loadless-of r.opening _ w i) (w.manager.closed + b.size) u (subst (Member u) (drop-sum w.manager.closed b.size w.manager.order) m) in
     ap is_good (i.late u t.0 t.1))) in
     let whole : filter good (waiting w) ≡ filter good (members w b) =
     ap (filter good) (sym (take-append-drop b.size (waiting w))) ∙ filter-append good (members w b) (drop b.size (waiting w)) ∙ ap (λ t. filter good (members w b) ++ t) rest ∙ append-nil (filter good (members w b)) in

@@ -34,6 +34,7 @@ use Rattle.core_laws.proofs.HeldLocks.{Knows, knows-step}
 use Rattle.core_laws.proofs.Plans.{member-flat}
 use Rattle.core_laws.proofs.SettlerSteps.{find-none}
 use Rattle.core_laws.proofs.Ends.{kept-begins}
+use Rattle.core_laws.proofs.LoadlessKept.{loadless-kept}
 
 -- no version but the bottom is the unit's
 abbrev pub OnlyBottom : UnitNo → List Version → Type 0
@@ -172,9 +173,9 @@ going-run : (opening : GrainId → List Value) (es : List CoreEvent) (w : CoreSt
 going-run opening [] w l s = s
 going-run opening (e ∷ es) w l s = going-run opening es (step w e) l.1 (record {
   kept = kept-step opening w e l.0 s.kept;
-  batched = batched-step opening w e l.0 s.kept s.batched;
-  unheld = unheld-step opening w e l.0 s.kept s.unheld;
-  knows = knows-step opening w e l.0 s.kept s.knows;
+  batched = batched-step w e (loadless-kept opening w s.kept) s.batched;
+  unheld = unheld-step w e (loadless-kept opening w s.kept) s.unheld;
+  knows = knows-step w e (loadless-kept opening w s.kept) s.knows;
   below = below-step opening w e s.kept s.batched s.unheld s.knows s.below;
 })
 

@@ -24,13 +24,14 @@ use Rattle.core_model.specs.SerialOrder.{batch_begin}
 use Rattle.core_model.specs.LegalRuns.{Run, IsLegal, begins, ends}
 use Rattle.core_laws.proofs.Puts.{put-is}
 use Rattle.core_laws.proofs.Basics.{is_final-cases}
-use Rattle.core_laws.proofs.Ends.{kept-ends, split-ends}
-use Rattle.core_laws.proofs.Consistency.{batched-ends}
-use Rattle.core_laws.proofs.FurtherLaws.{run-append, outcome-ends, grows-ends, answers-ends, children-ends}
+use Rattle.core_laws.proofs.Ends.{kept-ends}
+use Rattle.core_laws.proofs.FurtherLaws.{run-append, outcome-ends, grows-ends}
 use Rattle.core_laws.proofs.Reasons.{member-finished}
 use Rattle.core_laws.proofs.EntryCauses.{caused-ends}
 use Rattle.core_laws.proofs.LineEntries.{once-ends}
 use Rattle.core_laws.proofs.Proper.{front, front-legal}
+use Rattle.core_laws.proofs.LoadlessRuns.{split-ends, batched-ends, answers-ends, children-ends}
+use Rattle.core_laws.proofs.LoadlessKept.{loadless-ends}
 
 -- a list of known outcomes
 known-at : (w : CoreState) (us : List UnitNo) (os : List Outcome) → map (outcome_of w) us ≡ map Some os → (i : ℕ) → i < length us → (o : Outcome) × (outcome_of w (get_or us i nobody) ≡ Some o)
@@ -73,14 +74,14 @@ module _ (plays : Effect → Bool) (r : Run) (l : IsLegal plays r) (x : Entry) (
   known-end : outcome_of (ends r) x.unit ≡ Some result
   known-end =
       ap (λ (v : CoreState). outcome_of v x.unit) (sym same-end)
-      ∙ outcome-ends plays (front r (c.before ++ c.event ∷ [])) c.later legal x.unit result (ap (λ (v : CoreState). outcome_of v x.unit) last ∙ cause.0)
+      ∙ outcome-ends (front r (c.before ++ c.event ∷ [])) c.later l.above x.unit result (ap (λ (v : CoreState). outcome_of v x.unit) last ∙ cause.0)
 
   -- a unit that is over at the event's end is so at the end
   over-end : (p : Phase) → is_over p ≡ true → (step (ends (front r c.before)) c.event).units.phase x.unit ≡ p → (ends r).units.phase x.unit ≡ p
   over-end p o q =
       let at : (ends (front r (c.before ++ c.event ∷ []))).units.phase x.unit ≡ p = ap (λ (v : CoreState). v.units.phase x.unit) last ∙ q in
       ap (λ (v : CoreState). v.units.phase x.unit) (sym same-end)
-      ∙ ((grows-ends plays (front r (c.before ++ c.event ∷ [])) c.later legal).3 x.unit (ap is_over at ∙ o)).0 ∙ at
+      ∙ ((grows-ends (front r (c.before ++ c.event ∷ [])) c.later l.above).3 x.unit (ap is_over at ∙ o)).0 ∙ at
 
   -- it is the event's end of a plain run
   ended-end : (e : CoreEvent) → c.event ≡ e → (v : UnitNo) → v ≡ x.unit → (does (ends (front r c.before)) e).units.phase ≡ put (ends (front r c.before)).units.phase v Ended → (ends r).units.phase x.unit ≡ Ended
@@ -104,7 +105,7 @@ module _ (plays : Effect → Bool) (r : Run) (l : IsLegal plays r) (x : Entry) (
   over-so (Sealed n) q h =
       let lawful = front-legal plays r l c.before (c.event ∷ c.later) c.split in
       let f = member-finished r.opening (ends (front r c.before)) h.1.0 (kept-ends plays (front r c.before) lawful) x.unit h.1.3 in
-      let g = grows-ends plays (front r c.before) (c.event ∷ c.later) (subst (λ (es : List CoreEvent). IsLegal plays (record r { events = es })) c.split l) in
+      let g = grows-ends (front r c.before) (c.event ∷ c.later) l.above in
       inl (ap (λ (es : List CoreEvent). (run (begins r) es).units.phase x.unit) c.split ∙ (g.3 x.unit (ap is_over f)).0 ∙ f)
   over-so (Bad line why) q h = absurd h
   over-so (Begin origin call plain) q h = absurd h
@@ -135,7 +136,7 @@ told-ends plays r l = record {
 }
   where
     decided : (p : UnitNo) → ((ends r).units.phase p ≡ Finished) ⊎ ((ends r).units.phase p ≡ Ended) → ChildrenAreDecided (ends r) p
-    decided p o = children-decided (ends r) (children-ends plays r l) (answers-ends plays r l) p o
+    decided p o = children-decided (ends r) (children-ends r l.above) (answers-ends r l.above) p o
 
 -- ---- lines
 
@@ -169,24 +170,24 @@ true-iff false false f g = refl
 true-iff true false f g = sym (f refl)
 true-iff false true f g = g refl
 
-pub lines-ends : (plays : Effect → Bool) (r : Run) → IsLegal plays r → (ends r).manager.doubt ≡ None → LinesAreTold (ends r)
-lines-ends plays r l none u n b =
+pub lines-ends : (r : Run) → 0 < r.base → (ends r).manager.doubt ≡ None → LinesAreTold (ends r)
+lines-ends r above none u n b =
     true-iff (is_decided (ends r) u) (any (λ (x : Entry). same_unit x.unit u) (ends r).manager.settled) told decided
   where
     told : is_decided (ends r) u ≡ true → any (λ (x : Entry). same_unit x.unit u) (ends r).manager.settled ≡ true
     told e =
         let s = known-settled (ends r) u (λ f v. elim (cases_lt (ends r).manager.closed ((ends r).manager.place u)) [
-          | inl lt ↦ (let z : true ≡ false = sym v ∙ (batched-ends plays r l).1 u f lt in cc)
+          | inl lt ↦ (let z : true ≡ false = sym v ∙ (batched-ends r above).1 u f lt in cc)
           | inr le ↦ le
         ]) e in
-        let x = (once-ends plays r l).complete u n b s in
+        let x = (once-ends r above).complete u n b s in
         any-member (λ (x : Entry). same_unit x.unit u) (ends r).manager.settled x.0 x.1 (same_unit-is x.0.unit u x.2)
 
     decided : any (λ (x : Entry). same_unit x.unit u) (ends r).manager.settled ≡ true → is_decided (ends r) u ≡ true
     decided e =
         let x = any-true (λ (x : Entry). same_unit x.unit u) (ends r).manager.settled e in
         let is = same_unit-true x.0.unit u x.2 in
-        elim ((once-ends plays r l).entry x.0 x.1).2 [
-          | inl o ↦ absurd (b.0 (ap (ends r).units.phase (sym is ∙ o.0) ∙ (kept-ends plays r l).0.outside))
-          | inr o ↦ settled-known (ends r) u (subst (IsSettled (ends r)) is o.1) (λ f le. (split-ends plays r l).0 u f (omega (arith, le, ap (λ d. batch_begin d (ends r).manager.closed) none)))
+        elim ((once-ends r above).entry x.0 x.1).2 [
+          | inl o ↦ absurd (b.0 (ap (ends r).units.phase (sym is ∙ o.0) ∙ (loadless-ends r above).0.outside))
+          | inr o ↦ settled-known (ends r) u (subst (IsSettled (ends r)) is o.1) (λ f le. (split-ends r above).0 u f (omega (arith, le, ap (λ d. batch_begin d (ends r).manager.closed) none)))
         ]

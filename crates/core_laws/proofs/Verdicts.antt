@@ -2,7 +2,7 @@
 use Rattle.std.proofs.Common.{◌≡◌, ℕ, ◌+◌, ◌<◌, List, [], ◌∷◌, length, Bool, true, ◌⊎◌, inl, inr, refl, sym, ap, ◌∙◌, subst, arith, Option, Some, None}
 use Rattle.std.proofs.lemmas.Bool.{and_parts, cond_both}
 use Rattle.cell_model.proofs.Units.{cases_unit}
-use Rattle.core_model.specs.CoreState.{UnitNo, GrainId, put, Member, Value, Origin, Settled, Batch, Decision, CoreState}
+use Rattle.core_model.specs.CoreState.{UnitNo, put, Member, Origin, Settled, Batch, Decision, CoreState}
 use Rattle.core_model.specs.declared.phases.Phase.{Phase}
 use Rattle.core_model.specs.declared.phases.Phase.TheVariants.{Running, Finished, Refused, Ended}
 use Rattle.core_model.specs.declared.phases.Verdict.{Verdict}
@@ -18,12 +18,11 @@ use Rattle.core_model.specs.Events.{can_begin}
 use Rattle.core_model.specs.Changes.{begun, after_refusal, new_unit, kids_with, decisions_of, with_decisions, closed, result_told, seal, spoil, leave, swept, swept_by}
 use Rattle.core_model.specs.Events.{applies, can, does, step, run, is_allowed}
 use Rattle.core_model.specs.declared.events.CoreEvent.{CoreEvent}
-use Rattle.core_model.specs.SerialOrder.{IsTrueLoad, AllLoadsTrue}
 use Rattle.core_laws.proofs.EventCases.{Change, bad, begin, lock, raise, refuse, finish, end_plain, end_snapshot, release, take_batch, vote, decide_some, decide_none, seal_batch, spoil_batch, doubt_batch, learn, emit, halt_run, want, load, decode}
 use Rattle.core_laws.proofs.Basics.{is_running-true}
-use Rattle.core_laws.proofs.Orders.{judged-other}
+use Rattle.core_laws.proofs.Orders.{judged-other, members-open}
 use Rattle.core_laws.proofs.Children.{Kin, kin-step, answered-step}
-use Rattle.core_laws.proofs.KeptInvariant.{Kept, kept-step, inv-open, members-open}
+use Rattle.core_laws.proofs.LoadlessKept.{LoadlessKept, open-at, loadless-step}
 
 abbrev pub Turned : CoreState → Type 0
 Turned w =
@@ -43,13 +42,13 @@ member-or-not u (x ∷ xs) = elim (cases_unit u x) [
   | inr n ↦ elim (member-or-not u xs) [ inl m ↦ inl (inr m) | inr k ↦ inr (λ o. elim o [ inl e ↦ n e | inr m ↦ k m ]) ]
 ]
 
-turned-decided : (opening : GrainId → List Value) (w : CoreState) (b : Batch) (ds : List Decision) → Kept opening w → w.manager.batch ≡ Some b → b.decisions ≡ None → Turned w → Turned (with_decisions w b ds)
-turned-decided opening w b ds k q d s = (
+turned-decided : (w : CoreState) (b : Batch) (ds : List Decision) → LoadlessKept w → w.manager.batch ≡ Some b → b.decisions ≡ None → Turned w → Turned (with_decisions w b ds)
+turned-decided w b ds k q d s = (
   (λ x n. elim (member-or-not x (members w b)) [
-    | inl m ↦ inl (members-open opening w b (inv-open opening w b k q d) x m).0
+    | inl m ↦ inl (members-open w b (open-at w b k q d) x m).0
     | inr m ↦ s.0 x (λ z. n (judged-other (members w b) ds w.manager.verdict x m ∙ z))
   ]),
-  (λ x f. judged-other (members w b) ds w.manager.verdict x (λ m. (let t : Finished ≡ Refused = sym (members-open opening w b (inv-open opening w b k q d) x m).0 ∙ f in cc)) ∙ s.1 x f),
+  (λ x f. judged-other (members w b) ds w.manager.verdict x (λ m. (let t : Finished ≡ Refused = sym (members-open w b (open-at w b k q d) x m).0 ∙ f in cc)) ∙ s.1 x f),
 )
 
 pub turned-mapped : (w : CoreState) (f : Verdict → Verdict) (answer : UnitNo → Settled) (b : Batch) (ds : List Decision) → f Open ≡ Open → f Aborted ≡ Aborted → Turned w → Turned (closed w f answer b ds)
@@ -70,28 +69,28 @@ turned-refused w u why s = (
   ]),
 )
 
-pub turned-change : (opening : GrainId → List Value) (w : CoreState) (e : CoreEvent) (w' : CoreState) → Change w e w' → applies w e ≡ true → Kept opening w → Turned w → Turned w'
-turned-change opening w e w' (bad line why q) a k s = s
-turned-change opening w e w' (begin origin call plain c) a k s = turned-phase w (new_unit w) Running (k.0.undecided (new_unit w) (inl (k.0.unborn (new_unit w) (le_refl w.units.next)))) (λ z. cc) s
-turned-change opening w e w' (lock u g mode running free first here) a k s = s
-turned-change opening w e w' (raise u g mode running free held here uncovered) a k s = s
-turned-change opening w e w' (refuse u g mode why running q) a k s = turned-refused w u why s
-turned-change opening w e w' (finish u effect running plain of_call reads alone) a k s = turned-phase w u Finished (k.0.undecided u (inr running)) (λ z. cc) s
-turned-change opening w e w' (end_plain u effect running plain of_call bare) a k s = turned-phase w u Ended (k.0.undecided u (inr running)) (λ z. cc) s
-turned-change opening w e w' (end_snapshot u at outcome running plain kids answer) a k s = turned-phase w u Ended (k.0.undecided u (inr running)) (λ z. cc) s
-turned-change opening w e w' (release u g over held) a k s = s
-turned-change opening w e w' (take_batch none some) a k s = s
-turned-change opening w e w' (vote n g kept b q number d planned fresh) a k s = s
-turned-change opening w e w' (decide_some n b q number d voted some) a k s = turned-decided opening w b (decisions_of w b) k q d s
-turned-change opening w e w' (decide_none n b q number d voted none) a k s = turned-mapped (with_decisions w b (decisions_of w b)) seal (result_told (with_decisions w b (decisions_of w b))) b (decisions_of w b) refl refl (turned-decided opening w b (decisions_of w b) k q d s)
-turned-change opening w e w' (seal_batch n b ds q number d) a k s = turned-mapped w seal (result_told w) b ds refl refl s
-turned-change opening w e w' (spoil_batch n b ds q number d) a k s = turned-mapped w spoil (λ u. settled.Disk) b ds refl refl s
-turned-change opening w e w' (doubt_batch n b ds q number d) a k s = turned-mapped w leave (λ u. settled.InDoubt) b ds refl refl s
-turned-change opening w e w' (learn u g wrote final fresh) a k s = s
-turned-change opening w e w' (emit q) a k s = s
-turned-change opening w e w' (halt_run q) a k s = s
-turned-change opening w e w' (want u g running free fresh) a k s = s
-turned-change opening w e w' (load g u state gone wanted) a k s = s
+pub turned-change : (w : CoreState) (e : CoreEvent) (w' : CoreState) → Change w e w' → applies w e ≡ true → LoadlessKept w → Turned w → Turned w'
+turned-change w e w' (bad line why q) a k s = s
+turned-change w e w' (begin origin call plain c) a k s = turned-phase w (new_unit w) Running (k.0.undecided (new_unit w) (inl (k.0.unborn (new_unit w) (le_refl w.units.next)))) (λ z. cc) s
+turned-change w e w' (lock u g mode running free first here) a k s = s
+turned-change w e w' (raise u g mode running free held here uncovered) a k s = s
+turned-change w e w' (refuse u g mode why running q) a k s = turned-refused w u why s
+turned-change w e w' (finish u effect running plain of_call reads alone) a k s = turned-phase w u Finished (k.0.undecided u (inr running)) (λ z. cc) s
+turned-change w e w' (end_plain u effect running plain of_call bare) a k s = turned-phase w u Ended (k.0.undecided u (inr running)) (λ z. cc) s
+turned-change w e w' (end_snapshot u at outcome running plain kids answer) a k s = turned-phase w u Ended (k.0.undecided u (inr running)) (λ z. cc) s
+turned-change w e w' (release u g over held) a k s = s
+turned-change w e w' (take_batch none some) a k s = s
+turned-change w e w' (vote n g kept b q number d planned fresh) a k s = s
+turned-change w e w' (decide_some n b q number d voted some) a k s = turned-decided w b (decisions_of w b) k q d s
+turned-change w e w' (decide_none n b q number d voted none) a k s = turned-mapped (with_decisions w b (decisions_of w b)) seal (result_told (with_decisions w b (decisions_of w b))) b (decisions_of w b) refl refl (turned-decided w b (decisions_of w b) k q d s)
+turned-change w e w' (seal_batch n b ds q number d) a k s = turned-mapped w seal (result_told w) b ds refl refl s
+turned-change w e w' (spoil_batch n b ds q number d) a k s = turned-mapped w spoil (λ u. settled.Disk) b ds refl refl s
+turned-change w e w' (doubt_batch n b ds q number d) a k s = turned-mapped w leave (λ u. settled.InDoubt) b ds refl refl s
+turned-change w e w' (learn u g wrote final fresh) a k s = s
+turned-change w e w' (emit q) a k s = s
+turned-change w e w' (halt_run q) a k s = s
+turned-change w e w' (want u g running free fresh) a k s = s
+turned-change w e w' (load g u state gone wanted) a k s = s
 
 swept-turned : (w : CoreState) → Turned w → Turned (swept w)
 swept-turned w s = go w.cells.capacity
@@ -100,15 +99,15 @@ swept-turned w s = go w.cells.capacity
     go None = s
     go (Some m) = s
 
-pub turned-step : (opening : GrainId → List Value) (w : CoreState) (e : CoreEvent) → IsTrueLoad opening w e → Kept opening w → Turned w → Turned (step w e)
-turned-step opening w e t k s = cond_both (applies w e) (swept (does w e)) w Turned
+pub turned-step : (w : CoreState) (e : CoreEvent) → LoadlessKept w → Turned w → Turned (step w e)
+turned-step w e k s = cond_both (applies w e) (swept (does w e)) w Turned
     (λ a. (let c = decode w e (and_parts (is_allowed w e) (can w e) a).1 in
-    swept-turned (does w e) (turned-change opening w e (does w e) c a k s)))
+    swept-turned (does w e) (turned-change w e (does w e) c a k s)))
     (λ a. s)
 
-pub turned-run : (opening : GrainId → List Value) (es : List CoreEvent) (w : CoreState) → AllLoadsTrue opening w es → Kept opening w → Turned w → Turned (run w es)
-turned-run opening [] w l k s = s
-turned-run opening (e ∷ es) w l k s = turned-run opening es (step w e) l.1 (kept-step opening w e l.0 k) (turned-step opening w e l.0 k s)
+pub turned-run : (es : List CoreEvent) (w : CoreState) → LoadlessKept w → Turned w → Turned (run w es)
+turned-run [] w k s = s
+turned-run (e ∷ es) w k s = turned-run es (step w e) (loadless-step w e k) (turned-step w e k s)
 
 -- the children of a finished unit are decided
 kid-decided : (w : CoreState) → AnswersAreOutcomes w → (p c : UnitNo) → Member c (w.units.kids p) → w.units.phase p ≡ Finished → w.units.phase c ≡ Running → ⊥
@@ -140,13 +139,13 @@ first-begun w origin call plain can_it s p c m = put-from w.units.phase (new_uni
     same (Line n) e f = refl
     same (Child q i d) e f = put-other w.units.kids q _ p (λ z. (let t : Finished ≡ Running = sym f ∙ ap w.units.phase z ∙ is_running-true _ (and_parts (is_running (w.units.phase q)) _ e).0 in cc))
 
-pub first-change : (opening : GrainId → List Value) (w : CoreState) (e : CoreEvent) (w' : CoreState) → Change w e w' → applies w e ≡ true → Kept opening w → Kin w → AnswersAreOutcomes w → First w → First w'
-first-change opening w e w' (bad line why q) a k kin ans s = s
-first-change opening w e w' (begin origin call plain c) a k kin ans s = first-begun w origin call plain c s
-first-change opening w e w' (lock u g mode running free first here) a k kin ans s = s
-first-change opening w e w' (raise u g mode running free held here uncovered) a k kin ans s = s
-first-change opening w e w' (refuse u g mode why running q) a k kin ans s = first-phase w u Refused (λ z. cc) s
-first-change opening w e w' (finish u effect running plain of_call reads alone) a k kin ans s =
+pub first-change : (w : CoreState) (e : CoreEvent) (w' : CoreState) → Change w e w' → applies w e ≡ true → LoadlessKept w → Kin w → AnswersAreOutcomes w → First w → First w'
+first-change w e w' (bad line why q) a k kin ans s = s
+first-change w e w' (begin origin call plain c) a k kin ans s = first-begun w origin call plain c s
+first-change w e w' (lock u g mode running free first here) a k kin ans s = s
+first-change w e w' (raise u g mode running free held here uncovered) a k kin ans s = s
+first-change w e w' (refuse u g mode why running q) a k kin ans s = first-phase w u Refused (λ z. cc) s
+first-change w e w' (finish u effect running plain of_call reads alone) a k kin ans s =
     λ p c m. put-from w.units.phase u Finished (λ z. z ≡ Finished) (put w.units.phase u Finished c ≡ Finished → put w.manager.place u (length w.manager.order + 1) c < put w.manager.place u (length w.manager.order + 1) p) p
     (λ q f. put-from w.units.phase u Finished (λ z. z ≡ Finished) (put w.manager.place u (length w.manager.order + 1) c < put w.manager.place u (length w.manager.order + 1) p) c
     (λ y g. absurd (omega (arith, kin.2 p c m, ap (λ (z : UnitNo). z.0) q, ap (λ (z : UnitNo). z.0) y)))
@@ -154,25 +153,25 @@ first-change opening w e w' (finish u effect running plain of_call reads alone) 
     (λ q f. put-from w.units.phase u Finished (λ z. z ≡ Finished) (put w.manager.place u (length w.manager.order + 1) c < put w.manager.place u (length w.manager.order + 1) p) c
     (λ y g. absurd (kid-decided w ans p c m f (ap w.units.phase y ∙ running)))
     (λ y g. omega (arith, put-other w.manager.place u (length w.manager.order + 1) c y, put-other w.manager.place u (length w.manager.order + 1) p q, s p c m f g)))
-first-change opening w e w' (end_plain u effect running plain of_call bare) a k kin ans s = first-phase w u Ended (λ z. cc) s
-first-change opening w e w' (end_snapshot u at outcome running plain kids answer) a k kin ans s = first-phase w u Ended (λ z. cc) s
-first-change opening w e w' (release u g over held) a k kin ans s = s
-first-change opening w e w' (take_batch none some) a k kin ans s = s
-first-change opening w e w' (vote n g kept b q number d planned fresh) a k kin ans s = s
-first-change opening w e w' (decide_some n b q number d voted some) a k kin ans s = s
-first-change opening w e w' (decide_none n b q number d voted none) a k kin ans s = s
-first-change opening w e w' (seal_batch n b ds q number d) a k kin ans s = s
-first-change opening w e w' (spoil_batch n b ds q number d) a k kin ans s = s
-first-change opening w e w' (doubt_batch n b ds q number d) a k kin ans s = s
-first-change opening w e w' (learn u g wrote final fresh) a k kin ans s = s
-first-change opening w e w' (emit q) a k kin ans s = s
-first-change opening w e w' (halt_run q) a k kin ans s = s
-first-change opening w e w' (want u g running free fresh) a k kin ans s = s
-first-change opening w e w' (load g u state gone wanted) a k kin ans s = s
+first-change w e w' (end_plain u effect running plain of_call bare) a k kin ans s = first-phase w u Ended (λ z. cc) s
+first-change w e w' (end_snapshot u at outcome running plain kids answer) a k kin ans s = first-phase w u Ended (λ z. cc) s
+first-change w e w' (release u g over held) a k kin ans s = s
+first-change w e w' (take_batch none some) a k kin ans s = s
+first-change w e w' (vote n g kept b q number d planned fresh) a k kin ans s = s
+first-change w e w' (decide_some n b q number d voted some) a k kin ans s = s
+first-change w e w' (decide_none n b q number d voted none) a k kin ans s = s
+first-change w e w' (seal_batch n b ds q number d) a k kin ans s = s
+first-change w e w' (spoil_batch n b ds q number d) a k kin ans s = s
+first-change w e w' (doubt_batch n b ds q number d) a k kin ans s = s
+first-change w e w' (learn u g wrote final fresh) a k kin ans s = s
+first-change w e w' (emit q) a k kin ans s = s
+first-change w e w' (halt_run q) a k kin ans s = s
+first-change w e w' (want u g running free fresh) a k kin ans s = s
+first-change w e w' (load g u state gone wanted) a k kin ans s = s
 
-pub first-step : (opening : GrainId → List Value) (w : CoreState) (e : CoreEvent) → Kept opening w → Kin w → AnswersAreOutcomes w → First w → First (step w e)
-first-step opening w e k kin ans s = cond_both (applies w e) (swept (does w e)) w First
-    (λ a. swept-first (does w e) (first-change opening w e (does w e) (decode w e (and_parts (is_allowed w e) (can w e) a).1) a k kin ans s))
+pub first-step : (w : CoreState) (e : CoreEvent) → LoadlessKept w → Kin w → AnswersAreOutcomes w → First w → First (step w e)
+first-step w e k kin ans s = cond_both (applies w e) (swept (does w e)) w First
+    (λ a. swept-first (does w e) (first-change w e (does w e) (decode w e (and_parts (is_allowed w e) (can w e) a).1) a k kin ans s))
     (λ a. s)
   where
     swept-first : (w : CoreState) → First w → First (swept w)
@@ -182,7 +181,7 @@ first-step opening w e k kin ans s = cond_both (applies w e) (swept (does w e)) 
         go None = s
         go (Some m) = s
 
-pub first-run : (opening : GrainId → List Value) (es : List CoreEvent) (w : CoreState) → AllLoadsTrue opening w es → Kept opening w → Kin w → AnswersAreOutcomes w → First w → First (run w es)
-first-run opening [] w l k kin ans s = s
-first-run opening (e ∷ es) w l k kin ans s =
-    first-run opening es (step w e) l.1 (kept-step opening w e l.0 k) (kin-step opening w e l.0 k kin) (answered-step opening w e k ans) (first-step opening w e k kin ans s)
+pub first-run : (es : List CoreEvent) (w : CoreState) → LoadlessKept w → Kin w → AnswersAreOutcomes w → First w → First (run w es)
+first-run [] w k kin ans s = s
+first-run (e ∷ es) w k kin ans s =
+    first-run es (step w e) (loadless-step w e k) (kin-step w e k kin) (answered-step w e k ans) (first-step w e k kin ans s)

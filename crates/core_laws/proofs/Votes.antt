@@ -30,10 +30,12 @@ use Rattle.core_laws.proofs.Dependencies.{Depends, depends-step}
 use Rattle.core_laws.proofs.Plans.{Planned, in-plan, planned-step}
 use Rattle.core_laws.proofs.Batches.{Batched, batched-step}
 use Rattle.core_laws.proofs.Growth.{grows-decided}
-use Rattle.core_laws.proofs.Reasons.{Reason, Reasons, argued-decided, take-drop-push, member-finished}
-use Rattle.core_laws.proofs.Orders.{in_drop, Member-take}
+use Rattle.core_laws.proofs.Reasons.{Reason, Reasons, argued-decided, member-finished}
+use Rattle.core_laws.proofs.Orders.{in_drop, Member-take, take-drop-push}
 use Rattle.core_laws.proofs.Ends.{kept-begins}
 use Rattle.core_laws.proofs.KeptInvariant.{Kept, kept-step, size-open}
+use Rattle.core_laws.proofs.LoadlessKept.{loadless-kept}
+use Rattle.core_laws.proofs.Invariant.{loadless-of}
 
 -- one where a batch is open
 abbrev pub open_count : Option Batch → ℕ
@@ -71,7 +73,7 @@ are-decided opening w b k dep plan q d voted (u ∷ us) (c ∷ cs) sub r = (by c
   where
     alive : ((e : UnitNo) → Member e (w.units.deps u) → is_bad (judged (members w b) (decisions_of w b) w.manager.verdict e) ≡ false) → has_bad_source w u ≡ false
     alive h = any-none (λ e. is_bad (w.manager.verdict e)) (w.units.deps u) (λ e m. elim (cases_Bool (is_bad (w.manager.verdict e))) [
-      | inl y ↦ (let z : true ≡ false = sym ((grows-decided opening w b (decisions_of w b) k q d).0 e y) ∙ h e m in cc)
+      | inl y ↦ (let z : true ≡ false = sym ((grows-decided w b (decisions_of w b) (loadless-kept opening w k) q d).0 e y) ∙ h e m in cc)
       | inr y ↦ y
     ])
 
@@ -175,7 +177,7 @@ follows-decided opening w b k dep plan q d voted s = (
 )
 
 order-finished : (opening : GrainId → List Value) (w : CoreState) → Kept opening w → (x : UnitNo) → Member x w.manager.order → w.units.phase x ≡ Finished
-order-finished opening w k x m = (in_drop opening _ w k.0 0 x m).0
+order-finished opening w k x m = (in_drop _ w (loadless-of opening _ w k.0) 0 x m).0
 
 pub follows-change : (opening : GrainId → List Value) (w : CoreState) (e : CoreEvent) (w' : CoreState) → Change w e w' → applies w e ≡ true → Kept opening w → Depends w → Planned w → Batched w → Follows w → Follows w'
 follows-change opening w e w' (bad line why q) a k dep plan bat s = s
@@ -239,7 +241,7 @@ follows-step opening w e k dep plan bat s = cond_both (applies w e) (swept (does
 follows-run : (opening : GrainId → List Value) (es : List CoreEvent) (w : CoreState) → AllLoadsTrue opening w es → Kept opening w → Depends w → Planned w → Batched w → Follows w → Follows (run w es)
 follows-run opening [] w l k dep plan bat s = s
 follows-run opening (e ∷ es) w l k dep plan bat s =
-    follows-run opening es (step w e) l.1 (kept-step opening w e l.0 k) (depends-step opening w e l.0 k dep) (planned-step opening w e k dep plan) (batched-step opening w e l.0 k bat) (follows-step opening w e k dep plan bat s)
+    follows-run opening es (step w e) l.1 (kept-step opening w e l.0 k) (depends-step opening w e l.0 k dep) (planned-step opening w e k dep plan) (batched-step w e (loadless-kept opening w k) bat) (follows-step opening w e k dep plan bat s)
 
 pub follows-ends : (plays : Effect → Bool) (r : Run) → IsLegal plays r → BatchesFollow (ends r)
 follows-ends plays r l =

@@ -13,7 +13,7 @@ ghost use Rattle.core_model.specs.DeadUnits.{IsDead, DeadEitherWay};
 ghost use Rattle.core_model.specs.Replies.{says_no, OnlyExtends};
 ghost use Rattle.core_model.specs.Tests.{ask_answer, outcome_of};
 ghost use Rattle.core_model.specs.CoreState.{GrainId, Mode, Batch, Decision, CoreState};
-ghost use Rattle.core_model.specs.LockAnswers.{AskExactly, GrantApplies, SettledStacksAreSingle, TakeApplies, TakesBatch};
+ghost use Rattle.core_model.specs.LockAnswers.{AskExactly, AskedLocks, GrantApplies, SettledStacksAreSingle, TakeApplies, TakesBatch};
 ghost use Rattle.core_model.specs.ComputedRuns.{RunsAreComputed};
 ghost use Rattle.core_model.specs.Settler.{settler_step, step_of, to_commit, work_in};
 ghost use Rattle.core_model.specs.Steps.{IsPlan, ShowsVersions, StepApplies, TellsDecided};
@@ -41,26 +41,26 @@ pub fn core_is_consistent()
     ensures plain { (plays : Effect → Bool) (r : Run) → IsLegal plays r → PlainRunsArePlays plays (ends r) }
 {}
 
-/// A batch is the longest prefix, of at most 64, of the finished undecided units that hold no lock. So no lock is held
+/// Whatever was loaded, a batch is the longest prefix, of at most 64, of the finished undecided units that hold no lock. So no lock is held
 /// until commit.
 pub fn batches_are_longest()
-    ensures longest { (plays : Effect → Bool) (r : Run) → IsLegal plays r → IsLongestFreePrefix (ends r) (batch_size (ends r)) }
-    ensures no_lock { (plays : Effect → Bool) (r : Run) → IsLegal plays r → NoLockIsHeldUntilCommit (ends r) }
+    ensures longest { (r : Run) → 0 < r.base → IsLongestFreePrefix (ends r) (batch_size (ends r)) }
+    ensures no_lock { (r : Run) → 0 < r.base → NoLockIsHeldUntilCommit (ends r) }
 {}
 
-/// Whatever comes later, a dead unit stays dead, and an outcome that is known stays. A unit is dead by its sources
+/// Whatever comes later and whatever is loaded, a dead unit stays dead, and an outcome that is known stays. A unit is dead by its sources
 /// exactly where it is dead by its dependencies.
 pub fn fate_is_final()
-    ensures dead { (plays : Effect → Bool) (r : Run) (more : List CoreEvent) → IsLegal plays (extended r more) → (u : UnitNo) → IsDead (ends r) u → IsDead (ends (extended r more)) u }
-    ensures known { (plays : Effect → Bool) (r : Run) (more : List CoreEvent) → IsLegal plays (extended r more) → (u : UnitNo) (o : Outcome) → outcome_of (ends r) u ≡ Some o → outcome_of (ends (extended r more)) u ≡ Some o }
+    ensures dead { (r : Run) (more : List CoreEvent) → 0 < r.base → (u : UnitNo) → IsDead (ends r) u → IsDead (ends (extended r more)) u }
+    ensures known { (r : Run) (more : List CoreEvent) → 0 < r.base → (u : UnitNo) (o : Outcome) → outcome_of (ends r) u ≡ Some o → outcome_of (ends (extended r more)) u ≡ Some o }
     ensures either_way { (plays : Effect → Bool) (r : Run) → IsLegal plays r → DeadEitherWay (ends r) }
 {}
 
-/// A child is known by its parent and its index, is younger, and finishes first. What a unit's play was answered are its
+/// Whatever was loaded, a child is known by its parent and its index, is younger, and finishes first. What a unit's play was answered are its
 /// children's outcomes.
 pub fn children_answer()
-    ensures known { (plays : Effect → Bool) (r : Run) → IsLegal plays r → ChildrenAreKnown (ends r) }
-    ensures answers { (plays : Effect → Bool) (r : Run) → IsLegal plays r → AnswersAreOutcomes (ends r) }
+    ensures known { (r : Run) → 0 < r.base → ChildrenAreKnown (ends r) }
+    ensures answers { (r : Run) → 0 < r.base → AnswersAreOutcomes (ends r) }
 {}
 
 /// Each settled entry was settled by an event of the run, with the cause that it names: the oldest older holder in a
@@ -71,9 +71,10 @@ pub fn causes_are_true()
     ensures gone { (plays : Effect → Bool) (r : Run) → IsLegal plays r → GoneIsRemoved (ends r) }
 {}
 
-/// Where memory has a limit, a grain in memory was used lately, and so many are no more than the limit, or it isn't idle.
+/// Whatever was loaded, where memory has a limit a grain in memory was used lately, and so many are no more than the limit, or it
+/// isn't idle.
 pub fn memory_is_bounded()
-    ensures { (plays : Effect → Bool) (r : Run) → IsLegal plays r → MemoryIsBounded (ends r) }
+    ensures { (r : Run) → 0 < r.base → MemoryIsBounded (ends r) }
 {}
 
 /// The batches that were taken follow one another in the finish order. Each has one decision for each unit once it is
@@ -82,17 +83,17 @@ pub fn batches_follow()
     ensures { (plays : Effect → Bool) (r : Run) → IsLegal plays r → BatchesFollow (ends r) }
 {}
 
-/// Each line is answered once: where it is bad, or its unit was refused, came to its end as a plain run, or stands in a
+/// Whatever was loaded, each line is answered once: where it is bad, or its unit was refused, came to its end as a plain run, or stands in a
 /// closed batch. The entries of finished units stand in the finish order.
 pub fn lines_are_answered_once()
-    ensures { (plays : Effect → Bool) (r : Run) → IsLegal plays r → EntriesAreOnce (ends r) }
+    ensures { (r : Run) → 0 < r.base → EntriesAreOnce (ends r) }
 {}
 
-/// A unit has at most one lock of a grain, and with it what it read there; it has read what it wrote. While it runs it
+/// Whatever was loaded, a unit has at most one lock of a grain, and with it what it read there; it has read what it wrote. While it runs it
 /// keeps its locks.
 pub fn holders_have_read()
-    ensures read { (plays : Effect → Bool) (r : Run) → IsLegal plays r → HoldersHaveRead (ends r) }
-    ensures keep { (plays : Effect → Bool) (r : Run) (more : List CoreEvent) → IsLegal plays (extended r more) → RunnersKeepLocks (ends r) (ends (extended r more)) }
+    ensures read { (r : Run) → 0 < r.base → HoldersHaveRead (ends r) }
+    ensures keep { (r : Run) (more : List CoreEvent) → 0 < r.base → RunnersKeepLocks (ends r) (ends (extended r more)) }
 {}
 
 /// A reply says no exactly where the event doesn't apply, and then nothing changes.
@@ -125,10 +126,11 @@ pub fn plans_are_kept()
 {}
 
 /// A unit that asks for a lock is answered exactly: that it isn't active; or the oldest source whose version, read by the
-/// unit, was taken off; or what the grain's locks say; or that the grain isn't in memory. A grant applies exactly where the
-/// answer is that the lock can be had, and no stop stands.
+/// unit, was taken off; or what the grain's locks say; or that the grain isn't in memory. What an answer says of the locks and
+/// of memory is so in every state. A grant applies exactly where the answer is that the lock can be had, and no stop stands.
 pub fn asking_is_told()
     ensures asked { (plays : Effect → Bool) (r : Run) → IsLegal plays r → (u : UnitNo) (g : GrainId) (mode : Mode) → AskExactly (ends r) u g mode (ask_answer (ends r) u g mode) }
+    ensures locks { (w : CoreState) (u : UnitNo) (g : GrainId) (mode : Mode) → AskedLocks w u g mode (ask_answer w u g mode) }
     ensures granted { (w : CoreState) (u : UnitNo) (g : GrainId) (mode : Mode) → GrantApplies w u g mode }
 {}
 
@@ -166,11 +168,12 @@ pub fn entries_are_proper()
 /// to its end. Unless a batch is in doubt, a line's unit is decided exactly where it has its entry.
 pub fn told_outcomes_are_final()
     ensures told { (plays : Effect → Bool) (r : Run) → IsLegal plays r → ToldIsFinal (ends r) }
-    ensures lines { (plays : Effect → Bool) (r : Run) → IsLegal plays r → (ends r).manager.doubt ≡ None → LinesAreTold (ends r) }
+    ensures lines { (r : Run) → 0 < r.base → (ends r).manager.doubt ≡ None → LinesAreTold (ends r) }
 {}
 
-/// What code may rely on holds after every list of events, whatever was loaded: the finish order and its open batch, that
-/// who is judged is of that batch once it is decided, exclusive holders, and what holders have read.
+/// What code may rely on holds after every list of events, whatever was loaded: the closed batches and the open one, that who is
+/// judged is of that one once it is decided, no locks in them, exclusive holders and what holders have read, which grains are in
+/// memory, children and their outcomes, and the entries.
 pub fn code_may_rely()
     ensures { (r : Run) → 0 < r.base → HoldsWithoutLoads (ends r) }
 {}

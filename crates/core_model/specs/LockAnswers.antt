@@ -38,6 +38,16 @@ AskExactly w u g mode (answer.MustWait holder) = IsAskAnswered w u g mode (locks
 AskExactly w u g mode answer.Absent = IsAskAnswered w u g mode locks.Free × (w.cells.here g ≡ false)
 AskExactly w u g mode answer.Free = IsAskAnswered w u g mode locks.Free × (w.cells.here g ≡ true)
 
+-- what each answer says of the unit, of the grain's locks, and whether the grain is in memory
+abbrev pub AskedLocks : CoreState → UnitNo → GrainId → Mode → AskAnswer → Type 0
+AskedLocks w u g mode answer.NotActive = IsActive w u g → ⊥
+AskedLocks w u g mode (answer.Doomed source) = IsActive w u g
+AskedLocks w u g mode answer.Held = IsActive w u g × AnswersExactly (w.cells.holds g) u mode locks.Held
+AskedLocks w u g mode (answer.MustDie holder) = IsActive w u g × AnswersExactly (w.cells.holds g) u mode (locks.MustDie holder)
+AskedLocks w u g mode (answer.MustWait holder) = IsActive w u g × AnswersExactly (w.cells.holds g) u mode (locks.MustWait holder)
+AskedLocks w u g mode answer.Absent = IsActive w u g × AnswersExactly (w.cells.holds g) u mode locks.Free × (w.cells.here g ≡ false)
+AskedLocks w u g mode answer.Free = IsActive w u g × AnswersExactly (w.cells.holds g) u mode locks.Free × (w.cells.here g ≡ true)
+
 -- no batch is in doubt, and the run isn't to stop
 abbrev pub IsGoing : CoreState → Type 0
 IsGoing w = (w.manager.doubt ≡ None) × (w.units.halt ≡ false)

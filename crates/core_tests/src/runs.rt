@@ -7,6 +7,7 @@ use crate::shared::{is_object, next_line, spoil};
 use crate::surveys::{Wanted, sum_of, survey};
 use crate::texts::{add_entries, add_reply};
 use crate::verbs::{Look, Verb, verb_of};
+use base_types::Entry;
 use core_model::{CoreEvent, CoreReply};
 use history_core::Core;
 use std::alloc::{AllocError, Global};
@@ -20,6 +21,8 @@ const LAST_BASE: u64 = 1 << 63;
 pub struct Run {
     alloc: Global,
     core: Core,
+    // The entries that are written, which the core doesn't keep.
+    written: Vec<Entry>,
     draft: Draft,
     pub said: String,
     // What the core answered last, and to which questions, where no event came since.
@@ -33,6 +36,7 @@ impl Run {
         Ok(Run {
             alloc,
             core: Core::new(alloc, opening(alloc, 1)?),
+            written: Vec::new(alloc),
             draft: Draft::new(alloc),
             said: String::new(alloc),
             answered: String::new(alloc),
@@ -67,8 +71,21 @@ impl Run {
         self.said.push_str("\n")
     }
 
+    // Keeps the entry that an event writes, if any.
+    fn keep_written(&mut self, event: &CoreEvent) -> Result<(), AllocError> {
+        match (event, self.core.next_settled()) {
+            (CoreEvent::Emitted, Some(entry)) => {
+                let entry = entry.copy()?;
+                self.written.push(entry)?;
+                Ok(())
+            }
+            _ => Ok(()),
+        }
+    }
+
     // Puts an event.
     fn put(&mut self, event: CoreEvent) -> Result<(), AllocError> {
+        self.keep_written(&event)?;
         match self.core.step(event) {
             Ok(reply) => {
                 self.wanted = None;
@@ -111,7 +128,12 @@ impl Run {
             return Ok(true);
         };
         let before = sum_of(self.answered.as_str());
-        survey(&mut self.answered, &self.core, wanted)?;
+        survey(
+            &mut self.answered,
+            &self.core,
+            self.written.as_slice(),
+            wanted,
+        )?;
         Ok(sum_of(self.answered.as_str()) == before)
     }
 
@@ -120,7 +142,12 @@ impl Run {
             whole: numbers.first == 1,
             below: natural(numbers.second),
         };
-        survey(&mut self.answered, &self.core, wanted)?;
+        survey(
+            &mut self.answered,
+            &self.core,
+            self.written.as_slice(),
+            wanted,
+        )?;
         self.wanted = Some(wanted);
         Ok(())
     }
@@ -131,6 +158,7 @@ impl Run {
             return self.said.push_str("no such number");
         }
         self.core = Core::new(self.alloc, opening(self.alloc, base)?);
+        self.written.clear();
         self.wanted = None;
         self.said.push_str("opened")
     }
@@ -148,7 +176,7 @@ impl Run {
                 self.ask(numbers)?;
                 self.said.push_str(self.answered.as_str())
             }
-            Look::Entries => add_entries(&mut self.said, self.core.settled()),
+            Look::Entries => add_entries(&mut self.said, self.written.as_slice(), &self.core),
             Look::See => {
                 let line = next_line(&mut self.core)?;
                 write!(self.said, "{line}")

@@ -1,5 +1,5 @@
 use crate::texts::{add_answer, add_entries, add_last};
-use base_types::{GrainId, Mode, UnitNo};
+use base_types::{Entry, GrainId, Mode, UnitNo};
 use core_model::{AskAnswer, CoreAnswer, CoreQuestion};
 use history_core::Core;
 use std::alloc::AllocError;
@@ -81,8 +81,14 @@ pub struct Wanted {
     pub below: u64,
 }
 
-/// Writes all that is answered: to each question of no unit, the last states, the settled entries, and what is wanted of units.
-pub fn survey(out: &mut String, core: &Core, wanted: Wanted) -> Result<(), AllocError> {
+/// Writes all that is answered: to each question of no unit, the last states, the settled entries, of which these are
+/// written, and what is wanted of units.
+pub fn survey(
+    out: &mut String,
+    core: &Core,
+    written: &[Entry],
+    wanted: Wanted,
+) -> Result<(), AllocError> {
     out.clear();
     for question in &PLAIN_QUESTIONS {
         add(out, core, question)?;
@@ -90,7 +96,7 @@ pub fn survey(out: &mut String, core: &Core, wanted: Wanted) -> Result<(), Alloc
     }
     add_grains(out, core)?;
     out.push_str("\n")?;
-    add_entries(out, core.settled())?;
+    add_entries(out, written, core)?;
     for number in 0..wanted.below {
         add_unit(out, core, UnitNo(number), wanted.whole)?;
     }

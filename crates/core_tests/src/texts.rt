@@ -3,6 +3,7 @@ use cell_model::{Ask, Decision};
 use core_model::{
     AskAnswer, BatchView, CoreAnswer, CoreReply, Effect, KnownOutcome, Read, SettlerWork,
 };
+use history_core::Core;
 use std::alloc::AllocError;
 use test_cases::{add_grain, add_items, add_outcome};
 
@@ -52,15 +53,28 @@ pub fn add_entry(out: &mut String, entry: &Entry) -> Result<(), AllocError> {
     add_settled(out, &entry.what)
 }
 
-/// Writes the entries from this one on.
-pub fn add_entries(out: &mut String, entries: &[Entry]) -> Result<(), AllocError> {
-    let mut between = "";
+/// Writes the settled entries, of which these are written.
+pub fn add_entries(out: &mut String, written: &[Entry], core: &Core) -> Result<(), AllocError> {
+    let (first, second) = core.settled();
+    let between = add_piece(out, "", written)?;
+    let between = add_piece(out, between, first)?;
+    add_piece(out, between, second)?;
+    Ok(())
+}
+
+// These entries, behind what is told already. Answers what stands before the next one.
+fn add_piece(
+    out: &mut String,
+    before: &'static str,
+    entries: &[Entry],
+) -> Result<&'static str, AllocError> {
+    let mut between = before;
     for entry in entries {
         out.push_str(between)?;
         add_entry(out, entry)?;
         between = "; ";
     }
-    Ok(())
+    Ok(between)
 }
 
 fn add_lock_answer(out: &mut String, answer: Ask) -> Result<(), AllocError> {

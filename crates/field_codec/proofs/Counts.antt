@@ -9,6 +9,9 @@ use Rattle.std.proofs.lemmas.Nat.{le_bytes_2, le_bytes_4, le_bytes_8, from_le_by
 use Rattle.std.proofs.lemmas.List.{length-take, length-drop, get_or-drop, get_or-take, get_or_past, append-nil}
 use Rattle.field_codec.specs.declared.faults.CodecFault.{CodecFault}
 use Rattle.field_codec.specs.declared.faults.CodecFault.TheVariants.{Short, NotUtf8, Over}
+use Rattle.field_codec.specs.declared.formats.Format.{Format}
+use Rattle.field_codec.specs.declared.formats.Format.TheVariants.{One}
+use Rattle.field_codec.specs.Formats.{text_limit, field_limit}
 use Rattle.field_codec.specs.Spelling.{Stands, spelling_of_text, TextFits}
 use Rattle.field_codec.specs.Readers.{AreBytes, Reader, whole, refused, field, choice, number_at, count_at, letters, text_at, times, list_at}
 use Rattle.field_codec.specs.Results.{place_of}
@@ -199,8 +202,17 @@ letters_read low n = record {
       either_stopped (λ f. low ≤ place_of f) (ltb (length bytes) (at + n)) (is_utf8 (take n (drop at bytes))) (Short at) (NotUtf8 at) (take n (drop at bytes), at + n) fault low_le low_le e;
 }
 
-pub text_reads : (low : ℕ) → Reads low Any spelling_of_text TextFits text_at
+-- a text's length has 16 bits
+pub text_limit_small : (f : Format) → text_limit f < 2 ^ 16
+text_limit_small One = omega arith
+
+-- a state's count has 16 bits
+pub field_limit_small : (f : Format) → field_limit f < 2 ^ 16
+field_limit_small One = omega arith
+
+-- a text
+pub text_reads : (f : Format) (low : ℕ) → Reads low Any spelling_of_text (TextFits f) (text_at f)
 unfolding text_at
-text_reads low =
-    then (λ (t : List ℕ). length t) (to_le_bytes w16) (λ n. n ≤ 256) (count_at w16 256) low Any (λ t. t) IsUtf8 (λ n place. letters n)
-    (count_reads w16 (2 ^ 16) 256 wide16 (omega arith) low) (λ n from. letters_read from n)
+text_reads f low =
+    then (λ (t : List ℕ). length t) (to_le_bytes w16) (λ n. n ≤ text_limit f) (count_at w16 (text_limit f)) low Any (λ t. t) IsUtf8 (λ n place. letters n)
+    (count_reads w16 (2 ^ 16) (text_limit f) wide16 (text_limit_small f) low) (λ n from. letters_read from n)

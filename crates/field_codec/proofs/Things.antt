@@ -13,6 +13,8 @@ use Rattle.base_types.specs.declared.calls.Origin.TheVariants.{Line, Child}
 use Rattle.base_types.specs.declared.calls.Outcome as outcome
 use Rattle.base_types.specs.declared.stores.Version.{Version}
 use Rattle.field_codec.specs.declared.faults.CodecFault.TheVariants.{BadTag, Unknown}
+use Rattle.field_codec.specs.declared.formats.Format.{Format}
+use Rattle.field_codec.specs.Formats.{field_limit}
 use Rattle.field_codec.specs.declared.units.Numbers.{Numbers}
 use Rattle.field_codec.specs.declared.units.Numbers.TheVariants.{Free}
 use Rattle.field_codec.specs.Units.{may_be_unit, may_be_parent, HasParent}
@@ -20,7 +22,7 @@ use Rattle.field_codec.specs.Spelling.{spelling_of_text, TextFits, spelling_of_v
 use Rattle.field_codec.specs.Readers.{whole, refused, field, choice, number_at, count_at, text_at, times}
 use Rattle.field_codec.specs.Fields.{value_at, values_at, exactly_at, call_at, version_at, unit_at, parent_at, origin_at, ended, answer_at, result_at}
 use Rattle.field_codec.proofs.Readers.{Reads, Any, then, done, choose, never, put_in, said}
-use Rattle.field_codec.proofs.Counts.{wide16, wide64, byte_reads, reads16, reads32, reads64, tested_reads, count_reads, list_reads, text_reads}
+use Rattle.field_codec.proofs.Counts.{wide16, wide64, byte_reads, reads16, reads32, reads64, tested_reads, count_reads, list_reads, text_reads, field_limit_small}
 use Rattle.field_codec.proofs.Chains.{times_reads}
 
 -- ---- values
@@ -33,17 +35,17 @@ abbrev behind : Value → List ℕ
 behind (Int z) = to_le_bytes w64 (cast_unsigned w64 z)
 behind (Text t) = spelling_of_text t
 
-is_int : (tag : ℕ) → tag ≡ 0 → (v : Value) → Any v × (tag_of v ≡ tag) → ValueFits v → (n : ℕ) × (v ≡ Int (cast_signed w64 n)) × (n < 2 ^ 64)
-is_int tag is (Int z) known fits = (cast_unsigned w64 z, ap Int (sym (to_z-of_z w64 z fits)), Fits-lt-pow (Fits-of_z fits))
-is_int tag is (Text t) known fits = absurd (omega (arith, is, known.1))
+is_int : (f : Format) (tag : ℕ) → tag ≡ 0 → (v : Value) → Any v × (tag_of v ≡ tag) → ValueFits f v → (n : ℕ) × (v ≡ Int (cast_signed w64 n)) × (n < 2 ^ 64)
+is_int f tag is (Int z) known fits = (cast_unsigned w64 z, ap Int (sym (to_z-of_z w64 z fits)), Fits-lt-pow (Fits-of_z fits))
+is_int f tag is (Text t) known fits = absurd (omega (arith, is, known.1))
 
-is_text : (tag : ℕ) → tag ≡ 1 → (v : Value) → Any v × (tag_of v ≡ tag) → ValueFits v → (t : List ℕ) × (v ≡ Text t) × TextFits t
-is_text tag is (Int z) known fits = absurd (omega (arith, is, known.1))
-is_text tag is (Text t) known fits = (t, refl, fits)
+is_text : (f : Format) (tag : ℕ) → tag ≡ 1 → (v : Value) → Any v × (tag_of v ≡ tag) → ValueFits f v → (t : List ℕ) × (v ≡ Text t) × TextFits f t
+is_text f tag is (Int z) known fits = absurd (omega (arith, is, known.1))
+is_text f tag is (Text t) known fits = (t, refl, fits)
 
-is_none : (tag : ℕ) → (tag ≡ 0 → ⊥) → (tag ≡ 1 → ⊥) → (v : Value) → Any v × (tag_of v ≡ tag) → ValueFits v → ⊥
-is_none tag not also (Int z) known fits = not (sym known.1)
-is_none tag not also (Text t) known fits = also (sym known.1)
+is_none : (f : Format) (tag : ℕ) → (tag ≡ 0 → ⊥) → (tag ≡ 1 → ⊥) → (v : Value) → Any v × (tag_of v ≡ tag) → ValueFits f v → ⊥
+is_none f tag not also (Int z) known fits = not (sym known.1)
+is_none f tag not also (Text t) known fits = also (sym known.1)
 
 tagged : (v : Value) → to_le_bytes w8 (tag_of v) ++ behind v ≡ spelling_of_value v
 tagged (Int z) = refl
@@ -53,68 +55,68 @@ tag_small : (v : Value) → tag_of v < 2 ^ 8
 tag_small (Int z) = omega arith
 tag_small (Text t) = omega arith
 
-value_behind : (tag from : ℕ) → Reads from (λ v. Any v × (tag_of v ≡ tag)) behind ValueFits
-    (choice (eqb tag 0) (field (number_at w64) (λ n here. whole (Int (cast_signed w64 n)))) (choice (eqb tag 1) (field text_at (λ text here. whole (Text text))) (refused (BadTag from tag))))
-value_behind tag from =
+value_behind : (f : Format) (tag from : ℕ) → Reads from (λ v. Any v × (tag_of v ≡ tag)) behind (ValueFits f)
+    (choice (eqb tag 0) (field (number_at w64) (λ n here. whole (Int (cast_signed w64 n)))) (choice (eqb tag 1) (field (text_at f) (λ text here. whole (Text text))) (refused (BadTag from tag))))
+value_behind f tag from =
     let P : Value → Type 0 = λ v. Any v × (tag_of v ≡ tag) in
-    choose from P behind ValueFits (eqb tag 0) _ _
+    choose from P behind (ValueFits f) (eqb tag 0) _ _
     (
-    λ yes0. put_in (λ n. Int (cast_signed w64 n)) (to_le_bytes w64) (λ n. n < 2 ^ 64) (number_at w64) from P behind ValueFits
-    (is_int tag (eqb-true tag 0 yes0)) (λ n. (tt, sym (eqb-true tag 0 yes0))) (λ n lt. ap (to_le_bytes w64) (of_z-to_z w64 n lt)) (λ n lt. sfits_to_z (Fits-of_lt lt)) (reads64 from)
+    λ yes0. put_in (λ n. Int (cast_signed w64 n)) (to_le_bytes w64) (λ n. n < 2 ^ 64) (number_at w64) from P behind (ValueFits f)
+    (is_int f tag (eqb-true tag 0 yes0)) (λ n. (tt, sym (eqb-true tag 0 yes0))) (λ n lt. ap (to_le_bytes w64) (of_z-to_z w64 n lt)) (λ n lt. sfits_to_z (Fits-of_lt lt)) (reads64 from)
     )
     (
-    λ no0. choose from P behind ValueFits (eqb tag 1) _ _
-    (λ yes1. put_in Text spelling_of_text TextFits text_at from P behind ValueFits (is_text tag (eqb-true tag 1 yes1)) (λ t. (tt, sym (eqb-true tag 1 yes1))) (λ t fits. refl) (λ t fits. fits) (text_reads from))
-    (λ no1. never from P behind ValueFits (BadTag from tag) (omega arith) (is_none tag (eqb-false tag 0 no0) (eqb-false tag 1 no1)))
+    λ no0. choose from P behind (ValueFits f) (eqb tag 1) _ _
+    (λ yes1. put_in Text spelling_of_text (TextFits f) (text_at f) from P behind (ValueFits f) (is_text f tag (eqb-true tag 1 yes1)) (λ t. (tt, sym (eqb-true tag 1 yes1))) (λ t fits. refl) (λ t fits. fits) (text_reads f from))
+    (λ no1. never from P behind (ValueFits f) (BadTag from tag) (omega arith) (is_none f tag (eqb-false tag 0 no0) (eqb-false tag 1 no1)))
     )
 
-pub value_reads : (low : ℕ) → Reads low Any spelling_of_value ValueFits value_at
+pub value_reads : (f : Format) (low : ℕ) → Reads low Any spelling_of_value (ValueFits f) (value_at f)
 unfolding value_at
-value_reads low =
-    said low Any Any (λ v. to_le_bytes w8 (tag_of v) ++ behind v) spelling_of_value (λ v. (tag_of v < 2 ^ 8) × ValueFits v) ValueFits value_at
+value_reads f low =
+    said low Any Any (λ v. to_le_bytes w8 (tag_of v) ++ behind v) spelling_of_value (λ v. (tag_of v < 2 ^ 8) × ValueFits f v) (ValueFits f) (value_at f)
     (λ v p. tt) (λ v p. tt) (λ v p. tagged v) (λ v p fits. fits.1) (λ v p fits. (tag_small v, fits))
-    (then tag_of (to_le_bytes w8) (λ n. n < 2 ^ 8) (number_at w8) low Any behind ValueFits _ (byte_reads low) value_behind)
+    (then tag_of (to_le_bytes w8) (λ n. n < 2 ^ 8) (number_at w8) low Any behind (ValueFits f) _ (byte_reads low) (value_behind f))
 
-pub values_read : (most : ℕ) → most < 2 ^ 16 → (low : ℕ) → Reads low Any spelling_of_values (ValuesFit most) (values_at most)
-values_read most lt low = list_reads spelling_of_value ValueFits value_at value_reads w16 (2 ^ 16) most wide16 lt low
+pub values_read : (f : Format) (most : ℕ) → most < 2 ^ 16 → (low : ℕ) → Reads low Any spelling_of_values (ValuesFit f most) (values_at f most)
+values_read f most lt low = list_reads spelling_of_value (ValueFits f) (value_at f) (value_reads f) w16 (2 ^ 16) most wide16 lt low
 
-abbrev pub ValuesFitExactly : ℕ → ℕ → List Value → Type 0
-ValuesFitExactly limit many vs = (length vs ≤ limit) × (AllByRecursion ValueFits vs × (length vs ≡ many))
+abbrev pub ValuesFitExactly : Format → ℕ → ℕ → List Value → Type 0
+ValuesFitExactly f limit many vs = (length vs ≤ limit) × (AllByRecursion (ValueFits f) vs × (length vs ≡ many))
 
-pub exactly_reads : (limit many : ℕ) → limit < 2 ^ 16 → (low : ℕ) → Reads low Any spelling_of_values (ValuesFitExactly limit many) (exactly_at limit many)
+pub exactly_reads : (f : Format) (limit many : ℕ) → limit < 2 ^ 16 → (low : ℕ) → Reads low Any spelling_of_values (ValuesFitExactly f limit many) (exactly_at f limit many)
 unfolding exactly_at
-exactly_reads limit many lt low =
-    then (λ (vs : List Value). length vs) (to_le_bytes w16) (λ n. n ≤ limit) (count_at w16 limit) low Any (flat_map spelling_of_value) (λ vs. AllByRecursion ValueFits vs × (length vs ≡ many)) _ (count_reads w16 (2 ^ 16) limit wide16 lt low) λ n from.
+exactly_reads f limit many lt low =
+    then (λ (vs : List Value). length vs) (to_le_bytes w16) (λ n. n ≤ limit) (count_at w16 limit) low Any (flat_map spelling_of_value) (λ vs. AllByRecursion (ValueFits f) vs × (length vs ≡ many)) _ (count_reads w16 (2 ^ 16) limit wide16 lt low) λ n from.
     let P : List Value → Type 0 = λ vs. Any vs × (length vs ≡ n) in
-    let Fits : List Value → Type 0 = λ vs. AllByRecursion ValueFits vs × (length vs ≡ many) in
+    let Fits : List Value → Type 0 = λ vs. AllByRecursion (ValueFits f) vs × (length vs ≡ many) in
     choose from P (flat_map spelling_of_value) Fits (eqb n many) _ _
-    (λ same. said from P P (flat_map spelling_of_value) (flat_map spelling_of_value) (AllByRecursion ValueFits) Fits (times value_at n) (λ a p. p) (λ a p. p) (λ a p. refl)
+    (λ same. said from P P (flat_map spelling_of_value) (flat_map spelling_of_value) (AllByRecursion (ValueFits f)) Fits (times (value_at f) n) (λ a p. p) (λ a p. p) (λ a p. refl)
     (λ a p fits. (fits, p.1 ∙ eqb-true n many same)) (λ a p fits. fits.0)
-    (times_reads spelling_of_value ValueFits value_at value_reads from n))
+    (times_reads spelling_of_value (ValueFits f) (value_at f) (value_reads f) from n))
     (λ other. never from P (flat_map spelling_of_value) Fits (Unknown from) (omega arith) (λ a p fits. eqb-false n many other (sym p.1 ∙ fits.1)))
 
 -- ---- calls
 
-pub call_reads : (low : ℕ) → Reads low Any spelling_of_call CallFits call_at
+pub call_reads : (f : Format) (low : ℕ) → Reads low Any spelling_of_call (CallFits f) (call_at f)
 unfolding call_at
-call_reads low =
-    said low Any Any _ spelling_of_call _ CallFits call_at (λ c p. tt) (λ c p. tt) (λ c p. simp append-nil)
-    (λ c p f. record { kind = f.0; key = f.1.0; method = f.1.1.0; args = f.1.1.1.0 }) (λ c p f. (f.kind, (f.key, (f.method, (f.args, tt)))))
+call_reads f low =
+    said low Any Any _ spelling_of_call _ (CallFits f) (call_at f) (λ c p. tt) (λ c p. tt) (λ c p. simp append-nil)
+    (λ c p fits. record { kind = fits.0; key = fits.1.0; method = fits.1.1.0; args = fits.1.1.1.0 }) (λ c p fits. (fits.kind, (fits.key, (fits.method, (fits.args, tt)))))
     (then (λ (c : Call). c.grain.kind) (to_le_bytes w16) (λ n. n < 2 ^ 16) (number_at w16) low Any _ _ _ (reads16 low) λ k from0.
     then (λ (c : Call). c.grain.key) (to_le_bytes w32) (λ n. n < 2 ^ 32) (number_at w32) from0 _ _ _ _ (reads32 from0) λ y from1.
     then (λ (c : Call). c.method) (to_le_bytes w16) (λ n. n < 2 ^ 16) (number_at w16) from1 _ _ _ _ (reads16 from1) λ m from2.
-    then (λ (c : Call). c.args) spelling_of_values (ValuesFit 8) (values_at 8) from2 _ _ _ _ (values_read 8 (omega arith) from2) λ a from3.
+    then (λ (c : Call). c.args) spelling_of_values (ValuesFit f 8) (values_at f 8) from2 _ _ _ _ (values_read f 8 (omega arith) from2) λ a from3.
     done from3 _ (record { grain = record { kind = k; key = y }; method = m; args = a }) ((((tt, refl), refl), refl), refl) (λ d known i. record { grain = record { kind = known.0.0.0.1 i; key = known.0.0.1 i }; method = known.0.1 i; args = known.1 i }))
 
 -- ---- versions
 
-pub version_reads : (low : ℕ) → Reads low Any spelling_of_version VersionFits version_at
+pub version_reads : (f : Format) (low : ℕ) → Reads low Any spelling_of_version (VersionFits f) (version_at f)
 unfolding version_at
-version_reads low =
-    said low Any Any _ spelling_of_version _ VersionFits version_at (λ v p. tt) (λ v p. tt) (λ v p. simp append-nil)
-    (λ v p f. record { unit = f.0; state = f.1.0 }) (λ v p f. (f.unit, (f.state, tt)))
+version_reads f low =
+    said low Any Any _ spelling_of_version _ (VersionFits f) (version_at f) (λ v p. tt) (λ v p. tt) (λ v p. simp append-nil)
+    (λ v p fits. record { unit = fits.0; state = fits.1.0 }) (λ v p fits. (fits.unit, (fits.state, tt)))
     (then (λ (v : Version). v.unit.0) (to_le_bytes w64) (λ n. n < 2 ^ 64) (number_at w64) low Any _ _ _ (reads64 low) λ u from0.
-    then (λ (v : Version). v.state) spelling_of_values (ValuesFit 16) (values_at 16) from0 _ _ _ _ (values_read 16 (omega arith) from0) λ s from1.
+    then (λ (v : Version). v.state) spelling_of_values (ValuesFit f (field_limit f)) (values_at f (field_limit f)) from0 _ _ _ _ (values_read f (field_limit f) (field_limit_small f) from0) λ s from1.
     done from1 _ (record { unit = record { 0 = u }; state = s }) ((tt, refl), refl) (λ d known i. record { unit = record { 0 = known.0.1 i }; state = known.1 i }))
 
 -- ---- origins
@@ -253,78 +255,78 @@ outcome_small (outcome.TheVariants.Fault text) = omega arith
 abbrev Tagged : ℕ → outcome.Outcome → Type 0
 Tagged tag o = Any o × (outcome_tag o ≡ tag)
 
-is_value : (tag : ℕ) → tag ≡ 1 → (o : outcome.Outcome) → Tagged tag o → ResultFits o → (v : Value) × (o ≡ outcome.TheVariants.Value v) × ValueFits v
-is_value tag is outcome.TheVariants.Aborted known fits = absurd fits
-is_value tag is (outcome.TheVariants.Value value) known fits = (value, refl, fits)
-is_value tag is (outcome.TheVariants.Fault text) known fits = absurd (omega (arith, is, known.1))
+is_value : (f : Format) (tag : ℕ) → tag ≡ 1 → (o : outcome.Outcome) → Tagged tag o → ResultFits f o → (v : Value) × (o ≡ outcome.TheVariants.Value v) × ValueFits f v
+is_value f tag is outcome.TheVariants.Aborted known fits = absurd fits
+is_value f tag is (outcome.TheVariants.Value value) known fits = (value, refl, fits)
+is_value f tag is (outcome.TheVariants.Fault text) known fits = absurd (omega (arith, is, known.1))
 
-is_fault : (tag : ℕ) → tag ≡ 2 → (o : outcome.Outcome) → Tagged tag o → ResultFits o → (t : List ℕ) × (o ≡ outcome.TheVariants.Fault t) × TextFits t
-is_fault tag is outcome.TheVariants.Aborted known fits = absurd fits
-is_fault tag is (outcome.TheVariants.Value value) known fits = absurd (omega (arith, is, known.1))
-is_fault tag is (outcome.TheVariants.Fault text) known fits = (text, refl, fits)
+is_fault : (f : Format) (tag : ℕ) → tag ≡ 2 → (o : outcome.Outcome) → Tagged tag o → ResultFits f o → (t : List ℕ) × (o ≡ outcome.TheVariants.Fault t) × TextFits f t
+is_fault f tag is outcome.TheVariants.Aborted known fits = absurd fits
+is_fault f tag is (outcome.TheVariants.Value value) known fits = absurd (omega (arith, is, known.1))
+is_fault f tag is (outcome.TheVariants.Fault text) known fits = (text, refl, fits)
 
 is_abort : (tag : ℕ) → tag ≡ 0 → (o : outcome.Outcome) → Tagged tag o → o ≡ outcome.TheVariants.Aborted
 is_abort tag is outcome.TheVariants.Aborted known = refl
 is_abort tag is (outcome.TheVariants.Value value) known = absurd (omega (arith, is, known.1))
 is_abort tag is (outcome.TheVariants.Fault text) known = absurd (omega (arith, is, known.1))
 
-no_outcome : (tag : ℕ) → (tag ≡ 1 → ⊥) → (tag ≡ 2 → ⊥) → (o : outcome.Outcome) → Tagged tag o → ResultFits o → ⊥
-no_outcome tag not1 not2 outcome.TheVariants.Aborted known fits = fits
-no_outcome tag not1 not2 (outcome.TheVariants.Value value) known fits = not1 (sym known.1)
-no_outcome tag not1 not2 (outcome.TheVariants.Fault text) known fits = not2 (sym known.1)
+no_outcome : (f : Format) (tag : ℕ) → (tag ≡ 1 → ⊥) → (tag ≡ 2 → ⊥) → (o : outcome.Outcome) → Tagged tag o → ResultFits f o → ⊥
+no_outcome f tag not1 not2 outcome.TheVariants.Aborted known fits = fits
+no_outcome f tag not1 not2 (outcome.TheVariants.Value value) known fits = not1 (sym known.1)
+no_outcome f tag not1 not2 (outcome.TheVariants.Fault text) known fits = not2 (sym known.1)
 
 -- behind the tag, where it is no abort
-ended_reads : (tag from : ℕ) → Reads from (Tagged tag) behind_outcome ResultFits (ended tag from)
-ended_reads tag from =
-    choose from (Tagged tag) behind_outcome ResultFits (eqb tag 1) _ _
-    (λ yes1. put_in outcome.TheVariants.Value spelling_of_value ValueFits value_at from (Tagged tag) behind_outcome ResultFits (is_value tag (eqb-true tag 1 yes1)) (λ v. (tt, sym (eqb-true tag 1 yes1))) (λ v fits. refl) (λ v fits. fits) (value_reads from))
+ended_reads : (f : Format) (tag from : ℕ) → Reads from (Tagged tag) behind_outcome (ResultFits f) (ended f tag from)
+ended_reads f tag from =
+    choose from (Tagged tag) behind_outcome (ResultFits f) (eqb tag 1) _ _
+    (λ yes1. put_in outcome.TheVariants.Value spelling_of_value (ValueFits f) (value_at f) from (Tagged tag) behind_outcome (ResultFits f) (is_value f tag (eqb-true tag 1 yes1)) (λ v. (tt, sym (eqb-true tag 1 yes1))) (λ v fits. refl) (λ v fits. fits) (value_reads f from))
     (
-    λ no1. choose from (Tagged tag) behind_outcome ResultFits (eqb tag 2) _ _
-    (λ yes2. put_in outcome.TheVariants.Fault spelling_of_text TextFits text_at from (Tagged tag) behind_outcome ResultFits (is_fault tag (eqb-true tag 2 yes2)) (λ t. (tt, sym (eqb-true tag 2 yes2))) (λ t fits. refl) (λ t fits. fits) (text_reads from))
-    (λ no2. never from (Tagged tag) behind_outcome ResultFits (BadTag from tag) (omega arith) (no_outcome tag (eqb-false tag 1 no1) (eqb-false tag 2 no2)))
+    λ no1. choose from (Tagged tag) behind_outcome (ResultFits f) (eqb tag 2) _ _
+    (λ yes2. put_in outcome.TheVariants.Fault spelling_of_text (TextFits f) (text_at f) from (Tagged tag) behind_outcome (ResultFits f) (is_fault f tag (eqb-true tag 2 yes2)) (λ t. (tt, sym (eqb-true tag 2 yes2))) (λ t fits. refl) (λ t fits. fits) (text_reads f from))
+    (λ no2. never from (Tagged tag) behind_outcome (ResultFits f) (BadTag from tag) (omega arith) (no_outcome f tag (eqb-false tag 1 no1) (eqb-false tag 2 no2)))
     )
 
-pub result_reads : (low : ℕ) → Reads low Any spelling_of_outcome ResultFits result_at
+pub result_reads : (f : Format) (low : ℕ) → Reads low Any spelling_of_outcome (ResultFits f) (result_at f)
 unfolding result_at
-result_reads low =
-    said low Any Any (λ o. to_le_bytes w8 (outcome_tag o) ++ behind_outcome o) spelling_of_outcome (λ o. (outcome_tag o < 2 ^ 8) × ResultFits o) ResultFits result_at
+result_reads f low =
+    said low Any Any (λ o. to_le_bytes w8 (outcome_tag o) ++ behind_outcome o) spelling_of_outcome (λ o. (outcome_tag o < 2 ^ 8) × ResultFits f o) (ResultFits f) (result_at f)
     (λ o p. tt) (λ o p. tt) (λ o p. outcome_tagged o) (λ o p fits. fits.1) (λ o p fits. (outcome_small o, fits))
-    (then outcome_tag (to_le_bytes w8) (λ n. n < 2 ^ 8) (number_at w8) low Any behind_outcome ResultFits _ (byte_reads low) ended_reads)
+    (then outcome_tag (to_le_bytes w8) (λ n. n < 2 ^ 8) (number_at w8) low Any behind_outcome (ResultFits f) _ (byte_reads low) (ended_reads f))
 
 -- an answer that is no abort is a result
-answer_is_result : (tag : ℕ) → (tag ≡ 0 → ⊥) → (o : outcome.Outcome) → Tagged tag o → AnswerFits o → ResultFits o
-answer_is_result tag not0 outcome.TheVariants.Aborted known fits = not0 (sym known.1)
-answer_is_result tag not0 (outcome.TheVariants.Value value) known fits = fits
-answer_is_result tag not0 (outcome.TheVariants.Fault text) known fits = fits
+answer_is_result : (f : Format) (tag : ℕ) → (tag ≡ 0 → ⊥) → (o : outcome.Outcome) → Tagged tag o → AnswerFits f o → ResultFits f o
+answer_is_result f tag not0 outcome.TheVariants.Aborted known fits = not0 (sym known.1)
+answer_is_result f tag not0 (outcome.TheVariants.Value value) known fits = fits
+answer_is_result f tag not0 (outcome.TheVariants.Fault text) known fits = fits
 
-result_is_answer : (o : outcome.Outcome) → ResultFits o → AnswerFits o
-result_is_answer outcome.TheVariants.Aborted fits = tt
-result_is_answer (outcome.TheVariants.Value value) fits = fits
-result_is_answer (outcome.TheVariants.Fault text) fits = fits
+result_is_answer : (f : Format) (o : outcome.Outcome) → ResultFits f o → AnswerFits f o
+result_is_answer f outcome.TheVariants.Aborted fits = tt
+result_is_answer f (outcome.TheVariants.Value value) fits = fits
+result_is_answer f (outcome.TheVariants.Fault text) fits = fits
 
 abort_behind : (tag : ℕ) → tag ≡ 0 → (o : outcome.Outcome) → Tagged tag o → [] ≡ behind_outcome o
 abort_behind tag is outcome.TheVariants.Aborted known = refl
 abort_behind tag is (outcome.TheVariants.Value value) known = absurd (omega (arith, is, known.1))
 abort_behind tag is (outcome.TheVariants.Fault text) known = absurd (omega (arith, is, known.1))
 
-abort_fits : (tag : ℕ) → tag ≡ 0 → (o : outcome.Outcome) → Tagged tag o → AnswerFits o
-abort_fits tag is outcome.TheVariants.Aborted known = tt
-abort_fits tag is (outcome.TheVariants.Value value) known = absurd (omega (arith, is, known.1))
-abort_fits tag is (outcome.TheVariants.Fault text) known = absurd (omega (arith, is, known.1))
+abort_fits : (f : Format) (tag : ℕ) → tag ≡ 0 → (o : outcome.Outcome) → Tagged tag o → AnswerFits f o
+abort_fits f tag is outcome.TheVariants.Aborted known = tt
+abort_fits f tag is (outcome.TheVariants.Value value) known = absurd (omega (arith, is, known.1))
+abort_fits f tag is (outcome.TheVariants.Fault text) known = absurd (omega (arith, is, known.1))
 
-answer_behind : (tag from : ℕ) → Reads from (Tagged tag) behind_outcome AnswerFits (choice (eqb tag 0) (whole outcome.TheVariants.Aborted) (ended tag from))
-answer_behind tag from =
-    choose from (Tagged tag) behind_outcome AnswerFits (eqb tag 0) _ _
+answer_behind : (f : Format) (tag from : ℕ) → Reads from (Tagged tag) behind_outcome (AnswerFits f) (choice (eqb tag 0) (whole outcome.TheVariants.Aborted) (ended f tag from))
+answer_behind f tag from =
+    choose from (Tagged tag) behind_outcome (AnswerFits f) (eqb tag 0) _ _
     (
     λ yes0. let is = eqb-true tag 0 yes0 in
-    said from (Tagged tag) (Tagged tag) (λ o. []) behind_outcome (λ o. Unit {0}) AnswerFits (whole outcome.TheVariants.Aborted) (λ o p. p) (λ o p. p) (abort_behind tag is) (λ o p fits. abort_fits tag is o p) (λ o p fits. tt)
+    said from (Tagged tag) (Tagged tag) (λ o. []) behind_outcome (λ o. Unit {0}) (AnswerFits f) (whole outcome.TheVariants.Aborted) (λ o p. p) (λ o p. p) (abort_behind tag is) (λ o p fits. abort_fits f tag is o p) (λ o p fits. tt)
     (done from (Tagged tag) outcome.TheVariants.Aborted (tt, sym is) (is_abort tag is))
     )
-    (λ no0. said from (Tagged tag) (Tagged tag) behind_outcome behind_outcome ResultFits AnswerFits (ended tag from) (λ o p. p) (λ o p. p) (λ o p. refl) (λ o p fits. result_is_answer o fits) (answer_is_result tag (eqb-false tag 0 no0)) (ended_reads tag from))
+    (λ no0. said from (Tagged tag) (Tagged tag) behind_outcome behind_outcome (ResultFits f) (AnswerFits f) (ended f tag from) (λ o p. p) (λ o p. p) (λ o p. refl) (λ o p fits. result_is_answer f o fits) (answer_is_result f tag (eqb-false tag 0 no0)) (ended_reads f tag from))
 
-pub answer_reads : (low : ℕ) → Reads low Any spelling_of_outcome AnswerFits answer_at
+pub answer_reads : (f : Format) (low : ℕ) → Reads low Any spelling_of_outcome (AnswerFits f) (answer_at f)
 unfolding answer_at
-answer_reads low =
-    said low Any Any (λ o. to_le_bytes w8 (outcome_tag o) ++ behind_outcome o) spelling_of_outcome (λ o. (outcome_tag o < 2 ^ 8) × AnswerFits o) AnswerFits answer_at
+answer_reads f low =
+    said low Any Any (λ o. to_le_bytes w8 (outcome_tag o) ++ behind_outcome o) spelling_of_outcome (λ o. (outcome_tag o < 2 ^ 8) × AnswerFits f o) (AnswerFits f) (answer_at f)
     (λ o p. tt) (λ o p. tt) (λ o p. outcome_tagged o) (λ o p fits. fits.1) (λ o p fits. (outcome_small o, fits))
-    (then outcome_tag (to_le_bytes w8) (λ n. n < 2 ^ 8) (number_at w8) low Any behind_outcome AnswerFits _ (byte_reads low) answer_behind)
+    (then outcome_tag (to_le_bytes w8) (λ n. n < 2 ^ 8) (number_at w8) low Any behind_outcome (AnswerFits f) _ (byte_reads low) (answer_behind f))

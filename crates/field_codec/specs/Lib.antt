@@ -1,3 +1,4 @@
+pub mod Formats
 pub mod Readers
 pub mod Chains
 pub mod Spelling

@@ -2,6 +2,8 @@
 use Rattle.std.specs.Prelude.{ℕ, zero, suc, ◌+◌, ◌<◌, List, [], ◌∷◌, length, take, drop, slice_index, Result, Ok, Err, Bool, Option, Some, None, nat_lt, ◌==◌, if◌then◌else◌}
 use Rattle.std.specs.Int.{Width, w16, byte_len, from_le_bytes}
 use Rattle.std.specs.Str.{is_utf8}
+use Rattle.field_codec.specs.declared.formats.Format.{Format}
+use Rattle.field_codec.specs.Formats.{text_limit}
 use Rattle.field_codec.specs.declared.faults.CodecFault.{CodecFault}
 use Rattle.field_codec.specs.declared.faults.CodecFault.TheVariants.{Short, NotUtf8, Over, Trailing}
 
@@ -68,9 +70,9 @@ count_at w limit = field (number_at w) λ n place. choice (nat_lt limit n) (refu
 unfoldable pub letters : ℕ → Reader (List ℕ)
 letters n bytes at = if nat_lt (length bytes) (at + n) then Err (Short at) else (let text = take n (drop at bytes) in if is_utf8 text then Ok (text, at + n) else Err (NotUtf8 at))
 
--- a text: its length, and its bytes
-unfoldable pub text_at : Reader (List ℕ)
-text_at = field (count_at w16 256) λ n place. letters n
+-- a text within the format's limit: its length, and its bytes
+unfoldable pub text_at : Format → Reader (List ℕ)
+text_at format = field (count_at w16 (text_limit format)) λ n place. letters n
 
 -- a count of at most the limit, and so many of a kind
 unfoldable pub list_at : {A : Type 0} → Width → ℕ → Reader A → Reader (List A)

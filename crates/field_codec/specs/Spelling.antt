@@ -3,6 +3,8 @@ use Rattle.std.specs.Prelude.{FitsSigned, ◌≡◌, ℕ, ◌+◌, ◌<◌, ◌�
 use Rattle.std.specs.Int.{w16, w32, w64, to_le_bytes, cast_unsigned}
 use Rattle.std.specs.List.{flat_map, AllByRecursion}
 use Rattle.std.specs.Str.{IsUtf8}
+use Rattle.field_codec.specs.declared.formats.Format.{Format}
+use Rattle.field_codec.specs.Formats.{text_limit, field_limit}
 use Rattle.base_types.specs.declared.calls.Value.{Value}
 use Rattle.base_types.specs.declared.calls.Value.TheVariants.{Int, Text}
 use Rattle.base_types.specs.declared.calls.Call.{Call}
@@ -20,9 +22,9 @@ pub record Stands (bytes : List ℕ) (at : ℕ) (text : List ℕ) (end : ℕ) : 
 abbrev pub spelling_of_text : List ℕ → List ℕ
 spelling_of_text text = to_le_bytes w16 (length text) ++ text
 
--- a text of at most 256 bytes, in UTF-8
-abbrev pub TextFits : List ℕ → Type 0
-TextFits text = (length text ≤ 256) × IsUtf8 text
+-- a text of at most as many bytes as the format takes, in UTF-8
+abbrev pub TextFits : Format → List ℕ → Type 0
+TextFits format text = (length text ≤ text_limit format) × IsUtf8 text
 
 -- a value: an Int is 0 and its two's complement, a Text is 1 and the text
 abbrev pub spelling_of_value : Value → List ℕ
@@ -30,37 +32,37 @@ spelling_of_value (Int z) = 0 ∷ to_le_bytes w64 (cast_unsigned w64 z)
 spelling_of_value (Text text) = 1 ∷ spelling_of_text text
 
 -- a value whose number has 64 bits, or whose text has a spelling
-abbrev pub ValueFits : Value → Type 0
-ValueFits (Int z) = FitsSigned w64 z
-ValueFits (Text text) = TextFits text
+abbrev pub ValueFits : Format → Value → Type 0
+ValueFits format (Int z) = FitsSigned w64 z
+ValueFits format (Text text) = TextFits format text
 
 -- values: their count, and each
 abbrev pub spelling_of_values : List Value → List ℕ
 spelling_of_values values = to_le_bytes w16 (length values) ++ flat_map spelling_of_value values
 
 -- at most so many values, each with a spelling
-abbrev pub ValuesFit : ℕ → List Value → Type 0
-ValuesFit limit values = (length values ≤ limit) × AllByRecursion ValueFits values
+abbrev pub ValuesFit : Format → ℕ → List Value → Type 0
+ValuesFit format limit values = (length values ≤ limit) × AllByRecursion (ValueFits format) values
 
 -- a version: its unit, and the state that the unit wrote
 abbrev pub spelling_of_version : Version → List ℕ
 spelling_of_version version = to_le_bytes w64 version.unit.0 ++ spelling_of_values version.state
 
 -- a version whose unit's number has 64 bits, and whose state has a spelling
-pub record VersionFits (version : Version) : Type 0 where
+pub record VersionFits (format : Format) (version : Version) : Type 0 where
   pub unit : version.unit.0 < 2 ^ 64
-  pub state : ValuesFit 16 version.state
+  pub state : ValuesFit format (field_limit format) version.state
 
 -- a call: the grain's type and key, the method, and the arguments
 abbrev pub spelling_of_call : Call → List ℕ
 spelling_of_call call = to_le_bytes w16 call.grain.kind ++ (to_le_bytes w32 call.grain.key ++ (to_le_bytes w16 call.method ++ spelling_of_values call.args))
 
 -- each number of a call fits its field, and its arguments have a spelling
-pub record CallFits (call : Call) : Type 0 where
+pub record CallFits (format : Format) (call : Call) : Type 0 where
   pub kind : call.grain.kind < 2 ^ 16
   pub key : call.grain.key < 2 ^ 32
   pub method : call.method < 2 ^ 16
-  pub args : ValuesFit 8 call.args
+  pub args : ValuesFit format 8 call.args
 
 -- an origin: 0 and the line, or 1 and the parent, the index and the depth
 abbrev pub spelling_of_origin : Origin → List ℕ
@@ -79,16 +81,16 @@ spelling_of_outcome (outcome.TheVariants.Value value) = 1 ∷ spelling_of_value 
 spelling_of_outcome (outcome.TheVariants.Fault text) = 2 ∷ spelling_of_text text
 
 -- an answer to a nested call may be any outcome
-abbrev pub AnswerFits : outcome.Outcome → Type 0
-AnswerFits outcome.TheVariants.Aborted = Unit {0}
-AnswerFits (outcome.TheVariants.Value value) = ValueFits value
-AnswerFits (outcome.TheVariants.Fault text) = TextFits text
+abbrev pub AnswerFits : Format → outcome.Outcome → Type 0
+AnswerFits format outcome.TheVariants.Aborted = Unit {0}
+AnswerFits format (outcome.TheVariants.Value value) = ValueFits format value
+AnswerFits format (outcome.TheVariants.Fault text) = TextFits format text
 
 -- the result of a unit in the log is no abort
-abbrev pub ResultFits : outcome.Outcome → Type 0
-ResultFits outcome.TheVariants.Aborted = ⊥
-ResultFits (outcome.TheVariants.Value value) = ValueFits value
-ResultFits (outcome.TheVariants.Fault text) = TextFits text
+abbrev pub ResultFits : Format → outcome.Outcome → Type 0
+ResultFits format outcome.TheVariants.Aborted = ⊥
+ResultFits format (outcome.TheVariants.Value value) = ValueFits format value
+ResultFits format (outcome.TheVariants.Fault text) = TextFits format text
 
 -- a program file begins with the text's length and the text; further bytes are ignored
 abbrev pub spelling_of_program : List ℕ → List ℕ

@@ -6,6 +6,7 @@
 
 mod calls;
 mod faults;
+mod formats;
 mod laws;
 mod numbers;
 mod origins;
@@ -18,6 +19,7 @@ mod versions;
 
 pub use calls::{get_call, put_call};
 pub use faults::CodecFault;
+pub use formats::Format;
 pub use laws::{first_version_is_spelled, spellings_are_apart};
 pub use numbers::{get_count, get_u8, get_u16, get_u32, get_u64, put_u16, put_u32, put_u64};
 pub use origins::get_origin;

@@ -3,8 +3,10 @@ ghost use Rattle.std.specs.Str.{is_utf8};
 ghost use Rattle.field_codec.specs.Readers.{text_at};
 ghost use Rattle.field_codec.specs.Results.{GivesRead};
 ghost use Rattle.field_codec.specs.Spelling.{spelling_of_text, TextFits};
+ghost use Rattle.field_codec.specs.declared.formats.Format.TheVariants.{One};
 
 use crate::faults::CodecFault;
+use crate::formats::Format;
 use crate::numbers::{get_count, put_u16};
 use base_types::Text;
 use std::alloc::{AllocError, Global};
@@ -20,12 +22,17 @@ fn as_text(bytes: &[u8]) -> Option<&str>
     }
 }
 
-/// The text that stands at a place, and the place behind it.
+/// The text that stands at a place, within the format's limit, and the place behind it.
 #[tactic(auto, unfolding(crate::specs::Readers::text_at, crate::specs::Readers::field, crate::specs::Readers::letters))]
-pub fn get_text(alloc: Global, bytes: &[u8], at: usize) -> Result<(Text, usize), CodecFault>
-    ensures { GivesRead result (text_at bytes.now at) }
+pub fn get_text(
+    alloc: Global,
+    bytes: &[u8],
+    at: usize,
+    format: Format,
+) -> Result<(Text, usize), CodecFault>
+    ensures { GivesRead result (text_at format bytes.now at) }
 {
-    let (len, after) = get_count(bytes, at, 256)?;
+    let (len, after) = get_count(bytes, at, format.text_limit())?;
     let len = len as usize;
     if bytes.len() < after || bytes.len() - after < len {
         return Err(CodecFault::Short { place: after });
@@ -44,7 +51,7 @@ pub fn get_text(alloc: Global, bytes: &[u8], at: usize) -> Result<(Text, usize),
 /// Appends a text's length and its bytes. Without memory some of them may have been appended.
 pub fn append_text(into: &mut Vec<u8>, text: &Text) -> Result<(), AllocError>
     ensures ok { OnOk result (into.new.items ≡ into.old.items ++ spelling_of_text text.now) }
-    ensures fits { TextFits text.now }
+    ensures fits { TextFits One text.now }
     ensures begins { take (length into.old.items) into.new.items ≡ into.old.items }
 {
     let bytes = text.as_str().as_bytes();

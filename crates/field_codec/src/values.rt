@@ -3,8 +3,11 @@ ghost use Rattle.field_codec.specs.Readers.{times};
 ghost use Rattle.field_codec.specs.Fields.{value_at, values_at, exactly_at};
 ghost use Rattle.field_codec.specs.Results.{GivesRead, FindsSpelling, Only};
 ghost use Rattle.field_codec.specs.Spelling.{spelling_of_value, spelling_of_values, ValueFits, ValuesFit};
+ghost use Rattle.field_codec.specs.Formats.{field_limit};
+ghost use Rattle.field_codec.specs.declared.formats.Format.TheVariants.{One};
 
 use crate::faults::CodecFault;
+use crate::formats::Format;
 use crate::numbers::{get_count, get_u8, get_u64, put_u16, put_u64};
 use crate::spelling::{Spelled, append_all, put};
 use crate::texts::{append_text, get_text};
@@ -13,12 +16,13 @@ use std::alloc::{AllocError, Global};
 
 impl Spelled for Value {
     ghost use Rattle.field_codec.specs.Spelling.{spelling_of_value, ValueFits};
+    ghost use Rattle.field_codec.specs.declared.formats.Format.TheVariants.{One};
 
     ghost may_spell = { λ _. Unit {0} };
 
     ghost spelling = { spelling_of_value };
 
-    ghost fits = { ValueFits };
+    ghost fits = { ValueFits One };
 
     fn append(&self, into: &mut Vec<u8>) -> Result<(), AllocError> {
         match self {
@@ -40,7 +44,7 @@ impl Spelled for Value {
 pub fn append_values(into: &mut Vec<u8>, values: &[Value]) -> Result<(), AllocError>
     requires { length values.now ≤ 16 }
     ensures ok { OnOk result (into.new.items ≡ into.old.items ++ spelling_of_values values.now) }
-    ensures fits { OnOk result (ValuesFit 16 values.now) }
+    ensures fits { OnOk result (ValuesFit One 16 values.now) }
     ensures begins { take (length into.old.items) into.new.items ≡ into.old.items }
 {
     put_u16(into, values.len() as u16)?;
@@ -50,12 +54,13 @@ pub fn append_values(into: &mut Vec<u8>, values: &[Value]) -> Result<(), AllocEr
 
 impl Spelled for State {
     ghost use Rattle.field_codec.specs.Spelling.{spelling_of_values, ValuesFit};
+    ghost use Rattle.field_codec.specs.declared.formats.Format.TheVariants.{One};
 
     ghost may_spell = { λ _. Unit {0} };
 
     ghost spelling = { spelling_of_values };
 
-    ghost fits = { ValuesFit 16 };
+    ghost fits = { ValuesFit One 16 };
 
     fn append(&self, into: &mut Vec<u8>) -> Result<(), AllocError> {
         // Its contract bounds the count.
@@ -79,8 +84,13 @@ pub fn put_state(into: &mut Vec<u8>, state: &State) -> Result<(), AllocError>
 }
 
 #[tactic(auto, unfolding(crate::specs::Fields::value_at, crate::specs::Readers::field, crate::specs::Readers::choice, crate::specs::Readers::refused, crate::specs::Readers::whole))]
-fn value_there(alloc: Global, bytes: &[u8], at: usize) -> Result<(Value, usize), CodecFault>
-    ensures { GivesRead result (value_at bytes.now at) }
+fn value_there(
+    alloc: Global,
+    bytes: &[u8],
+    at: usize,
+    format: Format,
+) -> Result<(Value, usize), CodecFault>
+    ensures { GivesRead result (value_at format bytes.now at) }
 {
     let (tag, after) = get_u8(bytes, at)?;
     if tag == 0 {
@@ -88,7 +98,7 @@ fn value_there(alloc: Global, bytes: &[u8], at: usize) -> Result<(Value, usize),
         return Ok((Value::Int(number.cast_signed()), after));
     }
     if tag == 1 {
-        let (text, after) = get_text(alloc, bytes, after)?;
+        let (text, after) = get_text(alloc, bytes, after, format)?;
         return Ok((Value::Text(text), after));
     }
     Err(CodecFault::BadTag {
@@ -103,14 +113,15 @@ pub fn get_values(
     bytes: &[u8],
     at: usize,
     count: u16,
+    format: Format,
 ) -> Result<(List<Value>, usize), CodecFault>
-    ensures exact { GivesRead result (times value_at count bytes.now at) }
+    ensures exact { GivesRead result (times (value_at format) count bytes.now at) }
     ensures many { IfOk result (λ x. length x.0 ≡ count) }
 {
     let mut values = List::new(alloc);
     let mut place = at;
     for _ in 0..count {
-        let (value, after) = value_there(alloc, bytes, place)?;
+        let (value, after) = value_there(alloc, bytes, place, format)?;
         values.push(value)?;
         place = after;
     }
@@ -124,12 +135,13 @@ pub fn values_there(
     bytes: &[u8],
     at: usize,
     limit: u16,
+    format: Format,
 ) -> Result<(List<Value>, usize), CodecFault>
-    ensures exact { GivesRead result (values_at limit bytes.now at) }
+    ensures exact { GivesRead result (values_at format limit bytes.now at) }
     ensures within { IfOk result (λ x. length x.0 ≤ limit) }
 {
     let (count, after) = get_count(bytes, at, limit)?;
-    let (values, after) = get_values(alloc, bytes, after, count)?;
+    let (values, after) = get_values(alloc, bytes, after, count, format)?;
     Ok((values, after))
 }
 
@@ -142,39 +154,55 @@ pub fn get_exactly(
     at: usize,
     limit: u16,
     many: usize,
+    format: Format,
 ) -> Result<(List<Value>, usize), CodecFault>
-    ensures exact { GivesRead result (exactly_at limit many bytes.now at) }
+    ensures exact { GivesRead result (exactly_at format limit many bytes.now at) }
     ensures within { IfOk result (λ x. length x.0 ≤ limit) }
 {
     let (count, after) = get_count(bytes, at, limit)?;
     if count as usize == many {
-        let (values, after) = get_values(alloc, bytes, after, count)?;
+        let (values, after) = get_values(alloc, bytes, after, count, format)?;
         return Ok((values, after));
     }
     Err(CodecFault::Unknown { place: at })
 }
 
-/// The value that stands at a place, and the place behind it. The fault is the first from left to right.
-pub fn get_value(alloc: Global, bytes: &[u8], at: usize) -> Result<(Value, usize), CodecFault>
-    ensures found { FindsSpelling spelling_of_value ValueFits bytes.now at result }
-    ensures only { Only spelling_of_value ValueFits bytes.now at result }
-    ensures exact { GivesRead result (value_at bytes.now at) }
+/// The value that stands at a place, within the limits of the format, and the place behind it. The fault is the first from left to right.
+pub fn get_value(
+    alloc: Global,
+    bytes: &[u8],
+    at: usize,
+    format: Format,
+) -> Result<(Value, usize), CodecFault>
+    ensures found { FindsSpelling spelling_of_value (ValueFits format) bytes.now at result }
+    ensures only { Only spelling_of_value (ValueFits format) bytes.now at result }
+    ensures exact { GivesRead result (value_at format bytes.now at) }
 {
-    value_there(alloc, bytes, at)
+    value_there(alloc, bytes, at, format)
 }
 
-fn state_there(alloc: Global, bytes: &[u8], at: usize) -> Result<(State, usize), CodecFault>
-    ensures { GivesRead result (values_at 16 bytes.now at) }
+fn state_there(
+    alloc: Global,
+    bytes: &[u8],
+    at: usize,
+    format: Format,
+) -> Result<(State, usize), CodecFault>
+    ensures { GivesRead result (values_at format (field_limit format) bytes.now at) }
 {
-    let (values, after) = values_there(alloc, bytes, at, 16)?;
+    let (values, after) = values_there(alloc, bytes, at, format.field_limit(), format)?;
     Ok((State::from_list(values), after))
 }
 
-/// The state that stands at a place, and the place behind it. The fault is the first from left to right.
-pub fn get_state(alloc: Global, bytes: &[u8], at: usize) -> Result<(State, usize), CodecFault>
-    ensures found { FindsSpelling spelling_of_values (ValuesFit 16) bytes.now at result }
-    ensures only { Only spelling_of_values (ValuesFit 16) bytes.now at result }
-    ensures exact { GivesRead result (values_at 16 bytes.now at) }
+/// The state that stands at a place, within the limits of the format, and the place behind it. The fault is the first from left to right.
+pub fn get_state(
+    alloc: Global,
+    bytes: &[u8],
+    at: usize,
+    format: Format,
+) -> Result<(State, usize), CodecFault>
+    ensures found { FindsSpelling spelling_of_values (ValuesFit format (field_limit format)) bytes.now at result }
+    ensures only { Only spelling_of_values (ValuesFit format (field_limit format)) bytes.now at result }
+    ensures exact { GivesRead result (values_at format (field_limit format) bytes.now at) }
 {
-    state_there(alloc, bytes, at)
+    state_there(alloc, bytes, at, format)
 }

@@ -3,6 +3,7 @@ use Rattle.std.specs.Prelude.{◌≡◌, ℕ, ◌+◌, List, [], ◌∷◌, leng
 use Rattle.std.specs.List.{flat_map}
 use Rattle.base_types.specs.declared.stores.Place.{Place}
 use Rattle.base_types.specs.declared.stores.Version.{Version}
+use Rattle.field_codec.specs.declared.formats.Format.{Format}
 use Rattle.field_codec.specs.Spelling.{Stands, spelling_of_version, VersionFits}
 
 -- one spelling behind the other
@@ -20,18 +21,18 @@ VersionsStand file at [] = Unit {0}
 VersionsStand file at (version ∷ versions) =
     Stands file at (spelling_of_version version) (at + length (spelling_of_version version)) × VersionsStand file (at + length (spelling_of_version version)) versions
 
--- this version has so many fields, and a spelling of this length
-pub record IsVersionOf (fields size : ℕ) (version : Version) : Type 0 where
-  pub fits : VersionFits version
+-- this version is within the limits of the format, has so many fields, and a spelling of this length
+pub record IsVersionOf (format : Format) (fields size : ℕ) (version : Version) : Type 0 where
+  pub fits : VersionFits format version
   pub count : length version.state ≡ fields
   pub len : length (spelling_of_version version) ≡ size
 
 -- a version of a type: it has as many fields as the type, and there is such a type
-abbrev pub IsVersionIn : Option ℕ → ℕ → Version → Type 0
-IsVersionIn None size version = ⊥
-IsVersionIn (Some fields) size version = IsVersionOf fields size version
+abbrev pub IsVersionIn : Format → Option ℕ → ℕ → Version → Type 0
+IsVersionIn format None size version = ⊥
+IsVersionIn format (Some fields) size version = IsVersionOf format fields size version
 
 -- this version, with so many fields, stands at this place of the file, with this length
-pub record IsVersionAt (fields : ℕ) (place : Place) (file : List ℕ) (version : Version) : Type 0 where
-  pub version_is : IsVersionOf fields place.len version
+pub record IsVersionAt (format : Format) (fields : ℕ) (place : Place) (file : List ℕ) (version : Version) : Type 0 where
+  pub version_is : IsVersionOf format fields place.len version
   pub here : take place.len (drop place.offset file) ≡ spelling_of_version version

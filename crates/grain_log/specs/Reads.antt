@@ -9,6 +9,8 @@ use Rattle.base_types.specs.declared.stores.Version.{Version}
 use Rattle.host_trait.specs.declared.channels.FileId.{FileId}
 use Rattle.host_trait.specs.declared.channels.FileId.TheVariants.{Program, Manager, Grain}
 use Rattle.field_codec.specs.declared.faults.CodecFault.{CodecFault}
+use Rattle.field_codec.specs.declared.formats.Format.{Format}
+use Rattle.field_codec.specs.Formats.{field_limit, version_limit}
 use Rattle.field_codec.specs.Readers.{Reader, whole_text, whole, field, number_at}
 use Rattle.field_codec.specs.Fields.{exactly_at}
 use Rattle.field_codec.specs.Results.{place_of}
@@ -27,16 +29,16 @@ fields_in shape (Manager slot) = None
 fields_in shape (Grain slot grain) = fields_of (slice_get shape.types grain.kind)
 
 -- a version with so many fields
-unfoldable pub version_in : ℕ → Reader Version
-version_in fields = field (number_at w64) λ unit place. field (exactly_at 16 fields) λ state here. whole (record { unit = record { 0 = unit }; state = state })
+unfoldable pub version_in : Format → ℕ → Reader Version
+version_in format fields = field (number_at w64) λ unit place. field (exactly_at format (field_limit format) fields) λ state here. whole (record { unit = record { 0 = unit }; state = state })
 
 -- the one version of a whole text
-abbrev pub version_of : ℕ → List ℕ → Result Version CodecFault
-version_of fields text = whole_text (version_in fields) text
+abbrev pub version_of : Format → ℕ → List ℕ → Result Version CodecFault
+version_of format fields text = whole_text (version_in format fields) text
 
 -- no version stands there, whatever the file: the offset is 2 to the 63 or more, or the place is longer than any version
-abbrev pub is_beyond : Place → Bool
-is_beyond place = nat_lt 9223372036854775807 place.offset || nat_lt 4154 place.len
+abbrev pub is_beyond : Format → Place → Bool
+is_beyond format place = nat_lt 9223372036854775807 place.offset || nat_lt (version_limit format) place.len
 
 -- a fault's place, counted in the file
 abbrev pub in_file : ℕ → Result Version CodecFault → Result Version ℕ
@@ -49,13 +51,13 @@ damage_at offset None = Memory
 damage_at offset (Some place) = Damaged (offset + place)
 
 -- a text that isn't there is damaged at its offset
-abbrev pub text_in : ℕ → Place → List ℕ → Result Version ℕ
-text_in fields place file = if nat_lt (length file - place.offset) place.len then Err place.offset else in_file place.offset (version_of fields (take place.len (drop place.offset file)))
+abbrev pub text_in : Format → ℕ → Place → List ℕ → Result Version ℕ
+text_in format fields place file = if nat_lt (length file - place.offset) place.len then Err place.offset else in_file place.offset (version_of format fields (take place.len (drop place.offset file)))
 
 -- the version at a place of a file, or where the file is damaged
-abbrev pub version_at_place : Option ℕ → Place → List ℕ → Result Version ℕ
-version_at_place None place file = Err place.offset
-version_at_place (Some fields) place file = if is_beyond place then Err place.offset else text_in fields place file
+abbrev pub version_at_place : Format → Option ℕ → Place → List ℕ → Result Version ℕ
+version_at_place format None place file = Err place.offset
+version_at_place format (Some fields) place file = if is_beyond format place then Err place.offset else text_in format fields place file
 
 -- the eight bytes at the place are the unit's number
 abbrev pub is_owned : UnitNo → Place → List ℕ → Bool
@@ -63,8 +65,8 @@ is_owned unit place file = bytes_eq (take 8 (drop place.offset file)) (to_le_byt
 
 -- The version of this unit at a place of a file, or where the file is damaged: at the offset, where the version is another
 -- unit's.
-abbrev pub owned_version : Option ℕ → UnitNo → Place → List ℕ → Result Version ℕ
-owned_version fields unit place file = if is_owned unit place file then version_at_place fields place file else Err place.offset
+abbrev pub owned_version : Format → Option ℕ → UnitNo → Place → List ℕ → Result Version ℕ
+owned_version format fields unit place file = if is_owned unit place file then version_at_place format fields place file else Err place.offset
 
 -- these are the bytes of a file at a place that lies in it
 pub record IsTextAt (place : Place) (file text : List ℕ) : Type 0 where
@@ -79,6 +81,6 @@ GivesVersion (Err Failed) found = Unit {0}
 GivesVersion (Err Memory) found = Unit {0}
 
 -- there can be no version of the program there
-abbrev pub IsImpossible : Option ℕ → Place → Type 0
-IsImpossible None place = Unit {0}
-IsImpossible (Some fields) place = is_beyond place ≡ true
+abbrev pub IsImpossible : Format → Option ℕ → Place → Type 0
+IsImpossible format None place = Unit {0}
+IsImpossible format (Some fields) place = is_beyond format place ≡ true

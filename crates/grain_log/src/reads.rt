@@ -13,7 +13,7 @@ ghost use Rattle.base_types.specs.declared.stores.Version.{Version as AVersion};
 
 use crate::faults::VersionFault;
 use base_types::{List, Place, Shape, State, UnitNo, Version};
-use field_codec::{CodecFault, get_exactly, get_u64};
+use field_codec::{CodecFault, Format, get_exactly, get_u64};
 use host_trait::{FileId, Host, read_full};
 use std::alloc::Global;
 
@@ -32,10 +32,10 @@ fn fields_in(shape: &Shape, file: FileId) -> Option<usize>
 }
 
 // Whether no version can stand at a place.
-fn is_beyond(place: Place) -> bool
-    ensures { result ≡ is_beyond place }
+fn is_beyond(place: Place, format: Format) -> bool
+    ensures { result ≡ is_beyond format place }
 {
-    place.offset > 9223372036854775807 || place.len > 4154
+    place.offset > 9223372036854775807 || place.len > format.version_limit()
 }
 
 // Whether a place ends below 2 to the 63.
@@ -53,20 +53,26 @@ fn get_version(
     bytes: &[u8],
     at: usize,
     fields: usize,
+    format: Format,
 ) -> Result<(Version, usize), CodecFault>
-    ensures { GivesRead result (version_in fields bytes.now at) }
+    ensures { GivesRead result (version_in format fields bytes.now at) }
 {
     let (unit, after) = get_u64(bytes, at)?;
-    let (values, after) = get_exactly(alloc, bytes, after, 16, fields)?;
+    let (values, after) = get_exactly(alloc, bytes, after, format.field_limit(), fields, format)?;
     let unit = UnitNo(unit);
     let state = State::from_list(values);
     Ok((Version { unit, state }, after))
 }
 
-fn get_whole(alloc: Global, text: &[u8], fields: usize) -> Result<Version, CodecFault>
-    ensures { GivesRead result (version_of fields text.now) }
+fn get_whole(
+    alloc: Global,
+    text: &[u8],
+    fields: usize,
+    format: Format,
+) -> Result<Version, CodecFault>
+    ensures { GivesRead result (version_of format fields text.now) }
 {
-    let (version, end) = get_version(alloc, text, 0, fields)?;
+    let (version, end) = get_version(alloc, text, 0, fields, format)?;
     if end == text.len() {
         return Ok(version);
     }
@@ -74,12 +80,12 @@ fn get_whole(alloc: Global, text: &[u8], fields: usize) -> Result<Version, Codec
 }
 
 // The one version of a whole text.
-fn decode(alloc: Global, text: &[u8], fields: usize) -> Result<Version, CodecFault>
-    ensures exact { GivesRead result (version_of fields text.now) }
+fn decode(alloc: Global, text: &[u8], fields: usize, format: Format) -> Result<Version, CodecFault>
+    ensures exact { GivesRead result (version_of format fields text.now) }
     ensures within { IfErr result (λ fault. place_of fault ≤ length text.now) }
-    ensures shaped { IfOk result (λ version. IsVersionOf fields (length text.now) version) }
+    ensures shaped { IfOk result (λ version. IsVersionOf format fields (length text.now) version) }
 {
-    get_whole(alloc, text, fields)
+    get_whole(alloc, text, fields, format)
 }
 
 // The fault of reading a version, counted in the file.
@@ -101,15 +107,16 @@ fn decode_at(
     offset: u64,
     text: &[u8],
     fields: usize,
+    format: Format,
 ) -> Result<Version, VersionFault>
     requires offset { offset < 2 ^ 63 }
-    requires short { length text.now ≤ 4154 }
-    ensures exact { GivesVersion result (in_file offset (version_of fields text.now)) }
+    requires short { length text.now < 2 ^ 32 }
+    ensures exact { GivesVersion result (in_file offset (version_of format fields text.now)) }
     ensures quiet { IsErrOf result Fault.Failed → ⊥ }
     ensures bytes { AreBytes text.now }
-    ensures shaped { IfOk result (λ version. IsVersionOf fields (length text.now) version) }
+    ensures shaped { IfOk result (λ version. IsVersionOf format fields (length text.now) version) }
 {
-    match decode(alloc, text, fields) {
+    match decode(alloc, text, fields, format) {
         Ok(version) => Ok(version),
         Err(fault) => Err(in_file(offset, fault)),
     }
@@ -133,19 +140,20 @@ fn owned_in(
     unit: UnitNo,
     place: Place,
     fields: usize,
+    format: Format,
 ) -> Result<Version, VersionFault>
-    requires near { is_beyond place ≡ false }
+    requires near { is_beyond format place ≡ false }
     requires size { length text.now ≡ place.len }
-    ensures exact { (seen : List ℕ) → IsTextAt place seen text.now → GivesVersion result (owned_version (Some fields) unit place seen) }
+    ensures exact { (seen : List ℕ) → IsTextAt place seen text.now → GivesVersion result (owned_version format (Some fields) unit place seen) }
     ensures quiet { IsErrOf result Fault.Failed → ⊥ }
-    ensures shaped { IfOk result (λ version. IsVersionOf fields place.len version) }
+    ensures shaped { IfOk result (λ version. IsVersionOf format fields place.len version) }
 {
     if !begins_with(text, unit) {
         return Err(VersionFault::Damaged {
             place: place.offset,
         });
     }
-    let version = decode_at(alloc, place.offset, text, fields)?;
+    let version = decode_at(alloc, place.offset, text, fields, format)?;
     Ok(version)
 }
 
@@ -191,16 +199,17 @@ fn read_there<H: Host>(
     file: FileId,
     place: Place,
     shape: &Shape,
+    format: Format,
 ) -> Result<Version, VersionFault>
     requires { HasSlot file }
 
-    ensures exact { IsTrue H.tells → GivesVersion result (version_at_place (fields_in shape.now file) place ((H.world host.old).disk file).seen) }
+    ensures exact { IsTrue H.tells → GivesVersion result (version_at_place format (fields_in shape.now file) place ((H.world host.old).disk file).seen) }
 
     ensures bytes { IfOk result (λ version. IsTrue H.tells → AreBytes (take place.len (drop place.offset ((H.world host.old).disk file).seen))) }
 
-    ensures impossible { IsImpossible (fields_in shape.now file) place → host.new ≡ host.old }
-    ensures refused { IsImpossible (fields_in shape.now file) place → IsErrOf result (Fault.Damaged place.offset) }
-    ensures shaped { IfOk result (λ version. IsVersionIn (fields_in shape.now file) place.len version) }
+    ensures impossible { IsImpossible format (fields_in shape.now file) place → host.new ≡ host.old }
+    ensures refused { IsImpossible format (fields_in shape.now file) place → IsErrOf result (Fault.Damaged place.offset) }
+    ensures shaped { IfOk result (λ version. IsVersionIn format (fields_in shape.now file) place.len version) }
     ensures near { OnOk result (place.offset + place.len < 2 ^ 63) }
     ensures asked { IsTrue H.tells → OnlyAsked (H.world host.old) (H.world host.new) }
     ensures calm { OnOk result (NoneFailed (H.faults host.old) (H.faults host.new)) }
@@ -215,43 +224,45 @@ fn read_there<H: Host>(
     let Some(fields) = fields_in(shape, file) else {
         return Err(damaged);
     };
-    if is_beyond(place) {
+    if is_beyond(place, format) {
         return Err(damaged);
     }
     let Some(text) = read_text(alloc, host, file, place)? else {
         return Err(damaged);
     };
-    let version = decode_at(alloc, place.offset, &text, fields)?;
+    let version = decode_at(alloc, place.offset, &text, fields, format)?;
     Ok(version)
 }
 
-/// Reads the version at a place of a grain's file, by one read, whosever it is, and changes no file. `Damaged` comes exactly where no version of
-/// the grain's type stands there with that length: at the first field that can't be read; at the first byte behind the
-/// version; at the place's offset where the place doesn't lie in the file, or is longer than any version, or begins at 2 to
-/// the 63 or beyond, or where the program has no such type. In the last three cases no host call is made.
+/// Reads the version at a place of a grain's file, by one read, whosever it is, and changes no file. `Damaged` comes exactly
+/// where no version of the grain's type, within the limits of the format, stands there with that length: at the first field that
+/// can't be read; at the first byte behind the version; at the place's offset where the place doesn't lie in the file, or is longer
+/// than any version of the format, or begins at 2 to the 63 or beyond, or where the program has no such type. In the last three
+/// cases no host call is made.
 pub fn read_version<H: Host>(
     alloc: Global,
     host: &mut H,
     file: FileId,
     place: Place,
     shape: &Shape,
+    format: Format,
 ) -> Result<Version, VersionFault>
     requires { HasSlot file }
 
     // It answers a version exactly where one of the grain's type stands at the place.
-    ensures found { IfOk result (λ version. IsTrue H.tells → (fields : ℕ) × (fields_in shape.now file ≡ Some fields) × IsVersionAt fields place ((H.world host.old).disk file).seen version) }
+    ensures found { IfOk result (λ version. IsTrue H.tells → (fields : ℕ) × (fields_in shape.now file ≡ Some fields) × IsVersionAt format fields place ((H.world host.old).disk file).seen version) }
     ensures only { IsTrue H.tells → (fields : ℕ) (version : AVersion) → fields_in shape.now file ≡ Some fields → place.offset < 2 ^ 63
-        → IsVersionAt fields place ((H.world host.old).disk file).seen version → GivesVersion result (Ok version) }
+        → IsVersionAt format fields place ((H.world host.old).disk file).seen version → GivesVersion result (Ok version) }
 
     // Else the fault names the first place that is damaged.
-    ensures exact { IsTrue H.tells → GivesVersion result (version_at_place (fields_in shape.now file) place ((H.world host.old).disk file).seen) }
+    ensures exact { IsTrue H.tells → GivesVersion result (version_at_place format (fields_in shape.now file) place ((H.world host.old).disk file).seen) }
 
     // Where no version can stand there it is damaged at its offset, and the host is as before.
-    ensures impossible { IsImpossible (fields_in shape.now file) place → host.new ≡ host.old }
-    ensures refused { IsImpossible (fields_in shape.now file) place → IsErrOf result (Fault.Damaged place.offset) }
+    ensures impossible { IsImpossible format (fields_in shape.now file) place → host.new ≡ host.old }
+    ensures refused { IsImpossible format (fields_in shape.now file) place → IsErrOf result (Fault.Damaged place.offset) }
 
     // Over every host: the version is of the grain's type, and as long as the place, which ends below 2 to the 63.
-    ensures shaped { IfOk result (λ version. IsVersionIn (fields_in shape.now file) place.len version) }
+    ensures shaped { IfOk result (λ version. IsVersionIn format (fields_in shape.now file) place.len version) }
     ensures near { OnOk result (place.offset + place.len < 2 ^ 63) }
     ensures asked { IsTrue H.tells → OnlyAsked (H.world host.old) (H.world host.new) }
 
@@ -264,7 +275,7 @@ pub fn read_version<H: Host>(
     ensures failed { IsErrOf result Fault.Failed → IsTrue (H.is_ready host.new file) }
     ensures ready { StaysReady (H.is_ready host.old) (H.is_ready host.new) }
 {
-    read_there(alloc, host, file, place, shape)
+    read_there(alloc, host, file, place, shape, format)
 }
 
 /// Reads the version that a unit's record names at a place of a grain's file, by one read, and changes no file. `Damaged` comes
@@ -277,18 +288,19 @@ pub fn read_named<H: Host>(
     unit: UnitNo,
     place: Place,
     shape: &Shape,
+    format: Format,
 ) -> Result<Version, VersionFault>
     requires { HasSlot file }
 
     // It answers the unit's version exactly where one stands, and else the first place that is damaged.
-    ensures exact { IsTrue H.tells → GivesVersion result (owned_version (fields_in shape.now file) unit place ((H.world host.old).disk file).seen) }
+    ensures exact { IsTrue H.tells → GivesVersion result (owned_version format (fields_in shape.now file) unit place ((H.world host.old).disk file).seen) }
 
     // Where no version can stand there it is damaged at its offset, and the host is as before.
-    ensures impossible { IsImpossible (fields_in shape.now file) place → host.new ≡ host.old }
-    ensures refused { IsImpossible (fields_in shape.now file) place → IsErrOf result (Fault.Damaged place.offset) }
+    ensures impossible { IsImpossible format (fields_in shape.now file) place → host.new ≡ host.old }
+    ensures refused { IsImpossible format (fields_in shape.now file) place → IsErrOf result (Fault.Damaged place.offset) }
 
     // Over every host: the version is of the grain's type, and as long as the place, which ends below 2 to the 63.
-    ensures shaped { IfOk result (λ version. IsVersionIn (fields_in shape.now file) place.len version) }
+    ensures shaped { IfOk result (λ version. IsVersionIn format (fields_in shape.now file) place.len version) }
     ensures near { OnOk result (place.offset + place.len < 2 ^ 63) }
     ensures asked { IsTrue H.tells → OnlyAsked (H.world host.old) (H.world host.new) }
 
@@ -307,13 +319,13 @@ pub fn read_named<H: Host>(
     let Some(fields) = fields_in(shape, file) else {
         return Err(damaged);
     };
-    if is_beyond(place) {
+    if is_beyond(place, format) {
         return Err(damaged);
     }
     let Some(text) = read_text(alloc, host, file, place)? else {
         return Err(damaged);
     };
-    let version = owned_in(alloc, &text, unit, place, fields)?;
+    let version = owned_in(alloc, &text, unit, place, fields, format)?;
     Ok(version)
 }
 
@@ -326,17 +338,18 @@ pub fn named_in(
     unit: UnitNo,
     place: Place,
     shape: &Shape,
+    format: Format,
 ) -> Result<Version, VersionFault>
     requires size { length text.now ≡ place.len }
 
     // It answers the unit's version exactly where one stands, and else the first place that is damaged.
-    ensures exact { (seen : List ℕ) → IsTextAt place seen text.now → GivesVersion result (owned_version (fields_in shape.now file) unit place seen) }
+    ensures exact { (seen : List ℕ) → IsTextAt place seen text.now → GivesVersion result (owned_version format (fields_in shape.now file) unit place seen) }
 
     // Where no version can stand there it is damaged at its offset.
-    ensures refused { IsImpossible (fields_in shape.now file) place → IsErrOf result (Fault.Damaged place.offset) }
+    ensures refused { IsImpossible format (fields_in shape.now file) place → IsErrOf result (Fault.Damaged place.offset) }
 
     // Whatever the file: the version is of the grain's type, and as long as the place.
-    ensures shaped { IfOk result (λ version. IsVersionIn (fields_in shape.now file) place.len version) }
+    ensures shaped { IfOk result (λ version. IsVersionIn format (fields_in shape.now file) place.len version) }
     ensures quiet { IsErrOf result Fault.Failed → ⊥ }
 {
     let damaged = VersionFault::Damaged {
@@ -345,9 +358,9 @@ pub fn named_in(
     let Some(fields) = fields_in(shape, file) else {
         return Err(damaged);
     };
-    if is_beyond(place) {
+    if is_beyond(place, format) {
         return Err(damaged);
     }
-    let version = owned_in(alloc, text, unit, place, fields)?;
+    let version = owned_in(alloc, text, unit, place, fields, format)?;
     Ok(version)
 }

@@ -4,6 +4,7 @@ ghost use Rattle.host_trait.specs.Disk.{MayLeave, Tears, overlaid, settled};
 ghost use Rattle.host_trait.specs.Faults.{NoneFailed};
 ghost use Rattle.host_trait.specs.Files.{HasSlot, StaysReady};
 ghost use Rattle.host_trait.specs.Runs.{RunsOnFile};
+ghost use Rattle.field_codec.specs.declared.formats.Format.TheVariants.{One};
 ghost use Rattle.field_codec.specs.Spelling.{VersionFits};
 ghost use Rattle.grain_log.specs.Counts.{WriteFaulted};
 ghost use Rattle.grain_log.specs.Places.{spelling_of_versions, places_from, VersionsStand};
@@ -24,7 +25,7 @@ fn encode(
     requires { at < 2 ^ 63 }
     ensures bytes { IfOk result (λ made. made.0.items ≡ spelling_of_versions versions.now) }
     ensures places { IfOk result (λ made. made.1 ≡ places_from at versions.now) }
-    ensures fits { OnOk result (AllByRecursion VersionFits versions.now) }
+    ensures fits { OnOk result (AllByRecursion (VersionFits One) versions.now) }
 {
     let mut bytes = Vec::new(alloc);
     let mut places = List::new(alloc);
@@ -65,7 +66,7 @@ pub fn write_versions<H: Host>(
         → (image : List ℕ) → MayLeave ((H.world host.new).disk file) image → VersionsStand image at versions.now) }
     ensures before { OnOk result (IsTrue H.tells
         → (image : List ℕ) → MayLeave ((H.world host.new).disk file) image → take at image ≡ take at ((H.world host.old).disk file).seen) }
-    ensures fits { OnOk result (AllByRecursion VersionFits versions.now) }
+    ensures fits { OnOk result (AllByRecursion (VersionFits One) versions.now) }
     ensures bound { OnOk result (at + length (spelling_of_versions versions.now) < 2 ^ 63) }
 
     // Without memory nothing was written.

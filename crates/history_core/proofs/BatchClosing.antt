@@ -13,7 +13,7 @@ use Rattle.core_model.specs.LearnQueue.{to_learn}
 use Rattle.core_model.specs.Answers.{effect_of}
 use Rattle.core_model.specs.Changes.{closed, entries_in}
 use Rattle.core_laws.proofs.Plans.{flat-member}
-use Rattle.core_lists.specs.States.{last_in, has_place, handed_in}
+use Rattle.core_parts.specs.States.{last_in, has_place, handed_in}
 use Rattle.unit_table.specs.Table.{units_of, verdict_in, result_in}
 use Rattle.open_batch.specs.declared.members.FinishedUnit.{FinishedUnit}
 use Rattle.open_batch.specs.Members.{effect_in, sources_in}

@@ -1,30 +1,23 @@
 -- What holds of each state that a core can be in.
-use Rattle.std.proofs.Common.{◌≡◌, ℕ, zero, suc, ◌+◌, ◌<◌, ◌≤◌, List, [], ◌∷◌, Bool, true, false, ◌⊎◌, inl, inr, refl, sym, ap, ◌∙◌, subst, arith, Option, Some, None, length, get_or, take, drop, length-drop, get_or-drop, get_or-take}
-use Rattle.core_model.specs.CoreState.{UnitNo, GrainId, nobody, Member, Batch, CoreState}
+use Rattle.std.proofs.Common.{◌≡◌, ℕ, zero, suc, ◌+◌, ◌<◌, ◌≤◌, List, [], ◌∷◌, Bool, true, false, inr, refl, sym, ap, ◌∙◌, subst, arith, None, length, get_or, take, length-drop, get_or-drop, get_or-take}
+use Rattle.core_model.specs.CoreState.{UnitNo, nobody, Member, CoreState}
 use Rattle.core_model.specs.declared.effects.Effect.{Effect}
-use Rattle.core_model.specs.declared.phases.Phase.{Phase}
 use Rattle.core_model.specs.declared.phases.Phase.TheVariants.{Running, Finished}
-use Rattle.core_model.specs.declared.phases.Verdict.{Verdict}
 use Rattle.core_model.specs.declared.phases.Verdict.TheVariants.{Open, Committed}
-use Rattle.core_model.specs.Tests.{waiting, members, is_final}
+use Rattle.core_model.specs.Tests.{waiting, is_final}
 use Rattle.core_model.specs.declared.events.CoreEvent.{CoreEvent}
 use Rattle.core_model.specs.declared.events.CoreEvent.TheVariants.{Bad, Begin, Grant, Refuse, Finish, EndPlain, EndSnapshot, Release, Take, Vote, Decide, Sealed, NotSealed, Doubt, Learn, Emitted, Halt, Want, Load}
 use Rattle.core_model.specs.SerialOrder.{Plays, AllPlay}
-use Rattle.core_model.specs.LegalRuns.{Run, IsLegal, ends}
-use Rattle.core_model.specs.Consistency.{IsConsistent, ClosedBatchesArePrefix}
+use Rattle.core_model.specs.LegalRuns.{Run, IsLegal}
+use Rattle.core_model.specs.Consistency.{ClosedBatchesArePrefix}
 use Rattle.core_model.specs.Batches.{BatchesFollow}
 use Rattle.core_laws.proofs.Votes.{follows-ends}
 use Rattle.core_model.specs.Holders.{HoldersHaveRead}
-use Rattle.core_model.specs.Laws.{NoLockIsHeldUntilCommit}
-use Rattle.core_laws.proofs.FurtherLaws.{no-lock-ends}
 use Rattle.core_model.specs.LoadlessLaws.{HoldsWithoutLoads}
-use Rattle.core_laws.proofs.Orders.{Member-at, Member-take}
-use Rattle.core_laws.proofs.Loadless.{LoadlessAt}
+use Rattle.core_laws.proofs.Orders.{Member-at}
 use Rattle.core_laws.proofs.LoadlessRuns.{Steady, steady-ends}
 use Rattle.core_laws.proofs.LoadlessLaws.{holds-ends}
 use Rattle.core_laws.proofs.WithoutLimit.{loads-without-limit}
-use Rattle.core_laws.proofs.Consistency.{consistent-ends}
-use Rattle.core_laws.proofs.HeldLocks.{holders-ends}
 use Rattle.history_core.specs.KeptParts.{IsCoreReached}
 
 -- any effect is a play
@@ -66,10 +59,10 @@ pub steady : (w : CoreState) → IsCoreReached w → Steady w
 steady w r = subst Steady r.3 (steady-ends r.0 r.1)
 
 pub readers : (w : CoreState) → IsCoreReached w → HoldersHaveRead w
-readers w r = subst HoldersHaveRead r.3 (holders-ends any_play r.0 (legal r.0 r.1 r.2))
+readers w r = (rests w r).read
 
 pub prefixes : (w : CoreState) → IsCoreReached w → ClosedBatchesArePrefix w
-prefixes w r = subst ClosedBatchesArePrefix r.3 (consistent-ends any_play r.0 (legal r.0 r.1 r.2)).closed_batches_are_a_prefix
+prefixes w r = (rests w r).prefix
 
 -- who isn't finished has written nothing
 pub unwritten : (w : CoreState) → IsCoreReached w → (u : UnitNo) → (w.units.phase u ≡ Finished → ⊥) → w.manager.writes u ≡ []
@@ -80,12 +73,12 @@ pub running-open : (w : CoreState) → IsCoreReached w → (u : UnitNo) → w.un
 running-open w r u p = (steady w r).0.0.undecided u (inr p)
 
 pub closed-within : (w : CoreState) → IsCoreReached w → w.manager.closed ≤ length w.manager.order
-closed-within w r = (let t = (rests w r).within in omega (arith, t))
+closed-within w r = (let t = (rests w r).prefix.within in omega (arith, t))
 
 -- what stands after the closed ones has finished, with a later place
 pub waits : (w : CoreState) → IsCoreReached w → (x : UnitNo) → Member x (waiting w) → (w.units.phase x ≡ Finished) × (w.manager.closed < w.manager.place x)
 waits w r x h =
-    let i = (rests w r).ordered in
+    let i = (rests w r).prefix.order in
     let t = Member-at x (waiting w) h in
     let lt : w.manager.closed + t.0 < length w.manager.order = omega (arith, t.1, length-drop w.manager.closed w.manager.order) in
     let e : get_or w.manager.order (w.manager.closed + t.0) nobody ≡ x = sym (get_or-drop w.manager.closed w.manager.order t.0 nobody) ∙ t.2 in
@@ -95,7 +88,7 @@ waits w r x h =
 -- the closed ones have finished, with places up to their count
 pub closes : (w : CoreState) → IsCoreReached w → (x : UnitNo) → Member x (take w.manager.closed w.manager.order) → (w.units.phase x ≡ Finished) × (w.manager.place x ≤ w.manager.closed)
 closes w r x h =
-    let i = (rests w r).ordered in
+    let i = (rests w r).prefix.order in
     let t = Member-at x (take w.manager.closed w.manager.order) h in
     let lt : t.0 < w.manager.closed = at_most w.manager.closed w.manager.order t.0 t.1 in
     let e : get_or w.manager.order t.0 nobody ≡ x = sym (get_or-take w.manager.closed w.manager.order t.0 nobody lt) ∙ t.2 in
@@ -129,4 +122,8 @@ follows w r = subst BatchesFollow r.3 (follows-ends any_play r.0 (legal r.0 r.1 
 
 -- a committed unit has finished, with a place up to the closed ones
 pub committed-closed : (w : CoreState) → IsCoreReached w → (u : UnitNo) → w.manager.verdict u ≡ Committed → (w.units.phase u ≡ Finished) × (w.manager.place u ≤ w.manager.closed)
-committed-closed w r = (subst NoLockIsHeldUntilCommit r.3 (no-lock-ends any_play r.0 (legal r.0 r.1 r.2))).committed
+committed-closed w r = (rests w r).locks.committed
+
+-- a child is younger than its parent
+pub younger : (w : CoreState) → IsCoreReached w → (p c : UnitNo) → Member c (w.units.kids p) → p.0 < c.0
+younger w r = (rests w r).children.younger

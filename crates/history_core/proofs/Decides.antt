@@ -20,8 +20,8 @@ use Rattle.core_model.specs.Events.{applies, does, is_open, decided_reply}
 use Rattle.core_laws.proofs.EventCases.{Change, decide_some, decide_none, decode, none-true}
 use Rattle.core_laws.proofs.Orders.{Member-take, judged-other}
 use Rattle.core_laws.proofs.Verdicts.{member-or-not}
-use Rattle.core_lists.specs.Room.{EntriesInRoom, PairsInRoom}
-use Rattle.core_lists.specs.States.{last_in, has_place, handed_in}
+use Rattle.core_parts.specs.Room.{EntriesInRoom, PairsInRoom}
+use Rattle.core_parts.specs.States.{last_in, has_place, handed_in}
 use Rattle.cell_table.specs.Table.{cell_in}
 use Rattle.unit_table.specs.Table.{units_of, verdict_in, result_in, phase_in}
 use Rattle.unit_table.specs.declared.table.UnitTable.{UnitTable}

@@ -18,8 +18,8 @@ use Rattle.core_model.specs.Events.{applies, does}
 use Rattle.core_laws.proofs.Basics.{is_running-true}
 use Rattle.core_laws.proofs.EventCases.{Change, refuse, end_plain, end_snapshot, decode}
 use Rattle.core_laws.proofs.Puts.{put-from, put-other}
-use Rattle.core_lists.specs.Room.{EntriesInRoom}
-use Rattle.core_lists.specs.States.{handed_in}
+use Rattle.core_parts.specs.Room.{EntriesInRoom}
+use Rattle.core_parts.specs.States.{handed_in}
 use Rattle.unit_table.specs.Parts.{units_over}
 use Rattle.unit_table.specs.Table.{units_of, verdict_in, result_in, phase_in, origin_in}
 use Rattle.unit_table.specs.declared.table.UnitTable.{UnitTable}

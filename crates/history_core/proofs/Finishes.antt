@@ -1,28 +1,26 @@
 -- The state after a transaction has finished.
-use Rattle.std.proofs.Common.{◌≡◌, ℕ, zero, suc, ◌+◌, ◌<◌, ◌≤◌, List, [], ◌∷◌, ◌++◌, Bool, true, false, ◌&&◌, not, ◌⊎◌, inl, inr, refl, sym, ap, ◌∙◌, subst, arith, Option, Some, None, length, take, drop, map, filter, length-take, Vec, Global}
+use Rattle.std.proofs.Common.{◌≡◌, ℕ, ◌+◌, ◌≤◌, List, [], ◌∷◌, ◌++◌, Bool, true, false, ◌&&◌, not, inl, inr, refl, sym, ap, ◌∙◌, subst, arith, Option, Some, None, length, take, map, filter, length-take, Vec, Global}
 use Rattle.std.specs.Prelude.{if◌then◌else◌, flat_map}
 use Rattle.std.proofs.lemmas.Bool.{and_from, cases_Bool}
 use Rattle.cell_model.specs.Units.{Member, same_unit, same_grain}
 use Rattle.cell_model.specs.Locks.{holds_lock, is_hold_of}
-use Rattle.cell_model.specs.declared.locks.Hold.{Hold}
-use Rattle.cell_model.proofs.Units.{any-true, same_unit-true, same_unit-is, same_unit-not, same_grain-true, same_grain-is, cases_unit, cases_grain, Member-append}
+use Rattle.cell_model.proofs.Units.{any-true, same_unit-true, same_unit-is, same_unit-not, same_grain-true, same_grain-is, cases_unit, cases_grain}
 use Rattle.core_model.specs.CoreState.{UnitNo, GrainId, Value, Write, Outcome, Batch, Units, CoreState, put}
 use Rattle.core_model.specs.declared.effects.Read.{Read}
 use Rattle.core_model.specs.declared.effects.Effect.{Effect}
 use Rattle.core_model.specs.declared.phases.Phase.TheVariants.{Running, Finished}
 use Rattle.core_model.specs.declared.events.CoreEvent.TheVariants.{Finish}
 use Rattle.core_model.specs.declared.events.CoreReply.TheVariants as reply
-use Rattle.core_model.specs.Tests.{is_final, is_committed, is_running, waiting, state_written}
-use Rattle.core_model.specs.LearnQueue.{to_learn}
+use Rattle.core_model.specs.Tests.{is_final, is_running, waiting, state_written}
 use Rattle.core_model.specs.Answers.{effect_of}
 use Rattle.core_model.specs.Changes.{finished}
-use Rattle.core_laws.proofs.Puts.{put-at, put-is, put-from, put-same, put-other}
+use Rattle.core_laws.proofs.Puts.{put-is, put-same, put-other}
 use Rattle.core_laws.proofs.EventCases.{Change, finish, decode}
 use Rattle.core_laws.proofs.UnitPlays.{parts-of}
 use Rattle.core_model.specs.Events.{applies, does}
 use Rattle.core_laws.proofs.Basics.{is_running-true}
-use Rattle.core_lists.specs.States.{handed_in, has_place}
-use Rattle.core_lists.specs.declared.handed_states.HandedStates.{HandedStates}
+use Rattle.core_parts.specs.States.{handed_in, has_place}
+use Rattle.core_parts.specs.declared.handed_states.HandedStates.{HandedStates}
 use Rattle.unit_table.specs.Parts.{units_over}
 use Rattle.unit_table.specs.Table.{units_of, verdict_in, result_in, deps_in, phase_in}
 use Rattle.unit_table.specs.declared.table.UnitTable.{UnitTable}
@@ -33,12 +31,12 @@ use Rattle.open_batch.specs.ShownBatch.{ShowsBatch}
 use Rattle.history_core.specs.declared.parts.Parts.{Parts}
 use Rattle.history_core.specs.ClosedUnits.{unlearnt, last_state, last_among}
 use Rattle.history_core.specs.HandedWrites.{put_handed, cleared, with_writes}
-use Rattle.history_core.specs.KeptParts.{PartsStand, IsCoreReached, ShowsOpen, ShowsTakenBatch, HasRoom, AllPlaced, EachPlaced, owed_in, members_in, writes_in}
+use Rattle.history_core.specs.KeptParts.{PartsStand, IsCoreReached, ShowsOpen, ShowsTakenBatch, EachPlaced, owed_in, members_in, writes_in}
 use Rattle.history_core.specs.Steps.{CanDo, KeepsMeaning, Does}
 use Rattle.history_core.proofs.OneEvent.{can-is}
-use Rattle.history_core.proofs.OpenBatches.{to-cases, from-cases, each-placed, placed-each}
+use Rattle.history_core.proofs.OpenBatches.{to-cases, from-cases}
 use Rattle.history_core.proofs.Lists.{map-agree, flat-agree, filter-in, map-last, drop-last, take-last, last-agree}
-use Rattle.history_core.proofs.CoreStates.{rests, waits, waits-not, closes-not, closed-within}
+use Rattle.history_core.proofs.CoreStates.{rests, waits-not, closes-not, closed-within}
 
 -- ---- what is kept of the writes
 
@@ -158,8 +156,8 @@ handed-new : (w : CoreState) (u : UnitNo) (g : GrainId) (f : UnitNo → GrainId 
     with_writes (cleared f u e.reads) u e.writes u g ≡ state_written g e.writes
 handed-new w u g f e r reads held =
     let t = any-true (is_hold_of u) (w.cells.holds g) held in
-    let s = (rests w r).reading g t.0 t.1 in
-    let d = (rests w r).source g s.0 s.1 in
+    let s = (rests w r).read.reading g t.0 t.1 in
+    let d = (rests w r).read.source g s.0 s.1 in
     let unit : s.0.unit ≡ u = s.2 ∙ same_unit-true t.0.unit u t.2 in
     let m : Member d.0 (w.units.reads u) = subst (λ x. Member d.0 (w.units.reads x)) unit d.1 in
     let k : Member d.0 e.reads = subst (Member d.0) (sym reads) m in

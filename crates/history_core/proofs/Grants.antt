@@ -25,7 +25,7 @@ use Rattle.core_model.specs.declared.events.CoreEvent.TheVariants.{Grant}
 use Rattle.core_model.specs.declared.events.CoreReply.TheVariants as reply
 use Rattle.core_laws.proofs.Basics.{is_running-true}
 use Rattle.core_laws.proofs.EventCases.{ask-granted}
-use Rattle.core_lists.specs.States.{handed_in}
+use Rattle.core_parts.specs.States.{handed_in}
 use Rattle.core_laws.proofs.Puts.{grain-at, grain-same, grain-is, grain-other, grain-from, put-other}
 use Rattle.grain_cell.specs.Room.{writers, meets, without_aborted}
 use Rattle.grain_cell.proofs.Writers.{found-cleans, none-cleans}

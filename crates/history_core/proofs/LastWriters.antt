@@ -77,7 +77,7 @@ module _ (w : CoreState) (r : IsCoreReached w) where
   closed-member : (c : UnitNo) → w.manager.verdict c ≡ Committed → Member c units
   closed-member c e =
       let t = committed-closed w r c e in
-      let p = (rests w r).ordered.placed c t.0 in
+      let p = (rests w r).prefix.order.placed c t.0 in
       let lt : p.0 < w.manager.closed = omega (arith, p.2, t.1) in
       let is : get_or units p.0 nobody ≡ c = get_or-take w.manager.closed w.manager.order p.0 nobody lt ∙ p.3 in
       subst (λ z. Member z units) is (Member-get units p.0 (omega (arith, lt, long)))
@@ -86,7 +86,7 @@ module _ (w : CoreState) (r : IsCoreReached w) where
   place-at : (j : ℕ) (x : UnitNo) → j < length units → get_or units j nobody ≡ x → w.manager.place x ≡ j + 1
   place-at j x h e =
       let lt : j < w.manager.closed = omega (arith, h, long) in
-      let l = (rests w r).ordered.listed j (omega (arith, lt, closed-within w r)) in
+      let l = (rests w r).prefix.order.listed j (omega (arith, lt, closed-within w r)) in
       subst (λ z. w.manager.place z ≡ j + 1) (sym (get_or-take w.manager.closed w.manager.order j nobody lt) ∙ e) l.1
 
   module _ (g : GrainId) (o : Option (List Value)) (f : Found w.manager.verdict w.manager.writes g units o) where

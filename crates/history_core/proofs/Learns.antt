@@ -1,35 +1,32 @@
 -- What grains have to learn, and the state after one has learnt.
-use Rattle.std.proofs.Common.{◌≡◌, ℕ, ◌+◌, ◌<◌, ◌≤◌, List, [], ◌∷◌, Bool, true, false, ◌&&◌, ◌||◌, not, ◌⊎◌, inl, inr, refl, sym, ap, ◌∙◌, subst, arith, Option, Some, None, length, get_or, take, map, filter, is_some, length-take, get_or-take}
-use Rattle.std.specs.Prelude.{if◌then◌else◌, flat_map}
-use Rattle.std.specs.List.{list_any as any}
-use Rattle.std.proofs.lemmas.Bool.{and_parts, and_from, not-true, cases_Bool, cases_lt}
+use Rattle.std.proofs.Common.{◌≡◌, ◌<◌, ◌≤◌, List, [], ◌∷◌, Bool, true, false, ◌&&◌, ◌||◌, not, ◌⊎◌, inl, inr, refl, sym, ap, ◌∙◌, subst, arith, Option, Some, None, length, take, map, filter, is_some, get_or-take}
+use Rattle.std.specs.Prelude.{if◌then◌else◌}
+use Rattle.std.proofs.lemmas.Bool.{and_parts, and_from, cases_Bool, cases_lt}
 use Rattle.cell_model.specs.Units.{Member, nobody, same_unit, same_grain}
 use Rattle.cell_model.specs.Stacks as stacks
-use Rattle.cell_model.specs.Stacks.{is_of, removed}
 use Rattle.cell_model.specs.Cells.{Cell, opened, cell_learned, learnt}
 use Rattle.cell_model.proofs.Units.{any-true, any-member, filter-member, filter-stays, same_unit-true, same_unit-is, same_unit-not, same_grain-true, same_grain-is, cases_unit, cases_grain}
-use Rattle.core_model.specs.CoreState.{UnitNo, GrainId, Value, Version, Write, Cells, CoreState, put, put_grain}
+use Rattle.core_model.specs.CoreState.{UnitNo, GrainId, Value, Write, CoreState, put, put_grain}
 use Rattle.core_model.specs.declared.phases.Phase.{Phase}
 use Rattle.core_model.specs.declared.phases.Phase.TheVariants.{Unborn, Running, Finished, Refused, Ended}
-use Rattle.core_model.specs.declared.phases.Verdict.{Verdict}
 use Rattle.core_model.specs.Tests.{is_final, is_committed, state_written}
 use Rattle.core_model.specs.LearnQueue.{to_learn}
 use Rattle.core_model.specs.Events.{can_learn}
 use Rattle.core_model.specs.declared.events.CoreEvent.TheVariants.{Learn}
 use Rattle.core_model.specs.declared.events.CoreReply.TheVariants as reply
 use Rattle.core_laws.proofs.Basics.{written-member}
-use Rattle.core_laws.proofs.Puts.{put-at, put-is, put-other, put-same, grain-at, grain-is, grain-other}
+use Rattle.core_laws.proofs.Puts.{put-is, put-other, grain-at, grain-is, grain-other}
 use Rattle.core_laws.proofs.Orders.{Member-get, take_length}
 use Rattle.core_laws.proofs.Plans.{flat-member, member-flat}
-use Rattle.core_lists.specs.Pairs.{is_pair, has_pair, without_first, other_pairs}
-use Rattle.core_lists.specs.Room.{PairsInRoom}
+use Rattle.core_parts.specs.Pairs.{is_pair, has_pair, without_first, other_pairs}
+use Rattle.core_parts.specs.Room.{PairsInRoom}
 use Rattle.grain_cell.specs.Room.{CellInRoom}
 use Rattle.cell_table.specs.Table.{cell_in, opens_with, cell_at, cell_or, has_cell}
 use Rattle.cell_table.specs.declared.table.CellTable.{CellTable}
 use Rattle.unit_table.specs.Table.{verdict_in}
 use Rattle.history_core.specs.declared.parts.Parts.{Parts}
 use Rattle.history_core.specs.ClosedUnits.{unlearnt}
-use Rattle.history_core.specs.KeptParts.{PartsStand, IsCoreReached, cells_of, writes_in, members_in}
+use Rattle.history_core.specs.KeptParts.{IsCoreReached, cells_of}
 use Rattle.history_core.specs.Steps.{CanDo, Does}
 use Rattle.history_core.proofs.OneEvent.{can-is}
 use Rattle.history_core.proofs.Lists.{filter-agree}
@@ -82,7 +79,7 @@ wrote-finished w r u g e = elim (finished-or (w.units.phase u)) [
 -- and stands in a closed batch where it is decided for good
 decided-closed : (w : CoreState) → IsCoreReached w → (u : UnitNo) → w.units.phase u ≡ Finished → is_final (w.manager.verdict u) ≡ true → Member u (take w.manager.closed w.manager.order)
 decided-closed w r u f final =
-    let t = (rests w r).ordered.placed u f in
+    let t = (rests w r).prefix.order.placed u f in
     let le : w.manager.place u ≤ w.manager.closed = elim (cases_lt w.manager.closed (w.manager.place u)) [
       | inl lt ↦ (let z : true ≡ false = sym final ∙ late-not-final w r u f lt in cc)
       | inr le ↦ le

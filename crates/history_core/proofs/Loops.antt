@@ -8,9 +8,9 @@ use Rattle.core_model.specs.CoreState.{UnitNo, GrainId, Value, Write, Decision, 
 use Rattle.core_model.specs.declared.effects.Effect.{Effect}
 use Rattle.history_core.specs.Fronts.{AreOver, PlacedAfter, writes_after}
 use Rattle.core_model.specs.Tests.{state_written}
-use Rattle.core_lists.specs.States.{last_in, has_place, handed_in, PutsHanded, PutsLast, KeepsPlaces}
-use Rattle.core_lists.specs.declared.handed_states.HandedStates.{HandedStates}
-use Rattle.core_lists.specs.declared.last_states.LastStates.{LastStates}
+use Rattle.core_parts.specs.States.{last_in, has_place, handed_in, PutsHanded, PutsLast, KeepsPlaces}
+use Rattle.core_parts.specs.declared.handed_states.HandedStates.{HandedStates}
+use Rattle.core_parts.specs.declared.last_states.LastStates.{LastStates}
 use Rattle.open_batch.specs.declared.members.FinishedUnit.{FinishedUnit}
 use Rattle.open_batch.specs.Members.{effect_in}
 use Rattle.history_core.specs.ClosedUnits.{ArePlaced, or_else}

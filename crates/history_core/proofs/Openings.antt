@@ -6,7 +6,7 @@ use Rattle.core_model.specs.CoreState.{UnitNo, GrainId, Value, Outcome}
 use Rattle.core_model.specs.declared.phases.Verdict.{Verdict}
 use Rattle.core_model.specs.declared.phases.Verdict.TheVariants.{Open}
 use Rattle.core_model.specs.Events.{start, first_units}
-use Rattle.core_lists.specs.States.{last_in, has_place}
+use Rattle.core_parts.specs.States.{last_in, has_place}
 use Rattle.cell_table.specs.Table.{cell_in, opens_with}
 use Rattle.unit_table.specs.Table.{units_of, verdict_in, result_in}
 use Rattle.open_batch.specs.Members.{effect_in, sources_in}

@@ -6,7 +6,7 @@ use Rattle.base_types.specs.declared.entries.Settled.TheVariants as settled
 use Rattle.core_model.specs.CoreState.{UnitNo, GrainId, nobody, Entry, Units, CoreState}
 use Rattle.core_model.specs.declared.events.CoreEvent.TheVariants.{Bad, Emitted, Halt, Want}
 use Rattle.core_model.specs.declared.events.CoreReply.TheVariants as reply
-use Rattle.core_lists.specs.Room.{EntriesInRoom}
+use Rattle.core_parts.specs.Room.{EntriesInRoom}
 use Rattle.unit_table.specs.Parts.{units_bad_line, units_halted, units_wanting}
 use Rattle.unit_table.specs.Table.{units_of, verdict_in, result_in}
 use Rattle.unit_table.specs.declared.table.UnitTable.{UnitTable}
@@ -102,7 +102,7 @@ does-want p unit grain units u v o = λ w s r a. (
 )
 
 -- an entry is written
-pub does-emit : (p : Parts) (entries : EntriesInRoom) → entries.entries ≡ p.entries.entries → entries.emitted ≡ p.entries.emitted + 1 → entries.spare ≡ p.entries.spare →
+pub does-emit : (p : Parts) (entries : EntriesInRoom) → entries.entries ≡ p.entries.entries → entries.emitted ≡ p.entries.emitted + 1 → p.entries.spare ≤ entries.spare →
     Does p Emitted reply.Done (record p { entries = entries })
 does-emit p entries es em room = λ w s r a. (
   record {
@@ -121,7 +121,7 @@ does-emit p entries es em room = λ w s r a. (
     learn = s.learn;
     handed = s.handed;
     last = s.last;
-    room = record { entries = subst (λ n. owed_in p.batch ≤ n) (sym room) s.room.entries; learn = s.room.learn; places = s.room.places };
+    room = record { entries = (let owed = s.room.entries in omega (arith, owed, room)); learn = s.room.learn; places = s.room.places };
   },
   refl,
 )

@@ -18,8 +18,8 @@ use Rattle.core_model.specs.Chains.{WroteGrain}
 use Rattle.core_model.specs.declared.events.CoreEvent.TheVariants.{Release}
 use Rattle.core_model.specs.declared.events.CoreReply.TheVariants as reply
 use Rattle.core_laws.proofs.Puts.{grain-from}
-use Rattle.core_lists.specs.States.{handed_in, PutsHanded}
-use Rattle.core_lists.specs.declared.handed_states.HandedStates.{HandedStates}
+use Rattle.core_parts.specs.States.{handed_in, PutsHanded}
+use Rattle.core_parts.specs.declared.handed_states.HandedStates.{HandedStates}
 use Rattle.cell_table.specs.Table.{cell_in}
 use Rattle.cell_table.specs.declared.table.CellTable.{CellTable}
 use Rattle.unit_table.specs.Table.{phase_in}

@@ -2,7 +2,7 @@
 use Rattle.std.proofs.Common.{◌≡◌, ℕ, ◌≤◌, List, Bool, true, refl, sym, ap, ◌∙◌, subst, arith, Option, Some, None, length, Result, Ok, Err, OnOk, OnErr, IfOk}
 use Rattle.cell_model.specs.Cells.{Cell}
 use Rattle.core_model.specs.CoreState.{UnitNo, GrainId, Units, CoreState}
-use Rattle.core_lists.specs.Room.{EntriesInRoom, PairsInRoom}
+use Rattle.core_parts.specs.Room.{EntriesInRoom, PairsInRoom}
 use Rattle.cell_table.specs.Table.{cell_in}
 use Rattle.cell_table.specs.declared.table.CellTable.{CellTable}
 use Rattle.unit_table.specs.Table.{units_of, verdict_in, result_in}

@@ -1,39 +1,34 @@
 -- Batches that are decided and close.
-use Rattle.std.proofs.Common.{◌≡◌, ℕ, zero, suc, ◌+◌, ◌<◌, ◌≤◌, List, [], ◌∷◌, ◌++◌, Bool, true, false, ◌&&◌, not, ◌⊎◌, inl, inr, refl, sym, ap, ◌∙◌, subst, arith, Option, Some, None, length, take, drop, map, is_none, is_some, length-drop}
+use Rattle.std.proofs.Common.{◌≡◌, ℕ, suc, ◌+◌, ◌≤◌, List, [], ◌∷◌, Bool, true, false, ◌&&◌, not, inl, inr, refl, sym, ap, ◌∙◌, subst, arith, Option, Some, None, length, take, map, is_none, is_some, length-drop}
 use Rattle.std.specs.Prelude.{◌==◌}
-use Rattle.std.proofs.lemmas.Bool.{and_parts}
 use Rattle.base_types.specs.declared.entries.Settled.TheVariants as settled
 use Rattle.cell_model.specs.Units.{Member}
 use Rattle.core_model.specs.CoreState.{UnitNo, GrainId, Write, Batch, Decision, CoreState}
-use Rattle.core_model.specs.declared.effects.Effect.{Effect}
-use Rattle.core_model.specs.declared.phases.Phase.{Phase}
 use Rattle.core_model.specs.declared.phases.Phase.TheVariants.{Finished}
 use Rattle.core_model.specs.declared.events.CoreEvent.{CoreEvent}
 use Rattle.core_model.specs.declared.events.CoreEvent.TheVariants.{Sealed, NotSealed, Doubt}
 use Rattle.core_model.specs.declared.events.CoreReply.TheVariants as reply
-use Rattle.core_model.specs.Tests.{is_over, is_final, members, waiting}
+use Rattle.core_model.specs.Tests.{is_over, members, waiting}
 use Rattle.core_model.specs.Batches.{AreDecided}
 use Rattle.core_model.specs.Consistency.{size_of}
 use Rattle.core_model.specs.Answers.{effect_of}
 use Rattle.core_model.specs.Changes.{closed, sealed, spoiled, in_doubt, leave, on_decided, on_decisions}
-use Rattle.core_model.specs.Events.{applies, does, is_allowed, is_judged, is_after_doubt, is_after_halt}
+use Rattle.core_model.specs.Events.{applies, does, is_judged, is_after_doubt, is_after_halt}
 use Rattle.core_laws.proofs.EventCases.{Change, seal_batch, spoil_batch, doubt_batch, decode, none-true}
 use Rattle.core_laws.proofs.Orders.{Member-take, take_length}
-use Rattle.core_lists.specs.States.{has_place}
+use Rattle.core_parts.specs.States.{has_place}
 use Rattle.unit_table.specs.Table.{phase_in}
 use Rattle.open_batch.specs.declared.members.FinishedUnit.{FinishedUnit}
 use Rattle.open_batch.specs.Members.{effect_in}
 use Rattle.open_batch.specs.TakenBatch.{TakenBatch}
 use Rattle.history_core.specs.declared.parts.Parts.{Parts}
-use Rattle.history_core.specs.declared.batch_closing.Closing.{Closing}
 use Rattle.history_core.specs.declared.batch_closing.Closing.TheVariants as how
-use Rattle.history_core.specs.ClosedUnits.{ArePlaced}
 use Rattle.history_core.specs.Batches.{is_judged_in}
 use Rattle.history_core.specs.BatchClosing.{Closes, Ready, IsReadyToClose, decisions_in}
-use Rattle.history_core.specs.Fronts.{ends_as, told_as, writes_after, AreOver, PlacedAfter}
-use Rattle.history_core.specs.KeptParts.{PartsStand, IsCoreReached, ShowsOpen, ShowsTakenBatch, AllPlaced, EachPlaced, owed_in, writes_in, members_in}
+use Rattle.history_core.specs.Fronts.{writes_after, AreOver, PlacedAfter}
+use Rattle.history_core.specs.KeptParts.{PartsStand, IsCoreReached, ShowsOpen, AllPlaced, EachPlaced, owed_in, writes_in}
 use Rattle.history_core.specs.Steps.{CanDo, Does}
-use Rattle.history_core.proofs.OpenBatches.{to-cases, from-cases, each-placed, placed-each}
+use Rattle.history_core.proofs.OpenBatches.{to-cases, placed-each}
 use Rattle.history_core.proofs.OneEvent.{can-is, allowed-is, allowed-answer}
 use Rattle.history_core.proofs.BatchClosing.{CanClose, stands-closed}
 use Rattle.history_core.proofs.Finishes.{owed-within}
@@ -96,7 +91,7 @@ each-decided writes votes (u ∷ us) [] h = absurd h
 each-decided writes votes (u ∷ us) (d ∷ ds) h = ap suc (each-decided writes votes us ds h.1)
 
 pub size-within : (w : CoreState) (b : Batch) → IsCoreReached w → w.manager.batch ≡ Some b → w.manager.closed + b.size ≤ length w.manager.order
-size-within w b r q = subst (λ o. w.manager.closed + size_of o ≤ length w.manager.order) q (rests w r).within
+size-within w b r q = subst (λ o. w.manager.closed + size_of o ≤ length w.manager.order) q (rests w r).prefix.within
 
 pub members-length : (w : CoreState) (b : Batch) → IsCoreReached w → w.manager.batch ≡ Some b → length (members w b) ≡ b.size
 members-length w b r q = (let t = size-within w b r q in let l = length-drop w.manager.closed w.manager.order in take_length b.size (waiting w) (omega (arith, t, l)))

@@ -15,9 +15,9 @@ use Rattle.core_model.specs.Answers.{effect_of}
 use Rattle.core_model.specs.Changes.{new_batch}
 use Rattle.core_model.specs.Events.{batch_size, applies, does, reply_with}
 use Rattle.core_laws.proofs.EventCases.{none-true}
-use Rattle.core_lists.specs.Room.{EntriesInRoom, PairsInRoom}
-use Rattle.core_lists.specs.States.{last_in, has_place}
-use Rattle.core_lists.specs.declared.last_states.LastStates.{LastStates}
+use Rattle.core_parts.specs.Room.{EntriesInRoom, PairsInRoom}
+use Rattle.core_parts.specs.States.{last_in, has_place}
+use Rattle.core_parts.specs.declared.last_states.LastStates.{LastStates}
 use Rattle.cell_table.specs.Table.{cell_in}
 use Rattle.unit_table.specs.Table.{verdict_in}
 use Rattle.open_batch.specs.declared.members.FinishedUnit.{FinishedUnit}

@@ -11,7 +11,7 @@ use Rattle.core_model.specs.Tests.{is_planned, is_vote_on}
 use Rattle.core_model.specs.Changes.{on_batch, voted}
 use Rattle.core_model.specs.Events.{can, does, is_open}
 use Rattle.open_batch.specs.declared.members.FinishedUnit.{FinishedUnit}
-use Rattle.core_lists.specs.States.{has_place}
+use Rattle.core_parts.specs.States.{has_place}
 use Rattle.open_batch.specs.TakenBatch.{TakenBatch, with_vote}
 use Rattle.open_batch.specs.ShownBatch.{ShowsBatch}
 use Rattle.open_batch.proofs.Stages.{shows-vote, may_vote-link}

@@ -2,7 +2,7 @@
 use Rattle.std.specs.Prelude.{◌≡◌, ◌≤◌, ℕ, List, ◌++◌, Option, Some, None, length, drop, map}
 use Rattle.core_model.specs.CoreState.{UnitNo, GrainId, Decision}
 use Rattle.core_model.specs.Tests.{is_over}
-use Rattle.core_lists.specs.States.{last_in, has_place}
+use Rattle.core_parts.specs.States.{last_in, has_place}
 use Rattle.unit_table.specs.Table.{units_of, verdict_in, result_in, phase_in}
 use Rattle.open_batch.specs.Members.{effect_in}
 use Rattle.open_batch.specs.TakenBatch.{TakenBatch}

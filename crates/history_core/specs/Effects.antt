@@ -1,5 +1,5 @@
 -- Whether what a unit says that it did is what it did, by what is kept.
-use Rattle.std.specs.Prelude.{List, [], ◌∷◌, Bool, true, false, ◌&&◌, not, Option}
+use Rattle.std.specs.Prelude.{List, [], ◌∷◌, Bool, true, false, ◌&&◌, not, Option, None, if◌then◌else◌}
 use Rattle.std.specs.List.{list_all as all}
 use Rattle.base_types.specs.declared.calls.Outcome.TheVariants.{Aborted as aborted}
 use Rattle.core_model.specs.CoreState.{UnitNo, Outcome, same_unit}
@@ -9,7 +9,8 @@ use Rattle.core_model.specs.Tests.{is_answer, is_empty, is_running}
 use Rattle.rw_locks.specs.LockView.{holds_alone}
 use Rattle.cell_table.specs.Table.{cell_in}
 use Rattle.unit_table.specs.KnownUnits.{KnownUnit}
-use Rattle.unit_table.specs.Table.{outcome_known}
+use Rattle.unit_table.specs.Table.{is_past, outcome_known}
+use Rattle.unit_table.specs.declared.table.UnitTable.{UnitTable}
 use Rattle.history_core.specs.declared.parts.Parts.{Parts}
 
 -- these units are decided, with these outcomes
@@ -19,10 +20,14 @@ answered_in known (k ∷ ks) (a ∷ rest) = is_answer (known k) a && answered_in
 answered_in known [] (a ∷ rest) = false
 answered_in known (k ∷ ks) [] = false
 
--- the effect is of the unit's call, with its children's outcomes
+-- a unit's outcome, once it is decided for good, as long as its result is kept
+abbrev pub outcome_kept : UnitTable → UnitNo → Option Outcome
+outcome_kept t u = if is_past t u then None else outcome_known t u
+
+-- the effect is of the unit's call, with its children's outcomes, which are kept
 abbrev pub is_of_call_in : Parts → UnitNo → Effect → KnownUnit → Bool
 is_of_call_in p u e k =
-    same_unit e.unit u && (same_origin e.origin k.origin && (same_call e.call k.call && answered_in (outcome_known p.units) k.kids e.answers))
+    same_unit e.unit u && (same_origin e.origin k.origin && (same_call e.call k.call && answered_in (outcome_kept p.units) k.kids e.answers))
 
 -- a running transaction has that effect
 abbrev pub finishes_as : Parts → UnitNo → Effect → KnownUnit → Bool

@@ -14,7 +14,7 @@ use Rattle.open_batch.specs.declared.members.FinishedUnit.{FinishedUnit}
 use Rattle.open_batch.specs.Members.{effect_in, sources_in}
 use Rattle.open_batch.specs.TakenBatch.{TakenBatch}
 use Rattle.open_batch.specs.ShownBatch.{ShowsBatch}
-use Rattle.core_lists.specs.States.{last_in, has_place, handed_in}
+use Rattle.core_parts.specs.States.{last_in, has_place, handed_in}
 use Rattle.history_core.specs.declared.parts.Parts.{Parts}
 use Rattle.history_core.specs.ClosedUnits.{last_state, unlearnt, ArePlaced}
 

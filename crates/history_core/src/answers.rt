@@ -18,7 +18,8 @@ use std::alloc::AllocError;
 impl Core {
     /// Answers a question, from the state after all events. An answer is a copy, and takes memory only where it isn't a
     /// few numbers. No answer looks at units that are over, at events, at written entries, or at grains that nobody asks
-    /// for.
+    /// for. The outcome of a unit whose result has gone is told where it is an abort; else it is answered as where memory is
+    /// wanting. A result stays while the unit's parent runs, and while fewer than 4,096 units have begun since.
     pub fn ask(&self, question: &CoreQuestion) -> Result<CoreAnswer, AllocError>
         ensures told { IfOk result (λ answer. answer ≡ answer_to (ends (run_of self.now)) question.now) }
         ensures untold { OnErr result (is_plain question.now ≡ false) }

@@ -6,7 +6,7 @@ ghost use Rattle.core_model.specs.CoreState.{put};
 ghost use Rattle.core_model.specs.Changes.{entry_for, told};
 ghost use Rattle.core_model.specs.Tests.{is_over, is_final, is_committed, state_written};
 ghost use Rattle.cell_table.specs.Table.{opens_with};
-ghost use Rattle.core_lists.specs.States.{last_in, has_place, KeepsPlaces};
+ghost use Rattle.core_parts.specs.States.{last_in, has_place, KeepsPlaces};
 ghost use Rattle.open_batch.specs.Members.{effect_in};
 ghost use Rattle.unit_table.specs.Table.{units_of, verdict_in, result_in, phase_in};
 ghost use Rattle.cell_model.specs.declared.outcomes.Decision.{Decision as ADecision};
@@ -19,8 +19,8 @@ use crate::parts::Parts;
 use crate::refuse::settle;
 use base_types::{GrainId, List, Outcome, Settled, State, UnitNo};
 use cell_model::Decision;
-use core_lists::{EntryList, LastStates, LearnQueue};
 use core_model::Verdict;
+use core_parts::{EntryList, LastStates, LearnQueue};
 use open_batch::FinishedUnit;
 use unit_table::UnitTable;
 

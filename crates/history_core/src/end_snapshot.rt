@@ -9,8 +9,8 @@ ghost use Rattle.history_core.specs.Steps.{CanDo, KeepsMeaning, Tells, Does};
 
 use crate::parts::Parts;
 use base_types::{Outcome, UnitNo};
-use core_equality::Same;
 use core_model::{CoreEvent, CoreReply};
+use core_parts::Same;
 use std::alloc::AllocError;
 use unit_table::RunningUnit;
 

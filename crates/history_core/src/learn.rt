@@ -6,14 +6,14 @@ ghost use Rattle.core_model.specs.CoreState.{put_grain};
 ghost use Rattle.core_model.specs.Tests.{is_committed};
 ghost use Rattle.core_model.specs.declared.events.CoreEvent.TheVariants.{Learn};
 ghost use Rattle.cell_table.specs.Table.{cell_in, opens_with};
-ghost use Rattle.core_lists.specs.Pairs.{other_pairs};
+ghost use Rattle.core_parts.specs.Pairs.{other_pairs};
 ghost use Rattle.history_core.specs.Steps.{CanDo, Tells, Does};
 
 use crate::parts::Parts;
 use base_types::{GrainId, UnitNo};
 use cell_table::CellTable;
-use core_lists::LearnQueue;
 use core_model::{CoreReply, Verdict};
+use core_parts::LearnQueue;
 
 impl Parts {
     // Whether the grain has the unit's decision to learn, and no stop stands.

@@ -1,7 +1,7 @@
 // What a unit is answered that asks for a lock.
 ghost use Rattle.std.specs.Prelude.{◌≡◌, true, Some};
 ghost use Rattle.core_model.specs.Tests.{ask_lock};
-ghost use Rattle.rw_locks.specs.LockView.{joined};
+ghost use Rattle.cell_model.specs.Units.{joined};
 ghost use Rattle.history_core.specs.LockAnswers.{ask_in, is_active_in, is_gone_in, gone_in};
 
 use crate::parts::Parts;

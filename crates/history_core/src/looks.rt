@@ -1,19 +1,35 @@
 // What a core has settled, and the last states.
-ghost use Rattle.std.specs.Prelude.{◌≡◌};
+ghost use Rattle.std.specs.Prelude.{◌≡◌, ◌++◌, length, drop};
 ghost use Rattle.std.specs.Option.{option_copied};
+ghost use Rattle.core_parts.specs.LineEnds.{ends_of};
 ghost use Rattle.core_model.specs.LegalRuns.{ends};
 ghost use Rattle.history_core.specs.ClosedUnits.{last_state};
 ghost use Rattle.history_core.specs.Cores.{run_of};
 
 use crate::whole_core::Core;
 use base_types::{Entry, GrainId, State};
+use core_parts::LineEnds;
 
 impl Core {
-    /// The settled entries, in the order in which they came.
-    pub fn settled(&self) -> &[Entry]
-        ensures { result.now ≡ (ends (run_of self.now)).manager.settled }
+    /// The settled entries that aren't written, in the order in which they came, in two pieces. One that is written isn't kept.
+    pub fn settled(&self) -> (&[Entry], &[Entry])
+        ensures { result.0.now ++ result.1.now ≡ drop (ends (run_of self.now)).manager.emitted (ends (run_of self.now)).manager.settled }
     {
-        self.parts.entries.entries()
+        self.parts.entries.pending()
+    }
+
+    /// How many entries are settled, written or not.
+    pub fn settled_count(&self) -> usize
+        ensures { result ≡ length (ends (run_of self.now)).manager.settled }
+    {
+        self.parts.entries.ends().all
+    }
+
+    /// How the lines of all settled entries ended, written or not.
+    pub fn line_ends(&self) -> LineEnds
+        ensures { result ≡ ends_of (ends (run_of self.now)).manager.settled }
+    {
+        self.parts.entries.ends()
     }
 
     /// The state that the last committed writer of the grain, in the finish order, wrote there; `None` where no committed

@@ -7,8 +7,7 @@ use crate::parts::Parts;
 use crate::whole_core::Core;
 use base_types::{Shape, Store, UnitNo};
 use cell_table::CellTable;
-use core_lists::{EntryList, HandedStates, LastStates, LearnQueue};
-use event_history::History;
+use core_parts::{EntryList, HandedStates, History, LastStates, LearnQueue};
 use std::alloc::Global;
 use unit_table::UnitTable;
 

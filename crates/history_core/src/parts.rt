@@ -1,5 +1,5 @@
 use cell_table::CellTable;
-use core_lists::{EntryList, HandedStates, LastStates, LearnQueue};
+use core_parts::{EntryList, HandedStates, LastStates, LearnQueue};
 use open_batch::{FinishedUnit, OpenBatch};
 use unit_table::UnitTable;
 

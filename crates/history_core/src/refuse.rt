@@ -9,8 +9,8 @@ ghost use Rattle.history_core.specs.Steps.{CanDo, KeepsMeaning, Tells, Does};
 
 use crate::parts::Parts;
 use base_types::{Entry, GrainId, Mode, Origin, Settled, UnitNo};
-use core_lists::EntryList;
 use core_model::{AskAnswer, CoreReply};
+use core_parts::EntryList;
 use std::alloc::AllocError;
 
 impl Parts {

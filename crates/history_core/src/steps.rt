@@ -10,7 +10,7 @@ ghost use Rattle.history_core.specs.Cores.{run_of, HasFewNumbers};
 use crate::whole_core::Core;
 use base_types::Origin;
 use core_model::{CoreEvent, CoreReply};
-use event_history::History;
+use core_parts::History;
 use std::alloc::AllocError;
 
 impl Core {

@@ -4,7 +4,7 @@ ghost use Rattle.core_model.specs.CoreState.{CoreState};
 ghost use Rattle.core_model.specs.declared.events.CoreEvent.TheVariants.{Take};
 ghost use Rattle.core_model.specs.Events.{batch_size};
 ghost use Rattle.cell_table.specs.Table.{opens_with};
-ghost use Rattle.core_lists.specs.States.{last_in, has_place, KeepsPlaces};
+ghost use Rattle.core_parts.specs.States.{last_in, has_place, KeepsPlaces};
 ghost use Rattle.open_batch.specs.Members.{effect_in};
 ghost use Rattle.history_core.specs.KeptParts.{PartsStand, writes_in, AllPlaced};
 ghost use Rattle.history_core.specs.ClosedUnits.{ArePlaced};
@@ -14,8 +14,8 @@ ghost use Rattle.base_types.specs.declared.calls.GrainId.{GrainId as AGrain};
 
 use crate::parts::Parts;
 use base_types::{GrainId, State};
-use core_lists::LastStates;
 use core_model::{CoreReply, Effect};
+use core_parts::LastStates;
 use open_batch::{FinishedUnit, OpenBatch};
 use std::alloc::AllocError;
 

@@ -3,7 +3,7 @@ ghost use Rattle.core_model.specs.LegalRuns.{ends};
 ghost use Rattle.history_core.specs.Cores.{run_of, HasFewNumbers};
 
 use crate::parts::Parts;
-use event_history::History;
+use core_parts::History;
 use std::marker::Model;
 
 /// The core: what it keeps stands for the state after its events. Contracts see what its run began with, and its events.

@@ -1,14 +1,13 @@
 -- The names of the files that are ready, how often calls on each have failed, and whether a sync of it has.
-use Rattle.std.specs.Prelude.{◌≡◌, ℕ, nat_le, Bool, true, false, IsTrue, Option, Some, None, List, string_bytes}
+use Rattle.std.specs.Prelude.{◌≡◌, ℕ, Bool, true, false, IsTrue, Option, Some, None, List, string_bytes}
 use Rattle.std.specs.declared.cmp.Ordering.{Ordering}
 use Rattle.std.specs.BTreeMap.{BTreeMap, get}
 use Rattle.host_trait.specs.declared.channels.FileId.{FileId}
-use Rattle.host_trait.specs.declared.channels.FileId.TheVariants.{Program, Manager, Grain}
 use Rattle.host_trait.specs.declared.channels.Channel.{Channel}
 use Rattle.host_trait.specs.declared.channels.Channel.TheVariants.{Input, Output, File}
 use Rattle.host_trait.specs.contracts.channels.FileIdOrd.TheImpl as file_ord
 use Rattle.host_files.specs.declared.table.Named.{Named}
-use Rattle.host_trait.specs.Files.{name_of}
+use Rattle.host_trait.specs.Files.{is_always, name_of}
 
 -- the order of files in the table
 abbrev pub file_cmp : FileId → FileId → Ordering
@@ -62,12 +61,6 @@ had_bytes_in files file = had_bytes_entry (get file_cmp files file)
 -- each file that is ready has its own name
 abbrev pub HaveOwnNames : BTreeMap FileId Named → Type 0
 HaveOwnNames files = (file : FileId) (name : List ℕ) → name_in files file ≡ Some name → name ≡ name_of file
-
--- whether a file is ready from the start
-abbrev pub is_always : FileId → Bool
-is_always (Program slot) = nat_le slot 1
-is_always (Manager slot) = nat_le slot 1
-is_always (Grain slot grain) = false
 
 -- each file that is ready from the start has an entry
 abbrev pub AreAlwaysNamed : BTreeMap FileId Named → Type 0

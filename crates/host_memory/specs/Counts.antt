@@ -1,9 +1,9 @@
 -- How often each channel has failed, and which files are always kept.
-use Rattle.std.specs.Prelude.{ℕ, nat_le, Bool, false, IsTrue, List}
+use Rattle.std.specs.Prelude.{ℕ, IsTrue, List}
 use Rattle.host_trait.specs.declared.channels.FileId.{FileId}
-use Rattle.host_trait.specs.declared.channels.FileId.TheVariants.{Program, Manager, Grain}
 use Rattle.host_trait.specs.declared.channels.Channel.{Channel}
 use Rattle.host_trait.specs.declared.channels.Channel.TheVariants.{Input, Output, File}
+use Rattle.host_trait.specs.Files.{is_always}
 use Rattle.host_memory.specs.declared.files.Stored.{Stored}
 use Rattle.host_memory.specs.Table.{is_kept, faults_in}
 
@@ -12,12 +12,6 @@ abbrev pub counts_of : ℕ → ℕ → List Stored → Channel → ℕ
 counts_of input output files Input = input
 counts_of input output files Output = output
 counts_of input output files (File file) = faults_in files file
-
--- whether a file is ready from the start
-abbrev pub is_always : FileId → Bool
-is_always (Program slot) = nat_le slot 1
-is_always (Manager slot) = nat_le slot 1
-is_always (Grain slot grain) = false
 
 -- each file that is ready from the start is in the list
 abbrev pub AreAlwaysKept : List Stored → Type 0

@@ -1,6 +1,5 @@
 -- Files: their slots and names, and which calls a file may be given to.
-use Rattle.std.specs.Prelude.{ℕ, ◌≤◌, ◌==◌, ◌&&◌, Bool, false, IsTrue, List, ◌++◌, codes, decimal}
-use Rattle.base_types.specs.declared.calls.GrainId.{GrainId}
+use Rattle.std.specs.Prelude.{ℕ, ◌≤◌, nat_le, ◌==◌, ◌&&◌, Bool, false, IsTrue, List, ◌++◌, codes, decimal}
 pub use Rattle.base_types.specs.Grains.{same_grain}
 use Rattle.host_trait.specs.declared.channels.FileId.{FileId}
 use Rattle.host_trait.specs.declared.channels.FileId.TheVariants.{Program, Manager, Grain}
@@ -30,6 +29,12 @@ abbrev pub slot_of : FileId → ℕ
 slot_of (Program slot) = slot
 slot_of (Manager slot) = slot
 slot_of (Grain slot grain) = slot
+
+-- whether a file is ready from the start
+abbrev pub is_always : FileId → Bool
+is_always (Program slot) = nat_le slot 1
+is_always (Manager slot) = nat_le slot 1
+is_always (Grain slot grain) = false
 
 -- slots are 0 and 1
 abbrev pub HasSlot : FileId → Type 0

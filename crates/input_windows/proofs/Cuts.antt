@@ -3,10 +3,11 @@ use Rattle.std.proofs.Common.{◌≡◌, ℕ, ◌+◌, ◌<◌, ◌≤◌, ◌==
 use Rattle.std.specs.List.{slice_split, onto_first, AllByRecursion}
 use Rattle.std.proofs.lemmas.List.Splits.{slice_split_at, slice_split_none, slice_split-cons_no}
 use Rattle.std.proofs.lemmas.List.Elements.{All-from_recursion}
+use Rattle.std.proofs.lemmas.List.Sums.{sum_by-append}
 use Rattle.std.proofs.lemmas.Bool.Decides.{nat_tests}
 use Rattle.request_wire.specs.Lines.{lines_of, without_empty_last}
 use Rattle.request_wire.proofs.Cuts.{slice_split-cons, keeps_first}
-use Rattle.input_windows.specs.Lines.{is_bad, first_bad}
+use Rattle.promise_spec.specs.Windows.{feeds, is_bad, first_bad}
 
 -- none of these bytes is a line feed
 abbrev pub IsPlain : List ℕ → Type 0
@@ -88,7 +89,7 @@ last_stays (x ∷ []) [] y zs e = absurd cc
 last_stays (x ∷ []) (w ∷ ws) y zs e = refl
 last_stays (x ∷ (v ∷ xs)) ys y zs e = ap (λ (l : List (List ℕ)). x ∷ l) (last_stays (v ∷ xs) ys y zs e)
 
-lines_behind_feed : (front rest : List ℕ) → lines_of (front ++ (10 ∷ rest)) ≡ slice_split (λ b. b == 10) front ++ lines_of rest
+pub lines_behind_feed : (front rest : List ℕ) → lines_of (front ++ (10 ∷ rest)) ≡ slice_split (λ b. b == 10) front ++ lines_of rest
 lines_behind_feed front rest =
     let some = slice_split-cons (λ b. b == 10) rest in
     ap without_empty_last (pieces_behind_feed front rest) ∙ last_stays (slice_split (λ b. b == 10) front) (slice_split (λ b. b == 10) rest) some.0 some.1 some.2
@@ -97,6 +98,49 @@ lines_behind_feed front rest =
 pub lines_on_both_sides : (front rest : List ℕ) → lines_of (front ++ (10 ∷ rest)) ≡ lines_of (front ++ (10 ∷ [])) ++ lines_of rest
 lines_on_both_sides front rest =
     lines_behind_feed front rest ∙ ap (λ (l : List (List ℕ)). l ++ lines_of rest) (sym (lines_behind_feed front [] ∙ append-nil (slice_split (λ b. b == 10) front)))
+
+-- ---- as many lines as line feeds
+
+-- a byte before pieces adds none
+onto_count : (b : ℕ) (pieces : List (List ℕ)) (y : List ℕ) (ys : List (List ℕ)) → pieces ≡ y ∷ ys → length (onto_first b pieces) ≡ length pieces
+onto_count b [] y ys e = absurd cc
+onto_count b (x ∷ xs) y ys e = refl
+
+-- a byte that is a line feed counts as one, and another as none
+feed_is_one : (b : ℕ) → (b == 10) ≡ true → feeds (b ∷ []) ≡ 1
+feed_is_one b e = rw e refl
+
+other_is_none : (b : ℕ) → (b == 10) ≡ false → feeds (b ∷ []) ≡ 0
+other_is_none b e = rw e refl
+
+feeds_more : (b : ℕ) (bytes : List ℕ) → feeds (b ∷ bytes) ≡ feeds (b ∷ []) + feeds bytes
+feeds_more b bytes = sum_by-append (λ (b : ℕ). if b == 10 then 1 else 0) (b ∷ []) bytes
+
+-- the line feeds cut bytes into one piece more than they are
+pieces_count : (bytes : List ℕ) → length (slice_split (λ b. b == 10) bytes) ≡ feeds bytes + 1
+pieces_count [] = refl
+pieces_count (b ∷ bytes) = by (pieces_count bytes) (b == 10) refl
+  where
+    by : length (slice_split (λ b. b == 10) bytes) ≡ feeds bytes + 1 → (is_feed : Bool) → (b == 10) ≡ is_feed
+        → length (cond is_feed ([] ∷ slice_split (λ b. b == 10) bytes) (onto_first b (slice_split (λ b. b == 10) bytes))) ≡ feeds (b ∷ bytes) + 1
+    by later true e =
+        let all = feeds_more b bytes in
+        let one = feed_is_one b e in
+        omega (arith, later, all, one)
+    by later false e =
+        let some = slice_split-cons (λ b. b == 10) bytes in
+        let same = onto_count b (slice_split (λ b. b == 10) bytes) some.0 some.1 some.2 in
+        let all = feeds_more b bytes in
+        let none = other_is_none b e in
+        omega (arith, later, same, all, none)
+
+-- bytes that end with a line feed have a line for each
+pub fed_lines : (front : List ℕ) → feeds (front ++ (10 ∷ [])) ≡ length (lines_of (front ++ (10 ∷ [])))
+fed_lines front =
+    let lines = ap length (lines_behind_feed front [] ∙ append-nil (slice_split (λ b. b == 10) front)) in
+    let pieces = pieces_count front in
+    let fed : feeds (front ++ (10 ∷ [])) ≡ feeds front + 1 = sum_by-append (λ (b : ℕ). if b == 10 then 1 else 0) front (10 ∷ []) in
+    omega (arith, lines, pieces, fed)
 
 -- ---- bad lines
 

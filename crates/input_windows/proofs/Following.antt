@@ -4,7 +4,8 @@ use Rattle.std.proofs.Math.ListN.{drop_of_length-le}
 use Rattle.std.proofs.Math.Seq.{take-append_seam, drop-append_seam}
 use Rattle.std.proofs.lemmas.List.{take-append-drop, length-take, length-drop}
 use Rattle.request_wire.specs.Lines.{lines_of}
-use Rattle.input_windows.specs.Lines.{AreWindows, IsFull, IsNext, before_bad, bytes_in, lines_in}
+use Rattle.promise_spec.specs.Windows.{before_bad}
+use Rattle.input_windows.specs.Lines.{AreWindows, IsFull, IsNext, bytes_in, lines_in}
 use Rattle.input_windows.proofs.Cuts.{line_there, lines_on_both_sides}
 
 -- behind a whole window the lines are its own and those behind it

@@ -11,7 +11,8 @@ use Rattle.host_trait.specs.Faults.{NoneFailed, Rose}
 use Rattle.request_wire.specs.Lines.{lines_of}
 use Rattle.input_windows.specs.declared.windows.InputWindows.{InputWindows}
 use Rattle.input_windows.specs.declared.windows.WindowFault.{WindowFault}
-use Rattle.input_windows.specs.Lines.{IsNext, IsFull, first_bad}
+use Rattle.promise_spec.specs.Windows.{first_bad}
+use Rattle.input_windows.specs.Lines.{IsNext, IsFull}
 use Rattle.input_windows.specs.Pulls.{Took}
 use Rattle.input_windows.specs.Scans.{Stands, Ends, HasBadLine}
 use Rattle.input_windows.specs.Windows.{window_in, left_in, before_in, is_last_in, input_behind, HasEnded, EndsBy, Gave, Refused, PullFaulted, IsBegun, IsOfPull}

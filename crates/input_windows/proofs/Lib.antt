@@ -4,3 +4,4 @@ pub mod Still
 pub mod Following
 pub mod Places
 pub mod Giving
+pub mod GivenWindows

@@ -4,7 +4,7 @@ use Rattle.std.proofs.lemmas.List.{take_more, take-append-drop}
 use Rattle.std.proofs.lemmas.List.Sums.{sum_by-append}
 use Rattle.std.proofs.lemmas.Bool.Decides.{nat_tests}
 use Rattle.request_wire.specs.Lines.{lines_of}
-use Rattle.input_windows.specs.Lines.{feeds, first_bad}
+use Rattle.promise_spec.specs.Windows.{feeds, first_bad}
 use Rattle.input_windows.specs.Scans.{Stands, Ends, HasBadLine, HasNoEnd}
 use Rattle.input_windows.proofs.Cuts.{IsPlain, plain_behind, line_ended, line_begun, line_alone, line_there, bad_behind, long_is_bad, late_is_bad, line_is_good}
 

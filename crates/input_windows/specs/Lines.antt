@@ -1,28 +1,6 @@
--- Which lines an input may have, and how its lines are cut into windows.
-use Rattle.std.specs.Prelude.{◌≡◌, ℕ, ◌+◌, ◌-◌, ◌*◌, ◌/◌, ◌%◌, ◌^◌, ◌<◌, ◌==◌, ◌||◌, nat_lt, Bool, List, [], ◌∷◌, ◌++◌, length, take, drop, Option, Some, None, if◌then◌else◌}
-use Rattle.std.specs.List.{count_by}
+-- How the lines of an input are cut into windows.
+use Rattle.std.specs.Prelude.{◌≡◌, ℕ, ◌<◌, List, [], ◌∷◌, ◌++◌, length, take, drop}
 use Rattle.request_wire.specs.Lines.{lines_of}
-
--- how many line feeds stand in these bytes
-abbrev pub feeds : List ℕ → ℕ
-feeds bytes = count_by (λ b. b == 10) bytes
-
--- whether a line of this number can't be taken: it has more than 65,536 bytes, or its number more than 32 bits
-abbrev pub is_bad : ℕ → List ℕ → Bool
-is_bad number line = nat_lt 65536 (length line) || nat_lt 4294967295 number
-
--- the number of the first of these lines that can't be taken, where so many lines stand before them
-abbrev pub first_bad : ℕ → List (List ℕ) → Option ℕ
-first_bad before [] = None
-first_bad before (line ∷ lines) = if is_bad (before + 1) line then Some (before + 1) else first_bad (before + 1) lines
-
--- the number that is told of a bad line: 0 where it has more than 32 bits
-abbrev pub told_number : ℕ → ℕ
-told_number number = number % (2 ^ 32)
-
--- how many lines the windows before the one of this line have
-abbrev pub before_bad : ℕ → ℕ
-before_bad number = (number - 1) / 4096 * 4096
 
 -- a window that the input goes on behind: 4,096 lines, the last of them with its line feed
 pub record IsFull (window : List ℕ) : Type 0 where

@@ -2,7 +2,8 @@
 use Rattle.std.specs.Prelude.{◌≡◌, ℕ, ◌+◌, ◌*◌, ◌<◌, ◌≤◌, ◌==◌, false, List, ◌++◌, length, take, Some, None}
 use Rattle.std.specs.List.{AllByRecursion}
 use Rattle.request_wire.specs.Lines.{lines_of}
-use Rattle.input_windows.specs.Lines.{feeds, first_bad, IsFull}
+use Rattle.promise_spec.specs.Windows.{feeds, first_bad}
+use Rattle.input_windows.specs.Lines.{IsFull}
 use Rattle.input_windows.specs.declared.scan.Found.{Found}
 
 -- What has been seen of a window behind so many lines: so many lines have ended, and so many bytes stand in the open one. None of

@@ -5,7 +5,8 @@ use Rattle.host_trait.specs.declared.channels.Channel.{Channel}
 use Rattle.host_trait.specs.declared.channels.Channel.TheVariants.{Input}
 use Rattle.host_trait.specs.Faults.{NoneFailed, FailedOn}
 use Rattle.request_wire.specs.Lines.{lines_of}
-use Rattle.input_windows.specs.Lines.{first_bad, told_number, IsFull}
+use Rattle.promise_spec.specs.Windows.{first_bad, told_number}
+use Rattle.input_windows.specs.Lines.{IsFull}
 use Rattle.input_windows.specs.Scans.{HasBadLine, HasNoEnd}
 use Rattle.input_windows.specs.declared.windows.InputWindows.{InputWindows}
 use Rattle.input_windows.specs.declared.windows.WindowFault.{WindowFault}

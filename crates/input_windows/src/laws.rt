@@ -1,6 +1,7 @@
 ghost use Rattle.std.specs.Prelude.{◌≡◌, ◌≢◌, ◌+◌, ◌%◌, ◌<◌, ◌≤◌, ◌++◌, [], ℕ, List, length, None};
 ghost use Rattle.request_wire.specs.Lines.{lines_of};
-ghost use Rattle.input_windows.specs.Lines.{before_bad, first_bad, bytes_in, lines_in, AreWindows, IsFull, IsNext};
+ghost use Rattle.promise_spec.specs.Windows.{before_bad, first_bad};
+ghost use Rattle.input_windows.specs.Lines.{bytes_in, lines_in, AreWindows, IsFull, IsNext};
 
 /// Windows are the input's, whatever pieces it was pulled in.
 pub fn windows_make_up_the_input()

@@ -1,4 +1,4 @@
-ghost use Rattle.std.specs.Prelude.{◌≡◌, ◌+◌, ◌-◌, ◌^◌, ◌<◌, ◌≤◌, ◌++◌, [], min, length, take, drop, IsTrue, IfOk, OnOk, IfErr, OnErr};
+ghost use Rattle.std.specs.Prelude.{◌≡◌, ◌+◌, ◌-◌, ◌^◌, ◌<◌, ◌≤◌, ◌++◌, [], false, min, length, take, drop, IsTrue, IfOk, OnOk, IfErr, OnErr};
 ghost use Rattle.host_trait.specs.Faults.{NoneFailed, Counted};
 ghost use Rattle.host_trait.specs.Files.{StaysReady};
 ghost use Rattle.host_trait.specs.World.{Asked, Pulled};
@@ -106,6 +106,7 @@ impl InputWindows {
     pub fn new(alloc: Global) -> InputWindows
         ensures left { left_in result ≡ [] }
         ensures given { given_in result ≡ 0 }
+        ensures last { is_last_in result ≡ false }
     {
         InputWindows {
             buffer: Vec::new(alloc),

@@ -10,18 +10,15 @@ use Rattle.core_model.specs.LegalRuns.{Run, ends}
 use Rattle.core_model.specs.Tests.{any, is_decided}
 use Rattle.core_model.specs.declared.events.CoreEvent.{CoreEvent}
 use Rattle.core_laws.proofs.Replies.{extends-ends}
-use Rattle.core_access.specs.Histories.{Told, run_after}
 use Rattle.core_access.specs.OneHolder.{none_comes, own_sight}
 use Rattle.core_access.proofs.OneHolder.{own-run}
 use Rattle.script_tree.specs.Programs.{ProgramTree}
 use Rattle.promise_spec.specs.TurnRule.{is_line, is_settled}
 use Rattle.turn_rules.specs.NextEvent.{with_event}
 use Rattle.turn_rules.proofs.Growth.{ends-more}
-use Rattle.worker_rules.specs.SharedHistories.{NoneLoads}
 use Rattle.txn_agent.specs.declared.agent.Agent.{Agent}
-use Rattle.txn_agent.specs.CoreLink.{IsLegalRun, Knows}
+use Rattle.txn_agent.specs.CoreLink.{Knows}
 use Rattle.txn_agent.specs.AgentStep.{Acts, has_freed_all}
-use Rattle.txn_agent.proofs.OthersEvents.{sound-event}
 use Rattle.txn_agent.specs.declared.agent.Advanced.{Advanced}
 use Rattle.txn_agent.specs.declared.agent.Advanced.TheVariants as advanced
 use Rattle.unit_carrier.specs.CarriedUnits.{AreCarried, StepsOn, units_carried, went_by, with_child}
@@ -66,10 +63,6 @@ all-open p (a ∷ agents) q = let both = and_parts (p a) (list_all p agents) q i
 
 -- ---- the run
 
-sound-after : (r : Run) (seen : List Told) → IsLegalRun r → NoneLoads seen → IsLegalRun (run_after r seen)
-sound-after r [] s all = s
-sound-after r (x ∷ seen) s all = sound-after (with_event r x.event) seen (sound-event r x.event (all x (inl refl)) s) (λ y i. all y (inr i))
-
 -- who is open is looked at still
 open-flies : (w : CoreState) (a : Agent) → is_open_line w a ≡ true → is_flown w a ≡ true
 open-flies w a q = by (not (has_freed_all a.doing))
@@ -79,9 +72,6 @@ open-flies w a q = by (not (has_freed_all a.doing))
     by false = q
 
 module _ (types : ProgramTree) (r : Run) (agents : List Agent) (c : AreCarried types none_comes (own_sight r) agents) where
-  legal : IsLegalRun r
-  legal = subst IsLegalRun (own-run r) (sound-after (own_sight r).first (own_sight r).seen c.holds.sound c.holds.loads)
-
   came : AllByRecursion (λ (a : Agent). (ends r).units.origin a.carried.unit ≡ a.carried.origin) agents
   came = subst (λ (x : Run). AllByRecursion (λ (a : Agent). (ends x).units.origin a.carried.unit ≡ a.carried.origin) agents) (own-run r) c.came
 
@@ -108,7 +98,7 @@ module _ (types : ProgramTree) (r : Run) (agents : List Agent) (c : AreCarried t
       outs [] k f o = tt
       outs (a ∷ xs) k f o =
           let both = and_parts (is_line a.carried.origin) (not (is_decided (ends r) a.carried.unit)) o.0 in
-          (sym (told-agent types r legal calm a k.0 f.0 both.0) ∙ not-false (is_decided (ends r) a.carried.unit) both.1, outs xs k.1 f.1 o.1)
+          (sym (told-agent types r c.holds.above calm a k.0 f.0 both.0) ∙ not-false (is_decided (ends r) a.carried.unit) both.1, outs xs k.1 f.1 o.1)
 
   pub now-looked : (now : Option ℕ) → IsNow now r → AllByRecursion (λ (a : Agent). is_open_line (ends r) a ≡ true) agents → IsLooked now r (units_carried agents)
   now-looked None n all = tt
@@ -134,7 +124,7 @@ module _ (types : ProgramTree) (r : Run) (agents : List Agent) (c : AreCarried t
           → AllByRecursion (λ (a : Agent). is_open_line (ends r) a ≡ true) xs
       opens [] k f l o = tt
       opens (a ∷ xs) k f l o =
-          (ap (λ (b : Bool). b && not (is_decided (ends r) a.carried.unit)) l.0 ∙ ap not (told-agent types r legal calm a k.0 f.0 l.0 ∙ o.0), opens xs k.1 f.1 l.1 o.1)
+          (ap (λ (b : Bool). b && not (is_decided (ends r) a.carried.unit)) l.0 ∙ ap not (told-agent types r c.holds.above calm a k.0 f.0 l.0 ∙ o.0), opens xs k.1 f.1 l.1 o.1)
 
 -- ---- what stays
 

@@ -16,3 +16,4 @@ pub mod RunStart
 pub mod TurnSequence
 pub mod RecordFrame
 pub mod RunContinuation
+pub mod WindowSequence

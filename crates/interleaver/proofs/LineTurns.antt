@@ -100,6 +100,7 @@ module _ (keeps : OthersKeep) (tells : Bool) (o : Outset) (lines : List Line) (b
             all = (let x : (ends s.at.run).units.lines + length (line ∷ rest) ≡ (ends s'.at.run).units.lines + length rest = omega (arith, more) in all ∙ x);
             reads = λ i x q. subst (λ (k : ℕ). ReadsLineAs o.program.types o.asked k x.what)
                 (let z : (ends s.at.run).units.lines + suc i + 1 ≡ (ends s'.at.run).units.lines + i + 1 = omega (arith, more) in z) (reads (suc i) x q);
+            inner = λ n lo hi. way.outset.inner n (omega (arith, more, lo)) hi;
           });
           numbers = subst (λ (n : ℕ). GoUpFrom (ends s'.at.run).units.lines (drop n lines)) (sym at) (subst (λ (k : ℕ). GoUpFrom k rest) (sym more) numbers.1);
           accepted = way.accepted;

@@ -23,6 +23,7 @@ use Rattle.turn_rules.specs.CarriedUnits.{movers_of}
 use Rattle.turn_rules.specs.TurnLoop.{IsPicked, TurnLoop, has_room}
 use Rattle.turn_rules.proofs.Growth.{unit-grows, turn-grows}
 use Rattle.turn_rules.proofs.Movers.{begins-kept, movers-kept}
+use Rattle.turn_rules.proofs.WithinWindows.{tests}
 use Rattle.txn_agent.specs.AgentStep.{Acts}
 use Rattle.unit_carrier.specs.Lines.{PutsLine, IsEventOf}
 use Rattle.run_books.specs.declared.faults.RunFault.TheVariants.{Memory}
@@ -54,7 +55,7 @@ module _ (keeps : OthersKeep) (tells : Bool) (o : Outset) (lines : List Line) (b
   })
 
   -- an event was put that is the next
-  lacks-event : (e : CoreEvent) → r' ≡ with_event s.at.run e → MayCome (basis_of o) s.at.run e → (o.ruled ≡ true → IsNext o.program.types (length o.asked) o.width o.picks s.at.run e) → is_settling e ≡ false → (e ≡ Halt → ⊥) → Ends r'
+  lacks-event : (e : CoreEvent) → r' ≡ with_event s.at.run e → MayCome (basis_of o) s.at.run e → (o.ruled ≡ true → IsNext o.program.types o.windowed (length o.asked) o.width o.picks s.at.run e) → is_settling e ≡ false → (e ≡ Halt → ⊥) → Ends r'
   lacks-event e q may is_next other halt =
       let rule : KeepsUnitRule (basis_of o) (with_event s.at.run e) = unit-grows (basis_of o) s.at.run e way.turning.unit_rule may in
       let on = keeps tells o b s.at.run e s.at.settler s.at.faults s.at.world way.turning.first way.turning.unit_rule rule other way.even way.books in
@@ -63,26 +64,30 @@ module _ (keeps : OthersKeep) (tells : Bool) (o : Outset) (lines : List Line) (b
         record_kept = record {
           above = way.turning.first;
           units = rule;
-          turns = λ ruled. turn-grows o.program.types (length o.asked) o.width o.picks s.at.run e (way.turning.turn_rule ruled) (is_next ruled);
+          turns = λ ruled. turn-grows o.program.types o.windowed (length o.asked) o.width o.picks s.at.run e (way.turning.turn_rule ruled) (is_next ruled);
           books = on.0.kept;
         };
         lasts = on.0.lasts;
         ended = on.1.rest;
       })
 
+  -- whether a line can begin is told by the units that are carried
+  can-begin : o.ruled ≡ true → line_can_begin o.windowed o.width (length o.asked) s.at.run (ends s.at.run) (movers_in o.program.types s.at.run) ≡ has_room l
+  can-begin ruled = tests o.program.types o.windowed o.width (length o.asked) s.at.run (way.turning.within ruled) ∙ begins-kept o.width (length o.asked) s.at.run l.units way.turning.kept
+
   -- the picked unit's event is the next
-  unit-next : o.ruled ≡ true → (u : UnitNo) → IsPicked l (OfUnit u) → (e : CoreEvent) → mover_of e ≡ OfUnit u → IsNext o.program.types (length o.asked) o.width o.picks s.at.run e
+  unit-next : o.ruled ≡ true → (u : UnitNo) → IsPicked l (OfUnit u) → (e : CoreEvent) → mover_of e ≡ OfUnit u → IsNext o.program.types o.windowed (length o.asked) o.width o.picks s.at.run e
   unit-next ruled u pick e own a =
-      subst (λ (m : Mover). IsTurn (line_can_begin o.width (length o.asked) s.at.run (ends s.at.run)) (picked (movers_in o.program.types s.at.run) (next_pick o.picks s.at.run)) (ends s.at.run) e m) (sym own) (
-        begins-kept o.width (length o.asked) s.at.run l.units way.turning.kept ∙ pick.none,
+      subst (λ (m : Mover). IsTurn (line_can_begin o.windowed o.width (length o.asked) s.at.run (ends s.at.run) (movers_in o.program.types s.at.run)) (picked (movers_in o.program.types s.at.run) (next_pick o.picks s.at.run)) (ends s.at.run) e m) (sym own) (
+        can-begin ruled ∙ pick.none,
         ap (λ (ms : List Mover). picked ms (next_pick o.picks s.at.run)) (movers-kept o.program.types s.at.run l.units way.turning.kept)
             ∙ ap (λ (n : ℕ). picked (movers_of o.program.types s.at.run l.units) (get_or o.picks n 0)) (sym (way.turning.count ruled)) ∙ pick.pick,
       )
 
-  line-next : has_room l ≡ true → (e : CoreEvent) → mover_of e ≡ OfLine → IsNext o.program.types (length o.asked) o.width o.picks s.at.run e
-  line-next room e own a =
-      subst (λ (m : Mover). IsTurn (line_can_begin o.width (length o.asked) s.at.run (ends s.at.run)) (picked (movers_in o.program.types s.at.run) (next_pick o.picks s.at.run)) (ends s.at.run) e m) (sym own)
-      (begins-kept o.width (length o.asked) s.at.run l.units way.turning.kept ∙ room)
+  line-next : o.ruled ≡ true → has_room l ≡ true → (e : CoreEvent) → mover_of e ≡ OfLine → IsNext o.program.types o.windowed (length o.asked) o.width o.picks s.at.run e
+  line-next ruled room e own a =
+      subst (λ (m : Mover). IsTurn (line_can_begin o.windowed o.width (length o.asked) s.at.run (ends s.at.run) (movers_in o.program.types s.at.run)) (picked (movers_in o.program.types s.at.run) (next_pick o.picks s.at.run)) (ends s.at.run) e m) (sym own)
+      (can-begin ruled ∙ room)
 
   -- a unit's step that had no memory
   pub unit-lacks : (u : UnitNo) → IsPicked l (OfUnit u) → Acts none_comes o.program.types u (own_sight s.at.run) (own_sight r') → Ends r'
@@ -112,13 +117,13 @@ module _ (keeps : OthersKeep) (tells : Bool) (o : Outset) (lines : List Line) (b
       by : (what : Result Call BadRequest) → line.what ≡ what → IsEventOf o.program.types line.number what p.e → Ends r'
       by (Ok call) q is =
           lacks-event (Begin (OfLineOrigin line.number) call is.0) (run ∙ ap (with_event s.at.run) is.1) (λ x. (subst (ReadsLineAs o.program.types o.asked line.number) q this-reads, is.2))
-          (λ ruled. line-next room (Begin (OfLineOrigin line.number) call is.0) refl) refl (λ h. apart call is.0 h)
+          (λ ruled. line-next ruled room (Begin (OfLineOrigin line.number) call is.0) refl) refl (λ h. apart call is.0 h)
         where
           apart : (c : Call) (f : Bool) → Begin (OfLineOrigin line.number) c f ≡ Halt → ⊥
           apart c f t = absurd cc
       by (Err why) q is =
           lacks-event (Bad line.number why) (run ∙ ap (with_event s.at.run) is) (λ x. subst (ReadsLineAs o.program.types o.asked line.number) q this-reads)
-          (λ ruled. line-next room (Bad line.number why) refl) refl (λ h. apart why h)
+          (λ ruled. line-next ruled room (Bad line.number why) refl) refl (λ h. apart why h)
         where
           apart : (f : BadRequest) → Bad line.number f ≡ Halt → ⊥
           apart f t = absurd cc

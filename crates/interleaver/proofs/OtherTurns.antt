@@ -1,5 +1,5 @@
 -- A turn of the settler that was picked, and of a line.
-use Rattle.std.proofs.Common.{◌≡◌, ℕ, ◌+◌, ◌^◌, ◌≤◌, ◌<◌, Some, List, length, Bool, true, inl, inr, sym, ap, ◌∙◌, subst}
+use Rattle.std.proofs.Common.{◌≡◌, ℕ, ◌+◌, ◌^◌, ◌≤◌, ◌<◌, Some, List, length, Bool, true, false, inl, inr, sym, ap, ◌∙◌, subst}
 use Rattle.std.specs.Prelude.{slice_get, drop, Ok, Err, not, ◌||◌}
 use Rattle.request_wire.specs.declared.requests.Line.{Line}
 use Rattle.core_model.specs.CoreState.{UnitNo, CoreState}
@@ -10,7 +10,7 @@ use Rattle.core_model.specs.Settler.{settler_step, MakesEvent}
 use Rattle.core_laws.proofs.SettlerSteps.{step-applies}
 use Rattle.script_tree.specs.Programs.{ProgramTree}
 use Rattle.promise_spec.specs.Lines.{ReadsLineAs}
-use Rattle.promise_spec.specs.TurnRule.{OfSettler, KeepsTurnRule}
+use Rattle.promise_spec.specs.TurnRule.{OfSettler, KeepsTurnRule, at_seam}
 use Rattle.turn_rules.specs.NextEvent.{with_event}
 use Rattle.turn_rules.specs.TurnLoop.{IsTurning, IsPicked, TurnLoop}
 use Rattle.turn_rules.proofs.Growth.{ends-more}
@@ -41,16 +41,17 @@ outset-stays o types r r' lines width picks kinds same is = record {
   picks_are = is.picks_are;
   all = is.all ∙ ap (λ (n : ℕ). n + length lines) (sym same);
   reads = subst (λ (k : ℕ). (at : ℕ) (line : Line) → slice_get lines at ≡ Some line → ReadsLineAs types o.asked (k + at + 1) line.what) (sym same) is.reads;
+  inner = subst (λ (k : ℕ). (n : ℕ) → k < n → n < length o.asked → at_seam o.windowed n ≡ false) (sym same) is.inner;
 }
 
 -- the loop where it stands, by its parts
 pub loop-into : (o : Outset) (r r' : Run) (us us' : List UnitNo) (used used' : ℕ) → r' ≡ r → us' ≡ us → used' ≡ used
-    → IsTurning (record { basis = basis_of o; ruled = o.ruled; width = o.width; picks = o.picks; run = r; units = us; used = used })
-    → IsTurning (record { basis = basis_of o; ruled = o.ruled; width = o.width; picks = o.picks; run = r'; units = us'; used = used' })
+    → IsTurning (record { basis = basis_of o; windowed = o.windowed; ruled = o.ruled; width = o.width; picks = o.picks; run = r; units = us; used = used })
+    → IsTurning (record { basis = basis_of o; windowed = o.windowed; ruled = o.ruled; width = o.width; picks = o.picks; run = r'; units = us'; used = used' })
 loop-into o r r' us us' used used' q p n t =
-    subst (λ (x : Run). IsTurning (record { basis = basis_of o; ruled = o.ruled; width = o.width; picks = o.picks; run = x; units = us'; used = used' })) (sym q)
-    (subst (λ (v : List UnitNo). IsTurning (record { basis = basis_of o; ruled = o.ruled; width = o.width; picks = o.picks; run = r; units = v; used = used' })) (sym p)
-    (subst (λ (k : ℕ). IsTurning (record { basis = basis_of o; ruled = o.ruled; width = o.width; picks = o.picks; run = r; units = us; used = k })) (sym n) t))
+    subst (λ (x : Run). IsTurning (record { basis = basis_of o; windowed = o.windowed; ruled = o.ruled; width = o.width; picks = o.picks; run = x; units = us'; used = used' })) (sym q)
+    (subst (λ (v : List UnitNo). IsTurning (record { basis = basis_of o; windowed = o.windowed; ruled = o.ruled; width = o.width; picks = o.picks; run = r; units = v; used = used' })) (sym p)
+    (subst (λ (k : ℕ). IsTurning (record { basis = basis_of o; windowed = o.windowed; ruled = o.ruled; width = o.width; picks = o.picks; run = r; units = us; used = k })) (sym n) t))
 
 module _ (tells : Bool) (o : Outset) (lines : List Line) (b : Books) (s s' : TurnStage) (way : IsUnderWay tells o o.program.types lines o.width o.picks b s) where
   abbrev l : TurnLoop
@@ -108,10 +109,10 @@ module _ (tells : Bool) (o : Outset) (lines : List Line) (b : Books) (s s' : Tur
       above (inl q) = subst (λ (x : Run). 0 < x.base) (sym q) way.turning.first
       above (inr x) = subst (λ (x : Run). 0 < x.base) (sym x.2) way.turning.first
 
-      turns : SettlesBy s.at.run s'.at.run → o.ruled ≡ true → KeepsTurnRule o.program.types (length o.asked) o.width o.picks s'.at.run
-      turns (inl q) ruled = subst (KeepsTurnRule o.program.types (length o.asked) o.width o.picks) (sym q) (way.turning.turn_rule ruled)
+      turns : SettlesBy s.at.run s'.at.run → o.ruled ≡ true → KeepsTurnRule o.program.types o.windowed (length o.asked) o.width o.picks s'.at.run
+      turns (inl q) ruled = subst (KeepsTurnRule o.program.types o.windowed (length o.asked) o.width o.picks) (sym q) (way.turning.turn_rule ruled)
       turns (inr x) ruled =
-          subst (KeepsTurnRule o.program.types (length o.asked) o.width o.picks) (sym x.2) ((turn-settler l way.turning x.0 pick x.1 (settler-applies x.0 x.1)).turn_rule ruled)
+          subst (KeepsTurnRule o.program.types o.windowed (length o.asked) o.width o.picks) (sym x.2) ((turn-settler l way.turning x.0 pick x.1 (settler-applies x.0 x.1)).turn_rule ruled)
 
       ends-so : (f : RunFault) → SettledSays {T = T} o on.on.books s'.at (Err f) → TurnsEndAs o on.on.books s'.at {T = Bool} (Err f)
       ends-so InDoubt x = x

@@ -12,15 +12,13 @@ use Rattle.core_access.proofs.OneHolder.{own-run}
 use Rattle.script_tree.specs.Programs.{ProgramTree}
 use Rattle.turn_rules.specs.CarriedUnits.{is_flying, is_kept}
 use Rattle.turn_rules.specs.TurnLoop.{IsTurning, has_room}
-use Rattle.turn_rules.proofs.LegalRuns.{legal-run}
-use Rattle.txn_agent.specs.CoreLink.{IsLegalRun}
 use Rattle.txn_agent.specs.declared.agent.Agent.{Agent}
 use Rattle.unit_carrier.specs.CarriedUnits.{AreCarried, units_carried}
 use Rattle.unit_carrier.specs.Lines.{PutsLine}
 use Rattle.unit_carrier.proofs.CarriedUnits.{drops-carried}
 use Rattle.run_books.specs.declared.faults.RunFault.{RunFault}
 use Rattle.run_books.specs.declared.faults.RunFault.TheVariants.{Memory}
-use Rattle.run_books.specs.Beginnings.{Outset, basis_of}
+use Rattle.run_books.specs.Beginnings.{Outset}
 use Rattle.run_books.specs.Books.{Books}
 use Rattle.interleaver.specs.Flights.{flown_unless, is_flown, lines_carried, loop_at, next_line_by}
 use Rattle.interleaver.specs.Turns.{TurnsGoOn as RecordGoesOn}
@@ -59,9 +57,6 @@ still-carried types r doubted before after is carried = subst (AreCarried types 
 
 module _ (tells : Bool) (o : Outset) (types : ProgramTree) (lines : List Line) (width : ℕ) (picks : List ℕ) (b : Books) (s : TurnStage) (agents : List Agent)
     (is : agents ≡ flown_unless s.at.settler.doubted (ends s.at.run) s.agents) (carried : AreCarried types none_comes (own_sight s.at.run) s.agents) (way : IsUnderWay tells o types lines width picks b s) where
-  legal : IsLegalRun s.at.run
-  legal = legal-run (basis_of o) s.at.run way.turning.first way.turning.unit_rule
-
   calm : s.at.settler.doubted ≡ false → (ends s.at.run).manager.doubt ≡ None
   calm q = none-of (ends s.at.run).manager.doubt (sym way.books.doubt ∙ q)
 
@@ -76,7 +71,7 @@ module _ (tells : Bool) (o : Outset) (types : ProgramTree) (lines : List Line) (
     where
       by : (d : Bool) → s.at.settler.doubted ≡ d → filter (is_kept (ends s.at.run)) (units_carried (flown_unless d (ends s.at.run) s.agents)) ≡ filter (is_kept (ends s.at.run)) (units_carried s.agents)
       by true q = refl
-      by false q = kept-flown types s.at.run legal (calm q) s.agents carried.known came
+      by false q = kept-flown types s.at.run way.turning.first (calm q) s.agents carried.known came
 
   turning : IsTurning (loop_at o s.at.run agents s.used)
   turning = record {
@@ -84,6 +79,7 @@ module _ (tells : Bool) (o : Outset) (types : ProgramTree) (lines : List Line) (
     unit_rule = way.turning.unit_rule;
     unstopped = way.turning.unstopped;
     turn_rule = way.turning.turn_rule;
+    within = way.turning.within;
     kept = record {
       kept = kept-same ∙ way.turning.kept.kept;
       below = λ u m. subst (λ (x : Run). u.0 < (ends x).units.next) (own-run s.at.run) (still.below u m);
@@ -109,7 +105,7 @@ module _ (tells : Bool) (o : Outset) (types : ProgramTree) (lines : List Line) (
   -- so many lines are in flight as agents of lines are left
   flying : s.at.settler.doubted ≡ false → length (filter (is_flying (ends s.at.run)) (units_carried agents)) ≡ lines_carried agents
   flying q = subst (λ (xs : List Agent). length (filter (is_flying (ends s.at.run)) (units_carried xs)) ≡ lines_carried xs) (sym (is ∙ ap (λ (d : Bool). flown_unless d (ends s.at.run) s.agents) q))
-      (lines-flying types s.at.run legal (calm q) (way-unstopped way) s.agents carried.known came)
+      (lines-flying types s.at.run way.turning.first (calm q) (way-unstopped way) s.agents carried.known came)
 
   narrow : s.at.settler.doubted ≡ false → nat_lt (length (filter (is_flying (ends s.at.run)) (units_carried agents))) o.width ≡ nat_lt (lines_carried agents) width
   narrow q = ap (λ (n : ℕ). nat_lt n o.width) (flying q) ∙ ap (λ (k : ℕ). nat_lt (lines_carried agents) k) way.outset.width_is

@@ -1,31 +1,16 @@
--- Where a run can go on nobody can move, and from where all is carried it can go on.
-use Rattle.std.proofs.Common.{◌≡◌, ◌<◌, ℕ, Option, None, Some, List, [], ◌∷◌, ◌++◌, map, Bool, true, length, refl, sym, ap, ◌∙◌}
-use Rattle.std.specs.Prelude.{is_some, filter, if◌then◌else◌}
+-- From where all is carried a run can go on.
+use Rattle.std.proofs.Common.{◌≡◌, ℕ, None, Some, List, [], ◌∷◌, Bool, true, length, sym, ap, ◌∙◌}
+use Rattle.std.specs.Prelude.{is_some}
 use Rattle.request_wire.specs.declared.requests.Line.{Line}
 use Rattle.core_model.specs.CoreState.{CoreState}
-use Rattle.core_model.specs.LegalRuns.{Run, ends}
-use Rattle.core_model.specs.Settler.{Step, has_step, settler_step}
-use Rattle.script_tree.specs.Programs.{ProgramTree}
-use Rattle.promise_spec.specs.UnitAnswers.{got_in}
+use Rattle.core_model.specs.LegalRuns.{ends}
 use Rattle.promise_spec.specs.Journals.{Settlement}
-use Rattle.promise_spec.specs.TurnRule.{OfUnit, OfSettler, can_move, picks_used}
-use Rattle.promise_spec.specs.UnitRule.{KeepsUnitRule}
-use Rattle.turn_rules.specs.NextEvent.{movers_in}
-use Rattle.turn_rules.proofs.Movers.{movers-kept}
-use Rattle.settle_loop.specs.declared.settler.Settler.{Settler}
-use Rattle.run_books.specs.Beginnings.{Outset, CanTurn, GoUpFrom, basis_of}
+use Rattle.promise_spec.specs.TurnRule.{picks_used}
+use Rattle.run_books.specs.Beginnings.{Outset, CanTurn, GoUpFrom}
 use Rattle.run_books.specs.Books.{Books, AreInDoubt}
 use Rattle.run_books.specs.Records.{KeepsRecord, HasCarriedAll}
 use Rattle.interleaver.specs.Turns.{IsFreshRecord}
-use Rattle.interleaver.proofs.RunStart.{kept-none}
 use Rattle.run_books.specs.Stages.{Stage}
-
--- where a run can begin, nobody can move
-pub nobody-moves : (types : ProgramTree) (o : Outset) (r : Run) (settler : Settler) (lines : List Line) → 0 < r.base → KeepsUnitRule (basis_of o) r → CanTurn r settler lines → movers_in types r ≡ []
-nobody-moves types o r settler lines above units can =
-    movers-kept types r [] (kept-none o r above units can.quiet)
-    ∙ ap (λ (d : Option ℕ). (if is_some d then [] else map OfUnit (filter (can_move types (ends r) (got_in r)) [])) ++ (if has_step (settler_step (ends r)) then OfSettler ∷ [] else [])) can.going.0
-    ∙ ap (λ (s : Step). if has_step s then OfSettler ∷ [] else []) can.rests
 
 -- the books have no batch in doubt where there is no doubt
 none-doubted : (w : CoreState) (batches : List Settlement) → AreInDoubt w batches → w.manager.doubt ≡ None → batches ≡ []

@@ -19,7 +19,6 @@ use Rattle.std.proofs.lemmas.Option.{slice_get_within}
 use Rattle.base_types.specs.declared.entries.Entry.{Entry}
 use Rattle.request_wire.specs.declared.requests.Line.{Line}
 use Rattle.core_model.specs.CoreState.{Batch, CoreState, GrainId}
-use Rattle.core_model.specs.declared.effects.Effect.{Effect}
 use Rattle.core_model.specs.declared.events.CoreEvent.{CoreEvent}
 use Rattle.core_model.specs.declared.events.CoreEvent.TheVariants.{Doubt, Take}
 use Rattle.core_model.specs.LegalRuns.{Run, ends}
@@ -35,13 +34,12 @@ use Rattle.promise_spec.specs.Causes.{RunHasDoubt}
 use Rattle.turn_rules.specs.CarriedUnits.{movers_of}
 use Rattle.turn_rules.specs.QuietRun.{HasRun}
 use Rattle.turn_rules.specs.TurnLoop.{has_room}
-use Rattle.turn_rules.proofs.LegalRuns.{legal-run}
 use Rattle.turn_rules.proofs.ListTests.{empty-append}
 use Rattle.turn_rules.proofs.SettlerRest.{no-step}
 use Rattle.turn_rules.proofs.Turns.{turn-ended}
 use Rattle.settle_loop.specs.SettlerStep.{has_unwritten}
 use Rattle.unit_carrier.specs.CarriedUnits.{units_carried}
-use Rattle.run_books.specs.Beginnings.{Outset, basis_of}
+use Rattle.run_books.specs.Beginnings.{Outset}
 use Rattle.run_books.specs.Books.{Books}
 use Rattle.interleaver.specs.Flights.{loop_at}
 use Rattle.run_books.specs.Records.{HasCarriedAll}
@@ -161,7 +159,7 @@ module _ (tells : Bool) (o : Outset) (lines : List Line) (b : Books) (s : TurnSt
   pub has-carried : HasCarriedAll o s.at
   has-carried =
       let run : HasRun (length o.asked) (ends s.at.run) = turn-ended (loop_at o s.at.run s.agents s.used) way.turning no-doubt nobody (subst (λ (n : ℕ). 0 < n) (sym way.outset.width_is) way.outset.wide) full in
-      let once : EntriesAreOnce (ends s.at.run) = once-ends (λ (e : Effect). true) s.at.run (legal-run (basis_of o) s.at.run way.turning.first way.turning.unit_rule) in
+      let once : EntriesAreOnce (ends s.at.run) = once-ends s.at.run way.turning.first in
       let le = once.written in
       let ge = run.quiet.written in
       let few : (ends s.at.run).units.lines ≤ length o.asked = (let q = way.outset.all in omega (arith, q)) in
@@ -182,7 +180,7 @@ module _ (tells : Bool) (o : Outset) (lines : List Line) (b : Books) (s : TurnSt
 pub can-settle : (tells : Bool) (o : Outset) (types : ProgramTree) (lines : List Line) (width : ℕ) (picks : List ℕ) (b : Books) (s : TurnStage) (shape : Shape) → IsUnderWay tells o types lines width picks b s
     → shape.types ≡ type_shapes types → CanSettle o shape s.at.run
 can-settle tells o types lines width picks b s shape way is =
-    let once : EntriesAreOnce (ends s.at.run) = once-ends (λ (e : Effect). true) s.at.run (legal-run (basis_of o) s.at.run way.turning.first way.turning.unit_rule) in
+    let once : EntriesAreOnce (ends s.at.run) = once-ends s.at.run way.turning.first in
     let le = once.written in
     let few = way.room in
     let most : length (ends s.at.run).manager.settled ≤ (ends s.at.run).units.lines = at-most (ends s.at.run).units.lines (ends s.at.run).manager.settled once.differ (λ x m. let e = once.entry x m in (e.0, e.1)) in

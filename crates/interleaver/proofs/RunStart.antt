@@ -1,6 +1,6 @@
 -- Where a run of turns begins.
-use Rattle.std.proofs.Common.{◌≡◌, ◌⊎◌, ℕ, zero, suc, ◌+◌, ◌-◌, ◌≤◌, ◌<◌, List, [], Bool, true, false, true≢false, inl, inr, refl, sym, ap, ◌∙◌, arith}
-use Rattle.std.specs.Prelude.{not, ◌&&◌, ◌||◌}
+use Rattle.std.proofs.Common.{◌≡◌, ◌⊎◌, ℕ, zero, suc, ◌+◌, ◌-◌, ◌≤◌, ◌<◌, Option, List, [], ◌∷◌, ◌++◌, map, Bool, true, false, true≢false, inl, inr, refl, sym, ap, ◌∙◌, arith}
+use Rattle.std.specs.Prelude.{not, ◌&&◌, ◌||◌, is_some, filter, if◌then◌else◌}
 use Rattle.std.proofs.lemmas.Bool.{cases_Bool}
 use Rattle.base_types.specs.declared.calls.Origin.{Origin}
 use Rattle.base_types.specs.declared.entries.Entry.{Entry}
@@ -11,24 +11,26 @@ use Rattle.host_trait.specs.declared.channels.Channel.{Channel}
 use Rattle.request_wire.specs.declared.requests.Line.{Line}
 use Rattle.cell_model.proofs.Units.{same_unit-is, any-member}
 use Rattle.core_model.specs.CoreState.{UnitNo, Member, CoreState, same_unit}
-use Rattle.core_model.specs.declared.effects.Effect.{Effect}
 use Rattle.core_model.specs.declared.phases.Phase.{Phase}
 use Rattle.core_model.specs.declared.phases.Phase.TheVariants.{Finished, Refused, Ended}
 use Rattle.core_model.specs.Tests.{is_free, is_over, is_running}
 use Rattle.core_model.specs.LegalRuns.{Run, ends}
 use Rattle.core_model.specs.Lines.{EntriesAreOnce, IsSettled}
+use Rattle.core_model.specs.Settler.{Step, has_step, settler_step}
 use Rattle.core_laws.proofs.BatchPrefix.{unfree-holds}
 use Rattle.core_laws.proofs.LineEntries.{once-ends}
 use Rattle.script_check.specs.AcceptedPrograms.{IsAcceptedProgram}
 use Rattle.script_tree.specs.Programs.{ProgramTree}
 use Rattle.promise_spec.specs.Cores.{HasBegun}
 use Rattle.promise_spec.specs.UnitRule.{KeepsUnitRule}
-use Rattle.promise_spec.specs.TurnRule.{units_from, is_line, is_settled, units_of}
+use Rattle.promise_spec.specs.UnitAnswers.{got_in}
+use Rattle.promise_spec.specs.TurnRule.{OfUnit, OfSettler, can_move, units_from, is_line, is_settled, units_of}
+use Rattle.turn_rules.specs.NextEvent.{movers_in}
 use Rattle.turn_rules.specs.CarriedUnits.{is_flying, is_kept, AreKept}
 use Rattle.turn_rules.specs.QuietRun.{IsQuiet}
 use Rattle.turn_rules.proofs.RunCounts.{counted-ends}
-use Rattle.turn_rules.proofs.LegalRuns.{legal-run}
 use Rattle.turn_rules.proofs.ListTests.{filter-none}
+use Rattle.turn_rules.proofs.Movers.{movers-kept}
 use Rattle.turn_rules.proofs.Numbers.{units-below}
 use Rattle.settle_loop.specs.declared.settler.Settler.{Settler}
 use Rattle.run_books.specs.Beginnings.{Outset, IsOutset, CanTurn, basis_of}
@@ -65,7 +67,7 @@ module _ (o : Outset) (r : Run) (first : 0 < r.base) (rule : KeepsUnitRule (basi
 
   told : (u : UnitNo) → HasBegun (ends r) u → (x : Origin) → (ends r).units.origin u ≡ x → is_line x ≡ true → is_settled (ends r) u ≡ true
   told u begun (OfLineOrigin n) q line =
-      let once : EntriesAreOnce (ends r) = once-ends (λ (e : Effect). true) r (legal-run (basis_of o) r first rule) in
+      let once : EntriesAreOnce (ends r) = once-ends r first in
       let e = once.complete u n (begun, q) (quiet.settled u begun) in
       any-member (λ (x : Entry). same_unit x.unit u) (ends r).manager.settled e.0 e.1 (same_unit-is e.0.unit u e.2)
   told u begun (Child p i d) q line = absurd (true≢false (sym line))
@@ -88,13 +90,20 @@ module _ (o : Outset) (r : Run) (first : 0 < r.base) (rule : KeepsUnitRule (basi
   pub kept-none : AreKept r []
   kept-none = record {
     kept = sym (filter-none (is_kept (ends r)) (units_of r (ends r)) (λ u m.
-        let counted = counted-ends (λ (e : Effect). true) r (legal-run (basis_of o) r first rule) in
+        let counted = counted-ends r first in
         let up = counted.above in
         let lo = units-above ((ends r).units.next - r.base) r.base u m in
         let hi = units-below ((ends r).units.next - r.base) r.base u m in
         unkept u (counted.born u lo (omega (arith, up, hi)))));
     below = λ u m. absurd m;
   }
+
+-- where a run can begin, nobody can move
+pub nobody-moves : (types : ProgramTree) (o : Outset) (r : Run) (settler : Settler) (lines : List Line) → 0 < r.base → KeepsUnitRule (basis_of o) r → CanTurn r settler lines → movers_in types r ≡ []
+nobody-moves types o r settler lines above units can =
+    movers-kept types r [] (kept-none o r above units can.quiet)
+    ∙ ap (λ (d : Option ℕ). (if is_some d then [] else map OfUnit (filter (can_move types (ends r) (got_in r)) [])) ++ (if has_step (settler_step (ends r)) then OfSettler ∷ [] else [])) can.going.0
+    ∙ ap (λ (s : Step). if has_step s then OfSettler ∷ [] else []) can.rests
 
 module _ (tells : Bool) (o : Outset) (types : ProgramTree) (lines : List Line) (width : ℕ) (picks : List ℕ) (b : Books) (used : ℕ) (r : Run) (settler : Settler) (counts : Channel → ℕ) (now : World) where
   -- all that holds on the way holds where nobody is carried yet
@@ -111,6 +120,12 @@ module _ (tells : Bool) (o : Outset) (types : ProgramTree) (lines : List Line) (
       unit_rule = k.units;
       unstopped = can.going.1;
       turn_rule = k.turns;
+      within = λ ruled. record {
+        start = (ends r).units.lines;
+        from = omega arith;
+        inner = is.inner;
+        first = λ seam same some. nobody-moves o.program.types o r settler lines k.above k.units can;
+      };
       kept = kept-none o r k.above k.units can.quiet;
       older = tt;
       count = λ ruled. sym (fresh.picks ruled);

@@ -39,7 +39,7 @@ module _ (tells : Bool) (o : Outset) (types : ProgramTree) (lines : List Line) (
   kept-of : (w : WentOn tells o types lines width picks b s t) → KeepsRecord tells o w.books t.at
   kept-of w = record { above = w.under_way.turning.first; units = w.under_way.turning.unit_rule; turns = turns-of w; books = w.under_way.books }
     where
-      turns-of : (w : WentOn tells o types lines width picks b s t) → o.ruled ≡ true → KeepsTurnRule o.program.types (length o.asked) o.width o.picks t.at.run
+      turns-of : (w : WentOn tells o types lines width picks b s t) → o.ruled ≡ true → KeepsTurnRule o.program.types o.windowed (length o.asked) o.width o.picks t.at.run
       turns-of w = w.under_way.turning.turn_rule
 
   -- all is done

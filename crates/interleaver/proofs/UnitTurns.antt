@@ -18,16 +18,14 @@ use Rattle.core_access.proofs.OneHolder.{own-run, own-alone}
 use Rattle.core_access.proofs.Sights.{reply-alone, run-alone, looks-alone}
 use Rattle.worker_rules.specs.UnitOwnership.{leaves_unit}
 use Rattle.promise_spec.specs.UnitRule.{KeepsUnitRule}
-use Rattle.promise_spec.specs.TurnRule.{OfUnit, OfSettler, mover_of, can_move, picked, Mover}
+use Rattle.promise_spec.specs.TurnRule.{OfUnit, OfSettler, at_seam, mover_of, can_move, picked, Mover}
 use Rattle.turn_rules.specs.NextEvent.{with_event, is_begin, MayCome}
 use Rattle.turn_rules.specs.CarriedUnits.{movers_of}
 use Rattle.turn_rules.specs.TurnLoop.{IsTurning, IsPicked, turned, with_new, TurnLoop}
 use Rattle.turn_rules.proofs.Growth.{ends-more}
-use Rattle.turn_rules.proofs.LegalRuns.{legal-run}
 use Rattle.turn_rules.proofs.Turns.{turn-unit, turn-child}
 use Rattle.txn_agent.specs.declared.agent.Advanced.{Advanced}
 use Rattle.txn_agent.specs.declared.agent.Advanced.TheVariants as advanced
-use Rattle.txn_agent.specs.CoreLink.{IsLegalRun}
 use Rattle.txn_agent.specs.AgentStep.{Puts, AnswerSays, is_move}
 use Rattle.txn_agent.proofs.LoneSteps.{puts-applied, missed-not}
 use Rattle.txn_agent.proofs.MoveAnswers.{alone-tells}
@@ -128,9 +126,9 @@ module _ (o : Outset) (r r' : Run) (u : UnitNo) (units units' : List UnitNo) (go
   pub by-step : (first : 0 < r.base) (rule : KeepsUnitRule (basis_of o) r) (w : Went) → StepsOn none_comes o.program.types u s t units units' w → can_move o.program.types (ends r) (got_in r) u ≡ true
       → GoesByUnit o u r r' units units'
   by-step first rule w st moves =
-      let legal : IsLegalRun (run_seen s) = subst IsLegalRun (sym at) (legal-run (basis_of o) r first rule) in
+      let above : 0 < (run_seen s).base = subst (λ (x : Run). 0 < x.base) (sym at) first in
       let move : is_move st.answer ≡ true =
-      alone-tells (basis_of o) u st.kids s t st.answer st.says alone (ap (λ (x : Run). x.kinds) at ∙ kinds) (ap (λ (x : Run). x.capacity) at ∙ here) goes-seen legal
+      alone-tells (basis_of o) u st.kids s t st.answer st.says alone (ap (λ (x : Run). x.kinds) at ∙ kinds) (ap (λ (x : Run). x.capacity) at ∙ here) goes-seen above
       ∙ ap (λ (x : Run). can_move o.program.types (ends x) (got_in x) u) at ∙ moves in
       by-answer st.kids st.answer st.says move st.units
 
@@ -197,9 +195,9 @@ module _ (keeps : OthersKeep) (tells : Bool) (o : Outset) (lines : List Line) (b
     where
       into : (us : List UnitNo) → units_carried s'.agents ≡ us → IsTurning (turned l g.e us (s.used + 1)) → IsTurning (loop_at o s'.at.run s'.agents s'.used)
       into us q t =
-          subst (λ (x : Run). IsTurning (record { basis = basis_of o; ruled = o.ruled; width = o.width; picks = o.picks; run = x; units = units_carried s'.agents; used = s'.used })) (sym g.run)
-          (subst (λ (v : List UnitNo). IsTurning (record { basis = basis_of o; ruled = o.ruled; width = o.width; picks = o.picks; run = with_event s.at.run g.e; units = v; used = s'.used })) (sym q)
-          (subst (λ (n : ℕ). IsTurning (record { basis = basis_of o; ruled = o.ruled; width = o.width; picks = o.picks; run = with_event s.at.run g.e; units = us; used = n })) (sym used) t))
+          subst (λ (x : Run). IsTurning (record { basis = basis_of o; windowed = o.windowed; ruled = o.ruled; width = o.width; picks = o.picks; run = x; units = units_carried s'.agents; used = s'.used })) (sym g.run)
+          (subst (λ (v : List UnitNo). IsTurning (record { basis = basis_of o; windowed = o.windowed; ruled = o.ruled; width = o.width; picks = o.picks; run = with_event s.at.run g.e; units = v; used = s'.used })) (sym q)
+          (subst (λ (n : ℕ). IsTurning (record { basis = basis_of o; windowed = o.windowed; ruled = o.ruled; width = o.width; picks = o.picks; run = with_event s.at.run g.e; units = us; used = n })) (sym used) t))
 
       by : ((is_begin g.e ≡ false) × (units_carried s'.agents ≡ units_carried s.agents)) ⊎ ((index : ℕ) × (depth : ℕ) × (call : Call) × (g.e ≡ event.Begin (Child u index depth) call false) × (units_carried s'.agents ≡ units_carried s.agents ++ (new_unit (ends s.at.run) ∷ [])))
           → IsTurning (loop_at o s'.at.run s'.agents s'.used)
@@ -231,6 +229,7 @@ module _ (keeps : OthersKeep) (tells : Bool) (o : Outset) (lines : List Line) (b
             all = way.outset.all ∙ ap (λ (n : ℕ). n + length (drop s.begun lines)) (sym same) ∙ ap (λ (n : ℕ). (ends s'.at.run).units.lines + length (drop n lines)) (sym begun);
             reads = subst (λ (n : ℕ). (at : ℕ) (line : Line) → slice_get (drop n lines) at ≡ Some line → ReadsLineAs o.program.types o.asked ((ends s'.at.run).units.lines + at + 1) line.what) (sym begun)
                 (subst (λ (k : ℕ). (at : ℕ) (line : Line) → slice_get (drop s.begun lines) at ≡ Some line → ReadsLineAs o.program.types o.asked (k + at + 1) line.what) (sym same) way.outset.reads);
+            inner = subst (λ (k : ℕ). (n : ℕ) → k < n → n < length o.asked → at_seam o.windowed n ≡ false) (sym same) way.outset.inner;
           };
           numbers = subst (λ (n : ℕ). GoUpFrom (ends s'.at.run).units.lines (drop n lines)) (sym begun) (subst (λ (k : ℕ). GoUpFrom k (drop s.begun lines)) (sym same) way.numbers);
           accepted = way.accepted;

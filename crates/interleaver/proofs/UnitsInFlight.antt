@@ -1,12 +1,11 @@
 -- Units that are no more to be looked at, and how many lines are in flight.
-use Rattle.std.proofs.Common.{◌≡◌, suc, None, List, [], ◌∷◌, length, is_some, Bool, true, false, true≢false, inl, inr, refl, sym, ap, ◌∙◌, subst, arith}
+use Rattle.std.proofs.Common.{◌≡◌, suc, None, List, [], ◌∷◌, length, is_some, Bool, true, false, true≢false, inl, inr, refl, sym, ap, ◌∙◌, subst, arith, ◌<◌}
 use Rattle.std.specs.Prelude.{if◌then◌else◌, filter, not, ◌&&◌, ◌||◌, ◌==◌}
 use Rattle.std.specs.List.{AllByRecursion}
 use Rattle.std.proofs.lemmas.Bool.{cases_Bool}
 use Rattle.base_types.specs.declared.calls.Origin.{Origin}
 use Rattle.base_types.specs.declared.calls.Origin.TheVariants.{Line as OfLineOrigin, Child}
 use Rattle.core_model.specs.CoreState.{UnitNo, CoreState}
-use Rattle.core_model.specs.declared.effects.Effect.{Effect}
 use Rattle.core_model.specs.declared.phases.Phase.{Phase}
 use Rattle.core_model.specs.declared.phases.Phase.TheVariants.{Unborn, Running, Finished, Refused, Ended}
 use Rattle.core_model.specs.Tests.{any, is_decided, is_free, is_over, is_running, outcome_in}
@@ -29,12 +28,12 @@ use Rattle.turn_rules.specs.CarriedUnits.{is_flying, is_kept}
 use Rattle.txn_agent.specs.declared.agent.Agent.{Agent}
 use Rattle.txn_agent.specs.declared.work.Doing.{Doing}
 use Rattle.txn_agent.specs.declared.work.Doing.TheVariants.{Asks, Awaits, Frees, Stopped}
-use Rattle.txn_agent.specs.CoreLink.{IsBarred, IsLegalRun, IsOver, Knows, KnowsDoing, KnowsPaused, KnowsWaiting}
+use Rattle.txn_agent.specs.CoreLink.{IsBarred, IsOver, Knows, KnowsDoing, KnowsPaused, KnowsWaiting}
 use Rattle.txn_agent.specs.AgentStep.{has_freed_all}
-use Rattle.txn_agent.proofs.OthersEvents.{kept-sound}
 use Rattle.std.proofs.lemmas.List.Sums.{length-filter}
 use Rattle.unit_carrier.specs.CarriedUnits.{units_carried}
 use Rattle.interleaver.specs.Flights.{is_flown, lines_carried}
+use Rattle.core_laws.proofs.LoadlessKept.{loadless-ends}
 
 -- who is over isn't running
 over-runs : (p : Phase) → is_over p ≡ true → is_running p ≡ false
@@ -80,10 +79,10 @@ free-is r c (g ∷ held) o = elim (cases_Bool (is_free (ends r) c.unit)) [
   | inl e ↦ (
       let has : holds_lock c.unit ((ends r).cells.holds g) ≡ true = o.locks g ∙ ap (λ (b : Bool). b || any (same_grain g) held) (same_grain-is g g refl) in
       let t = any-true (is_hold_of c.unit) ((ends r).cells.holds g) has in
-      absurd (free-holds r.opening _ (ends r) (kept-sound r o.sound).0 c.unit e g t.0 t.1 (same_unit-true t.0.unit c.unit t.2)))
+      absurd (free-holds _ (ends r) (loadless-ends r o.above).0 c.unit e g t.0 t.1 (same_unit-true t.0.unit c.unit t.2)))
 ]
 
-module _ (types : ProgramTree) (r : Run) (legal : IsLegalRun r) (calm : (ends r).manager.doubt ≡ None) where
+module _ (types : ProgramTree) (r : Run) (above : 0 < r.base) (calm : (ends r).manager.doubt ≡ None) where
   -- who has freed all is free, and over
   freed : (a : Agent) → Knows types (own_sight r) a → has_freed_all a.doing ≡ true → (is_over ((ends r).units.phase a.carried.unit) ≡ true) × (is_free (ends r) a.carried.unit ≡ true)
   freed a knows q = by a.doing refl
@@ -99,7 +98,7 @@ module _ (types : ProgramTree) (r : Run) (legal : IsLegalRun r) (calm : (ends r)
 
   -- a line's unit is settled where it is decided
   told : (u : UnitNo) → HasBegun (ends r) u → (x : Origin) → (ends r).units.origin u ≡ x → is_line x ≡ true → is_decided (ends r) u ≡ is_settled (ends r) u
-  told u begun (OfLineOrigin n) q line = lines-ends (λ (e : Effect). true) r legal calm u n (begun, q)
+  told u begun (OfLineOrigin n) q line = lines-ends r above calm u n (begun, q)
   told u begun (Child p i d) q line = absurd (true≢false (sym line))
 
   -- who isn't flown is no more to be looked at

@@ -29,7 +29,7 @@ flown_unless doubted w agents = if doubted then agents else filter (is_flown w) 
 
 -- where a loop of turns stands
 abbrev pub loop_at : Outset → Run → List Agent → ℕ → TurnLoop
-loop_at o r agents used = record { basis = basis_of o; ruled = o.ruled; width = o.width; picks = o.picks; run = r; units = units_carried agents; used = used }
+loop_at o r agents used = record { basis = basis_of o; windowed = o.windowed; ruled = o.ruled; width = o.width; picks = o.picks; run = r; units = units_carried agents; used = used }
 
 -- it is the mover at the pick; where nobody is, there is none
 abbrev pub IsNextMover : ProgramTree → Run → List UnitNo → ℕ → NextMover → Type 0

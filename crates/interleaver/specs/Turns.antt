@@ -1,7 +1,7 @@
 -- The record of a run of turns: what holds where it begins, and again where it ends, however it ends.
 use Rattle.std.specs.Prelude.{◌≡◌, ◌<◌, ℕ, Bool, true, IsTrue, List, [], length, Result}
 use Rattle.request_wire.specs.declared.requests.Line.{Line}
-use Rattle.core_model.specs.LegalRuns.{Run}
+use Rattle.core_model.specs.LegalRuns.{Run, ends}
 use Rattle.script_tree.specs.Programs.{ProgramTree}
 use Rattle.promise_spec.specs.UnitRule.{KeepsUnitRule}
 use Rattle.promise_spec.specs.TurnRule.{KeepsTurnRule, picks_used}
@@ -18,7 +18,7 @@ use Rattle.run_books.specs.Stages.{Stage}
 pub record KeepsTurns (tells : Bool) (o : Outset) (b : Books) (s : Stage) : Type 0 where
   pub above : 0 < s.run.base
   pub units : KeepsUnitRule (basis_of o) s.run
-  pub turns : o.ruled ≡ true → KeepsTurnRule o.program.types (length o.asked) o.width o.picks s.run
+  pub turns : o.ruled ≡ true → KeepsTurnRule o.program.types o.windowed (length o.asked) o.width o.picks s.run
   pub books : KeepsBooks tells o b s
 
 -- Nothing is in doubt and no line is cut off; and where the run is of turns alone, so many picks were used by now.
@@ -41,6 +41,21 @@ pub record TurnsGoOn {T : Type 0} (tells : Bool) (o : Outset) (b : Books) (befor
 abbrev pub WhereTurnsBegin : Bool → ProgramTree → List Line → ℕ → List ℕ → ℕ → Stage → (Outset → Books → Type 0) → Type 0
 WhereTurnsBegin tells types lines width picks used s Holds = (o : Outset) (b : Books) → IsOutset o types s.run lines width picks
     → CanTurn s.run s.settler lines → IsFreshRecord o b used s.run → KeepsTurns tells o b s → Holds o b
+
+-- So these lines may begin, with so many picks used.
+pub record LinesMayBegin (tells : Bool) (o : Outset) (b : Books) (types : ProgramTree) (lines : List Line) (width : ℕ) (picks : List ℕ) (used : ℕ) (s : Stage) : Type 0 where
+  pub outset : IsOutset o types s.run lines width picks
+  pub can : CanTurn s.run s.settler lines
+  pub fresh : IsFreshRecord o b used s.run
+  pub kept : KeepsTurns tells o b s
+
+-- The run stands behind a window, or where the first begins: all lines that are asked so far have begun, nobody can move, and the
+-- record is kept, with so many picks used.
+pub record StandsBehind (tells : Bool) (o : Outset) (b : Books) (used : ℕ) (s : Stage) : Type 0 where
+  pub lines : (ends s.run).units.lines ≡ length o.asked
+  pub can : CanTurn s.run s.settler []
+  pub fresh : IsFreshRecord o b used s.run
+  pub kept : KeepsTurns tells o b s
 
 -- What carrying these lines in turns leaves: the record goes on from wherever they may begin, and this is left beside it.
 pub record TurnsCarry {T : Type 0} (tells : Bool) (types : ProgramTree) (lines : List Line) (width : ℕ) (picks : List ℕ) (used : ℕ) (before after : Stage) (result : Result T RunFault) : Type 0 where

@@ -66,7 +66,7 @@ fn is_still(looked: Option<usize>, core: &Core) -> bool
 {
     match looked {
         None => false,
-        Some(settled) => settled == core.settled().len() && !core.is_halted(),
+        Some(settled) => settled == core.settled_count() && !core.is_halted(),
     }
 }
 
@@ -77,7 +77,7 @@ fn looked_now(core: &Core) -> Option<usize>
     if core.is_halted() {
         return None;
     }
-    Some(core.settled().len())
+    Some(core.settled_count())
 }
 
 /// Drops the units that are no more to be looked at. After a doubt it drops none: the settler alone moves then. It looks at none

@@ -11,7 +11,8 @@
 //!
 //! - Nobody waits for ever. `Ok` is answered where no line may begin and nobody can move; then each line has its entry, all that
 //!   is settled is written, each unit that began is settled and holds no lock, nothing is or was in doubt, and the settler has nothing
-//!   to do (`HasCarriedAll`). So the next lines can begin where these ended (`who_has_carried_all_can_go_on`).
+//!   to do (`HasCarriedAll`). So the next lines can begin where these ended (`who_has_carried_all_can_go_on`), window after window
+//!   of an input (`windows_follow`).
 //! - Nobody turns in place. Each turn that goes on begins one line or uses one pick. As many lines have begun as the core was told
 //!   of; and where the run so far is of turns alone, as many picks are used as events that applied were put by units and the settler
 //!   (`IsUnderWay`). So with each such turn one event more applies.
@@ -24,6 +25,6 @@ mod laws;
 mod movers;
 mod turns;
 
-pub use laws::{nobody_moves_where_lines_begin, who_has_carried_all_can_go_on};
+pub use laws::{nobody_moves_where_lines_begin, who_has_carried_all_can_go_on, windows_follow};
 pub use run_books::RunFault;
 pub use turns::run_turns;

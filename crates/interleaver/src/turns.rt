@@ -10,9 +10,7 @@ ghost use Rattle.script_tree.specs.Programs.{ProgramTree, program_tree};
 ghost use Rattle.script_check.specs.Shapes.{type_shapes};
 ghost use Rattle.promise_spec.specs.TurnRule.{picks_used};
 ghost use Rattle.txn_agent.specs.declared.agent.Agent.{Agent as AnAgent};
-ghost use Rattle.txn_agent.specs.CoreLink.{IsLegalRun};
 ghost use Rattle.txn_agent.specs.AgentStep.{Acts};
-ghost use Rattle.worker_rules.specs.SharedHistories.{NoneLoads};
 ghost use Rattle.unit_carrier.specs.CarriedUnits.{AreCarried, AreFreed, unit_at, units_carried};
 ghost use Rattle.unit_carrier.specs.Lines.{PutsLine};
 ghost use Rattle.run_books.specs.declared.faults.RunFault.TheVariants.{Memory};
@@ -347,8 +345,7 @@ pub fn run_turns<H: Host, G: Gate, L: Lines>(
     turns: &List<u32>,
     used: &mut usize,
 ) -> Result<(), RunFault>
-    requires legal { IsLegalRun (own_sight (run_of core.old)).first }
-    requires loads { NoneLoads (own_sight (run_of core.old)).mine }
+    requires above { 0 < (run_of core.old).base }
     requires safe { IsSafe H.tells settler.old.writer (H.world host.old) }
 
     // The run's record, however it ends, and what it leaves beside that.

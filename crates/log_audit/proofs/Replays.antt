@@ -15,6 +15,7 @@ use Rattle.base_types.specs.Stores.{state_in, PutsState}
 use Rattle.base_types.specs.Grains.{same_grain}
 use Rattle.host_trait.specs.World.{Image}
 use Rattle.host_trait.proofs.Names.{same_grain-is, same_grain-refl}
+use Rattle.field_codec.specs.declared.formats.Format.TheVariants.{One}
 use Rattle.commit_log.specs.declared.records.CommitRecord.{CommitRecord}
 use Rattle.core_model.specs.Equality.{same_list, same_text, same_value, same_state, same_outcome}
 use Rattle.core_laws.proofs.Basics.{same_list-true, same_state-true, same_outcome-true}
@@ -24,7 +25,8 @@ use Rattle.log_reading.proofs.LogBlocks.{follows_begins, follows_on}
 use Rattle.script_tree.specs.Programs.{ProgramTree}
 use Rattle.script_meaning.specs.Play.{Played, found_in, initial_of, play}
 use Rattle.promise_spec.specs.Records.{Commit, States, written, put_state, after_writes}
-use Rattle.promise_spec.specs.SerialExecution.{IsSerial, Replays, depth_of, played}
+use Rattle.base_types.specs.Origins.{depth_of}
+use Rattle.promise_spec.specs.SerialExecution.{IsSerial, Replays, played}
 use Rattle.promise_spec.specs.Family.{states_after}
 use Rattle.promise_spec.specs.Openings.{commit_of}
 use Rattle.log_audit.specs.declared.replay.Bad.{Bad}
@@ -207,25 +209,25 @@ module _ (types : ProgramTree) (live : ℕ) (shape : Shape) (image : Image) (fil
     pub states : now ≡ states_after start (as_commits live shape image records)
 
   pub audit_begun : (now : States) → now ≡ start → HasAudited 15 now
-  audit_begun now is = record { records = []; follows = follows_begins shape file; serial = tt; states = is }
+  audit_begun now is = record { records = []; follows = follows_begins One shape file; serial = tt; states = is }
 
-  pub audit_more : (gate : ℕ) (now new : States) (more : List CommitRecord) (behind : ℕ) → HasAudited gate now → next_in shape gate file ≡ Ok (Some (more, behind))
+  pub audit_more : (gate : ℕ) (now new : States) (more : List CommitRecord) (behind : ℕ) → HasAudited gate now → next_in One shape gate file ≡ Ok (Some (more, behind))
       → AllReplayTo types now (as_commits live shape image more) new None → HasAudited behind new
   audit_more gate now new more behind h step to =
       let seam : as_commits live shape image (h.records ++ more) ≡ as_commits live shape image h.records ++ as_commits live shape image more = map-append (commit_of live shape image) h.records more in
       record {
         records = h.records ++ more;
-        follows = λ clean. follows_on shape file h.records gate (h.follows clean) more behind step;
+        follows = λ clean. follows_on One shape file h.records gate (h.follows clean) more behind step;
         serial = subst (λ (l : List Commit). IsSerial types start l) (sym seam)
             (serial_both types start (as_commits live shape image h.records) (as_commits live shape image more) h.serial (subst (λ (s : States). IsSerial types s (as_commits live shape image more)) h.states to.0));
         states = to.1 ∙ ap (λ (s : States). states_after s (as_commits live shape image more)) h.states
             ∙ sym (ap (λ (l : List Commit). states_after start l) seam ∙ after_both start (as_commits live shape image h.records) (as_commits live shape image more));
       }
 
-  pub audit_bad : (gate : ℕ) (now : States) (more : List CommitRecord) (behind : ℕ) (bad : Bad) → HasAudited gate now → next_in shape gate file ≡ Ok (Some (more, behind)) → FailsFirst types now (as_commits live shape image more) bad
-      → (records : List CommitRecord) → records_in_file shape file ≡ Ok records → FailsFirst types start (as_commits live shape image records) bad
+  pub audit_bad : (gate : ℕ) (now : States) (more : List CommitRecord) (behind : ℕ) (bad : Bad) → HasAudited gate now → next_in One shape gate file ≡ Ok (Some (more, behind)) → FailsFirst types now (as_commits live shape image more) bad
+      → (records : List CommitRecord) → records_in_file One shape file ≡ Ok records → FailsFirst types start (as_commits live shape image records) bad
   audit_bad gate now more behind bad h step f records is =
-      let read : FollowsIfClean shape file (h.records ++ more) behind = (λ clean. follows_on shape file h.records gate (h.follows clean) more behind step) in
+      let read : FollowsIfClean shape file (h.records ++ more) behind = (λ clean. follows_on One shape file h.records gate (h.follows clean) more behind step) in
       let rest = rest_of shape file (h.records ++ more) records behind read is in
       let made = commit_of live shape image in
       let done : List Commit = map made h.records in
@@ -241,15 +243,15 @@ module _ (types : ProgramTree) (live : ℕ) (shape : Shape) (image : Image) (fil
         fails = subst (λ (s : States). FailsToReplay types s f.here bad) (ap (λ (s : States). states_after s f.front) h.states ∙ sym (after_both start done f.front)) f.fails;
       }
 
-  pub audit_found : (gate : ℕ) (now new : States) (more : List CommitRecord) (behind : ℕ) (found : Option Bad) → HasAudited gate now → next_in shape gate file ≡ Ok (Some (more, behind)) → is_some found ≡ true
-      → AllReplayTo types now (as_commits live shape image more) new found → (records : List CommitRecord) → records_in_file shape file ≡ Ok records → IsFirstFailure types start (as_commits live shape image records) found
+  pub audit_found : (gate : ℕ) (now new : States) (more : List CommitRecord) (behind : ℕ) (found : Option Bad) → HasAudited gate now → next_in One shape gate file ≡ Ok (Some (more, behind)) → is_some found ≡ true
+      → AllReplayTo types now (as_commits live shape image more) new found → (records : List CommitRecord) → records_in_file One shape file ≡ Ok records → IsFirstFailure types start (as_commits live shape image records) found
   audit_found gate now new more behind None h step some to records is = absurd cc
   audit_found gate now new more behind (Some bad) h step some to records is = audit_bad gate now more behind bad h step to records is
 
-  pub audit_next : (gate : ℕ) (now new : States) (more : List CommitRecord) (behind : ℕ) (found : Option Bad) → HasAudited gate now → next_in shape gate file ≡ Ok (Some (more, behind)) → is_some found ≡ false
+  pub audit_next : (gate : ℕ) (now new : States) (more : List CommitRecord) (behind : ℕ) (found : Option Bad) → HasAudited gate now → next_in One shape gate file ≡ Ok (Some (more, behind)) → is_some found ≡ false
       → AllReplayTo types now (as_commits live shape image more) new found → HasAudited behind new
   audit_next gate now new more behind None h step none to = audit_more gate now new more behind h step to
   audit_next gate now new more behind (Some bad) h step none to = absurd cc
 
-  pub audit_done : (gate : ℕ) (now : States) → HasAudited gate now → next_in shape gate file ≡ Ok None → (records : List CommitRecord) → records_in_file shape file ≡ Ok records → IsFirstFailure types start (as_commits live shape image records) None
+  pub audit_done : (gate : ℕ) (now : States) → HasAudited gate now → next_in One shape gate file ≡ Ok None → (records : List CommitRecord) → records_in_file One shape file ≡ Ok records → IsFirstFailure types start (as_commits live shape image records) None
   audit_done gate now h end records is = subst (λ (l : List CommitRecord). IsSerial types start (as_commits live shape image l)) (all_read shape file h.records gate h.follows end records is) h.serial

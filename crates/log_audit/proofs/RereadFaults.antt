@@ -4,6 +4,7 @@ use Rattle.base_types.specs.declared.shapes.Shape.{Shape}
 use Rattle.host_trait.specs.declared.channels.Channel.{Channel}
 use Rattle.host_trait.specs.declared.channels.FileId.{FileId}
 use Rattle.host_trait.specs.Faults.{NoneFailed}
+use Rattle.field_codec.specs.declared.formats.Format.TheVariants.{One}
 use Rattle.commit_log.specs.declared.records.CommitRecord.{CommitRecord}
 use Rattle.log_reading.specs.Blocks.{records_in_file}
 use Rattle.log_reading.specs.Counts.{ReadFaulted}
@@ -31,12 +32,12 @@ open_faulted old new (FolderFault.Failed at) f = f
 open_faulted old new FolderFault.Memory f = f
 
 module _ (shape : Shape) (file : List ℕ) where
-  pub folder_ends : (slot : ℕ) (records : List CommitRecord) → records_in_file shape file ≡ Ok records → (e : FolderFault) → IsLogFault slot shape file e → MayEnd (fault_ending (from_folder e))
+  pub folder_ends : (slot : ℕ) (records : List CommitRecord) → records_in_file One shape file ≡ Ok records → (e : FolderFault) → IsLogFault slot shape file e → MayEnd (fault_ending (from_folder e))
   folder_ends slot records is (FolderFault.Damaged at place) here = absurd (let no : Err place ≡ Ok records = sym here ∙ is in cc)
   folder_ends slot records is (FolderFault.Failed at) here = inr tt
   folder_ends slot records is FolderFault.Memory here = inr tt
 
-  pub block_fault : {A : Type 0} (gate : ℕ) (e : FolderFault) → ((at : FileId) (place : ℕ) → failed {A = A} e ≡ failed (FolderFault.Damaged at place) → next_in shape gate file ≡ Err place) → IsBlockFault shape gate file (from_folder e)
+  pub block_fault : {A : Type 0} (gate : ℕ) (e : FolderFault) → ((at : FileId) (place : ℕ) → failed {A = A} e ≡ failed (FolderFault.Damaged at place) → next_in One shape gate file ≡ Err place) → IsBlockFault shape gate file (from_folder e)
   block_fault gate (FolderFault.Damaged at place) damaged = damaged at place refl
   block_fault gate (FolderFault.Failed at) damaged = tt
   block_fault gate FolderFault.Memory damaged = tt

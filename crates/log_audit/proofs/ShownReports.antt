@@ -7,17 +7,17 @@ use Rattle.host_trait.specs.declared.channels.FileId.TheVariants.{Manager, Progr
 use Rattle.host_trait.specs.Disk.{settled}
 use Rattle.host_trait.specs.Faults.{NoneFailed}
 use Rattle.host_trait.specs.World.{World, Moment, Disk, Image, IsImage, moment_of}
-use Rattle.host_trait.specs.Runs.{RunsOnFile}
 use Rattle.host_trait.proofs.Moments.{both, weaker}
 use Rattle.host_trait.proofs.Runs.{settled_image}
+use Rattle.field_codec.specs.declared.formats.Format.TheVariants.{One}
 use Rattle.commit_log.specs.declared.records.CommitRecord.{CommitRecord}
 use Rattle.log_reading.specs.Steps.{seen_in}
-use Rattle.silo_spec.specs.Silos.{manager}
 use Rattle.silo_spec.specs.Moments.{IsAsAtEntry}
+use Rattle.silo_spec.specs.OpenedDisks.{OnlyOpens}
 use Rattle.silo_opening.specs.Counts.{OpenFaulted}
-use Rattle.silo_opening.specs.OpenedSilo.{Stays, ending_of}
+use Rattle.silo_opening.specs.OpenedSilo.{ending_of}
 use Rattle.silo_opening.specs.declared.faults.OpenFault.{OpenFault}
-use Rattle.silo_opening.proofs.Runs.{untouched}
+use Rattle.silo_opening.proofs.OpeningCalls.{opens_untouched}
 use Rattle.promise_spec.specs.Programs.{Program, shape_in}
 use Rattle.promise_spec.specs.Records.{Commit}
 use Rattle.promise_spec.specs.Entries.{Recorded, Log, new_silo, new_log, grown, standing_of}
@@ -42,8 +42,8 @@ Counts = Channel → ℕ
 pub record HasParts (image : Image) (live : ℕ) (p : Program) (log : Log) : Type 0 where
   pub records : List CommitRecord
   pub program : program_in_file (image (ProgramFile live)) ≡ Ok p
-  pub read : records_in_file (shape_in p) (image (Manager live)) ≡ Ok records
-  pub whole : first_missing live (shape_in p) image (named_by_grain (named_by records)) ≡ None
+  pub read : records_in_file One (shape_in p) (image (Manager live)) ≡ Ok records
+  pub whole : first_missing live One (shape_in p) image (named_by_grain (named_by records)) ≡ None
   pub are : grown (new_log p) (map (commit_of live (shape_in p) image) records) ≡ log
 
 module _ (image : Image) (live : ℕ) (p : Program) (log : Log) (is : (standing_of log).program ≡ p) where
@@ -56,16 +56,16 @@ module _ (image : Image) (live : ℕ) (p : Program) (log : Log) (is : (standing_
   own_program : (q : Program) (commits : List Commit) → grown (new_log q) commits ≡ log → q ≡ p
   own_program q commits are = sym (in_force (new_silo q) (map Recorded commits)) ∙ ap (λ (l : Log). (standing_of l).program) are ∙ is
 
-  records_by : (s : ℕ) (q : Program) → program_in_file (image (ProgramFile s)) ≡ Ok q → (r : Result (List CommitRecord) ℕ) → records_in_file (shape_in q) (image (Manager s)) ≡ r → with_log s q image r ≡ Reads live log → HasParts image live p log
+  records_by : (s : ℕ) (q : Program) → program_in_file (image (ProgramFile s)) ≡ Ok q → (r : Result (List CommitRecord) ℕ) → records_in_file One (shape_in q) (image (Manager s)) ≡ r → with_log s q image r ≡ Reads live log → HasParts image live p log
   records_by s q program (Ok records) read e =
-      let t = versions_by s q records (first_missing s (shape_in q) image (named_by_grain (named_by records))) e in
+      let t = versions_by s q records (first_missing s One (shape_in q) image (named_by_grain (named_by records))) e in
       let here : HasParts image s q log = record { records = records; program = program; read = read; whole = t.0; are = t.2 } in
       let own : q ≡ p = own_program q (map (commit_of s (shape_in q) image) records) t.2 in
       subst (λ (n : ℕ). HasParts image n p log) t.1 (subst (λ (x : Program). HasParts image s x log) own here)
   records_by s q program (Err place) read e = absurd cc
 
   program_by : (s : ℕ) (r : Result Program ℕ) → program_in_file (image (ProgramFile s)) ≡ r → with_program s image r ≡ Reads live log → HasParts image live p log
-  program_by s (Ok q) program e = records_by s q program (records_in_file (shape_in q) (image (Manager s))) refl e
+  program_by s (Ok q) program e = records_by s q program (records_in_file One (shape_in q) (image (Manager s))) refl e
   program_by s (Err place) program e = absurd cc
 
   slot_by : (o : Option ℕ) → with_slot image o ≡ Reads live log → HasParts image live p log
@@ -122,24 +122,24 @@ done_ok (Err ReportFault.Memory) e = absurd cc
 -- ---- the call
 
 -- a folder that wasn't opened
-pub not_opened : {A : Type 0} (manner : Manner) (asked : List (List ℕ)) (old new : World) (before after : Counts) (result : Result A ReportFault) (e : OpenFault) → report_ending result ≡ ending_of e → RunsOnFile manager Stays 1 old new
+pub not_opened : {A : Type 0} (manner : Manner) (asked : List (List ℕ)) (old new : World) (before after : Counts) (result : Result A ReportFault) (e : OpenFault) → report_ending result ≡ ending_of e → OnlyOpens old new
     → IsRefusedBy (seen_in old.disk) (opened_as (seen_in old.disk)) (ending_of e) → OpenFaulted e before after → IsUnopened (reported_as manner asked old new before after result)
 not_opened manner asked old new before after result e is run refused faulted = record {
-  untouched = untouched manager 1 old new run;
+  untouched = opens_untouched _ old new run;
   unread = run.input;
   syncs = run.syncs;
   refused = subst (λ (x : Ending). IsRefusedBy (seen_in old.disk) (opened_as (seen_in old.disk)) x) (sym is) refused;
   failed = subst (λ (x : Ending). HasFailedAs x before after) (sym is) (open_failed before after e faulted);
 }
 
-module _ (live : ℕ) (old mid : World) (settles : mid.disk (Manager live) ≡ settled (old.disk (Manager live)).seen) (run : RunsOnFile (Manager live) Stays 1 old mid) where
+module _ (live : ℕ) (old mid : World) (settles : mid.disk (Manager live) ≡ settled (old.disk (Manager live)).seen) (run : OnlyOpens old mid) where
   early : (m : Moment) → IsAsAtEntry old m → LeavesAsBefore live old m
   early m entry image is = (entry.images image is, λ other. absurd (other entry.quiet))
 
   late : (m : Moment) → m.disk ≡ mid.disk → LeavesAsBefore live old m
   late m same image is =
       let there : IsImage mid.disk image = subst (λ (d : Disk). IsImage d image) same is in
-      ((untouched (Manager live) 1 old mid run).now.images image there, λ other. settled_image mid.disk (Manager live) (old.disk (Manager live)).seen (image (Manager live)) settles (there (Manager live)))
+      ((opens_untouched _ old mid run).now.images image there, λ other. settled_image mid.disk (Manager live) (old.disk (Manager live)).seen (image (Manager live)) settles (there (Manager live)))
 
   -- a report of one that was
   pub is_reported : {A : Type 0} (text : Log → List ℕ) (log : Log) (manner : Manner) (asked : List (List ℕ)) (new : World) (before after : Counts) (result : Result A ReportFault)
@@ -157,9 +157,9 @@ module _ (live : ℕ) (old mid : World) (settles : mid.disk (Manager live) ≡ s
       none = inr end;
     };
     unread = part.puts.input ∙ run.input;
-    moments = both _ (weaker _ _ early (untouched (Manager live) 1 old mid run).moments) (weaker _ _ late part.puts.moments);
+    moments = both _ (weaker _ _ early (opens_untouched _ old mid run).moments) (weaker _ _ late part.puts.moments);
     now = late (moment_of new) part.puts.disk;
-    seen = λ file. ap (λ (d : Disk). (d file).seen) part.puts.disk ∙ (untouched (Manager live) 1 old mid run).seen file;
+    seen = λ file. ap (λ (d : Disk). (d file).seen) part.puts.disk ∙ (opens_untouched _ old mid run).seen file;
     ending = end;
     risen = failed_risen before after (report_ending result) failed;
   }

@@ -9,6 +9,7 @@ use Rattle.base_types.specs.declared.stores.Version.{Version}
 use Rattle.host_trait.specs.declared.channels.FileId.{FileId}
 use Rattle.host_trait.specs.declared.channels.FileId.TheVariants.{Grain}
 use Rattle.host_trait.specs.World.{Image}
+use Rattle.field_codec.specs.declared.formats.Format.TheVariants.{One}
 use Rattle.commit_log.specs.declared.records.CommitRecord.{CommitRecord}
 use Rattle.commit_log.specs.declared.records.Named.{Named}
 use Rattle.commit_log.specs.declared.records.Written.{Written}
@@ -23,12 +24,12 @@ named_as unit w = record { unit = unit; written = w }
 
 -- these grains with the states that stand at their places
 abbrev pub states_at : ℕ → Shape → Image → UnitNo → List Written → List (GrainId × List Value)
-states_at live shape image unit ws = zip (map (λ w. w.grain) ws) (map (λ w. state_of (version_named live shape image (record { unit = unit; written = w }))) ws)
+states_at live shape image unit ws = zip (map (λ w. w.grain) ws) (map (λ w. state_of (version_named live One shape image (record { unit = unit; written = w }))) ws)
 
 module _ (live : ℕ) (shape : Shape) (image : Image) (unit : UnitNo) where
   -- one more
   pub version_more : (w : Written) (more left : List Written) (v : Version) (old new all : List (GrainId × List Value)) → left ≡ w ∷ more → new ≡ old ++ ((w.grain, v.state) ∷ [])
-      → version_named live shape image (named_as unit w) ≡ Ok v → old ++ states_at live shape image unit left ≡ all → new ++ states_at live shape image unit more ≡ all
+      → version_named live One shape image (named_as unit w) ≡ Ok v → old ++ states_at live shape image unit left ≡ all → new ++ states_at live shape image unit more ≡ all
   version_more w more left v old new all next pushed is so_far =
       ap (λ (l : List (GrainId × List Value)). l ++ states_at live shape image unit more) pushed ∙ append_assoc old ((w.grain, v.state) ∷ []) (states_at live shape image unit more)
       ∙ ap (λ (r : Result Version ℕ). old ++ ((w.grain, state_of r) ∷ states_at live shape image unit more)) (sym is)
@@ -53,14 +54,14 @@ in_seam xs i d ws low same = subst (λ (l : List Written). Member (get_or xs i d
 
 -- a fault of reading a version that a record names
 pub version_fault : {A : Type 0} (live : ℕ) (shape : Shape) (image : Image) (r : CommitRecord) (w : Written) → Member w r.writes → (e : FolderFault)
-    → ((at : FileId) (place : ℕ) → failed {A = A} e ≡ failed (FolderFault.Damaged at place) → version_named live shape image (named_as r.unit w) ≡ Err place)
+    → ((at : FileId) (place : ℕ) → failed {A = A} e ≡ failed (FolderFault.Damaged at place) → version_named live One shape image (named_as r.unit w) ≡ Err place)
     → ((at : FileId) → failed {A = A} e ≡ failed (FolderFault.Failed at) → at ≡ Grain live w.grain) → IsVersionFault live shape image (r ∷ []) e
 version_fault {A} live shape image r w in_it e damaged fails = by e damaged fails
   where
     there : Member (named_as r.unit w) (named_by (r ∷ []))
     there = subst (λ (l : List Named). Member (named_as r.unit w) l) (sym (append-nil (map (named_as r.unit) r.writes))) (in_own r.unit w r.writes in_it)
 
-    by : (e : FolderFault) → ((at : FileId) (place : ℕ) → failed {A = A} e ≡ failed (FolderFault.Damaged at place) → version_named live shape image (named_as r.unit w) ≡ Err place)
+    by : (e : FolderFault) → ((at : FileId) (place : ℕ) → failed {A = A} e ≡ failed (FolderFault.Damaged at place) → version_named live One shape image (named_as r.unit w) ≡ Err place)
         → ((at : FileId) → failed {A = A} e ≡ failed (FolderFault.Failed at) → at ≡ Grain live w.grain) → IsVersionFault live shape image (r ∷ []) e
     by (FolderFault.Damaged at place) damaged fails = (named_as r.unit w, there, damaged at place refl)
     by (FolderFault.Failed at) damaged fails = (named_as r.unit w, there, fails at refl)

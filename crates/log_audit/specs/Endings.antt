@@ -1,5 +1,5 @@
 -- How a report ends, and what a call of one shows.
-use Rattle.std.specs.Prelude.{◌≡◌, ◌⊎◌, ℕ, List, Result, Ok, Err}
+use Rattle.std.specs.Prelude.{◌≡◌, ◌⊎◌, ℕ, List, Result, Ok, Err, false}
 use Rattle.host_trait.specs.declared.channels.Channel.{Channel}
 use Rattle.host_trait.specs.World.{World}
 use Rattle.log_reading.specs.declared.faults.FolderFault.{FolderFault}
@@ -25,7 +25,7 @@ report_ending (Err fault) = fault_ending fault
 -- what a call shows that ended with this answer
 abbrev pub reported_as : {A : Type 0} → Manner → List (List ℕ) → World → World → (Channel → ℕ) → (Channel → ℕ) → Result A ReportFault → Observed
 reported_as manner asked old new before after result =
-    record { manner = manner; asked = asked; old = old; new = new; faults_before = before; faults_after = after; ending = report_ending result }
+    record { manner = manner; asked = asked; windowed = false; old = old; new = new; faults_before = before; faults_after = after; ending = report_ending result }
 
 -- a report of an opened folder is done, or was cut
 abbrev pub MayEnd : ending.Ending → Type 0

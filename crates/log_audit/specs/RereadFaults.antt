@@ -3,6 +3,7 @@ use Rattle.std.specs.Prelude.{◌≡◌, ◌⊎◌, ℕ, List, Err, ⊤}
 use Rattle.base_types.specs.declared.shapes.Shape.{Shape}
 use Rattle.host_trait.specs.World.{Image}
 use Rattle.host_trait.specs.declared.channels.FileId.TheVariants.{Manager, Grain}
+use Rattle.field_codec.specs.declared.formats.Format.TheVariants.{One}
 use Rattle.commit_log.specs.declared.records.CommitRecord.{CommitRecord}
 use Rattle.commit_log.specs.declared.records.Named.{Named}
 use Rattle.core_model.specs.CoreState.{Member}
@@ -14,14 +15,14 @@ use Rattle.log_audit.specs.declared.faults.ReportFault.{ReportFault}
 
 -- the manager file of this slot, of these bytes, is damaged there, or a call on it failed
 abbrev pub IsLogFault : ℕ → Shape → List ℕ → FolderFault → Type 0
-IsLogFault slot shape file (FolderFault.Damaged at place) = records_in_file shape file ≡ Err place
+IsLogFault slot shape file (FolderFault.Damaged at place) = records_in_file One shape file ≡ Err place
 IsLogFault slot shape file (FolderFault.Failed at) = at ≡ Manager slot
 IsLogFault slot shape file FolderFault.Memory = ⊤
 
 -- a version that these records name isn't there, or a call on its grain's file failed
 abbrev pub IsVersionFault : ℕ → Shape → Image → List CommitRecord → FolderFault → Type 0
 IsVersionFault live shape image records (FolderFault.Damaged at place) =
-    (n : Named) × Member n (named_by records) × (version_named live shape image n ≡ Err place)
+    (n : Named) × Member n (named_by records) × (version_named live One shape image n ≡ Err place)
 IsVersionFault live shape image records (FolderFault.Failed at) = (n : Named) × Member n (named_by records) × (at ≡ Grain live n.written.grain)
 IsVersionFault live shape image records FolderFault.Memory = ⊤
 
@@ -32,7 +33,7 @@ IsRereadFault live shape image records fault = IsLogFault live shape (image (Man
 -- the log is damaged behind this gate, or there was another fault
 abbrev pub IsBlockFault : Shape → ℕ → List ℕ → ReportFault → Type 0
 IsBlockFault shape gate file ReportFault.NotASilo = ⊥
-IsBlockFault shape gate file (ReportFault.Damaged at place) = next_in shape gate file ≡ Err place
+IsBlockFault shape gate file (ReportFault.Damaged at place) = next_in One shape gate file ≡ Err place
 IsBlockFault shape gate file (ReportFault.DiskFault at) = ⊤
 IsBlockFault shape gate file ReportFault.WriteFault = ⊤
 IsBlockFault shape gate file ReportFault.Memory = ⊤

@@ -1,14 +1,13 @@
-ghost use Rattle.std.specs.Prelude.{◌≡◌, ℕ, List, IsTrue, OnOk, OnErr, IfOk, IfErr, is_ok};
+ghost use Rattle.std.specs.Prelude.{◌≡◌, ℕ, List, IsTrue, OnOk, IfOk, IfErr, is_ok};
 ghost use Rattle.host_trait.specs.Disk.{settled};
 ghost use Rattle.host_trait.specs.Files.{StaysReady};
 ghost use Rattle.host_trait.specs.Faults.{NoneFailed};
-ghost use Rattle.host_trait.specs.Runs.{RunsOnFile};
 ghost use Rattle.host_trait.specs.declared.channels.FileId.TheVariants.{Manager};
 ghost use Rattle.log_reading.specs.Steps.{seen_in};
-ghost use Rattle.silo_spec.specs.Silos.{manager};
 ghost use Rattle.silo_spec.specs.Slots.{IsLive};
+ghost use Rattle.silo_spec.specs.OpenedDisks.{OnlyOpens};
 ghost use Rattle.silo_opening.specs.Counts.{OpenFaulted};
-ghost use Rattle.silo_opening.specs.OpenedSilo.{Stays, ending_of, in_folder};
+ghost use Rattle.silo_opening.specs.OpenedSilo.{ending_of, in_folder};
 ghost use Rattle.promise_spec.specs.Logs.{magic};
 ghost use Rattle.promise_spec.specs.Openings.{opened_as};
 ghost use Rattle.promise_spec.specs.Refusals.{IsRefusedBy};
@@ -71,11 +70,8 @@ pub fn audit<H: Host>(alloc: Global, host: &mut H) -> Result<AuditReport, OpenFa
     ensures calm { OnOk result (NoneFailed (H.faults host.old) (H.faults host.new)) }
     ensures fault { IfErr result (λ e. OpenFaulted e (H.faults host.old) (H.faults host.new)) }
 
-    // Nothing was written or emitted, and no input was taken. The live manager file was synced; where there is no report, slot 0's
-    // was looked at.
-    ensures run { OnOk result (IsTrue H.tells → (live : ℕ) → IsLive magic live (seen_in (H.world host.old).disk)
-        → RunsOnFile (Manager live) Stays 1 (H.world host.old) (H.world host.new)) }
-    ensures looked { OnErr result (IsTrue H.tells → RunsOnFile manager Stays 1 (H.world host.old) (H.world host.new)) }
+    // Nothing was written or emitted, and no input was taken: the folder was opened, and beside that there was nothing but asking.
+    ensures only { IsTrue H.tells → OnlyOpens (H.world host.old) (H.world host.new) }
     ensures ready { StaysReady (H.is_ready host.old) (H.is_ready host.new) }
 {
     let opened = match open_silo(alloc, host) {

@@ -5,6 +5,7 @@ ghost use Rattle.host_trait.specs.Files.{StaysReady};
 ghost use Rattle.host_trait.specs.Faults.{NoneFailed};
 ghost use Rattle.host_trait.specs.Runs.{OnlyAsked};
 ghost use Rattle.host_trait.specs.declared.channels.FileId.TheVariants.{Manager};
+ghost use Rattle.field_codec.specs.declared.formats.Format.TheVariants.{One};
 ghost use Rattle.commit_log.specs.declared.records.CommitRecord.{CommitRecord as ARecord};
 ghost use Rattle.log_reading.specs.Blocks.{records_in_file};
 ghost use Rattle.log_reading.specs.Counts.{ReadFaulted};
@@ -13,6 +14,7 @@ ghost use Rattle.log_audit.specs.WrittenGrains.{grains_recorded, grains_added};
 
 use base_types::{GrainId, Shape};
 use commit_log::{CommitRecord, Written};
+use field_codec::Format;
 use host_trait::Host;
 use log_reading::{FolderFault, next_block};
 use std::alloc::{AllocError, Global};
@@ -46,9 +48,9 @@ pub(crate) fn read_grains<H: Host>(
     shape: &Shape,
 ) -> Result<BTreeSet<GrainId>, FolderFault>
     requires slot { slot ≤ 1 }
-    ensures found { IfOk result (λ grains. IsTrue H.tells → (records : List ARecord) → records_in_file shape.now ((H.world host.old).disk (Manager slot)).seen ≡ Ok records
+    ensures found { IfOk result (λ grains. IsTrue H.tells → (records : List ARecord) → records_in_file One shape.now ((H.world host.old).disk (Manager slot)).seen ≡ Ok records
         → grains.keys ≡ grains_added [] (grains_recorded records)) }
-    ensures unread { IfErr result (λ e. IsTrue H.tells → (records : List ARecord) → records_in_file shape.now ((H.world host.old).disk (Manager slot)).seen ≡ Ok records
+    ensures unread { IfErr result (λ e. IsTrue H.tells → (records : List ARecord) → records_in_file One shape.now ((H.world host.old).disk (Manager slot)).seen ≡ Ok records
         → IsLogFault slot shape.now ((H.world host.old).disk (Manager slot)).seen e) }
     ensures asked { IsTrue H.tells → OnlyAsked (H.world host.old) (H.world host.new) }
     ensures calm { OnOk result (NoneFailed (H.faults host.old) (H.faults host.new)) }
@@ -57,7 +59,14 @@ pub(crate) fn read_grains<H: Host>(
 {
     let mut grains = BTreeSet::new(alloc);
     let mut gate_at = 15;
-    while let Some((records, behind)) = next_block(alloc, host, slot, shape, gate_at)? {
+    while let Some((records, behind)) = next_block(
+        alloc,
+        host,
+        slot,
+        shape,
+        Format::One,
+        gate_at,
+    )? {
         add_grains(&mut grains, records.as_slice())?;
         gate_at = behind;
     }

@@ -2,6 +2,7 @@ ghost use Rattle.std.specs.Prelude.{◌≡◌, ◌+◌, ◌^◌, ◌<◌, ◌≤
 ghost use Rattle.host_trait.specs.Files.{StaysReady};
 ghost use Rattle.host_trait.specs.Runs.{OnlyAsked};
 ghost use Rattle.host_trait.specs.declared.channels.FileId.TheVariants.{Manager};
+ghost use Rattle.field_codec.specs.declared.formats.Format.TheVariants.{One};
 ghost use Rattle.commit_log.specs.declared.records.CommitRecord.{CommitRecord as ARecord};
 ghost use Rattle.log_reading.specs.Blocks.{records_in_file};
 ghost use Rattle.log_reading.specs.Steps.{next_in, seen_in};
@@ -21,6 +22,7 @@ use crate::line_writer::write_line;
 use crate::lines::record_line;
 use base_types::{List, Shape};
 use commit_log::CommitRecord;
+use field_codec::Format;
 use host_trait::Host;
 use log_reading::next_block;
 use script_check::Checked;
@@ -37,14 +39,14 @@ fn next_records<H: Host>(
 ) -> Result<Option<(List<CommitRecord>, u64)>, ReportFault>
     requires slot { slot ≤ 1 }
     requires place { gate_at < 2 ^ 63 }
-    ensures found { IfOk result (λ found. IsTrue H.tells → next_in shape.now gate_at ((H.world host.old).disk (Manager slot)).seen ≡ Ok found) }
+    ensures found { IfOk result (λ found. IsTrue H.tells → next_in One shape.now gate_at ((H.world host.old).disk (Manager slot)).seen ≡ Ok found) }
     ensures further { IfOk result (λ found. IfSome found (λ x. (gate_at + 5 + length x.0 ≤ x.1) × (x.1 < 2 ^ 63))) }
     ensures unread { IfErr result (λ e. IsTrue H.tells → IsBlockFault shape.now gate_at ((H.world host.old).disk (Manager slot)).seen e) }
     ensures asked { IsTrue H.tells → OnlyAsked (H.world host.old) (H.world host.new) }
     ensures exact { HasFailedAs (report_ending result) (H.faults host.old) (H.faults host.new) }
     ensures ready { StaysReady (H.is_ready host.old) (H.is_ready host.new) }
 {
-    match next_block(alloc, host, slot, shape, gate_at) {
+    match next_block(alloc, host, slot, shape, Format::One, gate_at) {
         Ok(found) => Ok(found),
         Err(fault) => Err(unread(fault)),
     }
@@ -81,9 +83,9 @@ fn write_log<H: Host>(
     shape: &Shape,
 ) -> Result<(), ReportFault>
     requires slot { slot ≤ 1 }
-    ensures puts { IsTrue H.tells → (records : List ARecord) → records_in_file shape.now ((H.world host.old).disk (Manager slot)).seen ≡ Ok records
+    ensures puts { IsTrue H.tells → (records : List ARecord) → records_in_file One shape.now ((H.world host.old).disk (Manager slot)).seen ≡ Ok records
         → PutsPart (record_lines shape.now (program_tree checked.now) records) (is_ok result) (H.world host.old) (H.world host.new) }
-    ensures ended { IsTrue H.tells → (records : List ARecord) → records_in_file shape.now ((H.world host.old).disk (Manager slot)).seen ≡ Ok records
+    ensures ended { IsTrue H.tells → (records : List ARecord) → records_in_file One shape.now ((H.world host.old).disk (Manager slot)).seen ≡ Ok records
         → MayEnd (report_ending result) }
     ensures exact { HasFailedAs (report_ending result) (H.faults host.old) (H.faults host.new) }
     ensures ready { StaysReady (H.is_ready host.old) (H.is_ready host.new) }

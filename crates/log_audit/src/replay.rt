@@ -4,6 +4,7 @@ ghost use Rattle.host_trait.specs.Files.{StaysReady};
 ghost use Rattle.host_trait.specs.Faults.{NoneFailed};
 ghost use Rattle.host_trait.specs.Runs.{OnlyAsked};
 ghost use Rattle.host_trait.specs.declared.channels.FileId.TheVariants.{Manager};
+ghost use Rattle.field_codec.specs.declared.formats.Format.TheVariants.{One};
 ghost use Rattle.commit_log.specs.declared.records.CommitRecord.{CommitRecord as ARecord};
 ghost use Rattle.core_model.specs.Equality.{same_list};
 ghost use Rattle.log_reading.specs.Blocks.{records_in_file};
@@ -13,13 +14,13 @@ ghost use Rattle.script_tree.specs.Programs.{ProgramTree, program_tree};
 ghost use Rattle.script_meaning.specs.Play.{found_in};
 ghost use Rattle.promise_spec.specs.Records.{written, put_state};
 ghost use Rattle.promise_spec.specs.Openings.{commit_of};
-ghost use Rattle.promise_spec.specs.SerialExecution.{depth_of};
 ghost use Rattle.log_audit.specs.RereadFaults.{IsVersionFault, IsRereadFault};
 ghost use Rattle.log_audit.specs.Replays.{same_write, agree, first_states, as_commits, ReplaysTo, AllReplayTo, IsFirstFailure};
 
 use base_types::{GrainId, Origin, Outcome, Shape, State, Store, UnitNo};
 use commit_log::{CommitRecord, Named};
-use core_equality::Same;
+use core_parts::Same;
+use field_codec::Format;
 use host_trait::Host;
 use log_reading::{FolderFault, named_version, next_block};
 use script_check::Checked;
@@ -58,20 +59,6 @@ fn are_same_writes(ours: &[(GrainId, State)], theirs: &[(GrainId, State)]) -> bo
     true
 }
 
-// The depth of a unit's first frame.
-fn depth_of(origin: Origin) -> u16
-    ensures { result ≡ depth_of origin }
-{
-    match origin {
-        Origin::Line(_) => 1,
-        Origin::Child {
-            parent: _parent,
-            index: _index,
-            depth,
-        } => depth,
-    }
-}
-
 // The grains that a record wrote, with the states of their versions in a slot's files.
 fn read_writes<H: Host>(
     alloc: Global,
@@ -95,7 +82,7 @@ fn read_writes<H: Host>(
             unit: entry.unit,
             written: *one,
         };
-        let version = named_version(alloc, host, slot, shape, named)?;
+        let version = named_version(alloc, host, slot, shape, Format::One, named)?;
         kept.push((one.grain, version.state))?;
     }
     Ok(kept)
@@ -138,7 +125,7 @@ fn replay<H: Host>(
     ensures ready { StaysReady (H.is_ready host.old) (H.is_ready host.new) }
 {
     let kept = read_writes(alloc, host, slot, shape, entry)?;
-    let depth = depth_of(entry.origin);
+    let depth = entry.origin.depth();
     let answers = entry.answers.as_slice();
     let played = play(alloc, checked, &entry.call, depth, store, answers)?;
     let same = are_same_writes(played.writes.as_slice(), kept.as_slice());
@@ -193,10 +180,10 @@ pub(crate) fn replay_log<H: Host>(
     shape: &Shape,
 ) -> Result<Option<Bad>, FolderFault>
     requires slot { slot ≤ 1 }
-    ensures replays { IfOk result (λ found. IsTrue H.tells → (records : Lists ARecord) → records_in_file shape.now ((H.world host.old).disk (Manager slot)).seen ≡ Ok records
+    ensures replays { IfOk result (λ found. IsTrue H.tells → (records : Lists ARecord) → records_in_file One shape.now ((H.world host.old).disk (Manager slot)).seen ≡ Ok records
         → let types = program_tree checked.now in
         IsFirstFailure types (first_states types) (as_commits slot shape.now (seen_in (H.world host.old).disk) records) found) }
-    ensures unread { IfErr result (λ e. IsTrue H.tells → (records : Lists ARecord) → records_in_file shape.now ((H.world host.old).disk (Manager slot)).seen ≡ Ok records
+    ensures unread { IfErr result (λ e. IsTrue H.tells → (records : Lists ARecord) → records_in_file One shape.now ((H.world host.old).disk (Manager slot)).seen ≡ Ok records
         → IsRereadFault slot shape.now (seen_in (H.world host.old).disk) records e) }
     ensures asked { IsTrue H.tells → OnlyAsked (H.world host.old) (H.world host.new) }
     ensures calm { OnOk result (NoneFailed (H.faults host.old) (H.faults host.new)) }
@@ -205,7 +192,14 @@ pub(crate) fn replay_log<H: Host>(
 {
     let mut store = Store::new(alloc);
     let mut gate_at = 15;
-    while let Some((records, behind)) = next_block(alloc, host, slot, shape, gate_at)? {
+    while let Some((records, behind)) = next_block(
+        alloc,
+        host,
+        slot,
+        shape,
+        Format::One,
+        gate_at,
+    )? {
         let found = replay_block(
             alloc,
             host,

@@ -2,6 +2,7 @@
 use Rattle.std.proofs.Common.{◌≡◌, ℕ, zero, suc, ◌+◌, ◌<◌, ◌≤◌, List, [], ◌++◌, length, slice_index, Option, Some, None, Result, Ok, Err, refl, sym, ◌∙◌, ap, arith, append_assoc, append-nil}
 use Rattle.std.proofs.lemmas.List.{get_or_past}
 use Rattle.base_types.specs.declared.shapes.Shape.{Shape}
+use Rattle.field_codec.specs.declared.formats.Format.{Format}
 use Rattle.field_codec.specs.declared.faults.CodecFault.{CodecFault}
 use Rattle.field_codec.specs.declared.units.Numbers.TheVariants.{Logged}
 use Rattle.gate_block.specs.Blocks.{BehindGate, shut, bad, whole, found_at}
@@ -19,11 +20,11 @@ Records = List CommitRecord
 past_shut : (file : List ℕ) (gate : ℕ) → length file ≤ gate → found_at gate file ≡ shut
 past_shut file gate past = closed_shut gate file (λ is. let none : slice_index file gate ≡ 0 = get_or_past file gate 0 past in let no : 0 ≡ 1 = sym none ∙ is in absurd cc)
 
-module _ (shape : Shape) (file : List ℕ) where
+module _ (format : Format) (shape : Shape) (file : List ℕ) where
   -- what is left from a gate on, by what was found there
   abbrev from_found : ℕ → ℕ → BehindGate → Result Records ℕ
   from_found m gate found =
-      records_behind shape gate (then_bodies (λ size. bodies_from m (gate + 5 + size) file) found)
+      records_behind format shape gate (then_bodies (λ size. bodies_from m (gate + 5 + size) file) found)
       (no_more (then_gate gate (λ size. gate_from m (gate + 5 + size) file) found) (found_at (then_gate gate (λ size. gate_from m (gate + 5 + size) file) found) file))
 
   abbrev gate_found : ℕ → ℕ → BehindGate → ℕ
@@ -57,55 +58,55 @@ and_with at (Ok records) more (Err place) e = refl
 and_with at (Err fault) more later e = absurd cc
 
 -- where there are no records more, no block counts
-pub none_shut : (shape : Shape) (gate : ℕ) (found : BehindGate) → next_of shape gate found ≡ Ok None → found ≡ shut
-none_shut shape gate shut e = refl
-none_shut shape gate bad e = absurd cc
-none_shut shape gate (whole body) e = gate_none gate (length body) (body_in Logged shape body) e
+pub none_shut : (format : Format) (shape : Shape) (gate : ℕ) (found : BehindGate) → next_of format shape gate found ≡ Ok None → found ≡ shut
+none_shut format shape gate shut e = refl
+none_shut format shape gate bad e = absurd cc
+none_shut format shape gate (whole body) e = gate_none gate (length body) (body_in format Logged shape body) e
 
 -- ---- one step
 
-module _ (shape : Shape) (file : List ℕ) where
-  further_by : (m gate : ℕ) (found : BehindGate) → found_at gate file ≡ found → (more : Records) (next : ℕ) → next_of shape gate found ≡ Ok (Some (more, next))
-      → (records_from shape (suc m) gate file ≡ with_records more (records_from shape m next file)) × (gate_from (suc m) gate file ≡ gate_from m next file) × (gate + 5 ≤ next)
+module _ (format : Format) (shape : Shape) (file : List ℕ) where
+  further_by : (m gate : ℕ) (found : BehindGate) → found_at gate file ≡ found → (more : Records) (next : ℕ) → next_of format shape gate found ≡ Ok (Some (more, next))
+      → (records_from format shape (suc m) gate file ≡ with_records more (records_from format shape m next file)) × (gate_from (suc m) gate file ≡ gate_from m next file) × (gate + 5 ≤ next)
   further_by m gate shut is more next e = absurd cc
   further_by m gate bad is more next e = absurd cc
   further_by m gate (whole body) is more next e =
-      let t = gate_ok gate (length body) (body_in Logged shape body) more next e in
-      let one : records_from shape (suc m) gate file ≡ and_records (gate + 5) (body_in Logged shape body) (records_from shape m (gate + 5 + length body) file) = ap (from_found shape file m gate) is in
-      let two : and_records (gate + 5) (body_in Logged shape body) (records_from shape m (gate + 5 + length body) file) ≡ with_records more (records_from shape m (gate + 5 + length body) file) = and_with (gate + 5) (body_in Logged shape body) more _ t.0 in
-      let gates : gate_from (suc m) gate file ≡ gate_from m (gate + 5 + length body) file = ap (gate_found shape file m gate) is in (
-        one ∙ two ∙ ap (λ (n : ℕ). with_records more (records_from shape m n file)) (sym t.1),
+      let t = gate_ok gate (length body) (body_in format Logged shape body) more next e in
+      let one : records_from format shape (suc m) gate file ≡ and_records (gate + 5) (body_in format Logged shape body) (records_from format shape m (gate + 5 + length body) file) = ap (from_found format shape file m gate) is in
+      let two : and_records (gate + 5) (body_in format Logged shape body) (records_from format shape m (gate + 5 + length body) file) ≡ with_records more (records_from format shape m (gate + 5 + length body) file) = and_with (gate + 5) (body_in format Logged shape body) more _ t.0 in
+      let gates : gate_from (suc m) gate file ≡ gate_from m (gate + 5 + length body) file = ap (gate_found format shape file m gate) is in (
+        one ∙ two ∙ ap (λ (n : ℕ). with_records more (records_from format shape m n file)) (sym t.1),
         gates ∙ ap (λ (n : ℕ). gate_from m n file) (sym t.1),
         omega (arith, t.1),
       )
 
-  end_by : (m gate : ℕ) (found : BehindGate) → found_at gate file ≡ found → next_of shape gate found ≡ Ok None → (records_from shape (suc m) gate file ≡ Ok []) × (gate_from (suc m) gate file ≡ gate)
+  end_by : (m gate : ℕ) (found : BehindGate) → found_at gate file ≡ found → next_of format shape gate found ≡ Ok None → (records_from format shape (suc m) gate file ≡ Ok []) × (gate_from (suc m) gate file ≡ gate)
   end_by m gate shut is e =
-      let one : records_from shape (suc m) gate file ≡ no_more gate (found_at gate file) = ap (from_found shape file m gate) is in
-      (one ∙ ap (no_more gate) is, ap (gate_found shape file m gate) is)
+      let one : records_from format shape (suc m) gate file ≡ no_more gate (found_at gate file) = ap (from_found format shape file m gate) is in
+      (one ∙ ap (no_more gate) is, ap (gate_found format shape file m gate) is)
   end_by m gate bad is e = absurd cc
-  end_by m gate (whole body) is e = gate_none gate (length body) (body_in Logged shape body) e
+  end_by m gate (whole body) is e = gate_none gate (length body) (body_in format Logged shape body) e
 
-  break_by : (m gate : ℕ) (found : BehindGate) → found_at gate file ≡ found → (place : ℕ) → next_of shape gate found ≡ Err place → records_from shape (suc m) gate file ≡ Err place
+  break_by : (m gate : ℕ) (found : BehindGate) → found_at gate file ≡ found → (place : ℕ) → next_of format shape gate found ≡ Err place → records_from format shape (suc m) gate file ≡ Err place
   break_by m gate shut is place e = absurd cc
   break_by m gate bad is place e =
-      let one : records_from shape (suc m) gate file ≡ no_more gate (found_at gate file) = ap (from_found shape file m gate) is in
+      let one : records_from format shape (suc m) gate file ≡ no_more gate (found_at gate file) = ap (from_found format shape file m gate) is in
       one ∙ ap (no_more gate) is ∙ cc
   break_by m gate (whole body) is place e =
-      let one : records_from shape (suc m) gate file ≡ and_records (gate + 5) (body_in Logged shape body) (records_from shape m (gate + 5 + length body) file) = ap (from_found shape file m gate) is in
-      one ∙ gate_err gate (length body) (body_in Logged shape body) place _ e
+      let one : records_from format shape (suc m) gate file ≡ and_records (gate + 5) (body_in format Logged shape body) (records_from format shape m (gate + 5 + length body) file) = ap (from_found format shape file m gate) is in
+      one ∙ gate_err gate (length body) (body_in format Logged shape body) place _ e
 
   -- at a file's end there is nothing more
-  nothing : (gate : ℕ) → length file < gate + zero → next_in shape gate file ≡ Ok None
-  nothing gate past = ap (next_of shape gate) (past_shut file gate (omega (arith, past)))
+  nothing : (gate : ℕ) → length file < gate + zero → next_in format shape gate file ≡ Ok None
+  nothing gate past = ap (next_of format shape gate) (past_shut file gate (omega (arith, past)))
 
 -- ---- the loop
 
 -- The records that were read, and those from the gate on, are the file's; and the log ends where it does from that gate on.
-pub record Follows (shape : Shape) (file : List ℕ) (records : List CommitRecord) (gate : ℕ) : Type 0 where
+pub record Follows (format : Format) (shape : Shape) (file : List ℕ) (records : List CommitRecord) (gate : ℕ) : Type 0 where
   pub fuel : ℕ
   pub enough : length file < gate + fuel
-  pub rest : with_records records (records_from shape fuel gate file) ≡ records_in_file shape file
+  pub rest : with_records records (records_from format shape fuel gate file) ≡ records_in_file format shape file
   pub last : gate_from fuel gate file ≡ gate_of file
 
 none_more : (r : Result Records ℕ) → with_records [] r ≡ r
@@ -117,43 +118,43 @@ twice a b (Ok records) = ap Ok (sym (append_assoc a b records))
 twice a b (Err place) = refl
 
 -- behind a header that isn't damaged nothing is read yet
-pub follows_begins : (shape : Shape) (file : List ℕ) → header_damage file ≡ None → Follows shape file [] first_gate
-follows_begins shape file clean =
-    let all : Result Records ℕ = records_from shape (length file) first_gate file in
+pub follows_begins : (format : Format) (shape : Shape) (file : List ℕ) → header_damage file ≡ None → Follows format shape file [] first_gate
+follows_begins format shape file clean =
+    let all : Result Records ℕ = records_from format shape (length file) first_gate file in
     record { fuel = length file; enough = omega arith; rest = none_more all ∙ sym (ap (λ (d : Option ℕ). behind_header d all) clean); last = refl }
 
-module _ (shape : Shape) (file : List ℕ) (records : List CommitRecord) (gate : ℕ) where
-  on_by : (fuel : ℕ) → length file < gate + fuel → with_records records (records_from shape fuel gate file) ≡ records_in_file shape file → gate_from fuel gate file ≡ gate_of file
-      → (more : Records) (next : ℕ) → next_in shape gate file ≡ Ok (Some (more, next)) → Follows shape file (records ++ more) next
-  on_by zero enough rest last more next e = let none = nothing shape file gate enough in absurd cc
+module _ (format : Format) (shape : Shape) (file : List ℕ) (records : List CommitRecord) (gate : ℕ) where
+  on_by : (fuel : ℕ) → length file < gate + fuel → with_records records (records_from format shape fuel gate file) ≡ records_in_file format shape file → gate_from fuel gate file ≡ gate_of file
+      → (more : Records) (next : ℕ) → next_in format shape gate file ≡ Ok (Some (more, next)) → Follows format shape file (records ++ more) next
+  on_by zero enough rest last more next e = let none = nothing format shape file gate enough in absurd cc
   on_by (suc m) enough rest last more next e =
-      let t = further_by shape file m gate (found_at gate file) refl more next e in record {
+      let t = further_by format shape file m gate (found_at gate file) refl more next e in record {
         fuel = m;
         enough = omega (arith, enough, t.2);
-        rest = sym (twice records more (records_from shape m next file)) ∙ ap (with_records records) (sym t.0) ∙ rest;
+        rest = sym (twice records more (records_from format shape m next file)) ∙ ap (with_records records) (sym t.0) ∙ rest;
         last = sym t.1 ∙ last;
       }
 
-  pub follows_on : Follows shape file records gate → (more : Records) (next : ℕ) → next_in shape gate file ≡ Ok (Some (more, next)) → Follows shape file (records ++ more) next
+  pub follows_on : Follows format shape file records gate → (more : Records) (next : ℕ) → next_in format shape gate file ≡ Ok (Some (more, next)) → Follows format shape file (records ++ more) next
   follows_on f more next e = on_by f.fuel f.enough f.rest f.last more next e
 
-  ends_by : (fuel : ℕ) → length file < gate + fuel → with_records records (records_from shape fuel gate file) ≡ records_in_file shape file → gate_from fuel gate file ≡ gate_of file
-      → next_in shape gate file ≡ Ok None → (records_in_file shape file ≡ Ok records) × (gate_of file ≡ gate)
+  ends_by : (fuel : ℕ) → length file < gate + fuel → with_records records (records_from format shape fuel gate file) ≡ records_in_file format shape file → gate_from fuel gate file ≡ gate_of file
+      → next_in format shape gate file ≡ Ok None → (records_in_file format shape file ≡ Ok records) × (gate_of file ≡ gate)
   ends_by zero enough rest last e =
       let past : found_at gate file ≡ shut = past_shut file gate (omega (arith, enough)) in
-      let none : records_from shape zero gate file ≡ Ok [] = ap (no_more gate) past in
+      let none : records_from format shape zero gate file ≡ Ok [] = ap (no_more gate) past in
       (sym rest ∙ ap (with_records records) none ∙ ap Ok (append-nil records), sym last)
   ends_by (suc m) enough rest last e =
-      let t = end_by shape file m gate (found_at gate file) refl e in
+      let t = end_by format shape file m gate (found_at gate file) refl e in
       (sym rest ∙ ap (with_records records) t.0 ∙ ap Ok (append-nil records), sym last ∙ t.1)
 
-  pub follows_ends : Follows shape file records gate → next_in shape gate file ≡ Ok None → (records_in_file shape file ≡ Ok records) × (gate_of file ≡ gate)
+  pub follows_ends : Follows format shape file records gate → next_in format shape gate file ≡ Ok None → (records_in_file format shape file ≡ Ok records) × (gate_of file ≡ gate)
   follows_ends f e = ends_by f.fuel f.enough f.rest f.last e
 
-  breaks_by : (fuel : ℕ) → length file < gate + fuel → with_records records (records_from shape fuel gate file) ≡ records_in_file shape file
-      → (place : ℕ) → next_in shape gate file ≡ Err place → records_in_file shape file ≡ Err place
-  breaks_by zero enough rest place e = let none = nothing shape file gate enough in absurd cc
-  breaks_by (suc m) enough rest place e = sym rest ∙ ap (with_records records) (break_by shape file m gate (found_at gate file) refl place e)
+  breaks_by : (fuel : ℕ) → length file < gate + fuel → with_records records (records_from format shape fuel gate file) ≡ records_in_file format shape file
+      → (place : ℕ) → next_in format shape gate file ≡ Err place → records_in_file format shape file ≡ Err place
+  breaks_by zero enough rest place e = let none = nothing format shape file gate enough in absurd cc
+  breaks_by (suc m) enough rest place e = sym rest ∙ ap (with_records records) (break_by format shape file m gate (found_at gate file) refl place e)
 
-  pub follows_breaks : Follows shape file records gate → (place : ℕ) → next_in shape gate file ≡ Err place → records_in_file shape file ≡ Err place
+  pub follows_breaks : Follows format shape file records gate → (place : ℕ) → next_in format shape gate file ≡ Err place → records_in_file format shape file ≡ Err place
   follows_breaks f place e = breaks_by f.fuel f.enough f.rest place e

@@ -8,6 +8,7 @@ use Rattle.base_types.specs.declared.stores.Version.{Version}
 use Rattle.host_trait.specs.declared.channels.FileId.{FileId}
 use Rattle.host_trait.specs.declared.channels.FileId.TheVariants.{Grain}
 use Rattle.host_trait.specs.World.{Image}
+use Rattle.field_codec.specs.declared.formats.Format.{Format}
 use Rattle.commit_log.specs.declared.records.Named.{Named}
 use Rattle.host_trait.specs.Files.{same_grain}
 use Rattle.log_reading.specs.Versions.{version_named, missing_or, first_missing, state_of}
@@ -15,61 +16,61 @@ use Rattle.log_reading.specs.Sums.{state_after, end_after, greater_end, StopsAt}
 
 -- ---- one after the other
 
-module _ (live : ℕ) (shape : Shape) (image : Image) where
+module _ (live : ℕ) (format : Format) (shape : Shape) (image : Image) where
   abbrev missing_at : GrainId → Option (FileId × ℕ) → Result Version ℕ → Option (FileId × ℕ)
   missing_at grain later r = missing_or live grain r later
 
-  pub missing_step : (x : Named) (rest : List Named) (v : Version) → version_named live shape image x ≡ Ok v → first_missing live shape image (x ∷ rest) ≡ first_missing live shape image rest
-  missing_step x rest v e = ap (missing_at x.written.grain (first_missing live shape image rest)) e
+  pub missing_step : (x : Named) (rest : List Named) (v : Version) → version_named live format shape image x ≡ Ok v → first_missing live format shape image (x ∷ rest) ≡ first_missing live format shape image rest
+  missing_step x rest v e = ap (missing_at x.written.grain (first_missing live format shape image rest)) e
 
-  pub missing_here : (x : Named) (rest : List Named) (place : ℕ) → version_named live shape image x ≡ Err place → first_missing live shape image (x ∷ rest) ≡ Some (Grain live x.written.grain, place)
-  missing_here x rest place e = ap (missing_at x.written.grain (first_missing live shape image rest)) e
+  pub missing_here : (x : Named) (rest : List Named) (place : ℕ) → version_named live format shape image x ≡ Err place → first_missing live format shape image (x ∷ rest) ≡ Some (Grain live x.written.grain, place)
+  missing_here x rest place e = ap (missing_at x.written.grain (first_missing live format shape image rest)) e
 
   none_by : (grain : GrainId) (r : Result Version ℕ) (a b all : Option (FileId × ℕ)) → missing_or live grain r a ≡ None → (a ≡ None → b ≡ all) → missing_or live grain r b ≡ all
   none_by grain (Ok v) a b all none on = on none
   none_by grain (Err place) a b all none on = absurd cc
 
   -- where nothing is missing in the front, the first that is missing is behind it
-  pub none_missing : (front back : List Named) → first_missing live shape image front ≡ None → first_missing live shape image (front ++ back) ≡ first_missing live shape image back
+  pub none_missing : (front back : List Named) → first_missing live format shape image front ≡ None → first_missing live format shape image (front ++ back) ≡ first_missing live format shape image back
   none_missing [] back none = refl
   none_missing (x ∷ front) back none =
-      none_by x.written.grain (version_named live shape image x) (first_missing live shape image front) (first_missing live shape image (front ++ back)) (first_missing live shape image back) none (λ also. none_missing front back also)
+      none_by x.written.grain (version_named live format shape image x) (first_missing live format shape image front) (first_missing live format shape image (front ++ back)) (first_missing live format shape image back) none (λ also. none_missing front back also)
 
   -- those that were read are there, and these are left
   pub record Passed (named rest : List Named) : Type 0 where
     pub gone : List Named
     pub split : named ≡ gone ++ rest
-    pub whole : first_missing live shape image gone ≡ None
+    pub whole : first_missing live format shape image gone ≡ None
 
   pub passed_none : (named : List Named) → Passed named named
   passed_none named = record { gone = []; split = refl; whole = refl }
 
-  pub passed_more : (named items : List Named) → Passed named items → (x : Named) (rest : List Named) → items ≡ x ∷ rest → (v : Version) → version_named live shape image x ≡ Ok v → Passed named rest
+  pub passed_more : (named items : List Named) → Passed named items → (x : Named) (rest : List Named) → items ≡ x ∷ rest → (v : Version) → version_named live format shape image x ≡ Ok v → Passed named rest
   passed_more named items p x rest are v e = record {
     gone = p.gone ++ x ∷ [];
     split = p.split ∙ ap (λ (l : List Named). p.gone ++ l) are ∙ sym (append_assoc p.gone (x ∷ []) rest);
     whole = none_missing p.gone (x ∷ []) p.whole ∙ missing_step x [] v e;
   }
 
-  pub passed_all : (named items : List Named) → Passed named items → items ≡ [] → first_missing live shape image named ≡ None
-  passed_all named items p are = ap (first_missing live shape image) p.split ∙ none_missing p.gone items p.whole ∙ ap (first_missing live shape image) are
+  pub passed_all : (named items : List Named) → Passed named items → items ≡ [] → first_missing live format shape image named ≡ None
+  passed_all named items p are = ap (first_missing live format shape image) p.split ∙ none_missing p.gone items p.whole ∙ ap (first_missing live format shape image) are
 
-  pub passed_here : (named items : List Named) → Passed named items → (x : Named) (rest : List Named) → items ≡ x ∷ rest → (place : ℕ) → version_named live shape image x ≡ Err place
-      → first_missing live shape image named ≡ Some (Grain live x.written.grain, place)
-  passed_here named items p x rest are place e = ap (first_missing live shape image) p.split ∙ none_missing p.gone items p.whole ∙ ap (first_missing live shape image) are ∙ missing_here x rest place e
+  pub passed_here : (named items : List Named) → Passed named items → (x : Named) (rest : List Named) → items ≡ x ∷ rest → (place : ℕ) → version_named live format shape image x ≡ Err place
+      → first_missing live format shape image named ≡ Some (Grain live x.written.grain, place)
+  passed_here named items p x rest are place e = ap (first_missing live format shape image) p.split ∙ none_missing p.gone items p.whole ∙ ap (first_missing live format shape image) are ∙ missing_here x rest place e
 
-  pub stops_here : (named items : List Named) → Passed named items → (x : Named) (rest : List Named) → items ≡ x ∷ rest → (file : FileId) → file ≡ Grain live x.written.grain → StopsAt live shape image named file
+  pub stops_here : (named items : List Named) → Passed named items → (x : Named) (rest : List Named) → items ≡ x ∷ rest → (file : FileId) → file ≡ Grain live x.written.grain → StopsAt live format shape image named file
   stops_here named items p x rest are file is = record { front = p.gone; here = x; back = rest; are = p.split ∙ ap (λ (l : List Named). p.gone ++ l) are; whole = p.whole; is = is }
 
-  pub state_more : (x : Named) (rest items : List Named) (g : GrainId) (v : Version) (old new all : Option (List Value)) → items ≡ x ∷ rest → version_named live shape image x ≡ Ok v
-      → new ≡ (if same_grain x.written.grain g then Some v.state else old) → state_after live shape image old items g ≡ all → state_after live shape image new rest g ≡ all
+  pub state_more : (x : Named) (rest items : List Named) (g : GrainId) (v : Version) (old new all : Option (List Value)) → items ≡ x ∷ rest → version_named live format shape image x ≡ Ok v
+      → new ≡ (if same_grain x.written.grain g then Some v.state else old) → state_after live format shape image old items g ≡ all → state_after live format shape image new rest g ≡ all
   state_more x rest items g v old new all are found is so_far =
-      ap (λ (s : Option (List Value)). state_after live shape image s rest g) is
-      ∙ ap (λ (r : Result Version ℕ). state_after live shape image (if same_grain x.written.grain g then Some (state_of r) else old) rest g) (sym found)
-      ∙ ap (λ (l : List Named). state_after live shape image old l g) (sym are) ∙ so_far
+      ap (λ (s : Option (List Value)). state_after live format shape image s rest g) is
+      ∙ ap (λ (r : Result Version ℕ). state_after live format shape image (if same_grain x.written.grain g then Some (state_of r) else old) rest g) (sym found)
+      ∙ ap (λ (l : List Named). state_after live format shape image old l g) (sym are) ∙ so_far
 
-  pub state_all : (items : List Named) (g : GrainId) (old all : Option (List Value)) → items ≡ [] → state_after live shape image old items g ≡ all → old ≡ all
-  state_all items g old all are so_far = ap (λ (l : List Named). state_after live shape image old l g) (sym are) ∙ so_far
+  pub state_all : (items : List Named) (g : GrainId) (old all : Option (List Value)) → items ≡ [] → state_after live format shape image old items g ≡ all → old ≡ all
+  state_all items g old all are so_far = ap (λ (l : List Named). state_after live format shape image old l g) (sym are) ∙ so_far
 
 pub end_more : (x : Named) (rest items : List Named) (g : GrainId) (old new all : Option ℕ) → items ≡ x ∷ rest
     → new ≡ (if same_grain x.written.grain g then greater_end old (x.written.place.offset + x.written.place.len) else old) → end_after old items g ≡ all → end_after new rest g ≡ all

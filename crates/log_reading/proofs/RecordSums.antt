@@ -6,6 +6,7 @@ use Rattle.std.proofs.lemmas.List.Sums.{fold-append}
 use Rattle.std.proofs.lemmas.Grind.{flat_map-append}
 use Rattle.std.proofs.lemmas.Bool.{and_parts, ltb-true}
 use Rattle.base_types.specs.declared.shapes.Shape.{Shape}
+use Rattle.field_codec.specs.declared.formats.Format.{Format}
 use Rattle.field_codec.specs.declared.units.Numbers.TheVariants.{Logged}
 use Rattle.field_codec.proofs.Counts.{wide64}
 use Rattle.commit_log.specs.declared.records.CommitRecord.{CommitRecord}
@@ -33,8 +34,8 @@ weaker_all P Q on [] all = tt
 weaker_all P Q on (x ∷ xs) all = (on x all.0, weaker_all P Q on xs all.1)
 
 -- a record's unit has a number below 2 to the 63
-pub low_unit : (shape : Shape) (r : CommitRecord) → IsRecordIn Logged shape r → r.unit.0 < 2 ^ 63
-low_unit shape r is = ltb-true r.unit.0 9223372036854775808 (and_parts _ _ is.units.unit).1
+pub low_unit : (format : Format) (shape : Shape) (r : CommitRecord) → IsRecordIn format Logged shape r → r.unit.0 < 2 ^ 63
+low_unit format shape r is = ltb-true r.unit.0 9223372036854775808 (and_parts _ _ is.units.unit).1
 
 pub low_next : (next : ℕ) (rs : List CommitRecord) → next ≤ 2 ^ 63 → AllByRecursion (λ r. r.unit.0 < 2 ^ 63) rs → next_after next rs ≤ 2 ^ 63
 low_next next [] low all = low

@@ -1,6 +1,7 @@
 -- The records of a manager file, block by block behind its header, or the first place that is damaged.
 use Rattle.std.specs.Prelude.{ℕ, ◌+◌, ◌==◌, if◌then◌else◌, List, [], ◌∷◌, ◌++◌, length, slice_index, Option, Some, None, Result, Ok, Err}
 use Rattle.base_types.specs.declared.shapes.Shape.{Shape}
+use Rattle.field_codec.specs.declared.formats.Format.{Format}
 use Rattle.field_codec.specs.declared.faults.CodecFault.{CodecFault}
 use Rattle.field_codec.specs.declared.units.Numbers.TheVariants.{Logged}
 use Rattle.field_codec.specs.Results.{place_of}
@@ -31,12 +32,12 @@ no_more gate bad = Err (gate + 1)
 no_more gate (whole body) = Ok []
 
 -- the records of these bodies, of which the first stands behind this gate, and then of what ends them
-abbrev pub records_behind : Shape → ℕ → List (List ℕ) → Result (List CommitRecord) ℕ → Result (List CommitRecord) ℕ
-records_behind shape gate [] end = end
-records_behind shape gate (body ∷ bodies) end =
-    and_records (gate + 5) (body_in Logged shape body) (records_behind shape (gate + 5 + length body) bodies end)
+abbrev pub records_behind : Format → Shape → ℕ → List (List ℕ) → Result (List CommitRecord) ℕ → Result (List CommitRecord) ℕ
+records_behind format shape gate [] end = end
+records_behind format shape gate (body ∷ bodies) end =
+    and_records (gate + 5) (body_in format Logged shape body) (records_behind format shape (gate + 5 + length body) bodies end)
 
 -- the records of a manager file, or the first place that is damaged
-abbrev pub records_in_file : Shape → List ℕ → Result (List CommitRecord) ℕ
-records_in_file shape file =
-    behind_header (header_damage file) (records_behind shape first_gate (bodies_of file) (no_more (gate_of file) (found_at (gate_of file) file)))
+abbrev pub records_in_file : Format → Shape → List ℕ → Result (List CommitRecord) ℕ
+records_in_file format shape file =
+    behind_header (header_damage file) (records_behind format shape first_gate (bodies_of file) (no_more (gate_of file) (found_at (gate_of file) file)))

@@ -6,6 +6,7 @@ use Rattle.base_types.specs.Stores.{state_in, end_in}
 use Rattle.host_trait.specs.declared.channels.FileId.{FileId}
 use Rattle.host_trait.specs.declared.channels.FileId.TheVariants.{Manager}
 use Rattle.host_trait.specs.World.{Image}
+use Rattle.field_codec.specs.declared.formats.Format.{Format}
 use Rattle.gate_block.specs.Blocks.{shut, found_at}
 use Rattle.gate_block.specs.Log.{gate_of}
 use Rattle.commit_log.specs.declared.records.CommitRecord.{CommitRecord}
@@ -18,29 +19,29 @@ use Rattle.log_reading.specs.Sums.{next_after, state_after, end_after, StopsAt}
 -- The live manager file has these records, and each version that they name is there. Of them is kept how many they are, the number of
 -- the next unit, the state of each grain that they wrote, the greatest end in its file, and the gate at which the log
 -- ends, behind which no block counts.
-pub record HasContents (live : ℕ) (shape : Shape) (image : Image) (kept : Contents) : Type 0 where
+pub record HasContents (live : ℕ) (format : Format) (shape : Shape) (image : Image) (kept : Contents) : Type 0 where
   pub records : List CommitRecord
-  pub read : records_in_file shape (image (Manager live)) ≡ Ok records
-  pub whole : first_missing live shape image (named_by_grain (named_by records)) ≡ None
+  pub read : records_in_file format shape (image (Manager live)) ≡ Ok records
+  pub whole : first_missing live format shape image (named_by_grain (named_by records)) ≡ None
   pub count : kept.count ≡ length records
   pub next : kept.next_unit.0 ≡ next_after 1 records
-  pub states : (grain : GrainId) → state_in kept.store grain ≡ state_after live shape image None (named_by_grain (named_by records)) grain
+  pub states : (grain : GrainId) → state_in kept.store grain ≡ state_after live format shape image None (named_by_grain (named_by records)) grain
   pub ends : (grain : GrainId) → end_in kept.ends grain ≡ end_after None (named_by_grain (named_by records)) grain
   pub gate : gate_of (image (Manager live)) ≡ kept.gate_at
   pub closed : found_at kept.gate_at (image (Manager live)) ≡ shut
 
 -- The live manager file is damaged there first; or it has records, and the first version that isn't there is there.
-abbrev pub IsDamagedAt : ℕ → Shape → Image → FileId → ℕ → Type 0
-IsDamagedAt live shape image file place = ((file ≡ Manager live) × (records_in_file shape (image (Manager live)) ≡ Err place))
-    ⊎ ((records : List CommitRecord) × (records_in_file shape (image (Manager live)) ≡ Ok records) × (first_missing live shape image (named_by_grain (named_by records)) ≡ Some (file, place)))
+abbrev pub IsDamagedAt : ℕ → Format → Shape → Image → FileId → ℕ → Type 0
+IsDamagedAt live format shape image file place = ((file ≡ Manager live) × (records_in_file format shape (image (Manager live)) ≡ Err place))
+    ⊎ ((records : List CommitRecord) × (records_in_file format shape (image (Manager live)) ≡ Ok records) × (first_missing live format shape image (named_by_grain (named_by records)) ≡ Some (file, place)))
 
 -- It is the live manager file; or that of a grain, and all versions before the one that was read are there.
-abbrev pub IsStoppedAt : ℕ → Shape → Image → FileId → Type 0
-IsStoppedAt live shape image file = (file ≡ Manager live)
-    ⊎ ((records : List CommitRecord) × (records_in_file shape (image (Manager live)) ≡ Ok records) × StopsAt live shape image (named_by_grain (named_by records)) file)
+abbrev pub IsStoppedAt : ℕ → Format → Shape → Image → FileId → Type 0
+IsStoppedAt live format shape image file = (file ≡ Manager live)
+    ⊎ ((records : List CommitRecord) × (records_in_file format shape (image (Manager live)) ≡ Ok records) × StopsAt live format shape image (named_by_grain (named_by records)) file)
 
--- what a fault says of the folder, under the program's shape
-abbrev pub IsUnread : ℕ → Shape → Image → FolderFault → Type 0
-IsUnread live shape image (FolderFault.Damaged file place) = IsDamagedAt live shape image file place
-IsUnread live shape image (FolderFault.Failed file) = IsStoppedAt live shape image file
-IsUnread live shape image FolderFault.Memory = ⊤
+-- what a fault says of the folder, in a format and under the program's shape
+abbrev pub IsUnread : ℕ → Format → Shape → Image → FolderFault → Type 0
+IsUnread live format shape image (FolderFault.Damaged file place) = IsDamagedAt live format shape image file place
+IsUnread live format shape image (FolderFault.Failed file) = IsStoppedAt live format shape image file
+IsUnread live format shape image FolderFault.Memory = ⊤

@@ -9,6 +9,7 @@ use Rattle.base_types.specs.Stores.{end_in}
 use Rattle.host_trait.specs.World.{Image}
 use Rattle.host_trait.specs.declared.channels.FileId.{FileId}
 use Rattle.host_trait.specs.declared.channels.FileId.TheVariants.{Grain}
+use Rattle.field_codec.specs.declared.formats.Format.{Format}
 use Rattle.field_codec.specs.declared.units.Numbers.TheVariants.{Logged}
 use Rattle.gate_block.specs.Blocks.{shut, found_at}
 use Rattle.gate_block.specs.Log.{gate_of}
@@ -26,21 +27,21 @@ next_after next records = fold (λ n r. max n (r.unit.0 + 1)) next records
 
 -- What is kept of a log is that of records within the program, and where the file is told they are the file's and end at
 -- the log's gate, behind which no block counts.
-pub record IsReadAs (tells : Bool) (shape : Shape) (file : List ℕ) (l : ReadLog) : Type 0 where
+pub record IsReadAs (tells : Bool) (format : Format) (shape : Shape) (file : List ℕ) (l : ReadLog) : Type 0 where
   pub records : List CommitRecord
   pub count : l.count ≡ length records
   pub next : l.next_unit.0 ≡ next_after 1 records
   pub named : l.named ≡ named_by records
-  pub fit : AllByRecursion (IsRecordIn Logged shape) records
-  pub read : IsTrue tells → records_in_file shape file ≡ Ok records
+  pub fit : AllByRecursion (IsRecordIn format Logged shape) records
+  pub read : IsTrue tells → records_in_file format shape file ≡ Ok records
   pub gate : IsTrue tells → gate_of file ≡ l.gate_at
   pub closed : IsTrue tells → found_at l.gate_at file ≡ shut
 
 -- a grain's state after these versions, from one of before
-abbrev pub state_after : ℕ → Shape → Image → Option (List Value) → List Named → GrainId → Option (List Value)
-state_after live shape image state [] grain = state
-state_after live shape image state (n ∷ named) grain =
-    state_after live shape image (if same_grain n.written.grain grain then Some (state_of (version_named live shape image n)) else state) named grain
+abbrev pub state_after : ℕ → Format → Shape → Image → Option (List Value) → List Named → GrainId → Option (List Value)
+state_after live format shape image state [] grain = state
+state_after live format shape image state (n ∷ named) grain =
+    state_after live format shape image (if same_grain n.written.grain grain then Some (state_of (version_named live format shape image n)) else state) named grain
 
 -- the greater of an end and one that may be missing
 abbrev pub greater_end : Option ℕ → ℕ → Option ℕ
@@ -58,10 +59,10 @@ abbrev pub AreNear : Ends → Type 0
 AreNear ends = (grain : GrainId) → unwrap_or (end_in ends grain) 0 < 2 ^ 63
 
 -- A version couldn't be read for a fault of its grain's file, and all before it are there.
-pub record StopsAt (live : ℕ) (shape : Shape) (image : Image) (named : List Named) (file : FileId) : Type 0 where
+pub record StopsAt (live : ℕ) (format : Format) (shape : Shape) (image : Image) (named : List Named) (file : FileId) : Type 0 where
   pub front : List Named
   pub here : Named
   pub back : List Named
   pub are : named ≡ front ++ (here ∷ back)
-  pub whole : first_missing live shape image front ≡ None
+  pub whole : first_missing live format shape image front ≡ None
   pub is : file ≡ Grain live here.written.grain

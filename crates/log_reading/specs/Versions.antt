@@ -10,6 +10,7 @@ use Rattle.host_trait.specs.declared.channels.FileId.TheVariants.{Grain}
 use Rattle.host_trait.specs.Files.{same_grain}
 pub use Rattle.base_types.specs.Grains.{is_before}
 use Rattle.host_trait.specs.World.{Image}
+use Rattle.field_codec.specs.declared.formats.Format.{Format}
 use Rattle.grain_log.specs.Reads.{fields_of, owned_version}
 use Rattle.commit_log.specs.declared.records.CommitRecord.{CommitRecord}
 use Rattle.commit_log.specs.declared.records.Named.{Named}
@@ -34,9 +35,9 @@ named_by_grain named =
     flat_map (λ g. filter (λ (n : Named). same_grain n.written.grain g) named) (ascending (map (λ n. n.written.grain) named))
 
 -- the version that is named, or where its file is damaged: it is the unit's, and has its type's fields
-abbrev pub version_named : ℕ → Shape → Image → Named → Result Version ℕ
-version_named live shape image n =
-    owned_version (fields_of (slice_get shape.types n.written.grain.kind)) n.unit n.written.place (image (Grain live n.written.grain))
+abbrev pub version_named : ℕ → Format → Shape → Image → Named → Result Version ℕ
+version_named live format shape image n =
+    owned_version format (fields_of (slice_get shape.types n.written.grain.kind)) n.unit n.written.place (image (Grain live n.written.grain))
 
 -- the file and the place of a version that isn't there, else of a later one
 abbrev pub missing_or : ℕ → GrainId → Result Version ℕ → Option (FileId × ℕ) → Option (FileId × ℕ)
@@ -44,10 +45,10 @@ missing_or live grain (Ok version) later = later
 missing_or live grain (Err place) later = Some (Grain live grain, place)
 
 -- of the first of these versions that isn't there
-abbrev pub first_missing : ℕ → Shape → Image → List Named → Option (FileId × ℕ)
-first_missing live shape image [] = None
-first_missing live shape image (n ∷ named) =
-    missing_or live n.written.grain (version_named live shape image n) (first_missing live shape image named)
+abbrev pub first_missing : ℕ → Format → Shape → Image → List Named → Option (FileId × ℕ)
+first_missing live format shape image [] = None
+first_missing live format shape image (n ∷ named) =
+    missing_or live n.written.grain (version_named live format shape image n) (first_missing live format shape image named)
 
 -- a version's state
 abbrev pub state_of : Result Version ℕ → List Value

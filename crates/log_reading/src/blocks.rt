@@ -16,7 +16,7 @@ ghost use Rattle.log_reading.specs.Steps.{next_in, placed};
 use crate::faults::FolderFault;
 use base_types::{List, Shape};
 use commit_log::{CommitRecord, read_records};
-use field_codec::CodecFault;
+use field_codec::{CodecFault, Format};
 use gate_block::{BlockFault, read_block};
 use host_trait::{FileId, Host};
 use std::alloc::Global;
@@ -40,16 +40,17 @@ fn records_at(
     alloc: Global,
     slot: u8,
     shape: &Shape,
+    format: Format,
     start: u64,
     body: &[u8],
 ) -> Result<List<CommitRecord>, FolderFault>
     requires { start + length body.now < 2 ^ 63 }
-    ensures found { IfOk result (λ records. body_in Logged shape.now body.now ≡ Ok records) }
-    ensures body { IfOk result (λ records. IsBlockBody Logged shape.now records body.now) }
-    ensures damaged { (file : FileId) (place : ℕ) → IsErrOf result (FolderFault.Damaged file place) → (file ≡ Manager slot) × (placed start (body_in Logged shape.now body.now) ≡ Err place) }
+    ensures found { IfOk result (λ records. body_in format Logged shape.now body.now ≡ Ok records) }
+    ensures body { IfOk result (λ records. IsBlockBody format Logged shape.now records body.now) }
+    ensures damaged { (file : FileId) (place : ℕ) → IsErrOf result (FolderFault.Damaged file place) → (file ≡ Manager slot) × (placed start (body_in format Logged shape.now body.now) ≡ Err place) }
     ensures failed { (file : FileId) → IsErrOf result (FolderFault.Failed file) → ⊥ }
 {
-    match read_records(alloc, body, shape) {
+    match read_records(alloc, body, shape, format) {
         Ok(records) => Ok(records),
         Err(fault) => Err(in_file(slot, start, fault)),
     }
@@ -63,15 +64,16 @@ pub fn next_block<H: Host>(
     host: &mut H,
     slot: u8,
     shape: &Shape,
+    format: Format,
     gate_at: u64,
 ) -> Result<Option<(List<CommitRecord>, u64)>, FolderFault>
     requires slot { slot ≤ 1 }
     requires place { gate_at < 2 ^ 63 }
-    ensures found { IfOk result (λ found. IsTrue H.tells → next_in shape.now gate_at ((H.world host.old).disk (Manager slot)).seen ≡ Ok found) }
-    ensures fit { IfOk result (λ found. IfSome found (λ x. AllByRecursion (IsRecordIn Logged shape.now) x.0)) }
+    ensures found { IfOk result (λ found. IsTrue H.tells → next_in format shape.now gate_at ((H.world host.old).disk (Manager slot)).seen ≡ Ok found) }
+    ensures fit { IfOk result (λ found. IfSome found (λ x. AllByRecursion (IsRecordIn format Logged shape.now) x.0)) }
     ensures further { IfOk result (λ found. IfSome found (λ x. (gate_at + 5 + length x.0 ≤ x.1) × (x.1 < 2 ^ 63))) }
     ensures damaged { (file : FileId) (place : ℕ) → IsErrOf result (FolderFault.Damaged file place) → IsTrue H.tells
-        → next_in shape.now gate_at ((H.world host.old).disk (Manager slot)).seen ≡ Err place }
+        → next_in format shape.now gate_at ((H.world host.old).disk (Manager slot)).seen ≡ Err place }
     ensures file { (file : FileId) (place : ℕ) → IsErrOf result (FolderFault.Damaged file place) → file ≡ Manager slot }
     ensures failed { (file : FileId) → IsErrOf result (FolderFault.Failed file) → file ≡ Manager slot }
     ensures asked { IsTrue H.tells → OnlyAsked (H.world host.old) (H.world host.new) }
@@ -88,7 +90,7 @@ pub fn next_block<H: Host>(
         Err(BlockFault::Memory) => return Err(FolderFault::Memory),
     };
     let next = gate_at + 5 + body.len() as u64;
-    match records_at(alloc, slot, shape, gate_at + 5, body.as_slice()) {
+    match records_at(alloc, slot, shape, format, gate_at + 5, body.as_slice()) {
         Ok(records) => Ok(Some((records, next))),
         Err(fault) => Err(fault),
     }

@@ -11,6 +11,7 @@ use crate::faults::FolderFault;
 use crate::log::{read_log, sort_by_grain};
 use crate::versions::read_versions;
 use base_types::{Ends, Shape, Store, UnitNo};
+use field_codec::Format;
 use host_trait::Host;
 use std::alloc::{AllocError, Global};
 
@@ -25,25 +26,26 @@ pub struct Contents {
     pub ends: Ends,
 }
 
-/// Reads the log of a slot's files, block by block, and then each version that a record names, once, grain by grain and those of
-/// a grain in the log's order. `Damaged` names the first damage in this order.
+/// Reads the log of a slot's files, within the limits of a format: block by block, and then each version that a record names, once,
+/// grain by grain and those of a grain in the log's order. `Damaged` names the first damage in this order.
 pub fn read_contents<H: Host>(
     alloc: Global,
     host: &mut H,
     slot: u8,
     shape: &Shape,
+    format: Format,
 ) -> Result<Contents, FolderFault>
     requires slot { slot ≤ 1 }
-    ensures opened { IfOk result (λ o. IsTrue H.tells → HasContents slot shape.now (seen_in (H.world host.old).disk) o) }
+    ensures opened { IfOk result (λ o. IsTrue H.tells → HasContents slot format shape.now (seen_in (H.world host.old).disk) o) }
     ensures bound { IfOk result (λ o. (o.gate_at < 2 ^ 63) × ((0 < o.next_unit.0) × (o.next_unit.0 ≤ 2 ^ 63))) }
     ensures near { IfOk result (λ o. AreNear o.ends) }
-    ensures refused { IfErr result (λ e. IsTrue H.tells → IsUnread slot shape.now (seen_in (H.world host.old).disk) e) }
+    ensures refused { IfErr result (λ e. IsTrue H.tells → IsUnread slot format shape.now (seen_in (H.world host.old).disk) e) }
     ensures asked { IsTrue H.tells → OnlyAsked (H.world host.old) (H.world host.new) }
     ensures calm { OnOk result (NoneFailed (H.faults host.old) (H.faults host.new)) }
     ensures fault { IfErr result (λ e. ReadFaulted e (H.faults host.old) (H.faults host.new)) }
     ensures ready { StaysReady (H.is_ready host.old) (H.is_ready host.new) }
 {
-    let log = match read_log(alloc, host, slot, shape) {
+    let log = match read_log(alloc, host, slot, shape, format) {
         Ok(log) => log,
         Err(fault) => return Err(fault),
     };
@@ -59,6 +61,7 @@ pub fn read_contents<H: Host>(
         host,
         slot,
         shape,
+        format,
         named.as_slice(),
         &mut store,
         &mut ends,

@@ -18,6 +18,7 @@ use crate::faults::FolderFault;
 use crate::header::check_header;
 use base_types::{List, Shape, UnitNo};
 use commit_log::{CommitRecord, Named, Written};
+use field_codec::Format;
 use host_trait::Host;
 use std::alloc::{AllocError, Global};
 
@@ -84,12 +85,13 @@ pub fn read_log<H: Host>(
     host: &mut H,
     slot: u8,
     shape: &Shape,
+    format: Format,
 ) -> Result<ReadLog, FolderFault>
     requires slot { slot ≤ 1 }
-    ensures log { IfOk result (λ l. IsReadAs H.tells shape.now ((H.world host.old).disk (Manager slot)).seen l) }
+    ensures log { IfOk result (λ l. IsReadAs H.tells format shape.now ((H.world host.old).disk (Manager slot)).seen l) }
     ensures bound { IfOk result (λ l. (l.gate_at < 2 ^ 63) × ((0 < l.next_unit.0) × (l.next_unit.0 ≤ 2 ^ 63))) }
     ensures damaged { (file : FileId) (place : ℕ) → IsErrOf result (FolderFault.Damaged file place) → IsTrue H.tells
-        → records_in_file shape.now ((H.world host.old).disk (Manager slot)).seen ≡ Err place }
+        → records_in_file format shape.now ((H.world host.old).disk (Manager slot)).seen ≡ Err place }
     ensures file { (file : FileId) (place : ℕ) → IsErrOf result (FolderFault.Damaged file place) → file ≡ Manager slot }
     ensures failed { (file : FileId) → IsErrOf result (FolderFault.Failed file) → file ≡ Manager slot }
     ensures asked { IsTrue H.tells → OnlyAsked (H.world host.old) (H.world host.new) }
@@ -105,7 +107,7 @@ pub fn read_log<H: Host>(
     let mut count = 0;
     let mut next = 1;
     let mut gate_at = 15;
-    while let Some((records, behind)) = next_block(alloc, host, slot, shape, gate_at)? {
+    while let Some((records, behind)) = next_block(alloc, host, slot, shape, format, gate_at)? {
         next = add_records(&mut named, next, records.as_slice())?;
         count += records.len() as u64;
         gate_at = behind;

@@ -15,6 +15,7 @@ ghost use Rattle.log_reading.specs.Pieces.{IsPieceOf, IsTextIn, continues_piece}
 use crate::faults::FolderFault;
 use base_types::{GrainId, Shape, Version};
 use commit_log::Named;
+use field_codec::Format;
 use grain_log::{VersionFault, named_in};
 use host_trait::{Failed, FileId, Host};
 use std::alloc::Global;
@@ -69,19 +70,28 @@ pub fn version_of(
     alloc: Global,
     slot: u8,
     shape: &Shape,
+    format: Format,
     named: Named,
     text: &[u8],
 ) -> Result<Version, FolderFault>
     requires size { length text.now ≡ named.written.place.len }
-    ensures found { IfOk result (λ version. (image : Image) → IsTextAt named.written.place (image (Grain slot named.written.grain)) text.now → version_named slot shape.now image named ≡ Ok version) }
+    ensures found { IfOk result (λ version. (image : Image) → IsTextAt named.written.place (image (Grain slot named.written.grain)) text.now → version_named slot format shape.now image named ≡ Ok version) }
     ensures damaged { (file : FileId) (place : ℕ) → IsErrOf result (FolderFault.Damaged file place)
-        → (image : Image) → IsTextAt named.written.place (image (Grain slot named.written.grain)) text.now → version_named slot shape.now image named ≡ Err place }
+        → (image : Image) → IsTextAt named.written.place (image (Grain slot named.written.grain)) text.now → version_named slot format shape.now image named ≡ Err place }
     ensures file { (file : FileId) (place : ℕ) → IsErrOf result (FolderFault.Damaged file place) → file ≡ Grain slot named.written.grain }
     ensures quiet { (file : FileId) → IsErrOf result (FolderFault.Failed file) → ⊥ }
 {
     let grain = named.written.grain;
     let file = FileId::Grain { slot, grain };
-    match named_in(alloc, text, file, named.unit, named.written.place, shape) {
+    match named_in(
+        alloc,
+        text,
+        file,
+        named.unit,
+        named.written.place,
+        shape,
+        format,
+    ) {
         Ok(version) => Ok(version),
         Err(VersionFault::Damaged { place }) => Err(FolderFault::Damaged { file, place }),
         Err(VersionFault::Failed) => Err(FolderFault::Failed { file }),

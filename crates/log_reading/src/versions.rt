@@ -20,6 +20,7 @@ use crate::faults::FolderFault;
 use crate::pieces::{Piece, no_piece, refill, text_in, version_of};
 use base_types::{Ends, Shape, Store, Version};
 use commit_log::Named;
+use field_codec::Format;
 use grain_log::{VersionFault, read_named};
 use host_trait::{FileId, Host};
 use std::alloc::Global;
@@ -31,13 +32,14 @@ pub fn named_version<H: Host>(
     host: &mut H,
     slot: u8,
     shape: &Shape,
+    format: Format,
     named: Named,
 ) -> Result<Version, FolderFault>
     requires slot { slot ≤ 1 }
-    ensures found { IfOk result (λ version. IsTrue H.tells → version_named slot shape.now (seen_in (H.world host.old).disk) named ≡ Ok version) }
+    ensures found { IfOk result (λ version. IsTrue H.tells → version_named slot format shape.now (seen_in (H.world host.old).disk) named ≡ Ok version) }
     ensures near { OnOk result (named.written.place.offset + named.written.place.len < 2 ^ 63) }
     ensures damaged { (file : FileId) (place : ℕ) → IsErrOf result (FolderFault.Damaged file place) → IsTrue H.tells
-        → version_named slot shape.now (seen_in (H.world host.old).disk) named ≡ Err place }
+        → version_named slot format shape.now (seen_in (H.world host.old).disk) named ≡ Err place }
     ensures file { (file : FileId) (place : ℕ) → IsErrOf result (FolderFault.Damaged file place) → file ≡ Grain slot named.written.grain }
     ensures failed { (file : FileId) → IsErrOf result (FolderFault.Failed file) → file ≡ Grain slot named.written.grain }
     ensures asked { IsTrue H.tells → OnlyAsked (H.world host.old) (H.world host.new) }
@@ -47,7 +49,15 @@ pub fn named_version<H: Host>(
 {
     let grain = named.written.grain;
     let file = FileId::Grain { slot, grain };
-    match read_named(alloc, host, file, named.unit, named.written.place, shape) {
+    match read_named(
+        alloc,
+        host,
+        file,
+        named.unit,
+        named.written.place,
+        shape,
+        format,
+    ) {
         Ok(version) => Ok(version),
         Err(VersionFault::Damaged { place }) => Err(FolderFault::Damaged { file, place }),
         Err(VersionFault::Failed) => Err(FolderFault::Failed { file }),
@@ -62,15 +72,16 @@ fn next_version<H: Host>(
     host: &mut H,
     slot: u8,
     shape: &Shape,
+    format: Format,
     piece: &Piece,
     named: Named,
 ) -> Result<Version, FolderFault>
     requires slot { slot ≤ 1 }
     requires piece { IsPieceOf H.tells slot (seen_in (H.world host.old).disk) piece.now }
-    ensures found { IfOk result (λ version. IsTrue H.tells → version_named slot shape.now (seen_in (H.world host.old).disk) named ≡ Ok version) }
+    ensures found { IfOk result (λ version. IsTrue H.tells → version_named slot format shape.now (seen_in (H.world host.old).disk) named ≡ Ok version) }
     ensures near { OnOk result (named.written.place.offset + named.written.place.len < 2 ^ 63) }
     ensures damaged { (file : FileId) (place : ℕ) → IsErrOf result (FolderFault.Damaged file place) → IsTrue H.tells
-        → version_named slot shape.now (seen_in (H.world host.old).disk) named ≡ Err place }
+        → version_named slot format shape.now (seen_in (H.world host.old).disk) named ≡ Err place }
     ensures file { (file : FileId) (place : ℕ) → IsErrOf result (FolderFault.Damaged file place) → file ≡ Grain slot named.written.grain }
     ensures failed { (file : FileId) → IsErrOf result (FolderFault.Failed file) → file ≡ Grain slot named.written.grain }
     ensures asked { IsTrue H.tells → OnlyAsked (H.world host.old) (H.world host.new) }
@@ -79,8 +90,8 @@ fn next_version<H: Host>(
     ensures ready { StaysReady (H.is_ready host.old) (H.is_ready host.new) }
 {
     match text_in(piece, named) {
-        Some(text) => version_of(alloc, slot, shape, named, text),
-        None => named_version(alloc, host, slot, shape, named),
+        Some(text) => version_of(alloc, slot, shape, format, named, text),
+        None => named_version(alloc, host, slot, shape, format, named),
     }
 }
 
@@ -121,19 +132,20 @@ pub fn read_versions<H: Host>(
     host: &mut H,
     slot: u8,
     shape: &Shape,
+    format: Format,
     named: &[Named],
     store: &mut Store,
     ends: &mut Ends,
 ) -> Result<(), FolderFault>
     requires slot { slot ≤ 1 }
-    ensures found { OnOk result (IsTrue H.tells → first_missing slot shape.now (seen_in (H.world host.old).disk) named.now ≡ None) }
-    ensures states { OnOk result (IsTrue H.tells → (grain : GrainId) → state_in store.new grain ≡ state_after slot shape.now (seen_in (H.world host.old).disk) (state_in store.old grain) named.now grain) }
+    ensures found { OnOk result (IsTrue H.tells → first_missing slot format shape.now (seen_in (H.world host.old).disk) named.now ≡ None) }
+    ensures states { OnOk result (IsTrue H.tells → (grain : GrainId) → state_in store.new grain ≡ state_after slot format shape.now (seen_in (H.world host.old).disk) (state_in store.old grain) named.now grain) }
     ensures ends { OnOk result ((grain : GrainId) → end_in ends.new grain ≡ end_after (end_in ends.old grain) named.now grain) }
     ensures near { OnOk result (AreNear ends.old → AreNear ends.new) }
     ensures damaged { (file : FileId) (place : ℕ) → IsErrOf result (FolderFault.Damaged file place) → IsTrue H.tells
-        → first_missing slot shape.now (seen_in (H.world host.old).disk) named.now ≡ Some (file, place) }
+        → first_missing slot format shape.now (seen_in (H.world host.old).disk) named.now ≡ Some (file, place) }
     ensures failed { (file : FileId) → IsErrOf result (FolderFault.Failed file) → IsTrue H.tells
-        → StopsAt slot shape.now (seen_in (H.world host.old).disk) named.now file }
+        → StopsAt slot format shape.now (seen_in (H.world host.old).disk) named.now file }
     ensures asked { IsTrue H.tells → OnlyAsked (H.world host.old) (H.world host.new) }
     ensures calm { OnOk result (NoneFailed (H.faults host.old) (H.faults host.new)) }
     ensures fault { IfErr result (λ e. ReadFaulted e (H.faults host.old) (H.faults host.new)) }
@@ -143,7 +155,7 @@ pub fn read_versions<H: Host>(
     let mut at = 0;
     for one in named {
         refill(alloc, host, slot, &mut piece, *one, &named[at..])?;
-        let version = next_version(alloc, host, slot, shape, &piece, *one)?;
+        let version = next_version(alloc, host, slot, shape, format, &piece, *one)?;
         keep(store, ends, *one, version)?;
         at += 1;
     }

@@ -7,7 +7,7 @@ use crate::printing::add_bytes;
 use crate::records::{add_records, block_of, records_in};
 use base_types::{GrainId, List, Place, Shape, State, Text, TypeShape, UnitNo, Value, Version};
 use commit_log::seal;
-use field_codec::get_state;
+use field_codec::{Format, get_state};
 use gate_block::{append_closed, open_gate, read_block};
 use grain_log::{read_version, write_versions};
 use host_trait::FileId;
@@ -63,7 +63,7 @@ fn versions_of(alloc: Global, unit: u64, bytes: &[u8]) -> Result<List<Version>, 
     let mut versions = List::new(alloc);
     let mut at = 0;
     for i in 0..64 {
-        let Ok((state, end)) = get_state(alloc, bytes, at) else {
+        let Ok((state, end)) = get_state(alloc, bytes, at, Format::One) else {
             return Ok(versions);
         };
         versions.push(Version {
@@ -210,7 +210,14 @@ impl Bench {
             len: u32::try_from(case.number(1)).unwrap_or(0),
         };
         let shape = shape_of(self.alloc, self.fields)?;
-        match read_version(self.alloc, &mut self.folder, GRAIN, place, &shape) {
+        match read_version(
+            self.alloc,
+            &mut self.folder,
+            GRAIN,
+            place,
+            &shape,
+            Format::One,
+        ) {
             Ok(version) => {
                 let unit = version.unit.0;
                 write!(out, "unit {unit} ")?;

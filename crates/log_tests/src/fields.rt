@@ -2,8 +2,9 @@ use crate::cases::Case;
 use crate::printing::add_call;
 use base_types::{Call, Origin, Outcome, State, Value};
 use field_codec::{
-    CodecFault, Numbers, get_answer, get_call, get_origin, get_result, get_state, get_u16, get_u32,
-    get_u64, get_unit, get_value, put, put_call, put_state, put_u16, put_u32, put_u64, put_value,
+    CodecFault, Format, Numbers, get_answer, get_call, get_origin, get_result, get_state, get_u16,
+    get_u32, get_u64, get_unit, get_value, put, put_call, put_state, put_u16, put_u32, put_u64,
+    put_value,
 };
 use std::alloc::{AllocError, Global};
 use test_cases::{add_outcome, add_value, add_values};
@@ -58,17 +59,17 @@ fn item_at(
 type Found = Result<(Item, usize), CodecFault>;
 
 fn value_at(alloc: Global, bytes: &[u8], at: usize) -> Found {
-    let (value, end) = get_value(alloc, bytes, at)?;
+    let (value, end) = get_value(alloc, bytes, at, Format::One)?;
     Ok((Item::Value(value), end))
 }
 
 fn state_at(alloc: Global, bytes: &[u8], at: usize) -> Found {
-    let (state, end) = get_state(alloc, bytes, at)?;
+    let (state, end) = get_state(alloc, bytes, at, Format::One)?;
     Ok((Item::State(state), end))
 }
 
 fn call_at(alloc: Global, bytes: &[u8], at: usize) -> Found {
-    let (call, end) = get_call(alloc, bytes, at)?;
+    let (call, end) = get_call(alloc, bytes, at, Format::One)?;
     Ok((Item::Call(call), end))
 }
 
@@ -78,12 +79,12 @@ fn origin_at(bytes: &[u8], at: usize, numbers: Numbers) -> Found {
 }
 
 fn answer_at(alloc: Global, bytes: &[u8], at: usize) -> Found {
-    let (answer, end) = get_answer(alloc, bytes, at)?;
+    let (answer, end) = get_answer(alloc, bytes, at, Format::One)?;
     Ok((Item::Outcome(answer), end))
 }
 
 fn result_at(alloc: Global, bytes: &[u8], at: usize) -> Found {
-    let (outcome, end) = get_result(alloc, bytes, at)?;
+    let (outcome, end) = get_result(alloc, bytes, at, Format::One)?;
     Ok((Item::Outcome(outcome), end))
 }
 

@@ -6,7 +6,7 @@ ghost use Rattle.gate_block.specs.Blocks.{IsBlockOfBody};
 use crate::printing::add_record;
 use base_types::{List, Shape};
 use commit_log::{CommitRecord, decode_body, encode_block, read_records};
-use field_codec::CodecFault;
+use field_codec::{CodecFault, Format};
 use std::alloc::{AllocError, Global};
 
 /// The records that a body has, in a log or by itself.
@@ -20,7 +20,7 @@ pub fn records_in(
     ensures each { IfOk result (λ records. AllByRecursion MaySpell records) }
 {
     if logged {
-        return read_records(alloc, body, shape);
+        return read_records(alloc, body, shape, Format::One);
     }
     decode_body(alloc, body, shape)
 }

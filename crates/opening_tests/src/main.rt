@@ -13,7 +13,7 @@
 //! | `cuts FILE`, `bytes FILE HOW` | tells what opening answers where the file is cut at each place, or has another byte there; an answer stands at the first place that has it |
 //! | `stopped-init`, `stopped-open` | stops after each call in turn, and opens images that a crash leaves there |
 //!
-//! A file is `program`, `manager`, `input`, or a grain as `0/1`.
+//! A file is `program` or `manager`, both of slot 0, `manager-1` of slot 1, `input`, or a grain of slot 0 as `0/1`.
 #![tactic(auto)]
 
 mod answers;

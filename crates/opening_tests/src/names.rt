@@ -7,8 +7,16 @@ use host_trait::{Channel, FileId};
 use std::alloc::{AllocError, Global};
 
 /// The files that a folder may have here.
-pub const NAMES: [&str; 8] = [
-    "program", "manager", "0/1", "0/2", "0/255", "0/258", "1/0", "1/1",
+pub const NAMES: [&str; 9] = [
+    "program",
+    "manager",
+    "manager-1",
+    "0/1",
+    "0/2",
+    "0/255",
+    "0/258",
+    "1/0",
+    "1/1",
 ];
 
 /// The file of a name.
@@ -18,6 +26,7 @@ pub fn file_of(name: &str) -> Option<FileId>
     match name {
         "program" => Some(FileId::Program { slot: 0 }),
         "manager" => Some(FileId::Manager { slot: 0 }),
+        "manager-1" => Some(FileId::Manager { slot: 1 }),
         _ => match grain_of(name) {
             Some(grain) => Some(FileId::Grain { slot: 0, grain }),
             None => None,
@@ -37,7 +46,8 @@ pub fn grain_of(name: &str) -> Option<GrainId> {
 pub fn add_file(out: &mut String, file: FileId) -> Result<(), AllocError> {
     match file {
         FileId::Program { .. } => out.push_str("program"),
-        FileId::Manager { .. } => out.push_str("manager"),
+        FileId::Manager { slot: 0 } => out.push_str("manager"),
+        FileId::Manager { slot } => write!(out, "manager-{slot}"),
         FileId::Grain { grain, .. } => {
             let GrainId { kind, key } = grain;
             write!(out, "{kind}/{key}")

@@ -16,7 +16,7 @@ use crate::printer::{add_flag, add_known, add_units};
 use crate::steps::Step;
 use base_types::{Call, Entry, GrainId, List, Settled, State, Text, Value};
 use core_model::CoreEvent;
-use event_history::History;
+use core_parts::History;
 use std::alloc::{AllocError, Global};
 use std::mem;
 use test_cases::{add_grain, add_values};

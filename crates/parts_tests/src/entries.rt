@@ -10,7 +10,7 @@ use crate::cases::{Part, carry, no_step};
 use crate::printer::{add_count, add_flag};
 use crate::steps::Step;
 use base_types::{BadRequest, Entry, Settled, UnitNo};
-use core_lists::EntryList;
+use core_parts::EntryList;
 use std::alloc::{AllocError, Global};
 
 /// Puts a list of entries through the steps.
@@ -60,7 +60,7 @@ impl Part for EntryList {
             "next" => add_next(out, self),
             "more" => add_flag(out, self.has_next()),
             "emit" => emit(self, out),
-            "count" => add_count(out, self.entries().len()),
+            "count" => add_count(out, self.ends().all),
             _ => no_step(out),
         }
     }

@@ -11,8 +11,8 @@ use crate::effects::{effect, one_read, one_write, outcome_of};
 use crate::printer::add_flag;
 use crate::steps::{Step, state_of};
 use base_types::{List, Outcome, UnitNo, Value};
-use core_equality::Same;
 use core_model::Effect;
+use core_parts::Same;
 use std::alloc::{AllocError, Global};
 
 /// Compares, and keeps nothing from one step to the next.

@@ -8,7 +8,7 @@
 use crate::cases::{Part, carry, no_step};
 use crate::printer::add_state;
 use crate::steps::Step;
-use core_lists::HandedStates;
+use core_parts::HandedStates;
 use std::alloc::{AllocError, Global};
 
 /// Puts the handed states through the steps.

@@ -8,7 +8,7 @@
 use crate::cases::{Part, carry, no_step};
 use crate::printer::add_state;
 use crate::steps::Step;
-use core_lists::LastStates;
+use core_parts::LastStates;
 use std::alloc::{AllocError, Global};
 
 /// Puts the last states through the steps.

@@ -9,7 +9,7 @@
 use crate::cases::{Part, carry, no_step};
 use crate::printer::add_flag;
 use crate::steps::Step;
-use core_lists::LearnQueue;
+use core_parts::LearnQueue;
 use std::alloc::{AllocError, Global};
 
 /// Puts a queue through the steps.

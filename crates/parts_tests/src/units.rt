@@ -5,6 +5,7 @@
 //! | `open UNIT TYPES` | another table, whose first unit will have this number, of a program of so many types |
 //! | `line`, `child UNIT` | a line's unit begins, or a child of this running unit; tells its number |
 //! | `room` | tells whether room is made for a line's unit |
+//! | `many COUNT` | so many lines' units begin and end as plain runs, one after another |
 //! | `read UNIT SOURCE` | the unit reads what this one wrote |
 //! | `finish UNIT` | the unit finishes; tells its dependencies |
 //! | `refuse UNIT`, `end UNIT` | the unit is refused, or ends as a plain run |
@@ -14,7 +15,7 @@
 //! | `running UNIT` | tells how many reads, which children and which sources a running unit has |
 //! | `life UNIT` | tells where it is in its life, and what is decided of it |
 //! | `kept UNIT` | tells whether it is over, whether it is decided for good, and whether it is kept as a running one |
-//! | `result UNIT`, `outcome UNIT` | tells its result, and its outcome once that is decided for good |
+//! | `result UNIT`, `outcome UNIT` | tells its result, and its outcome once that is decided for good; an outcome that has gone is wanting |
 //! | `lines`, `wants` | tells the numbers of lines and types and whether the run is to stop; who waits for which grain |
 //! | `shared` | tells that a table may be shared by threads, which is so where this is built |
 
@@ -76,6 +77,30 @@ fn begin_child(table: &mut UnitTable, out: &mut String, step: &Step<'_>) -> Resu
     };
     let unit = table.begin(origin, call(step.alloc), false).0;
     write!(out, " = {unit}")
+}
+
+// One more line's unit begins, and ends as a plain run.
+fn end_next(table: &mut UnitTable, alloc: Global) -> Result<(), AllocError> {
+    let origin = Origin::Line(1);
+    let Ok(()) = table.reserve_begin(&origin) else {
+        return Err(AllocError);
+    };
+    if table.lines() > 9999 {
+        return Err(AllocError);
+    }
+    let unit = table.begin(origin, call(alloc), true);
+    if table.is_running(unit) {
+        table.end(unit, Outcome::Aborted);
+    }
+    Ok(())
+}
+
+// So many lines' units begin and end.
+fn end_many(table: &mut UnitTable, step: &Step<'_>) -> Result<(), AllocError> {
+    for _ in 0..step.number(1) {
+        end_next(table, step.alloc)?;
+    }
+    Ok(())
 }
 
 fn make_room(table: &mut UnitTable, out: &mut String) -> Result<(), AllocError> {
@@ -182,8 +207,10 @@ fn add_kept(out: &mut String, table: &UnitTable, unit: UnitNo) -> Result<(), All
 }
 
 fn add_decided(out: &mut String, table: &UnitTable, unit: UnitNo) -> Result<(), AllocError> {
-    let outcome = table.outcome_copy(unit)?;
-    add_known(out, outcome.as_ref())
+    match table.outcome_copy(unit) {
+        Ok(outcome) => add_known(out, outcome.as_ref()),
+        Err(AllocError) => out.push_str(" = wanting"),
+    }
 }
 
 fn add_lines(out: &mut String, table: &UnitTable) -> Result<(), AllocError> {
@@ -248,6 +275,7 @@ impl Part for UnitTable {
             "child" => begin_child(self, out, step),
             "room" => make_room(self, out),
             "read" => read(self, out, step),
+            "many" => end_many(self, step),
             _ => ends(self, out, step),
         }
     }

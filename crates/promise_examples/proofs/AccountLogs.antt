@@ -13,10 +13,10 @@ use Rattle.promise_examples.specs.Examples.{account_text, account_program, accou
 use Rattle.promise_examples.proofs.AccountText.{account_is_checked}
 
 -- where no block stands, the empty log stands up to the first gate
-pub account_begins : (image : Image) → header_damage (image manager) ≡ None → HasProgram account_text (image program_file) → HasBlocks [] 15 (image manager) → StandsUpTo 0 image (account_log []) [] 15
-account_begins image header text none =
-    record { header = header; program = account_program; checked = account_is_checked; text = text; base = refl; blocks = []; fit = tt; spelled = refl; stand = none; entries = refl; kept = tt }
+pub account_begins : (image : Image) → IsSilo magic (image manager) → header_damage (image manager) ≡ None → HasProgram account_text (image program_file) → HasBlocks [] 15 (image manager) → StandsUpTo 0 image (account_log []) [] 15
+account_begins image silo header text none =
+    record { silo = silo; header = header; program = account_program; checked = account_is_checked; text = text; base = refl; blocks = []; fit = tt; spelled = refl; stand = none; entries = refl; kept = tt }
 
 -- and all blocks up to a closed gate are the log
 pub account_logged : (image : Image) (commits : List Commit) → IsSilo magic (image manager) → HasProgram account_text (image program_file) → IsBatched 0 (shape_in account_program) image commits → IsLog 0 image (account_log commits)
-account_logged image commits silo text b = record { is_live = first_live image silo; is = logged_in 0 image account_program commits account_is_checked text b }
+account_logged image commits silo text b = record { is_live = first_live image silo; is = logged_in 0 image account_program commits silo account_is_checked text b }

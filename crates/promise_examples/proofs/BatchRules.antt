@@ -9,6 +9,8 @@ use Rattle.core_model.specs.LegalRuns.{Run, ends}
 use Rattle.core_model.specs.SerialOrder.{committed}
 use Rattle.core_model.specs.CoreState.{same_grain, put, put_grain}
 use Rattle.script_meaning.specs.Play.{unit, next, play_over}
+use Rattle.silo_spec.specs.OpenedDisks.{opening_syncs}
+use Rattle.host_trait.specs.World.{Image}
 use Rattle.promise_spec.specs.Records.{AreRecordsOf}
 use Rattle.promise_spec.specs.Cores.{applied_in, how_many}
 use Rattle.promise_spec.specs.Causes.{RunHasDoubt, is_no, is_vote_of, is_unsealed, syncs_of, most_syncs_of}
@@ -90,7 +92,7 @@ batch_turns = (
   ),
 )
 
-pub batch_turn_rule : KeepsTurnRule accounts 2 2 [] core
+pub batch_turn_rule : KeepsTurnRule accounts true 2 2 [] core
 batch_turn_rule at e is = each_from_0 (TurnAt 2 2 [] core) batch_events at e batch_turns is.there
 
 -- ---- what it leaves
@@ -98,6 +100,11 @@ batch_turn_rule at e is = each_from_0 (TurnAt 2 2 [] core) batch_events at e bat
 pub settled_is : (ends core).manager.settled ≡ both_entries
 unfolding put put_grain
 settled_is = refl
+
+-- both lines have begun
+pub begun_is : (ends core).units.lines ≡ 2
+unfolding put put_grain
+begun_is = refl
 
 pub emitted_is : (ends core).manager.emitted ≡ 2
 unfolding put put_grain
@@ -160,14 +167,14 @@ pub voted_on : (g : GrainId) → g ≡ account_1 → how_many (is_vote_of g) cor
 voted_on g same none = (let one : how_many (is_vote_of g) core ≡ 1 = subst (λ (x : GrainId). how_many (is_vote_of x) core ≡ 1) (sym same) one_vote in absurd (omega (arith, one, none)))
 
 -- one sync of the opening at most, one of the vote, and two of the batch
-pub four_most : most_syncs_of core ≡ 4
+pub four_most : (image : Image) → most_syncs_of image core ≡ opening_syncs image + 3
 unfolding put put_grain
-four_most = refl
+four_most image = refl
 
 pub no_seals : how_many is_unsealed core ≡ 0
 no_seals = ap (λ (events : List CoreEvent). count_by is_unsealed events) all_apply
 
 -- one of the opening, one of the vote, and two of the batch
-pub four_syncs : syncs_of core ≡ 4
+pub four_syncs : (image : Image) → syncs_of image core ≡ opening_syncs image + 3
 unfolding put put_grain
-four_syncs = refl
+four_syncs image = refl

@@ -41,7 +41,7 @@ DueAt lines r at e = IsDue (account_basis lines) (state_before r at) (got_from (
 
 abbrev pub TurnAt : ℕ → ℕ → List ℕ → Run → ℕ → CoreEvent → Type 0
 TurnAt lines width picks r at e =
-    IsTurn (line_can_begin width lines r (state_before r at)) (picked (movers accounts r (state_before r at) (got_from (begins r) (take at r.events))) (get_or picks (picks_used r at) 0)) (state_before r at) e (mover_of e)
+    IsTurn (line_can_begin true width lines r (state_before r at) (movers accounts r (state_before r at) (got_from (begins r) (take at r.events)))) (picked (movers accounts r (state_before r at) (got_from (begins r) (take at r.events))) (get_or picks (picks_used r at) 0)) (state_before r at) e (mover_of e)
 
 -- a deposit is a transaction
 pub is_transaction : (n : ℕ) → (false ≡ false) ↔ IsTransaction accounts (record { grain = account_1; method = 0; args = Int (pos n) ∷ [] })
@@ -95,14 +95,14 @@ one_turns : Each (TurnAt 1 1 [] (account_run deposit_events)) 0 deposit_events
 unfolding put put_grain unit next play_over
 one_turns = (refl, ((refl, refl), ((refl, refl), ((refl, refl), ((refl, refl, refl), ((refl, refl, (true, refl)), ((refl, refl, refl), ((refl, refl, inl refl), ((refl, refl, refl), ((refl, refl, refl), tt))))))))))
 
-pub one_turn_rule : KeepsTurnRule accounts 1 1 [] (account_run deposit_events)
+pub one_turn_rule : KeepsTurnRule accounts true 1 1 [] (account_run deposit_events)
 one_turn_rule at e is = each_from_0 (TurnAt 1 1 [] (account_run deposit_events)) deposit_events at e one_turns is.there
 
 two_turns : Each (TurnAt 2 2 (0 ∷ 1 ∷ 1 ∷ []) (account_run conflict_events)) 0 conflict_events
 unfolding put put_grain unit next play_over
 two_turns = (refl, (refl, ((refl, refl), ((refl, refl), ((refl, refl, refl), ((refl, refl), ((refl, refl), ((refl, refl, refl), ((refl, refl, (true, refl)), ((refl, refl, refl), ((refl, refl, inr (inr refl)), ((refl, refl, refl), tt))))))))))))
 
-pub two_turn_rule : KeepsTurnRule accounts 2 2 (0 ∷ 1 ∷ 1 ∷ []) (account_run conflict_events)
+pub two_turn_rule : KeepsTurnRule accounts true 2 2 (0 ∷ 1 ∷ 1 ∷ []) (account_run conflict_events)
 two_turn_rule at e is = each_from_0 (TurnAt 2 2 (0 ∷ 1 ∷ 1 ∷ []) (account_run conflict_events)) conflict_events at e two_turns is.there
 
 -- what the lines of that run are told
@@ -120,12 +120,12 @@ not_second : Some (OfUnit (unit_no 1)) ≡ Some (OfUnit (unit_no 2)) → ⊥
 not_second same = let numbers : 1 ≡ 2 = ap number_of same in omega (arith, numbers)
 
 -- with other picks the second unit's turn isn't there
-pub other_picks : KeepsTurnRule accounts 2 2 [] (account_run conflict_events) → ⊥
+pub other_picks : KeepsTurnRule accounts true 2 2 [] (account_run conflict_events) → ⊥
 unfolding put put_grain unit next play_over
 other_picks keeps = not_second (keeps 3 _ (record { there = refl; applied = refl })).1
 
 -- one thread begins a line where it can
-pub narrow : KeepsTurnRule accounts 2 1 (0 ∷ 1 ∷ 1 ∷ []) (account_run conflict_events) → ⊥
+pub narrow : KeepsTurnRule accounts true 2 1 (0 ∷ 1 ∷ 1 ∷ []) (account_run conflict_events) → ⊥
 unfolding put put_grain unit next play_over
 narrow keeps = let turn = keeps 1 _ (record { there = refl; applied = refl }) in absurd (cc turn)
 
@@ -164,7 +164,7 @@ vote_turns : Each (TurnAt 2 2 [] (account_run vote_events)) 0 vote_events
 unfolding put put_grain unit next play_over
 vote_turns = (refl, (refl, ((refl, refl), ((refl, refl), ((refl, refl), ((refl, refl), ((refl, refl), ((refl, refl), ((refl, refl, refl), ((refl, refl, (false, refl)), ((refl, refl, refl), ((refl, refl, refl), ((refl, refl, refl), ((refl, refl, refl), tt))))))))))))))
 
-pub vote_turn_rule : KeepsTurnRule accounts 2 2 [] (account_run vote_events)
+pub vote_turn_rule : KeepsTurnRule accounts true 2 2 [] (account_run vote_events)
 vote_turn_rule at e is = each_from_0 (TurnAt 2 2 [] (account_run vote_events)) vote_events at e vote_turns is.there
 
 pub vote_settled : (ends (account_run vote_events)).manager.settled ≡ vote_entries

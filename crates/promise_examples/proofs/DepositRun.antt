@@ -17,6 +17,7 @@ use Rattle.host_trait.specs.declared.channels.Channel.TheVariants.{File}
 use Rattle.host_trait.specs.declared.channels.FileId.TheVariants.{Grain}
 use Rattle.host_trait.specs.World.{Moment, Image, IsImage, moment_of}
 use Rattle.silo_spec.specs.Silos.{manager, program_file, HasProgram}
+use Rattle.silo_spec.specs.OpenedDisks.{opening_syncs}
 use Rattle.promise_spec.specs.Programs.{shape_in}
 use Rattle.promise_spec.specs.Entries.{Log}
 use Rattle.promise_spec.specs.Logs.{IsLog, IsPrefix}
@@ -27,7 +28,7 @@ use Rattle.promise_spec.specs.TurnRule.{KeepsTurnRule}
 use Rattle.promise_spec.specs.Causes.{RoseBy, RunHasDoubt, AreCaused, is_no, is_vote_of, is_unsealed, syncs_of, most_syncs_of}
 use Rattle.promise_spec.specs.Family.{IsUnitOf, IsReached, by_line}
 use Rattle.promise_spec.specs.Endings as ending
-use Rattle.promise_spec.specs.Courses.{Observed, Course, moments, lines, core_end}
+use Rattle.promise_spec.specs.Courses.{Observed, Course, moments, lines, core_end, seen_at_entry}
 use Rattle.promise_spec.specs.Orders.{IsOrdered}
 use Rattle.promise_spec.specs.Replies.{AreReplies, IsTrueOf, HasNoRecord}
 use Rattle.promise_spec.specs.Crashes.{LeavesAlone, SurvivesCrashes, StaySound, HoldsReplies}
@@ -35,13 +36,14 @@ use Rattle.promise_spec.specs.Batches.{EndsABatch}
 use Rattle.promise_spec.specs.Exits.{IsExit, IsNowhere}
 use Rattle.promise_spec.specs.Explanation.{ComeOfEvents, AreAdded, AreSettled, IsExplained}
 use Rattle.promise_spec.specs.Journals.{Settlement, KeepsJournal, Backs, commits_of, entries_of}
-use Rattle.promise_spec.specs.Promise.{IsSoundFolder, IsUndisturbed, IsNoLock, HasEnded, Keeps}
+use Rattle.promise_spec.specs.Promise.{AllowedBy, IsSoundFolder, IsUndisturbed, IsNoLock, HasEnded, Keeps}
 use Rattle.promise_laws.specs.Obligations.{Shows}
 use Rattle.promise_examples.specs.Examples.{account_log, accounts, account_program, account_1, unit_no, first_commit, first_entry, deposit_events, account_run}
 use Rattle.promise_examples.specs.DepositRuns.{MayHaveDeposit, LeavesOthers, IsBetween, IsDepositRun, deposit_course}
 use Rattle.promise_spec.proofs.Lists.{none_is}
 use Rattle.promise_spec.proofs.OneLog.{one_log}
 use Rattle.promise_laws.proofs.JournalCrashes.{commits_of-append, chained, longest, holds, whole as all_whole, sound}
+use Rattle.promise_examples.proofs.WholeInputs.{whole_read}
 use Rattle.promise_examples.proofs.FirstDeposit.{five}
 use Rattle.promise_examples.proofs.MomentParts.{at_each, exit_there, all_less}
 use Rattle.promise_examples.proofs.WholeBatches.{no_batch}
@@ -105,14 +107,14 @@ voted_on : (g : GrainId) → g ≡ account_1 → how_many (is_vote_of g) core �
 voted_on g same none = (let one : how_many (is_vote_of g) core ≡ 1 = subst (λ (x : GrainId). how_many (is_vote_of x) core ≡ 1) (sym same) one_vote in absurd (omega (arith, one, none)))
 
 -- as many syncs are asked for at most
-four_most : most_syncs_of core ≡ 4
+four_most : (image : Image) → most_syncs_of image core ≡ opening_syncs image + 3
 unfolding put put_grain
-four_most = refl
+four_most image = refl
 
 -- one of the opening, one of the vote, and two of the batch
-four_syncs : syncs_of core ≡ 4
+four_syncs : (image : Image) → syncs_of image core ≡ opening_syncs image + 3
 unfolding put put_grain
-four_syncs = refl
+four_syncs image = refl
 
 -- each image of the moment has the deposit or not
 abbrev AllMayHave : Moment → Type 0
@@ -287,10 +289,19 @@ module _ (r : Observed) (opened : Moment) (sealing : List Moment) (run : IsDepos
   unfolding put put_grain
   no_seals = refl
 
-  turns : KeepsTurnRule accounts (length (lines r)) r.manner.width r.manner.picks core
+  turns : KeepsTurnRule accounts r.windowed (length (lines r)) r.manner.width r.manner.picks core
   turns =
-      subst (λ n. KeepsTurnRule accounts n r.manner.width r.manner.picks core) (sym run.one)
-      (subst (λ w. KeepsTurnRule accounts 1 w r.manner.picks core) (sym run.single.1) (subst (λ (picks : List ℕ). KeepsTurnRule accounts 1 1 picks core) (sym run.single.2) one_turn_rule))
+      subst (λ (windowed : Bool). KeepsTurnRule accounts windowed (length (lines r)) r.manner.width r.manner.picks core) (sym run.windowed)
+      (subst (λ n. KeepsTurnRule accounts true n r.manner.width r.manner.picks core) (sym run.one)
+      (subst (λ w. KeepsTurnRule accounts true 1 w r.manner.picks core) (sym run.single.1) (subst (λ (picks : List ℕ). KeepsTurnRule accounts true 1 1 picks core) (sym run.single.2) one_turn_rule)))
+
+  begun_is : (core_end account_program course).units.lines ≡ 1
+  unfolding put put_grain
+  begun_is = refl
+
+  -- no more lines than are asked
+  few : (core_end account_program course).units.lines ≤ length (lines r)
+  few = (let begun : (core_end account_program course).units.lines ≡ 1 = begun_is in let all : length (lines r) ≡ 1 = run.one in omega (arith, begun, all))
 
   written : AreSettled account_program r course
   written = record {
@@ -315,25 +326,24 @@ module _ (r : Observed) (opened : Moment) (sealing : List Moment) (run : IsDepos
     unvoted = λ g m none there. apart m there g (λ same. voted_on g same none);
   }
 
-  begins : ending.IsBegun r.ending
-  begins = subst ending.IsBegun (sym run.ending) tt
-
-  statuses : ending.HasRisen r.ending r.faults_before r.faults_after × ending.IsCarried r.ending × ending.HasLength r.ending (length r.old.input) × ending.IsCalm r.ending
+  statuses : ending.HasRisen r.ending r.faults_before r.faults_after × ending.IsCarried r.ending × ending.IsCalm r.ending
   statuses =
-      subst (λ e. ending.HasRisen e r.faults_before r.faults_after × ending.IsCarried e × ending.HasLength e (length r.old.input) × ending.IsCalm e) (sym run.ending) (tt, tt, run.small, tt)
+      subst (λ e. ending.HasRisen e r.faults_before r.faults_after × ending.IsCarried e × ending.IsCalm e) (sym run.ending) (tt, tt, tt)
 
   ended : HasEnded account_program r course
   ended = record {
     given = run.given;
     risen = statuses.0;
     carried = statuses.1;
-    long = statuses.2;
-    begun = inr (record { ending = begins; input = run.left; short = run.small });
-    done = λ is. record { input = run.left; answered = λ n low high. (first_entry, inl refl, (let one : length (lines r) ≡ 1 = run.one in omega arith)) };
-    complete = λ calm. record { calm = statuses.3; undisturbed = λ e there. only (λ (d : Entry). IsUndisturbed d.what) first_entry e tt there };
+    read =
+        whole_read account_program r course run.left refl run.good few
+        (λ none. absurd (let all : length (lines r) ≡ 1 = run.one in let zero : length (lines r) ≡ 0 = none in omega (arith, all, zero)))
+        (λ all. subst (λ (e : ending.Ending). AllowedBy e r.old.input r course.allowed) (sym run.ending) all);
+    answered = λ is n low high. (first_entry, inl refl, (let one : length (lines r) ≡ 1 = run.one in let most : n ≤ length (lines r) = high in omega (arith, one, low, most)));
+    complete = λ calm. record { calm = statuses.2; undisturbed = λ e there. only (λ (d : Entry). IsUndisturbed d.what) first_entry e tt there };
     alone = λ single one none e there. only (λ (d : Entry). IsNoLock d.what) first_entry e tt there;
-    syncs = λ calm is. run.syncs ∙ ap (λ (n : ℕ). r.old.syncs + n) (sym four_syncs);
-    most = (let n = run.syncs in let few : most_syncs_of core ≡ 4 = four_most in omega (arith, n, few));
+    syncs = λ calm is. run.syncs ∙ ap (λ (n : ℕ). r.old.syncs + n) (sym (four_syncs (seen_at_entry r)));
+    most = (let n = run.syncs in let few : most_syncs_of (seen_at_entry r) core ≡ opening_syncs (seen_at_entry r) + 3 = four_most (seen_at_entry r) in omega (arith, n, few));
   }
 
   pub kept : Keeps account_program r course

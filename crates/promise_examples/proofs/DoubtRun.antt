@@ -23,6 +23,7 @@ use Rattle.host_trait.specs.declared.channels.FileId.{FileId}
 use Rattle.host_trait.specs.declared.channels.FileId.TheVariants.{Manager, Grain}
 use Rattle.host_trait.specs.World.{Moment, Image, IsImage, moment_of}
 use Rattle.silo_spec.specs.Silos.{manager, program_file, HasProgram}
+use Rattle.silo_spec.specs.OpenedDisks.{opening_syncs}
 use Rattle.promise_spec.specs.Programs.{shape_in}
 use Rattle.promise_spec.specs.Entries.{Log}
 use Rattle.promise_spec.specs.Records.{Commit, AreRecordsOf}
@@ -34,7 +35,7 @@ use Rattle.promise_spec.specs.TurnRule.{KeepsTurnRule}
 use Rattle.promise_spec.specs.Causes.{IsAbortedFor, NoneRose, RoseBy, RunHasDoubt, AreCaused, is_no, is_vote_of, is_unsealed, most_syncs_of}
 use Rattle.promise_spec.specs.Family.{IsUnitOf, IsReached, by_line}
 use Rattle.promise_spec.specs.Endings as ending
-use Rattle.promise_spec.specs.Courses.{Observed, Course, moments, lines, core_end}
+use Rattle.promise_spec.specs.Courses.{Observed, Course, moments, lines, core_end, seen_at_entry}
 use Rattle.promise_spec.specs.Orders.{IsOrdered}
 use Rattle.promise_spec.specs.Replies.{AreReplies, IsTrueOf, HasNoRecord}
 use Rattle.promise_spec.specs.Crashes.{HasOutcome, LeavesAlone, SurvivesCrashes, StaySound, HoldsReplies}
@@ -42,7 +43,7 @@ use Rattle.promise_spec.specs.Batches.{EndsABatch}
 use Rattle.promise_spec.specs.Exits.{IsExit, ImagesMayDiffer, HasLogAtExit, IsNowhere, units_in_doubt}
 use Rattle.promise_spec.specs.Explanation.{ComeOfEvents, AreAdded, AreSettled, IsExplained}
 use Rattle.promise_spec.specs.Journals.{Settlement, KeepsJournal, Backs, commits_of, entries_of}
-use Rattle.promise_spec.specs.Promise.{IsSoundFolder, HasEnded, Keeps}
+use Rattle.promise_spec.specs.Promise.{AllowedBy, IsSoundFolder, HasEnded, Keeps}
 use Rattle.promise_laws.specs.Obligations.{Shows}
 use Rattle.promise_examples.specs.Examples.{account_log, accounts, account_program, account_1, unit_no, first_commit, locked_entry, doubt_entry, conflict_entries, conflict_events, account_run}
 use Rattle.promise_examples.specs.DepositRuns.{HasNone, HasDeposit, MayHaveDeposit, LeavesOthers, IsBetween}
@@ -50,6 +51,7 @@ use Rattle.promise_examples.specs.DoubtRuns.{IsDoubtRun, doubt_course, first_tol
 use Rattle.promise_spec.proofs.Lists.{none_at, some_is, in_append, both_parts}
 use Rattle.promise_spec.proofs.OneLog.{one_log}
 use Rattle.promise_laws.proofs.JournalCrashes.{commits_of-append, chained, longest, holds, whole as all_whole, sound}
+use Rattle.promise_examples.proofs.WholeInputs.{whole_read}
 use Rattle.promise_examples.proofs.MomentParts.{at_each, exit_there, all_less}
 use Rattle.promise_examples.proofs.WholeBatches.{no_batch}
 use Rattle.promise_examples.proofs.ShownRuns.{shows}
@@ -128,9 +130,9 @@ pub voted_on : (g : GrainId) → g ≡ account_1 → how_many (is_vote_of g) cor
 voted_on g same none = (let one : how_many (is_vote_of g) core ≡ 1 = subst (λ (x : GrainId). how_many (is_vote_of x) core ≡ 1) (sym same) one_vote in absurd (omega (arith, one, none)))
 
 -- one sync of the opening at most, one of the vote, and two of the batch
-pub four_most : most_syncs_of core ≡ 4
+pub four_most : (image : Image) → most_syncs_of image core ≡ opening_syncs image + 3
 unfolding put put_grain
-four_most = refl
+four_most image = refl
 
 pub one_seal : how_many is_unsealed core ≡ 1
 one_seal = ap (λ (events : List CoreEvent). count_by is_unsealed events) all_apply
@@ -380,10 +382,19 @@ module _ (r : Observed) (opened : Moment) (told doubting : List Moment) (run : I
   unfolding put put_grain
   few_emitted = omega arith
 
-  turns : KeepsTurnRule accounts (length (lines r)) r.manner.width r.manner.picks core
+  turns : KeepsTurnRule accounts r.windowed (length (lines r)) r.manner.width r.manner.picks core
   turns =
-      subst (λ n. KeepsTurnRule accounts n r.manner.width r.manner.picks core) (sym run.two)
-      (subst (λ w. KeepsTurnRule accounts 2 w r.manner.picks core) (sym run.pair.1) (subst (λ (picks : List ℕ). KeepsTurnRule accounts 2 2 picks core) (sym run.pair.2) two_turn_rule))
+      subst (λ (windowed : Bool). KeepsTurnRule accounts windowed (length (lines r)) r.manner.width r.manner.picks core) (sym run.windowed)
+      (subst (λ n. KeepsTurnRule accounts true n r.manner.width r.manner.picks core) (sym run.two)
+      (subst (λ w. KeepsTurnRule accounts true 2 w r.manner.picks core) (sym run.pair.1) (subst (λ (picks : List ℕ). KeepsTurnRule accounts true 2 2 picks core) (sym run.pair.2) two_turn_rule)))
+
+  begun_is : (core_end account_program course).units.lines ≡ 2
+  unfolding put put_grain
+  begun_is = refl
+
+  -- no more lines than are asked
+  few : (core_end account_program course).units.lines ≤ length (lines r)
+  few = (let begun : (core_end account_program course).units.lines ≡ 2 = begun_is in let all : length (lines r) ≡ 2 = run.two in omega (arith, begun, all))
 
   other_file : (g : GrainId) → File (Grain 0 g) ≢ File manager
   other_file g same = let files : Grain 0 g ≡ Manager 0 = cc same in absurd (cc files)
@@ -419,12 +430,9 @@ module _ (r : Observed) (opened : Moment) (told doubting : List Moment) (run : I
     unvoted = λ g m none there. apart m there g (λ same. voted_on g same none);
   }
 
-  begins : ending.IsBegun r.ending
-  begins = subst ending.IsBegun (sym run.ending) tt
-
-  statuses : ending.HasRisen r.ending r.faults_before r.faults_after × ending.IsCarried r.ending × ending.HasLength r.ending (length r.old.input)
+  statuses : ending.HasRisen r.ending r.faults_before r.faults_after × ending.IsCarried r.ending
   statuses =
-      subst (λ e. ending.HasRisen e r.faults_before r.faults_after × ending.IsCarried e × ending.HasLength e (length r.old.input)) (sym run.ending) (rose, tt, run.small)
+      subst (λ e. ending.HasRisen e r.faults_before r.faults_after × ending.IsCarried e) (sym run.ending) (rose, tt)
 
   not_calm : NoneRose r.faults_before r.faults_after → ⊥
   not_calm calm =
@@ -437,13 +445,15 @@ module _ (r : Observed) (opened : Moment) (told doubting : List Moment) (run : I
     given = run.given;
     risen = statuses.0;
     carried = statuses.1;
-    long = statuses.2;
-    begun = inr (record { ending = begins; input = run.left; short = run.small });
-    done = λ is. absurd (let e : ending.DiskFault manager ≡ ending.Done = sym run.ending ∙ is in cc e);
+    read =
+        whole_read account_program r course run.left refl run.good few
+        (λ none. absurd (let all : length (lines r) ≡ 2 = run.two in let zero : length (lines r) ≡ 0 = none in omega (arith, all, zero)))
+        (λ all. subst (λ (e : ending.Ending). AllowedBy e r.old.input r course.allowed) (sym run.ending) (inl all));
+    answered = λ is. absurd (subst ending.IsAllWritten run.ending is);
     complete = λ calm. absurd (not_calm calm);
     alone = λ single one none e there. absurd (let two : r.manner.width ≡ 2 = run.pair.1 in let width : r.manner.width ≡ 1 = one in omega arith);
     syncs = λ calm is. absurd (not_calm calm);
-    most = (let n = run.syncs in let few : most_syncs_of core ≡ 4 = four_most in omega (arith, n, few));
+    most = (let n = run.syncs in let few : most_syncs_of (seen_at_entry r) core ≡ opening_syncs (seen_at_entry r) + 3 = four_most (seen_at_entry r) in omega (arith, n, few));
   }
 
   pub kept : Keeps account_program r course

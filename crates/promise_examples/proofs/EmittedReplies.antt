@@ -86,8 +86,8 @@ no_batch None e = refl
 no_batch (Some x) e = cc
 
 -- a batch is taken only where all that is settled is written
-pub nothing_unwritten : (types : ProgramTree) (lines width : ℕ) (picks : List ℕ) (r : Run) (at : ℕ) → KeepsTurnRule types lines width picks r → AppliesAt r at Take → (state_before r at).manager.emitted < length (state_before r at).manager.settled → ⊥
-nothing_unwritten types lines width picks r at keeps is unwritten =
+pub nothing_unwritten : (types : ProgramTree) (windowed : Bool) (lines width : ℕ) (picks : List ℕ) (r : Run) (at : ℕ) → KeepsTurnRule types windowed lines width picks r → AppliesAt r at Take → (state_before r at).manager.emitted < length (state_before r at).manager.settled → ⊥
+nothing_unwritten types windowed lines width picks r at keeps is unwritten =
     let w = state_before r at in
     let turn = keeps at Take is in
     let able = and_parts (is_allowed w Take) (can w Take) is.applied in

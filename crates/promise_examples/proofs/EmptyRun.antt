@@ -1,20 +1,21 @@
--- A run that reads no line keeps the whole promise.
+-- A run of which no line may begin keeps the whole promise.
 use Rattle.promise_spec.specs.Prefixes.{IsPrefixOf}
 use Rattle.promise_spec.proofs.Prefixes.{of_itself}
 use Rattle.promise_spec.proofs.Standings.{grown_none}
 use Rattle.promise_spec.specs.Entries.{Log, grown}
-use Rattle.std.proofs.Common.{◌≡◌, inl, inr, ℕ, ◌≤◌, List, [], length, refl, sym, ◌∙◌, ap, subst, arith}
+use Rattle.std.proofs.Common.{◌≡◌, inl, inr, ◌≤◌, [], refl, sym, ◌∙◌, ap, subst, arith}
 use Rattle.std.proofs.lemmas.List.{append-nil}
 use Rattle.core_model.specs.CoreState.{Member}
 use Rattle.host_trait.specs.World.{Moment, Image, IsImage, moment_of}
+use Rattle.host_trait.specs.Faults.{Rose}
 use Rattle.host_trait.specs.declared.channels.Channel.{Channel}
+use Rattle.host_trait.specs.declared.channels.Channel.TheVariants.{Input}
 use Rattle.host_trait.specs.declared.channels.FileId.TheVariants.{Grain}
-use Rattle.request_wire.specs.Lines.{lines_of}
 use Rattle.promise_spec.specs.Programs.{Program}
 use Rattle.promise_spec.specs.Logs.{IsLog}
 use Rattle.promise_spec.specs.Moments.{IsImageOf}
-use Rattle.promise_spec.specs.Causes.{RoseBy}
-use Rattle.promise_spec.specs.Endings.{Done, DiskFault, HasRisen, IsCarried, HasLength, IsCalm}
+use Rattle.promise_spec.specs.Causes.{RoseBy, NoneRose}
+use Rattle.promise_spec.specs.Endings.{Ending, Done, BadUse, Memory, ReadFault, WriteFault, DiskFault, NotASilo, AlreadyASilo, Damaged, BadProgram, InputTooLong, HasRisen, IsCarried, IsAllWritten, IsCalm}
 use Rattle.promise_spec.specs.Crashes.{LeavesAlone}
 use Rattle.promise_spec.specs.Batches.{EndsABatch}
 use Rattle.promise_spec.specs.Courses.{Observed, moments, lines, core_end}
@@ -54,15 +55,35 @@ module _ (p : Program) (r : Observed) (opening : Log) (run : IsEmptyRun p r open
   disk_of m image there left = at_exit image (record { moment = m; member = there; left = left })
 
   no_fault : (channel : Channel) → RoseBy 0 (r.faults_before channel) (r.faults_after channel)
-  no_fault channel = let same : r.faults_after channel ≡ r.faults_before channel = run.faults channel in omega arith
+  no_fault channel = let same : r.faults_before channel ≤ r.faults_after channel = run.faults channel in omega (arith, same)
 
-  ended : HasRisen r.ending r.faults_before r.faults_after × IsCarried r.ending × HasLength r.ending (length r.old.input) × IsCalm r.ending
-  ended =
-      let few : length r.old.input ≤ 16777216 = subst (λ (l : List ℕ). length l ≤ 16777216) (sym run.input) (omega arith) in
-      subst (λ e. HasRisen e r.faults_before r.faults_after × IsCarried e × HasLength e (length r.old.input) × IsCalm e) (sym run.ending) (tt, tt, few, tt)
+  -- what has all written may come behind an opening
+  carried : (e : Ending) → IsAllWritten e → IsCarried e
+  carried Done all = tt
+  carried BadUse all = absurd all
+  carried Memory all = tt
+  carried ReadFault all = tt
+  carried WriteFault all = tt
+  carried (DiskFault file) all = tt
+  carried NotASilo all = absurd all
+  carried AlreadyASilo all = absurd all
+  carried (Damaged file place) all = absurd all
+  carried (BadProgram fault) all = absurd all
+  carried (InputTooLong line) all = tt
 
-  no_lines : length (lines r) ≡ 0
-  no_lines = ap (λ (l : List (List ℕ)). length l) run.given ∙ ap (λ (l : List ℕ). length (lines_of l)) run.input
+  -- and where no count rose, no fault ended it
+  calm : (e : Ending) → IsAllWritten e → HasRisen e r.faults_before r.faults_after → NoneRose r.faults_before r.faults_after → IsCalm e
+  calm Done all risen none = tt
+  calm BadUse all risen none = absurd all
+  calm Memory all risen none = tt
+  calm ReadFault all risen none = (let rose : Rose (r.faults_before Input) (r.faults_after Input) = risen in let n = none Input in absurd (omega (arith, rose, n.0, n.1)))
+  calm WriteFault all risen none = absurd all
+  calm (DiskFault file) all risen none = absurd all
+  calm NotASilo all risen none = absurd all
+  calm AlreadyASilo all risen none = absurd all
+  calm (Damaged file place) all risen none = absurd all
+  calm (BadProgram fault) all risen none = absurd all
+  calm (InputTooLong line) all risen none = tt
 
   pub kept : Keeps p r (empty_course r opening)
   kept = record {
@@ -126,7 +147,7 @@ module _ (p : Program) (r : Observed) (opening : Log) (run : IsEmptyRun p r open
       turns = λ single at e is. absurd (none_at at e is.there);
       caused = record { entries = λ x none. absurd none; units = λ u is. absurd (cc is) };
       faults = record { votes = λ g. no_fault _; seals = no_fault _ };
-      doubted = λ file is. absurd (let e : Done ≡ DiskFault file = sym run.ending ∙ is in cc e);
+      doubted = λ file is. absurd (subst IsAllWritten is run.ending);
       doubt_ends = λ doubt. absurd (none_at doubt.at _ doubt.doubt.there);
       unvoted = λ g m none there. elim there [
         | inl same ↦ ap (λ (n : Moment). n.disk (Grain 0 g)) same ∙ run.unwritten g
@@ -142,14 +163,13 @@ module _ (p : Program) (r : Observed) (opening : Log) (run : IsEmptyRun p r open
     };
     ended = record {
       given = run.given;
-      risen = ended.0;
-      carried = ended.1;
-      long = ended.2;
-      begun = inl refl;
-      done = λ is. record { input = run.left; answered = λ n low high. absurd (omega (arith, no_lines)) };
-      complete = λ calm. record { calm = ended.3; undisturbed = λ e none. absurd none };
+      risen = run.risen;
+      carried = carried r.ending run.ending;
+      read = record { pulled = run.pulled; input = run.input; few = omega arith; none = λ none. refl; good = refl; allowed = run.allowed };
+      answered = λ all n low high. absurd (omega (arith, low, high));
+      complete = λ none. record { calm = calm r.ending run.ending run.risen none; undisturbed = λ e none_there. absurd none_there };
       alone = λ single one none e there. absurd there;
-      syncs = λ calm is. run.syncs;
+      syncs = λ calm is. (let n = run.syncs in omega (arith, n));
       most = (let n = run.syncs in omega (arith, n));
     };
   }

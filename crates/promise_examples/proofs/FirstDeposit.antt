@@ -18,7 +18,8 @@ use Rattle.gate_block.specs.Log.{gate_of, LogsUpTo}
 use Rattle.gate_block.proofs.Logs as blocks
 use Rattle.gate_block.specs.Blocks.{block_of, found_at, shut}
 use Rattle.promise_spec.specs.Reports.{show_text, history_text, audit_text}
-use Rattle.promise_examples.specs.Examples.{account_log, accounts, account_program, account_1, deposit, first_commit, next_commit, first_version, grain_bytes, block_bytes, manager_bytes, folder, torn_folder, first_entry}
+use Rattle.field_codec.specs.Examples.{first_version}
+use Rattle.promise_examples.specs.Examples.{account_log, accounts, account_program, account_1, deposit, first_commit, next_commit, grain_bytes, block_bytes, manager_bytes, folder, torn_folder, first_entry}
 use Rattle.promise_examples.proofs.AccountLogs.{account_logged}
 use Rattle.promise_spec.proofs.Batched.{IsBatched}
 use Rattle.promise_spec.specs.Entries.{new_silo, Log, standing_of}

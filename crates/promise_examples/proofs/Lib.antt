@@ -6,6 +6,9 @@ pub mod MomentParts
 pub mod WholeBatches
 pub mod DepositRules
 pub mod EmptyRun
+pub mod WholeInputs
+pub mod BadLines
+pub mod CountedWindows
 pub mod DepositRun
 pub mod EmittedReplies
 pub mod ShownRuns

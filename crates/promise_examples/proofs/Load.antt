@@ -10,7 +10,7 @@ use Rattle.promise_spec.specs.Programs.{Program}
 use Rattle.promise_spec.specs.Logs.{IsLog}
 use Rattle.promise_spec.specs.Causes.{RunHasDoubt, NoneRose, syncs_of}
 use Rattle.promise_spec.specs.Endings as ending
-use Rattle.promise_spec.specs.Courses.{Observed, Course, order, moments, lines, core_run}
+use Rattle.promise_spec.specs.Courses.{Observed, Course, order, moments, lines, core_run, seen_at_entry}
 use Rattle.promise_examples.specs.DepositRuns.{deposit_course}
 use Rattle.promise_spec.specs.Loads.{load_calls, transfers_after, summary_text, KeepsLoad}
 
@@ -40,7 +40,7 @@ module _ (p : Program) (n seed : ℕ) (r : Observed) (c : Course) where
   pub told_too_soon : (m : Moment) (image : Image) → KeepsLoad p n seed r c → Member m (moments r c) → IsImage m.disk image → (IsLog c.live image (order c) → ⊥) → m.output ≢ r.old.output → ⊥
   told_too_soon m image keeps there left lacks said = lacks (keeps.lasting m image there left said)
 
-  pub other_syncs : KeepsLoad p n seed r c → NoneRose r.faults_before r.faults_after → r.ending ≡ ending.Done → r.new.syncs ≢ r.old.syncs + syncs_of (core_run p c) → ⊥
+  pub other_syncs : KeepsLoad p n seed r c → NoneRose r.faults_before r.faults_after → r.ending ≡ ending.Done → r.new.syncs ≢ r.old.syncs + syncs_of (seen_at_entry r) (core_run p c) → ⊥
   other_syncs keeps calm is differ = differ (keeps.ended.syncs calm is)
 
 pub summed : (r : Observed) (opened : Moment) (sealing : List Moment) → length (lines r) ≡ 1 → summary_text r (deposit_course opened sealing r) ≡ codes "{\"aborted\":0,\"committed\":1,\"faulted\":0,\"requests\":1,\"total\":5}\n"

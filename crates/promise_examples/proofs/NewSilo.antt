@@ -17,6 +17,7 @@ use Rattle.host_trait.specs.declared.channels.FileId.TheVariants.{Manager, Progr
 use Rattle.host_trait.specs.Disk.{FileState, Untouched, MayLeave, settled}
 use Rattle.host_trait.specs.World.{Image, IsImage, World}
 use Rattle.host_trait.proofs.Crashes.{settled_only}
+use Rattle.field_codec.specs.declared.formats.Format.TheVariants.{One}
 use Rattle.gate_block.specs.Log.{LogsUpTo, gate_of}
 use Rattle.gate_block.proofs.Logs as blocks
 use Rattle.grain_log.specs.Places.{IsVersionAt}
@@ -26,12 +27,14 @@ use Rattle.silo_spec.specs.Silos.{manager, program_file, IsSilo, HasProgram}
 use Rattle.request_wire.specs.Names.{TypeNames, names_in}
 use Rattle.request_wire.specs.Request.{shape_of, grain_of, method_of, args_of, passed, call_of}
 use Rattle.request_wire.proofs.Arguments.{json_of-read}
+use Rattle.silo_spec.specs.OpenedDisks.{opened_disk}
 use Rattle.promise_spec.specs.Programs.{ProgramFault, program_in}
 use Rattle.promise_spec.specs.Openings.{with_types, program_in_file}
 use Rattle.promise_spec.specs.Logs.{magic, HasLog}
 use Rattle.promise_spec.specs.Crashes.{IsAside}
 use Rattle.promise_spec.specs.Promise.{IsSoundFolder}
-use Rattle.promise_examples.specs.Examples.{account_log, account_text, accounts, account_program, program_bytes, account_1, deposit_of, read_call, first_version, grain_bytes, block_bytes, manager_of, manager_bytes, first_commit}
+use Rattle.field_codec.specs.Examples.{first_version}
+use Rattle.promise_examples.specs.Examples.{account_log, account_text, accounts, account_program, program_bytes, account_1, deposit_of, read_call, grain_bytes, block_bytes, manager_of, manager_bytes, first_commit}
 use Rattle.promise_examples.specs.DepositRuns.{HasNone, HasDeposit}
 use Rattle.promise_examples.specs.WrittenRun.{new_manager, disk_of, new_disk, pending_gate, sealing_disk, sealed_disk}
 use Rattle.promise_examples.proofs.FirstDeposit.{logged_batch, logged}
@@ -86,7 +89,7 @@ module _ (image : Image) (program_is : image program_file ≡ program_bytes) whe
                 record {
                   near = stands.near;
                   fields = stands.fields;
-                  version = subst (λ (f : List ℕ). IsVersionAt 1 (record { offset = 0; len = 19 }) f first_version) (sym grain_is) stands.version;
+                  version = subst (λ (f : List ℕ). IsVersionAt One 1 (record { offset = 0; len = 19 }) f first_version) (sym grain_is) stands.version;
                 },
                 tt,
               );
@@ -191,6 +194,13 @@ same_aside log grain later_log later_grain (Manager zero) is = absurd (is refl)
 same_aside log grain later_log later_grain (Manager (suc slot)) is = refl
 same_aside log grain later_log later_grain (Grain zero g) is = absurd (is refl)
 same_aside log grain later_log later_grain (Grain (suc slot) g) is = refl
+
+-- and an opening leaves them as they are
+pub opened_aside : (log grain : FileState) (file : FileId) → IsAside 0 file → opened_disk (disk_of log grain) file ≡ disk_of log grain file
+opened_aside log grain (ProgramFile slot) is = refl
+opened_aside log grain (Manager zero) is = absurd (is refl)
+opened_aside log grain (Manager (suc slot)) is = refl
+opened_aside log grain (Grain slot g) is = refl
 
 pub settled_stays : (bytes : List ℕ) → MayLeave (settled bytes) bytes
 settled_stays bytes = record { no_shorter = omega arith; no_longer = omega arith; same = λ i low untouched. refl }

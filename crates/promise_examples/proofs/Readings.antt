@@ -4,6 +4,7 @@ use Rattle.std.proofs.lemmas.Bool.{ne_eqb}
 use Rattle.std.proofs.lemmas.List.{take_at}
 use Rattle.host_trait.specs.declared.channels.FileId.TheVariants.{Grain}
 use Rattle.host_trait.specs.World.{Image}
+use Rattle.field_codec.specs.declared.formats.Format.TheVariants.{One}
 use Rattle.field_codec.specs.Readers.{whole, refused, field, choice, when_known, chain, count_at, list_at}
 use Rattle.field_codec.specs.Fields.{value_at, exactly_at, unit_at, origin_at, answer_at, result_at}
 use Rattle.gate_block.specs.Blocks.{found_at}
@@ -127,7 +128,7 @@ header_damaged : (file : List ℕ) (place : ℕ) → is_silo file ≡ true → h
 header_damaged file place silo damage =
     ap (λ (b : Bool). with_slot (log_folder file) (if b then Some 0 else None)) silo
     ∙ ap (λ (r : Result Program ℕ). with_program 0 (log_folder file) r) file_is_read
-    ∙ ap (λ (d : Option ℕ). with_log 0 account_program (log_folder file) (behind_header d (records_behind (shape_in account_program) 15 (bodies_of file) (no_more (gate_of file) (found_at (gate_of file) file))))) damage
+    ∙ ap (λ (d : Option ℕ). with_log 0 account_program (log_folder file) (behind_header d (records_behind One (shape_in account_program) 15 (bodies_of file) (no_more (gate_of file) (found_at (gate_of file) file))))) damage
 
 pub header_byte : (byte : ℕ) → byte ≢ 0 → opened_as (log_changed 13 byte) ≡ DamagedAt manager 13
 header_byte byte other = header_damaged (changed 13 byte (manager_bytes 1)) 13 refl (rw (ne_eqb byte 0 other) refl)

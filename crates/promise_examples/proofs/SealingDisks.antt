@@ -10,6 +10,7 @@ use Rattle.host_trait.specs.World.{Image, IsImage, Disk, Moment}
 use Rattle.host_trait.proofs.Crashes.{settled_only}
 use Rattle.gate_block.specs.Log.{LogsUpTo}
 use Rattle.silo_spec.specs.Silos.{manager, program_file, IsSilo}
+use Rattle.silo_spec.specs.OpenedDisks.{opened_disk}
 use Rattle.promise_spec.specs.Logs.{magic}
 use Rattle.promise_spec.specs.Courses.{Observed}
 use Rattle.promise_spec.specs.Crashes.{LeavesAlone}
@@ -17,7 +18,7 @@ use Rattle.promise_examples.specs.Examples.{account_1, program_bytes, grain_byte
 use Rattle.promise_examples.specs.DepositRuns.{HasNone, HasDeposit, MayHaveDeposit, LeavesOthers, IsBetween}
 use Rattle.promise_examples.specs.WrittenRun.{new_manager, disk_of, new_disk, pending_block, pending_gate, sealing_disk, sealed_disk}
 use Rattle.promise_examples.proofs.HostSteps.{account_is}
-use Rattle.promise_examples.proofs.NewSilo.{gate_only, gate_is_silo, shut_has_none, has_none, same_aside, empty_images, sealing_images, sealed_images}
+use Rattle.promise_examples.proofs.NewSilo.{gate_only, gate_is_silo, shut_has_none, has_none, same_aside, empty_images, sealing_images, sealed_images, opened_aside}
 
 -- ---- the block while it's pending
 
@@ -84,7 +85,7 @@ sealed_front block gate c left = ap (λ (f : List ℕ). take 15 f) (settled_only
 module _ (r : Observed) (new : r.old.disk ≡ new_disk) where
   pub alone_of : (output : List ℕ) (log grain : FileState) → KeepsFront log → LeavesAlone 0 r (record { output = output; disk = disk_of log grain })
   alone_of output log grain keeps = record {
-    aside = λ file is. same_aside (settled new_manager) (settled []) log grain file is ∙ sym (ap (λ (d : Disk). d file) new);
+    aside = λ file is. same_aside (settled new_manager) (settled []) log grain file is ∙ sym (opened_aside (settled new_manager) (settled []) file is) ∙ sym (ap (λ (d : Disk). opened_disk d file) new);
     header = λ image left. keeps (image manager) (left manager) ∙ sym (ap (λ (d : Disk). take 15 (d manager).seen) new);
   }
 

@@ -57,9 +57,8 @@ module _ (p : Program) (r : Observed) (c : Course) (keeps : Keeps p r c) where
     given = keeps.ended.given;
     risen = keeps.ended.risen;
     carried = keeps.ended.carried;
-    long = keeps.ended.long;
-    begun = keeps.ended.begun;
-    done = keeps.ended.done;
+    read = keeps.ended.read;
+    answered = keeps.ended.answered;
     syncs = keeps.ended.syncs;
     most = keeps.ended.most;
   }

@@ -21,6 +21,7 @@ use Rattle.host_trait.specs.declared.channels.Channel.TheVariants.{File}
 use Rattle.host_trait.specs.declared.channels.FileId.TheVariants.{Manager, Grain}
 use Rattle.host_trait.specs.World.{Moment, Image, IsImage, moment_of}
 use Rattle.silo_spec.specs.Silos.{manager, program_file, HasProgram}
+use Rattle.silo_spec.specs.OpenedDisks.{opening_syncs}
 use Rattle.promise_spec.specs.Programs.{shape_in}
 use Rattle.promise_spec.specs.Records.{AreRecordsOf}
 use Rattle.promise_spec.specs.Logs.{IsPrefix}
@@ -30,7 +31,7 @@ use Rattle.promise_spec.specs.Cores.{applied_in, how_many}
 use Rattle.promise_spec.specs.TurnRule.{KeepsTurnRule}
 use Rattle.promise_spec.specs.Causes.{IsAbortedFor, NoneRose, RoseBy, RunHasDoubt, AreCaused, is_no, is_vote_of, is_unsealed, most_syncs_of}
 use Rattle.promise_spec.specs.Endings as ending
-use Rattle.promise_spec.specs.Courses.{Observed, Course, moments, lines, core_end}
+use Rattle.promise_spec.specs.Courses.{Observed, Course, moments, lines, core_end, seen_at_entry}
 use Rattle.promise_spec.specs.Orders.{IsOrdered}
 use Rattle.promise_spec.specs.Replies.{AreReplies, IsTrueOf}
 use Rattle.promise_spec.specs.Crashes.{LeavesAlone, SurvivesCrashes, StaySound, HoldsReplies}
@@ -38,7 +39,7 @@ use Rattle.promise_spec.specs.Batches.{EndsABatch}
 use Rattle.promise_spec.specs.Exits.{IsExit}
 use Rattle.promise_spec.specs.Explanation.{ComeOfEvents, AreSettled, IsExplained}
 use Rattle.promise_spec.specs.Journals.{Settlement, KeepsJournal, Backs, commits_of, entries_of}
-use Rattle.promise_spec.specs.Promise.{IsSoundFolder, HasEnded, Keeps}
+use Rattle.promise_spec.specs.Promise.{AllowedBy, IsSoundFolder, HasEnded, Keeps}
 use Rattle.promise_laws.specs.Obligations.{Shows}
 use Rattle.promise_examples.specs.Examples.{account_log, accounts, account_program, account_1, unit_no, voted_entry, dependent_entry, vote_entries, vote_events, account_run}
 use Rattle.promise_examples.specs.DepositRuns.{HasNone, LeavesOthers, IsBetween}
@@ -46,6 +47,7 @@ use Rattle.promise_examples.specs.VoteRuns.{IsVoteRun, vote_course}
 use Rattle.promise_spec.proofs.Lists.{none_at, both_parts}
 use Rattle.promise_spec.proofs.OneLog.{one_log}
 use Rattle.promise_laws.proofs.JournalCrashes.{commits_of-append, chained, longest, holds, whole as all_whole, sound}
+use Rattle.promise_examples.proofs.WholeInputs.{whole_read}
 use Rattle.promise_examples.proofs.MomentParts.{at_each, exit_there, all_less}
 use Rattle.promise_examples.proofs.WholeBatches.{no_batch}
 use Rattle.promise_examples.proofs.ShownRuns.{shows}
@@ -127,9 +129,9 @@ voted_on : (g : GrainId) → g ≡ account_1 → how_many (is_vote_of g) core �
 voted_on g same none = (let one : how_many (is_vote_of g) core ≡ 1 = subst (λ (x : GrainId). how_many (is_vote_of x) core ≡ 1) (sym same) one_vote in absurd (omega (arith, one, none)))
 
 -- one sync of the opening at most, and one of the vote
-two_most : most_syncs_of core ≡ 2
+two_most : (image : Image) → most_syncs_of image core ≡ opening_syncs image + 1
 unfolding put put_grain
-two_most = refl
+two_most image = refl
 
 no_seals : how_many is_unsealed core ≡ 0
 no_seals = ap (λ (events : List CoreEvent). count_by is_unsealed events) all_apply
@@ -308,10 +310,19 @@ module _ (r : Observed) (opened : Moment) (failing told : List Moment) (run : Is
   unfolding put put_grain
   few_emitted = omega arith
 
-  turns : KeepsTurnRule accounts (length (lines r)) r.manner.width r.manner.picks core
+  turns : KeepsTurnRule accounts r.windowed (length (lines r)) r.manner.width r.manner.picks core
   turns =
-      subst (λ n. KeepsTurnRule accounts n r.manner.width r.manner.picks core) (sym run.two)
-      (subst (λ w. KeepsTurnRule accounts 2 w r.manner.picks core) (sym run.pair.1) (subst (λ (picks : List ℕ). KeepsTurnRule accounts 2 2 picks core) (sym run.pair.2) vote_turn_rule))
+      subst (λ (windowed : Bool). KeepsTurnRule accounts windowed (length (lines r)) r.manner.width r.manner.picks core) (sym run.windowed)
+      (subst (λ n. KeepsTurnRule accounts true n r.manner.width r.manner.picks core) (sym run.two)
+      (subst (λ w. KeepsTurnRule accounts true 2 w r.manner.picks core) (sym run.pair.1) (subst (λ (picks : List ℕ). KeepsTurnRule accounts true 2 2 picks core) (sym run.pair.2) vote_turn_rule)))
+
+  begun_is : (core_end account_program course).units.lines ≡ 2
+  unfolding put put_grain
+  begun_is = refl
+
+  -- no more lines than are asked
+  few : (core_end account_program course).units.lines ≤ length (lines r)
+  few = (let begun : (core_end account_program course).units.lines ≡ 2 = begun_is in let all : length (lines r) ≡ 2 = run.two in omega (arith, begun, all))
 
   account_votes : RoseBy (how_many (is_no account_1) core) (r.faults_before (File (Grain 0 account_1))) (r.faults_after (File (Grain 0 account_1)))
   account_votes =
@@ -349,12 +360,9 @@ module _ (r : Observed) (opened : Moment) (failing told : List Moment) (run : Is
     unvoted = λ g m none there. apart m there g (λ same. voted_on g same none);
   }
 
-  begins : ending.IsBegun r.ending
-  begins = subst ending.IsBegun (sym run.ending) tt
-
-  statuses : ending.HasRisen r.ending r.faults_before r.faults_after × ending.IsCarried r.ending × ending.HasLength r.ending (length r.old.input)
+  statuses : ending.HasRisen r.ending r.faults_before r.faults_after × ending.IsCarried r.ending
   statuses =
-      subst (λ e. ending.HasRisen e r.faults_before r.faults_after × ending.IsCarried e × ending.HasLength e (length r.old.input)) (sym run.ending) (tt, tt, run.small)
+      subst (λ e. ending.HasRisen e r.faults_before r.faults_after × ending.IsCarried e) (sym run.ending) (tt, tt)
 
   not_calm : NoneRose r.faults_before r.faults_after → ⊥
   not_calm calm =
@@ -367,13 +375,15 @@ module _ (r : Observed) (opened : Moment) (failing told : List Moment) (run : Is
     given = run.given;
     risen = statuses.0;
     carried = statuses.1;
-    long = statuses.2;
-    begun = inr (record { ending = begins; input = run.left; short = run.small });
-    done = λ is. record { input = run.left; answered = λ n low high. answered n low (let two : length (lines r) ≡ 2 = run.two in omega arith) };
+    read =
+        whole_read account_program r course run.left refl run.good few
+        (λ none. absurd (let all : length (lines r) ≡ 2 = run.two in let zero : length (lines r) ≡ 0 = none in omega (arith, all, zero)))
+        (λ all. subst (λ (e : ending.Ending). AllowedBy e r.old.input r course.allowed) (sym run.ending) all);
+    answered = λ is n low high. answered n low (let two : length (lines r) ≡ 2 = run.two in let most : n ≤ length (lines r) = high in omega (arith, two, most));
     complete = λ calm. absurd (not_calm calm);
     alone = λ single one none e there. absurd (let two : r.manner.width ≡ 2 = run.pair.1 in let width : r.manner.width ≡ 1 = one in omega arith);
     syncs = λ calm is. absurd (not_calm calm);
-    most = (let n = run.syncs in let few : most_syncs_of core ≡ 2 = two_most in omega (arith, n, few));
+    most = (let n = run.syncs in let few : most_syncs_of (seen_at_entry r) core ≡ opening_syncs (seen_at_entry r) + 1 = two_most (seen_at_entry r) in omega (arith, n, few));
   }
 
   pub kept : Keeps account_program r course

@@ -1,4 +1,5 @@
 -- The run of two deposits in one batch that is written out shows what a run has to show, and so keeps its promise.
+use Rattle.promise_examples.proofs.WholeInputs.{whole_read}
 use Rattle.promise_examples.proofs.AccountLogs.{account_logged}
 use Rattle.std.proofs.Common.{◌≡◌, ◌⊎◌, inl, inr, ℕ, zero, suc, ◌+◌, ◌≤◌, List, [], ◌∷◌, ◌++◌, map, take, slice_index, pos, refl, sym, ◌∙◌, ap, subst, arith, lit<}
 use Rattle.std.specs.Prelude.{FitsSigned}
@@ -13,6 +14,7 @@ use Rattle.base_types.specs.declared.entries.Entry.{Entry}
 use Rattle.base_types.specs.declared.entries.Settled.TheVariants as settled_as
 use Rattle.base_types.specs.declared.stores.Version.{Version}
 use Rattle.core_model.specs.CoreState.{UnitNo, Member}
+use Rattle.field_codec.specs.declared.formats.Format.TheVariants.{One}
 use Rattle.field_codec.specs.declared.units.Numbers.TheVariants.{Logged}
 use Rattle.commit_log.specs.Bodies.{IsRecordIn}
 use Rattle.gate_block.specs.Blocks.{block_of}
@@ -31,7 +33,7 @@ use Rattle.promise_spec.specs.Blocks.{Records, body_of}
 use Rattle.promise_spec.specs.Logs.{magic, IsLog}
 use Rattle.promise_spec.specs.Outputs.{IsProper, Grew, reply_lines}
 use Rattle.promise_spec.specs.Causes.{RoseBy, most_syncs_of}
-use Rattle.promise_spec.specs.Courses.{moments, core_run, core_end}
+use Rattle.promise_spec.specs.Courses.{moments, core_run, core_end, seen_at_entry}
 use Rattle.promise_spec.specs.Crashes.{Acknowledges, LeavesAlone}
 use Rattle.promise_spec.specs.Batches.{EndsABatch}
 use Rattle.promise_spec.specs.Explanation.{AreSettled}
@@ -45,7 +47,8 @@ use Rattle.promise_spec.proofs.OneLog.{one_log}
 use Rattle.promise_laws.specs.Obligations.{SaysIn, Opens, Journals, ExplainsEvents, LeavesAtExit, EndsRightly, Shows}
 use Rattle.promise_laws.proofs.ShownRuns.{shown}
 use Rattle.promise_laws.proofs.ShownPromise.{promised}
-use Rattle.promise_examples.specs.Examples.{account_log, account_program, account_1, program_bytes, unit_no, first_commit, next_commit, first_version, first_entry, manager_of, account_text}
+use Rattle.field_codec.specs.Examples.{first_version}
+use Rattle.promise_examples.specs.Examples.{account_log, account_program, account_1, program_bytes, unit_no, first_commit, next_commit, first_entry, manager_of, account_text}
 use Rattle.promise_examples.specs.DepositRuns.{HasNone, LeavesOthers, IsBetween}
 use Rattle.promise_examples.specs.HostCalls.{IsHosted}
 use Rattle.promise_examples.specs.WrittenRun.{new_manager, disk_of, new_disk, pending_block, pending_gate, reply_text, opened}
@@ -59,7 +62,7 @@ use Rattle.promise_examples.proofs.SealingDisks.{sealed_front, gate_front, alone
 use Rattle.promise_examples.proofs.HostSteps.{pulled, ended, wrote_grain, wrote_log, synced_grain, synced_log, emitted}
 use Rattle.promise_examples.proofs.MomentParts.{at_each, exit_there, all_less}
 use Rattle.promise_examples.proofs.WholeBatches.{no_batch}
-use Rattle.promise_examples.proofs.BatchRules.{batch_unit_rule, batch_turn_rule, settled_is, emitted_is, records_are, both_end, no_doubt, no_votes, no_seals, voted_on, four_most, four_syncs}
+use Rattle.promise_examples.proofs.BatchRules.{batch_unit_rule, batch_turn_rule, settled_is, emitted_is, begun_is, records_are, both_end, no_doubt, no_votes, no_seals, voted_on, four_most, four_syncs}
 use Rattle.promise_examples.proofs.WrittenDoubt.{asks, sound_at_entry}
 
 -- ---- the bytes
@@ -77,13 +80,13 @@ abbrev last_version : Version
 last_version = record { unit = unit_no 2; state = Int (pos 9) ∷ [] }
 
 -- the file has both versions
-first_there : IsVersionAt 1 (record { offset = 0; len = 19 }) both_versions first_version
+first_there : IsVersionAt One 1 (record { offset = 0; len = 19 }) both_versions first_version
 first_there = record { version_is = logged_batch.kept.0.whole.0.version.version_is; here = refl }
 
-last_there : IsVersionAt 1 (record { offset = 19; len = 19 }) both_versions last_version
+last_there : IsVersionAt One 1 (record { offset = 19; len = 19 }) both_versions last_version
 last_there = record { version_is = record { fits = record { unit = lit< tt; state = (omega arith, (nine, tt)) }; count = refl; len = refl }; here = refl }
 
-last_fits : IsRecordIn Logged (shape_in account_program) (next_commit 4 9).logged
+last_fits : IsRecordIn One Logged (shape_in account_program) (next_commit 4 9).logged
 last_fits = record {
   units = record { unit = refl; parent = tt };
   fits = record {
@@ -128,7 +131,7 @@ module _ (image : Image) where
           record {
             near = lit< tt;
             fields = refl;
-            version = subst (λ (f : List ℕ). IsVersionAt 1 (record { offset = 0; len = 19 }) f first_version) (sym grain_is) first_there;
+            version = subst (λ (f : List ℕ). IsVersionAt One 1 (record { offset = 0; len = 19 }) f first_version) (sym grain_is) first_there;
           },
           tt,
         );
@@ -140,7 +143,7 @@ module _ (image : Image) where
             record {
               near = lit< tt;
               fields = refl;
-              version = subst (λ (f : List ℕ). IsVersionAt 1 (record { offset = 19; len = 19 }) f last_version) (sym grain_is) last_there;
+              version = subst (λ (f : List ℕ). IsVersionAt One 1 (record { offset = 19; len = 19 }) f last_version) (sym grain_is) last_there;
             },
             tt,
           );
@@ -398,16 +401,19 @@ answered (suc zero) low high = (first_entry, inl refl, refl)
 answered (suc (suc zero)) low high = (second_entry, inr (inl refl), refl)
 answered (suc (suc (suc n))) low high = absurd (omega arith)
 
+-- both lines have begun
+few_begun : (core_end account_program batch_course).units.lines ≤ 2
+few_begun = (let two : (core_end account_program batch_course).units.lines ≡ 2 = begun_is in omega (arith, two))
+
 ends : EndsRightly account_program batched batch_course
 ends = record {
   given = refl;
   risen = tt;
   carried = tt;
-  long = omega arith;
-  begun = inr (record { ending = tt; input = refl; short = omega arith });
-  done = λ is. record { input = refl; answered = answered };
-  syncs = λ calm is. ap (λ (n : ℕ). batched.old.syncs + n) (sym four_syncs);
-  most = (let few : most_syncs_of (core_run account_program batch_course) ≡ 4 = four_most in omega (arith, few));
+  read = whole_read account_program batched batch_course refl refl refl few_begun (λ none. absurd (let zero : 2 ≡ 0 = none in omega (arith, zero))) (λ all. all);
+  answered = λ is. answered;
+  syncs = λ calm is. ap (λ (n : ℕ). batched.old.syncs + n) (sym (four_syncs (seen_at_entry batched)));
+  most = (let few : most_syncs_of (seen_at_entry batched) (core_run account_program batch_course) ≡ 4 = four_most (seen_at_entry batched) in omega (arith, few));
 }
 
 pub batched_shows : Shows account_program batched batch_course
@@ -428,7 +434,7 @@ pub batched_keeps : Keeps account_program batched batch_course
 batched_keeps = shown account_program batched batch_course batched_shows
 
 pub batched_promises : Promises reading_manner batched
-batched_promises = promised account_program batched batch_course batched_shows reading_manner refl
+batched_promises = promised account_program batched batch_course batched_shows reading_manner refl refl
 
 -- ---- the host's calls
 

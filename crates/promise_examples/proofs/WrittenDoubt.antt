@@ -1,7 +1,8 @@
 -- The run that is written out, of two deposits of which one is left in doubt, meets all that is asked of such a run.
 use Rattle.host_trait.proofs.Crashes.{settled_only}
 use Rattle.log_reading.specs.Blocks.{header_damage}
-use Rattle.promise_spec.specs.Logs.{StandsUpTo}
+use Rattle.silo_spec.specs.OpenedDisks.{opening_syncs}
+use Rattle.promise_spec.specs.Logs.{magic, StandsUpTo}
 use Rattle.promise_examples.proofs.AccountLogs.{account_begins}
 use Rattle.std.proofs.Common.{◌≡◌, ◌≢◌, ◌⊎◌, inl, inr, ℕ, zero, suc, ◌+◌, ◌<◌, ◌≤◌, List, [], ◌∷◌, ◌++◌, length, take, drop, slice_index, refl, sym, ◌∙◌, ap, subst, arith}
 use Rattle.std.specs.List.{AllByRecursion}
@@ -16,10 +17,10 @@ use Rattle.host_trait.specs.Faults.{FailedOn}
 use Rattle.host_trait.specs.World.{Image, IsImage, Moment}
 use Rattle.cell_model.specs.Units.{same_grain}
 use Rattle.gate_block.specs.Log.{HasBlocks}
-use Rattle.silo_spec.specs.Silos.{manager, program_file}
+use Rattle.silo_spec.specs.Silos.{manager, program_file, IsSilo}
 use Rattle.promise_spec.specs.Programs.{shape_in}
 use Rattle.promise_spec.specs.Outputs.{reply_lines}
-use Rattle.promise_spec.specs.Courses.{lines}
+use Rattle.promise_spec.specs.Courses.{lines, seen_at_entry}
 use Rattle.promise_spec.specs.Exits.{HasBlock, DifferAt}
 use Rattle.promise_spec.specs.Promise.{IsSoundFolder, Keeps, Promises}
 use Rattle.promise_laws.specs.Obligations.{Shows}
@@ -30,7 +31,7 @@ use Rattle.promise_examples.specs.DoubtRuns.{IsDoubtRun, doubt_course, first_tol
 use Rattle.promise_examples.specs.HostCalls.{IsHosted}
 use Rattle.promise_examples.specs.WrittenRun.{new_manager, new_disk, version_pending, block_pending, gate_pending, sealing_disk, request_line, opened}
 use Rattle.promise_examples.specs.WrittenDoubt.{pair_manner, second_line, locked_text, doubt_text, told, doubting, pair_before, one_fault, doubted, doubted_steps}
-use Rattle.promise_examples.proofs.NewSilo.{has_deposit, other_bytes, gate_only, new_images, sealing_images, settled_stays, grain_stays, seen_possible, new_folder, sound_world, line_asks, has_program}
+use Rattle.promise_examples.proofs.NewSilo.{gate_is_silo, has_deposit, other_bytes, gate_only, new_images, sealing_images, settled_stays, grain_stays, seen_possible, new_folder, sound_world, line_asks, has_program}
 use Rattle.promise_examples.proofs.SealingDisks.{at_new, at_block, at_staged, at_sealing}
 use Rattle.promise_examples.proofs.HostSteps.{pulled, ended, wrote_grain, wrote_log, synced_grain, synced_log, unsynced_log, emitted}
 use Rattle.promise_examples.proofs.WrittenRun.{version_wrote, block_wrote, gate_wrote}
@@ -64,7 +65,7 @@ module _ (image : Image) (left : IsImage sealing_disk image) where
   file_is = gate_only block_bytes (image manager) (left manager)
 
   front : StandsUpTo 0 image (account_log []) [] 15
-  front = account_begins image (ap header_damage file_is) (has_program image (settled_only program_bytes (image program_file) (left program_file)))
+  front = account_begins image (subst (IsSilo magic) (sym file_is) (gate_is_silo block_bytes gate)) (ap header_damage file_is) (has_program image (settled_only program_bytes (image program_file) (left program_file)))
       (subst (λ (f : List ℕ). HasBlocks [] 15 f) (sym file_is) (record { small = tt; at = refl; within = omega arith; blocks = refl }))
 
   block : HasBlock 0 15 (first_commit ∷ []) image
@@ -120,7 +121,8 @@ pub is_doubt_run : IsDoubtRun doubted opened told doubting
 is_doubt_run = record {
   ending = refl;
   pair = (refl, refl, refl);
-  small = omega arith;
+  windowed = refl;
+  good = refl;
   two = refl;
   given = refl;
   asks = asks;
@@ -141,7 +143,7 @@ is_doubt_run = record {
   differ = differ;
   alone = ((at_new doubted refl [] (settled [])).alone, (at_sealing doubted refl (locked_text ++ doubt_text)).alone);
   apart = ((at_new doubted refl [] (settled [])).apart, (at_sealing doubted refl (locked_text ++ doubt_text)).apart);
-  syncs = omega arith;
+  syncs = (let own : opening_syncs (seen_at_entry doubted) ≡ 1 = refl in omega (arith, own));
   some = seen_at_exit;
   possible = exit_possible;
   there = exit_has;
@@ -160,7 +162,7 @@ pub doubted_shows : Shows account_program doubted (doubt_course opened told doub
 doubted_shows = shown doubted opened told doubting is_doubt_run sound_at_entry new_folder (seen_possible new_manager [])
 
 pub doubted_promises : Promises pair_manner doubted
-doubted_promises = promised account_program doubted (doubt_course opened told doubting doubted) doubted_shows pair_manner refl
+doubted_promises = promised account_program doubted (doubt_course opened told doubting doubted) doubted_shows pair_manner refl refl
 
 -- ---- the host's calls
 

@@ -3,6 +3,7 @@ use Rattle.std.proofs.Common.{◌≡◌, inl, ℕ, [], ◌∷◌, take, Result, 
 use Rattle.host_trait.specs.Disk.{settled}
 use Rattle.silo_spec.specs.Silos.{manager}
 use Rattle.silo_spec.specs.Moments.{IsUntouched}
+use Rattle.silo_spec.specs.OpenedDisks.{opening_syncs}
 use Rattle.promise_spec.specs.Programs.{Program}
 use Rattle.promise_spec.specs.Openings.{DamagedAt, with_program, opened_as}
 use Rattle.promise_spec.specs.Words.{plain_manner}
@@ -29,10 +30,10 @@ untouched = record {
 }
 
 pub unopened : IsUnopened refused
-unopened = record { untouched = untouched; unread = refl; syncs = omega arith; refused = reads; failed = λ channel. refl }
+unopened = record { untouched = untouched; unread = refl; syncs = (let own : opening_syncs (seen_at_entry refused) ≡ 1 = refl in omega (arith, own)); refused = reads; failed = λ channel. refl }
 
 pub refused_promises : Promises plain_manner refused
-refused_promises = record { manner = refl; answers = inl unopened; over_whole = λ whole. inl unopened }
+refused_promises = record { manner = refl; windowed = refl; answers = inl unopened; over_whole = λ whole. inl unopened }
 
 -- ---- the host's calls
 

@@ -36,7 +36,8 @@ pub is_deposit_run : IsDepositRun written_run opened sealing
 is_deposit_run = record {
   ending = refl;
   single = (refl, refl, refl);
-  small = omega arith;
+  windowed = refl;
+  good = refl;
   one = refl;
   given = refl;
   asks = asks;
@@ -77,7 +78,7 @@ pub written_shows : Shows account_program written_run (deposit_course opened sea
 written_shows = shown written_run opened sealing is_deposit_run sound_at_entry new_folder (seen_possible new_manager [])
 
 pub written_promises : Promises plain_manner written_run
-written_promises = promised account_program written_run (deposit_course opened sealing written_run) written_shows plain_manner refl
+written_promises = promised account_program written_run (deposit_course opened sealing written_run) written_shows plain_manner refl refl
 
 -- ---- the host's calls
 

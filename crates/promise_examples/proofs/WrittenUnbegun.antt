@@ -1,7 +1,8 @@
 -- The run that is written out, of a doubt whose gate's write never began, shows what has to be shown, and keeps the promise.
 use Rattle.log_reading.specs.Blocks.{header_damage}
+use Rattle.promise_examples.proofs.WholeInputs.{whole_read}
 use Rattle.promise_examples.proofs.AccountLogs.{account_begins}
-use Rattle.std.proofs.Common.{◌≡◌, ◌≢◌, inl, inr, ℕ, ◌≤◌, List, [], ◌∷◌, ◌++◌, length, take, drop, slice_index, refl, sym, ◌∙◌, ap, subst, arith}
+use Rattle.std.proofs.Common.{◌≡◌, ◌≢◌, inl, ℕ, ◌≤◌, List, [], ◌∷◌, ◌++◌, length, take, drop, slice_index, refl, sym, ◌∙◌, ap, subst, arith}
 use Rattle.std.specs.Fmt.{digits}
 use Rattle.std.specs.List.{AllByRecursion}
 use Rattle.serde_json.proofs.OnLiterals.{serde_json_on_literals}
@@ -14,15 +15,15 @@ use Rattle.host_trait.proofs.Crashes.{settled_only}
 use Rattle.core_model.specs.SerialOrder.{chosen}
 use Rattle.core_model.specs.CoreState.{GrainId, Member, put, put_grain}
 use Rattle.gate_block.specs.Log.{HasBlocks}
-use Rattle.silo_spec.specs.Silos.{manager, program_file}
+use Rattle.silo_spec.specs.Silos.{manager, program_file, IsSilo}
 use Rattle.promise_spec.specs.Programs.{shape_in}
 use Rattle.promise_spec.specs.Entries.{Log}
 use Rattle.promise_spec.specs.Records.{AreRecordsOf}
-use Rattle.promise_spec.specs.Logs.{IsLog, StandsUpTo}
+use Rattle.promise_spec.specs.Logs.{magic, IsLog, StandsUpTo}
 use Rattle.promise_spec.specs.Outputs.{Grew, reply_lines}
 use Rattle.promise_spec.specs.Causes.{RoseBy, NoneRose, most_syncs_of}
 use Rattle.promise_spec.specs.Endings.{DiskFault}
-use Rattle.promise_spec.specs.Courses.{moments, core_run, core_end}
+use Rattle.promise_spec.specs.Courses.{moments, core_run, core_end, seen_at_entry}
 use Rattle.promise_spec.specs.Crashes.{LeavesAlone}
 use Rattle.promise_spec.specs.Batches.{EndsABatch}
 use Rattle.promise_spec.specs.Explanation.{AreAdded, AreSettled}
@@ -40,7 +41,7 @@ use Rattle.promise_examples.specs.HostCalls.{IsHosted}
 use Rattle.promise_examples.specs.WrittenRun.{new_manager, new_disk, version_pending, block_pending, staged_disk, opened}
 use Rattle.promise_examples.specs.WrittenDoubt.{pair_manner, locked_text, doubt_text, pair_before, one_fault}
 use Rattle.promise_examples.specs.WrittenUnbegun.{gate_failing, unbegun_after, unbegun, unbegun_course, unbegun_steps}
-use Rattle.promise_examples.proofs.NewSilo.{new_images, seen_possible, new_folder, has_program}
+use Rattle.promise_examples.proofs.NewSilo.{gate_is_silo, new_images, seen_possible, new_folder, has_program}
 use Rattle.promise_examples.proofs.SealingDisks.{at_new, at_block, at_staged}
 use Rattle.promise_examples.proofs.HostSteps.{pulled, ended, wrote_grain, wrote_log, unbegun_log, synced_grain, synced_log, emitted}
 use Rattle.promise_examples.proofs.MomentParts.{at_each, exit_there, all_less}
@@ -253,7 +254,7 @@ module _ (image : Image) (left : IsImage staged_disk image) where
 
   -- the empty log stands up to its gate
   front : StandsUpTo 0 image (account_log []) [] 15
-  front = account_begins image (ap header_damage staged_is) (has_program image (settled_only program_bytes (image program_file) (left program_file)))
+  front = account_begins image (subst (IsSilo magic) (sym staged_is) (gate_is_silo block_bytes 0)) (ap header_damage staged_is) (has_program image (settled_only program_bytes (image program_file) (left program_file)))
       (subst (λ (f : List ℕ). HasBlocks [] 15 f) (sym staged_is) (record { small = tt; at = refl; within = omega arith; blocks = refl }))
 
   -- it is the batch's
@@ -293,17 +294,21 @@ leaves = record {
 not_calm : NoneRose unbegun.faults_before unbegun.faults_after → ⊥
 not_calm calm = let same : 1 ≡ 0 = (calm (File manager)).0 in absurd (omega (arith, same))
 
+-- both lines have begun
+few_begun : (core_end account_program unbegun_course).units.lines ≤ 2
+unfolding put put_grain
+few_begun = omega arith
+
 -- how it ended
 ends : EndsRightly account_program unbegun unbegun_course
 ends = record {
   given = refl;
   risen = manager_fails.rose;
   carried = tt;
-  long = omega arith;
-  begun = inr (record { ending = tt; input = refl; short = omega arith });
-  done = λ is. absurd (cc is);
+  read = whole_read account_program unbegun unbegun_course refl refl refl few_begun (λ none. absurd (let zero : 2 ≡ 0 = none in omega (arith, zero))) (λ all. inl all);
+  answered = λ is. absurd is;
   syncs = λ calm is. absurd (not_calm calm);
-  most = (let few : most_syncs_of (core_run account_program unbegun_course) ≡ 4 = four_most in omega (arith, few));
+  most = (let few : most_syncs_of (seen_at_entry unbegun) (core_run account_program unbegun_course) ≡ 4 = four_most (seen_at_entry unbegun) in omega (arith, few));
 }
 
 -- all that has to be shown
@@ -326,7 +331,7 @@ unbegun_keeps = shown account_program unbegun unbegun_course unbegun_shows
 
 -- in the manner of its words
 pub unbegun_promises : Promises pair_manner unbegun
-unbegun_promises = promised account_program unbegun unbegun_course unbegun_shows pair_manner refl
+unbegun_promises = promised account_program unbegun unbegun_course unbegun_shows pair_manner refl refl
 
 -- ---- the host's calls
 

@@ -15,9 +15,10 @@ use Rattle.silo_spec.specs.Silos.{manager}
 use Rattle.host_trait.specs.Faults.{FailedOn}
 use Rattle.host_trait.specs.World.{Image}
 use Rattle.cell_model.specs.Units.{same_grain}
+use Rattle.silo_spec.specs.OpenedDisks.{opening_syncs}
 use Rattle.promise_spec.specs.Programs.{shape_in}
 use Rattle.promise_spec.specs.Outputs.{reply_lines}
-use Rattle.promise_spec.specs.Courses.{lines}
+use Rattle.promise_spec.specs.Courses.{lines, seen_at_entry}
 use Rattle.promise_spec.specs.Promise.{IsSoundFolder, Keeps, Promises}
 use Rattle.promise_laws.specs.Obligations.{Shows}
 use Rattle.promise_laws.proofs.ShownPromise.{promised}
@@ -87,7 +88,8 @@ pub is_vote_run : IsVoteRun voted opened failing vote_told
 is_vote_run = record {
   ending = refl;
   pair = (refl, refl, refl);
-  small = omega arith;
+  windowed = refl;
+  good = refl;
   two = refl;
   given = refl;
   asks = asks;
@@ -103,7 +105,7 @@ is_vote_run = record {
   behind = λ image left. ap (λ (f : List ℕ). drop (gate_of (image manager) + 1) f) (settled_only new_manager (image manager) (left manager));
   alone = ((at_new voted refl [] (settled [])).alone, (at_new voted refl (voted_text ++ dependent_text) version_cut).alone);
   apart = ((at_new voted refl [] (settled [])).apart, (at_new voted refl (voted_text ++ dependent_text) version_cut).apart);
-  syncs = omega arith;
+  syncs = (let own : opening_syncs (seen_at_entry voted) ≡ 1 = refl in omega (arith, own));
   some = seen_at_exit;
   possible = exit_possible;
   rose = refl;
@@ -121,7 +123,7 @@ pub voted_shows : Shows account_program voted (vote_course opened failing vote_t
 voted_shows = shown voted opened failing vote_told is_vote_run sound_at_entry new_folder (seen_possible new_manager [])
 
 pub voted_promises : Promises reading_manner voted
-voted_promises = promised account_program voted (vote_course opened failing vote_told voted) voted_shows reading_manner refl
+voted_promises = promised account_program voted (vote_course opened failing vote_told voted) voted_shows reading_manner refl refl
 
 -- ---- the host's calls
 

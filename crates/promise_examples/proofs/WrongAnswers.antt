@@ -1,6 +1,7 @@
 -- Answers that don't keep the promise, over any folder and to any words.
+use Rattle.silo_spec.specs.OpenedDisks.{opening_syncs}
 use Rattle.promise_spec.specs.Entries.{Log, standing_of}
-use Rattle.std.proofs.Common.{false, ◌≡◌, ◌≢◌, ◌⊎◌, inl, inr, ℕ, ◌+◌, ◌-◌, ◌^◌, ◌<◌, ◌≤◌, List, [], ◌∷◌, ◌++◌, length, Ok, Err, refl, sym, ap, subst, ◌∙◌, arith, true}
+use Rattle.std.proofs.Common.{false, ◌≡◌, ◌≢◌, ◌⊎◌, inl, inr, ℕ, ◌+◌, ◌-◌, ◌^◌, ◌<◌, ◌≤◌, List, [], ◌∷◌, ◌++◌, length, Some, None, Ok, Err, refl, sym, ap, subst, ◌∙◌, arith, true}
 use Rattle.std.proofs.lemmas.List.{append-nil, append_cancel_left}
 use Rattle.base_types.specs.declared.calls.GrainId.{GrainId}
 use Rattle.base_types.specs.declared.entries.Entry.{Entry}
@@ -25,17 +26,20 @@ use Rattle.promise_spec.specs.Openings.{Reading, NoSilo, DamagedAt, Reads, opene
 use Rattle.promise_spec.specs.Outputs.{reply_lines}
 use Rattle.promise_spec.specs.Words.{Command, Init, Run, Show, History, Audit, Load, Check, Manner}
 use Rattle.promise_spec.specs.Endings as ending
-use Rattle.promise_spec.specs.Courses.{Observed, seen_at_entry}
-use Rattle.promise_spec.specs.Refusals.{IsHead, IsNamedIn, IsReadFor, IsRefusedBy, MustBeRead, IsUnopened}
+use Rattle.promise_spec.specs.Windows.{first_bad, told_number, before_bad, whole_windows}
+use Rattle.promise_spec.specs.Courses.{Observed, lines, seen_at_entry}
+use Rattle.promise_spec.specs.Refusals.{IsHead, IsNamedIn, IsReadFor, IsRefusedBy, MustBeRead, IsUnopened, IsEitherManager}
 use Rattle.promise_spec.specs.Reports.{show_text, history_text}
-use Rattle.promise_spec.specs.Promise.{Promises}
-use Rattle.promise_laws.specs.AnsweredRuns.{HasOpened}
+use Rattle.promise_spec.specs.Promise.{AllowsBefore, AllowedBy, Promises}
+use Rattle.promise_laws.specs.AnsweredRuns.{HasAnswered, HasOpened}
 use Rattle.promise_laws.proofs.OpenedRuns.{anywhere_opened}
 use Rattle.promise_spec.specs.Commands.{MakesAs, MakesSilo, MayCut, IsReported, Reports, Audits}
 use Rattle.promise_spec.specs.Loads.{IsUnmadeBy, from_there, Loads}
 use Rattle.promise_spec.specs.Checks.{Checks}
 use Rattle.promise_spec.specs.Calls.{Understands, Obeys, Serves, AnswersAs, GoesOn}
-use Rattle.promise_spec.proofs.Lists.{in_append}
+use Rattle.promise_spec.proofs.Lists.{some_is, in_append}
+use Rattle.promise_examples.proofs.WholeInputs.{all_lines}
+use Rattle.promise_examples.proofs.BadLines.{one_front}
 use Rattle.promise_spec.proofs.Openings.{log_is_read, no_silo_is_read, sound_is_read, reads_is, reads_is_live}
 use Rattle.silo_spec.specs.Slots.{IsLive}
 
@@ -52,25 +56,29 @@ not_none reading live log a b = let e : Reads live log ≡ NoSilo = sym a ∙ b 
 pub not_opened : (r : Observed) → IsUnopened r → r.ending ≡ ending.Done → ⊥
 not_opened r unopened is = subst (IsRefusedBy (seen_at_entry r) (opened_as (seen_at_entry r))) is unopened.refused
 
-pub two_syncs : (r : Observed) → IsUnopened r → r.old.syncs + 1 < r.new.syncs → ⊥
-two_syncs r unopened more = let most = unopened.syncs in omega (arith, most, more)
+pub more_syncs : (r : Observed) → IsUnopened r → r.old.syncs + opening_syncs (seen_at_entry r) < r.new.syncs → ⊥
+more_syncs r unopened more = let most = unopened.syncs in omega (arith, most, more)
 
 pub read_unopened : (r : Observed) → IsUnopened r → r.old.input ≢ [] → r.new.input ≡ [] → ⊥
 read_unopened r unopened some all = some (sym unopened.unread ∙ all)
 
--- a grain's file is not the manager file, nor the program's
+-- a grain's file is not a manager file, nor a program's
 not_manager : (live slot : ℕ) (grain : GrainId) → file.Grain slot grain ≡ file.Manager live → ⊥
 not_manager live slot grain same = absurd (cc same)
 
-no_head : (slot : ℕ) (grain : GrainId) → IsHead (file.Grain slot grain) → ⊥
-no_head slot grain (inl same) = absurd (cc same)
-no_head slot grain (inr same) = absurd (cc same)
+neither_manager : (slot : ℕ) (grain : GrainId) → IsEitherManager (file.Grain slot grain) → ⊥
+neither_manager slot grain (inl same) = absurd (cc same)
+neither_manager slot grain (inr same) = absurd (cc same)
+
+no_head : (live slot : ℕ) (grain : GrainId) → IsHead live (file.Grain slot grain) → ⊥
+no_head live slot grain (inl either) = neither_manager slot grain either
+no_head live slot grain (inr same) = absurd (cc same)
 
 same_file : (live slot : ℕ) (grain other : GrainId) → file.Grain slot grain ≡ file.Grain live other → (live ≡ slot) × (other ≡ grain)
 same_file live slot grain other same = (cc, cc)
 
 named_of_file : (image : Image) (live slot : ℕ) (grain : GrainId) → IsReadFor live image (file.Grain slot grain) → IsNamedIn slot image grain
-named_of_file image live slot grain (inl head) = absurd (no_head slot grain head)
+named_of_file image live slot grain (inl head) = absurd (no_head live slot grain head)
 named_of_file image live slot grain (inr named) =
     let same = same_file live slot grain named.0 named.1 in
     subst (λ (n : ℕ). IsNamedIn n image grain) same.0 (subst (IsNamedIn live image) same.1 named.2)
@@ -83,6 +91,11 @@ said_some shape (x ∷ entries) e there same =
     let all : List ℕ = reply_lines shape (x ∷ entries) in
     let inside : Member 10 all = in_append 10 (reply_line shape x) (reply_lines shape entries) (inl feed) in
     absurd (subst (λ (l : List ℕ). Member 10 l) (sym same) (in_append 10 all [] (inl inside)))
+
+-- a list without a member is empty
+no_member : {A : Type 0} (xs : List A) → ((x : A) → Member x xs → ⊥) → xs ≡ []
+no_member [] none = refl
+no_member (x ∷ xs) none = absurd (none x (inl refl))
 
 -- what a run answers over any folder: it wasn't opened, or it was
 answered : (m : Manner) (r : Observed) → Promises m r → IsUnopened r ⊎ HasOpened r
@@ -127,18 +140,17 @@ module _ (m : Manner) (r : Observed) where
   grain_blamed slot grain keeps none is = elim (answered m r keeps) [
     | inl unopened ↦
         let must : MustBeRead (seen_at_entry r) (opened_as (seen_at_entry r)) (file.Grain slot grain) = subst (IsRefusedBy (seen_at_entry r) (opened_as (seen_at_entry r))) is unopened.refused in
-        let same : file.Grain slot grain ≡ manager = subst (λ (reading : Reading). MustBeRead (seen_at_entry r) reading (file.Grain slot grain)) ((no_silo_is_read (seen_at_entry r)).1 none) must in
-        absurd (cc same)
+        neither_manager slot grain (subst (λ (reading : Reading). MustBeRead (seen_at_entry r) reading (file.Grain slot grain)) ((no_silo_is_read (seen_at_entry r)).1 none) must)
     | inr opened ↦ not_none (opened_as (seen_at_entry r)) opened.openable.live opened.openable.log opened.openable.reads ((no_silo_is_read (seen_at_entry r)).1 none)
   ]
 
   -- where a grain's file is blamed a record names the grain
   named_of_reading : (image : Image) (reading : Reading) (slot : ℕ) (grain : GrainId) → MustBeRead image reading (file.Grain slot grain) → IsNamedIn slot image grain
-  named_of_reading image NoSilo slot grain must = absurd (cc must)
-  named_of_reading image (DamagedAt (file.Program other) place) slot grain must = absurd (no_head slot grain must)
-  named_of_reading image (DamagedAt (file.Manager other) place) slot grain must = absurd (no_head slot grain must)
+  named_of_reading image NoSilo slot grain must = absurd (neither_manager slot grain must)
+  named_of_reading image (DamagedAt (file.Program other) place) slot grain must = absurd (no_head other slot grain must)
+  named_of_reading image (DamagedAt (file.Manager other) place) slot grain must = absurd (no_head other slot grain must)
   named_of_reading image (DamagedAt (file.Grain other last) place) slot grain must = elim must [
-    | inl head ↦ absurd (no_head slot grain head)
+    | inl head ↦ absurd (no_head other slot grain head)
     | inr g ↦ named_of_file image other slot grain (inr (g.0, g.1, g.2))
   ]
   named_of_reading image (Reads live log) slot grain must = named_of_file image live slot grain must
@@ -153,7 +165,7 @@ module _ (m : Manner) (r : Observed) where
   -- a grain behind the first damaged one has not to be read
   not_behind : (last grain : GrainId) (live place slot : ℕ) → is_before last grain ≡ true → MustBeRead (seen_at_entry r) (DamagedAt (file.Grain live last) place) (file.Grain slot grain) → ⊥
   not_behind last grain live place slot later must = elim must [
-    | inl head ↦ no_head slot grain head
+    | inl head ↦ no_head live slot grain head
     | inr g ↦
         let same : g.0 ≡ grain = (same_file live slot grain g.0 g.1).1 in
         let early : is_before last grain ≡ false = subst (λ (k : GrainId). is_before last k ≡ false) same g.3 in
@@ -169,21 +181,121 @@ module _ (m : Manner) (r : Observed) where
     | inr opened ↦ not_two (opened_as (seen_at_entry r)) opened.openable.live opened.openable.log (file.Grain live last) place opened.openable.reads damaged
   ]
 
+  -- where all that is settled was written, each line that may begin is answered
+  opened_answered : (e : ending.Ending) → (opened : HasOpened r) → r.ending ≡ e → ending.IsAllWritten e → HasAnswered (standing_of opened.openable.log).program r
+  opened_answered e opened is all = opened.answered (subst ending.IsAllWritten (sym is) all)
+
+  -- so many may begin, by the ending
+  allowed_by : (e : ending.Ending) (p : Program) (a : HasAnswered p r) → r.ending ≡ e → AllowedBy e a.pulled r a.allowed
+  allowed_by e p a is = subst (λ (x : ending.Ending). AllowedBy x a.pulled r a.allowed) is a.by_ending
+
+  -- who answers a line writes something
+  answers_some : (p : Program) (a : HasAnswered p r) → 1 ≤ a.allowed → r.new.output ≡ r.old.output → ⊥
+  answers_some p a some quiet =
+      let e = a.each 1 (omega arith) some in
+      let text : List ℕ = reply_lines (shape_in p) a.entries in
+      let none : [] ≡ text ++ [] = append_cancel_left r.old.output [] (text ++ []) (append-nil r.old.output ∙ sym quiet ∙ a.output.output) in
+      said_some (shape_in p) a.entries e.0 e.1 none
+
+  -- and who answers none writes nothing
+  answers_none : (p : Program) (a : HasAnswered p r) → a.allowed ≡ 0 → r.new.output ≡ r.old.output
+  answers_none p a none =
+      let empty : a.entries ≡ [] = no_member a.entries (λ e there. (let w = a.within e there in omega (arith, w.0, w.1, none))) in
+      a.output.output ∙ ap (λ (entries : List Entry). r.old.output ++ (reply_lines (shape_in p) entries ++ [])) empty ∙ append-nil r.old.output
+
   pub done_unread : Promises m r → r.ending ≡ ending.Done → r.new.input ≢ [] → ⊥
   done_unread keeps is some = elim (answered m r keeps) [
     | inl unopened ↦ not_opened r unopened is
-    | inr opened ↦ some (opened.done is).input
+    | inr opened ↦ some (allowed_by ending.Done (standing_of opened.openable.log).program (opened_answered ending.Done opened is tt) is).input
   ]
 
   pub done_unanswered : Promises m r → r.ending ≡ ending.Done → 1 ≤ length (lines_of r.old.input) → r.new.output ≡ r.old.output → ⊥
   done_unanswered keeps is line quiet = elim (answered m r keeps) [
     | inl unopened ↦ not_opened r unopened is
     | inr opened ↦
-        let a = opened.done is in
-        let e = a.each 1 (omega arith) line in
-        let text : List ℕ = reply_lines (shape_in (standing_of opened.openable.log).program) a.entries in
-        let none : [] ≡ text ++ [] = append_cancel_left r.old.output [] (text ++ []) (append-nil r.old.output ∙ sym quiet ∙ a.output.output) in
-        said_some (shape_in (standing_of opened.openable.log).program) a.entries e.0 e.1 none
+        let a = opened_answered ending.Done opened is tt in
+        let all : a.allowed ≡ length (lines_of r.old.input) = (allowed_by ending.Done (standing_of opened.openable.log).program a is).all ∙ ap length opened.given in
+        answers_some (standing_of opened.openable.log).program a (omega (arith, all, line)) quiet
+  ]
+
+  -- the lines of whole windows in what was pulled, where reading failed
+  fault_allows : (front : List ℕ) (p : Program) (a : HasAnswered p r) → r.ending ≡ ending.ReadFault → r.old.input ≡ front ++ r.new.input → a.allowed ≡ whole_windows front
+  fault_allows front p a is split = (allowed_by ending.ReadFault p a is).windows ∙ ap whole_windows (one_front r.old.input r.new.input a.pulled front a.input split)
+
+  pub fault_forgets : (front : List ℕ) → Promises m r → r.ending ≡ ending.ReadFault → r.old.input ≡ front ++ r.new.input → 1 ≤ whole_windows front → r.new.output ≡ r.old.output → ⊥
+  fault_forgets front keeps is split some quiet = elim (answered m r keeps) [
+    | inl unopened ↦ subst (IsRefusedBy (seen_at_entry r) (opened_as (seen_at_entry r))) is unopened.refused
+    | inr opened ↦
+        let a = opened_answered ending.ReadFault opened is tt in
+        let so_many : a.allowed ≡ whole_windows front = fault_allows front (standing_of opened.openable.log).program a is split in
+        answers_some (standing_of opened.openable.log).program a (omega (arith, so_many, some)) quiet
+  ]
+
+  pub fault_says : (front : List ℕ) → Promises m r → r.ending ≡ ending.ReadFault → r.old.input ≡ front ++ r.new.input → whole_windows front ≡ 0 → r.new.output ≢ r.old.output → ⊥
+  fault_says front keeps is split none said = elim (answered m r keeps) [
+    | inl unopened ↦ said unopened.untouched.now.quiet
+    | inr opened ↦
+        let a = opened_answered ending.ReadFault opened is tt in
+        said (answers_none (standing_of opened.openable.log).program a (fault_allows front (standing_of opened.openable.log).program a is split ∙ none))
+  ]
+
+  module _ (told : ℕ) (is : r.ending ≡ ending.InputTooLong told) where
+    -- which lines may begin where one is too long
+    long_allows : (p : Program) (a : HasAnswered p r) → AllowsBefore a.pulled told r a.allowed
+    long_allows p a = allowed_by (ending.InputTooLong told) p a is
+
+    -- the input's first bad line
+    long_number : (number : ℕ) (opened : HasOpened r) → first_bad 0 (lines_of r.old.input) ≡ Some number
+        → (long_allows (standing_of opened.openable.log).program (opened_answered (ending.InputTooLong told) opened is tt)).number ≡ number
+    long_number number opened first =
+        let a = opened_answered (ending.InputTooLong told) opened is tt in
+        let l = long_allows (standing_of opened.openable.log).program a in
+        some_is l.number number (sym l.first ∙ ap (first_bad 0) opened.given ∙ first)
+
+    pub long_forgets : (number : ℕ) → Promises m r → first_bad 0 (lines_of r.old.input) ≡ Some number → 1 ≤ before_bad number → r.new.output ≡ r.old.output → ⊥
+    long_forgets number keeps first some quiet = elim (answered m r keeps) [
+      | inl unopened ↦ subst (IsRefusedBy (seen_at_entry r) (opened_as (seen_at_entry r))) is unopened.refused
+      | inr opened ↦
+          let a = opened_answered (ending.InputTooLong told) opened is tt in
+          let so_many : a.allowed ≡ before_bad number = (long_allows (standing_of opened.openable.log).program a).before ∙ ap before_bad (long_number number opened first) in
+          answers_some (standing_of opened.openable.log).program a (omega (arith, so_many, some)) quiet
+    ]
+
+    pub long_says : (number : ℕ) → Promises m r → first_bad 0 (lines_of r.old.input) ≡ Some number → before_bad number ≡ 0 → r.new.output ≢ r.old.output → ⊥
+    long_says number keeps first none said = elim (answered m r keeps) [
+      | inl unopened ↦ said unopened.untouched.now.quiet
+      | inr opened ↦
+          let a = opened_answered (ending.InputTooLong told) opened is tt in
+          said (answers_none (standing_of opened.openable.log).program a ((long_allows (standing_of opened.openable.log).program a).before ∙ ap before_bad (long_number number opened first) ∙ none))
+    ]
+
+    pub long_misnumbers : (number : ℕ) → Promises m r → first_bad 0 (lines_of r.old.input) ≡ Some number → told ≢ told_number number → ⊥
+    long_misnumbers number keeps first differ = elim (answered m r keeps) [
+      | inl unopened ↦ subst (IsRefusedBy (seen_at_entry r) (opened_as (seen_at_entry r))) is unopened.refused
+      | inr opened ↦
+          let a = opened_answered (ending.InputTooLong told) opened is tt in
+          differ ((long_allows (standing_of opened.openable.log).program a).is_told ∙ ap told_number (long_number number opened first))
+    ]
+
+    pub long_blames : Promises m r → first_bad 0 (lines_of r.old.input) ≡ None → ⊥
+    long_blames keeps none = elim (answered m r keeps) [
+      | inl unopened ↦ subst (IsRefusedBy (seen_at_entry r) (opened_as (seen_at_entry r))) is unopened.refused
+      | inr opened ↦
+          let a = opened_answered (ending.InputTooLong told) opened is tt in
+          let l = long_allows (standing_of opened.openable.log).program a in
+          let some : Some l.number ≡ None = sym l.first ∙ ap (first_bad 0) opened.given ∙ none in
+          absurd (cc some)
+    ]
+
+  pub done_passes : (number : ℕ) → Promises m r → r.ending ≡ ending.Done → first_bad 0 (lines_of r.old.input) ≡ Some number → ⊥
+  done_passes number keeps is first = elim (answered m r keeps) [
+    | inl unopened ↦ not_opened r unopened is
+    | inr opened ↦
+        let a = opened_answered ending.Done opened is tt in
+        let all : a.allowed ≡ length (lines r) = (allowed_by ending.Done (standing_of opened.openable.log).program a is).all in
+        let good : first_bad 0 (lines r) ≡ None = subst (λ (l : List (List ℕ)). first_bad 0 l ≡ None) (all_lines (lines r) a.allowed all) a.good in
+        let some : Some number ≡ None = sym first ∙ sym (ap (first_bad 0) opened.given) ∙ good in
+        absurd (cc some)
   ]
 
   pub grain_fault_opened : (slot : ℕ) (grain : GrainId) → Promises m r → r.new.input ≢ r.old.input → r.ending ≡ ending.DiskFault (file.Grain slot grain) → ⊥
@@ -192,10 +304,10 @@ module _ (m : Manner) (r : Observed) where
     | inr opened ↦ not_manager opened.openable.live slot grain (opened.file (file.Grain slot grain) is)
   ]
 
-  pub said_unbegun : Promises m r → (ending.IsBegun r.ending → ⊥) → r.new.output ≢ r.old.output → ⊥
-  said_unbegun keeps never said = elim (answered m r keeps) [
+  pub said_unopened : Promises m r → (ending.IsCarried r.ending → ⊥) → r.new.output ≢ r.old.output → ⊥
+  said_unopened keeps never said = elim (answered m r keeps) [
     | inl unopened ↦ said unopened.untouched.now.quiet
-    | inr opened ↦ said (opened.unbegun never)
+    | inr opened ↦ never opened.carried
   ]
 
 -- ---- reports
@@ -278,7 +390,7 @@ unloaded n seed m r loads is = elim loads.answers [
   | inl unmade ↦ subst (λ (e : ending.Ending). IsUnmadeBy e r) is unmade.ends_as
   | inr from ↦ elim from.carried [
     | inl unopened ↦ unopened_bad (from_there r from.made) unopened is
-    | inr course ↦ subst ending.IsBegun is course.2.ended.carried
+    | inr course ↦ subst ending.IsLoadCarried is course.2.ended.carried
   ]
 ]
 

@@ -1,9 +1,11 @@
 -- Runs that don't keep the promise.
+use Rattle.silo_spec.specs.OpenedDisks.{opening_syncs, opened_disk}
 use Rattle.promise_spec.specs.Prefixes.{IsPrefixOf}
 use Rattle.promise_spec.proofs.Prefixes.{grown_front}
 use Rattle.promise_spec.proofs.Standings.{grown_none, grown_records}
-use Rattle.std.proofs.Common.{◌≡◌, ◌≢◌, inl, inr, ℕ, ◌+◌, ◌<◌, ◌≤◌, ◌^◌, Bool, true, false, List, [], ◌∷◌, ◌++◌, length, map, take, drop, Some, Ok, Result, refl, sym, ap, subst, ◌∙◌, arith, length-drop}
-use Rattle.std.specs.Prelude.{slice_get}
+use Rattle.std.proofs.Common.{◌≡◌, ◌≢◌, inl, inr, ℕ, ◌+◌, ◌<◌, ◌≤◌, ◌^◌, Bool, true, false, true≢false, List, [], ◌∷◌, ◌++◌, length, map, take, drop, Some, Ok, eq-eqb, Result, refl, sym, ap, subst, ◌∙◌, arith, length-drop}
+use Rattle.std.specs.Prelude.{◌%◌, ◌&&◌, ◌||◌, not, nat_lt, is_none, slice_get}
+use Rattle.std.proofs.lemmas.Bool.{and_parts, eqb-true}
 use Rattle.std.specs.Int.{w32, to_le_bytes, from_le_bytes}
 use Rattle.std.specs.List.{flat_map, AllByRecursion}
 use Rattle.std.proofs.Math.Seq.{take-append_seam}
@@ -26,7 +28,7 @@ use Rattle.core_model.specs.declared.effects.Effect.{Effect}
 use Rattle.core_model.specs.declared.events.CoreEvent.{CoreEvent}
 use Rattle.core_model.specs.declared.events.CoreEvent.TheVariants as event
 use Rattle.core_model.specs.Causes.{HasCause, IsCaused, IsRefusedLock}
-use Rattle.core_model.specs.Events.{applies, run, step}
+use Rattle.core_model.specs.Events.{applies, can, is_allowed, run, step}
 use Rattle.core_model.specs.LegalRuns.{begins, ends}
 use Rattle.core_model.specs.Lines.{DifferInLine}
 use Rattle.core_model.specs.SerialOrder.{committed, chosen}
@@ -49,6 +51,9 @@ use Rattle.promise_spec.specs.Logs.{magic, IsLog, IsPrefix, StandsUpTo}
 use Rattle.promise_spec.specs.Moments.{IsImageOf}
 use Rattle.promise_spec.specs.Lines.{ReadsLineAs, IsLineCall}
 use Rattle.promise_spec.specs.Outputs.{reply_lines}
+use Rattle.promise_spec.specs.Windows.{window_lines, first_bad, before_bad, whole_windows}
+use Rattle.promise_spec.specs.UnitAnswers.{got_from}
+use Rattle.promise_spec.specs.TurnRule.{Mover, at_seam, is_nobody, in_flight, line_can_begin, movers}
 use Rattle.promise_spec.specs.Cores.{AppliesAt, how_many, state_before, core_from}
 use Rattle.promise_spec.specs.Causes.{RunHasDoubt, NoneRose, is_vote_of, is_unsealed, syncs_of, most_syncs_of}
 use Rattle.promise_examples.specs.AliveUnits.{IsAlive}
@@ -60,11 +65,13 @@ use Rattle.promise_spec.specs.Crashes.{Acknowledges, IsAside}
 use Rattle.promise_spec.specs.Batches.{kept_by}
 use Rattle.promise_spec.specs.Explanation.{AreAdded}
 use Rattle.promise_spec.specs.Exits.{HasBlock, IsExit}
-use Rattle.promise_spec.specs.Promise.{Keeps, KeepsAnywhere, HasReadAll}
+use Rattle.promise_spec.specs.Promise.{AllowsBefore, AllowedBy, Keeps, KeepsAnywhere}
 use Rattle.promise_spec.specs.Loads.{KeepsLoad}
 use Rattle.promise_spec.proofs.Lists.{head_of, none_is, none_at, some_is, each_of, in_append, either_in, get_seam, member_at}
 use Rattle.promise_spec.proofs.OpenedRuns.{in_settled, no_events}
-use Rattle.promise_spec.proofs.CountedSyncs.{long_syncs}
+use Rattle.promise_spec.proofs.CountedSyncs.{unbegun_syncs}
+use Rattle.promise_laws.proofs.OpenedRuns.{allowed_line}
+use Rattle.promise_examples.proofs.BadLines.{behind_good, one_front}
 use Rattle.promise_examples.proofs.WholeBatches.{not_between}
 use Rattle.promise_examples.proofs.EmittedReplies.{emitted_before, nothing_unwritten}
 use Rattle.promise_spec.proofs.OneLog.{one_log}
@@ -73,6 +80,11 @@ use Rattle.promise_spec.specs.Blocks.{body_of, Block, Records, BlockFits}
 
 ok_is : (x y : Result Call BadRequest) (a b : Call) → x ≡ Ok a → y ≡ Ok b → x ≡ y → a ≡ b
 ok_is x y a b is_a is_b same = cc
+
+-- where nobody is left there is no mover
+nobody_left : (ms : List Mover) → is_nobody ms ≡ true → ms ≡ []
+nobody_left [] none = refl
+nobody_left (m ∷ ms) none = absurd (true≢false (sym none))
 
 -- a line reads in one way
 same_request : (types : ProgramTree) (lines : List (List ℕ)) (n : ℕ) (a b : Result Call BadRequest) → ReadsLineAs types lines n a → ReadsLineAs types lines n b → a ≡ b
@@ -152,19 +164,19 @@ module _ (p : Program) (r : Observed) (c : Course) where
       let below : length (l ∷ []) < length (kept_by (core_end p c) (0 + 1)) = omega (arith, two) in
       part_of_batch image (l ∷ []) 0 keeps left is (omega (arith, none)) below
 
-  pub more_syncs : Keeps p r c → NoneRose r.faults_before r.faults_after → ending.CountsSyncs r.ending → r.old.syncs + syncs_of (core_run p c) < r.new.syncs → ⊥
-  more_syncs keeps calm is more = let same : r.new.syncs ≡ r.old.syncs + syncs_of (core_run p c) = keeps.ended.syncs calm is in omega (arith, same, more)
+  pub more_syncs : Keeps p r c → NoneRose r.faults_before r.faults_after → ending.CountsSyncs r.ending → r.old.syncs + syncs_of (seen_at_entry r) (core_run p c) < r.new.syncs → ⊥
+  more_syncs keeps calm is more = let same : r.new.syncs ≡ r.old.syncs + syncs_of (seen_at_entry r) (core_run p c) = keeps.ended.syncs calm is in omega (arith, same, more)
 
-  pub fewer_syncs : Keeps p r c → NoneRose r.faults_before r.faults_after → ending.CountsSyncs r.ending → r.new.syncs < r.old.syncs + syncs_of (core_run p c) → ⊥
-  fewer_syncs keeps calm is fewer = let same : r.new.syncs ≡ r.old.syncs + syncs_of (core_run p c) = keeps.ended.syncs calm is in omega (arith, same, fewer)
+  pub fewer_syncs : Keeps p r c → NoneRose r.faults_before r.faults_after → ending.CountsSyncs r.ending → r.new.syncs < r.old.syncs + syncs_of (seen_at_entry r) (core_run p c) → ⊥
+  fewer_syncs keeps calm is fewer = let same : r.new.syncs ≡ r.old.syncs + syncs_of (seen_at_entry r) (core_run p c) = keeps.ended.syncs calm is in omega (arith, same, fewer)
 
-  pub other_long_syncs : (line : ℕ) → Keeps p r c → NoneRose r.faults_before r.faults_after → r.ending ≡ ending.InputTooLong line → r.new.syncs ≢ r.old.syncs + 1 → ⊥
-  other_long_syncs line keeps calm is differ = differ (long_syncs p r c line keeps calm is)
+  pub other_long_syncs : (line : ℕ) → Keeps p r c → NoneRose r.faults_before r.faults_after → r.ending ≡ ending.InputTooLong line → c.allowed ≡ 0 → r.new.syncs ≢ r.old.syncs + opening_syncs (seen_at_entry r) → ⊥
+  other_long_syncs line keeps calm is none differ = differ (unbegun_syncs p r c keeps calm (subst ending.CountsSyncs (sym is) tt) none)
 
   pub closed : (image : Image) → Keeps p r c → IsImage r.new.disk image → (IsLive magic c.live image → ⊥) → ⊥
   closed image keeps left none = none (keeps.exit.logs image left).is.is_live
 
-  pub changed_aside : (m : Moment) (f : FileId) → Keeps p r c → Member m (moments r c) → IsAside c.live f → m.disk f ≢ r.old.disk f → ⊥
+  pub changed_aside : (m : Moment) (f : FileId) → Keeps p r c → Member m (moments r c) → IsAside c.live f → m.disk f ≢ opened_disk r.old.disk f → ⊥
   changed_aside m f keeps there aside differ = differ ((keeps.headline.crashes.alone m there).aside f aside)
 
   pub changed_header : (m : Moment) (image : Image) → Keeps p r c → Member m (moments r c) → IsImage m.disk image → take 15 (image (file.Manager c.live)) ≢ take 15 (seen_at_entry r (file.Manager c.live)) → ⊥
@@ -187,7 +199,7 @@ module _ (p : Program) (r : Observed) (c : Course) where
   taken_unwritten at keeps single takes more =
       let told : (core_end p c).manager.emitted ≤ length c.entries = keeps.settled.told in
       let before : (state_before (core_run p c) at).manager.emitted ≤ (core_end p c).manager.emitted = emitted_before (core_run p c) at in
-      nothing_unwritten p.types (length (lines r)) r.manner.width r.manner.picks (core_run p c) at (keeps.explained.turns single) takes (omega arith)
+      nothing_unwritten p.types r.windowed c.allowed r.manner.width r.manner.picks (core_run p c) at (keeps.explained.turns single) takes (omega arith)
 
   pub cut_elsewhere : Keeps p r c → c.rest ≢ [] → ((e : Entry) → Member e (core_end p c).manager.settled → IsPrefix c.rest (reply_line (shape_in p) e) → ⊥) → ⊥
   cut_elsewhere keeps some none = elim keeps.settled.cut [
@@ -297,16 +309,16 @@ module _ (p : Program) (r : Observed) (c : Course) where
   pub twice_anywhere : (front between back : List Entry) (d e : Entry) → KeepsAnywhere p r c → c.entries ≡ front ++ (d ∷ (between ++ (e ∷ back))) → d.line ≡ e.line → ⊥
   twice_anywhere front between back d e keeps split same = twice front between back d e (subst DifferInLine split keeps.once) same
 
-  pub more_anywhere : KeepsAnywhere p r c → r.old.syncs + most_syncs_of (core_run p c) < r.new.syncs → ⊥
+  pub more_anywhere : KeepsAnywhere p r c → r.old.syncs + most_syncs_of (seen_at_entry r) (core_run p c) < r.new.syncs → ⊥
   more_anywhere keeps more = let most = keeps.ended.most in omega (arith, most, more)
 
   pub written_unvoted : (g : GrainId) (m : Moment) → KeepsAnywhere p r c → how_many (is_vote_of g) (core_run p c) ≡ 0 → Member m (moments r c) → m.disk (file.Grain c.live g) ≢ r.old.disk (file.Grain c.live g) → ⊥
   written_unvoted g m keeps none there differ = differ (keeps.explained.unvoted g m none there)
 
-  pub too_many_syncs : Keeps p r c → r.old.syncs + most_syncs_of (core_run p c) < r.new.syncs → ⊥
+  pub too_many_syncs : Keeps p r c → r.old.syncs + most_syncs_of (seen_at_entry r) (core_run p c) < r.new.syncs → ⊥
   too_many_syncs keeps more = let most = keeps.ended.most in omega (arith, most, more)
 
-  pub load_too_many : (n seed : ℕ) → KeepsLoad p n seed r c → r.old.syncs + most_syncs_of (core_run p c) < r.new.syncs → ⊥
+  pub load_too_many : (n seed : ℕ) → KeepsLoad p n seed r c → r.old.syncs + most_syncs_of (seen_at_entry r) (core_run p c) < r.new.syncs → ⊥
   load_too_many n seed keeps more = let most = keeps.ended.most in omega (arith, most, more)
 
   pub blamed_alive : (e : Entry) (on : UnitNo) → Keeps p r c → Member e c.entries → e.what ≡ settled.Dependency on
@@ -320,26 +332,54 @@ module _ (p : Program) (r : Observed) (c : Course) where
         | inr decided ↦ lives.decided decided.0 decided.4.dead
       ]
 
-  -- where an event applies the input was read whole
-  read_all : (at : ℕ) (e : CoreEvent) → Keeps p r c → AppliesAt (core_run p c) at e → HasReadAll r
-  read_all at e keeps applies_it = elim keeps.ended.begun [
-    | inl none ↦ absurd (none_at at e (subst (λ (events : List CoreEvent). slice_get events at ≡ Some e) none applies_it.there))
-    | inr all ↦ all
-  ]
+  pub begun_unread : (front : List ℕ) → Keeps p r c → r.ending ≡ ending.ReadFault → r.old.input ≡ front ++ r.new.input → whole_windows front < (core_end p c).units.lines → ⊥
+  begun_unread front keeps is split more =
+      let k = keeps.ended.read in
+      let so_many : c.allowed ≡ whole_windows front = (subst (λ (x : ending.Ending). AllowedBy x k.pulled r c.allowed) is k.allowed).windows ∙ ap whole_windows (one_front r.old.input r.new.input k.pulled front k.input split) in
+      let few = k.few in
+      omega (arith, so_many, few, more)
 
-  pub begun_unread : (at : ℕ) (e : CoreEvent) → Keeps p r c → AppliesAt (core_run p c) at e → r.new.input ≢ [] → ⊥
-  begun_unread at e keeps applies_it some = some (read_all at e keeps applies_it).input
+  pub begun_bad : (number : ℕ) → Keeps p r c → first_bad 0 (lines r) ≡ Some number → number ≤ (core_end p c).units.lines → ⊥
+  begun_bad number keeps first begun =
+      let k = keeps.ended.read in
+      let few = k.few in
+      let behind = behind_good 0 c.allowed (lines r) number k.good first in
+      omega (arith, behind, few, begun)
 
-  pub begun_too_long : (at : ℕ) (e : CoreEvent) → Keeps p r c → AppliesAt (core_run p c) at e → ending.input_limit < length r.old.input → ⊥
-  begun_too_long at e keeps applies_it long = let short : length r.old.input ≤ ending.input_limit = (read_all at e keeps applies_it).short in omega arith
+  pub begun_in_bad : (told number : ℕ) → Keeps p r c → r.ending ≡ ending.InputTooLong told → first_bad 0 (lines r) ≡ Some number → before_bad number < (core_end p c).units.lines → ⊥
+  begun_in_bad told number keeps is first more =
+      let k = keeps.ended.read in
+      let l : AllowsBefore k.pulled told r c.allowed = subst (λ (x : ending.Ending). AllowedBy x k.pulled r c.allowed) is k.allowed in
+      let so_many : c.allowed ≡ before_bad number = l.before ∙ ap before_bad (some_is l.number number (sym l.first ∙ first)) in
+      let few = k.few in
+      omega (arith, so_many, few, more)
 
-  pub begun_and_unreadable : (at : ℕ) (e : CoreEvent) → Keeps p r c → AppliesAt (core_run p c) at e → r.ending ≡ ending.ReadFault → ⊥
-  begun_and_unreadable at e keeps applies_it is = subst ending.IsBegun is (read_all at e keeps applies_it).ending
+  pub unallowed_entry : (e : Entry) → KeepsAnywhere p r c → Member e c.entries → c.allowed < e.line → ⊥
+  unallowed_entry e keeps there more = let le = (allowed_line p r c keeps e there).1 in omega (arith, le, more)
 
-  -- a run that ends as none does that has begun has no records
-  pub unbegun_record : (l : Commit) → Keeps p r c → (ending.IsBegun r.ending → ⊥) → Member l c.added → ⊥
-  unbegun_record l keeps never there =
-      nothing_added p.types (standing_of c.opening) c.added (subst (λ (events : List CoreEvent). AreAdded (ends (core_from p.types (standing_of c.opening) events)) c.added) (no_events p r c keeps never) keeps.explained.records) l there
+  pub unanswered_line : (n : ℕ) → KeepsAnywhere p r c → ending.IsAllWritten r.ending → 1 ≤ n → n ≤ c.allowed → ((e : Entry) → Member e c.entries → e.line ≢ n) → ⊥
+  unanswered_line n keeps all low high none = let t = keeps.ended.answered all n low high in none t.0 t.1 t.2
+
+  pub begun_none : (at : ℕ) (e : CoreEvent) → Keeps p r c → c.allowed ≡ 0 → AppliesAt (core_run p c) at e → ⊥
+  begun_none at e keeps none applies_it = none_at at e (subst (λ (events : List CoreEvent). slice_get events at ≡ Some e) (no_events p r c keeps none) applies_it.there)
+
+  -- a run in which no line may begin has no records
+  pub unbegun_record : (l : Commit) → Keeps p r c → c.allowed ≡ 0 → Member l c.added → ⊥
+  unbegun_record l keeps none there =
+      nothing_added p.types (standing_of c.opening) c.added (subst (λ (events : List CoreEvent). AreAdded (ends (core_from p.types (standing_of c.opening) events)) c.added) (no_events p r c keeps none) keeps.explained.records) l there
+
+  -- a line begins behind a window's end where nobody can move
+  pub begun_at_seam : (at n : ℕ) (call : Call) (plain : Bool) → KeepsAnywhere p r c → r.windowed ≡ true → r.manner.threaded ≡ false → AppliesAt (core_run p c) at (event.Begin (Line (n + 1)) call plain) → n % window_lines ≡ 0
+      → movers p.types (core_run p c) (state_before (core_run p c) at) (got_from (begins (core_run p c)) (take at c.events)) ≢ [] → ⊥
+  begun_at_seam at n call plain keeps windowed single begins_it whole some =
+      let w = state_before (core_run p c) at in
+      let ms = movers p.types (core_run p c) w (got_from (begins (core_run p c)) (take at c.events)) in
+      let turn : line_can_begin r.windowed r.manner.width c.allowed (core_run p c) w ms ≡ true = keeps.explained.turns single at (event.Begin (Line (n + 1)) call plain) begins_it in
+      let next : n + 1 ≡ w.units.lines + 1 = eqb-true (n + 1) (w.units.lines + 1) (and_parts (is_allowed w (event.Begin (Line (n + 1)) call plain)) (can w (event.Begin (Line (n + 1)) call plain)) begins_it.applied).1 in
+      let same : w.units.lines ≡ n = omega (arith, next) in
+      let opened = (and_parts (nat_lt w.units.lines c.allowed) _ (and_parts (nat_lt (in_flight (core_run p c) w) r.manner.width) _ (and_parts (is_none w.manager.doubt) _ turn).1).1).1 in
+      let seam : at_seam r.windowed w.units.lines ≡ true = subst (λ (b : Bool). at_seam b w.units.lines ≡ true) (sym windowed) (eq-eqb (w.units.lines % window_lines) 0 (ap (λ (k : ℕ). k % window_lines) same ∙ whole)) in
+      some (nobody_left ms (subst (λ (b : Bool). (not b || is_nobody ms) ≡ true) seam opened))
 
   pub grain_fault : (slot : ℕ) (grain : GrainId) → Keeps p r c → r.ending ≡ ending.DiskFault (file.Grain slot grain) → ⊥
   grain_fault slot grain keeps is = let same : file.Grain slot grain ≡ file.Manager c.live = (keeps.explained.doubted (file.Grain slot grain) is).0 in absurd (cc same)

@@ -1,15 +1,17 @@
 -- A run of two lines, of which the second meets the first one's lock, and the first is left in doubt.
-use Rattle.std.specs.Prelude.{◌≡◌, ℕ, ◌≤◌, ◌≢◌, ◌+◌, false, List, [], ◌∷◌, ◌++◌, length}
+use Rattle.std.specs.Prelude.{◌≡◌, ℕ, ◌≤◌, ◌≢◌, ◌+◌, true, false, List, [], ◌∷◌, ◌++◌, length, None}
 use Rattle.std.specs.List.{AllByRecursion}
 use Rattle.host_trait.specs.declared.channels.Channel.{Channel}
 use Rattle.host_trait.specs.declared.channels.Channel.TheVariants.{File}
 use Rattle.host_trait.specs.World.{Moment, Image, IsImage, moment_of}
 use Rattle.silo_spec.specs.Silos.{manager}
 use Rattle.request_wire.specs.Lines.{lines_of}
+use Rattle.silo_spec.specs.OpenedDisks.{opening_syncs}
 use Rattle.promise_spec.specs.Programs.{shape_in}
+use Rattle.promise_spec.specs.Windows.{first_bad}
 use Rattle.promise_spec.specs.Logs.{IsLog, StandsUpTo}
 use Rattle.promise_spec.specs.Outputs.{reply_lines}
-use Rattle.promise_spec.specs.Endings.{DiskFault, input_limit}
+use Rattle.promise_spec.specs.Endings.{DiskFault}
 use Rattle.promise_spec.specs.Crashes.{LeavesAlone}
 use Rattle.promise_spec.specs.Courses.{Observed, Course, seen_at_entry, lines}
 use Rattle.promise_spec.specs.Exits.{HasBlock, DifferAt}
@@ -27,9 +29,10 @@ first_told r = r.old.output ++ reply_lines (shape_in account_program) (locked_en
 pub record IsDoubtRun (r : Observed) (opened : Moment) (told doubting : List Moment) : Type 0 where
   pub ending : r.ending ≡ DiskFault manager
   pub pair : (r.manner.threaded ≡ false) × (r.manner.width ≡ 2) × (r.manner.picks ≡ 0 ∷ 1 ∷ 1 ∷ [])
-  pub small : length r.old.input ≤ input_limit
   pub two : length (lines r) ≡ 2
   pub given : lines r ≡ lines_of r.old.input
+  pub windowed : r.windowed ≡ true
+  pub good : first_bad 0 (lines r) ≡ None
   pub asks : AskDeposits (lines r)
   pub left : r.new.input ≡ []
   pub read : IsLog 0 (seen_at_entry r) (account_log [])
@@ -46,7 +49,7 @@ pub record IsDoubtRun (r : Observed) (opened : Moment) (told doubting : List Mom
       DifferAt 15 (one manager) (other manager)
   pub alone : LeavesAlone 0 r opened × LeavesAlone 0 r (moment_of r.new)
   pub apart : LeavesOthers r opened × LeavesOthers r (moment_of r.new)
-  pub syncs : r.new.syncs ≤ r.old.syncs + 4
+  pub syncs : r.new.syncs ≤ r.old.syncs + (opening_syncs (seen_at_entry r) + 3)
   pub some : Image
   pub possible : IsImage r.new.disk some
   pub there : HasDeposit some
@@ -61,6 +64,7 @@ doubt_course opened told doubting r = record {
   added = first_commit ∷ [];
   early = opened ∷ [];
   late = told ++ doubting ++ moment_of r.new ∷ [];
+  allowed = length (lines r);
   events = conflict_events;
   entries = conflict_entries;
   rest = [];

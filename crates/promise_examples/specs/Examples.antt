@@ -9,7 +9,6 @@ use Rattle.base_types.specs.declared.calls.Outcome.TheVariants as outcome
 use Rattle.base_types.specs.declared.calls.Value.TheVariants.{Int}
 use Rattle.base_types.specs.declared.entries.Entry.{Entry}
 use Rattle.base_types.specs.declared.entries.Settled.TheVariants.{Done, Lock, Vote as VotedDown, Dependency, InDoubt}
-use Rattle.base_types.specs.declared.stores.Version.{Version}
 use Rattle.host_trait.specs.declared.channels.FileId.TheVariants.{Manager, Program as ProgramFile, Grain}
 use Rattle.host_trait.specs.World.{Image}
 use Rattle.script_tree.specs.declared.expressions.Name.{Name}
@@ -129,10 +128,6 @@ next_commit n sum = record {
   };
   states = (Int (pos sum) ∷ []) ∷ [];
 }
-
--- the version, and the 19 bytes of the grain's file
-abbrev pub first_version : Version
-first_version = record { unit = record { 0 = 1 }; state = Int (pos 5) ∷ [] }
 
 -- the 19 bytes of the grain's file: unit 1, and a state of one number, 5
 abbrev pub grain_bytes : List ℕ

@@ -109,6 +109,7 @@ abbrev pub batched : Observed
 batched = record {
   manner = reading_manner;
   asked = request_line ∷ second_line ∷ [];
+  windowed = true;
   old = pair_before;
   new = batch_after;
   faults_before = λ channel. 0;
@@ -124,6 +125,7 @@ batch_course = record {
   added = both_commits;
   early = opened ∷ [];
   late = batching ++ moment_of batch_after ∷ [];
+  allowed = 2;
   events = batch_events;
   entries = both_entries;
   rest = [];

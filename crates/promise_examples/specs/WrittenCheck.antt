@@ -1,5 +1,5 @@
 -- A call of `check`, written out with its one host call: without a start, over an empty folder.
-use Rattle.std.specs.Prelude.{ℕ, List, [], ◌∷◌, codes}
+use Rattle.std.specs.Prelude.{ℕ, false, List, [], ◌∷◌, codes}
 use Rattle.host_trait.specs.World.{World}
 use Rattle.promise_spec.specs.Words.{plain_manner}
 use Rattle.promise_spec.specs.Endings.{Done}
@@ -25,6 +25,7 @@ abbrev pub check_call : Observed
 check_call = record {
   manner = plain_manner;
   asked = [];
+  windowed = false;
   old = init_before;
   new = check_after;
   faults_before = λ channel. 0;

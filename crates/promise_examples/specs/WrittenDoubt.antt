@@ -1,6 +1,6 @@
 -- The run of two deposits at once in a new silo, written out with its host calls: the second meets the first one's
 -- lock, and the first is left in doubt.
-use Rattle.std.specs.Prelude.{ℕ, zero, suc, false, List, [], ◌∷◌, ◌++◌, take, codes}
+use Rattle.std.specs.Prelude.{ℕ, zero, suc, false, true, List, [], ◌∷◌, ◌++◌, take, codes}
 use Rattle.host_trait.specs.declared.channels.Channel.{Channel}
 use Rattle.host_trait.specs.declared.channels.Channel.TheVariants.{Input, Output, File}
 use Rattle.host_trait.specs.declared.channels.FileId.TheVariants.{Manager, Program as ProgramFile, Grain}
@@ -71,6 +71,7 @@ abbrev pub doubted : Observed
 doubted = record {
   manner = pair_manner;
   asked = request_line ∷ second_line ∷ [];
+  windowed = true;
   old = pair_before;
   new = pair_after;
   faults_before = λ channel. 0;

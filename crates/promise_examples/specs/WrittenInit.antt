@@ -1,6 +1,6 @@
 -- Four calls of `init`, written out with their host calls: over an empty folder, over the folder that this left, of a text
 -- that is no program, and where the last sync fails. And the answer to words that say nothing.
-use Rattle.std.specs.Prelude.{ℕ, zero, suc, List, [], ◌∷◌, ◌++◌, take, codes}
+use Rattle.std.specs.Prelude.{ℕ, zero, suc, false, List, [], ◌∷◌, ◌++◌, take, codes}
 use Rattle.host_trait.specs.declared.channels.FileId.TheVariants.{Manager, Program as ProgramFile, Grain}
 use Rattle.host_trait.specs.Disk.{FileState, settled}
 use Rattle.host_trait.specs.World.{World, Moment, Disk}
@@ -97,6 +97,7 @@ abbrev pub made : Observed
 made = record {
   manner = plain_manner;
   asked = [];
+  windowed = false;
   old = init_before;
   new = init_after;
   faults_before = λ channel. 0;
@@ -145,6 +146,7 @@ abbrev pub made_again : Observed
 made_again = record {
   manner = plain_manner;
   asked = [];
+  windowed = false;
   old = again_before;
   new = again_after;
   faults_before = λ channel. 0;
@@ -185,6 +187,7 @@ abbrev pub unmade : Observed
 unmade = record {
   manner = plain_manner;
   asked = [];
+  windowed = false;
   old = cut_before;
   new = cut_after;
   faults_before = λ channel. 0;
@@ -209,6 +212,7 @@ abbrev pub halted : Observed
 halted = record {
   manner = plain_manner;
   asked = [];
+  windowed = false;
   old = init_before;
   new = halted_after;
   faults_before = λ channel. 0;
@@ -231,6 +235,7 @@ abbrev pub unused : Observed
 unused = record {
   manner = plain_manner;
   asked = [];
+  windowed = false;
   old = init_before;
   new = init_before;
   faults_before = λ channel. 0;

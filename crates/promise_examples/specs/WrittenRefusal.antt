@@ -1,5 +1,5 @@
 -- The refusal of a damaged folder, written out: the block of the first deposit is cut.
-use Rattle.std.specs.Prelude.{List, [], ◌∷◌, ◌++◌, take}
+use Rattle.std.specs.Prelude.{true, List, [], ◌∷◌, ◌++◌, take}
 use Rattle.host_trait.specs.Disk.{settled}
 use Rattle.host_trait.specs.World.{World, Disk}
 use Rattle.silo_spec.specs.Silos.{manager}
@@ -27,6 +27,7 @@ abbrev pub refused : Observed
 refused = record {
   manner = plain_manner;
   asked = [];
+  windowed = true;
   old = torn_before;
   new = torn_after;
   faults_before = λ channel. 0;

@@ -1,5 +1,5 @@
 -- The run of one deposit in a new silo, written out, with each host call that changes what the host holds.
-use Rattle.std.specs.Prelude.{ℕ, ◌+◌, zero, suc, List, [], ◌∷◌, ◌++◌, length, take, if◌then◌else◌, codes}
+use Rattle.std.specs.Prelude.{ℕ, ◌+◌, zero, suc, true, List, [], ◌∷◌, ◌++◌, length, take, if◌then◌else◌, codes}
 use Rattle.host_trait.specs.declared.channels.FileId.TheVariants.{Manager, Program as ProgramFile, Grain}
 use Rattle.host_trait.specs.Disk.{FileState, settled}
 use Rattle.host_trait.specs.World.{World, Moment, Disk}
@@ -121,6 +121,7 @@ abbrev pub written_run : Observed
 written_run = record {
   manner = plain_manner;
   asked = request_line ∷ [];
+  windowed = true;
   old = world_before;
   new = world_after;
   faults_before = λ channel. 0;

@@ -1,6 +1,6 @@
 -- The run of two deposits at once whose first is left in doubt, where the write of the gate never began: the host answers
 -- that it failed, and the file is as it was. No image ever has the deposit, and its line is told that it is in doubt.
-use Rattle.std.specs.Prelude.{List, [], ◌∷◌, ◌++◌}
+use Rattle.std.specs.Prelude.{true, List, [], ◌∷◌, ◌++◌}
 use Rattle.host_trait.specs.declared.channels.FileId.TheVariants.{Grain}
 use Rattle.host_trait.specs.World.{World, Moment}
 use Rattle.silo_spec.specs.Silos.{manager}
@@ -34,6 +34,7 @@ abbrev pub unbegun : Observed
 unbegun = record {
   manner = pair_manner;
   asked = request_line ∷ second_line ∷ [];
+  windowed = true;
   old = pair_before;
   new = unbegun_after;
   faults_before = λ channel. 0;
@@ -49,6 +50,7 @@ unbegun_course = record {
   added = [];
   early = opened ∷ [];
   late = gate_failing ++ unbegun_told ∷ [];
+  allowed = 2;
   events = conflict_events;
   entries = conflict_entries;
   rest = [];

@@ -1,6 +1,6 @@
 -- The run of a deposit and of a read of what it left, written out with its host calls: the deposit's version can't be
 -- written, so both are aborted.
-use Rattle.std.specs.Prelude.{ℕ, zero, suc, false, List, [], ◌∷◌, ◌++◌, take, if◌then◌else◌, codes}
+use Rattle.std.specs.Prelude.{ℕ, zero, suc, false, true, List, [], ◌∷◌, ◌++◌, take, if◌then◌else◌, codes}
 use Rattle.host_trait.specs.declared.channels.Channel.{Channel}
 use Rattle.host_trait.specs.declared.channels.Channel.TheVariants.{Input, Output, File}
 use Rattle.host_trait.specs.declared.channels.FileId.TheVariants.{Manager, Program as ProgramFile, Grain}
@@ -79,6 +79,7 @@ abbrev pub voted : Observed
 voted = record {
   manner = reading_manner;
   asked = request_line ∷ read_line ∷ [];
+  windowed = true;
   old = reading_before;
   new = reading_after;
   faults_before = λ channel. 0;

@@ -49,7 +49,8 @@ ghost use Rattle.silo_spec.specs.Slots.{IsLive};
 ghost use Rattle.silo_spec.specs.Silos.{manager, program_file, IsSilo, IsNewSilo, IsNewIfSilo};
 ghost use Rattle.promise_examples.specs.Readings.{changed, folder_of, program_folder, log_folder, log_changed, grain_folder, program_with, two_writes, same_account, version_by, two_folder};
 ghost use Rattle.promise_spec.specs.Reports.{show_text, history_text, audit_text};
-ghost use Rattle.promise_examples.specs.Examples.{account_log, accounts, account_program, program_bytes, account_1, account_2, deposit_call, first_commit, next_commit, first_version, grain_bytes, block_bytes, manager_bytes, folder, torn_folder, deposit, first_entry, deposit_events, conflict_events, conflict_entries, account_run, account_basis, AskDeposits, vote_events, vote_entries, AskBoth};
+ghost use Rattle.field_codec.specs.Examples.{first_version};
+ghost use Rattle.promise_examples.specs.Examples.{account_log, accounts, account_program, program_bytes, account_1, account_2, deposit_call, first_commit, next_commit, grain_bytes, block_bytes, manager_bytes, folder, torn_folder, deposit, first_entry, deposit_events, conflict_events, conflict_entries, account_run, account_basis, AskDeposits, vote_events, vote_entries, AskBoth};
 ghost use Rattle.core_model.specs.LegalRuns.{ends};
 ghost use Rattle.promise_spec.specs.Lines.{IsLineCall};
 ghost use Rattle.promise_spec.specs.UnitRule.{KeepsUnitRule};
@@ -106,7 +107,8 @@ pub fn transfers_read()
     ensures early { IsSerial bank (new_silo bank_program).states (moved 70 30 ∷ paid_in ∷ []) → ⊥ }
 {}
 
-/// The promise can be kept: a run that reads no line keeps all six clauses, over any log.
+/// The promise can be kept: a run of which no line may begin, as its input is empty, can't be read or begins with a line that is too
+/// long, keeps all six clauses, over any log.
 pub fn empty_runs_keep()
     ensures { (p : Program) (r : Observed) (opening : Log) → IsEmptyRun p r opening → Keeps p r (empty_course r opening) }
 {}
@@ -115,12 +117,12 @@ pub fn empty_runs_keep()
 /// one's lock and dies, and the first is left in doubt. With other picks, or at width 1, the second list keeps no turns.
 pub fn deposits_keep_the_rules()
     ensures one_unit { (lines : List (List ℕ)) → IsLineCall accounts lines 1 deposit_call → KeepsUnitRule (account_basis lines) (account_run deposit_events) }
-    ensures one_turn { KeepsTurnRule accounts 1 1 [] (account_run deposit_events) }
+    ensures one_turn { KeepsTurnRule accounts true 1 1 [] (account_run deposit_events) }
     ensures two_unit { (lines : List (List ℕ)) → AskDeposits lines → KeepsUnitRule (account_basis lines) (account_run conflict_events) }
-    ensures two_turn { KeepsTurnRule accounts 2 2 (0 ∷ 1 ∷ 1 ∷ []) (account_run conflict_events) }
+    ensures two_turn { KeepsTurnRule accounts true 2 2 (0 ∷ 1 ∷ 1 ∷ []) (account_run conflict_events) }
     ensures settled { (ends (account_run conflict_events)).manager.settled ≡ conflict_entries }
-    ensures picks { KeepsTurnRule accounts 2 2 [] (account_run conflict_events) → ⊥ }
-    ensures width { KeepsTurnRule accounts 2 1 (0 ∷ 1 ∷ 1 ∷ []) (account_run conflict_events) → ⊥ }
+    ensures picks { KeepsTurnRule accounts true 2 2 [] (account_run conflict_events) → ⊥ }
+    ensures width { KeepsTurnRule accounts true 2 1 (0 ∷ 1 ∷ 1 ∷ []) (account_run conflict_events) → ⊥ }
 {}
 
 /// A run of one deposit keeps all six clauses: it opens an empty log, seals the deposit's record and replies.
@@ -137,7 +139,7 @@ pub fn doubt_runs_keep()
 /// written, so the deposit is aborted for its vote and the read for what it depends on.
 pub fn votes_keep_the_rules()
     ensures unit { (lines : List (List ℕ)) → AskBoth lines → KeepsUnitRule (account_basis lines) (account_run vote_events) }
-    ensures turn { KeepsTurnRule accounts 2 2 [] (account_run vote_events) }
+    ensures turn { KeepsTurnRule accounts true 2 2 [] (account_run vote_events) }
     ensures settled { (ends (account_run vote_events)).manager.settled ≡ vote_entries }
 {}
 

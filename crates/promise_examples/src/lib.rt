@@ -9,6 +9,7 @@
 #![tactic(auto)]
 
 mod examples;
+mod windows;
 mod wrong_runs;
 
 pub use examples::{
@@ -21,11 +22,12 @@ pub use examples::{
     reports_tell_the_first_deposit, the_bank_is_a_program, torn_folders_have_no_log,
     transfers_read, vote_runs_keep, votes_keep_the_rules,
 };
+pub use windows::windows_are_counted_so;
 pub use wrong_runs::{
     aborted_units_have_no_record, aborts_have_causes, any_folder_is_served_truly,
     bad_use_is_said_by_words, batches_are_small, batches_are_whole, calm_runs_sync_once,
     checks_tell_their_world, cut_lines_are_replies, endings_are_true, inits_make_their_input,
-    lines_are_answered_once, lines_begin_after_the_input, loads_tell_their_summary,
+    lines_are_answered_once, lines_begin_in_whole_windows, loads_tell_their_summary,
     logs_are_not_lost, nothing_stands_behind_the_log, other_files_stay, records_come_from_lines,
     refusals_are_true, replies_are_serial, replies_come_after_records, reports_tell_the_folder,
     syncs_are_bounded, the_block_in_doubt_is_the_batchs, the_opening_log_is_the_disks,

@@ -1,4 +1,4 @@
-ghost use Rattle.std.specs.Prelude.{◌≡◌, ◌≢◌, ◌+◌, ◌-◌, ◌^◌, ◌<◌, ◌≤◌, ◌++◌, ◌∷◌, [], ℕ, Bool, true, false, List, length, Err, take};
+ghost use Rattle.std.specs.Prelude.{◌≡◌, ◌≢◌, ◌+◌, ◌-◌, ◌%◌, ◌^◌, ◌<◌, ◌≤◌, ◌++◌, ◌∷◌, [], ℕ, Bool, true, false, List, length, Some, None, Err, take};
 ghost use Rattle.base_types.specs.declared.calls.Call.{Call};
 ghost use Rattle.base_types.specs.declared.calls.GrainId.{GrainId};
 ghost use Rattle.base_types.specs.declared.calls.Origin.TheVariants.{Line, Child};
@@ -27,6 +27,7 @@ ghost use Rattle.request_wire.specs.Reply.{reply_line};
 ghost use Rattle.script_meaning.specs.Play.{IsTransaction};
 ghost use Rattle.silo_spec.specs.Silos.{manager, program_file, IsSilo, HasProgram};
 ghost use Rattle.silo_spec.specs.Slots.{IsLive};
+ghost use Rattle.silo_spec.specs.OpenedDisks.{opening_syncs, opened_disk};
 ghost use Rattle.promise_spec.specs.Programs.{Program, ProgramFault, IsChecked, shape_in, program_in};
 ghost use Rattle.promise_spec.specs.Entries.{Log, standing_of, grown, records_of};
 ghost use Rattle.promise_spec.specs.Images.{IsSound};
@@ -38,6 +39,9 @@ ghost use Rattle.promise_spec.specs.SerialExecution.{played};
 ghost use Rattle.promise_spec.specs.Logs.{magic, IsLog, IsPrefix, StandsUpTo};
 ghost use Rattle.promise_spec.specs.Moments.{IsImageOf};
 ghost use Rattle.promise_spec.specs.Lines.{IsLineCall};
+ghost use Rattle.promise_spec.specs.Windows.{window_lines, first_bad, told_number, before_bad, whole_windows};
+ghost use Rattle.promise_spec.specs.UnitAnswers.{got_from};
+ghost use Rattle.promise_spec.specs.TurnRule.{movers};
 ghost use Rattle.promise_spec.specs.Cores.{AppliesAt, how_many, state_before};
 ghost use Rattle.promise_spec.specs.Causes.{RunHasDoubt, NoneRose, is_vote_of, is_unsealed, syncs_of, most_syncs_of};
 ghost use Rattle.promise_examples.specs.AliveUnits.{IsAlive};
@@ -88,25 +92,27 @@ pub fn batches_are_whole()
 {}
 
 /// No run or load keeps its promise that is done, or whose input is too long, with no count risen, and asks for more syncs than the
-/// opening's, one for each vote, and two for each batch on disk; or for fewer. An input too long asks for the opening's alone.
+/// opening's, one for each vote, and two for each batch on disk; or for fewer. Where a line is too long and none may begin it asks for the
+/// opening's alone.
 pub fn calm_runs_sync_once()
     ensures more { (p : Program) (r : Observed) (c : Course) → Keeps p r c → NoneRose r.faults_before r.faults_after → ending.CountsSyncs r.ending
-        → r.old.syncs + syncs_of (core_run p c) < r.new.syncs → ⊥ }
+        → r.old.syncs + syncs_of (seen_at_entry r) (core_run p c) < r.new.syncs → ⊥ }
     ensures fewer { (p : Program) (r : Observed) (c : Course) → Keeps p r c → NoneRose r.faults_before r.faults_after → ending.CountsSyncs r.ending
-        → r.new.syncs < r.old.syncs + syncs_of (core_run p c) → ⊥ }
+        → r.new.syncs < r.old.syncs + syncs_of (seen_at_entry r) (core_run p c) → ⊥ }
     ensures long { (p : Program) (r : Observed) (c : Course) (line : ℕ) → Keeps p r c → NoneRose r.faults_before r.faults_after
-        → r.ending ≡ ending.InputTooLong line → r.new.syncs ≢ r.old.syncs + 1 → ⊥ }
+        → r.ending ≡ ending.InputTooLong line → c.allowed ≡ 0 → r.new.syncs ≢ r.old.syncs + opening_syncs (seen_at_entry r) → ⊥ }
     ensures load { (p : Program) (n seed : ℕ) (r : Observed) (c : Course) → KeepsLoad p n seed r c → NoneRose r.faults_before r.faults_after
-        → r.ending ≡ ending.Done → r.new.syncs ≢ r.old.syncs + syncs_of (core_run p c) → ⊥ }
+        → r.ending ≡ ending.Done → r.new.syncs ≢ r.old.syncs + syncs_of (seen_at_entry r) (core_run p c) → ⊥ }
 {}
 
-/// Whatever fails, and however it ends: no run or load keeps its promise that asks for more syncs than one at opening, one for each
-/// vote, and two for each batch that was to be on disk, over any folder; nor a call that doesn't open its folder and asks for two.
+/// Whatever fails, and however it ends: no run or load keeps its promise that asks for more syncs than the opening's, one for each
+/// vote, and two for each batch that was to be on disk, over any folder; nor a call that doesn't open its folder and asks for more
+/// than the opening's.
 pub fn syncs_are_bounded()
-    ensures run { (p : Program) (r : Observed) (c : Course) → Keeps p r c → r.old.syncs + most_syncs_of (core_run p c) < r.new.syncs → ⊥ }
-    ensures anywhere { (p : Program) (r : Observed) (c : Course) → KeepsAnywhere p r c → r.old.syncs + most_syncs_of (core_run p c) < r.new.syncs → ⊥ }
-    ensures load { (p : Program) (r : Observed) (c : Course) (n seed : ℕ) → KeepsLoad p n seed r c → r.old.syncs + most_syncs_of (core_run p c) < r.new.syncs → ⊥ }
-    ensures unopened { (r : Observed) → IsUnopened r → r.old.syncs + 1 < r.new.syncs → ⊥ }
+    ensures run { (p : Program) (r : Observed) (c : Course) → Keeps p r c → r.old.syncs + most_syncs_of (seen_at_entry r) (core_run p c) < r.new.syncs → ⊥ }
+    ensures anywhere { (p : Program) (r : Observed) (c : Course) → KeepsAnywhere p r c → r.old.syncs + most_syncs_of (seen_at_entry r) (core_run p c) < r.new.syncs → ⊥ }
+    ensures load { (p : Program) (r : Observed) (c : Course) (n seed : ℕ) → KeepsLoad p n seed r c → r.old.syncs + most_syncs_of (seen_at_entry r) (core_run p c) < r.new.syncs → ⊥ }
+    ensures unopened { (r : Observed) → IsUnopened r → r.old.syncs + opening_syncs (seen_at_entry r) < r.new.syncs → ⊥ }
 {}
 
 /// No run or load keeps the promise in which no batch failed to be sealed and that leaves anything behind the log's closed gate in
@@ -136,7 +142,7 @@ pub fn any_folder_is_served_truly()
 /// header before the first gate.
 pub fn other_files_stay()
     ensures aside { (p : Program) (r : Observed) (c : Course) (m : Moment) (f : FileId) → Keeps p r c → Member m (moments r c)
-        → IsAside c.live f → m.disk f ≢ r.old.disk f → ⊥ }
+        → IsAside c.live f → m.disk f ≢ opened_disk r.old.disk f → ⊥ }
     ensures header { (p : Program) (r : Observed) (c : Course) (m : Moment) (image : Image) → Keeps p r c → Member m (moments r c)
         → IsImage m.disk image → take 15 (image (file.Manager c.live)) ≢ take 15 (seen_at_entry r (file.Manager c.live)) → ⊥ }
 {}
@@ -233,7 +239,9 @@ pub fn endings_are_true()
 /// one that isn't damaged, or no silo what reads as one; that opens one that is damaged or no silo, that calls its words bad use,
 /// or that blames a grain's file for not seeing that the folder is no silo, or one that no record names; nor one that is done and
 /// hasn't read its input to the end, or has told a line nothing; that ends with a grain file's fault though it opened the folder, as
-/// the input shows that it read; or that writes something and ends as none does of which a line has begun.
+/// the input shows that it read; that writes something and ends as none does that opened its folder; that ends as reading failed or a line is
+/// too long and says nothing of the windows before, or something of that window; that tells another line's number, or a line where none
+/// is too long, or is done where one is.
 pub fn refusals_are_true()
     ensures place { (m : Manner) (r : Observed) (f : FileId) (place : ℕ) → Promises m r → r.ending ≡ ending.Damaged f place
         → opened_as (seen_at_entry r) ≢ DamagedAt f place → ⊥ }
@@ -256,7 +264,25 @@ pub fn refusals_are_true()
         → r.new.output ≡ r.old.output → ⊥ }
     ensures grain { (m : Manner) (r : Observed) (slot : ℕ) (grain : GrainId) → Promises m r → r.new.input ≢ r.old.input
         → r.ending ≡ ending.DiskFault (file.Grain slot grain) → ⊥ }
-    ensures said { (m : Manner) (r : Observed) → Promises m r → (ending.IsBegun r.ending → ⊥) → r.new.output ≢ r.old.output → ⊥ }
+    ensures said { (m : Manner) (r : Observed) → Promises m r → (ending.IsCarried r.ending → ⊥) → r.new.output ≢ r.old.output → ⊥ }
+
+    // a window that was read whole before reading failed, and one that wasn't
+    ensures forgotten { (m : Manner) (r : Observed) (front : List ℕ) → Promises m r → r.ending ≡ ending.ReadFault
+        → r.old.input ≡ front ++ r.new.input → 1 ≤ whole_windows front → r.new.output ≡ r.old.output → ⊥ }
+    ensures early { (m : Manner) (r : Observed) (front : List ℕ) → Promises m r → r.ending ≡ ending.ReadFault
+        → r.old.input ≡ front ++ r.new.input → whole_windows front ≡ 0 → r.new.output ≢ r.old.output → ⊥ }
+
+    // the windows before that of a line that is too long, and its own; which line is told, where there is none, and where it's passed
+    ensures before_bad { (m : Manner) (r : Observed) (told number : ℕ) → Promises m r → r.ending ≡ ending.InputTooLong told
+        → first_bad 0 (lines_of r.old.input) ≡ Some number → 1 ≤ before_bad number → r.new.output ≡ r.old.output → ⊥ }
+    ensures in_bad { (m : Manner) (r : Observed) (told number : ℕ) → Promises m r → r.ending ≡ ending.InputTooLong told
+        → first_bad 0 (lines_of r.old.input) ≡ Some number → before_bad number ≡ 0 → r.new.output ≢ r.old.output → ⊥ }
+    ensures number { (m : Manner) (r : Observed) (told number : ℕ) → Promises m r → r.ending ≡ ending.InputTooLong told
+        → first_bad 0 (lines_of r.old.input) ≡ Some number → told ≢ told_number number → ⊥ }
+    ensures no_bad { (m : Manner) (r : Observed) (told : ℕ) → Promises m r → r.ending ≡ ending.InputTooLong told
+        → first_bad 0 (lines_of r.old.input) ≡ None → ⊥ }
+    ensures passed { (m : Manner) (r : Observed) (number : ℕ) → Promises m r → r.ending ≡ ending.Done
+        → first_bad 0 (lines_of r.old.input) ≡ Some number → ⊥ }
 {}
 
 /// No call keeps what the program promises that answers words that say nothing otherwise than as bad use, but for want of
@@ -296,17 +322,27 @@ pub fn bad_use_is_said_by_words()
         → channel ≢ File f → new channel ≢ old channel → ⊥ }
 {}
 
-/// No run keeps the promise in which anything begins before the input is read whole, or where it is too long, or couldn't be
-/// read; or that has an entry or a record where it couldn't be read or is too long.
-pub fn lines_begin_after_the_input()
-    ensures unread { (p : Program) (r : Observed) (c : Course) (at : ℕ) (e : CoreEvent) → Keeps p r c
-        → AppliesAt (core_run p c) at e → r.new.input ≢ [] → ⊥ }
-    ensures long { (p : Program) (r : Observed) (c : Course) (at : ℕ) (e : CoreEvent) → Keeps p r c
-        → AppliesAt (core_run p c) at e → ending.input_limit < length r.old.input → ⊥ }
-    ensures fault { (p : Program) (r : Observed) (c : Course) (at : ℕ) (e : CoreEvent) → Keeps p r c
-        → AppliesAt (core_run p c) at e → r.ending ≡ ending.ReadFault → ⊥ }
-    ensures entry { (p : Program) (r : Observed) (c : Course) (e : Entry) → Keeps p r c → (ending.IsBegun r.ending → ⊥) → Member e c.entries → ⊥ }
-    ensures record { (p : Program) (r : Observed) (c : Course) (l : Commit) → Keeps p r c → (ending.IsBegun r.ending → ⊥) → Member l c.added → ⊥ }
+/// No run keeps the promise in which a line begins whose window wasn't read whole before reading failed, or that is bad or behind a bad
+/// one, or stands in the window of one that is too long; that has an entry of a line that may not begin, or has none of one that may
+/// where all is done, reading failed or a line is too long; in which anything happens, is answered or recorded where no line may begin; or, on
+/// one thread, in which a window's first line begins while anybody can move, as a unit of the window before that holds a lock.
+pub fn lines_begin_in_whole_windows()
+    ensures fault { (p : Program) (r : Observed) (c : Course) (front : List ℕ) → Keeps p r c → r.ending ≡ ending.ReadFault
+        → r.old.input ≡ front ++ r.new.input → whole_windows front < (core_end p c).units.lines → ⊥ }
+    ensures bad { (p : Program) (r : Observed) (c : Course) (number : ℕ) → Keeps p r c → first_bad 0 (lines r) ≡ Some number
+        → number ≤ (core_end p c).units.lines → ⊥ }
+    ensures long { (p : Program) (r : Observed) (c : Course) (told number : ℕ) → Keeps p r c → r.ending ≡ ending.InputTooLong told
+        → first_bad 0 (lines r) ≡ Some number → before_bad number < (core_end p c).units.lines → ⊥ }
+    ensures entry { (p : Program) (r : Observed) (c : Course) (e : Entry) → KeepsAnywhere p r c → Member e c.entries → c.allowed < e.line → ⊥ }
+    ensures unanswered { (p : Program) (r : Observed) (c : Course) (n : ℕ) → KeepsAnywhere p r c → ending.IsAllWritten r.ending → 1 ≤ n
+        → n ≤ c.allowed → ((e : Entry) → Member e c.entries → e.line ≢ n) → ⊥ }
+    ensures none { (p : Program) (r : Observed) (c : Course) (at : ℕ) (e : CoreEvent) → Keeps p r c → c.allowed ≡ 0
+        → AppliesAt (core_run p c) at e → ⊥ }
+    ensures no_entry { (p : Program) (r : Observed) (c : Course) (e : Entry) → Keeps p r c → c.allowed ≡ 0 → Member e c.entries → ⊥ }
+    ensures record { (p : Program) (r : Observed) (c : Course) (l : Commit) → Keeps p r c → c.allowed ≡ 0 → Member l c.added → ⊥ }
+    ensures seam { (p : Program) (r : Observed) (c : Course) (at n : ℕ) (call : Call) (plain : Bool) → KeepsAnywhere p r c → r.windowed ≡ true
+        → r.manner.threaded ≡ false → AppliesAt (core_run p c) at (event.Begin (Line (n + 1)) call plain) → n % window_lines ≡ 0
+        → movers p.types (core_run p c) (state_before (core_run p c) at) (got_from (begins (core_run p c)) (take at c.events)) ≢ [] → ⊥ }
 {}
 
 /// No report of a folder prints the text of another log than the one that it reads as, or may leave what couldn't stand there

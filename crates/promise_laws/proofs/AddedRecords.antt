@@ -15,8 +15,7 @@ use Rattle.core_model.specs.LegalRuns.{Run, IsLegal, ends}
 use Rattle.core_laws.proofs.Basics.{is_committed-true}
 use Rattle.core_laws.proofs.Orders.{Member-at, Member-get}
 use Rattle.core_laws.proofs.KeptInvariant.{Kept}
-use Rattle.core_laws.proofs.Ends.{kept-ends, valid-ends, split-ends}
-use Rattle.core_laws.proofs.FurtherLaws.{committed-closed}
+use Rattle.core_laws.proofs.Ends.{kept-ends, valid-ends}
 use Rattle.core_laws.proofs.CommitOrder.{split-order}
 use Rattle.core_laws.proofs.SerialOrder.{serial-committed, serial-good}
 use Rattle.script_tree.specs.Programs.{ProgramTree}
@@ -27,6 +26,8 @@ use Rattle.promise_spec.proofs.Lists.{head_of, tail_of, none_is}
 use Rattle.promise_laws.specs.Legality.{is_play}
 use Rattle.promise_laws.proofs.LegalRuns.{is_play-true}
 use Rattle.promise_laws.proofs.SerialRecords.{next-states}
+use Rattle.core_laws.proofs.LoadlessKept.{loadless-ends}
+use Rattle.core_laws.proofs.LoadlessRuns.{split-ends, committed-closed}
 
 -- each stands before those after it
 abbrev pub AreAscending : (UnitNo → ℕ) → List UnitNo → Type 0
@@ -88,14 +89,14 @@ pub added-of : (types : ProgramTree) (r : Run) (log : List Commit) → IsLegal (
 added-of types r log lawful (inl all) = record {
   us = filter (λ u. is_committed ((ends r).manager.verdict u)) (ends r).manager.order;
   are = of-verdicts r.opening (ends r) is_committed log (kept-ends (is_play types) r lawful) (λ v e. ap is_good (is_committed-true v e)) refl
-      (λ u c. (committed-closed (is_play types) r lawful u c).0) all;
+      (λ u c. (committed-closed r lawful.above u c).0) all;
   serial = serial-committed (is_play types) r.opening (ends r) (kept-ends (is_play types) r lawful) (valid-ends (is_play types) r lawful);
 }
 added-of types r log lawful (inr more) = record {
   us = filter (λ u. is_good ((ends r).manager.verdict u)) (ends r).manager.order;
   are = of-verdicts r.opening (ends r) is_good log (kept-ends (is_play types) r lawful) (λ v e. e) refl
-      (λ u c. (committed-closed (is_play types) r lawful u c).0)
-      (subst (λ (es : List Effect). AreRecordsOf es log) (sym (split-order r.opening (ends r) (kept-ends (is_play types) r lawful) (split-ends (is_play types) r lawful))) more.records);
+      (λ u c. (committed-closed r lawful.above u c).0)
+      (subst (λ (es : List Effect). AreRecordsOf es log) (sym (split-order (ends r) (loadless-ends r lawful.above) (split-ends r lawful.above))) more.records);
   serial = serial-good (is_play types) r.opening (ends r) (kept-ends (is_play types) r lawful) (valid-ends (is_play types) r lawful);
 }
 

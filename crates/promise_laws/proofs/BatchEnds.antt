@@ -30,8 +30,7 @@ use Rattle.core_laws.proofs.CommitOrder.{Split, no_doubt, split-order}
 use Rattle.core_model.specs.Laws.{extended}
 use Rattle.core_laws.proofs.FurtherLaws.{run-append}
 use Rattle.core_laws.proofs.Replies.{extends-ends}
-use Rattle.core_laws.proofs.Ends.{kept-ends, split-ends}
-use Rattle.core_laws.proofs.Consistency.{consistent-ends}
+use Rattle.core_laws.proofs.Ends.{kept-ends}
 use Rattle.core_laws.proofs.Votes.{follows-ends}
 use Rattle.promise_spec.specs.Records.{Commit, AreRecordsOf}
 use Rattle.promise_spec.specs.UnitRule.{Basis, IsDue, KeepsUnitRule}
@@ -39,13 +38,15 @@ use Rattle.promise_laws.specs.Legality.{is_play, applied_run}
 use Rattle.promise_laws.proofs.LegalRuns.{ends_alike, legal}
 use Rattle.host_trait.specs.World.{Moment, Passes}
 use Rattle.host_trait.proofs.Moments.{weaker}
-use Rattle.promise_spec.specs.Programs.{Program}
 use Rattle.promise_spec.specs.UnitAnswers.{got_from}
 use Rattle.promise_spec.proofs.Lists.{none_at}
 use Rattle.promise_laws.specs.Closings.{AllEnd}
 use Rattle.promise_spec.specs.Explanation.{AreAdded}
 use Rattle.promise_spec.specs.Entries.{Log, grown}
 use Rattle.promise_spec.specs.Batches.{units_in, kept_by, EndsABatch}
+use Rattle.core_laws.proofs.LoadlessKept.{loadless-kept}
+use Rattle.core_laws.proofs.Invariant.{loadless-of}
+use Rattle.core_laws.proofs.LoadlessRuns.{split-ends, prefix-ends}
 
 -- ---- what an event leaves of a finished unit
 
@@ -207,8 +208,8 @@ pub closed-ends : (plays : Effect → Bool) (r : Run) → IsLegal plays r → Ar
 closed-ends plays r l = record {
   kept = kept-ends plays r l;
   count = (follows-ends plays r l).count;
-  decided = (consistent-ends plays r l).closed_batches_are_a_prefix.decided;
-  split = split-ends plays r l;
+  decided = (prefix-ends r l.above).decided;
+  split = split-ends r l.above;
 }
 
 module _ (opening : GrainId → List Value) (w : CoreState) (e : CoreEvent) (c : AreClosed opening w) (x : OnlyExtends w (step w e)) where
@@ -222,7 +223,7 @@ module _ (opening : GrainId → List Value) (w : CoreState) (e : CoreEvent) (c :
     where
       go : (o : Option ℕ) → w.manager.doubt ≡ o → is_good ((step w e).manager.verdict u) ≡ is_good (w.manager.verdict u)
       go None none =
-          ap is_good ((grows-step opening w e c.kept).1 u (c.decided u done (subst (λ (o : Option ℕ). w.manager.place u ≤ batch_begin o w.manager.closed) (sym none) low)))
+          ap is_good ((grows-step w e (loadless-kept opening w c.kept)).1 u (c.decided u done (subst (λ (o : Option ℕ). w.manager.place u ≤ batch_begin o w.manager.closed) (sym none) low)))
       go (Some b) some = cond_both (applies w e) (swept (does w e)) w (λ (v : CoreState). is_good (v.manager.verdict u) ≡ is_good (w.manager.verdict u))
           (λ a. after a (is_after_doubt e) refl)
           (λ a. refl)
@@ -255,7 +256,7 @@ module _ (opening : GrainId → List Value) (w : CoreState) (e : CoreEvent) (c :
       let fits : k ≤ length w.manager.order = (let few = few-units n in omega (arith, few, within)) in
       let order : take (units_in (step w e) n) (step w e).manager.order ≡ take k w.manager.order =
       ap (λ m. take m (step w e).manager.order) units ∙ ap (take k) x.order.1 ∙ take-append-le k w.manager.order x.order.0 fits in
-      let place = λ (u : UnitNo) (m : Member u (take k w.manager.order)). in_take opening _ w c.kept.0 k u m fits in
+      let place = λ (u : UnitNo) (m : Member u (take k w.manager.order)). in_take _ w (loadless-of opening _ w c.kept.0) k u m fits in
       let good : filter (λ u. is_good ((step w e).manager.verdict u)) (take k w.manager.order) ≡ filter (λ u. is_good (w.manager.verdict u)) (take k w.manager.order) =
       filter-same (λ u. is_good ((step w e).manager.verdict u)) (λ u. is_good (w.manager.verdict u)) (take k w.manager.order)
       (λ u m. (let t = place u m in let few = few-units n in good-stays u t.0 (omega (arith, t.1, few)))) in
@@ -357,11 +358,11 @@ module _ (opening : GrainId → List Value) (w : CoreState) (c : AreClosed openi
       let bound : w.manager.closed + decided_size w.manager.batch ≡ n = ap (λ (o : Option Batch). n + decided_size o) none ∙ omega arith in
       let later : filter good (drop n w.manager.order) ≡ [] =
       filter-none good (drop n w.manager.order)
-      (λ u m. (let t = in_drop opening _ w c.kept.0 n u m in ap is_good (c.kept.0.late u t.0 (subst (λ k. k < w.manager.place u) (sym bound) t.1)))) in
+      (λ u m. (let t = in_drop _ w (loadless-of opening _ w c.kept.0) n u m in ap is_good (c.kept.0.late u t.0 (subst (λ k. k < w.manager.place u) (sym bound) t.1)))) in
       let whole : filter good w.manager.order ≡ filter good (take n w.manager.order) =
       ap (filter good) (sym (take-append-drop n w.manager.order)) ∙ filter-append good (take n w.manager.order) (drop n w.manager.order)
       ∙ ap (λ (us : List UnitNo). filter good (take n w.manager.order) ++ us) later ∙ append-nil (filter good (take n w.manager.order)) in
-      ap (λ k. map (effect_of w) (filter good (take k w.manager.order))) all-units ∙ sym (ap (map (effect_of w)) whole) ∙ split-order opening w c.kept c.split
+      ap (λ k. map (effect_of w) (filter good (take k w.manager.order))) all-units ∙ sym (ap (map (effect_of w)) whole) ∙ split-order w (loadless-kept opening w c.kept) c.split
 
 -- so it is at the end of a run that keeps the unit rule
 closed-of : (s : Basis) (r : Run) → 0 < r.base → KeepsUnitRule s r → AreClosed r.opening (ends r)
@@ -452,9 +453,9 @@ module _ (opening : GrainId → List Value) (w : CoreState) (c : AreClosed openi
       let fits : m ≤ length w.manager.order = (let k = c.kept.1 in let low = c.split.2 in omega (arith, k, low)) in
       let alike : filter (λ u. is_good (w.manager.verdict u)) (take m w.manager.order) ≡ filter sure-one (take m w.manager.order) =
       filter-same (λ u. is_good (w.manager.verdict u)) sure-one (take m w.manager.order)
-      (λ u here. (let t = in_take opening _ w c.kept.0 m u here fits in good-final (w.manager.verdict u) (c.decided u t.0 t.1))) in
+      (λ u here. (let t = in_take _ w (loadless-of opening _ w c.kept.0) m u here fits in good-final (w.manager.verdict u) (c.decided u t.0 t.1))) in
       let later : filter sure-one (drop m w.manager.order) ≡ [] =
-      filter-none sure-one (drop m w.manager.order) (λ u here. (let t = in_drop opening _ w c.kept.0 m u here in never (w.manager.verdict u) (c.split.1 u t.0 t.1))) in
+      filter-none sure-one (drop m w.manager.order) (λ u here. (let t = in_drop _ w (loadless-of opening _ w c.kept.0) m u here in never (w.manager.verdict u) (c.split.1 u t.0 t.1))) in
       let whole : filter sure-one w.manager.order ≡ filter sure-one (take m w.manager.order) =
       ap (filter sure-one) (sym (take-append-drop m w.manager.order)) ∙ filter-append sure-one (take m w.manager.order) (drop m w.manager.order)
       ∙ ap (λ (us : List UnitNo). filter sure-one (take m w.manager.order) ++ us) later ∙ append-nil (filter sure-one (take m w.manager.order)) in

@@ -23,7 +23,8 @@ use Rattle.script_meaning.proofs.Plays.{plays_are_orderly_lem}
 use Rattle.promise_spec.specs.Programs.{Program, shape_in}
 use Rattle.promise_spec.specs.Records.{Commit, States, after_writes}
 use Rattle.promise_spec.specs.Entries.{Log, new_silo, records_of, standing_of}
-use Rattle.promise_spec.specs.SerialExecution.{depth_of, IsSerial}
+use Rattle.base_types.specs.Origins.{depth_of}
+use Rattle.promise_spec.specs.SerialExecution.{IsSerial}
 use Rattle.promise_spec.specs.Logs.{IsPrefix}
 use Rattle.promise_spec.specs.Images.{IsWholeSilo, AreNumbered}
 use Rattle.promise_spec.specs.Lines.{IsBadLine}
@@ -185,7 +186,7 @@ no_abort types states (c ∷ log) l serial (inl same) is =
 no_abort types states (c ∷ log) l serial (inr later) is = no_abort types (after_writes states c) log l serial.1 later is
 
 module _ (p : Program) (r : Observed) (c : Course) (based : 0 < c.opening.base.next) (is : IsExplained p r c) (numbered : AreNumbered c.opening.base.next (records_of c.opening)) (serial : IsSerial p.types (standing_of c.opening).states c.added)
-    (all : c.entries ≡ (core_end p c).manager.settled) (answered : IsAnswered r c) (sure : RunHasDoubt (core_run p c) → ⊥) (calls : (n : ℕ) (why : BadRequest) → IsBadLine p.types (lines r) n why → ⊥) where
+    (all : c.entries ≡ (core_end p c).manager.settled) (allowed : c.allowed ≡ length (lines r)) (answered : IsAnswered c) (sure : RunHasDoubt (core_run p c) → ⊥) (calls : (n : ℕ) (why : BadRequest) → IsBadLine p.types (lines r) n why → ⊥) where
   front : IsPrefix c.entries (core_end p c).manager.settled
   front = ([], sym all ∙ sym (append-nil c.entries))
 
@@ -229,7 +230,7 @@ module _ (p : Program) (r : Observed) (c : Course) (based : 0 < c.opening.base.n
   pub counted : how_many_lines line_aborted c.entries + (how_many_lines line_valued c.entries + how_many_lines is_faulted c.entries) ≡ length (lines r)
   counted =
       counts_three (λ (e : Entry). line_aborted e.what) (λ (e : Entry). line_valued e.what) (λ (e : Entry). is_faulted e.what) c.entries one_kind
-      ∙ as_many_lines c.entries (replies_once p r c based is front) (λ e there. (replies_within p r c based is front e there).0) (length (lines r)) (λ e there. (replies_within p r c based is front e there).1) answered
+      ∙ as_many_lines c.entries (replies_once p r c based is front) (λ e there. (replies_within p r c based is front e there).0) (length (lines r)) (λ e there. (replies_within p r c based is front e there).1) (λ k low high. answered k low (subst (λ (n : ℕ). k ≤ n) (sym allowed) high))
 
 -- ---- a load
 
@@ -268,4 +269,4 @@ module _ (p : Program) (n seed : ℕ) (r : Observed) (c : Course) (keeps : Keeps
 
   -- a load that told its summary, or failed while it did, counts each line once
   pub load_counted : (r.ending ≡ ending.Done) ⊎ (r.ending ≡ ending.WriteFault) → how_many_lines line_aborted c.entries + (how_many_lines line_valued c.entries + how_many_lines is_faulted c.entries) ≡ length (lines r)
-  load_counted ends = counted p r c based keeps.explained opening_numbered keeps.ordered.serial keeps.settled (keeps.ended.done ends) (undoubted ends) no_bad_line
+  load_counted ends = counted p r c based keeps.explained opening_numbered keeps.ordered.serial keeps.settled keeps.ended.allowed (keeps.ended.done ends) (undoubted ends) no_bad_line

@@ -28,6 +28,7 @@ use Rattle.promise_spec.proofs.Lists.{some_is}
 use Rattle.promise_laws.proofs.AppliedEvents.{none-applies}
 use Rattle.promise_laws.proofs.Tellings.{Tells}
 use Rattle.promise_laws.proofs.TrueReplies.{Known}
+use Rattle.core_laws.proofs.Invariant.{loadless-of}
 
 -- where a batch is in doubt, the manager file's count of faults rose
 rose-by : (n old new : ℕ) → (n ≡ 0 → ⊥) → RoseBy n old new → Rose old new
@@ -57,7 +58,7 @@ doubtful-is : (opening : GrainId → List Value) (w : CoreState) → Kept openin
     → (w.units.phase u ≡ Finished) × (begin_of w < w.manager.place u) × (is_good (w.manager.verdict u) ≡ true)
 doubtful-is opening w k u m =
     let good = filter-member (λ x. is_good (w.manager.verdict x)) (drop (begin_of w) w.manager.order) u (unit-in w (filter (λ x. is_good (w.manager.verdict x)) (drop (begin_of w) w.manager.order)) u m) in
-    let finished = in_drop opening _ w k.0 (begin_of w) u good.0 in
+    let finished = in_drop _ w (loadless-of opening _ w k.0) (begin_of w) u good.0 in
     (finished.0, finished.1, good.1)
 
 -- so it was told no more than the doubt

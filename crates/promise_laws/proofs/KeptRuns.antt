@@ -1,5 +1,5 @@
 -- From what a run's loop carries to what lasts.
-use Rattle.std.proofs.Common.{◌≡◌, ◌≢◌, take, inl, inr, ℕ, Some, List, [], ◌∷◌, ◌++◌, refl, sym, ap, subst, ◌∙◌, append_assoc, append-nil}
+use Rattle.std.proofs.Common.{◌≡◌, ◌≢◌, take, inl, inr, ℕ, true, Some, List, [], ◌∷◌, ◌++◌, refl, sym, ap, subst, ◌∙◌, append_assoc, append-nil}
 use Rattle.std.specs.List.{AllByRecursion}
 use Rattle.std.proofs.lemmas.List.{append_cancel_left}
 use Rattle.base_types.specs.declared.entries.Entry.{Entry}
@@ -229,10 +229,10 @@ module _ (p : Program) (r : Observed) (c : Course) (mid : World) (b : IsBehind r
 -- ---- the promise
 
 -- what a run answers, and what lasts where its folder was opened so, is the whole promise
-pub carried_promised : (m : Manner) (p : Program) (r : Observed) (c : Course) (mid : World) → ShowsAnywhere p r c → r.manner ≡ m → IsBehind r c mid → ReadsMayStay r.old → ReadsMayStay mid
+pub carried_promised : (m : Manner) (p : Program) (r : Observed) (c : Course) (mid : World) → ShowsAnywhere p r c → r.manner ≡ m → r.windowed ≡ true → IsBehind r c mid → ReadsMayStay r.old → ReadsMayStay mid
     → (Opens r c → Lasts p r c) → Promises m r
-carried_promised m p r c mid answers is behind stay stay_mid lasts =
-    answered_promised p r c answers m is behind.reads (λ whole. lasts (opens_whole p r c mid behind whole stay stay_mid))
+carried_promised m p r c mid answers is windowed behind stay stay_mid lasts =
+    answered_promised p r c answers m is windowed behind.reads (λ whole. lasts (opens_whole p r c mid behind whole stay stay_mid))
 
 -- ---- batches at the moments of a step
 

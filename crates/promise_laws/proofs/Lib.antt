@@ -30,5 +30,6 @@ pub mod ShownOrder
 pub mod ShownRuns
 pub mod ShownPromise
 pub mod OpenedRuns
+pub mod WindowSeams
 pub mod BatchEnds
 pub mod KeptRuns

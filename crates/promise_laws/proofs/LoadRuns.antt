@@ -9,15 +9,15 @@ use Rattle.promise_spec.specs.Entries.{Log}
 use Rattle.promise_spec.specs.Logs.{IsLog}
 use Rattle.promise_spec.specs.Causes.{syncs_of}
 use Rattle.promise_spec.specs.Moments.{IsImageOf}
-use Rattle.promise_spec.specs.Endings.{Done, WriteFault, CountsSyncs, IsBegun, IsAllWritten, EndingMayDoubt}
-use Rattle.promise_spec.specs.Courses.{Observed, Course, order, moments, lines, core_run, core_end}
+use Rattle.promise_spec.specs.Endings.{Ending, Done, WriteFault, CountsSyncs, IsLoadCarried, IsAllWritten, EndingMayDoubt}
+use Rattle.promise_spec.specs.Courses.{Observed, Course, order, moments, lines, core_run, core_end, seen_at_entry}
 use Rattle.promise_spec.specs.Images.{IsSoundFolder}
 use Rattle.promise_spec.specs.Orders.{IsOrdered}
 use Rattle.host_trait.specs.declared.channels.FileId.TheVariants.{Grain}
 use Rattle.promise_spec.specs.Crashes.{SurvivesCrashes, StaySound}
 use Rattle.promise_spec.specs.Exits.{IsExit, LogLacksDoubt}
 use Rattle.promise_spec.specs.Explanation.{ComeOfEvents, IsExplained}
-use Rattle.promise_spec.specs.Promise.{Keeps}
+use Rattle.promise_spec.specs.Promise.{AllowedBy, Keeps}
 use Rattle.promise_spec.specs.Commands.{Prints}
 use Rattle.promise_spec.specs.Loads.{AskFor, HasLoaded, KeepsLoad, load_calls, summary_text}
 use Rattle.promise_laws.specs.QuietRuns.{IsQuietRun, quieted, quiet_course}
@@ -70,6 +70,7 @@ abbrev alike : Observed → Observed → Observed
 alike r s = record {
   manner = r.manner;
   asked = r.asked;
+  windowed = r.windowed;
   old = record s.old { disk = r.old.disk; output = r.old.output };
   new = record s.new { disk = r.new.disk };
   faults_before = r.faults_before;
@@ -82,6 +83,7 @@ same_load : (r : Observed) (c : Course) (text : List ℕ) (told : List Moment) (
 same_load r c text told s q = λ i. record {
   manner = q.manner i;
   asked = q.asked i;
+  windowed = q.windowed i;
   old = record s.old { disk = q.disk_before i; output = q.output_before i };
   new = record s.new { disk = q.disk_after i };
   faults_before = q.faults_before i;
@@ -234,13 +236,14 @@ module _ (p : Program) (r s : Observed) (c : Course) (told : List Moment) (told_
   ended : Keeps p r c → r.ending ≡ Done → s.new.input ≡ s.old.input → s.old.syncs ≡ r.old.syncs → s.new.syncs ≡ r.new.syncs → HasLoaded p (alike r s) (quiet_course r c told)
   ended k done unread before after = record {
     unread = unread;
-    carried = subst IsBegun (sym done) tt;
+    carried = subst IsLoadCarried (sym done) tt;
+    allowed = (subst (λ (e : Ending). AllowedBy e k.ended.read.pulled r c.allowed) done k.ended.read.allowed).all;
     risen = k.ended.risen;
-    done = λ is. (k.ended.done done).answered;
+    done = λ is. k.ended.answered (subst IsAllWritten (sym done) tt);
     undoubted = λ fault doubt. absurd (let e : Done ≡ WriteFault = sym done ∙ fault in cc e);
     complete = λ calm. let o = k.ended.complete calm in record { calm = o.calm; undisturbed = o.undisturbed };
     alone = k.ended.alone;
-    syncs = λ calm is. after ∙ k.ended.syncs calm (subst CountsSyncs (sym is) tt) ∙ ap (λ (n : ℕ). n + syncs_of (core_run p c)) (sym before);
+    syncs = λ calm is. after ∙ k.ended.syncs calm (subst CountsSyncs (sym is) tt) ∙ ap (λ (n : ℕ). n + syncs_of (seen_at_entry r) (core_run p c)) (sym before);
     most = (let m = k.ended.most in omega (arith, m, after, before));
   }
 

@@ -19,7 +19,6 @@ use Rattle.core_model.specs.Lines.{EntriesAreOnce}
 use Rattle.core_model.specs.Holders.{HoldersHaveRead}
 use Rattle.core_model.specs.LegalRuns.{Run, IsLegal, ends}
 use Rattle.core_laws.proofs.Orders.{Member-get}
-use Rattle.core_laws.proofs.FurtherLaws.{children-ends, answers-ends}
 use Rattle.core_laws.proofs.HeldLocks.{holders-ends}
 use Rattle.core_laws.proofs.LineEntries.{once-ends}
 use Rattle.script_tree.specs.Programs.{ProgramTree}
@@ -30,7 +29,8 @@ use Rattle.script_meaning.specs.Trails.{answers_of, reads_of, Has, states_of}
 use Rattle.promise_spec.specs.Programs.{Program}
 use Rattle.promise_spec.specs.Records.{Commit, States, IsRecordOf}
 use Rattle.promise_spec.specs.Entries.{records_of, standing_of}
-use Rattle.promise_spec.specs.SerialExecution.{depth_of, played}
+use Rattle.base_types.specs.Origins.{depth_of}
+use Rattle.promise_spec.specs.SerialExecution.{played}
 use Rattle.promise_spec.specs.Lines.{IsLineCall}
 use Rattle.promise_spec.specs.Images.{IsAboveParent, AreNumbered}
 use Rattle.promise_spec.specs.Cores.{HasBegun}
@@ -49,6 +49,7 @@ use Rattle.promise_laws.proofs.ToldRuns.{known-ends}
 use Rattle.promise_laws.proofs.AddedRecords.{AreSerialOf, added-of, record-unit, unit-record, one-record, StandsAfter, stands-after, reads-stand}
 use Rattle.promise_spec.proofs.Standings.{grown_records}
 use Rattle.promise_laws.proofs.TrueReplies.{below-next}
+use Rattle.core_laws.proofs.LoadlessRuns.{answers-ends, children-ends}
 
 -- What is known at the end of a run: why its units began, the core's laws of children, lines and reads, the units whose
 -- records it added, and that no record of before is of a child of one of these units.
@@ -368,10 +369,10 @@ explained_family p r c based is numbered =
     (family p.types (lines r) (core_end p c) (standing_of c.opening).states (records_of c.opening) c.added (record {
       base = (core_run p c).base;
       known = known-ends (basis p r c) (core_run p c) above is.units;
-      children = subst ChildrenAreKnown same (children-ends (is_play p.types) run lawful);
-      answers = subst (λ (w : CoreState). AnswersAreOutcomes w) same (answers-ends (is_play p.types) run lawful);
-      lines = subst EntriesAreOnce same (once-ends (is_play p.types) run lawful);
-      holders = subst HoldersHaveRead same (holders-ends (is_play p.types) run lawful);
+      children = subst ChildrenAreKnown same (children-ends run lawful.above);
+      answers = subst (λ (w : CoreState). AnswersAreOutcomes w) same (answers-ends run lawful.above);
+      lines = subst EntriesAreOnce same (once-ends run lawful.above);
+      holders = subst HoldersHaveRead same (holders-ends run lawful.above);
       units = subst (λ (w : CoreState). AreSerialOf p.types (standing_of c.opening).states w c.added) same
           (added-of p.types run c.added lawful (subst (λ (w : CoreState). AreAdded w c.added) (sym same) is.records));
       below = λ d parent index depth m e.

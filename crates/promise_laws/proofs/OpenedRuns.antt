@@ -1,73 +1,52 @@
 -- What a run answers, over any folder, and what it promises with what lasts.
-use Rattle.std.proofs.Common.{◌≡◌, inl, inr, ℕ, ◌≤◌, List, [], ◌∷◌, ◌++◌, length, refl, sym, ap, subst, ◌∙◌}
-use Rattle.std.proofs.lemmas.List.{append-nil}
+use Rattle.std.proofs.Common.{◌≡◌, inr, ℕ, ◌<◌, ◌≤◌, true, List, [], sym, subst, arith}
 use Rattle.base_types.specs.declared.entries.Entry.{Entry}
-use Rattle.core_model.specs.declared.events.CoreEvent.{CoreEvent}
-use Rattle.core_model.specs.LegalRuns.{ends}
 use Rattle.core_model.specs.CoreState.{Member}
 use Rattle.promise_spec.specs.Programs.{Program, shape_in}
 use Rattle.promise_spec.specs.Images.{IsWholeFolder}
-use Rattle.promise_spec.specs.Outputs.{Grew, reply_lines}
+use Rattle.promise_spec.specs.Outputs.{Grew}
 use Rattle.promise_spec.specs.Openings.{Reads, opened_as}
 use Rattle.promise_spec.specs.Endings as ending
-use Rattle.promise_spec.specs.Cores.{core_from}
-use Rattle.promise_spec.specs.Courses.{Observed, Course, seen_at_entry, program_in_force, core_end}
-use Rattle.promise_spec.specs.Entries.{standing_of}
+use Rattle.promise_spec.specs.Courses.{Observed, Course, seen_at_entry, program_in_force}
 use Rattle.promise_spec.specs.Words.{Manner}
 use Rattle.promise_spec.specs.Promise.{Keeps, KeepsAnywhere, Promises}
-use Rattle.promise_spec.proofs.Lists.{in_append}
 use Rattle.promise_laws.specs.AnsweredRuns.{HasAnswered, HasOpened}
 use Rattle.promise_laws.specs.Obligations.{ShowsAnywhere, Lasts, Shows}
 use Rattle.promise_laws.proofs.Bases.{reads_above}
 use Rattle.promise_laws.proofs.OneFamily.{explained_family}
-use Rattle.promise_laws.proofs.TrueReplies.{replies_within, replies_once, replies_true, replies_ordered}
+use Rattle.promise_laws.proofs.TrueReplies.{replies_begun, replies_within, replies_once, replies_true, replies_ordered}
 use Rattle.promise_laws.proofs.ShownRuns.{explained, ended_anywhere, answers_of, shown}
-
--- a list without a member is empty
-no_member : {A : Type 0} (xs : List A) → ((x : A) → Member x xs → ⊥) → xs ≡ []
-no_member [] none = refl
-no_member (x ∷ xs) none = absurd (none x (inl refl))
 
 -- ---- how it ends, and what it answers
 
 module _ (p : Program) (r : Observed) (c : Course) (k : KeepsAnywhere p r c) where
-  -- each entry is one that the core settled
-  in_core : (e : Entry) → Member e c.entries → Member e (core_end p c).manager.settled
-  in_core e there = subst (λ (x : List Entry). Member e x) (sym k.settled.entries.1) (in_append e c.entries k.settled.entries.0 (inl there))
+  -- the opening log begins with a number above 0
+  based : 0 < c.opening.base.next
+  based = reads_above c.live (seen_at_entry r) c.opening k.reads
 
-  -- a run that ends as none does that has begun has no events
-  no_events : (ending.IsBegun r.ending → ⊥) → c.events ≡ []
-  no_events never = elim k.ended.begun [ inl none ↦ none | inr all ↦ absurd (never all.ending) ]
+  -- each entry is of a line that may begin
+  pub allowed_line : (e : Entry) → Member e c.entries → (1 ≤ e.line) × (e.line ≤ c.allowed)
+  allowed_line e there =
+      let begun = replies_begun p r c based k.explained k.settled.entries e there in
+      let few = k.ended.read.few in
+      (begun.0, let le = begun.1 in omega (arith, le, few))
 
-  -- and no entries
-  unbegun_entry : (e : Entry) → (ending.IsBegun r.ending → ⊥) → Member e c.entries → ⊥
-  unbegun_entry e never there =
-      let settled_is : (core_end p c).manager.settled ≡ [] = ap (λ (events : List CoreEvent). (ends (core_from p.types (standing_of c.opening) events)).manager.settled) (no_events never) in
-      subst (λ (x : List Entry). Member e x) settled_is (in_core e there)
-
-  -- one that is done has answered each line
-  has_answered : r.ending ≡ ending.Done → HasAnswered p r
-  has_answered is =
-      let done = k.ended.done is in
-      let whole : c.rest ≡ [] = k.whole (λ fault. let e : ending.Done ≡ ending.WriteFault = sym is ∙ fault in absurd (cc e)) in
+  -- where all was written, each of these has its entry
+  has_answered : ending.IsAllWritten r.ending → HasAnswered p r
+  has_answered all =
+      let whole : c.rest ≡ [] = k.whole (λ fault. absurd (subst ending.IsAllWritten fault all)) in
       record {
-        input = done.input;
+        pulled = k.ended.read.pulled;
+        input = k.ended.read.input;
+        allowed = c.allowed;
+        by_ending = k.ended.read.allowed;
+        good = k.ended.read.good;
         entries = c.entries;
         output = subst (λ (rest : List ℕ). Grew (shape_in p) r.old.output r.new.output c.entries rest) whole k.output;
         once = k.once;
-        within = λ e there. subst (λ (l : List (List ℕ)). (1 ≤ e.line) × (e.line ≤ length l)) k.ended.given (k.within e there);
-        each = λ n low high. done.answered n low (subst (λ (l : List (List ℕ)). n ≤ length l) (sym k.ended.given) high);
+        within = allowed_line;
+        each = k.ended.answered all;
       }
-
-  -- one that hasn't begun has written nothing
-  nothing_said : (ending.IsBegun r.ending → ⊥) → r.new.output ≡ r.old.output
-  nothing_said never =
-      let none : c.entries ≡ [] = no_member c.entries (λ e there. unbegun_entry e never there) in
-      let whole : c.rest ≡ [] = k.whole (λ fault. never (subst ending.IsBegun (sym fault) tt)) in
-      k.output.output
-      ∙ ap (λ (entries : List Entry). r.old.output ++ (reply_lines (shape_in p) entries ++ c.rest)) none
-      ∙ ap (λ (rest : List ℕ). r.old.output ++ rest) whole
-      ∙ append-nil r.old.output
 
 -- a run that keeps this much of the program in force opened its folder
 pub anywhere_opened : (r : Observed) (c : Course) → KeepsAnywhere (program_in_force c) r c → HasOpened r
@@ -76,9 +55,8 @@ anywhere_opened r c k = record {
   carried = k.ended.carried;
   risen = k.ended.risen;
   file = λ f is. (k.explained.doubted f is).0;
-  long = k.ended.long;
-  done = has_answered (program_in_force c) r c k;
-  unbegun = nothing_said (program_in_force c) r c k;
+  given = k.ended.given;
+  answered = has_answered (program_in_force c) r c k;
 }
 
 -- ---- what it shows
@@ -109,9 +87,10 @@ module _ (p : Program) (r : Observed) (c : Course) (a : ShowsAnywhere p r c) whe
   with_images l = record { in_force = a.in_force; opens = l.opens; explains = a.explains; settled = a.settled; output = a.output; whole = a.whole; journals = l.journals; leaves = l.leaves; ends = a.ends }
 
   -- and the whole promise
-  pub answered_promised : (m : Manner) → r.manner ≡ m → opened_as (seen_at_entry r) ≡ Reads c.live c.opening → (IsWholeFolder r.old → Lasts p r c) → Promises m r
-  answered_promised m is reads lasts = record {
+  pub answered_promised : (m : Manner) → r.manner ≡ m → r.windowed ≡ true → opened_as (seen_at_entry r) ≡ Reads c.live c.opening → (IsWholeFolder r.old → Lasts p r c) → Promises m r
+  answered_promised m is windowed reads lasts = record {
     manner = is;
+    windowed = windowed;
     answers = inr (c, subst (λ (q : Program). KeepsAnywhere q r c) (sym a.in_force) (shown_anywhere reads));
     over_whole = λ folder. inr (c, subst (λ (q : Program). Keeps q r c) (sym a.in_force) (shown p r c (with_images (lasts folder))));
   }

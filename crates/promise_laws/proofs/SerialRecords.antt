@@ -22,7 +22,8 @@ use Rattle.script_meaning.proofs.Plays.{play_rests_on_reads_lem, plays_are_order
 use Rattle.promise_spec.specs.Programs.{Program}
 use Rattle.promise_spec.specs.Records.{Commit, States, put_state, after_writes, IsRecordOf, AreRecordsOf}
 use Rattle.promise_spec.specs.Entries.{LogEntry, Recorded, Standing, after_entry, after_entries, standing_of}
-use Rattle.promise_spec.specs.SerialExecution.{IsSerial, Replays, depth_of, played}
+use Rattle.base_types.specs.Origins.{depth_of}
+use Rattle.promise_spec.specs.SerialExecution.{IsSerial, Replays, played}
 use Rattle.promise_spec.specs.UnitRule.{played_by, IsPlayOf}
 use Rattle.promise_spec.specs.Courses.{Observed, Course, basis, core_run, core_end}
 use Rattle.promise_spec.specs.Explanation.{IsExplained}

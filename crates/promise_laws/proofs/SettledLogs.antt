@@ -7,6 +7,7 @@ use Rattle.host_trait.specs.Disk.{MayLeave}
 use Rattle.host_trait.specs.declared.channels.FileId.{FileId}
 use Rattle.host_trait.specs.declared.channels.FileId.TheVariants.{Manager}
 use Rattle.host_trait.specs.World.{World, Disk, Image, IsImage}
+use Rattle.field_codec.specs.declared.formats.Format.TheVariants.{One}
 use Rattle.field_codec.proofs.Readers.{apart}
 use Rattle.field_codec.specs.declared.units.Numbers.TheVariants.{Logged}
 use Rattle.gate_block.specs.Log.{LogsUpTo}
@@ -32,7 +33,7 @@ use Rattle.promise_spec.proofs.Batched.{batch_body, IsBatched, batched, log_is}
 
 -- a record is within the format's limits
 abbrev pub Fits : Shape → Commit → Type 0
-Fits shape c = IsRecordIn Logged shape c.logged
+Fits shape c = IsRecordIn One Logged shape c.logged
 
 -- the records of a log fit, whatever image keeps them
 pub fits_of : (live : ℕ) (shape : Shape) (image : Image) (cs : List Commit) → AllByRecursion (IsKept live shape image) cs → AllByRecursion (Fits shape) cs
@@ -40,7 +41,7 @@ fits_of live shape image [] all = tt
 fits_of live shape image (c ∷ cs) all = (all.0.fits, fits_of live shape image cs all.1)
 
 -- so do they without their states
-logged_fit : (shape : Shape) (cs : List Commit) → AllByRecursion (Fits shape) cs → AllByRecursion (IsRecordIn Logged shape) (map (λ (c : Commit). c.logged) cs)
+logged_fit : (shape : Shape) (cs : List Commit) → AllByRecursion (Fits shape) cs → AllByRecursion (IsRecordIn One Logged shape) (map (λ (c : Commit). c.logged) cs)
 logged_fit shape [] all = tt
 logged_fit shape (c ∷ cs) all = (all.0, logged_fit shape cs all.1)
 
@@ -52,7 +53,7 @@ few_of cs few = subst (λ n. n ≤ 64) (sym (length-map cs (λ c. c.logged))) fe
 size_same : (shape : Shape) (cs ds : List Commit) → length cs ≤ 64 → length ds ≤ 64 → AllByRecursion (Fits shape) cs → AllByRecursion (Fits shape) ds → batch_body cs ≡ batch_body ds → length cs ≡ length ds
 size_same shape cs ds few few_too a b e =
     let logged : map (λ (c : Commit). c.logged) cs ≡ map (λ (c : Commit). c.logged) ds =
-    (apart spelling_of_body (λ rs. (length rs ≤ 64) × AllByRecursion (IsRecordIn Logged shape) rs) (records_in Logged shape) (records_reads Logged shape 0) (map (λ (c : Commit). c.logged) cs) (map (λ (c : Commit). c.logged) ds) [] []
+    (apart spelling_of_body (λ rs. (length rs ≤ 64) × AllByRecursion (IsRecordIn One Logged shape) rs) (records_in One Logged shape) (records_reads One Logged shape 0) (map (λ (c : Commit). c.logged) cs) (map (λ (c : Commit). c.logged) ds) [] []
     (few_of cs few, logged_fit shape cs a) (few_of ds few_too, logged_fit shape ds b) (ap (λ l. l ++ []) e)).0 in
     sym (length-map cs (λ c. c.logged)) ∙ ap length logged ∙ length-map ds (λ c. c.logged)
 

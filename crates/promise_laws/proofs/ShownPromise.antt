@@ -1,5 +1,5 @@
 -- What a run shows is enough for what is promised of it over any folder.
-use Rattle.std.proofs.Common.{◌≡◌, inr, sym, subst}
+use Rattle.std.proofs.Common.{◌≡◌, inr, true, sym, subst}
 use Rattle.promise_spec.specs.Programs.{Program}
 use Rattle.promise_spec.specs.Words.{Manner}
 use Rattle.promise_spec.specs.Openings.{Reads, opened_as}
@@ -15,11 +15,12 @@ module _ (p : Program) (r : Observed) (c : Course) (s : Shows p r c) where
   reads : opened_as (seen_at_entry r) ≡ Reads c.live c.opening
   reads = log_is_read (seen_at_entry r) c.live c.opening s.opens.read
 
-  pub promised : (m : Manner) → r.manner ≡ m → Promises m r
-  promised m is =
+  pub promised : (m : Manner) → r.manner ≡ m → r.windowed ≡ true → Promises m r
+  promised m is windowed =
       let keeps : Keeps p r c = shown p r c s in
       record {
         manner = is;
+        windowed = windowed;
         answers = inr (c, subst (λ (q : Program). KeepsAnywhere q r c) (sym s.in_force) (kept_anywhere p r c keeps reads));
         over_whole = λ folder. inr (c, subst (λ (q : Program). Keeps q r c) (sym s.in_force) keeps);
       }

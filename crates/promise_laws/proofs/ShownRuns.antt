@@ -110,9 +110,8 @@ module _ (p : Program) (r : Observed) (c : Course) (based : 0 < c.opening.base.n
     given = a.ends.given;
     risen = a.ends.risen;
     carried = a.ends.carried;
-    long = a.ends.long;
-    begun = a.ends.begun;
-    done = a.ends.done;
+    read = a.ends.read;
+    answered = a.ends.answered;
     complete = λ none. record { calm = calm none; undisturbed = λ e m. calm_undisturbed p r c based (explained p r c based a.explains) none e (in_settled p c a.settled.entries e m) };
     alone = λ unthreaded one childless e m. single_unlocked p r c based (explained p r c based a.explains) unthreaded one childless e (in_settled p c a.settled.entries e m);
     syncs = a.ends.syncs;

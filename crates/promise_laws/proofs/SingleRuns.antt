@@ -14,21 +14,16 @@ use Rattle.cell_model.proofs.Units.{same_unit-true, same_unit-false, same_unit-i
 use Rattle.core_model.specs.declared.phases.Phase.{Phase}
 use Rattle.core_model.specs.declared.phases.Phase.TheVariants.{Unborn, Running, Finished, Refused, Ended}
 use Rattle.core_model.specs.declared.effects.Read.{Read}
-use Rattle.core_model.specs.CoreState.{UnitNo, GrainId, nobody, same_unit, put, put_grain, Member, Value, Settled, Hold, Mode, Decision, CoreState}
+use Rattle.core_model.specs.CoreState.{UnitNo, GrainId, nobody, same_unit, put, put_grain, Member, Settled, Hold, Mode, Decision, CoreState}
 use Rattle.core_model.specs.Tests.{ask_answer, is_free, members}
 use Rattle.core_model.specs.Changes.{entry_for, entries_in, told, result_told, decisions_of, refusal, with_decisions, new_unit, swept, swept_by}
 use Rattle.core_model.specs.declared.events.CoreEvent.{CoreEvent}
 use Rattle.core_model.specs.declared.events.CoreEvent.TheVariants.{Begin, Load}
 use Rattle.core_model.specs.Events.{applies, can, does, step, is_allowed}
-use Rattle.core_model.specs.SerialOrder.{IsTrueLoad}
 use Rattle.core_model.specs.LegalRuns.{Run, begins}
 use Rattle.core_laws.proofs.Puts.{put-at, put-from, grain-from}
-use Rattle.core_laws.proofs.Invariant.{Inv}
 use Rattle.core_laws.proofs.EventCases.{Change, bad, begin, lock, raise, refuse, finish, end_plain, end_snapshot, release, take_batch, vote, decide_some, decide_none, seal_batch, spoil_batch, doubt_batch, learn, emit, halt_run, want, load, decode, ask-refused}
 use Rattle.core_laws.proofs.EntryCauses.{entry-parts}
-use Rattle.core_laws.proofs.Dependencies.{Depends, depends-step}
-use Rattle.core_laws.proofs.Reasons.{Argued, argued-step}
-use Rattle.core_laws.proofs.KeptInvariant.{Kept, kept-start, kept-step}
 use Rattle.core_laws.proofs.LineEntries.{Once, once-change}
 use Rattle.promise_spec.specs.Programs.{Program}
 use Rattle.promise_spec.specs.Cores.{AppliesAt, state_before}
@@ -40,6 +35,10 @@ use Rattle.promise_spec.specs.Explanation.{IsExplained}
 use Rattle.promise_spec.specs.Promise.{HasNoChild, IsNoLock}
 use Rattle.promise_laws.proofs.SerialRecords.{above_entries}
 use Rattle.promise_laws.proofs.AppliedEvents.{AllFit, keeps-run, counts}
+use Rattle.core_laws.proofs.LoadlessKept.{LoadlessKept, loadless-begins, loadless-step}
+use Rattle.core_laws.proofs.Loadless.{LoadlessAt}
+use Rattle.core_model.specs.LoadlessLaws.{EachIsDecided}
+use Rattle.core_laws.proofs.EachDecided.{each-step}
 
 -- a line begins only where none is in flight, no child begins, and nothing is loaded
 abbrev IsSingle : Run → CoreState → CoreEvent → Type 0
@@ -72,8 +71,8 @@ among_units (suc n) base u low high = elim (cases_Bool (same_unit u (record { 0 
 ]
 
 -- where no line is in flight, each unit that has begun is settled and free
-at_rest : (r : Run) (opening : GrainId → List Value) (n : ℕ) (w : CoreState) → Inv opening n w → IsAlone r.base w → in_flight r w ≡ 0 → (u : UnitNo) → (w.units.phase u ≡ Unborn → ⊥) → (is_settled w u ≡ true) × (is_free w u ≡ true)
-at_rest r opening n w i s none u born = elim (cases_Bool (is_line (w.units.origin u) && (not (is_settled w u) || not (is_free w u)))) [
+at_rest : (r : Run) (n : ℕ) (w : CoreState) → LoadlessAt n w → IsAlone r.base w → in_flight r w ≡ 0 → (u : UnitNo) → (w.units.phase u ≡ Unborn → ⊥) → (is_settled w u ≡ true) × (is_free w u ≡ true)
+at_rest r n w i s none u born = elim (cases_Bool (is_line (w.units.origin u) && (not (is_settled w u) || not (is_free w u)))) [
   | inl e ↦ absurd (counts (λ v. is_line (w.units.origin v) && (not (is_settled w v) || not (is_free w v))) (units_of r w) u there e none)
   | inr e ↦ (let t = or_parts (not (is_settled w u)) (not (is_free w u)) (sym (ap (λ b. b && (not (is_settled w u) || not (is_free w u))) known.1) ∙ e) in
       (not-false _ t.0, not-false _ t.1))
@@ -89,8 +88,8 @@ at_rest r opening n w i s none u born = elim (cases_Bool (is_line (w.units.origi
     there = among_units (w.units.next - r.base) r.base u known.0 (omega (arith, below, s.above))
 
 -- an entry isn't of a unit that runs
-entry-over : (opening : GrainId → List Value) (n : ℕ) (w : CoreState) → Inv opening n w → Once w → (x : Entry) → Member x w.manager.settled → w.units.phase x.unit ≡ Running → ⊥
-entry-over opening n w i once x m p = elim (once.3 x m).2 [
+entry-over : (n : ℕ) (w : CoreState) → LoadlessAt n w → Once w → (x : Entry) → Member x w.manager.settled → w.units.phase x.unit ≡ Running → ⊥
+entry-over n w i once x m p = elim (once.3 x m).2 [
   | inl o ↦ (let t : Unborn ≡ Running = sym i.outside ∙ ap w.units.phase (sym o.0) ∙ p in cc)
   | inr o ↦ elim o.1 [
     | inl f ↦ (let t : Refused ≡ Running = sym f ∙ p in cc)
@@ -102,19 +101,19 @@ entry-over opening n w i once x m p = elim (once.3 x m).2 [
 ]
 
 -- so nobody runs
-nobody_runs : (r : Run) (opening : GrainId → List Value) (n : ℕ) (w : CoreState) → Inv opening n w → Once w → IsAlone r.base w → in_flight r w ≡ 0 → (u : UnitNo) → w.units.phase u ≡ Running → ⊥
-nobody_runs r opening n w i once s none u p =
-    let rest = at_rest r opening n w i s none u (λ q. (let t : Unborn ≡ Running = sym q ∙ p in cc)) in
+nobody_runs : (r : Run) (n : ℕ) (w : CoreState) → LoadlessAt n w → Once w → IsAlone r.base w → in_flight r w ≡ 0 → (u : UnitNo) → w.units.phase u ≡ Running → ⊥
+nobody_runs r n w i once s none u p =
+    let rest = at_rest r n w i s none u (λ q. (let t : Unborn ≡ Running = sym q ∙ p in cc)) in
     let t = any-true (λ (x : Entry). same_unit x.unit u) w.manager.settled rest.0 in
-    entry-over opening n w i once t.0 t.1 (ap w.units.phase (same_unit-true t.0.unit u t.2) ∙ p)
+    entry-over n w i once t.0 t.1 (ap w.units.phase (same_unit-true t.0.unit u t.2) ∙ p)
 
 -- and nobody has a lock
-nobody_holds : (r : Run) (opening : GrainId → List Value) (n : ℕ) (w : CoreState) → Inv opening n w → IsAlone r.base w → in_flight r w ≡ 0 → (g : GrainId) (h : Hold) → Member h (w.cells.holds g) → ⊥
-nobody_holds r opening n w i s none g h m =
+nobody_holds : (r : Run) (n : ℕ) (w : CoreState) → LoadlessAt n w → IsAlone r.base w → in_flight r w ≡ 0 → (g : GrainId) (h : Hold) → Member h (w.cells.holds g) → ⊥
+nobody_holds r n w i s none g h m =
     let t = i.told g h m in
     let seen = i.seen g t.0 t.1 in
     let there : Member seen.0 (w.units.reads h.unit) = subst (λ u. Member seen.0 (w.units.reads u)) t.2 seen.1 in
-    let rest = at_rest r opening n w i s none h.unit (λ q. subst (Member seen.0) (i.blank h.unit q) there) in
+    let rest = at_rest r n w i s none h.unit (λ q. subst (Member seen.0) (i.blank h.unit q) there) in
     let gone : holds_lock h.unit (w.cells.holds seen.0.grain) ≡ false = not-true _ (all-true (λ (x : Read). not (holds_lock h.unit (w.cells.holds x.grain))) (w.units.reads h.unit) rest.1 seen.0 there) in
     let held : holds_lock h.unit (w.cells.holds g) ≡ true = any-member (is_hold_of h.unit) (w.cells.holds g) h m (same_unit-is h.unit h.unit refl) in
     let z : true ≡ false = sym held ∙ ap (λ k. holds_lock h.unit (w.cells.holds k)) (sym seen.2) ∙ gone in
@@ -169,17 +168,17 @@ alone-over base w u end new running over s free = record {
 }
 
 -- a line begins
-alone-begun : (r : Run) (opening : GrainId → List Value) (n : ℕ) (w : CoreState) (line : ℕ) → Inv opening n w → Once w → in_flight r w ≡ 0 → IsAlone r.base w
+alone-begun : (r : Run) (n : ℕ) (w : CoreState) (line : ℕ) → LoadlessAt n w → Once w → in_flight r w ≡ 0 → IsAlone r.base w
     → Alone r.base (w.units.next + 1) (put w.units.phase (new_unit w) Running) (put w.units.origin (new_unit w) (Line line)) w.cells.holds w.manager.settled
-alone-begun r opening n w line i once none s = record {
+alone-begun r n w line i once none s = record {
   above = omega (arith, s.above);
   begun = λ x. put-from w.units.phase (new_unit w) Running (λ p. p ≡ Unborn → ⊥) ((r.base ≤ x.0) × (is_line (put w.units.origin (new_unit w) (Line line) x) ≡ true)) x
       (λ q born. (omega (arith, s.above, ap (λ (z : UnitNo). z.0) q), put-at w.units.origin (new_unit w) (Line line) (λ o. is_line o ≡ true) x (λ z. refl) (λ z. absurd (z q))))
       (λ q born. (let t = s.begun x born in (t.0, put-at w.units.origin (new_unit w) (Line line) (λ o. is_line o ≡ true) x (λ z. refl) (λ z. t.1))));
   running = λ x. put-from w.units.phase (new_unit w) Running (λ p. p ≡ Running) (x.0 + 1 ≡ w.units.next + 1) x
       (λ q p. ap (λ (z : UnitNo). z.0 + 1) q)
-      (λ q p. absurd (nobody_runs r opening n w i once s none x p));
-  holder = λ g h m. absurd (nobody_holds r opening n w i s none g h m);
+      (λ q p. absurd (nobody_runs r n w i once s none x p));
+  holder = λ g h m. absurd (nobody_holds r n w i s none g h m);
   unlocked = s.unlocked;
 }
 
@@ -205,37 +204,37 @@ alone-more base w new s free = record {
 alone-held : (base : ℕ) (w : CoreState) (holds : GrainId → List Hold) → IsAlone base w → ((g : GrainId) (h : Hold) → Member h (holds g) → h.unit.0 + 1 ≡ w.units.next) → Alone base w.units.next w.units.phase w.units.origin holds w.manager.settled
 alone-held base w holds s held = record { above = s.above; begun = s.begun; running = s.running; holder = held; unlocked = s.unlocked }
 
-alone-change : (r : Run) (opening : GrainId → List Value) (w : CoreState) (e : CoreEvent) (w' : CoreState) → Change w e w' → IsSingle r w e → Kept opening w → Once w → IsAlone r.base w → IsAlone r.base w'
-alone-change r opening w e w' (bad line why q) single k once s =
+alone-change : (r : Run) (w : CoreState) (e : CoreEvent) (w' : CoreState) → Change w e w' → IsSingle r w e → LoadlessKept w → Once w → IsAlone r.base w → IsAlone r.base w'
+alone-change r w e w' (bad line why q) single k once s =
     alone-more r.base w (record { line = line; unit = nobody; what = settled.Bad why } ∷ []) s (λ x m. elim m [ inl h ↦ subst IsNoLock (sym (ap (λ (z : Entry). z.what) h)) tt | inr h ↦ absurd h ])
-alone-change r opening w e w' (begin (Line n) call plain c) single k once s = alone-begun r opening _ w n k.0 once single s
-alone-change r opening w e w' (begin (Child parent index depth) call plain c) single k once s = absurd single
-alone-change r opening w e w' (lock u g mode running free first here) single k once s = alone-held r.base w _ s (holder-granted r.base w u g mode running s)
-alone-change r opening w e w' (raise u g mode running free held here uncovered) single k once s = alone-held r.base w _ s (holder-granted r.base w u g mode running s)
-alone-change r opening w e w' (refuse u g mode why running q) single k once s =
+alone-change r w e w' (begin (Line n) call plain c) single k once s = alone-begun r _ w n k.0 once single s
+alone-change r w e w' (begin (Child parent index depth) call plain c) single k once s = absurd single
+alone-change r w e w' (lock u g mode running free first here) single k once s = alone-held r.base w _ s (holder-granted r.base w u g mode running s)
+alone-change r w e w' (raise u g mode running free held here uncovered) single k once s = alone-held r.base w _ s (holder-granted r.base w u g mode running s)
+alone-change r w e w' (refuse u g mode why running q) single k once s =
     alone-over r.base w u Refused (entry_for (w.units.origin u) u why) running (λ z. cc) s (entry-free w u why (refusal-free r.base w u g mode why s running q))
-alone-change r opening w e w' (finish u effect running plain of_call reads alone) single k once s =
+alone-change r w e w' (finish u effect running plain of_call reads alone) single k once s =
     (let t = alone-over r.base w u Finished [] running (λ z. cc) s (λ x m. absurd m) in record { above = t.above; begun = t.begun; running = t.running; holder = t.holder; unlocked = s.unlocked })
-alone-change r opening w e w' (end_plain u effect running plain of_call bare) single k once s =
+alone-change r w e w' (end_plain u effect running plain of_call bare) single k once s =
     alone-over r.base w u Ended (entry_for (w.units.origin u) u (settled.Done effect.result)) running (λ z. cc) s (entry-free w u (settled.Done effect.result) tt)
-alone-change r opening w e w' (end_snapshot u at outcome running plain kids answer) single k once s =
+alone-change r w e w' (end_snapshot u at outcome running plain kids answer) single k once s =
     alone-over r.base w u Ended (entry_for (w.units.origin u) u (settled.Done outcome)) running (λ z. cc) s (entry-free w u (settled.Done outcome) tt)
-alone-change r opening w e w' (release u g over held) single k once s =
+alone-change r w e w' (release u g over held) single k once s =
     alone-held r.base w _ s (λ j h. grain-from w.cells.holds g (dropped (w.cells.holds g) u) (Member h) (h.unit.0 + 1 ≡ w.units.next) j (λ q m. s.holder g h (dropped-member u (w.cells.holds g) h m).0) (λ q m. s.holder j h m))
-alone-change r opening w e w' (take_batch none some) single k once s = s
-alone-change r opening w e w' (vote n g kept b q number d planned fresh) single k once s = s
-alone-change r opening w e w' (decide_some n b q number d voted some) single k once s = s
-alone-change r opening w e w' (decide_none n b q number d voted none) single k once s =
+alone-change r w e w' (take_batch none some) single k once s = s
+alone-change r w e w' (vote n g kept b q number d planned fresh) single k once s = s
+alone-change r w e w' (decide_some n b q number d voted some) single k once s = s
+alone-change r w e w' (decide_none n b q number d voted none) single k once s =
     (let v : CoreState = with_decisions w b (decisions_of w b) in
     alone-more r.base w (entries_in v (result_told v) (members v b) (decisions_of w b)) s (entries-free v (result_told v) (λ u. tt) (members v b) (decisions_of w b)))
-alone-change r opening w e w' (seal_batch n b ds q number d) single k once s = alone-more r.base w (entries_in w (result_told w) (members w b) ds) s (entries-free w (result_told w) (λ u. tt) (members w b) ds)
-alone-change r opening w e w' (spoil_batch n b ds q number d) single k once s = alone-more r.base w (entries_in w (λ u. settled.Disk) (members w b) ds) s (entries-free w (λ u. settled.Disk) (λ u. tt) (members w b) ds)
-alone-change r opening w e w' (doubt_batch n b ds q number d) single k once s = alone-more r.base w (entries_in w (λ u. settled.InDoubt) (members w b) ds) s (entries-free w (λ u. settled.InDoubt) (λ u. tt) (members w b) ds)
-alone-change r opening w e w' (learn u g wrote final fresh) single k once s = s
-alone-change r opening w e w' (emit q) single k once s = s
-alone-change r opening w e w' (halt_run q) single k once s = s
-alone-change r opening w e w' (want u g running free fresh) single k once s = s
-alone-change r opening w e w' (load g u state gone wanted) single k once s = absurd single
+alone-change r w e w' (seal_batch n b ds q number d) single k once s = alone-more r.base w (entries_in w (result_told w) (members w b) ds) s (entries-free w (result_told w) (λ u. tt) (members w b) ds)
+alone-change r w e w' (spoil_batch n b ds q number d) single k once s = alone-more r.base w (entries_in w (λ u. settled.Disk) (members w b) ds) s (entries-free w (λ u. settled.Disk) (λ u. tt) (members w b) ds)
+alone-change r w e w' (doubt_batch n b ds q number d) single k once s = alone-more r.base w (entries_in w (λ u. settled.InDoubt) (members w b) ds) s (entries-free w (λ u. settled.InDoubt) (λ u. tt) (members w b) ds)
+alone-change r w e w' (learn u g wrote final fresh) single k once s = s
+alone-change r w e w' (emit q) single k once s = s
+alone-change r w e w' (halt_run q) single k once s = s
+alone-change r w e w' (want u g running free fresh) single k once s = s
+alone-change r w e w' (load g u state gone wanted) single k once s = absurd single
 
 swept-alone : (base : ℕ) (w : CoreState) → IsAlone base w → IsAlone base (swept w)
 swept-alone base w s = go w.cells.capacity
@@ -251,21 +250,16 @@ swept-once w s = go w.cells.capacity
     go None = s
     go (Some m) = s
 
-single-load : (r : Run) (opening : GrainId → List Value) (w : CoreState) (e : CoreEvent) → IsSingle r w e → IsTrueLoad opening w e
-single-load r opening w (Load g u state) single = absurd single
-single-load r opening w _ single = tt
-
--- one unit alone, with the core's invariants
+-- one unit alone, with what the core keeps whatever is loaded
 abbrev KeepsAlone : Run → CoreState → Type 0
-KeepsAlone r w = Kept r.opening w × Depends w × Argued w × Once w × IsAlone r.base w
+KeepsAlone r w = LoadlessKept w × EachIsDecided w × Once w × IsAlone r.base w
 
 alone-step : (r : Run) (w : CoreState) (e : CoreEvent) → applies w e ≡ true → IsSingle r w e → KeepsAlone r w → KeepsAlone r (step w e)
 alone-step r w e a single k = (
-  kept-step r.opening w e (single-load r r.opening w e single) k.0,
-  depends-step r.opening w e (single-load r r.opening w e single) k.0 k.1,
-  argued-step r.opening w e k.0 k.1 k.2,
-  cond_both (applies w e) (swept (does w e)) w Once (λ b. swept-once (does w e) (once-change r.opening w e (does w e) (change b) b k.0 k.1 k.2 k.3)) (λ b. k.3),
-  cond_both (applies w e) (swept (does w e)) w (IsAlone r.base) (λ b. swept-alone r.base (does w e) (alone-change r r.opening w e (does w e) (change b) single k.0 k.3 k.4)) (λ b. k.4),
+  loadless-step w e k.0,
+  each-step w e k.0 k.1,
+  cond_both (applies w e) (swept (does w e)) w Once (λ b. swept-once (does w e) (once-change w e (does w e) (change b) b k.0 k.1 k.2)) (λ b. k.2),
+  cond_both (applies w e) (swept (does w e)) w (IsAlone r.base) (λ b. swept-alone r.base (does w e) (alone-change r w e (does w e) (change b) single k.0 k.2 k.3)) (λ b. k.3),
 )
   where
     change : applies w e ≡ true → Change w e (does w e)
@@ -292,8 +286,7 @@ pub single_unlocked : (p : Program) (r : Observed) (c : Course) → 0 < c.openin
 single_unlocked p r c based is unthreaded one none =
     let first : Run = core_run p c in
     (keeps-run (IsSingle first) (KeepsAlone first) (alone-step first) c.events (begins first) (single-events p r c is unthreaded one none) (
-      kept-start first.base first.kinds first.capacity first.opening (above_entries c.opening.base c.opening.entries based),
-      ((λ u. tt), (λ u d m. absurd m)),
+      loadless-begins first (above_entries c.opening.base c.opening.entries based),
       (λ b ds q. cc),
       ((λ u n b. absurd (b.0 refl)), (λ u v n a b. absurd (a.0 refl)), tt, (λ x m. absurd m), (λ u n b. absurd (b.0 refl)), tt, omega arith),
       record {
@@ -303,4 +296,4 @@ single_unlocked p r c based is unthreaded one none =
         holder = λ g h m. absurd m;
         unlocked = λ x m. absurd m;
       },
-    )).4.unlocked
+    )).3.unlocked

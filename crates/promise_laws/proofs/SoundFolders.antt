@@ -109,6 +109,7 @@ fresh p image checked new = record {
     bodies = [];
     gate = first_gate;
     stands = record {
+      silo = new.silo;
       header = whole;
       program = p;
       checked = checked;

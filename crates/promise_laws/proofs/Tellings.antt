@@ -19,17 +19,19 @@ use Rattle.core_model.specs.Events.{applies, can, does, step, run, is_allowed}
 use Rattle.core_model.specs.SerialOrder.{AllLoadsTrue}
 use Rattle.core_model.specs.LegalRuns.{Run, IsLegal, begins, ends}
 use Rattle.core_laws.proofs.Puts.{put-is}
-use Rattle.core_laws.proofs.Invariant.{Inv}
+use Rattle.core_laws.proofs.Invariant.{Inv, loadless-of}
 use Rattle.core_laws.proofs.EventCases.{Change, bad, begin, lock, raise, refuse, finish, end_plain, end_snapshot, release, take_batch, vote, decide_some, decide_none, seal_batch, spoil_batch, doubt_batch, learn, emit, halt_run, want, load, decode, ask-refused}
 use Rattle.core_laws.proofs.KeptInvariant.{Kept, kept-step, inv-judged, inv-decided}
 use Rattle.core_laws.proofs.Growth.{Grows, grows-change}
 use Rattle.core_laws.proofs.Dependencies.{Depends, depends-step}
 use Rattle.core_laws.proofs.Reasons.{Reason, Reasons, Argued, argued-decided, argued-step}
-use Rattle.core_laws.proofs.EntryCauses.{entry-parts, entries-parts, member-place}
+use Rattle.core_laws.proofs.EntryCauses.{entry-parts, entries-parts}
 use Rattle.core_laws.proofs.Ends.{kept-begins}
 use Rattle.script_tree.specs.Programs.{ProgramTree}
 use Rattle.promise_spec.specs.Lines.{IsBadLine}
 use Rattle.promise_laws.proofs.UnitsByRule.{Says, AllSaid}
+use Rattle.core_laws.proofs.LoadlessKept.{loadless-kept}
+use Rattle.core_laws.proofs.Orders.{member-place}
 
 -- Who is told an outcome ended as a plain run, or is committed, with that result; who is told an abort is aborted; who is in
 -- doubt has finished; and a bad line reads so.
@@ -108,7 +110,7 @@ batch-tells types lines opening n v f answer b ds i reasons dooms commits x m = 
     go : (d : Decision) → t.1.0 ≡ d → Tells types lines (closed v f answer b ds) x x.what
     go decision.Commit p =
         tells-from types lines (closed v f answer b ds) x (answer t.0) (t.1.5 ∙ ap (told (answer t.0)) p)
-        (commits x t.0 t.1.4 (member-place opening n v b i t.0 t.1.1).0 (t.1.2 ∙ ap verdict_of p))
+        (commits x t.0 t.1.4 (member-place n v b (loadless-of opening n v i) t.0 t.1.1).0 (t.1.2 ∙ ap verdict_of p))
     go (decision.Vote g) p = tells-from types lines (closed v f answer b ds) x (settled.Vote g) (t.1.5 ∙ ap (told (answer t.0)) p) (doomed (decision.Vote g) p refl)
     go (decision.Dependency on) p = tells-from types lines (closed v f answer b ds) x (settled.Dependency on) (t.1.5 ∙ ap (told (answer t.0)) p) (doomed (decision.Dependency on) p refl)
 
@@ -168,7 +170,7 @@ telling-step : (types : ProgramTree) (lines : List (List ℕ)) (opening : GrainI
     → Telling types lines w → Telling types lines (step w e)
 telling-step types lines opening w e d k dep arg s = cond_both (applies w e) (swept (does w e)) w (Telling types lines)
     (λ a. (let c : Change w e (does w e) = decode w e (and_parts (is_allowed w e) (can w e) a).1 in
-    swept-telling (does w e) (telling-change types lines opening w e (does w e) c a d k dep arg (grows-change opening w e (does w e) c a k) s)))
+    swept-telling (does w e) (telling-change types lines opening w e (does w e) c a d k dep arg (grows-change w e (does w e) c a (loadless-kept opening w k)) s)))
     (λ a. s)
   where
     swept-telling : (w : CoreState) → Telling types lines w → Telling types lines (swept w)

@@ -22,6 +22,7 @@ use Rattle.promise_spec.specs.UnitAnswers.{Got, GotLock, GotRaise, got_lock, got
 use Rattle.promise_spec.specs.UnitRule.{Basis, IsDue, KeepsUnitRule}
 use Rattle.promise_laws.specs.UnitAnswers.{want_of, reads_got, found, Traced}
 use Rattle.promise_laws.proofs.UnitOrigins.{Known, Told, IsSteady, steady-same, steady-phase, known-steady, traced-steady, quiet, first-lock, then-raise, map-push, traced-got, told-begun}
+use Rattle.core_laws.proofs.LoadlessKept.{loadless-kept}
 
 -- a first lock
 told-locked : (types : ProgramTree) (lines : List (List ℕ)) (base : ℕ) (opening : GrainId → List Value) (w : CoreState) (got : UnitNo → List Got) (u : UnitNo) (g : GrainId) (mode : Mode) → Kept opening w →
@@ -127,7 +128,7 @@ told-step s base opening w got e k kin due t = by (applies w e) refl
     by true a =
         let c : Change w e (does w e) = decode w e (and_parts (is_allowed w e) (can w e) a).1 in
         swept-told s.types s.lines base (does w e) (λ u. got u ++ got_by w u e)
-        (told-change s base opening w got e (does w e) c a k kin (grows-change opening w e (does w e) c a k) (due a) t)
+        (told-change s base opening w got e (does w e) c a k kin (grows-change w e (does w e) c a (loadless-kept opening w k)) (due a) t)
     by false a = subst (λ (h : UnitNo → List Got). Told s.types s.lines base w h) (λ i u. sym (append-nil (got u)) i) t
 
 -- each event of the list that applies is due, by what each unit got before the list and in it
@@ -149,7 +150,7 @@ told-run s base opening (e ∷ events) w got k kin all t =
     let loads : IsTrueLoad opening w e = no-load s opening w got e due in
     let new : UnitNo → List Got = λ u. if applies w e then got_by w u e else [] in
     subst (λ (h : UnitNo → List Got). Told s.types s.lines base (run (step w e) events) h) (λ i u. append_assoc (got u) (new u) (got_from (step w e) events u) i)
-    (told-run s base opening events (step w e) (λ u. got u ++ new u) (kept-step opening w e loads k) (kin-step opening w e loads k kin)
+    (told-run s base opening events (step w e) (λ u. got u ++ new u) (kept-step opening w e loads k) (kin-step w e (loadless-kept opening w k) kin)
     (λ at f there a. subst (λ (h : UnitNo → List Got). IsDue s (run (step w e) (take at events)) h f)
     (λ i u. sym (append_assoc (got u) (new u) (got_from (step w e) (take at events) u)) i) (all (suc at) f there a))
     (told-step s base opening w got e k kin due t))

@@ -23,8 +23,7 @@ use Rattle.core_model.specs.Lines as core
 use Rattle.core_laws.proofs.Orders.{in_drop, Member-get}
 use Rattle.core_laws.proofs.KeptInvariant.{Kept}
 use Rattle.core_laws.proofs.CommitOrder.{Split, split-order}
-use Rattle.core_laws.proofs.Ends.{kept-ends, split-ends}
-use Rattle.core_laws.proofs.FurtherLaws.{turned-ends, children-ends, answers-ends}
+use Rattle.core_laws.proofs.Ends.{kept-ends}
 use Rattle.core_laws.proofs.Verdicts.{Turned}
 use Rattle.core_laws.proofs.PlainPlays.{plain-ends}
 use Rattle.core_laws.proofs.LineEntries.{Rises, rises-part, once-ends}
@@ -34,7 +33,7 @@ use Rattle.promise_spec.specs.Programs.{Program}
 use Rattle.promise_spec.specs.Records.{Commit, IsRecordOf, AreRecordsOf}
 use Rattle.promise_spec.specs.Entries as entry
 use Rattle.promise_spec.specs.Entries.{LogEntry, records_among, Standing, new_silo, after_entry, after_entries, Log, records_of, standing_of}
-use Rattle.promise_spec.specs.SerialExecution.{depth_of}
+use Rattle.base_types.specs.Origins.{depth_of}
 use Rattle.promise_spec.specs.Logs.{IsPrefix}
 use Rattle.promise_spec.specs.Images.{IsAboveParent, AreNumbered}
 use Rattle.promise_spec.specs.Family.{is_child, answer_of, AreAnswers}
@@ -49,6 +48,9 @@ use Rattle.promise_laws.proofs.LegalRuns.{is_play-true, ends_alike, legal}
 use Rattle.promise_laws.proofs.SerialRecords.{plays_again, above_entries}
 use Rattle.promise_laws.proofs.UnitsByRule.{AllSaid, ByRule, all_said, rule-run, rule-begins}
 use Rattle.promise_laws.proofs.Tellings.{Tells, Telling, telling-ends}
+use Rattle.core_laws.proofs.LoadlessKept.{loadless-kept}
+use Rattle.core_laws.proofs.Invariant.{loadless-of}
+use Rattle.core_laws.proofs.LoadlessRuns.{split-ends, answers-ends, children-ends, turned-ends}
 
 -- ---- what is known of the core's last state
 
@@ -66,11 +68,11 @@ pub record Known (types : ProgramTree) (lines : List (List ℕ)) (opening : Grai
 known-ends : (types : ProgramTree) (lines : List (List ℕ)) (r : Run) → IsLegal (is_play types) r → AllSaid types lines r.events → Known types lines r.opening r.base (ends r)
 known-ends types lines r l said = record {
   kept = kept-ends (is_play types) r l;
-  split = split-ends (is_play types) r l;
-  once = once-ends (is_play types) r l;
-  kids = children-ends (is_play types) r l;
-  answers = answers-ends (is_play types) r l;
-  turned = turned-ends (is_play types) r l;
+  split = split-ends r l.above;
+  once = once-ends r l.above;
+  kids = children-ends r l.above;
+  answers = answers-ends r l.above;
+  turned = turned-ends r l.above;
   plays = plain-ends (is_play types) r l;
   rule = rule-run types lines r.base r.events (begins r) said (rule-begins types lines r);
   tells = telling-ends (is_play types) types lines r l said;
@@ -107,7 +109,7 @@ recorded opening w added k s (inr more) = record {
   test = is_good;
   good = λ v e. e;
   sure = refl;
-  records = subst (λ es. AreRecordsOf es added) (sym (split-order opening w k s)) more.records;
+  records = subst (λ es. AreRecordsOf es added) (sym (split-order w (loadless-kept opening w k) s)) more.records;
 }
 
 -- each record is that of a unit, at its place
@@ -139,7 +141,7 @@ record HasUnit (w : CoreState) (l : Commit) (u : UnitNo) : Type 0 where
   of : IsRecordOf (effect_of w u) l
 
 pub order-finished : (opening : GrainId → List Value) (w : CoreState) → Kept opening w → (u : UnitNo) → Member u w.manager.order → w.units.phase u ≡ Finished
-order-finished opening w k u m = (in_drop opening _ w k.0 0 u m).0
+order-finished opening w k u m = (in_drop _ w (loadless-of opening _ w k.0) 0 u m).0
 
 has_unit : (opening : GrainId → List Value) (w : CoreState) (added : List Commit) → Kept opening w → (a : Recorded w added) → (l : Commit) → Member l added → (u : UnitNo) × HasUnit w l u
 has_unit opening w added k a l m =
@@ -354,12 +356,18 @@ told-true p r c known are numbered e m (settled.Bad why) t = t
 pub in_settled : (p : Program) (c : Course) → IsPrefix c.entries (core_end p c).manager.settled → (e : Entry) → Member e c.entries → Member e (core_end p c).manager.settled
 in_settled p c front e m = subst (Member e) (sym front.1) (Member-left e c.entries front.0 m)
 
+-- each is of a line that has begun
+pub replies_begun : (p : Program) (r : Observed) (c : Course) → 0 < c.opening.base.next → IsExplained p r c → IsPrefix c.entries (core_end p c).manager.settled → (e : Entry) → Member e c.entries → (1 ≤ e.line) × (e.line ≤ (core_end p c).units.lines)
+replies_begun p r c based is front e m =
+    let t = (known_of p r c based is).once.entry e (in_settled p c front e m) in
+    (omega (arith, t.0), t.1)
+
+-- and so of one that is asked
 pub replies_within : (p : Program) (r : Observed) (c : Course) → 0 < c.opening.base.next → IsExplained p r c → IsPrefix c.entries (core_end p c).manager.settled → (e : Entry) → Member e c.entries → (1 ≤ e.line) × (e.line ≤ length (lines r))
 replies_within p r c based is front e m =
-    let k = known_of p r c based is in
-    let t = k.once.entry e (in_settled p c front e m) in
-    let few = k.rule.1 in
-    (omega (arith, t.0), omega (arith, t.1, few))
+    let t = replies_begun p r c based is front e m in
+    let few = (known_of p r c based is).rule.1 in
+    (t.0, omega (arith, t.1, few))
 
 differ-front : (xs ys : List Entry) → core.DifferInLine (xs ++ ys) → core.DifferInLine xs
 differ-front [] ys d = tt
@@ -409,7 +417,7 @@ index-of place (x ∷ us) (suc m) (suc n) u v s there later lt = (let t = index-
 
 pub order-rises : (opening : GrainId → List Value) (w : CoreState) → Kept opening w → Rises w.manager.place w.manager.order
 order-rises opening w k =
-    rises-part opening _ w k.0 w.manager.order 0 (λ j h. (let e : j ≡ 0 + j = omega arith in (omega (arith, h), ap (λ z. get_or w.manager.order z nobody) e)))
+    rises-part _ w (loadless-of opening _ w k.0) w.manager.order 0 (λ j h. (let e : j ≡ 0 + j = omega arith in (omega (arith, h), ap (λ z. get_or w.manager.order z nobody) e)))
 
 pub replies_ordered : (p : Program) (r : Observed) (c : Course) → 0 < c.opening.base.next → IsExplained p r c → IsPrefix c.entries (core_end p c).manager.settled → StandInOrder c.entries c.added
 replies_ordered p r c based is front i j m n d e a b at_i at_j at_m at_n of_d of_e lt =

@@ -9,7 +9,7 @@ use Rattle.script_tree.specs.Programs.{ProgramTree}
 use Rattle.script_meaning.specs.Play.{GrainState, Want, next}
 use Rattle.script_meaning.specs.Trails.{Given, GivenLock, GivenRaise, GivenOutcome, wanted, locks_of, answers_of, reads_of, IsTrail}
 use Rattle.script_meaning.proofs.Plays.{trails_grow_lem}
-use Rattle.promise_spec.specs.SerialExecution.{depth_of}
+use Rattle.base_types.specs.Origins.{depth_of}
 use Rattle.promise_spec.specs.UnitAnswers.{Got, GotLock, GotRaise, GotChild, and_given, given_by, wanted_by, kids_got}
 use Rattle.promise_spec.proofs.Lists.{head_of, tail_of, none_is, none_at, some_is}
 use Rattle.promise_laws.specs.UnitAnswers.{IsGiven, AreGiven, want_of, reads_got, AreNamed}

@@ -25,7 +25,7 @@ use Rattle.script_meaning.specs.Play.{GrainState, Want, WantLock, WantRaise, Wan
 use Rattle.script_meaning.specs.Laws.{IsMissing}
 use Rattle.script_meaning.specs.Trails.{Given, locks_of, answers_of, reads_of, IsTrail}
 use Rattle.script_meaning.proofs.Plays.{next_is_missing_lem}
-use Rattle.promise_spec.specs.SerialExecution.{depth_of}
+use Rattle.base_types.specs.Origins.{depth_of}
 use Rattle.promise_spec.specs.Lines.{IsLineCall}
 use Rattle.promise_spec.specs.Cores.{HasBegun}
 use Rattle.promise_spec.specs.UnitAnswers.{Got, GotChild, got_by, wanted_by, wanted_lock, kids_got}

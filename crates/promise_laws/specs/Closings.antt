@@ -7,6 +7,7 @@ use Rattle.host_trait.specs.World as host
 use Rattle.host_trait.specs.World.{Moment, Image, IsImage, Passes, moment_of, last_of}
 use Rattle.core_model.specs.CoreState.{CoreState}
 use Rattle.silo_spec.specs.Moments.{IsUntouched}
+use Rattle.silo_spec.specs.OpenedDisks.{opened_disk}
 use Rattle.promise_spec.specs.Programs.{Program}
 use Rattle.promise_spec.specs.Entries.{Log}
 use Rattle.promise_spec.specs.Logs.{IsLog}
@@ -24,12 +25,12 @@ abbrev pub ReadsMayStay : host.World → Type 0
 ReadsMayStay w = (file : FileId) → MayLeave (w.disk file) (w.disk file).seen
 
 -- The world behind the opening: the folder read as this slot and log, no image was added, nothing is pending in the live
--- manager file, and the early moments end here.
+-- manager file, all other files are as an opening leaves them, and the early moments end here.
 pub record IsBehind (r : Observed) (c : Course) (mid : host.World) : Type 0 where
   pub reads : opened_as (seen_at_entry r) ≡ Reads c.live c.opening
   pub untouched : IsUntouched r.old mid
   pub settled : mid.disk (Manager c.live) ≡ settled (seen_at_entry r (Manager c.live))
-  pub others : (file : FileId) → file ≢ Manager c.live → mid.disk file ≡ r.old.disk file
+  pub others : (file : FileId) → file ≢ Manager c.live → mid.disk file ≡ opened_disk r.old.disk file
   pub early : mid.past ≡ r.old.past ++ c.early
   pub last : last_of (moment_of r.old) c.early ≡ moment_of mid
   pub late : r.new.past ≡ mid.past ++ c.late

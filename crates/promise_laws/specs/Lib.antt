@@ -3,6 +3,7 @@ pub mod SoundMoments
 pub mod Legality
 pub mod UnitAnswers
 pub mod ProperEvents
+pub mod MoreLines
 pub mod Obligations
 pub mod AnsweredRuns
 pub mod Closings

@@ -1,5 +1,5 @@
 -- What a run has to show, so that it keeps its promise: the rest follows.
-use Rattle.std.specs.Prelude.{◌≡◌, ◌≢◌, ◌⊎◌, ◌+◌, ◌≤◌, false, List, [], ◌++◌, length}
+use Rattle.std.specs.Prelude.{◌≡◌, ◌≢◌, ◌+◌, ◌≤◌, false, List, [], ◌++◌}
 use Rattle.base_types.specs.declared.entries.Entry.{Entry}
 use Rattle.base_types.specs.declared.entries.Settled.TheVariants.{InDoubt}
 use Rattle.host_trait.specs.declared.channels.FileId.{FileId}
@@ -16,7 +16,7 @@ use Rattle.promise_spec.specs.TurnRule.{KeepsTurnRule}
 use Rattle.promise_spec.specs.Images.{IsWholeFolder}
 use Rattle.promise_spec.specs.Causes.{AreFaults, RunHasDoubt, NoneRose, is_unsealed, syncs_of, most_syncs_of}
 use Rattle.promise_spec.specs.Cores.{how_many}
-use Rattle.promise_spec.specs.Endings.{Done, WriteFault, DiskFault, HasRisen, IsCarried, HasLength, CountsSyncs, EndingMayDoubt}
+use Rattle.promise_spec.specs.Endings.{WriteFault, DiskFault, HasRisen, IsCarried, IsAllWritten, CountsSyncs, EndingMayDoubt}
 use Rattle.promise_spec.specs.Courses.{Observed, Course, order, moments, lines, seen_at_entry, program_in_force, basis, core_run, core_end}
 use Rattle.promise_spec.specs.Crashes.{LeavesAlone}
 use Rattle.promise_spec.specs.Batches.{EndsABatch}
@@ -24,7 +24,7 @@ use Rattle.promise_spec.specs.Replies.{HasNoRecord}
 use Rattle.promise_spec.specs.Exits.{HasLogAtExit, IsNowhere, BlockInDoubt, EndsAsRead}
 use Rattle.promise_spec.specs.Explanation.{AreAdded, AreSettled, FileMayEndInDoubt, LeavesUnvoted}
 use Rattle.promise_spec.specs.Journals.{Settlement, commits_of, entries_of, KeepsJournal, AllLog, Backs}
-use Rattle.promise_spec.specs.Promise.{HasReadAll, IsDone}
+use Rattle.promise_spec.specs.Promise.{HasRead, IsAnswered}
 
 -- The run opened this log, over a whole folder: the files read as it, and each image at the return of the opening's last
 -- sync has it; there is one. Until then nothing was written, and each image was one of those at entry.
@@ -64,7 +64,7 @@ pub record Journals (p : Program) (r : Observed) (c : Course) : Type 0 where
 pub record ExplainsEvents (p : Program) (r : Observed) (c : Course) : Type 0 where
   pub records : AreAdded (core_end p c) c.added
   pub units : KeepsUnitRule (basis p r c) (core_run p c)
-  pub turns : r.manner.threaded ≡ false → KeepsTurnRule p.types (length (lines r)) r.manner.width r.manner.picks (core_run p c)
+  pub turns : r.manner.threaded ≡ false → KeepsTurnRule p.types r.windowed c.allowed r.manner.width r.manner.picks (core_run p c)
   pub faults : AreFaults c.live (core_run p c) r.faults_before r.faults_after
   pub doubted : (file : FileId) → r.ending ≡ DiskFault file → FileMayEndInDoubt c.live (core_run p c) file
   pub ended : RunHasDoubt (core_run p c) → EndingMayDoubt r.ending
@@ -79,18 +79,17 @@ pub record LeavesAtExit (p : Program) (r : Observed) (c : Course) : Type 0 where
   pub block : RunHasDoubt (core_run p c) → BlockInDoubt c.live r c (core_end p c)
   pub behind : how_many is_unsealed (core_run p c) ≡ 0 → (image : Image) → IsImage r.new.disk image → EndsAsRead c.live r image
 
--- How it ended: its lines are the input's, nothing began before the input was read whole, and done means that each line
--- has its entry; a fault is shown by its count, and an input that is too long by its length. Where nothing failed, so many
--- syncs were asked for, and never more than so many.
+-- How it ended: its lines are the input's, no line began before its window was read whole, and where all that is settled was written
+-- each line that may begin has its entry; a fault is shown by its count. Where nothing failed, so many syncs were asked for, and
+-- never more than so many.
 pub record EndsRightly (p : Program) (r : Observed) (c : Course) : Type 0 where
   pub given : lines r ≡ lines_of r.old.input
   pub risen : HasRisen r.ending r.faults_before r.faults_after
   pub carried : IsCarried r.ending
-  pub long : HasLength r.ending (length r.old.input)
-  pub begun : (c.events ≡ []) ⊎ HasReadAll r
-  pub done : r.ending ≡ Done → IsDone r c
-  pub syncs : NoneRose r.faults_before r.faults_after → CountsSyncs r.ending → r.new.syncs ≡ r.old.syncs + syncs_of (core_run p c)
-  pub most : r.new.syncs ≤ r.old.syncs + most_syncs_of (core_run p c)
+  pub read : HasRead p r c
+  pub answered : IsAllWritten r.ending → IsAnswered c
+  pub syncs : NoneRose r.faults_before r.faults_after → CountsSyncs r.ending → r.new.syncs ≡ r.old.syncs + syncs_of (seen_at_entry r) (core_run p c)
+  pub most : r.new.syncs ≤ r.old.syncs + most_syncs_of (seen_at_entry r) (core_run p c)
 
 -- what a run has to show; the program is that in force
 pub record Shows (p : Program) (r : Observed) (c : Course) : Type 0 where

@@ -17,6 +17,7 @@ quiet_course r c told = record c { late = map (quieted r.old.output) c.late ++ t
 pub record IsQuietRun (r : Observed) (c : Course) (text : List ℕ) (told : List Moment) (s : Observed) : Type 0 where
   pub manner : s.manner ≡ r.manner
   pub asked : lines s ≡ lines r
+  pub windowed : s.windowed ≡ r.windowed
   pub disk_before : s.old.disk ≡ r.old.disk
   pub output_before : s.old.output ≡ r.old.output
   pub disk_after : s.new.disk ≡ r.new.disk

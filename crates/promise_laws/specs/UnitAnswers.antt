@@ -9,7 +9,7 @@ use Rattle.core_model.specs.Tests.{outcome_of}
 use Rattle.script_tree.specs.Programs.{ProgramTree}
 use Rattle.script_meaning.specs.Play.{GrainState, Want, WantLock, WantRaise, WantUnit, next}
 use Rattle.script_meaning.specs.Trails.{Given, GivenLock, GivenRaise, GivenOutcome, locks_of, answers_of}
-use Rattle.promise_spec.specs.SerialExecution.{depth_of}
+use Rattle.base_types.specs.Origins.{depth_of}
 use Rattle.promise_spec.specs.UnitAnswers.{Got, GotLock, GotRaise, GotChild, kids_got}
 
 -- what one of them was given for: a child's outcome is known

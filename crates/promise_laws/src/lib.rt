@@ -7,7 +7,7 @@
 //! fault is counted, or one line at a time is in flight; `unit_answers` of what units got, `proper_entries` of entries as lines, `batches`
 //! of logs that end where a batch does, and `loads` of loads, beside runs. `Obligations` is what a run has to show, and `shown_runs`
 //! says that it is enough for the whole promise; `answered_runs` parts it in two, and `whole_folders` has what a run's loop carries, from
-//! which it follows. `Journals` of `promise_spec` is what was settled and what each moment keeps of it, and `steps` says how a journal goes on call
+//! which it follows; `windows` how a run goes on from one window of its input to the next. `Journals` of `promise_spec` is what was settled and what each moment keeps of it, and `steps` says how a journal goes on call
 //! by call, and that the crash clause follows. `folders` says that each call leaves a sound folder, at each moment too
 //! (`SoundMoments`).
 #![tactic(auto)]
@@ -26,6 +26,7 @@ mod shown_runs;
 mod steps;
 mod unit_answers;
 mod whole_folders;
+mod windows;
 
 pub use answered_runs::{answered_runs_open, answered_runs_promise, shown_runs_answer_and_last};
 pub use batches::{batches_stay_whole, moments_end_batches, records_are_whole_batches};
@@ -47,3 +48,4 @@ pub use steps::{
 };
 pub use unit_answers::units_got_what_the_core_shows;
 pub use whole_folders::{carried_runs_promise, kept_journals_last, read_folders_open};
+pub use windows::windows_go_on;

@@ -1,4 +1,4 @@
-ghost use Rattle.std.specs.Prelude.{◌≡◌};
+ghost use Rattle.std.specs.Prelude.{◌≡◌, true};
 ghost use Rattle.promise_spec.specs.Programs.{Program};
 ghost use Rattle.promise_spec.specs.Words.{Manner};
 ghost use Rattle.promise_spec.specs.Courses.{Observed, Course};
@@ -12,5 +12,5 @@ pub fn shown_runs_keep()
 
 /// And it promises so, in the manner of its words, over whatever folder.
 pub fn shown_runs_promise()
-    ensures { (m : Manner) (p : Program) (r : Observed) (c : Course) → r.manner ≡ m → Shows p r c → Promises m r }
+    ensures { (m : Manner) (p : Program) (r : Observed) (c : Course) → r.manner ≡ m → r.windowed ≡ true → Shows p r c → Promises m r }
 {}

@@ -1,6 +1,7 @@
 ghost use Rattle.std.specs.Prelude.{◌≡◌, ◌⊎◌, ◌++◌, ℕ, List, [], ◌∷◌, take, ◌≤◌, length};
 ghost use Rattle.std.specs.List.{AllByRecursion};
 ghost use Rattle.base_types.specs.declared.shapes.Shape.{Shape};
+ghost use Rattle.field_codec.specs.declared.formats.Format.TheVariants.{One};
 ghost use Rattle.field_codec.specs.declared.units.Numbers.TheVariants.{Logged};
 ghost use Rattle.commit_log.specs.Bodies.{IsRecordIn};
 ghost use Rattle.gate_block.specs.Log.{LogsUpTo};
@@ -118,7 +119,7 @@ pub fn journals_back_entries()
 pub fn doubts_have_an_image()
     ensures { (live : ℕ) (disk : Disk) (some : Image) (before : Log) (bodies : List (List ℕ)) (at : ℕ) (batch : List Commit) (gate : ℕ) (c : List ℕ)
         → (s : StandsUpTo live some before bodies at) → length batch ≤ 64
-        → AllByRecursion (λ (l : Commit). IsRecordIn Logged (shape_in s.program) l.logged) batch
+        → AllByRecursion (λ (l : Commit). IsRecordIn One Logged (shape_in s.program) l.logged) batch
         → MayLeave (disk (Manager live)) c → LogsUpTo (bodies ++ body_of (Records batch) ∷ []) gate c → (rest : Image) → IsImage disk rest
         → ((image : Image) → IsImage disk image → IsLog live image before ⊎ IsLog live image (grown before batch))
         → (image : Image) × (IsImage disk image × IsLog live image (grown before batch)) }

@@ -1,4 +1,4 @@
-ghost use Rattle.std.specs.Prelude.{◌≡◌, ◌++◌, ℕ, List, [], ◌∷◌, Some};
+ghost use Rattle.std.specs.Prelude.{◌≡◌, ◌++◌, ℕ, true, List, [], ◌∷◌, Some};
 ghost use Rattle.std.specs.List.{AllByRecursion};
 ghost use Rattle.host_trait.specs.World.{World, Image, IsImage};
 ghost use Rattle.promise_spec.specs.Programs.{Program, shape_in};
@@ -35,6 +35,6 @@ pub fn kept_journals_last()
 /// The whole argument for a run that opened its folder: what it answers, over any folder; how the folder read; and what lasts,
 /// where each of its images is whole.
 pub fn carried_runs_promise()
-    ensures { (m : Manner) (p : Program) (r : Observed) (c : Course) (mid : World) → ShowsAnywhere p r c → r.manner ≡ m → IsBehind r c mid
+    ensures { (m : Manner) (p : Program) (r : Observed) (c : Course) (mid : World) → ShowsAnywhere p r c → r.manner ≡ m → r.windowed ≡ true → IsBehind r c mid
         → ReadsMayStay r.old → ReadsMayStay mid → (Opens r c → Lasts p r c) → Promises m r }
 {}

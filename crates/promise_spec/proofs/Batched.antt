@@ -7,13 +7,13 @@ use Rattle.host_trait.specs.declared.channels.FileId.TheVariants.{Manager, Progr
 use Rattle.host_trait.specs.World.{Image}
 use Rattle.gate_block.specs.Log.{HasBlocks, LogsUpTo}
 use Rattle.log_reading.specs.Blocks.{header_damage}
-use Rattle.silo_spec.specs.Silos.{HasProgram}
+use Rattle.silo_spec.specs.Silos.{IsSilo, HasProgram}
 use Rattle.promise_spec.specs.Programs.{Program, IsChecked, shape_in}
 use Rattle.promise_spec.specs.Records.{Commit}
 use Rattle.promise_spec.specs.Entries.{LogEntry, Recorded, records_among, records_of, Log, new_log, grown}
 use Rattle.promise_spec.specs.Versions.{IsKept}
 use Rattle.promise_spec.specs.Blocks.{Block, Records, entries_in, body_of, BlockFits, AreKept}
-use Rattle.promise_spec.specs.Logs.{IsLogIn}
+use Rattle.promise_spec.specs.Logs.{magic, IsLogIn}
 use Rattle.promise_spec.proofs.Standings.{records_append, records_back}
 
 -- ---- entries and blocks of records alone
@@ -102,11 +102,12 @@ log_is live image log is =
     λ i. record { base = is.stands.base i; entries = entries i }
 
 -- records that stand so behind a checked program are its log
-pub logged_in : (live : ℕ) (image : Image) (p : Program) (commits : List Commit) → IsChecked p → HasProgram p.text (image (ProgramFile live)) → IsBatched live (shape_in p) image commits → IsLogIn live image (grown (new_log p) commits)
-logged_in live image p commits checked text b = record {
+pub logged_in : (live : ℕ) (image : Image) (p : Program) (commits : List Commit) → IsSilo magic (image (Manager live)) → IsChecked p → HasProgram p.text (image (ProgramFile live)) → IsBatched live (shape_in p) image commits → IsLogIn live image (grown (new_log p) commits)
+logged_in live image p commits silo checked text b = record {
   bodies = map batch_body b.batches;
   gate = b.gate;
   stands = record {
+    silo = silo;
     header = b.header;
     program = p;
     checked = checked;

@@ -42,6 +42,7 @@ sealed slot image log bodies gate is batch next few kept there =
     let block : Block = Records batch in
     let program : (standing_of log).program ≡ is.program = in_force log.base log.entries ∙ ap (λ (s : Standing). s.program) is.base in
     record {
+      silo = is.silo;
       header = is.header;
       program = is.program;
       checked = is.checked;

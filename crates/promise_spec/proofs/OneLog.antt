@@ -8,6 +8,7 @@ use Rattle.base_types.specs.declared.shapes.Shape.{Shape}
 use Rattle.base_types.specs.declared.stores.Version.{Version}
 use Rattle.host_trait.specs.World.{Image}
 use Rattle.host_trait.specs.declared.channels.FileId.TheVariants.{Manager, Program as ProgramFile}
+use Rattle.field_codec.specs.declared.formats.Format.TheVariants.{One}
 use Rattle.field_codec.specs.Spelling.{spelling_of_version, VersionFits}
 use Rattle.field_codec.specs.Fields.{version_at}
 use Rattle.field_codec.proofs.Readers.{apart}
@@ -30,8 +31,8 @@ use Rattle.promise_spec.proofs.Openings.{one_program}
 use Rattle.promise_spec.proofs.Slots.{one_slot}
 use Rattle.promise_spec.proofs.Lists.{head_of, tail_of, none_is, parts_of}
 
-versions_same : (v w : Version) → VersionFits v → VersionFits w → spelling_of_version v ≡ spelling_of_version w → v ≡ w
-versions_same v w first second e = (apart spelling_of_version VersionFits version_at (version_reads 0) v w [] [] first second (ap (λ l. l ++ []) e)).0
+versions_same : (v w : Version) → VersionFits One v → VersionFits One w → spelling_of_version v ≡ spelling_of_version w → v ≡ w
+versions_same v w first second e = (apart spelling_of_version (VersionFits One) (version_at One) (version_reads One 0) v w [] [] first second (ap (λ l. l ++ []) e)).0
 
 module _ (live : ℕ) (shape : Shape) (image : Image) where
   state_same : (unit : UnitNo) (w : Written) (s t : List Value) → WriteStands live shape image unit w s → WriteStands live shape image unit w t → s ≡ t
@@ -63,7 +64,7 @@ module _ (live : ℕ) (shape : Shape) (image : Image) where
       let more : cs ≡ ds = commits_same cs ds a.1 b.1 (tail_of c.logged d.logged (map (λ c. c.logged) cs) (map (λ c. c.logged) ds) e) in
       λ i. one i ∷ more i
 
-  fit_of : (cs : List Commit) → AllByRecursion (IsKept live shape image) cs → AllByRecursion (IsRecordIn Logged shape) (map (λ c. c.logged) cs)
+  fit_of : (cs : List Commit) → AllByRecursion (IsKept live shape image) cs → AllByRecursion (IsRecordIn One Logged shape) (map (λ c. c.logged) cs)
   fit_of [] all = tt
   fit_of (c ∷ cs) all = (all.0.fits, fit_of cs all.1)
 
@@ -75,7 +76,7 @@ module _ (live : ℕ) (shape : Shape) (image : Image) where
       let low : length (map (λ (c : Commit). c.logged) cs) ≤ 64 = subst (λ n. n ≤ 64) (sym (length_of cs)) few in
       let low_too : length (map (λ (c : Commit). c.logged) ds) ≤ 64 = subst (λ n. n ≤ 64) (sym (length_of ds)) few_too in
       commits_same cs ds a b
-      (apart spelling_of_body (λ rs. (length rs ≤ 64) × AllByRecursion (IsRecordIn Logged shape) rs) (records_in Logged shape) (records_reads Logged shape 0) (map (λ c. c.logged) cs) (map (λ c. c.logged) ds) [] [] (low, fit_of cs a) (low_too, fit_of ds b) (ap (λ l. l ++ []) e)).0
+      (apart spelling_of_body (λ rs. (length rs ≤ 64) × AllByRecursion (IsRecordIn One Logged shape) rs) (records_in One Logged shape) (records_reads One Logged shape 0) (map (λ c. c.logged) cs) (map (λ c. c.logged) ds) [] [] (low, fit_of cs a) (low_too, fit_of ds b) (ap (λ l. l ++ []) e)).0
 
   batches_same : (xs ys : List (List Commit)) → AllByRecursion (λ batch. length batch ≤ 64) xs → AllByRecursion (λ batch. length batch ≤ 64) ys
       → AllByRecursion (IsKept live shape image) (flat_map (λ batch. batch) xs) → AllByRecursion (IsKept live shape image) (flat_map (λ batch. batch) ys) → map batch_body xs ≡ map batch_body ys → xs ≡ ys

@@ -4,6 +4,7 @@ use Rattle.std.proofs.lemmas.Bool.{eqb-true, eq-eqb, ltb-true, false≢true}
 use Rattle.std.specs.Int.{w32, to_le_bytes}
 use Rattle.std.specs.List.{flat_map, AllByRecursion}
 use Rattle.base_types.specs.declared.shapes.Shape.{Shape}
+use Rattle.field_codec.specs.declared.formats.Format.TheVariants.{One}
 use Rattle.field_codec.specs.declared.faults.CodecFault.{CodecFault}
 use Rattle.field_codec.specs.declared.units.Numbers.TheVariants.{Logged}
 use Rattle.field_codec.specs.Readers.{AreBytes}
@@ -134,17 +135,17 @@ module _ (shape : Shape) where
     pub batches : List (List CommitRecord)
     pub spelled : bodies ≡ map spelling_of_body batches
     pub sizes : AllByRecursion (λ batch. length batch ≤ 64) batches
-    pub fit : AllByRecursion (IsRecordIn Logged shape) (flat_map (λ batch. batch) batches)
+    pub fit : AllByRecursion (IsRecordIn One Logged shape) (flat_map (λ batch. batch) batches)
     pub all_are : all ≡ flat_map (λ batch. batch) batches ++ last
 
   -- what is read of bodies is what they spell
-  pub batches_of : (gate : ℕ) (bodies : List (List ℕ)) (end : Result (List CommitRecord) ℕ) (all : List CommitRecord) → AllByRecursion AreBytes bodies → records_behind shape gate bodies end ≡ Ok all
+  pub batches_of : (gate : ℕ) (bodies : List (List ℕ)) (end : Result (List CommitRecord) ℕ) (all : List CommitRecord) → AllByRecursion AreBytes bodies → records_behind One shape gate bodies end ≡ Ok all
       → (last : List CommitRecord) × (end ≡ Ok last) × AreBatches bodies all last
   batches_of gate [] end all are e = (all, e, record { batches = []; spelled = refl; sizes = tt; fit = tt; all_are = refl })
   batches_of gate (body ∷ bodies) end all are e =
-      let t = both_read (gate + 5) (body_in Logged shape body) (records_behind shape (gate + 5 + length body) bodies end) all e in
+      let t = both_read (gate + 5) (body_in One Logged shape body) (records_behind One shape (gate + 5 + length body) bodies end) all e in
       let more = batches_of (gate + 5 + length body) bodies end t.1 are.1 t.3 in
-      let is = whole_takes spelling_of_body (AreRecords Logged shape) (records_in Logged shape) (records_reads Logged shape 0) body are.0 t.0 t.2 in
+      let is = whole_takes spelling_of_body (AreRecords One Logged shape) (records_in One Logged shape) (records_reads One Logged shape 0) body are.0 t.0 t.2 in
       let rest : List CommitRecord = flat_map (λ batch. batch) more.2.batches in (
         more.0,
         more.1,
@@ -152,19 +153,19 @@ module _ (shape : Shape) where
           batches = t.0 ∷ more.2.batches;
           spelled = λ i. is.1 i ∷ more.2.spelled i;
           sizes = (is.0.0, more.2.sizes);
-          fit = both_parts (IsRecordIn Logged shape) t.0 rest is.0.1 more.2.fit;
+          fit = both_parts (IsRecordIn One Logged shape) t.0 rest is.0.1 more.2.fit;
           all_are = sym t.4 ∙ ap (λ (l : List CommitRecord). t.0 ++ l) more.2.all_are ∙ sym (append_assoc t.0 rest more.0);
         },
       )
 
   -- and what bodies spell is read of them
-  pub batches_read : (gate : ℕ) (batches : List (List CommitRecord)) → AllByRecursion (λ batch. length batch ≤ 64) batches → AllByRecursion (IsRecordIn Logged shape) (flat_map (λ batch. batch) batches)
-      → records_behind shape gate (map spelling_of_body batches) (Ok []) ≡ Ok (flat_map (λ batch. batch) batches)
+  pub batches_read : (gate : ℕ) (batches : List (List CommitRecord)) → AllByRecursion (λ batch. length batch ≤ 64) batches → AllByRecursion (IsRecordIn One Logged shape) (flat_map (λ batch. batch) batches)
+      → records_behind One shape gate (map spelling_of_body batches) (Ok []) ≡ Ok (flat_map (λ batch. batch) batches)
   batches_read gate [] sizes fit = refl
   batches_read gate (batch ∷ batches) sizes fit =
-      let t = parts_of (IsRecordIn Logged shape) batch (flat_map (λ b. b) batches) fit in
-      let one : body_in Logged shape (spelling_of_body batch) ≡ Ok batch =
-      whole_again spelling_of_body (AreRecords Logged shape) (records_in Logged shape) (records_reads Logged shape 0) (spelling_of_body batch) batch (sizes.0, t.0) refl in
-      let more : records_behind shape (gate + 5 + length (spelling_of_body batch)) (map spelling_of_body batches) (Ok []) ≡ Ok (flat_map (λ b. b) batches) =
+      let t = parts_of (IsRecordIn One Logged shape) batch (flat_map (λ b. b) batches) fit in
+      let one : body_in One Logged shape (spelling_of_body batch) ≡ Ok batch =
+      whole_again spelling_of_body (AreRecords One Logged shape) (records_in One Logged shape) (records_reads One Logged shape 0) (spelling_of_body batch) batch (sizes.0, t.0) refl in
+      let more : records_behind One shape (gate + 5 + length (spelling_of_body batch)) (map spelling_of_body batches) (Ok []) ≡ Ok (flat_map (λ b. b) batches) =
       batches_read (gate + 5 + length (spelling_of_body batch)) batches sizes.1 t.1 in
       λ i. and_records (gate + 5) (one i) (more i)

@@ -13,6 +13,8 @@ use Rattle.base_types.specs.declared.stores.Version.{Version}
 use Rattle.host_trait.specs.declared.channels.FileId.{FileId}
 use Rattle.host_trait.specs.declared.channels.FileId.TheVariants.{Grain}
 use Rattle.host_trait.specs.World.{Image}
+use Rattle.field_codec.specs.declared.formats.Format.TheVariants.{One}
+use Rattle.field_codec.specs.Formats.{version_limit}
 use Rattle.field_codec.specs.Spelling.{spelling_of_values, spelling_of_version}
 use Rattle.field_codec.specs.Readers.{AreBytes}
 use Rattle.field_codec.specs.declared.units.Numbers.TheVariants.{Logged}
@@ -118,44 +120,44 @@ units_same m n low also e = sym (wide64.again m low) ∙ ap (from_le_bytes w64) 
 module _ (live : ℕ) (shape : Shape) (image : Image) where
   -- the version that is named is there
   abbrev pub IsThere : Named → Type 0
-  IsThere n = (v : Version) × (version_named live shape image n ≡ Ok v)
+  IsThere n = (v : Version) × (version_named live One shape image n ≡ Ok v)
 
   module _ (unit : UnitNo) (w : Written) where
     abbrev pub named_as : Named
     named_as = record { unit = unit; written = w }
 
-    near_by : (o : Option ℕ) (v : Version) → version_at_place o w.place (image (Grain live w.grain)) ≡ Ok v → w.place.offset < 2 ^ 63
+    near_by : (o : Option ℕ) (v : Version) → version_at_place One o w.place (image (Grain live w.grain)) ≡ Ok v → w.place.offset < 2 ^ 63
     near_by None v e = absurd cc
     near_by (Some count) v e =
-        let one = past (is_beyond w.place) w.place.offset (text_in count w.place (image (Grain live w.grain))) v e in
-        let low : w.place.offset ≤ 9223372036854775807 = ltb-false 9223372036854775807 w.place.offset (or_parts (nat_lt 9223372036854775807 w.place.offset) (nat_lt 4154 w.place.len) one.0).0 in
+        let one = past (is_beyond One w.place) w.place.offset (text_in One count w.place (image (Grain live w.grain))) v e in
+        let low : w.place.offset ≤ 9223372036854775807 = ltb-false 9223372036854775807 w.place.offset (or_parts (nat_lt 9223372036854775807 w.place.offset) (nat_lt (version_limit One) w.place.len) one.0).0 in
         omega (arith, low)
 
     -- a version that is read stands there
-    pub stands : AreBytes (image (Grain live w.grain)) → unit.0 < 2 ^ 64 → (v : Version) → version_named live shape image named_as ≡ Ok v → WriteStands live shape image unit w v.state
+    pub stands : AreBytes (image (Grain live w.grain)) → unit.0 < 2 ^ 64 → (v : Version) → version_named live One shape image named_as ≡ Ok v → WriteStands live shape image unit w v.state
     stands are low v e =
-        let t = passed (is_owned unit w.place (image (Grain live w.grain))) w.place.offset (version_at_place (fields_of (slice_get shape.types w.grain.kind)) w.place (image (Grain live w.grain))) v e in
-        let is = found_when (Unit {0}) (fields_of (slice_get shape.types w.grain.kind)) w.place (image (Grain live w.grain)) (Ok v) (λ told. t.1) (λ told. AreBytes-cut w.place.len w.place.offset (image (Grain live w.grain)) are) tt in
+        let t = passed (is_owned unit w.place (image (Grain live w.grain))) w.place.offset (version_at_place One (fields_of (slice_get shape.types w.grain.kind)) w.place (image (Grain live w.grain))) v e in
+        let is = found_when (Unit {0}) One (fields_of (slice_get shape.types w.grain.kind)) w.place (image (Grain live w.grain)) (Ok v) (λ told. t.1) (λ told. AreBytes-cut w.place.len w.place.offset (image (Grain live w.grain)) are) tt in
         let own : take 8 (drop w.place.offset (image (Grain live w.grain))) ≡ to_le_bytes w64 unit.0 =
         (bytes_eq-Decides (take 8 (drop w.place.offset (image (Grain live w.grain)))) (to_le_bytes w64 unit.0)).0 t.0 in
         let first : take 8 (drop w.place.offset (image (Grain live w.grain))) ≡ to_le_bytes w64 v.unit.0 = first_eight w.place.len (drop w.place.offset (image (Grain live w.grain))) v is.2.here (sym is.2.version_is.len) in
         let number : v.unit.0 ≡ unit.0 = units_same v.unit.0 unit.0 is.2.version_is.fits.unit low (sym first ∙ own) in
         let same : v ≡ record { unit = unit; state = v.state } = (λ i. record { unit = record { 0 = number i }; state = v.state }) in
         let count : is.0 ≡ length v.state = sym is.2.version_is.count in
-        let there : IsVersionAt (length v.state) w.place (image (Grain live w.grain)) v = subst (λ (n : ℕ). IsVersionAt n w.place (image (Grain live w.grain)) v) count is.2 in
+        let there : IsVersionAt One (length v.state) w.place (image (Grain live w.grain)) v = subst (λ (n : ℕ). IsVersionAt One n w.place (image (Grain live w.grain)) v) count is.2 in
         record {
           near = near_by (fields_of (slice_get shape.types w.grain.kind)) v t.1;
           fields = is.1 ∙ ap (λ (n : ℕ). Some n) count;
-          version = subst (λ (x : Version). IsVersionAt (length v.state) w.place (image (Grain live w.grain)) x) same there;
+          version = subst (λ (x : Version). IsVersionAt One (length v.state) w.place (image (Grain live w.grain)) x) same there;
         }
 
     -- a version that stands there is read
-    pub stood : (state : List Value) → WriteStands live shape image unit w state → version_named live shape image named_as ≡ Ok (record { unit = unit; state = state })
+    pub stood : (state : List Value) → WriteStands live shape image unit w state → version_named live One shape image named_as ≡ Ok (record { unit = unit; state = state })
     stood state s =
         let v : Version = record { unit = unit; state = state } in
         let o : Option ℕ = fields_of (slice_get shape.types w.grain.kind) in
-        let found : Result Version ℕ = version_at_place o w.place (image (Grain live w.grain)) in
-        let is : found ≡ Ok v = gives_answer found v (only_at o w.place (image (Grain live w.grain)) (as_answer found) (answer_gives found) (length state) v s.fields s.near s.version) in
+        let found : Result Version ℕ = version_at_place One o w.place (image (Grain live w.grain)) in
+        let is : found ≡ Ok v = gives_answer found v (only_at One o w.place (image (Grain live w.grain)) (as_answer found) (answer_gives found) (length state) v s.fields s.near s.version) in
         let own : is_owned unit w.place (image (Grain live w.grain)) ≡ true =
         (bytes_eq-Decides (take 8 (drop w.place.offset (image (Grain live w.grain)))) (to_le_bytes w64 unit.0)).1
         (first_eight w.place.len (drop w.place.offset (image (Grain live w.grain))) v s.version.here (sym s.version.version_is.len)) in
@@ -165,10 +167,10 @@ module _ (live : ℕ) (shape : Shape) (image : Image) where
 
   -- versions that are there stand, with the states that are read
   all_stand : (unit : UnitNo) (ws : List Written) → ((file : FileId) → AreBytes (image file)) → unit.0 < 2 ^ 64 → AllByRecursion IsThere (map (λ w. record { unit = unit; written = w }) ws)
-      → WritesStand live shape image unit ws (map (λ w. state_of (version_named live shape image (record { unit = unit; written = w }))) ws)
+      → WritesStand live shape image unit ws (map (λ w. state_of (version_named live One shape image (record { unit = unit; written = w }))) ws)
   all_stand unit [] are low all = tt
   all_stand unit (w ∷ ws) are low all =
-      let state : all.0.0.state ≡ state_of (version_named live shape image (record { unit = unit; written = w })) = ap state_of (sym all.0.1) in
+      let state : all.0.0.state ≡ state_of (version_named live One shape image (record { unit = unit; written = w })) = ap state_of (sym all.0.1) in
       (subst (WriteStands live shape image unit w) state (stands unit w (are (Grain live w.grain)) low all.0.0 all.0.1), all_stand unit ws are low all.1)
 
   -- versions that stand are there
@@ -178,19 +180,19 @@ module _ (live : ℕ) (shape : Shape) (image : Image) where
   all_there unit (w ∷ ws) (state ∷ states) all = ((record { unit = unit; state = state }, stood unit w state all.0), all_there unit ws states all.1)
 
   -- and their states are read
-  all_states : (unit : UnitNo) (ws : List Written) (states : List (List Value)) → WritesStand live shape image unit ws states → map (λ w. state_of (version_named live shape image (record { unit = unit; written = w }))) ws ≡ states
+  all_states : (unit : UnitNo) (ws : List Written) (states : List (List Value)) → WritesStand live shape image unit ws states → map (λ w. state_of (version_named live One shape image (record { unit = unit; written = w }))) ws ≡ states
   all_states unit [] [] all = refl
   all_states unit [] (state ∷ states) all = absurd all
   all_states unit (w ∷ ws) [] all = absurd all
   all_states unit (w ∷ ws) (state ∷ states) all =
-      let one : state_of (version_named live shape image (record { unit = unit; written = w })) ≡ state = ap state_of (stood unit w state all.0) in
+      let one : state_of (version_named live One shape image (record { unit = unit; written = w })) ≡ state = ap state_of (stood unit w state all.0) in
       let more = all_states unit ws states all.1 in
       λ i. one i ∷ more i
 
   -- ---- the versions of a log
 
   -- records whose versions are there are kept
-  pub all_are_kept : ((file : FileId) → AreBytes (image file)) → (records : List CommitRecord) → AllByRecursion (IsRecordIn Logged shape) records → AllByRecursion IsThere (named_by records)
+  pub all_are_kept : ((file : FileId) → AreBytes (image file)) → (records : List CommitRecord) → AllByRecursion (IsRecordIn One Logged shape) records → AllByRecursion IsThere (named_by records)
       → AllByRecursion (IsKept live shape image) (map (commit_of live shape image) records)
   all_are_kept are [] fit there = tt
   all_are_kept are (r ∷ records) fit there =
@@ -217,12 +219,12 @@ module _ (live : ℕ) (shape : Shape) (image : Image) where
   none_by n (Ok v) later e = ((v, refl), e)
   none_by n (Err place) later e = absurd cc
 
-  pub none_missing : (named : List Named) → first_missing live shape image named ≡ None → AllByRecursion IsThere named
+  pub none_missing : (named : List Named) → first_missing live One shape image named ≡ None → AllByRecursion IsThere named
   none_missing [] e = tt
   none_missing (n ∷ named) e =
-      let t = none_by n (version_named live shape image n) (first_missing live shape image named) e in
+      let t = none_by n (version_named live One shape image n) (first_missing live One shape image named) e in
       (t.0, none_missing named t.1)
 
-  pub missing_none : (named : List Named) → AllByRecursion IsThere named → first_missing live shape image named ≡ None
+  pub missing_none : (named : List Named) → AllByRecursion IsThere named → first_missing live One shape image named ≡ None
   missing_none [] all = refl
-  missing_none (n ∷ named) all = ap (λ (r : Result Version ℕ). missing_or live n.written.grain r (first_missing live shape image named)) all.0.1 ∙ missing_none named all.1
+  missing_none (n ∷ named) all = ap (λ (r : Result Version ℕ). missing_or live n.written.grain r (first_missing live One shape image named)) all.0.1 ∙ missing_none named all.1

@@ -4,7 +4,7 @@ use Rattle.host_trait.specs.declared.channels.Channel.{Channel}
 use Rattle.host_trait.specs.declared.channels.Channel.TheVariants.{Input, Output}
 use Rattle.host_trait.specs.Faults.{NoneFailed}
 use Rattle.promise_spec.specs.Words.{GivenOption, Command, Init, Run, Show, History, Audit, Load, Check, Say}
-use Rattle.promise_spec.specs.Endings.{Ending, BadUse, Memory, ReadFault, WriteFault, HasRisen, HasFailedAs, IsBegun}
+use Rattle.promise_spec.specs.Endings.{Ending, BadUse, Memory, ReadFault, WriteFault, HasRisen, HasFailedAs, IsCarried, IsLoadCarried}
 use Rattle.promise_spec.specs.Courses.{Observed}
 use Rattle.promise_spec.specs.Promise.{Promises}
 use Rattle.promise_spec.specs.Reports.{show_text, history_text}
@@ -44,8 +44,8 @@ pub record Serves (words : List (List ℕ)) (shown : Command → Observed) : Typ
 
 -- a command may go on behind a file's fault and end so: one that carries lines, whose votes and seals may fail
 abbrev pub GoesOn : Command → Ending → Type 0
-GoesOn (Run m) e = IsBegun e
-GoesOn (Load n seed m) e = IsBegun e
+GoesOn (Run m) e = IsCarried e
+GoesOn (Load n seed m) e = IsLoadCarried e
 GoesOn _ e = ⊥
 
 -- What holds over any host, one that tells nothing of what it holds too: the words alone say what is bad use, but for want of

@@ -4,6 +4,7 @@ use Rattle.base_types.specs.declared.entries.Settled.{Settled}
 use Rattle.host_trait.specs.declared.channels.Channel.{Channel}
 use Rattle.host_trait.specs.declared.channels.Channel.TheVariants.{File}
 use Rattle.host_trait.specs.declared.channels.FileId.TheVariants.{Manager, Grain}
+use Rattle.host_trait.specs.World.{Image}
 use Rattle.core_model.specs.declared.phases.Verdict.TheVariants.{Aborted}
 use Rattle.core_model.specs.CoreState.{UnitNo, GrainId, same_grain, Member, Entry}
 use Rattle.core_model.specs.Causes.{IsAbort, HasCause, IsCaused}
@@ -11,6 +12,7 @@ use Rattle.core_model.specs.declared.events.CoreEvent.{CoreEvent}
 use Rattle.core_model.specs.declared.events.CoreEvent.TheVariants.{Vote, Sealed, NotSealed, Doubt}
 use Rattle.core_model.specs.Events.{applies, step, run}
 use Rattle.core_model.specs.LegalRuns.{Run, begins, ends}
+use Rattle.silo_spec.specs.OpenedDisks.{opening_syncs}
 use Rattle.promise_spec.specs.Cores.{AppliesAt, how_many}
 
 -- an event of the run aborted the unit, with this cause
@@ -64,14 +66,15 @@ is_unsealed (NotSealed n) = true
 is_unsealed (Doubt n) = true
 is_unsealed _ = false
 
--- how many syncs a run asks for where nothing fails: the opening's, one for each vote, and two for each batch on disk
-abbrev pub syncs_of : Run → ℕ
-syncs_of r = 1 + (how_many is_vote r + 2 * how_many is_sealed r)
+-- how many syncs a run over this folder asks for where nothing fails: the opening's, one for each vote, and two for each batch on
+-- disk
+abbrev pub syncs_of : Image → Run → ℕ
+syncs_of image r = opening_syncs image + (how_many is_vote r + 2 * how_many is_sealed r)
 
--- how many syncs a run asks for at most, whatever fails: the opening's, one for each vote, and two for each batch that was to
--- be on disk
-abbrev pub most_syncs_of : Run → ℕ
-most_syncs_of r = 1 + (how_many is_vote r + 2 * (how_many is_sealed r + how_many is_unsealed r))
+-- how many syncs it asks for at most, whatever fails: the opening's, one for each vote, and two for each batch that was to be on
+-- disk
+abbrev pub most_syncs_of : Image → Run → ℕ
+most_syncs_of image r = opening_syncs image + (how_many is_vote r + 2 * (how_many is_sealed r + how_many is_unsealed r))
 
 -- No more votes of no came on a grain than its live file's count of faults rose by, and no more batches failed to be
 -- sealed than the live manager file's rose by.

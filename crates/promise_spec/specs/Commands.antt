@@ -3,7 +3,7 @@ use Rattle.std.specs.Prelude.{◌≡◌, ◌≢◌, ◌⊎◌, ℕ, ◌<◌, ◌
 use Rattle.host_trait.specs.declared.channels.FileId.{FileId}
 use Rattle.host_trait.specs.declared.channels.FileId.TheVariants.{Manager}
 use Rattle.host_trait.specs.World.{World, Moment, Image, IsImage, Passes, moment_of}
-use Rattle.silo_spec.specs.Silos.{manager, IsSilo, IsNewSilo}
+use Rattle.silo_spec.specs.Silos.{manager, IsMadeFile, IsSilo, IsNewSilo}
 use Rattle.silo_spec.specs.Moments.{IsUntouched}
 use Rattle.silo_spec.specs.Creation.{CameThisFar, IsBeside}
 use Rattle.script_tree.specs.Programs.{ProgramTree}
@@ -15,7 +15,7 @@ use Rattle.promise_spec.specs.Logs.{magic, IsPrefix}
 use Rattle.promise_spec.specs.Openings.{Reads, opened_as}
 use Rattle.promise_spec.specs.Endings.{Ending, Done, Memory, ReadFault, WriteFault, DiskFault, AlreadyASilo, BadProgram, InputTooLong, HasRisen}
 use Rattle.promise_spec.specs.Courses.{Observed, seen_at_entry}
-use Rattle.promise_spec.specs.Refusals.{IsHead, IsUnopened}
+use Rattle.promise_spec.specs.Refusals.{IsUnopened}
 use Rattle.promise_spec.specs.Reports.{audit_text}
 
 -- ---- init
@@ -49,7 +49,7 @@ abbrev pub MakesAs : Ending → Observed → Type 0
 MakesAs Done r = IsProgramText r × (WasSilo r → ⊥) × ((image : Image) → IsImage r.new.disk image → IsNewSilo magic r.old.input image)
 MakesAs Memory r = IsUntouched r.old r.new
 MakesAs ReadFault r = IsUntouched r.old r.new
-MakesAs (DiskFault file) r = IsProgramText r × IsHead file × StaysSilo r file
+MakesAs (DiskFault file) r = IsProgramText r × IsMadeFile file × StaysSilo r file
 MakesAs AlreadyASilo r = IsProgramText r × WasSilo r × IsUntouched r.old r.new × ManagerLasts r
 MakesAs (BadProgram fault) r = HasFault r fault × IsUntouched r.old r.new
 MakesAs (InputTooLong line) r = (line ≡ 0) × (text_limit < length r.old.input) × IsUntouched r.old r.new

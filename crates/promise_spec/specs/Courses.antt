@@ -1,5 +1,5 @@
 -- What a run was given, saw and did, and the course that it took.
-use Rattle.std.specs.Prelude.{ℕ, List}
+use Rattle.std.specs.Prelude.{ℕ, Bool, List}
 use Rattle.base_types.specs.declared.entries.Entry.{Entry}
 use Rattle.host_trait.specs.declared.channels.Channel.{Channel}
 use Rattle.host_trait.specs.World.{World, Moment, Image}
@@ -15,11 +15,12 @@ use Rattle.promise_spec.specs.UnitRule.{Basis}
 use Rattle.promise_spec.specs.Endings.{Ending}
 use Rattle.promise_spec.specs.Words.{Manner}
 
--- What a call shows: the manner that its words chose, the lines that it is asked, the host's contents and counts before
--- and after, and how it ended.
+-- What a call shows: the manner that its words chose, the lines that it is asked and whether they come in windows, the host's
+-- contents and counts before and after, and how it ended.
 pub record Observed : Type 0 where
   pub manner : Manner
   pub asked : List (List ℕ)  -- of `run` the input's lines, of `load` those that it generates
+  pub windowed : Bool  -- of `run` true, of `load` false
   pub old : World
   pub new : World
   pub faults_before : Channel → ℕ
@@ -27,14 +28,15 @@ pub record Observed : Type 0 where
   pub ending : Ending
 
 -- What there is where a run opened the folder: the live slot, the log that it opened with, the records that it added, the
--- moments up to the one at which the opening's last sync returned and those after it, the core's events, and the entries
--- that were written, with a rest that is none.
+-- moments up to the one at which the opening's last sync returned and those after it, how many lines may begin, which are those of
+-- the windows that were read whole, the core's events, and the entries that were written, with a rest that is none.
 pub record Course : Type 0 where
   pub live : ℕ
   pub opening : Log
   pub added : List Commit
   pub early : List Moment
   pub late : List Moment
+  pub allowed : ℕ
   pub events : List CoreEvent
   pub entries : List Entry
   pub rest : List ℕ

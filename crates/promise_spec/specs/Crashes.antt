@@ -8,6 +8,7 @@ use Rattle.core_model.specs.CoreState.{Member}
 use Rattle.host_trait.specs.declared.channels.FileId.{FileId}
 use Rattle.host_trait.specs.declared.channels.FileId.TheVariants.{Program as ProgramFile, Manager, Grain}
 use Rattle.host_trait.specs.World.{Moment, Image, IsImage}
+use Rattle.silo_spec.specs.OpenedDisks.{opened_disk}
 use Rattle.promise_spec.specs.Records.{Commit}
 use Rattle.promise_spec.specs.Entries.{Log, records_of, grown}
 use Rattle.promise_spec.specs.Logs.{IsLog, IsPrefix}
@@ -54,9 +55,10 @@ IsAside live (ProgramFile slot) = ⊤
 IsAside live (Manager slot) = slot ≢ live
 IsAside live (Grain slot grain) = slot ≢ live
 
--- such files are as they were at entry, and the live manager file's header, up to the first gate, is as it read then
+-- such files are as the opening left them, which is as they were at entry, but that it syncs the other manager file too; and the
+-- live manager file's header, up to the first gate, is as it read then
 pub record LeavesAlone (live : ℕ) (r : Observed) (m : Moment) : Type 0 where
-  pub aside : (file : FileId) → IsAside live file → m.disk file ≡ r.old.disk file
+  pub aside : (file : FileId) → IsAside live file → m.disk file ≡ opened_disk r.old.disk file
   pub header : (image : Image) → IsImage m.disk image → take 15 (image (Manager live)) ≡ take 15 (seen_at_entry r (Manager live))
 
 -- The moments of the run are the early ones and the late ones. At the early ones nothing is written and each image is

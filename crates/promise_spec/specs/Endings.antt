@@ -1,5 +1,5 @@
 -- How a run ends.
-use Rattle.std.specs.Prelude.{◌≡◌, ℕ, ◌<◌, ◌≤◌, Bool, true, false, Option, Some, None, ⊤}
+use Rattle.std.specs.Prelude.{ℕ, Bool, true, false, Option, Some, None, ⊤}
 use Rattle.host_trait.specs.declared.channels.Channel.{Channel}
 use Rattle.host_trait.specs.declared.channels.Channel.TheVariants.{Input, Output, File}
 use Rattle.host_trait.specs.declared.channels.FileId.{FileId}
@@ -23,20 +23,13 @@ pub data Ending : Type 0 where
 
 -- ---- what each ending says
 
--- how long the input was found to be: it may be of any length, is within the limit, or is too long at a line
-pub data Size : Type 0 where
-  Unknown : Size
-  Within : Size
-  TooLong : ℕ → Size
-
--- What an ending says of a call of `run`: a call on this channel failed; the input is so long; it may come after the folder
--- was opened, and after the first line has begun; all that is settled has been written; a batch may be in doubt; where
--- nothing failed, as many syncs were asked for as the events need; and it may come where no count of faults rises.
+-- What an ending says of a call of `run`: a call on this channel failed; it may come after the folder was opened, and after a load
+-- has made its silo and opened it; each line that may begin is settled, and all that is settled has been written; a batch may be in
+-- doubt; where nothing failed, as many syncs were asked for as the events need; and it may come where no count of faults rises.
 pub record Says : Type 0 where
   pub failed : Option Channel
-  pub size : Size
   pub opened : Bool
-  pub begun : Bool
+  pub loaded : Bool
   pub written : Bool
   pub doubt : Bool
   pub counted : Bool
@@ -46,9 +39,8 @@ pub record Says : Type 0 where
 abbrev pub unopened : Says
 unopened = record {
   failed = None;
-  size = Unknown;
   opened = false;
-  begun = false;
+  loaded = false;
   written = false;
   doubt = false;
   counted = false;
@@ -57,12 +49,12 @@ unopened = record {
 
 -- the table of endings
 abbrev pub says : Ending → Says
-says Done = record unopened { size = Within; opened = true; begun = true; written = true; counted = true; calm = true }
-says Memory = record unopened { opened = true; begun = true; doubt = true; calm = true }
+says Done = record unopened { opened = true; loaded = true; written = true; counted = true; calm = true }
+says Memory = record unopened { opened = true; loaded = true; doubt = true; calm = true }
 says ReadFault = record unopened { failed = Some Input; opened = true; written = true }
-says WriteFault = record unopened { failed = Some Output; size = Within; opened = true; begun = true; doubt = true }
-says (DiskFault file) = record unopened { failed = Some (File file); size = Within; opened = true; begun = true; doubt = true }
-says (InputTooLong line) = record unopened { size = TooLong line; opened = true; written = true; counted = true; calm = true }
+says WriteFault = record unopened { failed = Some Output; opened = true; loaded = true; doubt = true }
+says (DiskFault file) = record unopened { failed = Some (File file); opened = true; loaded = true; doubt = true }
+says (InputTooLong line) = record unopened { opened = true; written = true; counted = true; calm = true }
 says _ = unopened
 
 -- ---- the columns as facts
@@ -76,11 +68,11 @@ IsMarked false = ⊥
 abbrev pub IsCarried : Ending → Type 0
 IsCarried ending = IsMarked (says ending).opened
 
--- a run may end so after its first line has begun
-abbrev pub IsBegun : Ending → Type 0
-IsBegun ending = IsMarked (says ending).begun
+-- a load may end so after it has opened the silo that it made: as a run, but for what comes of an input
+abbrev pub IsLoadCarried : Ending → Type 0
+IsLoadCarried ending = IsMarked (says ending).loaded
 
--- all that is settled has been written
+-- each line that may begin is settled, and all that is settled has been written
 abbrev pub IsAllWritten : Ending → Type 0
 IsAllWritten ending = IsMarked (says ending).written
 
@@ -124,19 +116,3 @@ IsOfFile _ = ⊥
 -- a file failed
 abbrev pub IsDiskFault : Ending → Type 0
 IsDiskFault ending = IsOfFile (says ending).failed
-
--- ---- the length of the input
-
--- the most bytes that the input of a run may have
-abbrev pub input_limit : ℕ
-input_limit = 16777216
-
--- an input of so many bytes is so long; one that is too long is so as a whole, which counts as line 0
-abbrev pub HasSize : Size → ℕ → Type 0
-HasSize Unknown size = ⊤
-HasSize Within size = size ≤ input_limit
-HasSize (TooLong line) size = (line ≡ 0) × (input_limit < size)
-
--- a run that ends so read an input within the limit, and one that ends with an input too long, one above it
-abbrev pub HasLength : Ending → ℕ → Type 0
-HasLength ending size = HasSize (says ending).size size

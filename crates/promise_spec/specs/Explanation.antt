@@ -74,7 +74,7 @@ LeavesUnvoted live p r c =
 pub record IsExplained (p : Program) (r : Observed) (c : Course) : Type 0 where
   pub records : AreAdded (core_end p c) c.added
   pub units : KeepsUnitRule (basis p r c) (core_run p c)
-  pub turns : r.manner.threaded ≡ false → KeepsTurnRule p.types (length (lines r)) r.manner.width r.manner.picks (core_run p c)
+  pub turns : r.manner.threaded ≡ false → KeepsTurnRule p.types r.windowed c.allowed r.manner.width r.manner.picks (core_run p c)
   pub caused : AreCaused (core_run p c)
   pub faults : AreFaults c.live (core_run p c) r.faults_before r.faults_after
   pub doubted : (file : FileId) → r.ending ≡ DiskFault file → FileMayEndInDoubt c.live (core_run p c) file

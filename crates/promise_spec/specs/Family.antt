@@ -10,7 +10,8 @@ use Rattle.core_model.specs.CoreState.{UnitNo, Member, CoreState}
 use Rattle.script_tree.specs.Programs.{ProgramTree}
 use Rattle.script_meaning.specs.Play.{play_over}
 use Rattle.promise_spec.specs.Records.{Commit, States, after_writes}
-use Rattle.promise_spec.specs.SerialExecution.{depth_of, played}
+use Rattle.base_types.specs.Origins.{depth_of}
+use Rattle.promise_spec.specs.SerialExecution.{played}
 use Rattle.promise_spec.specs.Lines.{IsLineCall}
 use Rattle.promise_spec.specs.Cores.{HasBegun}
 

@@ -9,6 +9,7 @@ pub mod Prefixes
 pub mod Images
 pub mod Moments
 pub mod Lines
+pub mod Windows
 pub mod Outputs
 pub mod Kinds
 pub mod Cores

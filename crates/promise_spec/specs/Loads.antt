@@ -10,7 +10,7 @@ use Rattle.core_model.specs.CoreState.{Member}
 use Rattle.host_trait.specs.World.{World, Moment, Image, IsImage}
 use Rattle.request_wire.specs.Reply.{value_data, counted}
 use Rattle.serde_json.specs.Data.{object, member, no_members}
-use Rattle.silo_spec.specs.Silos.{IsNewSilo}
+use Rattle.silo_spec.specs.Silos.{IsMadeFile, IsNewSilo}
 use Rattle.silo_spec.specs.Moments.{IsUntouched}
 use Rattle.silo_spec.specs.Creation.{StaysBeside, IsNewAt, FromFirstSync, CameThisFar}
 use Rattle.script_tree.specs.Programs.{ProgramTree}
@@ -22,7 +22,7 @@ use Rattle.promise_spec.specs.Lines.{IsLineCall}
 use Rattle.promise_spec.specs.Kinds.{kind_of}
 use Rattle.promise_spec.specs.Causes.{NoneRose, RunHasDoubt, syncs_of, most_syncs_of}
 use Rattle.promise_spec.specs.Endings as ending
-use Rattle.promise_spec.specs.Courses.{Observed, Course, order, moments, lines, program_in_force, core_run, core_end}
+use Rattle.promise_spec.specs.Courses.{Observed, Course, order, moments, lines, seen_at_entry, program_in_force, core_run, core_end}
 use Rattle.promise_spec.specs.Images.{IsSoundFolder}
 use Rattle.promise_spec.specs.Orders.{IsOrdered}
 use Rattle.promise_spec.specs.Crashes.{SurvivesCrashes, StaySound}
@@ -31,7 +31,7 @@ use Rattle.promise_spec.specs.Explanation.{ComeOfEvents, IsExplained}
 use Rattle.promise_spec.specs.Promise.{IsAnswered, GoesThrough, HasNoChild, IsNoLock}
 use Rattle.promise_spec.specs.Reports.{line_of}
 use Rattle.promise_spec.specs.Words.{Manner}
-use Rattle.promise_spec.specs.Refusals.{IsHead, IsUnopened}
+use Rattle.promise_spec.specs.Refusals.{IsUnopened}
 use Rattle.promise_spec.specs.Commands.{Prints, WasSilo, StaysSilo, ManagerLasts}
 
 -- ---- what is asked
@@ -123,20 +123,21 @@ summary_text r c =
 
 -- ---- the promise
 
--- How a load ends: it reads no input; a fault is shown by its count; it is done, or fails to write its summary, only where
+-- How a load ends: it reads no input, and all its lines may begin; a fault is shown by its count; it is done, or fails to write its summary, only where
 -- each line has its entry and no batch is in doubt; and where no count rises, and none stands at its last value, it goes
 -- through, at width 1 without nested units with no abort, and asks for so many syncs. However it ends it asks for no more than
 -- so many.
 pub record HasLoaded (p : Program) (r : Observed) (c : Course) : Type 0 where
   pub unread : r.new.input ≡ r.old.input
-  pub carried : ending.IsBegun r.ending
+  pub carried : ending.IsLoadCarried r.ending
+  pub allowed : c.allowed ≡ length (lines r)
   pub risen : ending.HasRisen r.ending r.faults_before r.faults_after
-  pub done : (r.ending ≡ ending.Done) ⊎ (r.ending ≡ ending.WriteFault) → IsAnswered r c
+  pub done : (r.ending ≡ ending.Done) ⊎ (r.ending ≡ ending.WriteFault) → IsAnswered c
   pub undoubted : r.ending ≡ ending.WriteFault → RunHasDoubt (core_run p c) → ⊥
   pub complete : NoneRose r.faults_before r.faults_after → GoesThrough r c
   pub alone : r.manner.threaded ≡ false → r.manner.width ≡ 1 → HasNoChild p c → (e : Entry) → Member e c.entries → IsNoLock e.what
-  pub syncs : NoneRose r.faults_before r.faults_after → r.ending ≡ ending.Done → r.new.syncs ≡ r.old.syncs + syncs_of (core_run p c)
-  pub most : r.new.syncs ≤ r.old.syncs + most_syncs_of (core_run p c)
+  pub syncs : NoneRose r.faults_before r.faults_after → r.ending ≡ ending.Done → r.new.syncs ≡ r.old.syncs + syncs_of (seen_at_entry r) (core_run p c)
+  pub most : r.new.syncs ≤ r.old.syncs + most_syncs_of (seen_at_entry r) (core_run p c)
 
 -- A load keeps the clauses of a run but those that speak of written replies: it asks for its calls, its entries are
 -- those that the core settles, and it prints the summary alone: nothing unless it is done or the output failed, and
@@ -166,7 +167,7 @@ bank_text = codes "type account {\n  field balance = 0;\n  method deposit(n) cre
 -- untouched; or where a call on one of the two files failed.
 abbrev pub IsUnmadeBy : ending.Ending → Observed → Type 0
 IsUnmadeBy ending.Memory r = IsUntouched r.old r.new
-IsUnmadeBy (ending.DiskFault file) r = IsHead file × StaysSilo r file
+IsUnmadeBy (ending.DiskFault file) r = IsMadeFile file × StaysSilo r file
 IsUnmadeBy ending.AlreadyASilo r = WasSilo r × IsUntouched r.old r.new × ManagerLasts r
 IsUnmadeBy _ r = ⊥
 
@@ -197,7 +198,8 @@ pub record LoadsFrom (n seed : ℕ) (r : Observed) : Type 0 where
   pub has : HasMade r made
   pub carried : IsUnopened (from_there r made) ⊎ ((c : Course) × ((program_in_force c).text ≡ bank_text) × KeepsLoad (program_in_force c) n seed (from_there r made) c)
 
--- What `load` promises, carried in the manner of its words: it makes no silo, or makes one and carries its lines in it.
+-- What `load` promises, carried in the manner of its words, without windows: it makes no silo, or makes one and carries its lines in it.
 pub record Loads (n seed : ℕ) (m : Manner) (r : Observed) : Type 0 where
   pub manner : r.manner ≡ m
+  pub windowed : r.windowed ≡ false
   pub answers : IsUnmade r ⊎ LoadsFrom n seed r

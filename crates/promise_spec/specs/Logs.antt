@@ -1,11 +1,12 @@
 -- The log of an image: that of its live slot.
-use Rattle.std.specs.Prelude.{◌≡◌, ◌≢◌, ℕ, List, ◌++◌, map, codes, slice_index, None}
+use Rattle.std.specs.Prelude.{◌≡◌, ◌≢◌, ℕ, List, map, codes, slice_index, None}
 use Rattle.std.specs.List.{flat_map, AllByRecursion}
+pub use Rattle.base_types.specs.Lists.{IsPrefix}
 use Rattle.host_trait.specs.declared.channels.FileId.TheVariants.{Manager, Program as ProgramFile}
 use Rattle.host_trait.specs.World.{Image}
 use Rattle.gate_block.specs.Log.{HasBlocks}
 use Rattle.log_reading.specs.Blocks.{header_damage}
-use Rattle.silo_spec.specs.Silos.{HasProgram}
+use Rattle.silo_spec.specs.Silos.{IsSilo, HasProgram}
 use Rattle.silo_spec.specs.Slots.{IsLive}
 use Rattle.promise_spec.specs.Programs.{Program, IsChecked}
 use Rattle.promise_spec.specs.Entries.{Log, new_silo}
@@ -15,10 +16,11 @@ use Rattle.promise_spec.specs.Blocks.{Block, entries_in, body_of, BlockFits, Are
 abbrev pub magic : List ℕ
 magic = codes "OTXLOG01"
 
--- This log stands in a slot's files, up to this gate: the manager file has zeros at bytes 13 and 14; the program file has a
--- checked program, over which a new silo is the base; and from byte 15 on stand the open blocks of the entries, each of which
--- is kept whole.
+-- This log stands in a slot's files, up to this gate: the manager file is a silo's, and has zeros at bytes 13 and 14; the program
+-- file has a checked program, over which a new silo is the base; and from byte 15 on stand the open blocks of the entries, each of
+-- which is kept whole.
 pub record StandsUpTo (slot : ℕ) (image : Image) (log : Log) (bodies : List (List ℕ)) (gate : ℕ) : Type 0 where
+  pub silo : IsSilo magic (image (Manager slot))
   pub header : header_damage (image (Manager slot)) ≡ None
   pub program : Program
   pub checked : IsChecked program
@@ -46,7 +48,3 @@ pub record IsLog (live : ℕ) (image : Image) (log : Log) : Type 0 where
 -- whichever slot is live
 abbrev pub HasLog : Image → Log → Type 0
 HasLog image log = (live : ℕ) × IsLog live image log
-
--- one list is a first part of the other
-abbrev pub IsPrefix : {A : Type 0} → List A → List A → Type 0
-IsPrefix {A} front whole = (rest : List A) × (whole ≡ front ++ rest)

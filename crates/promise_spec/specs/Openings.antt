@@ -3,6 +3,7 @@ use Rattle.std.specs.Prelude.{ℕ, Bool, ◌&&◌, ◌==◌, nat_le, if◌then�
 use Rattle.base_types.specs.declared.shapes.Shape.{Shape}
 use Rattle.host_trait.specs.declared.channels.FileId.{FileId}
 use Rattle.host_trait.specs.World.{Image}
+use Rattle.field_codec.specs.declared.formats.Format.TheVariants.{One}
 use Rattle.commit_log.specs.declared.records.CommitRecord.{CommitRecord}
 use Rattle.host_trait.specs.declared.channels.FileId.TheVariants.{Manager, Program as ProgramFile}
 use Rattle.promise_spec.specs.Programs.{Program, shape_in}
@@ -34,7 +35,7 @@ is_silo file = nat_le 16 (length file) && ((slice_index file 0 == 1) && bytes_eq
 abbrev pub commit_of : ℕ → Shape → Image → CommitRecord → Commit
 commit_of live shape image r = record {
   logged = r;
-  states = map (λ w. state_of (version_named live shape image (record { unit = r.unit; written = w }))) r.writes;
+  states = map (λ w. state_of (version_named live One shape image (record { unit = r.unit; written = w }))) r.writes;
 }
 
 -- ---- the folder
@@ -46,12 +47,12 @@ with_versions live p image records (Some missing) = DamagedAt missing.0 missing.
 
 -- what a folder with this program reads as, by the records of its log or the place at which it is damaged
 abbrev pub with_log : ℕ → Program → Image → Result (List CommitRecord) ℕ → Reading
-with_log live p image (Ok records) = with_versions live p image records (first_missing live (shape_in p) image (named_by_grain (named_by records)))
+with_log live p image (Ok records) = with_versions live p image records (first_missing live One (shape_in p) image (named_by_grain (named_by records)))
 with_log live p image (Err place) = DamagedAt (Manager live) place
 
 -- what a folder reads as, by its program or the place at which that is damaged
 abbrev pub with_program : ℕ → Image → Result Program ℕ → Reading
-with_program live image (Ok p) = with_log live p image (records_in_file (shape_in p) (image (Manager live)))
+with_program live image (Ok p) = with_log live p image (records_in_file One (shape_in p) (image (Manager live)))
 with_program live image (Err place) = DamagedAt (ProgramFile live) place
 
 -- the live slot, by the manager files

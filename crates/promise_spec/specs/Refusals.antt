@@ -4,41 +4,47 @@ use Rattle.base_types.specs.declared.calls.GrainId.{GrainId}
 use Rattle.host_trait.specs.declared.channels.FileId.{FileId}
 use Rattle.host_trait.specs.declared.channels.FileId.TheVariants.{Manager, Program as ProgramFile, Grain}
 use Rattle.host_trait.specs.World.{Image}
+use Rattle.field_codec.specs.declared.formats.Format.TheVariants.{One}
 use Rattle.commit_log.specs.declared.records.CommitRecord.{CommitRecord}
 use Rattle.core_model.specs.CoreState.{Member}
 use Rattle.core_model.specs.Tests.{is_before}
-use Rattle.silo_spec.specs.Silos.{manager, program_file}
 use Rattle.silo_spec.specs.Moments.{IsUntouched}
+use Rattle.silo_spec.specs.OpenedDisks.{opening_syncs}
 use Rattle.promise_spec.specs.Programs.{Program, shape_in}
 use Rattle.promise_spec.specs.Openings.{Reading, NoSilo, DamagedAt, Reads, program_in_file, records_in_file, named_by, opened_as}
 use Rattle.promise_spec.specs.Endings.{Ending, Memory, DiskFault, NotASilo, Damaged, HasFailedAs}
 use Rattle.promise_spec.specs.Courses.{Observed, seen_at_entry}
 
--- the file is the manager file, or the program's, of slot 0
-abbrev pub IsHead : FileId → Type 0
-IsHead file = (file ≡ manager) ⊎ (file ≡ program_file)
+-- the file is a manager file: both are looked at before it is known which slot is live
+abbrev pub IsEitherManager : FileId → Type 0
+IsEitherManager file = (file ≡ Manager 0) ⊎ (file ≡ Manager 1)
 
--- a record of the manager file of this slot names the grain
+-- the file is a manager file, or the program's of this slot
+abbrev pub IsHead : ℕ → FileId → Type 0
+IsHead live file = IsEitherManager file ⊎ (file ≡ ProgramFile live)
+
+-- a record of this slot's manager file names the grain
 pub record IsNamedIn (live : ℕ) (image : Image) (grain : GrainId) : Type 0 where
   pub program : Program
   pub records : List CommitRecord
   pub first : program_in_file (image (ProgramFile live)) ≡ Ok program
-  pub then_log : records_in_file (shape_in program) (image (Manager live)) ≡ Ok records
+  pub then_log : records_in_file One (shape_in program) (image (Manager live)) ≡ Ok records
   pub named : Member grain (map (λ n. n.written.grain) (named_by records))
 
--- the file is the manager file, the program's, or that of a grain of this slot that a record names
+-- the file is a manager file, the program's of this slot, or that of a grain of this slot that a record names
 abbrev pub IsReadFor : ℕ → Image → FileId → Type 0
-IsReadFor live image file = IsHead file ⊎ ((grain : GrainId) × (file ≡ Grain live grain) × IsNamedIn live image grain)
+IsReadFor live image file = IsHead live file ⊎ ((grain : GrainId) × (file ≡ Grain live grain) × IsNamedIn live image grain)
 
 -- such files have to be read where the first damage is in this one: of the grains' files those of grains that aren't behind
 abbrev pub IsReadBefore : Image → FileId → FileId → Type 0
+IsReadBefore image (ProgramFile slot) file = IsHead slot file
+IsReadBefore image (Manager slot) file = IsHead slot file
 IsReadBefore image (Grain slot last) file =
-    IsHead file ⊎ ((grain : GrainId) × (file ≡ Grain slot grain) × IsNamedIn slot image grain × (is_before last grain ≡ false))
-IsReadBefore image _ file = IsHead file
+    IsHead slot file ⊎ ((grain : GrainId) × (file ≡ Grain slot grain) × IsNamedIn slot image grain × (is_before last grain ≡ false))
 
 -- the file has to be read to see that the folder reads so
 abbrev pub MustBeRead : Image → Reading → FileId → Type 0
-MustBeRead image NoSilo file = file ≡ manager
+MustBeRead image NoSilo file = IsEitherManager file
 MustBeRead image (DamagedAt last place) file = IsReadBefore image last file
 MustBeRead image (Reads live log) file = IsReadFor live image file
 
@@ -51,12 +57,12 @@ IsRefusedBy image reading NotASilo = reading ≡ NoSilo
 IsRefusedBy image reading (Damaged file place) = reading ≡ DamagedAt file place
 IsRefusedBy image reading _ = ⊥
 
--- The folder wasn't opened: nothing was written, no input was read, one sync was asked for at most, and at each moment each
--- image is one of those at entry. Why is shown by how the folder reads; and where a call failed the run is refused for that
+-- The folder wasn't opened: nothing was written, no input was read, no more syncs were asked for than an opening asks for, and at
+-- each moment each image is one of those at entry. Why is shown by how the folder reads; and where a call failed the run is refused for that
 -- call, and for no other.
 pub record IsUnopened (r : Observed) : Type 0 where
   pub untouched : IsUntouched r.old r.new
   pub unread : r.new.input ≡ r.old.input
-  pub syncs : r.new.syncs ≤ r.old.syncs + 1
+  pub syncs : r.new.syncs ≤ r.old.syncs + opening_syncs (seen_at_entry r)
   pub refused : IsRefusedBy (seen_at_entry r) (opened_as (seen_at_entry r)) r.ending
   pub failed : HasFailedAs r.ending r.faults_before r.faults_after

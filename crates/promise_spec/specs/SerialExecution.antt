@@ -1,17 +1,11 @@
 -- Serial execution: the logged units, played whole, one after another.
 use Rattle.std.specs.Prelude.{◌≡◌, ℕ, List, [], ◌∷◌, length, ⊤}
-use Rattle.base_types.specs.declared.calls.Origin.{Origin}
-use Rattle.base_types.specs.declared.calls.Origin.TheVariants.{Line, Child}
+use Rattle.base_types.specs.Origins.{depth_of}
 use Rattle.commit_log.specs.declared.records.CommitRecord.{CommitRecord}
 use Rattle.script_tree.specs.Programs.{ProgramTree}
 use Rattle.script_meaning.specs.Play.{Played, play_over}
 use Rattle.promise_spec.specs.Records.{Commit, States, written, after_writes}
 use Rattle.promise_spec.specs.Entries.{LogEntry, Recorded, Standing, after_entry}
-
--- the depth of a unit's first frame
-abbrev pub depth_of : Origin → ℕ
-depth_of (Line n) = 1
-depth_of (Child parent index depth) = depth
 
 -- what the one-thread store gives for a logged unit's call and answers
 abbrev pub played : ProgramTree → States → CommitRecord → Played

@@ -1,5 +1,5 @@
 -- The turn rule: which event a run on one thread makes next.
-use Rattle.std.specs.Prelude.{◌≡◌, ℕ, zero, suc, ◌+◌, ◌-◌, ◌%◌, nat_lt, Bool, true, false, ◌&&◌, ◌||◌, not, if◌then◌else◌, List, [], ◌∷◌, ◌++◌, length, map, filter, take, get_or, count_by, slice_get, Option, Some, None, is_some, is_none}
+use Rattle.std.specs.Prelude.{◌≡◌, ℕ, zero, suc, ◌+◌, ◌-◌, ◌%◌, nat_lt, ◌==◌, Bool, true, false, ◌&&◌, ◌||◌, not, if◌then◌else◌, List, [], ◌∷◌, ◌++◌, length, map, filter, take, get_or, count_by, slice_get, Option, Some, None, is_some, is_none}
 use Rattle.std.specs.List.{list_any as any}
 use Rattle.base_types.specs.declared.calls.Origin.{Origin}
 use Rattle.base_types.specs.declared.calls.Origin.TheVariants.{Line, Child}
@@ -14,6 +14,7 @@ use Rattle.core_model.specs.declared.events.CoreEvent.TheVariants.{Bad, Begin, G
 use Rattle.core_model.specs.LegalRuns.{Run, begins}
 use Rattle.script_tree.specs.Programs.{ProgramTree}
 use Rattle.script_meaning.specs.Play as script
+use Rattle.promise_spec.specs.Windows.{window_lines}
 use Rattle.promise_spec.specs.Cores.{AppliesAt, state_before, applied_from}
 use Rattle.promise_spec.specs.UnitAnswers.{Got, got_from, wanted_by}
 
@@ -73,9 +74,22 @@ is_settled w u = any (λ x. same_unit x.unit u) w.manager.settled
 abbrev pub in_flight : Run → CoreState → ℕ
 in_flight r w = count_by (λ u. is_line (w.units.origin u) && (not (is_settled w u) || not (is_free w u))) (units_of r w)
 
--- a line is left, fewer than the width are in flight, and there is no doubt
-abbrev pub line_can_begin : ℕ → ℕ → Run → CoreState → Bool
-line_can_begin width lines r w = is_none w.manager.doubt && (nat_lt (in_flight r w) width && nat_lt w.units.lines lines)
+-- where the input comes in windows, one ends behind so many lines
+abbrev pub at_seam : Bool → ℕ → Bool
+at_seam false n = false
+at_seam true n = n % window_lines == 0
+
+-- there is no mover
+abbrev pub is_nobody : List Mover → Bool
+is_nobody [] = true
+is_nobody (m ∷ ms) = false
+
+-- A line is left of those that may begin, fewer than the width are in flight, and there is no doubt; and where a window ends
+-- nobody can move: only then the next window is read.
+abbrev pub line_can_begin : Bool → ℕ → ℕ → Run → CoreState → List Mover → Bool
+line_can_begin windowed width lines r w ms =
+    is_none w.manager.doubt && (nat_lt (in_flight r w) width
+    && (nat_lt w.units.lines lines && (not (at_seam windowed w.units.lines) || is_nobody ms)))
 
 -- ---- turns
 
@@ -112,10 +126,10 @@ IsTurn begins_line chosen w e OfLine = begins_line ≡ true
 IsTurn begins_line chosen w e (OfUnit u) = (begins_line ≡ false) × (chosen ≡ Some (OfUnit u))
 IsTurn begins_line chosen w e OfSettler = (begins_line ≡ false) × (chosen ≡ Some OfSettler) × MakesEvent (settler_step w) e
 
--- Each event of the run that applies is that of the turn: the width and the list of picks say whose turn it is. The
--- pick is 0 behind the end of the list.
-abbrev pub KeepsTurnRule : ProgramTree → ℕ → ℕ → List ℕ → Run → Type 0
-KeepsTurnRule types lines width picks r = (at : ℕ) (e : CoreEvent) → AppliesAt r at e →
-    IsTurn (line_can_begin width lines r (state_before r at))
+-- Each event of the run that applies is that of the turn: whether the input comes in windows, how many lines may begin, the
+-- width and the list of picks say whose turn it is. The pick is 0 behind the end of the list.
+abbrev pub KeepsTurnRule : ProgramTree → Bool → ℕ → ℕ → List ℕ → Run → Type 0
+KeepsTurnRule types windowed lines width picks r = (at : ℕ) (e : CoreEvent) → AppliesAt r at e →
+    IsTurn (line_can_begin windowed width lines r (state_before r at) (movers types r (state_before r at) (got_from (begins r) (take at r.events))))
     (picked (movers types r (state_before r at) (got_from (begins r) (take at r.events))) (get_or picks (picks_used r at) 0))
     (state_before r at) e (mover_of e)

@@ -13,7 +13,7 @@ use Rattle.core_model.specs.LegalRuns.{Run, begins}
 use Rattle.script_tree.specs.Programs.{ProgramTree}
 use Rattle.script_meaning.specs.Play.{Want, WantLock, WantRaise, next}
 use Rattle.script_meaning.specs.Trails.{Given, GivenLock, GivenRaise, GivenOutcome, locks_of, answers_of}
-use Rattle.promise_spec.specs.SerialExecution.{depth_of}
+use Rattle.base_types.specs.Origins.{depth_of}
 
 -- a lock with the grain's state, an exclusive lock in place of a shared one, or a child of its own
 pub data Got : Type 0 where

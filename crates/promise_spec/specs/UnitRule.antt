@@ -12,7 +12,7 @@ use Rattle.script_tree.specs.Programs.{ProgramTree}
 use Rattle.script_meaning.specs.Play.{Played, WantUnit, Over, play_over, IsTransaction}
 use Rattle.script_meaning.specs.Trails.{states_of}
 use Rattle.promise_spec.specs.Entries.{Standing}
-use Rattle.promise_spec.specs.SerialExecution.{depth_of}
+use Rattle.base_types.specs.Origins.{depth_of}
 use Rattle.promise_spec.specs.Lines.{IsLineCall, IsBadLine}
 use Rattle.promise_spec.specs.Cores.{AppliesAt, state_before}
 use Rattle.promise_spec.specs.UnitAnswers.{Got, got_from, wanted_by, wanted_lock}

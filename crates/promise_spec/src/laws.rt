@@ -10,6 +10,7 @@ ghost use Rattle.host_trait.specs.declared.channels.FileId.{FileId};
 ghost use Rattle.field_codec.specs.Readers.{AreBytes};
 ghost use Rattle.script_tree.specs.Programs.{ProgramTree};
 ghost use Rattle.silo_spec.specs.Slots.{IsLive};
+ghost use Rattle.silo_spec.specs.OpenedDisks.{opening_syncs};
 ghost use Rattle.promise_spec.specs.Programs.{Program, IsChecked, text_limit, shape_in, program_in};
 ghost use Rattle.promise_spec.specs.Records.{Commit, written, after_writes};
 ghost use Rattle.promise_spec.specs.Entries.{LogEntry, Recorded, records_among, Standing, after_entries, initial_states, new_silo, is_among, Log, records_of, standing_of, grown, checkpointed};
@@ -23,8 +24,8 @@ ghost use Rattle.promise_spec.specs.Openings.{NoSilo, Reads, live_in, opened_as}
 ghost use Rattle.promise_spec.specs.Words.{GivenOption, Manner, plain_manner, Command, Run, Load, Check, Say};
 ghost use Rattle.request_wire.specs.Reply.{reply_line};
 ghost use Rattle.promise_spec.specs.Outputs.{HavePlainNames, IsProper, Grew};
-ghost use Rattle.promise_spec.specs.Endings.{Done, InputTooLong};
-ghost use Rattle.promise_spec.specs.Courses.{Observed, Course, core_run};
+ghost use Rattle.promise_spec.specs.Endings.{Done, InputTooLong, CountsSyncs};
+ghost use Rattle.promise_spec.specs.Courses.{Observed, Course, core_run, seen_at_entry};
 ghost use Rattle.promise_spec.specs.Causes.{NoneRose, syncs_of};
 ghost use Rattle.promise_spec.specs.Headline.{KeepsHeadline, HasHeadline};
 ghost use Rattle.promise_spec.specs.Promise.{Keeps, Promises};
@@ -130,12 +131,15 @@ pub fn prefixes_are_an_order()
     ensures then { (a b c : Log) → b.base.count ≤ max a.base.count c.base.count → IsPrefixOf a b → IsPrefixOf b c → IsPrefixOf a c }
 {}
 
-/// A run that is done, or whose input is too long, has asked for as many syncs as its events need, where nothing failed.
+/// A run that is done, or of whose input a line is too long, has asked for as many syncs as its events need, where nothing failed:
+/// for the opening's alone where no line may begin.
 pub fn done_runs_count_syncs()
     ensures done { (p : Program) (r : Observed) (c : Course) → Keeps p r c → NoneRose r.faults_before r.faults_after → r.ending ≡ Done
-        → r.new.syncs ≡ r.old.syncs + syncs_of (core_run p c) }
+        → r.new.syncs ≡ r.old.syncs + syncs_of (seen_at_entry r) (core_run p c) }
     ensures long { (p : Program) (r : Observed) (c : Course) (line : ℕ) → Keeps p r c → NoneRose r.faults_before r.faults_after
-        → r.ending ≡ InputTooLong line → r.new.syncs ≡ r.old.syncs + 1 }
+        → r.ending ≡ InputTooLong line → r.new.syncs ≡ r.old.syncs + syncs_of (seen_at_entry r) (core_run p c) }
+    ensures unbegun { (p : Program) (r : Observed) (c : Course) → Keeps p r c → NoneRose r.faults_before r.faults_after → CountsSyncs r.ending
+        → c.allowed ≡ 0 → r.new.syncs ≡ r.old.syncs + opening_syncs (seen_at_entry r) }
 {}
 
 /// A text is read as types exactly where it is a checked program with these types.

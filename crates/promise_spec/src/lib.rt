@@ -2,7 +2,7 @@
 //! empty bodies, whose contracts are laws about the definitions. `docs/DEFINITIONS.md` reads them in plain words.
 //!
 //! In reading order: `Programs`, `Records`, `Entries`, `SerialExecution`, `Versions`, `Blocks`, `Logs`, `Prefixes`, `Images`, `Moments` (what a log is, stands for and may
-//! look like after a crash), `Lines`, `Outputs`, `Kinds` (what is asked and answered), `Cores`, `UnitAnswers`, `UnitRule`,
+//! look like after a crash), `Lines`, `Windows`, `Outputs`, `Kinds` (what is asked, how it is cut, and what is answered), `Cores`, `UnitAnswers`, `UnitRule`,
 //! `TurnRule`, `Causes`, `Family` (what the core's events are, and where records come from), `Openings` (what a folder
 //! reads as), `Words`, `Endings`, `Courses`, `Refusals`; the clauses `Orders`, `Replies` and `Crashes`, which `Headline`
 //! says alone; and the others, `Batches`, `Explanation`, `Exits` and `Promise`. `Reports`, `Commands`, `Loads` and `Checks`

@@ -21,12 +21,10 @@ use Rattle.core_model.specs.Laws.{extended}
 use Rattle.core_model.specs.LegalRuns.{Run, ends}
 use Rattle.core_model.specs.SerialOrder.{committed}
 use Rattle.core_model.specs.Settler.{to_commit, versions_to_write}
-use Rattle.core_laws.proofs.Ends.{kept-ends}
-use Rattle.core_laws.proofs.FurtherLaws.{committed-closed}
 use Rattle.core_laws.proofs.Orders.{in_drop}
 use Rattle.cell_model.proofs.Units.{filter-member}
-use Rattle.promise_laws.specs.Legality.{is_play, applied_run}
-use Rattle.promise_laws.proofs.LegalRuns.{ends_alike, legal}
+use Rattle.promise_laws.specs.Legality.{applied_run}
+use Rattle.promise_laws.proofs.LegalRuns.{ends_alike}
 use Rattle.grain_log.specs.Reads.{fields_of}
 use Rattle.grain_log.specs.Places.{places_from}
 use Rattle.promise_spec.specs.Programs.{shape_in}
@@ -48,6 +46,8 @@ use Rattle.settle_loop.specs.HostSteps.{KeepsVotes}
 use Rattle.settle_loop.specs.StepJournal.{IsFair}
 use Rattle.run_books.specs.Beginnings.{Outset, basis_of}
 use Rattle.run_books.proofs.BooksImages.{vote-kept}
+use Rattle.core_laws.proofs.LoadlessKept.{loadless-ends}
+use Rattle.core_laws.proofs.LoadlessRuns.{committed-closed}
 
 -- what holds of each member holds of all
 pub all-of : {A : Type 0} (P : A → Type 0) (xs : List A) → ((x : A) → Member x xs → P x) → AllByRecursion P xs
@@ -192,13 +192,12 @@ member-take (suc n) (y ∷ xs) x (inl q) = inl q
 member-take (suc n) (y ∷ xs) x (inr m) = inr (member-take n xs x m)
 
 -- a unit that waits isn't committed
-pub waits-open : (s : Basis) (r : Run) → 0 < r.base → KeepsUnitRule s r → (u : UnitNo) → Member u (waiting (ends r)) → (ends r).manager.verdict u ≡ Committed → ⊥
-waits-open s r above keeps u there is =
-    let lawful = legal s r above keeps in
+pub waits-open : (r : Run) → 0 < r.base → (u : UnitNo) → Member u (waiting (ends r)) → (ends r).manager.verdict u ≡ Committed → ⊥
+waits-open r above u there is =
     let same : ends (applied_run r) ≡ ends r = ends_alike r in
     let here : Member u (drop (ends (applied_run r)).manager.closed (ends (applied_run r)).manager.order) = subst (λ (w : CoreState). Member u (waiting w)) (sym same) there in
-    let late = in_drop (applied_run r).opening _ (ends (applied_run r)) (kept-ends (is_play s.types) (applied_run r) lawful).0 (ends (applied_run r)).manager.closed u here in
-    let early = committed-closed (is_play s.types) (applied_run r) lawful u (subst (λ (w : CoreState). w.manager.verdict u ≡ Committed) (sym same) is) in
+    let late = in_drop _ (ends (applied_run r)) (loadless-ends (applied_run r) above).0 (ends (applied_run r)).manager.closed u here in
+    let early = committed-closed (applied_run r) above u (subst (λ (w : CoreState). w.manager.verdict u ≡ Committed) (sym same) is) in
     omega (arith, late.1, early.1)
 
 -- what an older entry tells of isn't among them
@@ -236,4 +235,4 @@ fresh-batch s r e batch all above keeps after of_batch of_all within x c said th
     by (Some b) q are =
         let t = of-unit (ends r) (λ u. is_good ((ends r).manager.verdict u)) (members (ends r) b) batch c are there in
         let same : t.unit ≡ later.unit = sym t.is ∙ later.is in
-        waits-open s r above keeps t.unit (member-take b.size (waiting (ends r)) t.unit t.among) (ap (ends r).manager.verdict same ∙ by-then)
+        waits-open r above t.unit (member-take b.size (waiting (ends r)) t.unit t.among) (ap (ends r).manager.verdict same ∙ by-then)

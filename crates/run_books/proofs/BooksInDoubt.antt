@@ -19,7 +19,6 @@ use Rattle.core_model.specs.Laws.{extended}
 use Rattle.core_model.specs.LegalRuns.{Run, ends}
 use Rattle.core_model.specs.SerialOrder.{committed, chosen, batch_begin}
 use Rattle.core_model.specs.Settler.{to_commit}
-use Rattle.core_laws.proofs.Ends.{kept-ends}
 use Rattle.core_laws.proofs.Orders.{in_drop}
 use Rattle.core_laws.proofs.ToldOutcomes.{told-ends}
 use Rattle.promise_laws.specs.Legality.{is_play, applied_run}
@@ -29,6 +28,7 @@ use Rattle.promise_spec.specs.Crashes.{HasOutcome, Acknowledges}
 use Rattle.promise_spec.specs.UnitRule.{Basis, KeepsUnitRule}
 use Rattle.settler_rules.specs.CommittedUnits.{IsToldOf}
 use Rattle.run_books.proofs.BooksFair.{IsOfUnit, of-unit, member-take, waits-open}
+use Rattle.core_laws.proofs.LoadlessKept.{loadless-ends}
 
 outcome-is : (what : Settled) → HasOutcome what → (result : Outcome) × (what ≡ settled.Done result)
 outcome-is (settled.Done result) h = (result, refl)
@@ -103,8 +103,8 @@ fresh-doubt s r e batch above keeps after of_batch of_chosen same x c said there
     finished : (ends (extended r (e ∷ []))).units.phase later.unit ≡ Finished
     finished =
         subst (λ (w : CoreState). Member later.unit w.manager.order → w.units.phase later.unit ≡ Finished) (ends_alike (extended r (e ∷ [])))
-        (λ m. (in_drop (applied_run (extended r (e ∷ []))).opening _ (ends (applied_run (extended r (e ∷ []))))
-        (kept-ends (is_play s.types) (applied_run (extended r (e ∷ []))) (legal s (extended r (e ∷ [])) above after)).0 0 later.unit m).0)
+        (λ m. (in_drop _ (ends (applied_run (extended r (e ∷ []))))
+        (loadless-ends (applied_run (extended r (e ∷ []))) above).0 0 later.unit m).0)
         (member-drop (batch_begin (ends (extended r (e ∷ []))).manager.doubt (ends (extended r (e ∷ []))).manager.closed) (ends (extended r (e ∷ []))).manager.order later.unit later.among)
 
     told : IsToldOf (ends (extended r (e ∷ []))) x later.unit
@@ -145,4 +145,4 @@ fresh-doubt s r e batch above keeps after of_batch of_chosen same x c said there
     by (Some b) are =
         let t = of-unit (ends r) (λ u. is_good ((ends r).manager.verdict u)) (members (ends r) b) batch c are there in
         let unit : t.unit ≡ later.unit = sym t.is ∙ later.is in
-        waits-open s r above keeps t.unit (member-take b.size (waiting (ends r)) t.unit t.among) (ap (ends r).manager.verdict unit ∙ committed-then)
+        waits-open r above t.unit (member-take b.size (waiting (ends r)) t.unit t.among) (ap (ends r).manager.verdict unit ∙ committed-then)

@@ -1,5 +1,5 @@
 -- The books after an event of the settler that puts nothing out.
-use Rattle.std.proofs.Common.{◌≡◌, inl, ℕ, ◌<◌, ◌≤◌, List, [], ◌∷◌, ◌++◌, length, Bool, true, false, refl, sym, ◌∙◌, subst, is_some}
+use Rattle.std.proofs.Common.{◌≡◌, inl, ℕ, ◌<◌, ◌≤◌, List, [], ◌∷◌, ◌++◌, length, Bool, false, refl, sym, ◌∙◌, subst, is_some}
 use Rattle.std.specs.Prelude.{IsTrue}
 use Rattle.host_trait.specs.declared.channels.Channel.{Channel}
 use Rattle.host_trait.specs.World.{World}
@@ -9,7 +9,6 @@ use Rattle.core_model.specs.Laws.{extended}
 use Rattle.core_model.specs.LegalRuns.{Run, ends}
 use Rattle.core_model.specs.SerialOrder.{committed}
 use Rattle.core_laws.proofs.LineEntries.{once-ends}
-use Rattle.turn_rules.proofs.LegalRuns.{legal-run}
 use Rattle.promise_spec.specs.Programs.{shape_in}
 use Rattle.promise_spec.specs.Records.{AreRecordsOf}
 use Rattle.promise_spec.specs.Outputs.{Grew}
@@ -56,7 +55,7 @@ module _ (tells : Bool) (o : Outset) (b : Books) (r : Run) (e : CoreEvent) (befo
   books = grown_books b m.more batch d
 
   told : (ends r).manager.emitted ≤ length (ends r).manager.settled
-  told = (once-ends (λ (x : Effect). true) r (legal-run (basis_of o) r above units)).written
+  told = (once-ends r above).written
 
   even-before : AreEven before.quiet books (ends r')
   even-before = grown-even b m.more batch d (ends r) (ends r') m.settled adds.none before.quiet (m.emitted entry) told even

@@ -9,7 +9,6 @@ use Rattle.host_trait.specs.declared.channels.FileId.TheVariants.{Manager, Grain
 use Rattle.base_types.specs.declared.shapes.Shape.{Shape}
 use Rattle.host_trait.specs.World.{World, Passes}
 use Rattle.core_model.specs.CoreState.{CoreState}
-use Rattle.core_model.specs.declared.effects.Effect.{Effect}
 use Rattle.core_model.specs.declared.events.CoreEvent.{CoreEvent}
 use Rattle.core_model.specs.declared.events.CoreEvent.TheVariants.{Take, Vote, Decide, Sealed, NotSealed, Doubt, Learn, Emitted, Bad, Begin, Grant, Refuse, Finish, EndPlain, EndSnapshot, Release, Halt, Want, Load}
 use Rattle.core_model.specs.Events.{applies}
@@ -19,7 +18,6 @@ use Rattle.core_model.specs.SerialOrder.{committed}
 use Rattle.core_laws.proofs.LineEntries.{once-ends}
 use Rattle.core_access.specs.SettlerEvents.{is_settling, LeavesBatches}
 use Rattle.core_access.proofs.SettlerEvents.{others-leave}
-use Rattle.turn_rules.proofs.LegalRuns.{legal-run}
 use Rattle.promise_spec.specs.Entries.{Log, grown}
 use Rattle.promise_spec.specs.Records.{Commit}
 use Rattle.promise_spec.specs.Causes.{is_no, is_unsealed, is_vote, is_vote_of, is_sealed, RoseBy, RunHasDoubt}
@@ -149,7 +147,7 @@ module _ (tells : Bool) (o : Outset) (b : Books) (r : Run) (e : CoreEvent) (sett
   more = added.0
 
   told : (ends r).manager.emitted ≤ length (ends r).manager.settled
-  told = (once-ends (λ (x : Effect). true) r (legal-run (basis_of o) r above units)).written
+  told = (once-ends r above).written
 
   same-no : (g : GrainId) → how_many (is_no g) r' ≡ how_many (is_no g) r
   same-no g = how-same (is_no g) r e (answers.no g)

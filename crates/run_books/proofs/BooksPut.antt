@@ -17,7 +17,6 @@ use Rattle.core_model.specs.Laws.{extended}
 use Rattle.core_model.specs.LegalRuns.{Run, ends}
 use Rattle.core_model.specs.SerialOrder.{committed}
 use Rattle.core_laws.proofs.LineEntries.{once-ends}
-use Rattle.turn_rules.proofs.LegalRuns.{legal-run}
 use Rattle.promise_spec.specs.Programs.{shape_in}
 use Rattle.promise_spec.specs.Records.{AreRecordsOf}
 use Rattle.promise_spec.specs.Outputs.{IsProper, Grew, reply_lines}
@@ -134,7 +133,7 @@ module _ {H : Type 0} (tells : Bool) (world : H → World) (faults : H → Chann
   take-length (suc n) (y ∷ xs) le = (let t = take-length n xs (omega (arith, le)) in omega (arith, t))
 
   told : (ends r).manager.emitted ≤ length (ends r).manager.settled
-  told = (once-ends (λ (x : Effect). true) r (legal-run (basis_of o) r above units)).written
+  told = (once-ends r above).written
 
   module _ (loud : before.quiet ≡ false) (even : AreEven false b (ends r)) (x : Entry) (range : IsEntryInRange x) (next : slice_get (ends r).manager.settled (ends r).manager.emitted ≡ Some x)
       (failed : FailedOn Output (faults old) (faults new)) where

@@ -11,7 +11,6 @@ use Rattle.host_trait.specs.Faults.{Rose}
 use Rattle.host_trait.specs.World.{World}
 use Rattle.turn_cell.specs.History.{entry}
 use Rattle.core_model.specs.CoreState.{CoreState}
-use Rattle.core_model.specs.declared.effects.Effect.{Effect}
 use Rattle.core_model.specs.declared.events.CoreEvent.{CoreEvent}
 use Rattle.core_model.specs.declared.events.CoreEvent.TheVariants as event
 use Rattle.core_model.specs.declared.events.CoreReply.{CoreReply}
@@ -29,7 +28,6 @@ use Rattle.core_access.specs.Sights.{Sight, run_seen, saw, told, AllPass, Looks,
 use Rattle.core_access.specs.CallsWithoutMemory.{is_spared, has_room}
 use Rattle.core_access.proofs.Entries.{entries-single}
 use Rattle.core_access.proofs.Sights.{run-told, looks-before, looks-none}
-use Rattle.turn_rules.proofs.LegalRuns.{legal-run}
 use Rattle.worker_rules.specs.Work.{is_work}
 use Rattle.worker_rules.proofs.Workers.{work-settles}
 use Rattle.promise_spec.specs.Programs.{shape_in}
@@ -210,7 +208,7 @@ module _ {H : Type 0} (tells : Bool) (world : H → World) (faults : H → Chann
   can-at : (x : Sight) → IsBetween x → CanSettle o (shape_in o.program) (run_seen x)
   can-at x i =
       let m : MayRely o x = relies-at x i in
-      let once : EntriesAreOnce (ends (run_seen x)) = once-ends (λ (e : Effect). true) (run_seen x) (legal-run (basis_of o) (run_seen x) (above-at x i) m.units) in
+      let once : EntriesAreOnce (ends (run_seen x)) = once-ends (run_seen x) (above-at x i) in
       let le = once.written in
       let small = m.small in
       let most : length (ends (run_seen x)).manager.settled ≤ (ends (run_seen x)).units.lines =

@@ -1,4 +1,5 @@
 pub mod ShownRecord
+pub mod MoreLines
 pub mod EvenBooks
 pub mod LineCounts
 pub mod BooksStated

@@ -1,12 +1,11 @@
 -- What the record of the turns is of a whole run.
-use Rattle.std.proofs.Common.{◌≡◌, ℕ, zero, suc, ◌+◌, ◌≤◌, List, [], ◌∷◌, ◌++◌, length, Bool, true, false, ◌⊎◌, inl, inr, refl, sym, ap, ◌∙◌, subst, arith, append-nil, Some}
+use Rattle.std.proofs.Common.{◌≡◌, ℕ, zero, suc, ◌+◌, ◌≤◌, List, [], ◌∷◌, ◌++◌, length, Bool, false, ◌⊎◌, inl, inr, refl, sym, ap, ◌∙◌, subst, arith, append-nil, Some}
 use Rattle.std.specs.Prelude.{Result, Ok, Err, take, slice_get}
 use Rattle.std.specs.List.{flat_map}
 use mathlib.Core.List.{append_assoc}
 use Rattle.base_types.specs.declared.entries.Entry.{Entry}
 use Rattle.host_trait.specs.declared.channels.FileId.{FileId}
 use Rattle.host_trait.specs.declared.channels.FileId.TheVariants.{Manager}
-use Rattle.host_trait.specs.World.{World}
 use Rattle.host_trait.specs.declared.channels.Channel.{Channel}
 use Rattle.core_model.specs.CoreState.{CoreState}
 use Rattle.core_model.specs.declared.effects.Effect.{Effect}
@@ -20,7 +19,7 @@ use Rattle.promise_spec.specs.Journals.{Settlement, commits_of, entries_of}
 use Rattle.promise_spec.specs.UnitRule.{Basis, KeepsUnitRule}
 use Rattle.promise_spec.specs.TurnRule.{KeepsTurnRule}
 use Rattle.promise_spec.specs.Causes.{AreFaults, RunHasDoubt}
-use Rattle.promise_spec.specs.Endings.{DiskFault, EndingMayDoubt, IsAllWritten, IsDiskFault}
+use Rattle.promise_spec.specs.Endings.{Ending, Done, DiskFault, IsAllWritten, IsDiskFault, WriteFault as Unwritten, Memory as NoMemory}
 use Rattle.promise_spec.specs.Courses.{Observed, Course, basis, core_run, core_end}
 use Rattle.promise_spec.specs.Explanation.{AreAdded, AreSettled, FileMayEndInDoubt, LeavesUnvoted, EndsWritten, IsCutShort}
 use Rattle.promise_laws.specs.Obligations.{ExplainsEvents}
@@ -29,12 +28,11 @@ use Rattle.run_books.specs.declared.faults.RunFault.{RunFault}
 use Rattle.run_books.specs.declared.faults.RunFault.TheVariants.{InDoubt, WriteFault, Memory}
 use Rattle.run_books.specs.Beginnings.{Outset, basis_of}
 use Rattle.run_books.specs.Books.{Books, booked_journal, AreInDoubt, IsPutOut}
-use Rattle.run_books.specs.Records.{KeepsRecord, TurnsEndAs}
+use Rattle.run_books.specs.Records.{KeepsRecord, HasCarriedAll, TurnsEndAs}
 use Rattle.request_wire.specs.Reply.{reply_line}
 use Rattle.core_laws.proofs.LineEntries.{once-ends}
-use Rattle.turn_rules.proofs.LegalRuns.{legal-run}
-use Rattle.run_books.specs.RunCourse.{IsCourseOf, turns_ending}
-use Rattle.run_books.specs.Stages.{stage_by}
+use Rattle.run_books.specs.RunCourse.{EndsSo, IsCourseOf, turns_ending}
+use Rattle.run_books.specs.Stages.{Stage, stage_by}
 
 -- ---- the records
 
@@ -63,58 +61,76 @@ added-by w front (batch ∷ (other ∷ more)) are d = absurd d
 
 -- ---- how it ends
 
-module _ {T : Type 0} (o : Outset) (b : Books) (r : Run) (settler : Settler) (counts : Channel → ℕ) (now : World) where
-  -- a file's fault ends it only with a batch in doubt
-  doubted-by : (result : Result T RunFault) → TurnsEndAs o b (stage_by r settler counts now) result → (file : FileId) → turns_ending o.live result ≡ DiskFault file → FileMayEndInDoubt o.live r file
-  doubted-by (Ok done) e file q = absurd cc
-  doubted-by (Err InDoubt) e file q = (is_file (Manager o.live) file q, e.0.doubt)
+-- a file that is found failed is a disk fault
+of-disk : (file : FileId) (ending : Ending) → ending ≡ DiskFault file → IsDiskFault ending
+of-disk file ending q = subst IsDiskFault (sym q) tt
+
+-- where all so far is carried a run may end in any way but by a file's fault
+pub ends-carried : (o : Outset) (s : Stage) (ending : Ending) → HasCarriedAll o s → (IsDiskFault ending → ⊥) → EndsSo o s.run ending
+ends-carried o s ending all none = record {
+  doubted = λ file q. absurd (none (of-disk file ending q));
+  ended = λ d. absurd (all.never d);
+  written = λ which. all.run.quiet.written;
+}
+
+module _ {T : Type 0} (o : Outset) (b : Books) (s : Stage) where
+  -- it ends by its turns
+  by-turns : (result : Result T RunFault) → TurnsEndAs o b s result → EndsSo o s.run (turns_ending o.live result)
+  by-turns (Ok done) e = ends-carried o s Done e.0 (λ none. none)
+  by-turns (Err InDoubt) e = record {
+    doubted = λ file q. (is_file (Manager o.live) file q, e.0.doubt);
+    ended = λ d. tt;
+    written = λ which. e.0.written;
+  }
     where
       is_file : (f g : FileId) → DiskFault f ≡ DiskFault g → g ≡ f
       is_file f g t = cc
-  doubted-by (Err WriteFault) e file q = absurd cc
-  doubted-by (Err Memory) e file q = absurd cc
+  by-turns (Err WriteFault) e = record {
+    doubted = λ file q. absurd (cc q);
+    ended = λ d. tt;
+    written = λ which. absurd (neither which);
+  }
+    where
+      neither : IsAllWritten Unwritten ⊎ (IsDiskFault Unwritten × RunHasDoubt s.run) → ⊥
+      neither (inl none) = none
+      neither (inr none) = none.0
+  by-turns (Err Memory) e = record {
+    doubted = λ file q. absurd (cc q);
+    ended = λ d. tt;
+    written = λ which. absurd (neither which);
+  }
+    where
+      neither : IsAllWritten NoMemory ⊎ (IsDiskFault NoMemory × RunHasDoubt s.run) → ⊥
+      neither (inl none) = none
+      neither (inr none) = none.0
 
-  -- and a doubt ends it
-  ended-by : (result : Result T RunFault) → TurnsEndAs o b (stage_by r settler counts now) result → RunHasDoubt r → EndingMayDoubt (turns_ending o.live result)
-  ended-by (Ok done) e d = absurd (e.0.never d)
-  ended-by (Err InDoubt) e d = tt
-  ended-by (Err WriteFault) e d = tt
-  ended-by (Err Memory) e d = tt
-
-  -- all that is settled is written, where it ends so
-  written-by : (result : Result T RunFault) → TurnsEndAs o b (stage_by r settler counts now) result → IsAllWritten (turns_ending o.live result) ⊎ (IsDiskFault (turns_ending o.live result) × RunHasDoubt r)
-      → length (ends r).manager.settled ≤ (ends r).manager.emitted
-  written-by (Ok done) e which = e.0.run.quiet.written
-  written-by (Err InDoubt) e which = e.0.written
-  written-by (Err WriteFault) e (inl none) = absurd none
-  written-by (Err WriteFault) e (inr none) = absurd none.0
-  written-by (Err Memory) e (inl none) = absurd none
-  written-by (Err Memory) e (inr none) = absurd none.0
+  pub ends-by : (result : Result T RunFault) (ending : Ending) → TurnsEndAs o b s result → ending ≡ turns_ending o.live result → EndsSo o s.run ending
+  ends-by result ending e q = subst (EndsSo o s.run) (sym q) (by-turns result e)
 
 -- ---- a whole run
 
 -- what its events explain
-pub explains : {T : Type 0} (tells : Bool) (o : Outset) (b : Books) (r : Run) (settler : Settler) (seen : Observed) (c : Course) (result : Result T RunFault)
-    → KeepsRecord tells o b (stage_by r settler seen.faults_after seen.new) → TurnsEndAs o b (stage_by r settler seen.faults_after seen.new) result → seen.ending ≡ turns_ending o.live result
-    → (seen.manner.threaded ≡ false → KeepsTurnRule o.program.types (length o.asked) o.width o.picks r)
+pub explains : (tells : Bool) (o : Outset) (b : Books) (r : Run) (settler : Settler) (seen : Observed) (c : Course)
+    → KeepsRecord tells o b (stage_by r settler seen.faults_after seen.new) → EndsSo o r seen.ending
+    → (seen.manner.threaded ≡ false → KeepsTurnRule o.program.types seen.windowed c.allowed o.width o.picks r)
     → IsCourseOf o b r seen c → LeavesUnvoted c.live o.program seen c → ExplainsEvents o.program seen c
-explains {T} tells o b r settler seen c result k e q turns is unvoted =
+explains tells o b r settler seen c k e turns is unvoted =
     let run : r ≡ core_run o.program c = sym is.run in
     let same : basis_of o ≡ basis o.program seen c = (λ i. record { types = o.program.types; lines = sym is.asked i; opening = standing_of (sym is.opening i) }) in
     record {
       records = subst (AreAdded (core_end o.program c)) (sym is.added)
           (subst (λ (x : Run). AreAdded (ends x) (commits_of (booked_journal b))) run (added-by (ends r) (b.said ++ b.unsaid) b.doubted k.books.booked.commits k.books.booked.doubted));
       units = subst (λ (s : Basis). KeepsUnitRule s (core_run o.program c)) same (subst (KeepsUnitRule (basis_of o)) run k.units);
-      turns = λ one. subst (λ (n : ℕ). KeepsTurnRule o.program.types n seen.manner.width seen.manner.picks (core_run o.program c)) (ap length (sym is.asked))
-          (subst (λ (w : ℕ). KeepsTurnRule o.program.types (length o.asked) w seen.manner.picks (core_run o.program c)) (sym is.width)
-          (subst (λ (ps : List ℕ). KeepsTurnRule o.program.types (length o.asked) o.width ps (core_run o.program c)) (sym is.picks)
-          (subst (KeepsTurnRule o.program.types (length o.asked) o.width o.picks) run (turns one))));
+      turns = λ one.
+          subst (λ (w : ℕ). KeepsTurnRule o.program.types seen.windowed c.allowed w seen.manner.picks (core_run o.program c)) (sym is.width)
+          (subst (λ (ps : List ℕ). KeepsTurnRule o.program.types seen.windowed c.allowed o.width ps (core_run o.program c)) (sym is.picks)
+          (subst (KeepsTurnRule o.program.types seen.windowed c.allowed o.width o.picks) run (turns one)));
       faults = subst (λ (live : ℕ). AreFaults live (core_run o.program c) seen.faults_before seen.faults_after) (sym is.live)
           (subst (λ (f : Channel → ℕ). AreFaults o.live (core_run o.program c) f seen.faults_after) (sym is.before)
           (subst (λ (x : Run). AreFaults o.live x o.faults seen.faults_after) run k.books.faults));
       doubted = λ file t. subst (λ (live : ℕ). FileMayEndInDoubt live (core_run o.program c) file) (sym is.live)
-          (subst (λ (x : Run). FileMayEndInDoubt o.live x file) run (doubted-by o b r settler seen.faults_after seen.new result e file (sym q ∙ t)));
-      ended = λ d. subst EndingMayDoubt (sym q) (ended-by o b r settler seen.faults_after seen.new result e (subst RunHasDoubt is.run d));
+          (subst (λ (x : Run). FileMayEndInDoubt o.live x file) run (e.doubted file t));
+      ended = λ d. e.ended (subst RunHasDoubt is.run d);
       unvoted = unvoted;
     }
 
@@ -151,30 +167,30 @@ put-told b w (inr q) le =
     subst (λ (l : List Entry). w.manager.emitted ≤ length l) (sym q.0) (long-take w.manager.settled w.manager.emitted (w.manager.emitted + 1) le (omega arith))
 
 -- what was written of what is settled
-pub settled : {T : Type 0} (tells : Bool) (o : Outset) (b : Books) (r : Run) (settler : Settler) (seen : Observed) (c : Course) (result : Result T RunFault)
-    → settler.quiet ≡ false → KeepsRecord tells o b (stage_by r settler seen.faults_after seen.new) → TurnsEndAs o b (stage_by r settler seen.faults_after seen.new) result
-    → seen.ending ≡ turns_ending o.live result → IsCourseOf o b r seen c → AreSettled o.program seen c
-settled {T} tells o b r settler seen c result loud k e q is =
+pub settled : (tells : Bool) (o : Outset) (b : Books) (r : Run) (settler : Settler) (seen : Observed) (c : Course)
+    → settler.quiet ≡ false → KeepsRecord tells o b (stage_by r settler seen.faults_after seen.new) → EndsSo o r seen.ending
+    → IsCourseOf o b r seen c → AreSettled o.program seen c
+settled tells o b r settler seen c loud k e is =
     let w : CoreState = ends r in
     let end : core_end o.program c ≡ w = ap ends is.run in
     let put : IsPutOut false b w = subst (λ (quiet : Bool). IsPutOut quiet b w) loud k.books.said in
     let shape = shape_in o.program in
-    let told : w.manager.emitted ≤ length w.manager.settled = (once-ends (λ (x : Effect). true) r (legal-run (basis_of o) r k.above k.units)).written in
+    let told : w.manager.emitted ≤ length w.manager.settled = (once-ends r k.above).written in
     record {
       entries = (
         entries_of b.unsaid,
         ap (λ (v : CoreState). v.manager.settled) end ∙ sym k.books.booked.entries ∙ flat-both (λ (s : Settlement). s.entries) b.said b.unsaid
             ∙ ap (λ (l : List Entry). l ++ entries_of b.unsaid) (sym is.entries),
       );
-      all = λ which. is.entries ∙ put-all b w put (written-by o b r settler seen.faults_after seen.new result e (which-by which)) ∙ sym (ap (λ (v : CoreState). v.manager.settled) end);
+      all = λ which. is.entries ∙ put-all b w put (e.written (which-by which)) ∙ sym (ap (λ (v : CoreState). v.manager.settled) end);
       told = subst (λ (v : CoreState). v.manager.emitted ≤ length c.entries) (sym end)
           (subst (λ (l : List Entry). w.manager.emitted ≤ length l) (sym is.entries) (put-told b w put told));
       cut = cut-by k.books.cut;
     }
   where
-    which-by : EndsWritten o.program seen c → IsAllWritten (turns_ending o.live result) ⊎ (IsDiskFault (turns_ending o.live result) × RunHasDoubt r)
-    which-by (inl x) = inl (subst IsAllWritten q x)
-    which-by (inr x) = inr (subst IsDiskFault q x.0, subst RunHasDoubt is.run x.1)
+    which-by : EndsWritten o.program seen c → IsAllWritten seen.ending ⊎ (IsDiskFault seen.ending × RunHasDoubt r)
+    which-by (inl x) = inl x
+    which-by (inr x) = inr (x.0, subst RunHasDoubt is.run x.1)
 
     cut-by : (b.rest ≡ []) ⊎ ((entry : Entry) × (slice_get (ends r).manager.settled (length (entries_of b.said)) ≡ Some entry) × IsPrefix b.rest (reply_line (shape_in o.program) entry))
         → IsCutShort (shape_in o.program) (core_end o.program c).manager.settled c

@@ -22,11 +22,12 @@ use Rattle.core_laws.proofs.Dependencies.{Depends}
 use Rattle.core_laws.proofs.Ends.{kept-ends}
 use Rattle.core_laws.proofs.KeptInvariant.{Kept, size-open}
 use Rattle.core_laws.proofs.Puts.{put-other}
-use Rattle.core_laws.proofs.Reasons.{member-finished, take-drop-push}
+use Rattle.core_laws.proofs.Reasons.{member-finished}
 use Rattle.promise_laws.specs.Legality.{is_play, applied_run}
 use Rattle.promise_laws.proofs.LegalRuns.{ends_alike, legal}
 use Rattle.promise_spec.specs.UnitRule.{Basis, KeepsUnitRule}
 use Rattle.settler_rules.proofs.StandingVotes.{ends-more}
+use Rattle.core_laws.proofs.Orders.{take-drop-push}
 
 -- where two tests agree on all of a list
 any-same : (p q : UnitNo → Bool) (xs : List UnitNo) → ((x : UnitNo) → Member x xs → p x ≡ q x) → any p xs ≡ any q xs

@@ -14,7 +14,7 @@ use Rattle.promise_laws.proofs.KeptRuns.{gather}
 use Rattle.run_books.specs.Records.{KeepsFile}
 use Rattle.run_books.proofs.BooksCalls.{not-manager}
 
--- where it is so behind the opening, the opening having synced the manager file alone
+-- where it is so behind the opening, the opening having synced manager files alone
 pub unvoted_behind : (p : Program) (r : Observed) (c : Course) (mid : World) → IsBehind r c mid
     → ((g : GrainId) → how_many (is_vote_of g) (core_run p c) ≡ 0 → KeepsFile (Grain c.live g) mid r.new) → LeavesUnvoted c.live p r c
 unvoted_behind p r c mid b kept g m none there =

@@ -1,9 +1,12 @@
 -- How the record of a run is that of a whole run's course.
-use Rattle.std.specs.Prelude.{◌≡◌, ℕ, Result, Ok, Err}
+use Rattle.std.specs.Prelude.{◌≡◌, ◌⊎◌, ◌≤◌, ℕ, length, Result, Ok, Err}
+use Rattle.host_trait.specs.declared.channels.FileId.{FileId}
 use Rattle.host_trait.specs.declared.channels.FileId.TheVariants.{Manager}
-use Rattle.core_model.specs.LegalRuns.{Run}
-use Rattle.promise_spec.specs.Endings.{Ending, Done, WriteFault as Unwritten, DiskFault, Memory as NoMemory}
+use Rattle.core_model.specs.LegalRuns.{Run, ends}
+use Rattle.promise_spec.specs.Causes.{RunHasDoubt}
+use Rattle.promise_spec.specs.Endings.{Ending, Done, WriteFault as Unwritten, DiskFault, Memory as NoMemory, EndingMayDoubt, IsAllWritten, IsDiskFault}
 use Rattle.promise_spec.specs.Courses.{Observed, Course, core_run}
+use Rattle.promise_spec.specs.Explanation.{FileMayEndInDoubt}
 use Rattle.promise_spec.specs.Journals.{commits_of, entries_of}
 use Rattle.run_books.specs.declared.faults.RunFault.{RunFault}
 use Rattle.run_books.specs.declared.faults.RunFault.TheVariants.{InDoubt, WriteFault, Memory}
@@ -16,6 +19,13 @@ turns_ending live (Ok done) = Done
 turns_ending live (Err InDoubt) = DiskFault (Manager live)
 turns_ending live (Err WriteFault) = Unwritten
 turns_ending live (Err Memory) = NoMemory
+
+-- A whole run may end so: by a file's fault only with a batch in doubt, with one only so, and as one in which all that is settled was
+-- written only where it was.
+pub record EndsSo (o : Outset) (r : Run) (ending : Ending) : Type 0 where
+  pub doubted : (file : FileId) → ending ≡ DiskFault file → FileMayEndInDoubt o.live r file
+  pub ended : RunHasDoubt r → EndingMayDoubt ending
+  pub written : IsAllWritten ending ⊎ (IsDiskFault ending × RunHasDoubt r) → length (ends r).manager.settled ≤ (ends r).manager.emitted
 
 -- What a whole run shows, and its course, are what the turns' outset and books say.
 pub record IsCourseOf (o : Outset) (b : Books) (r : Run) (seen : Observed) (c : Course) : Type 0 where

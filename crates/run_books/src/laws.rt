@@ -1,4 +1,4 @@
-ghost use Rattle.std.specs.Prelude.{◌≡◌, ℕ, Bool, true, false, List as AList, Result as AResult, length, take};
+ghost use Rattle.std.specs.Prelude.{◌≡◌, ℕ, Bool, true, false, List as AList, Result as AResult, take};
 ghost use Rattle.core_model.specs.LegalRuns.{Run};
 ghost use Rattle.host_trait.specs.declared.channels.FileId.TheVariants.{Manager, Grain};
 ghost use Rattle.host_trait.specs.World.{World};
@@ -6,6 +6,7 @@ ghost use Rattle.base_types.specs.declared.calls.GrainId.{GrainId};
 ghost use Rattle.promise_spec.specs.Programs.{Program as AProgram};
 ghost use Rattle.promise_spec.specs.Cores.{how_many};
 ghost use Rattle.promise_spec.specs.Causes.{is_vote_of};
+ghost use Rattle.promise_spec.specs.Endings.{Ending, IsDiskFault};
 ghost use Rattle.promise_spec.specs.Courses.{Observed, Course, seen_at_entry, core_run};
 ghost use Rattle.promise_spec.specs.Explanation.{AreSettled, LeavesUnvoted};
 ghost use Rattle.promise_spec.specs.TurnRule.{KeepsTurnRule};
@@ -16,24 +17,26 @@ ghost use Rattle.run_books.specs.declared.faults.RunFault.{RunFault as AFault};
 ghost use Rattle.run_books.specs.Beginnings.{Outset};
 ghost use Rattle.run_books.specs.Books.{Books};
 ghost use Rattle.run_books.specs.Images.{LastsSo};
-ghost use Rattle.run_books.specs.Records.{KeepsFile, KeepsRecord, TurnsEndAs};
-ghost use Rattle.run_books.specs.RunCourse.{IsCourseOf, turns_ending};
-ghost use Rattle.run_books.specs.Stages.{stage_by};
+ghost use Rattle.run_books.specs.Records.{KeepsFile, KeepsRecord, HasCarriedAll, TurnsEndAs};
+ghost use Rattle.run_books.specs.RunCourse.{EndsSo, IsCourseOf, turns_ending};
+ghost use Rattle.run_books.specs.Stages.{Stage, stage_by};
 
 /// What the record of a run says, however it ended, is what a whole run has to show over any folder: that the core's events explain
-/// what it did, where those of one thread keep the turn rule; that a grain's file is written for a vote alone; that what it wrote is what is settled; and, where the images keep the
-/// books, what has to last.
+/// what it did, where those of one thread keep the turn rule; that a grain's file is written for a vote alone; that what it wrote is
+/// what is settled; and, where the images keep the books, what has to last. A run may end as its turns were answered, and where all so
+/// far was carried in any way but by a file's fault.
 pub fn records_show<T>()
-    ensures explains { (tells : Bool) (o : Outset) (b : Books) (r : Run) (settler : ASettler) (seen : Observed) (c : Course) (result : AResult T AFault)
-        → KeepsRecord tells o b (stage_by r settler seen.faults_after seen.new)
-        → TurnsEndAs o b (stage_by r settler seen.faults_after seen.new) result → seen.ending ≡ turns_ending o.live result
-        → (seen.manner.threaded ≡ false → KeepsTurnRule o.program.types (length o.asked) o.width o.picks r)
+    ensures by_turns { (o : Outset) (b : Books) (s : Stage) (result : AResult T AFault) (ending : Ending) → TurnsEndAs o b s result → ending ≡ turns_ending o.live result
+        → EndsSo o s.run ending }
+    ensures carried { (o : Outset) (s : Stage) (ending : Ending) → HasCarriedAll o s → (IsDiskFault ending → ⊥) → EndsSo o s.run ending }
+    ensures explains { (tells : Bool) (o : Outset) (b : Books) (r : Run) (settler : ASettler) (seen : Observed) (c : Course)
+        → KeepsRecord tells o b (stage_by r settler seen.faults_after seen.new) → EndsSo o r seen.ending
+        → (seen.manner.threaded ≡ false → KeepsTurnRule o.program.types seen.windowed c.allowed o.width o.picks r)
         → IsCourseOf o b r seen c → LeavesUnvoted c.live o.program seen c → ExplainsEvents o.program seen c }
     ensures unvoted { (p : AProgram) (seen : Observed) (c : Course) (mid : World) → IsBehind seen c mid
         → ((g : GrainId) → how_many (is_vote_of g) (core_run p c) ≡ 0 → KeepsFile (Grain c.live g) mid seen.new) → LeavesUnvoted c.live p seen c }
-    ensures settled { (tells : Bool) (o : Outset) (b : Books) (r : Run) (settler : ASettler) (seen : Observed) (c : Course) (result : AResult T AFault)
-        → settler.quiet ≡ false → KeepsRecord tells o b (stage_by r settler seen.faults_after seen.new)
-        → TurnsEndAs o b (stage_by r settler seen.faults_after seen.new) result → seen.ending ≡ turns_ending o.live result
+    ensures settled { (tells : Bool) (o : Outset) (b : Books) (r : Run) (settler : ASettler) (seen : Observed) (c : Course)
+        → settler.quiet ≡ false → KeepsRecord tells o b (stage_by r settler seen.faults_after seen.new) → EndsSo o r seen.ending
         → IsCourseOf o b r seen c → AreSettled o.program seen c }
     ensures lasts { (tells : Bool) (o : Outset) (head : AList ℕ) (b : Books) (r : Run) (settler : ASettler) (seen : Observed) (c : Course)
         → tells ≡ true → KeepsRecord tells o b (stage_by r settler seen.faults_after seen.new)

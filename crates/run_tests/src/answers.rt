@@ -24,6 +24,12 @@ pub fn add_end(out: &mut String, status: Status, host: &MemoryHost) -> Result<()
     write!(out, ", {replies} replies")
 }
 
+/// Writes a status, and how many lines the host has put out.
+pub fn add_any_end(out: &mut String, status: Status, host: &MemoryHost) -> Result<(), AllocError> {
+    let replies = count_lines(output_of(host));
+    write!(out, "{status:?}, {replies} replies")
+}
+
 /// Writes the number and the text of a status.
 pub fn add_said(alloc: Global, out: &mut String, status: Status) -> Result<(), AllocError> {
     let number = status.number();

@@ -1,6 +1,6 @@
 use crate::answers::{
-    add_end, add_images, add_left, add_money, add_output, add_said, add_size, add_whether_has,
-    add_whether_new,
+    add_any_end, add_end, add_images, add_left, add_money, add_output, add_said, add_size,
+    add_whether_has, add_whether_new,
 };
 use crate::bank::{NEW_LOG, new_books, new_silo, program_text};
 use crate::commands::{carry, carry_alone, copied};
@@ -25,6 +25,9 @@ pub struct Bench {
     status: Status,
     syncs: u64,
 }
+
+// A request that asks for a balance.
+const READ: &str = "{\"args\":[],\"call\":\"account/1.read\"}";
 
 fn number_of(word: &str) -> Option<u64> {
     word.parse::<u64>().ok()
@@ -90,6 +93,32 @@ impl Bench {
         Ok(true)
     }
 
+    // Gives the input lines more by a case that does so, or bounds what a pull gives.
+    fn add_many(&mut self, word: &str, rest: &str) -> Result<bool, AllocError> {
+        let Some(count) = number_of(rest) else {
+            return Ok(false);
+        };
+        match word {
+            "pulls" => self.host.pull_at_most((count as usize).max(1)),
+            "blanks" => {
+                let line = blanks(self.alloc, count)?;
+                self.add_input(line.as_str())?;
+            }
+            "reads" => {
+                for _line in 0..count {
+                    self.add_input(READ)?;
+                }
+            }
+            "feeds" => {
+                for _line in 0..count {
+                    self.input.push('\n')?;
+                }
+            }
+            _ => return Ok(false),
+        }
+        Ok(true)
+    }
+
     // Takes another input by a case that does so.
     fn take_input(&mut self, word: &str, rest: &str) -> Result<bool, AllocError> {
         if word == "bank" {
@@ -103,7 +132,6 @@ impl Bench {
             "rounds" => rounds(self.alloc, count),
             "mixed" => mixed_rounds(self.alloc, count),
             "hot" => hot_rounds(self.alloc, count),
-            "blanks" => blanks(self.alloc, count),
             _ => return Ok(false),
         };
         self.input = taken?;
@@ -116,6 +144,7 @@ impl Bench {
             "" | "#" => Ok(true),
             "log" => self.cut_log(rest),
             "fail" => self.fail(rest),
+            "pulls" | "blanks" | "reads" | "feeds" => self.add_many(word, rest),
             "<" => {
                 self.add_input(rest)?;
                 Ok(true)
@@ -229,6 +258,10 @@ impl Bench {
             "count" => {
                 self.carry(rt, rest)?;
                 add_end(out, self.status, &self.host)
+            }
+            "ended" => {
+                self.carry(rt, rest)?;
+                add_any_end(out, self.status, &self.host)
             }
             "held" => self.hold(rt, out, rest),
             "money" => add_money(rt, self.alloc, out, &self.host),

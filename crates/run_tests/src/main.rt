@@ -8,10 +8,12 @@
 //! | `log N` | gives the manager file the first N bytes of a new silo's |
 //! | `fail CALL CHANNEL N` | has the N-th call of this kind on this channel fail, counted from here on |
 //! | `crash` | takes what a crash leaves that loses all that is pending |
-//! | `< ..`, `bank`, `rounds N`, `mixed N`, `hot N`, `blanks N` | gives the next command a line more, or the bank program, N rounds of three transfers, N of six lines of which some begin units of their own, N of four that all want one account, N blanks |
+//! | `< ..`, `reads N`, `blanks N`, `feeds N` | gives the next command a line more, N lines that ask for a balance, a line of N blanks, N line feeds |
+//! | `bank`, `rounds N`, `mixed N`, `hot N` | gives it the bank program, N rounds of three transfers, N of six lines of which some begin units of their own, N of four that all want one account |
+//! | `pulls N` | has no pull of this host give more than N bytes |
 //! | `silo WORDS` | carries the command, and tells how it ended and all that the host has put out by then |
 //! | `alone WORDS` | does so without a runtime, or tells what the words leave to workers |
-//! | `count WORDS` | carries the command, and tells how it ended and, where all was done, how many lines were put out |
+//! | `count WORDS`, `ended WORDS` | carries the command, and tells how it ended and, where all was done, or however it ended, how many lines were put out |
 //! | `held seal`, `held locks`, `held all` | does so for a run by two workers, or by 16, whose threads a gate holds: see [`gates`] |
 //! | `noise N WORDS`, `noise faults WORDS`, `noise N stops WORDS` | carries the command over copies of the host while its threads are held up at random: N times; with each of some calls failing; N times stopped by the host. Tells how many went well: see [`noise`] |
 //! | `images WORDS` | carries the command over sixteen images that a crash may leave here, and tells each of its ends once |
@@ -23,7 +25,7 @@
 //! | `transfers` | tells how a copy of the host carries six transfers, and by how many calls |
 //! | `stops`, `fails CALL CHANNEL N` | stops a copy after each of those calls; has one of them fail: see [`stops`] and [`faults`] |
 //!
-//! A channel is `input`, `output` or a file, which is `manager`, `program` or an account as `account/1`.
+//! A channel is `input`, `output` or a file, which is `manager`, `program` or an account as `account/1`, all of slot 0, or `manager-1`.
 #![tactic(auto)]
 
 mod answers;

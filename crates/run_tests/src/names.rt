@@ -15,10 +15,11 @@ pub struct Fault {
     pub nth: u64,
 }
 
-/// The file of a name: `manager`, `program`, or of the account with the key that stands behind `account/`.
+/// The file of a name: `manager`, `program` or the account with the key that stands behind `account/`, all of slot 0, or `manager-1`.
 pub fn file_of(name: &str) -> Option<FileId> {
     match name {
         "manager" => Some(MANAGER),
+        "manager-1" => Some(FileId::Manager { slot: 1 }),
         "program" => Some(PROGRAM),
         _ => {
             let key = name.strip_prefix("account/")?.parse::<u32>().ok()?;

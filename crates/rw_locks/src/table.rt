@@ -1,6 +1,7 @@
 ghost use Rattle.std.specs.Prelude.{◌≡◌, ◌<◌, ◌≤◌, ◌+◌, [], vec_len, vec_capacity, IsOk, IfOk, OnOk};
 ghost use Rattle.std.specs.List.{list_any};
-ghost use Rattle.rw_locks.specs.LockView.{holds_alone, joined};
+ghost use Rattle.cell_model.specs.Units.{joined};
+ghost use Rattle.rw_locks.specs.LockView.{holds_alone};
 ghost use Rattle.cell_model.specs.declared.locks.Ask.TheVariants.{Free};
 ghost use Rattle.cell_model.specs.Units.{oldest};
 ghost use Rattle.cell_model.specs.Locks.{is_update, covers, conflicts, rivals, ask, granted, dropped, holds_lock};

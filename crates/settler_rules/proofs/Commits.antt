@@ -24,9 +24,9 @@ use Rattle.core_model.specs.Settler.{to_commit}
 use Rattle.core_model.specs.Tests.{any, is_committed, is_good, members}
 use Rattle.core_model.specs.ToldOutcomes.{IsSteady, OnlyTheBatchIsJudged}
 use Rattle.core_laws.proofs.EventCases.{Change, bad, begin, lock, raise, refuse, finish, end_plain, end_snapshot, release, take_batch, vote, decide_some, decide_none, seal_batch, spoil_batch, doubt_batch, learn, emit, halt_run, want, load, decode}
-use Rattle.core_laws.proofs.Ends.{kept-ends, split-ends}
-use Rattle.core_laws.proofs.KeptInvariant.{Kept, inv-open, members-open}
-use Rattle.core_laws.proofs.Orders.{Member-at, judged-other}
+use Rattle.core_laws.proofs.Ends.{kept-ends}
+use Rattle.core_laws.proofs.KeptInvariant.{Kept, inv-open}
+use Rattle.core_laws.proofs.Orders.{Member-at, judged-other, members-open}
 use Rattle.core_laws.proofs.Puts.{put-from, put-other}
 use Rattle.core_laws.proofs.LoadlessLaws.{holds-ends}
 use Rattle.core_laws.proofs.CommitOrder.{Split, no_doubt, split-order}
@@ -38,6 +38,9 @@ use Rattle.promise_spec.specs.UnitRule.{Basis, KeepsUnitRule}
 use Rattle.promise_spec.specs.Causes.{is_sealed}
 use Rattle.settler_rules.specs.CommittedUnits.{KeepsDoubt}
 use Rattle.settler_rules.proofs.StandingVotes.{ends-more}
+use Rattle.core_laws.proofs.LoadlessKept.{loadless-kept}
+use Rattle.core_laws.proofs.Invariant.{loadless-of}
+use Rattle.core_laws.proofs.LoadlessRuns.{split-ends}
 
 -- ---- verdicts
 
@@ -166,7 +169,7 @@ module _ (opening : GrainId → List Value) (w : CoreState) (k : Kept opening w)
 
   -- a unit of the undecided batch isn't committed, now and then
   was-open : (b : Batch) → w.manager.batch ≡ Some b → b.decisions ≡ None → (x : UnitNo) → Member x (members w b) → w.manager.verdict x ≡ Open
-  was-open b q d x m = (members-open opening w b (inv-open opening w b k q d) x m).1
+  was-open b q d x m = (members-open w b (loadless-of opening _ w (inv-open opening w b k q d)) x m).1
 
   committed-change : (e : CoreEvent) (w' : CoreState) → Change w e w' → applies w e ≡ true → committed w' ≡ (if is_sealed e then committed w ++ chosen w else committed w)
   committed-change e w' (bad line why q) a = refl
@@ -226,7 +229,7 @@ module _ (opening : GrainId → List Value) (w : CoreState) (k : Kept opening w)
           of None = y
           of (Some v) = v
   committed-change e w' (seal_batch n b ds q number d) a =
-      (λ i. map (effect_of w) (filter (λ u. seal-good (w.manager.verdict u) i) w.manager.order)) ∙ split-order opening w k s
+      (λ i. map (effect_of w) (filter (λ u. seal-good (w.manager.verdict u) i) w.manager.order)) ∙ split-order w (loadless-kept opening w k) s
   committed-change e w' (spoil_batch n b ds q number d) a = λ i. map (effect_of w) (filter (λ u. spoil-same (w.manager.verdict u) i) w.manager.order)
   committed-change e w' (doubt_batch n b ds q number d) a = λ i. map (effect_of w) (filter (λ u. leave-same (w.manager.verdict u) i) w.manager.order)
   committed-change e w' (learn u g wrote final fresh) a = refl
@@ -265,7 +268,7 @@ module _ (s : Basis) (r : Run) (above : 0 < r.base) (keeps : KeepsUnitRule s r) 
   by-rule : (e : CoreEvent) → applies (ends r) e ≡ true → committed (step (ends r) e) ≡ (if is_sealed e then committed (ends r) ++ chosen (ends r) else committed (ends r))
   by-rule =
       subst (λ (w : CoreState). (e : CoreEvent) → applies w e ≡ true → committed (step w e) ≡ (if is_sealed e then committed w ++ chosen w else committed w)) (ends_alike r)
-      (committed-step (applied_run r).opening (ends (applied_run r)) (kept-ends (is_play s.types) (applied_run r) lawful) (split-ends (is_play s.types) (applied_run r) lawful) (holds-ends (applied_run r) above).judged)
+      (committed-step (applied_run r).opening (ends (applied_run r)) (kept-ends (is_play s.types) (applied_run r) lawful) (split-ends (applied_run r) lawful.above) (holds-ends (applied_run r) above).judged)
 
   shown-is : (b : Batch) (ds : List Decision) → (ends r).manager.batch ≡ Some b → b.decisions ≡ Some ds → to_commit (ends r) (Some b) ≡ chosen (ends r)
   shown-is =

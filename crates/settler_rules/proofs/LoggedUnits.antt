@@ -36,7 +36,7 @@ use Rattle.field_codec.specs.declared.units.Numbers.TheVariants.{Logged}
 use Rattle.grain_log.specs.Reads.{fields_of}
 use Rattle.prepare_batch.specs.CoreWork.{WritesOnce, PlaysWriteOnce}
 use Rattle.promise_spec.specs.Cores.{HasBegun}
-use Rattle.promise_spec.specs.SerialExecution.{depth_of}
+use Rattle.base_types.specs.Origins.{depth_of}
 use Rattle.promise_spec.specs.UnitRule.{Basis, KeepsUnitRule, IsPlayOf, played_by}
 use Rattle.script_check.specs.AcceptedPrograms.{IsAcceptedProgram}
 use Rattle.script_check.specs.Shapes.{type_shape, value_of}

@@ -142,7 +142,7 @@ pub member-over : (r : Run) → 0 < r.base → (b : Batch) (u : UnitNo) → Memb
 member-over r above b u m =
     let order = (ends r).manager.order in
     let t = member-at order u (Member-drop (ends r).manager.closed u order (member-take b.size (drop (ends r).manager.closed order) u m)) in
-    subst (λ (x : UnitNo). (ends r).units.phase x ≡ Finished) t.2 ((holds-ends r above).ordered.listed t.0 t.1).0
+    subst (λ (x : UnitNo). (ends r).units.phase x ≡ Finished) t.2 ((holds-ends r above).prefix.order.listed t.0 t.1).0
 
 -- what is shown for a vote is what finished units wrote
 pub shown-left : (r : Run) → 0 < r.base → (b : Batch) (g : GrainId) (x : Version) → Member x (versions_to_write (ends r) (Some b) g) → HasLeft (ends r) x.unit g x.state

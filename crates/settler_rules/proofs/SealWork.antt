@@ -19,12 +19,13 @@ use Rattle.core_laws.proofs.EventCases.{Change, bad, begin, lock, raise, refuse,
 use Rattle.core_laws.proofs.Ends.{kept-ends}
 use Rattle.core_laws.proofs.KeptInvariant.{Kept, size-open}
 use Rattle.core_laws.proofs.Puts.{put-other}
-use Rattle.core_laws.proofs.Reasons.{member-finished, take-drop-push}
+use Rattle.core_laws.proofs.Reasons.{member-finished}
 use Rattle.promise_laws.specs.Legality.{is_play, applied_run}
 use Rattle.promise_laws.proofs.LegalRuns.{ends_alike, legal}
 use Rattle.promise_spec.specs.UnitRule.{Basis, KeepsUnitRule}
 use Rattle.settler_rules.proofs.Commits.{filter-same, map-same}
 use Rattle.settler_rules.proofs.StandingVotes.{ends-more}
+use Rattle.core_laws.proofs.Orders.{take-drop-push}
 
 abbrev good : CoreState → UnitNo → Bool
 good w u = is_good (w.manager.verdict u)

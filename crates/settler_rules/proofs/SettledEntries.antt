@@ -24,6 +24,7 @@ use Rattle.promise_laws.specs.Legality.{is_play, applied_run}
 use Rattle.promise_laws.proofs.LegalRuns.{ends_alike, legal}
 use Rattle.promise_laws.proofs.Tellings.{Tells, telling-ends}
 use Rattle.promise_laws.proofs.UnitsByRule.{all_said}
+use Rattle.field_codec.specs.declared.formats.Format.TheVariants.{One}
 use Rattle.field_codec.specs.Spelling.{ResultFits}
 use Rattle.promise_spec.specs.Outputs.{HasUnit, MaySay, IsProper}
 use Rattle.promise_spec.specs.UnitRule.{Basis, KeepsUnitRule}
@@ -44,7 +45,7 @@ has-unit base w u (settled.Dependency on) above low h = (let first = h.0 in omeg
 has-unit base w u settled.Disk above low h = (let first = h.0 in omega (arith, above, first), low)
 has-unit base w u settled.InDoubt above low h = (let first = h.0 in omega (arith, above, first), low)
 
-result-fits : (o : Outcome) → IsOutcomeInRange o → (o ≡ outcome.Aborted → ⊥) → ResultFits o
+result-fits : (o : Outcome) → IsOutcomeInRange o → (o ≡ outcome.Aborted → ⊥) → ResultFits One o
 result-fits outcome.Aborted range never = never refl
 result-fits (outcome.Value v) range never = range
 result-fits (outcome.Fault t) range never = range

@@ -17,7 +17,7 @@ use Rattle.core_model.specs.Events.{applies, step, run}
 use Rattle.core_model.specs.Laws.{extended}
 use Rattle.core_model.specs.LegalRuns.{Run, IsLegal, begins, ends}
 use Rattle.core_model.specs.Tests.{is_final, is_over, outcome_in, outcome_of}
-use Rattle.core_laws.proofs.FurtherLaws.{children-ends, committed-closed, grows-ends, legal-front}
+use Rattle.core_laws.proofs.FurtherLaws.{grows-ends, legal-front}
 use Rattle.core_laws.proofs.Growth.{Grows}
 use Rattle.core_laws.proofs.ToldOutcomes.{told-ends}
 use Rattle.promise_laws.specs.Legality.{is_play, applied_run}
@@ -26,6 +26,7 @@ use Rattle.promise_spec.specs.Cores.{applied_from}
 use Rattle.promise_spec.specs.Crashes.{HasOutcome}
 use Rattle.promise_spec.specs.UnitRule.{Basis, KeepsUnitRule}
 use Rattle.settler_rules.specs.CommittedUnits.{IsToldOf}
+use Rattle.core_laws.proofs.LoadlessRuns.{children-ends, committed-closed}
 
 outcome-in : (what : Settled) → HasOutcome what → (o : Outcome) × (what ≡ settled.Done o)
 outcome-in (settled.Done o) h = (o, refl)
@@ -59,14 +60,14 @@ module _ (plays : Effect → Bool) (q : Run) (tail : List CoreEvent) (l : IsLega
   front = legal-front plays q tail l
 
   grows : Grows w later
-  grows = grows-ends plays q tail l
+  grows = grows-ends q tail l.above
 
   -- a unit with an outcome that is committed later is committed
   decided-by-then : (u : UnitNo) (o : Outcome) → outcome_of w u ≡ Some o → later.manager.verdict u ≡ Committed → w.manager.verdict u ≡ Committed
   decided-by-then u o known committed = by_phase (w.units.phase u) refl (w.manager.verdict u) refl known
     where
       finished : later.units.phase u ≡ Finished
-      finished = (committed-closed plays (extended q tail) l u committed).0
+      finished = (committed-closed (extended q tail) l.above u committed).0
 
       stays : (p : Phase) → w.units.phase u ≡ p → is_over p ≡ true → p ≡ Finished
       stays p is over = sym is ∙ sym (grows.3 u (ap is_over is ∙ over)).0 ∙ finished
@@ -89,11 +90,11 @@ module _ (plays : Effect → Bool) (q : Run) (tail : List CoreEvent) (l : IsLega
   child-by-then : (p u : UnitNo) (i d : ℕ) → is_over (w.units.phase p) ≡ true → later.units.origin u ≡ Child p i d → (later.units.phase u ≡ Unborn → ⊥)
       → (k : ℕ) × (w.units.origin u ≡ Child p i k) × (w.units.phase u ≡ Unborn → ⊥)
   child-by-then p u i d over origin born =
-      let there = (children-ends plays (extended q tail) l).listed u p i d born origin in
+      let there = (children-ends (extended q tail) l.above).listed u p i d born origin in
       let kids : later.units.kids p ≡ w.units.kids p = (grows.3 p over).3 in
       let low : i < length (w.units.kids p) = subst (λ (us : List UnitNo). i < length us) kids there.0 in
       let is : get_or (w.units.kids p) i nobody ≡ u = ap (λ (us : List UnitNo). get_or us i nobody) (sym kids) ∙ there.1 in
-      let t = (children-ends plays q front).origin p i low in
+      let t = (children-ends q l.above).origin p i low in
       (t.0, subst (λ (x : UnitNo). w.units.origin x ≡ Child p i t.0) is t.1, subst (λ (x : UnitNo). w.units.phase x ≡ Unborn → ⊥) is t.2)
 
   tells-no-later : TellsNoLater w later
@@ -105,7 +106,7 @@ module _ (plays : Effect → Bool) (q : Run) (tail : List CoreEvent) (l : IsLega
         | inl same ↦ decided-by-then u result.0 (ap (outcome_of w) same ∙ known) committed
         | inr child ↦
             (let over = over-in (w.units.phase x.unit) (w.manager.verdict x.unit) (w.manager.result x.unit) result.0 known in
-            let finished : later.units.phase u ≡ Finished = (committed-closed plays (extended q tail) l u committed).0 in
+            let finished : later.units.phase u ≡ Finished = (committed-closed (extended q tail) l.above u committed).0 in
             let c = child-by-then x.unit u child.0 child.1 over child.2 (λ b. (let z : Finished ≡ Unborn = sym finished ∙ b in cc)) in
             let o = told.children x result.0 m result.1 u child.0 c.0 c.2 c.1 in
             decided-by-then u o.0 o.1 committed)

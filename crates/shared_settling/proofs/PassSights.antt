@@ -177,4 +177,4 @@ module _ {H E : Type 0} (told_world : Bool) (world : H → World) (faults : H �
 
 -- keeps what is promised
 pub stop-promise : (b : Basis) (may : CoreEvent → Bool) (s t : Sight) (r : CoreReply) → Tells may s Halt r t → KeepsPromise b s → KeepsPromise b t
-stop-promise b may s t r l p = tells-promise b may s t Halt r l refl (λ u own. absurd (true≢false (sym own))) (λ alone a. tt) p
+stop-promise b may s t r l p = tells-promise b may s t Halt r l (λ u own. absurd (true≢false (sym own))) (λ alone a. tt) p

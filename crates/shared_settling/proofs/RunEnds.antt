@@ -5,19 +5,17 @@ use Rattle.std.proofs.lemmas.Bool.{ltb-true}
 use Rattle.core_model.specs.CoreState.{UnitNo}
 use Rattle.core_model.specs.declared.phases.Phase.{Phase}
 use Rattle.core_model.specs.declared.phases.Phase.TheVariants.{Unborn, Running, Finished, Refused, Ended}
-use Rattle.core_model.specs.declared.effects.Effect.{Effect}
 use Rattle.core_model.specs.LegalRuns.{ends}
 use Rattle.core_model.specs.Lines.{EntriesAreOnce}
 use Rattle.core_model.specs.Settler.{has_step, settler_step}
 use Rattle.core_model.specs.Tests.{is_running, is_over, is_free}
 use Rattle.core_laws.proofs.LineEntries.{once-ends}
 use Rattle.promise_spec.specs.UnitAnswers.{got_in, wanted_by}
-use Rattle.promise_spec.specs.TurnRule.{OfUnit, OfSettler, can_move, is_unhindered, in_flight, line_can_begin, units_of}
+use Rattle.promise_spec.specs.TurnRule.{OfUnit, OfSettler, can_move, is_unhindered, in_flight, units_of}
 use Rattle.promise_spec.specs.UnitRule.{KeepsUnitRule}
-use Rattle.turn_rules.specs.NextEvent.{movers_in}
+use Rattle.turn_rules.specs.NextEvent.{movers_in, line_has_place}
 use Rattle.turn_rules.specs.QuietRun.{HasRun}
 use Rattle.turn_rules.proofs.WaitOrder.{without-mover}
-use Rattle.turn_rules.proofs.LegalRuns.{legal-run}
 use Rattle.turn_rules.proofs.ListTests.{filter-none}
 use Rattle.run_books.specs.Beginnings.{Outset, basis_of}
 use Rattle.run_books.specs.Books.{Books}
@@ -56,8 +54,8 @@ module _ (tells : Bool) (o : Outset) (b : Books) (at : Stage)
       ∙ ap (λ (us : List UnitNo). map OfUnit us ++ (if has_step (settler_step (ends at.run)) then OfSettler ∷ [] else [])) (filter-none (can_move o.program.types (ends at.run) (got_in at.run)) (units_of at.run (ends at.run)) (λ u m. still u))
       ∙ ap (λ (s : Bool). if s then OfSettler ∷ [] else []) (ap has_step n.rests)
 
-  -- and no line can begin
-  over : line_can_begin 1 (ends at.run).units.lines at.run (ends at.run) ≡ false
+  -- and no line has a place
+  over : line_has_place 1 (ends at.run).units.lines at.run ≡ false
   over = by (is_none (ends at.run).manager.doubt) (nat_lt (in_flight at.run (ends at.run)) 1)
     where
       by : (x y : Bool) → (x && (y && nat_lt (ends at.run).units.lines (ends at.run).units.lines)) ≡ false
@@ -66,11 +64,11 @@ module _ (tells : Bool) (o : Outset) (b : Books) (at : Stage)
       by false y = refl
 
   all-run : HasRun (ends at.run).units.lines (ends at.run)
-  all-run = without-mover o.program.types (λ (e : Effect). true) at.run 1 (ends at.run).units.lines (legal-run (basis_of o) at.run above units) n.sure n.going nobody (omega arith) over
+  all-run = without-mover o.program.types at.run 1 (ends at.run).units.lines above n.sure n.going nobody (omega arith) over
 
   pub carried-all : HasCarriedAll o at
   carried-all =
-      let once : EntriesAreOnce (ends at.run) = once-ends (λ (e : Effect). true) at.run (legal-run (basis_of o) at.run above units) in
+      let once : EntriesAreOnce (ends at.run) = once-ends at.run above in
       let le = once.written in
       let ge = all-run.quiet.written in
       let few = n.lines in

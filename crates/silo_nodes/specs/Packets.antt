@@ -1,19 +1,15 @@
 -- Transactions, shifts and packets.
-use Rattle.std.specs.Prelude.{List, [], ◌∷◌, Bool, true, ◌&&◌, not, ◌==◌, if◌then◌else◌, ◌≡◌, ◌⊎◌, ℤ, pos, ◌+ℤ◌, ⊤}
+use Rattle.std.specs.Prelude.{List, [], ◌∷◌, Bool, true, ◌&&◌, not, ◌==◌, if◌then◌else◌, ℤ, pos, ◌+ℤ◌, ⊤}
 pub use Rattle.std.specs.List.{list_any as any, list_all as all}
 pub use Rattle.base_types.specs.declared.calls.GrainId.{GrainId}
 pub use Rattle.base_types.specs.Grains.{same_grain, is_before}
+pub use Rattle.base_types.specs.Lists.{Member}
 pub use Rattle.silo_nodes.specs.declared.packets.TxnId.{TxnId}
 pub use Rattle.silo_nodes.specs.declared.packets.Shift.{Shift}
 pub use Rattle.silo_nodes.specs.declared.packets.Packet.{Packet}
 pub use Rattle.silo_nodes.specs.declared.packets.Packet.TheVariants.{Prepare, Vote, Decision, Ask}
 pub use Rattle.silo_nodes.specs.declared.packets.NodeEntry.{NodeEntry}
 pub use Rattle.silo_nodes.specs.declared.packets.NodeEntry.TheVariants.{Prepared, Done}
-
--- x is in the list
-abbrev pub Member : {A : Type 0} → A → List A → Type 0
-Member x [] = ⊥
-Member x (y ∷ ys) = (x ≡ y) ⊎ Member x ys
 
 -- no element stands twice in the list
 abbrev pub Distinct : {A : Type 0} → List A → Type 0

@@ -12,6 +12,7 @@ use Rattle.host_trait.specs.declared.channels.FileId.{FileId}
 use Rattle.host_trait.specs.declared.channels.FileId.TheVariants.{Grain}
 use Rattle.host_trait.specs.Files.{same_grain}
 use Rattle.host_trait.specs.World.{Image}
+use Rattle.field_codec.specs.declared.formats.Format.TheVariants.{One}
 use Rattle.field_codec.proofs.Counts.{wide64}
 use Rattle.field_codec.proofs.Readers.{past}
 use Rattle.grain_log.specs.Reads.{fields_of, is_beyond, is_owned, in_file, text_in, version_of, version_at_place}
@@ -29,20 +30,20 @@ own_place : (b : Bool) (place : ℕ) (r : Result Version ℕ) (v : Version) → 
 own_place true place r v e = (refl, e)
 own_place false place r v e = absurd cc
 
-within_by : (fields : Option ℕ) (place : Place) (file : List ℕ) (v : Version) → version_at_place fields place file ≡ Ok v → place.len ≤ length file - place.offset
+within_by : (fields : Option ℕ) (place : Place) (file : List ℕ) (v : Version) → version_at_place One fields place file ≡ Ok v → place.len ≤ length file - place.offset
 within_by None place file v e = absurd cc
 within_by (Some fields) place file v e =
-    let one = past (is_beyond place) place.offset (text_in fields place file) v e in
+    let one = past (is_beyond One place) place.offset (text_in One fields place file) v e in
     let two = past (ltb (length file - place.offset) place.len) place.offset (in_file place.offset (version_of fields (take place.len (drop place.offset file)))) v one.1 in
     ltb-false _ _ two.0
 
 module _ (live : ℕ) (shape : Shape) (image : Image) where
   -- the version that is named ends in its file
-  named_lies : (n : Named) (v : Version) → version_named live shape image n ≡ Ok v → n.written.place.offset + n.written.place.len ≤ length (image (Grain live n.written.grain))
+  named_lies : (n : Named) (v : Version) → version_named live One shape image n ≡ Ok v → n.written.place.offset + n.written.place.len ≤ length (image (Grain live n.written.grain))
   named_lies n v e =
       let file = image (Grain live n.written.grain) in
       let place = n.written.place in
-      let found = own_place (is_owned n.unit place file) place.offset (version_at_place (fields_of (slice_get shape.types n.written.grain.kind)) place file) v e in
+      let found = own_place (is_owned n.unit place file) place.offset (version_at_place One (fields_of (slice_get shape.types n.written.grain.kind)) place file) v e in
       let own = (bytes_eq-Decides (take 8 (drop place.offset file)) (to_le_bytes w64 n.unit.0)).0 found.0 in
       let eight : length (take 8 (drop place.offset file)) ≡ length (to_le_bytes w64 n.unit.0) = ap length own in
       let short = within_by (fields_of (slice_get shape.types n.written.grain.kind)) place file v found.1 in
@@ -61,10 +62,10 @@ module _ (live : ℕ) (shape : Shape) (image : Image) where
   one_lies size end e false here lies = lies
 
   -- so does each end that is kept of versions that are there
-  pub ends_lie : (named : List Named) → first_missing live shape image named ≡ None → (g : GrainId) (e : Option ℕ) → LiesIn (length (image (Grain live g))) e → LiesIn (length (image (Grain live g))) (end_after e named g)
+  pub ends_lie : (named : List Named) → first_missing live One shape image named ≡ None → (g : GrainId) (e : Option ℕ) → LiesIn (length (image (Grain live g))) e → LiesIn (length (image (Grain live g))) (end_after e named g)
   ends_lie [] whole g e lies = lies
   ends_lie (n ∷ named) whole g e lies =
-      let t = there_by n.written.grain (version_named live shape image n) (first_missing live shape image named) whole in
+      let t = there_by n.written.grain (version_named live One shape image n) (first_missing live One shape image named) whole in
       let end = n.written.place.offset + n.written.place.len in
       let here : same_grain n.written.grain g ≡ true → end ≤ length (image (Grain live g)) = λ same.
       subst (λ (h : GrainId). end ≤ length (image (Grain live h))) (same_grain-true n.written.grain g same) (named_lies n t.0.0 t.0.1) in

@@ -3,7 +3,7 @@ pub mod ManagerLook
 pub mod GateClosing
 pub mod FolderFilling
 pub mod Outcomes
-pub mod Runs
+pub mod OpeningCalls
 pub mod LogStates
 pub mod WholeReadings
 pub mod FileEnds

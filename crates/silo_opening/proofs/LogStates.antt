@@ -8,6 +8,7 @@ use Rattle.base_types.specs.declared.calls.Value.{Value}
 use Rattle.base_types.specs.declared.shapes.Shape.{Shape}
 use Rattle.host_trait.specs.Files.{same_grain}
 use Rattle.host_trait.specs.World.{Image}
+use Rattle.field_codec.specs.declared.formats.Format.TheVariants.{One}
 use Rattle.commit_log.specs.declared.records.CommitRecord.{CommitRecord}
 use Rattle.commit_log.specs.declared.records.Written.{Written}
 use Rattle.commit_log.specs.declared.records.Named.{Named}
@@ -23,7 +24,7 @@ module _ (live : ℕ) (shape : Shape) (image : Image) where
   State = Option (List Value)
 
   abbrev step : State → Named → GrainId → State
-  step s n g = if same_grain n.written.grain g then Some (state_of (version_named live shape image n)) else s
+  step s n g = if same_grain n.written.grain g then Some (state_of (version_named live One shape image n)) else s
 
   -- the states after these records
   abbrev after_log : States → List CommitRecord → States
@@ -33,7 +34,7 @@ module _ (live : ℕ) (shape : Shape) (image : Image) where
   named_of unit w = record { unit = unit; written = w }
 
   abbrev state_at : UnitNo → Written → List Value
-  state_at unit w = state_of (version_named live shape image (named_of unit w))
+  state_at unit w = state_of (version_named live One shape image (named_of unit w))
 
   put_same : (b : Bool) (s : State) (old new d : List Value) → unwrap_or s d ≡ old → unwrap_or (if b then Some new else s) d ≡ (if b then new else old)
   put_same true s old new d e = refl
@@ -41,20 +42,20 @@ module _ (live : ℕ) (shape : Shape) (image : Image) where
 
   -- the writes of one record
   over_writes : (unit : UnitNo) (ws : List Written) (more : List Named) (s : State) (states : States) (g : GrainId) (d : List Value) → unwrap_or s d ≡ states g
-      → (t : State) × (state_after live shape image s (map (named_of unit) ws ++ more) g ≡ state_after live shape image t more g) × (unwrap_or t d ≡ fold put_state states (zip (map (λ (w : Written). w.grain) ws) (map (state_at unit) ws)) g)
+      → (t : State) × (state_after live One shape image s (map (named_of unit) ws ++ more) g ≡ state_after live One shape image t more g) × (unwrap_or t d ≡ fold put_state states (zip (map (λ (w : Written). w.grain) ws) (map (state_at unit) ws)) g)
   over_writes unit [] more s states g d e = (s, refl, e)
   over_writes unit (w ∷ ws) more s states g d e =
       over_writes unit ws more (step s (named_of unit w) g) (put_state states (w.grain, state_at unit w)) g d (put_same (same_grain w.grain g) s (states g) (state_at unit w) d e)
 
   over_records : (rs : List CommitRecord) (s : State) (states : States) (g : GrainId) (d : List Value) → unwrap_or s d ≡ states g
-      → unwrap_or (state_after live shape image s (named_by rs) g) d ≡ after_log states rs g
+      → unwrap_or (state_after live One shape image s (named_by rs) g) d ≡ after_log states rs g
   over_records [] s states g d e = e
   over_records (r ∷ rs) s states g d e =
       let t = over_writes r.unit r.writes (named_by rs) s states g d e in
       ap (λ (x : State). unwrap_or x d) t.1 ∙ over_records rs t.0 (after_writes states (commit_of live shape image r)) g d t.2
 
-  pub counts : (states : States) (records : List CommitRecord) (g : GrainId) → unwrap_or (state_after live shape image None (named_by_grain (named_by records)) g) (states g) ≡ after_log states records g
-  counts states records g = ap (λ (x : State). unwrap_or x (states g)) (in_any_order live shape image None (named_by records) g) ∙ over_records records None states g (states g) refl
+  pub counts : (states : States) (records : List CommitRecord) (g : GrainId) → unwrap_or (state_after live One shape image None (named_by_grain (named_by records)) g) (states g) ≡ after_log states records g
+  counts states records g = ap (λ (x : State). unwrap_or x (states g)) (in_any_order live One shape image None (named_by records) g) ∙ over_records records None states g (states g) refl
 
   -- ---- a standing is three folds
 

@@ -1,19 +1,14 @@
--- The steps of opening: one sync, and what was opened.
-use Rattle.std.proofs.Common.{◌≡◌, inl, inr, ℕ, ◌+◌, true, Option, Some, None, List, map, length, Ok, sym, ◌∙◌, ap, subst, arith}
+-- What was read, as an opened silo.
+use Rattle.std.proofs.Common.{◌≡◌, ℕ, ◌+◌, true, Option, Some, None, List, map, length, Ok, sym, ◌∙◌, ap, subst, arith}
 use Rattle.std.specs.Prelude.{unwrap_or}
 use Rattle.base_types.specs.declared.calls.Value.{Value}
 use Rattle.base_types.specs.Stores.{end_in}
-use Rattle.host_trait.specs.declared.channels.FileId.{FileId}
 use Rattle.host_trait.specs.declared.channels.FileId.TheVariants.{Manager, Program as ProgramFile, Grain}
-use Rattle.host_trait.specs.Disk.{FileState}
-use Rattle.host_trait.specs.World.{World, Image, Asked, Synced}
-use Rattle.host_trait.specs.Runs.{RunsOnFile, OnlyAsked}
-use Rattle.host_trait.proofs.Names.{cases_file}
-use Rattle.host_trait.proofs.Runs.{asked_then, none_asked, once_asked}
+use Rattle.host_trait.specs.World.{Image}
+use Rattle.field_codec.specs.declared.formats.Format.TheVariants.{One}
 use Rattle.commit_log.specs.declared.records.CommitRecord.{CommitRecord}
 use Rattle.log_reading.specs.Versions.{named_by, named_by_grain}
 use Rattle.log_reading.specs.Sums.{end_after}
-use Rattle.log_reading.specs.Steps.{seen_in}
 use Rattle.log_reading.specs.Contents.{HasContents}
 use Rattle.script_tree.specs.Programs.{program_tree}
 use Rattle.promise_spec.specs.Programs.{Program, shape_in}
@@ -22,30 +17,11 @@ use Rattle.promise_spec.specs.Entries.{Recorded, new_silo, new_log, grown}
 use Rattle.promise_spec.proofs.Standings.{in_force, records_back}
 use Rattle.promise_spec.specs.Openings.{is_silo, program_in_file, commit_of, live_in}
 use Rattle.silo_opening.specs.declared.opened_silo.Opened.{Opened}
-use Rattle.silo_opening.specs.Steps.{SyncsOnce}
-use Rattle.silo_opening.specs.OpenedSilo.{Stays, IsOpenedFrom}
+use Rattle.silo_opening.specs.OpenedSilo.{IsOpenedFrom}
 use Rattle.silo_opening.proofs.LogStates.{counts, count_is, next_is, states_are, logged_of}
 use Rattle.silo_opening.proofs.WholeReadings.{reads_log}
 use Rattle.silo_opening.proofs.FileEnds.{ends_lie, end_lies}
 use Rattle.silo_opening.proofs.Gates.{closed_at}
-
--- a run on one file that leaves its bytes leaves what every file reads
-pub seen_same : (one : FileId) (old new : World) → RunsOnFile one Stays 1 old new → seen_in new.disk ≡ seen_in old.disk
-seen_same one old new run = λ i file. each file i
-  where
-    each : (file : FileId) → (new.disk file).seen ≡ (old.disk file).seen
-    each file = elim (cases_file file one) [
-      | inl this ↦ subst (λ (f : FileId). (new.disk f).seen ≡ (old.disk f).seen) (sym this) run.seen
-      | inr other ↦ ap (λ (s : FileState). s.seen) (run.now.others file other)
-    ]
-
--- one sync, and then calls that only asked
-pub once_more : (slot : ℕ) (old mid new : World) → SyncsOnce slot old mid → OnlyAsked mid new → SyncsOnce slot old new
-once_more slot old mid new s asked = record { before = s.before; after = s.after; asked = s.asked; sync = s.sync; more = asked_then s.after mid new s.more asked }
-
--- one sync behind a call that asked
-pub once_made : (slot : ℕ) (old mid new : World) → Asked old mid → Synced (Manager slot) true mid new → SyncsOnce slot old new
-once_made slot old mid new a s = record { before = mid; after = new; asked = once_asked old old mid (none_asked old) a; sync = s; more = none_asked new }
 
 none_more : (n : ℕ) → 0 + n ≡ n
 none_more n = omega arith
@@ -53,7 +29,7 @@ none_more n = omega arith
 -- what was read, as an opened silo
 pub is_opened : (image : Image) (text : List ℕ) (o : Opened) → live_in image ≡ Some o.slot → is_silo (image (Manager o.slot)) ≡ true
     → program_in_file (image (ProgramFile o.slot)) ≡ Ok (record { text = text; types = program_tree o.checked })
-    → HasContents o.slot (shape_in (record { text = text; types = program_tree o.checked })) image (record { count = o.count; next_unit = o.next_unit; gate_at = o.gate_at; store = o.store; ends = o.ends }) → IsOpenedFrom image o
+    → HasContents o.slot One (shape_in (record { text = text; types = program_tree o.checked })) image (record { count = o.count; next_unit = o.next_unit; gate_at = o.gate_at; store = o.store; ends = o.ends }) → IsOpenedFrom image o
 is_opened image text o found silo program h =
     let slot : ℕ = o.slot in
     let p : Program = record { text = text; types = program_tree o.checked } in

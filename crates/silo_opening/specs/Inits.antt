@@ -1,5 +1,5 @@
 -- How a call of `init` is seen.
-use Rattle.std.specs.Prelude.{ℕ, List, Option, Some, None, Result, Ok, Err}
+use Rattle.std.specs.Prelude.{ℕ, List, Option, Some, None, Result, Ok, Err, false}
 use Rattle.host_trait.specs.declared.channels.Channel.{Channel}
 use Rattle.host_trait.specs.World.{World}
 use Rattle.program_file.specs.declared.faults.ProgramFault.{ProgramFault}
@@ -39,4 +39,4 @@ ending_of (Err InitFault.Memory) = ending.Memory
 -- what a call shows that ended with this answer
 abbrev pub ended_with : {A : Type 0} → Manner → List (List ℕ) → World → World → (Channel → ℕ) → (Channel → ℕ) → Result A InitFault → Observed
 ended_with manner asked old new before after result =
-    record { manner = manner; asked = asked; old = old; new = new; faults_before = before; faults_after = after; ending = ending_of result }
+    record { manner = manner; asked = asked; windowed = false; old = old; new = new; faults_before = before; faults_after = after; ending = ending_of result }

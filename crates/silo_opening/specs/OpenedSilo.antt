@@ -18,10 +18,6 @@ use Rattle.promise_spec.specs.Endings as ending
 use Rattle.silo_opening.specs.declared.faults.OpenFault.{OpenFault}
 use Rattle.silo_opening.specs.declared.opened_silo.Opened.{Opened}
 
--- the bytes are as they were
-abbrev pub Stays : List ℕ → List ℕ → Type 0
-Stays old new = new ≡ old
-
 -- the first byte is 1, and the next eight are the magic
 abbrev pub is_header : List ℕ → Bool
 is_header file = (slice_index file 0 == 1) && bytes_eq (take 8 (drop 1 file)) magic

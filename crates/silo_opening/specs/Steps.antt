@@ -1,5 +1,5 @@
--- The steps of `create`.
-use Rattle.std.specs.Prelude.{◌≡◌, ◌≢◌, ◌⊎◌, ℕ, ◌<◌, Bool, true, List, [], length, take, drop, slice_index}
+-- The steps of `create` and of `open_silo`.
+use Rattle.std.specs.Prelude.{◌≡◌, ◌≢◌, ◌⊎◌, ℕ, ◌<◌, ◌≤◌, Bool, true, List, [], length, take, drop, slice_index}
 use Rattle.host_trait.specs.declared.channels.FileId.{FileId}
 use Rattle.host_trait.specs.declared.channels.FileId.TheVariants.{Manager}
 use Rattle.host_trait.specs.Disk.{FileState, Tears, settled}
@@ -43,6 +43,17 @@ pub record SyncsOnce (slot : ℕ) (old new : World) : Type 0 where
   pub asked : OnlyAsked old before
   pub sync : Synced (Manager slot) true before after
   pub more : OnlyAsked after new
+
+-- a slot's manager file was synced once where it has 16 bytes or more, and beside that there was nothing but asking
+abbrev pub Settles : ℕ → World → World → Type 0
+Settles slot old new =
+    ((16 ≤ length (old.disk (Manager slot)).seen) × SyncsOnce slot old new) ⊎ ((length (old.disk (Manager slot)).seen < 16) × OnlyAsked old new)
+
+-- slot 0's, and then slot 1's
+pub record SettlesBoth (old new : World) : Type 0 where
+  pub between : World
+  pub first : Settles 0 old between
+  pub second : Settles 1 between new
 
 -- whether slot 0's file had to be synced before it was read
 abbrev pub SyncsFor : Front → World → World → Type 0

@@ -2,3 +2,4 @@ pub mod Silos
 pub mod Slots
 pub mod Moments
 pub mod Creation
+pub mod OpenedDisks

@@ -1,9 +1,14 @@
 -- Whether an image is a silo, and of which program. The magic is the eight bytes after the header gate.
-use Rattle.std.specs.Prelude.{◌≡◌, ℕ, ◌+◌, ◌≤◌, List, [], ◌∷◌, ◌++◌, length, take, drop, slice_index}
+use Rattle.std.specs.Prelude.{◌≡◌, ◌⊎◌, ℕ, ◌+◌, ◌≤◌, List, [], ◌∷◌, ◌++◌, length, take, drop, slice_index}
 use Rattle.std.specs.Int.{w32, to_le_bytes}
 pub use Rattle.host_trait.specs.Files.{manager, program_file}
+use Rattle.host_trait.specs.declared.channels.FileId.{FileId}
 use Rattle.host_trait.specs.World.{Image}
 use Rattle.gate_block.specs.Log.{bodies_of, IsWhole}
+
+-- one of the two files that making a silo writes
+abbrev pub IsMadeFile : FileId → Type 0
+IsMadeFile file = (file ≡ manager) ⊎ (file ≡ program_file)
 
 -- a manager file of at least 16 bytes, whose first byte, the header gate, is 1 and is followed by the magic
 pub record IsSilo (magic file : List ℕ) : Type 0 where

@@ -67,8 +67,8 @@ module _ (old new : Counts) where
   failed_output (InputTooLong line) f other = absurd (other (f Output))
 
   -- so a run that names exactly the call that failed answers as a run does
-  pub exactly_answers : (e : Ending) → e ≢ BadUse → HasFailedAs e old new → AnswersRun e old new
-  exactly_answers e good f = record {
+  pub exactly_answers : (may : Ending → Type 0) (e : Ending) → e ≢ BadUse → HasFailedAs e old new → AnswersRun may e old new
+  exactly_answers may e good f = record {
     good = good;
     risen = failed_risen e f;
     input = failed_input e f;
@@ -90,5 +90,5 @@ module _ (old new : Counts) where
   open_good OpenFault.Memory q = cc q
 
 -- where nothing failed before
-pub answers_behind : (e : Ending) (old mid new : Counts) → NoneFailed old mid → AnswersRun e mid new → AnswersRun e old new
-answers_behind e old mid new none a = subst (λ (f : Counts). AnswersRun e f new) (λ i c. none c i) a
+pub answers_behind : (may : Ending → Type 0) (e : Ending) (old mid new : Counts) → NoneFailed old mid → AnswersRun may e mid new → AnswersRun may e old new
+answers_behind may e old mid new none a = subst (λ (f : Counts). AnswersRun may e f new) (λ i c. none c i) a

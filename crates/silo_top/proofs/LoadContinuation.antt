@@ -12,7 +12,7 @@ use Rattle.request_wire.specs.declared.requests.Line.{Line}
 use Rattle.script_tree.specs.Programs.{program_tree}
 use Rattle.settle_loop.specs.declared.settler.Settler.{Settler}
 use Rattle.run_books.specs.declared.faults.RunFault.{RunFault}
-use Rattle.promise_spec.specs.Endings.{Ending}
+use Rattle.promise_spec.specs.Endings.{Ending, IsLoadCarried}
 use Rattle.promise_spec.specs.Words.{Manner}
 use Rattle.promise_spec.specs.Loads.{bank_text, load_calls, AskFor}
 use Rattle.bank_load.specs.Requests.{load_texts}
@@ -36,25 +36,25 @@ use Rattle.run_books.specs.Stages.{side_by, stage_by}
 -- over a host that tells
 pub load_carries : (n seed : ℕ) (m : Manner) (x : Opened) (st : Started) (old mid new : World) (before between after : Channel → ℕ) (result : Result Core RunFault) → IsBehindOpening old mid x → IsStartOf x st
     → program_in bank_text ≡ Ok (program_tree x.checked) → IsNewBank old → ReadsMayStay mid → ReadsMayStay new → st.settler.quiet ≡ true → (lines : List Line) → AreReadFrom (program_tree x.checked) 0 (load_texts n seed) lines
-    → 0 < m.width → 0 < x.next_unit.0 → NoneFailed before between → (settler' : Settler) → CarriedLines true m (program_tree x.checked) lines (stage_by (run_of st.core) st.settler between mid) (side_by settler' after new) result
+    → 0 < m.width → 0 < x.next_unit.0 → NoneFailed before between → (settler' : Settler) (used : ℕ) → CarriedLines true m (program_tree x.checked) lines 0 used (stage_by (run_of st.core) st.settler between mid) (side_by settler' after new) result
     → AskFor (program_tree x.checked) (load_texts n seed) (load_calls n seed) → (requests : ℕ) → requests ≡ length (load_texts n seed) → (status : Status) (final : Channel → ℕ) (last : World)
     → LoadCounts x.slot result status after final → LoadSays result requests status new last → CarriesLoad n seed (observed_call m (load_texts n seed) old last before final status)
-load_carries n seed m x st old mid new before between after (Err fault) behind start bank_is bank stay_mid stay_new quiet lines are wide above none settler' carried asks requests many status final last counts says =
+load_carries n seed m x st old mid new before between after (Err fault) behind start bank_is bank stay_mid stay_new quiet lines are wide above none settler' used carried asks requests many status final last counts says =
     subst (λ (w : World). CarriesLoad n seed (observed_call m (load_texts n seed) old w before final status)) (sym says)
     (subst (λ (f : Channel → ℕ). CarriesLoad n seed (observed_call m (load_texts n seed) old new before f status)) (sym counts.1)
-    (failed_carries n seed m x st old mid new before between after (Err fault) behind start bank_is bank stay_mid stay_new quiet lines are wide above none carried.left settler' carried.carries carried.beside asks fault refl status counts.0))
-load_carries n seed m x st old mid new before between after (Ok core) behind start bank_is bank stay_mid stay_new quiet lines are wide above none settler' carried asks requests many status final last counts says =
-    summed_carries n seed m x st old mid new before between after (Ok core) behind start bank_is bank stay_mid stay_new quiet lines are wide above none carried.left settler' carried.carries carried.beside asks core refl status last final requests many
+    (failed_carries n seed m x st old mid new before between after (Err fault) behind start bank_is bank stay_mid stay_new quiet lines are wide above none carried.left settler' used carried.carries carried.beside asks fault refl status counts.0))
+load_carries n seed m x st old mid new before between after (Ok core) behind start bank_is bank stay_mid stay_new quiet lines are wide above none settler' used carried asks requests many status final last counts says =
+    summed_carries n seed m x st old mid new before between after (Ok core) behind start bank_is bank stay_mid stay_new quiet lines are wide above none carried.left settler' used carried.carries carried.beside asks core refl status last final requests many
     (subst (λ (r : Run). SaysSummary (summary_line (ends r).manager.settled requests (total_kept (ends r) 64)) (status_ending status) new last) carried.core says)
     counts.0 counts.1
 
 -- over any host
 pub load_answers : (tells : Bool) (n seed : ℕ) (m : Manner) (x : Opened) (st : Started) (mid new : World) (between after : Channel → ℕ) (result : Result Core RunFault) → IsStartOf x st → st.settler.quiet ≡ true → (lines : List Line)
-    → AreReadFrom (program_tree x.checked) 0 (load_texts n seed) lines → 0 < m.width → 0 < x.next_unit.0 → (settler' : Settler)
-    → CarriedLines tells m (program_tree x.checked) lines (stage_by (run_of st.core) st.settler between mid) (side_by settler' after new) result → (status : Status) (final : Channel → ℕ) → LoadCounts x.slot result status after final → AnswersRun (status_ending status) between final
-load_answers tells n seed m x st mid new between after (Err fault) start quiet lines are wide above settler' carried status final counts =
-    subst (λ (f : Channel → ℕ). AnswersRun (status_ending status) between f) (sym counts.1)
-    (subst (λ (e : Ending). AnswersRun e between after) (sym counts.0)
-    (turns_faulted tells m x st (load_texts n seed) lines mid new between after (Err fault) carried.left settler' start quiet wide above are carried.carries carried.beside fault refl))
-load_answers tells n seed m x st mid new between after (Ok core) start quiet lines are wide above settler' carried status final counts =
+    → AreReadFrom (program_tree x.checked) 0 (load_texts n seed) lines → 0 < m.width → 0 < x.next_unit.0 → (settler' : Settler) (used : ℕ)
+    → CarriedLines tells m (program_tree x.checked) lines 0 used (stage_by (run_of st.core) st.settler between mid) (side_by settler' after new) result → (status : Status) (final : Channel → ℕ) → LoadCounts x.slot result status after final → AnswersRun IsLoadCarried (status_ending status) between final
+load_answers tells n seed m x st mid new between after (Err fault) start quiet lines are wide above settler' used carried status final counts =
+    subst (λ (f : Channel → ℕ). AnswersRun IsLoadCarried (status_ending status) between f) (sym counts.1)
+    (subst (λ (e : Ending). AnswersRun IsLoadCarried e between after) (sym counts.0)
+    (turns_faulted tells m x st (load_texts n seed) lines mid new between after (Err fault) carried.left settler' used start quiet wide above are carried.carries carried.beside fault refl))
+load_answers tells n seed m x st mid new between after (Ok core) start quiet lines are wide above settler' used carried status final counts =
     summary_answers (status_ending status) between after final counts.1 counts.0 carried.beside.pulled (carried.beside.calm quiet)

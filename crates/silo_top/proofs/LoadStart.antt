@@ -17,7 +17,7 @@ use Rattle.promise_spec.proofs.Openings.{program_checked, log_is_read, reads_is}
 use Rattle.promise_spec.proofs.WholeFolders.{whole_folder}
 use Rattle.promise_laws.proofs.SoundFolders.{fresh, new_folder}
 use Rattle.promise_laws.specs.Closings.{ReadsMayStay}
-use Rattle.opening_rules.specs.RunsBehindOpening.{program_of}
+use Rattle.command_rules.specs.RunsBehindOpening.{program_of}
 use Rattle.script_tree.specs.declared.programs.Program.{Program as Tree}
 use Rattle.silo_opening.specs.OpenedSilo.{IsOpenedFrom}
 use Rattle.silo_opening.specs.declared.opened_silo.Opened.{Opened}
@@ -69,8 +69,9 @@ same_opened x bank seen same is = record {
 pub same_behind : (x : Opened) (bank : Tree) (old mid : World) → program_in bank_text ≡ Ok (program_tree bank) → IsNewBank old → ReadsMayStay old → IsBehindOpening old mid x → IsBehindOpening old mid (with_checked x bank)
 same_behind x bank old mid reads new stay is = record {
   opened = same_opened x bank (seen_in old.disk) (ap (λ (p : Program). p.types) (opened_same (program_tree bank) reads x (seen_in old.disk) (new (seen_in old.disk) stay) is.opened).0) is.opened;
-  settled = is.settled;
+  left = is.left;
   count = is.count;
+  left = is.left;
   run = is.run;
   stays = is.stays;
 }

@@ -1,5 +1,5 @@
 -- A report of a folder, as a call shows it.
-use Rattle.std.proofs.Common.{◌≡◌, ℕ, List, Result, sym, subst}
+use Rattle.std.proofs.Common.{◌≡◌, ℕ, List, Result, sym, subst, false}
 use Rattle.host_trait.specs.declared.channels.Channel.{Channel}
 use Rattle.host_trait.specs.World.{World}
 use Rattle.promise_spec.specs.Words.{Manner}
@@ -15,4 +15,4 @@ use Rattle.silo_top.proofs.ShownCalls.{observed_call}
 pub reported : {A : Type 0} (Obeys : Observed → Type 0) (m : Manner) (asked : List (List ℕ)) (old new : World) (before after : Channel → ℕ) (result : Result A ReportFault) (status : Status) → status_ending status ≡ report_ending result
     → Obeys (reported_as m asked old new before after result) → Obeys (observed_call m asked old new before after status)
 reported Obeys m asked old new before after result status is obeys =
-    subst (λ (e : Ending). Obeys (record { manner = m; asked = asked; old = old; new = new; faults_before = before; faults_after = after; ending = e })) (sym is) obeys
+    subst (λ (e : Ending). Obeys (record { manner = m; asked = asked; windowed = false; old = old; new = new; faults_before = before; faults_after = after; ending = e })) (sym is) obeys

@@ -1,5 +1,5 @@
 -- What a call shows, in a manner and with lines that are given.
-use Rattle.std.specs.Prelude.{ℕ, List}
+use Rattle.std.specs.Prelude.{ℕ, true, false, List}
 use Rattle.host_trait.specs.declared.channels.Channel.{Channel}
 use Rattle.host_trait.specs.World.{World}
 use Rattle.request_wire.specs.Lines.{lines_of}
@@ -12,6 +12,7 @@ abbrev pub observed_call : Manner → List (List ℕ) → World → World → (C
 observed_call m asked old new before after status = record {
   manner = m;
   asked = asked;
+  windowed = false;
   old = old;
   new = new;
   faults_before = before;
@@ -19,6 +20,6 @@ observed_call m asked old new before after status = record {
   ending = status_ending status;
 }
 
--- a run, which is asked the lines of its input
+-- a run, which is asked the lines of its input, in windows
 abbrev pub observed_run : Manner → World → World → (Channel → ℕ) → (Channel → ℕ) → Status → Observed
-observed_run m old new before after status = observed_call m (lines_of old.input) old new before after status
+observed_run m old new before after status = record (observed_call m (lines_of old.input) old new before after status) { windowed = true }

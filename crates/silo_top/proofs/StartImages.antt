@@ -19,7 +19,7 @@ use Rattle.batch_disk.specs.ImagesAtRest.{EachImage}
 use Rattle.batch_disk.specs.declared.writer.BatchWriter.{BatchWriter}
 use Rattle.run_books.specs.Beginnings.{Outset, basis_of}
 use Rattle.run_books.specs.Images.{LeavesAside, KeepsFolder, LastsSo}
-use Rattle.silo_top.specs.InputReads.{PulledOnly}
+use Rattle.input_windows.specs.Pulls.{PulledOnly}
 use Rattle.silo_top.proofs.TurnStart.{start_run, no_books, none_applies}
 
 module _ (o : Outset) (head : List ℕ) (base kinds : ℕ) (opening : GrainId → List Value) (writer : BatchWriter) (now : World) (pulled : PulledOnly o.world now) (all : AllLog o.live o.opening o.world.disk) where

@@ -10,17 +10,16 @@ use Rattle.script_tree.specs.Programs.{ProgramTree}
 use Rattle.core_model.specs.CoreState.{GrainId, Value}
 use Rattle.core_model.specs.declared.events.CoreEvent.{CoreEvent}
 use Rattle.core_model.specs.LegalRuns.{Run, ends}
-use Rattle.core_access.specs.OneHolder.{own_sight}
 use Rattle.promise_spec.specs.Cores.{AppliesAt}
 use Rattle.promise_spec.specs.Lines.{ReadsLineAs}
 use Rattle.promise_spec.specs.Causes.{RoseBy}
-use Rattle.txn_agent.specs.CoreLink.{IsLegalRun}
-use Rattle.worker_rules.specs.SharedHistories.{NoneLoads}
+use Rattle.promise_spec.specs.TurnRule.{at_seam}
 use Rattle.settle_loop.specs.declared.settler.Settler.{Settler}
 use Rattle.run_books.specs.Beginnings.{Outset, CanTurn, IsOutset}
 use Rattle.run_books.specs.Books.{Books, IsPutOut}
+use Rattle.run_books.specs.Records.{HasCarriedAll}
 use Rattle.interleaver.specs.Turns.{KeepsTurns, IsFreshRecord}
-use Rattle.silo_top.specs.InputReads.{PulledOnly}
+use Rattle.input_windows.specs.Pulls.{PulledOnly}
 use Rattle.silo_top.proofs.InputPieces.{still_file}
 use Rattle.silo_top.proofs.ReadLines.{AreReadFrom, as_many, go_up, read_as}
 use Rattle.run_books.specs.Stages.{stage_by}
@@ -51,13 +50,6 @@ few_syncs n m is = omega (arith, is)
 module _ (base kinds : ℕ) (opening : GrainId → List Value) where
   abbrev r : Run
   r = start_run base kinds opening
-
-  -- the core may be gone on with
-  pub starts_legal : 0 < base → IsLegalRun (own_sight r).first
-  starts_legal above = record { above = above; effects = tt; loads = tt }
-
-  pub starts_unloaded : NoneLoads (own_sight r).mine
-  starts_unloaded e there = absurd there
 
   -- nothing was put out
   none_put : (quiet : Bool) → IsPutOut quiet no_books (ends r)
@@ -118,8 +110,8 @@ module _ (base kinds : ℕ) (opening : GrainId → List Value) where
 
   -- and what is told from outside is theirs
   pub starts_outset : (o : Outset) (types : ProgramTree) (texts : List (List ℕ)) (lines : List Line) (width : ℕ) (picks : List ℕ) → AreReadFrom types 0 texts lines → kinds ≡ length types
-      → o.program.types ≡ types → o.asked ≡ texts → o.width ≡ width → 0 < width → o.picks ≡ picks → IsOutset o types r lines width picks
-  starts_outset o types texts lines width picks are kinds_is types_are asked width_is wide picks_are = record {
+      → o.program.types ≡ types → o.asked ≡ texts → o.width ≡ width → 0 < width → o.picks ≡ picks → ((n : ℕ) → 0 < n → n < length o.asked → at_seam o.windowed n ≡ false) → IsOutset o types r lines width picks
+  starts_outset o types texts lines width picks are kinds_is types_are asked width_is wide picks_are inner = record {
     types_are = types_are;
     kinds = kinds_is;
     width_is = width_is;
@@ -127,4 +119,24 @@ module _ (base kinds : ℕ) (opening : GrainId → List Value) where
     picks_are = picks_are;
     all = omega (arith, ap length asked, as_many types 0 texts lines are);
     reads = λ at line is. subst (λ (l : List (List ℕ)). ReadsLineAs types l (0 + at + 1) line.what) (sym asked) (read_as types texts lines are at line is);
+    inner = inner;
+  }
+
+  -- all of no lines is carried
+  pub starts_carried : (o : Outset) (s : Settler) (counts : Channel → ℕ) (now : World) → o.asked ≡ [] → s.written ≡ 0 → HasCarriedAll o (stage_by r s counts now)
+  starts_carried o s counts now none written = record {
+    run = record {
+      quiet = record {
+        settled = λ u begun. absurd (begun refl);
+        free = λ u g h there is. there;
+        none = refl;
+        written = omega arith;
+      };
+      answered = λ n low high. (let zero_is = ap length none in absurd (omega (arith, low, high, zero_is)));
+    };
+    none = refl;
+    never = λ d. none_applies base kinds opening d.at _ d.doubt;
+    unstopped = refl;
+    rests = refl;
+    written = written;
   }

@@ -2,9 +2,8 @@
 use Rattle.std.proofs.Common.{◌≡◌, inl, inr, ℕ, List, [], refl, subst}
 use Rattle.host_trait.specs.declared.channels.Channel.{Channel}
 use Rattle.host_trait.specs.World.{World}
-use Rattle.request_wire.specs.Lines.{lines_of}
 use Rattle.promise_spec.specs.Words.{plain_manner, Command, Init, Run, Show, History, Audit, Load, Check}
-use Rattle.promise_spec.specs.Endings.{Ending, BadUse, Memory, HasFailedAs, IsBegun}
+use Rattle.promise_spec.specs.Endings.{Ending, BadUse, Memory, HasFailedAs}
 use Rattle.promise_spec.specs.Courses.{Observed}
 use Rattle.promise_spec.specs.Calls.{any_option, Understands, Obeys, Serves, AnswersAs, GoesOn}
 use Rattle.bank_load.specs.Requests.{load_texts}
@@ -42,8 +41,8 @@ module _ (texts : List (List ℕ)) where
     }
 
     -- and one that may go on behind a file's fault
-    pub run_answers : (before after : Channel → ℕ) (e : Ending) → (IsBegun e → GoesOn d e) → AnswersRun e before after → AnswersAs texts e before after
-    run_answers before after e goes a = record {
+    pub run_answers : (may : Ending → Type 0) (before after : Channel → ℕ) (e : Ending) → (may e → GoesOn d e) → AnswersRun may e before after → AnswersAs texts e before after
+    run_answers may before after e goes a = record {
       said = λ c v. a.good;
       other = λ none. absurd (none d u);
       risen = a.risen;
@@ -79,11 +78,11 @@ module _ (texts : List (List ℕ)) where
     where
       obeys : (c : Command) → Obeys c (shown w w counts counts Status.Memory c)
       obeys Init = starved_made plain_manner [] w counts
-      obeys (Run n) = starved_promised n (lines_of w.input) w counts
+      obeys (Run n) = starved_promised n w counts
       obeys Show = inl (starved_unopened plain_manner [] w counts)
       obeys History = inl (starved_unopened plain_manner [] w counts)
       obeys Audit = inl (starved_unopened plain_manner [] w counts)
-      obeys (Load k seed n) = record { manner = refl; answers = inl (starved_unmade n (load_texts k seed) w counts) }
+      obeys (Load k seed n) = record { manner = refl; windowed = refl; answers = inl (starved_unmade n (load_texts k seed) w counts) }
       obeys (Check n seed) = starved_checks n seed plain_manner [] w counts
 
   pub starved_answers : (counts : Channel → ℕ) → AnswersAs texts Memory counts counts

@@ -1,5 +1,5 @@
 -- A load from its opening to its end, over a host that tells.
-use Rattle.std.proofs.Common.{◌≡◌, ◌≢◌, ◌⊎◌, inl, inr, ℕ, ◌+◌, ◌<◌, ◌≤◌, Bool, true, IsTrue, List, [], ◌∷◌, ◌++◌, length, Result, Ok, Err, refl, sym, ◌∙◌, ap, subst, arith, append-nil, append_assoc}
+use Rattle.std.proofs.Common.{◌≡◌, ◌≢◌, ◌⊎◌, inl, inr, ℕ, ◌+◌, ◌<◌, ◌≤◌, Bool, true, IsTrue, List, [], ◌∷◌, ◌++◌, length, Result, Ok, Err, refl, sym, ◌∙◌, ap, subst, arith, append-nil, append_assoc, false}
 use Rattle.std.specs.Prelude.{take, not}
 use Rattle.std.proofs.lemmas.List.{append_cancel_left}
 use Rattle.base_types.specs.declared.calls.GrainId.{GrainId}
@@ -19,6 +19,7 @@ use Rattle.core_model.specs.declared.events.CoreEvent.{CoreEvent}
 use Rattle.history_core.specs.Cores.{run_of}
 use Rattle.log_reading.specs.Steps.{seen_in}
 use Rattle.program_file.specs.Programs.{program_in}
+use Rattle.silo_spec.specs.OpenedDisks.{opening_syncs}
 use Rattle.promise_spec.specs.Logs.{IsLog, IsPrefix}
 use Rattle.promise_spec.specs.Programs.{Program, IsChecked, shape_in}
 use Rattle.promise_spec.specs.Entries.{Log, standing_of, new_log, grown}
@@ -27,7 +28,7 @@ use Rattle.promise_spec.specs.Cores.{core_from, how_many}
 use Rattle.promise_spec.specs.Causes.{NoneRose, AreFaults, RoseBy, RunHasDoubt, is_vote, is_vote_of, is_no, is_unsealed, is_sealed, syncs_of, most_syncs_of}
 use Rattle.promise_spec.specs.Commands.{MayCut, Prints}
 use Rattle.promise_spec.specs.Endings as ending
-use Rattle.promise_spec.specs.Endings.{Ending, HasRisen, HasFailedAs, IsBegun, EndingMayDoubt}
+use Rattle.promise_spec.specs.Endings.{Ending, HasRisen, HasFailedAs, IsLoadCarried, EndingMayDoubt}
 use Rattle.promise_spec.specs.Promise.{IsAnswered}
 use Rattle.promise_spec.specs.Journals.{Settlement, AllLog, commits_of, entries_of}
 use Rattle.promise_spec.specs.Courses.{Observed, Course, core_run, core_end}
@@ -49,18 +50,18 @@ use Rattle.run_books.specs.Records.{KeepsFile, TurnsEndAs, HasCarriedAll}
 use Rattle.interleaver.specs.Turns.{KeepsTurns}
 use Rattle.promise_spec.specs.Words.{Manner}
 use Rattle.silo_top.specs.LineExecution.{StartsRun, CarriedOn, CarriesOn}
-use Rattle.run_books.proofs.ShownRecord.{explains}
+use Rattle.run_books.proofs.ShownRecord.{explains, ends-by}
 use Rattle.run_books.proofs.TurnImages.{lasts}
 use Rattle.run_books.proofs.BooksCalls.{file-on}
 use Rattle.run_books.proofs.UnvotedFiles.{unvoted_behind}
-use Rattle.opening_rules.specs.RunsBehindOpening.{program_of, FollowsOpening}
-use Rattle.opening_rules.proofs.RunsBehindOpening.{behind}
+use Rattle.command_rules.specs.RunsBehindOpening.{program_of, FollowsOpening}
+use Rattle.command_rules.proofs.RunsBehindOpening.{behind}
 use Rattle.silo_opening.specs.declared.opened_silo.Opened.{Opened}
 use Rattle.bank_load.specs.Requests.{load_texts}
 use Rattle.bank_load.specs.Summaries.{summary_line, total_kept}
-use Rattle.load_rules.specs.LoadObligations.{HasWhole, ShowsLoad}
-use Rattle.load_rules.proofs.LoadKept.{kept_load}
-use Rattle.load_rules.proofs.Balances.{totals_kept}
+use Rattle.command_rules.specs.LoadObligations.{HasWhole, ShowsLoad}
+use Rattle.command_rules.proofs.LoadKept.{kept_load}
+use Rattle.command_rules.proofs.Balances.{totals_kept}
 use Rattle.promise_laws.proofs.Bases.{reads_above}
 use Rattle.promise_laws.proofs.ShownRuns.{explained}
 use Rattle.silo_top.specs.declared.status.Status.{Status}
@@ -77,8 +78,8 @@ use Rattle.silo_top.proofs.TurnStart.{no_books, starts_kept, starts_quiet, start
 use Rattle.silo_top.proofs.StartImages.{starts_lasting}
 use Rattle.silo_top.proofs.LoadStart.{bank_of, bank_checked, bank_whole, opened_same}
 use Rattle.silo_top.proofs.CoreOpening.{start_is}
-use Rattle.silo_top.proofs.InputPieces.{still_none}
-use Rattle.silo_top.proofs.UnopenedFolders.{asked_untouched}
+use Rattle.input_windows.proofs.Still.{still_none}
+use Rattle.silo_opening.proofs.OpeningCalls.{opens_untouched}
 use Rattle.run_books.specs.Stages.{stage_by}
 
 -- what a list of books that are none says
@@ -100,10 +101,10 @@ summary_risen e old mid new (inr (inl q)) f calm =
     subst (λ (y : Ending). HasRisen y old new) (sym q) (subst (λ (k : ℕ). Rose k (new Output)) calm (subst (λ (y : Ending). HasFailedAs y mid new) q f).rose)
 summary_risen e old mid new (inr (inr q)) f calm = subst (λ (y : Ending). HasRisen y old new) (sym q) tt
 
-summary_begun : (e : Ending) → MaySaySummary e → IsBegun e
-summary_begun e (inl q) = subst IsBegun (sym q) tt
-summary_begun e (inr (inl q)) = subst IsBegun (sym q) tt
-summary_begun e (inr (inr q)) = subst IsBegun (sym q) tt
+summary_begun : (e : Ending) → MaySaySummary e → IsLoadCarried e
+summary_begun e (inl q) = subst IsLoadCarried (sym q) tt
+summary_begun e (inr (inl q)) = subst IsLoadCarried (sym q) tt
+summary_begun e (inr (inr q)) = subst IsLoadCarried (sym q) tt
 
 summary_no_file : (e : Ending) → MaySaySummary e → (file : FileId) → e ≡ ending.DiskFault file → ⊥
 summary_no_file e (inl q) file t = (let z : ending.Done ≡ ending.DiskFault file = sym q ∙ t in cc z)
@@ -128,7 +129,7 @@ faults_same live r old mid new same f = record {
 }
 
 -- how a load ends whose turns ended by a fault
-load_begun : (live : ℕ) (fault : RunFault) → IsBegun (load_ending live fault)
+load_begun : (live : ℕ) (fault : RunFault) → IsLoadCarried (load_ending live fault)
 load_begun live InDoubt = tt
 load_begun live WriteFault = tt
 load_begun live Memory = tt
@@ -177,7 +178,7 @@ module _ {T : Type 0} (n seed : ℕ) (m : Manner) (x : Opened) (st : Started) (o
   text = ap (λ (q : Program). q.text) same.0
 
   abbrev pub out : Outset
-  out = record { live = x.slot; program = p; asked = load_texts n seed; opening = log; ruled = not m.threaded; width = m.width; picks = m.picks; faults = before; world = mid }
+  out = record { live = x.slot; program = p; asked = load_texts n seed; opening = log; ruled = not m.threaded; windowed = false; width = m.width; picks = m.picks; faults = before; world = mid }
 
   abbrev pub r0 : Run
   r0 = core_from p.types (standing_of log) []
@@ -188,7 +189,7 @@ module _ {T : Type 0} (n seed : ℕ) (m : Manner) (x : Opened) (st : Started) (o
   -- ---- the turns begin
 
   module _ (lines : List Line) (are : AreReadFrom (program_tree x.checked) 0 (load_texts n seed) lines) (wide : 0 < m.width) (above : 0 < x.next_unit.0) (none : NoneFailed before between) (r' : Run) (s' : Settler)
-      (carried : CarriesOn true m (program_tree x.checked) lines (stage_by (run_of st.core) st.settler between mid) (stage_by r' s' after new) result)
+      (used : ℕ) (carried : CarriesOn true m (program_tree x.checked) lines 0 used (stage_by (run_of st.core) st.settler between mid) (stage_by r' s' after new) result)
       (aside : TurnsBeside true (stage_by (run_of st.core) st.settler between mid) (stage_by r' s' after new) result) where
     began : run_of st.core ≡ r0
     began = start_is (seen_in old.disk) x st is.opened start
@@ -199,18 +200,18 @@ module _ {T : Type 0} (n seed : ℕ) (m : Manner) (x : Opened) (st : Started) (o
     kept_first : KeepsTurns true out no_books (stage_by r0 st.settler between mid)
     kept_first = starts_kept r0.base r0.kinds r0.opening true out st.settler between mid base (λ c. let e = none c in omega (arith, e)) start.written start.doubted start.sealing start.settles (λ told. still_none mid)
 
-    first : StartsRun true m out no_books (program_tree x.checked) lines (stage_by r0 st.settler between mid)
+    first : StartsRun true m out no_books (program_tree x.checked) lines 0 (stage_by r0 st.settler between mid)
     first = record {
-      outset = starts_outset r0.base r0.kinds r0.opening out (program_tree x.checked) (load_texts n seed) lines m.width m.picks are refl refl refl refl wide refl;
+      outset = starts_outset r0.base r0.kinds r0.opening out (program_tree x.checked) (load_texts n seed) lines m.width m.picks are refl refl refl refl wide refl (λ n low high. refl);
       can = starts_quiet r0.base r0.kinds r0.opening (program_tree x.checked) (load_texts n seed) lines st.settler are start.doubted start.written;
       ruled = refl;
       fresh = starts_fresh r0.base r0.kinds r0.opening out;
       kept = kept_first;
     }
 
-    pub goes : CarriedOn true m out no_books (stage_by r0 st.settler between mid) (stage_by r' s' after new) result
-    goes = subst (λ (r : Run). CarriedOn true m out no_books (stage_by r st.settler between mid) (stage_by r' s' after new) result) began
-        (carried out no_books (subst (λ (r : Run). StartsRun true m out no_books (program_tree x.checked) lines (stage_by r st.settler between mid)) (sym began) first))
+    pub goes : CarriedOn true m out no_books used (stage_by r0 st.settler between mid) (stage_by r' s' after new) result
+    goes = subst (λ (r : Run). CarriedOn true m out no_books used (stage_by r st.settler between mid) (stage_by r' s' after new) result) began
+        (carried out no_books (subst (λ (r : Run). StartsRun true m out no_books (program_tree x.checked) lines 0 (stage_by r st.settler between mid)) (sym began) first))
 
     pub beside : TurnsBeside true (stage_by r0 st.settler between mid) (stage_by r' s' after new) result
     beside = subst (λ (r : Run). TurnsBeside true (stage_by r st.settler between mid) (stage_by r' s' after new) result) began aside
@@ -246,10 +247,10 @@ module _ {T : Type 0} (n seed : ℕ) (m : Manner) (x : Opened) (st : Started) (o
     -- ---- the course of the turns
 
     abbrev pub c0 : Course
-    c0 = record { live = x.slot; opening = log; added = commits_of (booked_journal b); early = is.run.clock.more; late = later.0; events = r'.events; entries = []; rest = [] }
+    c0 = record { live = x.slot; opening = log; added = commits_of (booked_journal b); early = is.run.clock.more; late = later.0; allowed = length (load_texts n seed); events = r'.events; entries = []; rest = [] }
 
     abbrev pub seen : Observed
-    seen = record { manner = m; asked = load_texts n seed; old = old; new = new; faults_before = before; faults_after = after; ending = turns_ending x.slot result }
+    seen = record { manner = m; asked = load_texts n seed; windowed = false; old = old; new = new; faults_before = before; faults_after = after; ending = turns_ending x.slot result }
 
     pub run_is : core_run p c0 ≡ r'
     run_is = ap (λ (es : List CoreEvent). core_from p.types (standing_of log) es) (ap (λ (r : Run). r.events) beside.core) ∙ sym beside.core
@@ -270,7 +271,7 @@ module _ {T : Type 0} (n seed : ℕ) (m : Manner) (x : Opened) (st : Started) (o
     }
 
     follows : FollowsOpening seen c0 mid x.slot log
-    follows = record { live = refl; opening = refl; run = is.run; settled = is.settled; early = is.run.clock.past; late = later.1 }
+    follows = record { live = refl; opening = refl; run = is.run; left = is.left; early = is.run.clock.past; late = later.1 }
 
     stands : IsBehind seen c0 mid
     stands = behind x seen c0 mid is.opened follows
@@ -284,7 +285,7 @@ module _ {T : Type 0} (n seed : ℕ) (m : Manner) (x : Opened) (st : Started) (o
     all = subst (λ (m : Moment). AllLog x.slot log m.disk) stands.last opens.opened
 
     seen_left : IsImage mid.disk (seen_in old.disk)
-    seen_left file = subst (MayLeave (mid.disk file)) ((asked_untouched x.slot old mid is.run).seen file) (stay_mid file)
+    seen_left file = subst (MayLeave (mid.disk file)) ((opens_untouched _ old mid is.run).seen file) (stay_mid file)
 
     lasting : LastsSo out head b r' s'.writer new
     lasting = goes.on.lasts told head (starts_lasting out head r0.base r0.kinds r0.opening st.settler.writer mid (still_none mid) all base
@@ -322,7 +323,7 @@ module _ {T : Type 0} (n seed : ℕ) (m : Manner) (x : Opened) (st : Started) (o
     unvoted_so g no_vote = (goes.on.record_kept.books.outside told).calls.unvoted g (subst (λ (y : Run). how_many (is_vote_of g) y ≡ 0) run_is no_vote)
 
     pub explains_so : ExplainsEvents p seen c0
-    explains_so = explains true out b r' s' seen c0 result goes.on.record_kept goes.on.ended refl goes.turns course (unvoted_behind p seen c0 mid stands unvoted_so)
+    explains_so = explains true out b r' s' seen c0 goes.on.record_kept (ends-by out b (stage_by r' s' after new) result (turns_ending x.slot result) goes.on.ended refl) goes.turns course (unvoted_behind p seen c0 mid stands unvoted_so)
 
     -- ---- a load that ends so
 
@@ -332,7 +333,7 @@ module _ {T : Type 0} (n seed : ℕ) (m : Manner) (x : Opened) (st : Started) (o
       e = status_ending status
 
       abbrev pub r : Observed
-      r = observed_call (m) (load_texts n seed) old last before final status
+      r = observed_call m (load_texts n seed) old last before final status
 
       abbrev pub c : Course
       c = record c0 { late = later.0 ++ behind_turns; entries = (core_end p c0).manager.settled }
@@ -343,7 +344,7 @@ module _ {T : Type 0} (n seed : ℕ) (m : Manner) (x : Opened) (st : Started) (o
         live = refl;
         opening = refl;
         run = is.run;
-        settled = is.settled;
+        left = is.left;
         early = is.run.clock.past;
         late = last_past ∙ ap (λ (l : List Moment). l ++ behind_turns) later.1 ∙ append_assoc mid.past later.0 behind_turns;
       })
@@ -358,8 +359,8 @@ module _ {T : Type 0} (n seed : ℕ) (m : Manner) (x : Opened) (st : Started) (o
       most_so : last.syncs ≡ new.syncs → last.syncs ≤ old.syncs + most_syncs_of (core_run p c0)
       most_so said =
           subst (λ (k : ℕ). k ≤ old.syncs + most_syncs_of (core_run p c0)) (sym said)
-          (subst (λ (y : Run). new.syncs ≤ old.syncs + most_syncs_of y) (sym run_is)
-          (most_syncs new.syncs mid.syncs old.syncs (how_many is_vote r') (how_many is_sealed r') (how_many is_unsealed r') (goes.on.record_kept.books.outside told).calls.most is.count))
+          (subst (λ (y : Run). new.syncs ≤ old.syncs + most_syncs_of (seen_in old.disk) y) (sym run_is)
+          (most_syncs new.syncs mid.syncs old.syncs (opening_syncs (seen_in old.disk)) (how_many is_vote r') (how_many is_sealed r') (how_many is_unsealed r') (goes.on.record_kept.books.outside told).calls.most is.count))
 
       -- what its events explain
       explains_at : ((file : FileId) → e ≡ ending.DiskFault file → turns_ending x.slot result ≡ ending.DiskFault file) → (RunHasDoubt (core_run p c0) → EndingMayDoubt e) → ExplainsEvents p r c
@@ -378,8 +379,8 @@ module _ {T : Type 0} (n seed : ℕ) (m : Manner) (x : Opened) (st : Started) (o
 
       -- what it has to show, but how it ended
       shows : ExplainsEvents p r c → ((behind_turns ≡ []) × (last.output ≡ old.output)) ⊎ (RunHasDoubt (core_run p c) → ⊥) → Prints (summary_text r c) r → (e ≢ ending.Done → e ≢ ending.WriteFault → last.output ≡ old.output)
-          → IsBegun e → HasRisen e before final → ((e ≡ ending.Done) ⊎ (e ≡ ending.WriteFault) → IsAnswered r c) → (e ≡ ending.WriteFault → RunHasDoubt (core_run p c) → ⊥)
-          → (NoneRose before final → e ≡ ending.Done → last.syncs ≡ old.syncs + syncs_of (core_run p c)) → last.syncs ≡ new.syncs → ShowsLoad p n seed r c new after (turns_ending x.slot result) later.0 behind_turns
+          → IsLoadCarried e → HasRisen e before final → ((e ≡ ending.Done) ⊎ (e ≡ ending.WriteFault) → IsAnswered c) → (e ≡ ending.WriteFault → RunHasDoubt (core_run p c) → ⊥)
+          → (NoneRose before final → e ≡ ending.Done → last.syncs ≡ old.syncs + syncs_of (seen_in old.disk) (core_run p c)) → last.syncs ≡ new.syncs → ShowsLoad p n seed r c new after (turns_ending x.slot result) later.0 behind_turns
       shows explains_r printed output silent begun risen done undoubted syncs said = record {
         in_force = is.opened.program;
         asked = asked;
@@ -397,6 +398,7 @@ module _ {T : Type 0} (n seed : ℕ) (m : Manner) (x : Opened) (st : Started) (o
         silent = silent;
         unread = last_input ∙ beside.input told ∙ is.run.input;
         carried = begun;
+        allowed = refl;
         risen = risen;
         done = done;
         undoubted = undoubted;
@@ -415,7 +417,7 @@ module _ {T : Type 0} (n seed : ℕ) (m : Manner) (x : Opened) (st : Started) (o
 
     -- the turns ended by a fault
     pub failed_carries : AskFor (program_tree x.checked) (load_texts n seed) (load_calls n seed) → (fault : RunFault) → result ≡ Err fault → (status : Status) → status_ending status ≡ load_ending x.slot fault
-        → CarriesLoad n seed (observed_call (m) (load_texts n seed) old new before after status)
+        → CarriesLoad n seed (observed_call m (load_texts n seed) old new before after status)
     failed_carries asks fault q status ends_as =
         let ended : TurnsEndAs out b (stage_by r' s' after new) {T = T} (Err fault) = subst (TurnsEndAs out b (stage_by r' s' after new)) q goes.on.ended in
         let past : new.past ≡ new.past ++ [] = sym (append-nil new.past) in
@@ -426,7 +428,7 @@ module _ {T : Type 0} (n seed : ℕ) (m : Manner) (x : Opened) (st : Started) (o
         (inl (refl, same_output))
         (record { added = []; output = same_output ∙ sym (append-nil old.output); front = (_, refl); whole = λ t. absurd (load_undone x.slot fault (sym ends_as ∙ t)); none = inl refl })
         (λ one other. same_output)
-        (subst IsBegun (sym ends_as) (load_begun x.slot fault))
+        (subst IsLoadCarried (sym ends_as) (load_begun x.slot fault))
         (subst (λ (y : Ending). HasRisen y before after) (sym ends_as) (load_risen T out b r' s' after new fault ended))
         (λ which. elim which [ inl t ↦ absurd (load_undone x.slot fault (sym ends_as ∙ t)) | inr t ↦ absurd (load_unwritten x.slot fault (sym ends_as ∙ t)) ])
         (λ t d. load_unwritten x.slot fault (sym ends_as ∙ t))
@@ -435,7 +437,7 @@ module _ {T : Type 0} (n seed : ℕ) (m : Manner) (x : Opened) (st : Started) (o
     -- all lines are carried, and the summary was to be printed
     pub summed_carries : AskFor (program_tree x.checked) (load_texts n seed) (load_calls n seed) → (done : T) → result ≡ Ok done → (status : Status) (last : World) (final : Channel → ℕ) (requests : ℕ) → requests ≡ length (load_texts n seed)
         → SaysSummary (summary_line (ends r').manager.settled requests (total_kept (ends r') 64)) (status_ending status) new last → HasFailedAs (status_ending status) after final → MaySaySummary (status_ending status)
-        → CarriesLoad n seed (observed_call (m) (load_texts n seed) old last before final status)
+        → CarriesLoad n seed (observed_call m (load_texts n seed) old last before final status)
     summed_carries asks done q status last final requests many says failed may =
         let ended : HasCarriedAll out (stage_by r' s' after new) = (subst (TurnsEndAs out b (stage_by r' s' after new)) q goes.on.ended).0 in
         let same_files : (file : FileId) → final (File file) ≡ after (File file) = files_same (status_ending status) after final may failed in
@@ -443,7 +445,7 @@ module _ {T : Type 0} (n seed : ℕ) (m : Manner) (x : Opened) (st : Started) (o
         let explains_r = explains_at asks last final status says.told says.past says.disk says.left says.input same_files (λ file t. absurd (summary_no_file (status_ending status) may file t)) (λ d. absurd (sure d)) in
         let opens_above : 0 < log.base.next = reads_above x.slot (seen_in old.disk) log is.opened.reads in
         let opening_is : log ≡ new_log p = same.1 ∙ ap new_log (sym same.0) in
-        let rr : Observed = observed_call (m) (load_texts n seed) old last before final status in
+        let rr : Observed = observed_call m (load_texts n seed) old last before final status in
         let cc0 : Course = record c0 { late = later.0 ++ says.told; entries = (core_end p c0).manager.settled } in
         let text_is : summary_line (ends r').manager.settled requests (total_kept (ends r') 64) ≡ summary_text rr cc0 =
         (λ i. summary_line (ends (run_is' i)).manager.settled (many i) (total_kept (ends (run_is' i)) 64))
@@ -464,8 +466,8 @@ module _ {T : Type 0} (n seed : ℕ) (m : Manner) (x : Opened) (st : Started) (o
         (summary_risen (status_ending status) before after final may failed (beside.calm hush ∙ none Output))
         (λ which i low high. (let k = ended.run.answered i low high in (k.0, subst (λ (w : CoreState). Member k.0 w.manager.settled) (sym (ap ends run_is)) k.1, k.2)))
         (λ t d. sure d)
-        (λ calm t. says.syncs ∙ subst (λ (y : Run). new.syncs ≡ old.syncs + syncs_of y) (sym run_is)
-        (all_syncs new.syncs mid.syncs old.syncs (how_many is_vote r') (how_many is_sealed r')
+        (λ calm t. says.syncs ∙ subst (λ (y : Run). new.syncs ≡ old.syncs + syncs_of (seen_in old.disk) y) (sym run_is)
+        (all_syncs new.syncs mid.syncs old.syncs (opening_syncs (seen_in old.disk)) (how_many is_vote r') (how_many is_sealed r')
         ((goes.on.record_kept.books.outside told).calls.each (λ ch. (let a = calm ch in let f = (subst (λ (y : Ending). HasFailedAs y after final) t failed) ch in (sym f ∙ a.0, a.1))))
         is.count)) says.syncs)
       where

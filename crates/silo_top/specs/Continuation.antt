@@ -1,24 +1,18 @@
--- What follows, however the lines are carried of a run or a load that has begun.
+-- What carries lines can go on, and what follows, however the lines are carried of a load that has begun.
 use Rattle.std.specs.Prelude.{◌≡◌, ◌<◌, ◌≤◌, ℕ, Bool, List, length, Result, Ok, Err}
 use Rattle.host_trait.specs.declared.channels.Channel.{Channel}
 use Rattle.host_trait.specs.World.{World}
-use Rattle.core_access.specs.OneHolder.{own_sight}
 use Rattle.core_model.specs.LegalRuns.{ends}
 use Rattle.history_core.specs.Cores.{run_of}
 use Rattle.history_core.specs.declared.whole_core.Core.{Core}
 use Rattle.request_wire.specs.declared.requests.Line.{Line}
-use Rattle.run_lines.specs.LineReadings.{input_lines}
 use Rattle.script_tree.specs.Programs.{program_tree}
-use Rattle.txn_agent.specs.CoreLink.{IsLegalRun}
-use Rattle.worker_rules.specs.SharedHistories.{NoneLoads}
 use Rattle.settle_loop.specs.declared.settler.Settler.{Settler}
 use Rattle.promise_laws.specs.Closings.{ReadsMayStay}
-use Rattle.promise_spec.specs.Words.{Manner, Run, Load}
-use Rattle.promise_spec.specs.Endings.{HasFailedAs, input_limit}
-use Rattle.promise_spec.specs.Promise.{Promises}
+use Rattle.promise_spec.specs.Words.{Manner, Load}
+use Rattle.promise_spec.specs.Endings.{HasFailedAs, IsLoadCarried}
 use Rattle.promise_spec.specs.Loads.{Loads}
 use Rattle.bank_load.specs.Summaries.{summary_line, total_kept}
-use Rattle.run_books.specs.RunCourse.{turns_ending}
 use Rattle.run_books.specs.Stages.{Side, stage_by, side_by, IsSafe}
 use Rattle.run_books.specs.declared.faults.RunFault.{RunFault}
 use Rattle.silo_top.specs.declared.run_start.Started.{Started}
@@ -30,33 +24,14 @@ use Rattle.silo_top.specs.LoadSteps.{load_ending, SaysSummary, MaySaySummary}
 
 -- lines can be carried by what was started
 pub record CanCarry (tells : Bool) (s : Started) (now : World) : Type 0 where
-  pub legal : IsLegalRun (own_sight (run_of s.core)).first
-  pub loads : NoneLoads (own_sight (run_of s.core)).mine
+  pub above : 0 < (run_of s.core).base
   pub safe : IsSafe tells s.settler.writer now
 
--- they were, in this manner, and ended so
+-- they were, in this manner and from the first pick on, and ended so
 pub record WasCarried (tells : Bool) (s : Started) (lines : List Line) (counts : Channel → ℕ) (now : World) (m : Manner) (after : Side) (result : Result Core RunFault) : Type 0 where
   pub wide : 0 < m.width
-  pub carried : CarriedLines tells m (program_tree s.checked) lines (stage_by (run_of s.core) s.settler counts now) after result
-
--- ---- a run
-
--- the lines of its input
-abbrev pub lines_over : Started → List ℕ → List Line
-lines_over s input = input_lines (program_tree s.checked) input
-
--- over a host that tells, a run that began in this old world keeps its promise
-abbrev pub KeepsOn : Bool → Started → List ℕ → (Channel → ℕ) → World → (Channel → ℕ) → World → Type 0
-KeepsOn tells s input before old counts now =
-    (m : Manner) (settler' : Settler) (after : Channel → ℕ) (new : World) (result : Result Core RunFault) (status : Status)
-    → WasCarried tells s (lines_over s input) counts now m (side_by settler' after new) result → ReadsMayStay new → length input ≤ input_limit → status_ending status ≡ turns_ending s.slot result
-    → Promises m (shown old new before after status (Run m))
-
--- over any host, what it answers is right
-abbrev pub AnswersOn : Bool → Started → List ℕ → (Channel → ℕ) → (Channel → ℕ) → World → Type 0
-AnswersOn tells s input before counts now =
-    (m : Manner) (settler' : Settler) (after : Channel → ℕ) (new : World) (result : Result Core RunFault)
-    → WasCarried tells s (lines_over s input) counts now m (side_by settler' after new) result → AnswersRun (turns_ending s.slot result) before after
+  pub used : ℕ
+  pub carried : CarriedLines tells m (program_tree s.checked) lines 0 used (stage_by (run_of s.core) s.settler counts now) after result
 
 -- ---- a load
 
@@ -82,4 +57,4 @@ LoadsOn n seed tells s lines before old counts now =
 abbrev pub LoadAnswersOn : Bool → Started → List Line → (Channel → ℕ) → (Channel → ℕ) → World → Type 0
 LoadAnswersOn tells s lines before counts now =
     (m : Manner) (settler' : Settler) (after : Channel → ℕ) (new : World) (result : Result Core RunFault) (status : Status) (final : Channel → ℕ)
-    → WasCarried tells s lines counts now m (side_by settler' after new) result → LoadCounts s.slot result status after final → AnswersRun (status_ending status) before final
+    → WasCarried tells s lines counts now m (side_by settler' after new) result → LoadCounts s.slot result status after final → AnswersRun IsLoadCarried (status_ending status) before final

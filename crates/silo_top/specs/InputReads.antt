@@ -1,27 +1,25 @@
--- What the reading of the input leaves.
-use Rattle.std.specs.Prelude.{◌≡◌, ℕ}
+-- What reading the next window of a run's input leaves.
+use Rattle.std.specs.Prelude.{ℕ, Bool, List, Result, Ok, Err}
 use Rattle.host_trait.specs.declared.channels.Channel.{Channel}
-use Rattle.host_trait.specs.declared.channels.Channel.TheVariants.{Input}
-use Rattle.host_trait.specs.Faults.{NoneFailed, FailedOn}
-use Rattle.host_trait.specs.World.{World, Passes, moment_of}
-use Rattle.promise_spec.specs.Endings as ending
-use Rattle.silo_top.specs.declared.input.InputFault.{InputFault}
+use Rattle.host_trait.specs.Faults.{NoneFailed}
+use Rattle.host_trait.specs.World.{World}
+use Rattle.input_windows.specs.declared.windows.InputWindows.{InputWindows}
+use Rattle.input_windows.specs.Given.{HasGiven, HasNext, InputEnds}
+use Rattle.promise_spec.specs.Endings.{HasFailedAs}
+use Rattle.silo_top.specs.declared.status.Status.{Status}
+use Rattle.silo_top.specs.Statuses.{status_ending}
 
--- the input alone was pulled: nothing was written or synced, and each moment shows what the old world shows
-pub record PulledOnly (old new : World) : Type 0 where
-  pub output : new.output ≡ old.output
-  pub disk : new.disk ≡ old.disk
-  pub syncs : new.syncs ≡ old.syncs
-  pub moments : Passes (λ m. m ≡ moment_of old) old.past new.past
+-- a window came behind these lines, or none and the run ends so
+abbrev pub ReadsOn : {T : Type 0} → Bool → List ℕ → List (List ℕ) → InputWindows → World → Result T Status → Type 0
+ReadsOn tells input asked w now (Ok done) = HasNext tells input asked w now
+ReadsOn tells input asked w now (Err status) = InputEnds tells input asked (status_ending status) now
 
--- a call on the input failed where `Failed` is answered, and none did where another fault is
-abbrev pub PullFaulted : InputFault → (Channel → ℕ) → (Channel → ℕ) → Type 0
-PullFaulted InputFault.Memory old new = NoneFailed old new
-PullFaulted InputFault.Failed old new = FailedOn Input old new
-PullFaulted InputFault.TooLong old new = NoneFailed old new
+-- whatever input it is, and whichever lines were given of it so far
+abbrev pub WindowComes : {T : Type 0} → Bool → InputWindows → World → InputWindows → World → Result T Status → Type 0
+WindowComes tells w now w' now' result =
+    (input : List ℕ) (asked : List (List ℕ)) → HasGiven tells input asked w now → ReadsOn tells input asked w' now' result
 
--- how a run ends whose input wasn't read
-abbrev pub input_ending : InputFault → ending.Ending
-input_ending InputFault.Memory = ending.Memory
-input_ending InputFault.Failed = ending.ReadFault
-input_ending InputFault.TooLong = ending.InputTooLong 0
+-- no call failed where a window came; else exactly the one that the ending names
+abbrev pub InputFaulted : {T : Type 0} → Result T Status → (Channel → ℕ) → (Channel → ℕ) → Type 0
+InputFaulted (Ok done) old new = NoneFailed old new
+InputFaulted (Err status) old new = HasFailedAs (status_ending status) old new

@@ -7,3 +7,4 @@ pub mod RunBehindOpening
 pub mod LineExecution
 pub mod LoadSteps
 pub mod Continuation
+pub mod RunWindows

@@ -126,8 +126,8 @@ pub fn run_alone<H: Host, G: Gate>(
 ///
 /// `init` reads a program's text from the input, and makes the folder a silo of it with an empty log.
 ///
-/// `run` opens the silo, reads the input to its end, and carries its lines as calls of the silo's program: it answers each with a
-/// reply line, and each that commits has its record in the log before.
+/// `run` opens the silo, reads the input in windows of 4,096 lines, and carries the lines of each as calls of the silo's program before
+/// it reads the next: it answers each with a reply line, and each that commits has its record in the log before.
 ///
 /// `show` writes the state of each grain that the log wrote, `history` each record, and `audit` the first record that doesn't
 /// replay. They leave the folder as it is.

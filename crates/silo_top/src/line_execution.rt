@@ -1,10 +1,7 @@
-ghost use Rattle.std.specs.Prelude.{◌≤◌};
+ghost use Rattle.std.specs.Prelude.{◌≤◌, ◌<◌, ℕ};
 ghost use Rattle.host_trait.specs.Files.{StaysReady};
-ghost use Rattle.core_access.specs.OneHolder.{own_sight};
 ghost use Rattle.history_core.specs.Cores.{run_of};
 ghost use Rattle.script_tree.specs.Programs.{program_tree};
-ghost use Rattle.txn_agent.specs.CoreLink.{IsLegalRun};
-ghost use Rattle.worker_rules.specs.SharedHistories.{NoneLoads};
 ghost use Rattle.silo_top.specs.CallAnswers.{turns_manner, workers_manner};
 ghost use Rattle.silo_top.specs.LineExecution.{CarriedLines};
 ghost use Rattle.run_books.specs.Stages.{side_of, stage_of, IsSafe};
@@ -22,7 +19,7 @@ use std::sync::Wait;
 use std::thread::Threads;
 
 /// Carries all lines on the calling thread, so many in flight and by these picks, and hands the core back where all is carried and
-/// written.
+/// written. `used` tells how many picks calls before used, and goes on by those of this call where it hands the core back.
 pub(crate) fn carry_in_turns<H: Host, G: Gate, L: Lines + Copy>(
     alloc: Global,
     checked: &Checked,
@@ -33,20 +30,19 @@ pub(crate) fn carry_in_turns<H: Host, G: Gate, L: Lines + Copy>(
     gate: &G,
     width: u32,
     picks: &List<u32>,
+    used: &mut usize,
 ) -> Result<Core, RunFault>
-    requires legal { IsLegalRun (own_sight (run_of core)).first }
-    requires loads { NoneLoads (own_sight (run_of core)).mine }
+    requires above { 0 < (run_of core).base }
     requires safe { IsSafe H.tells settler.old.writer (H.world host.old) }
-    ensures carried { CarriedLines H.tells (turns_manner width picks.now) (program_tree checked.now) (L.lines lines)
+    ensures carried { CarriedLines H.tells (turns_manner width picks.now) (program_tree checked.now) (L.lines lines) used.old used.new
         (stage_of H.world H.faults (run_of core) settler.old host.old) (side_of H.world H.faults settler.new host.new) result }
     ensures safe { IsSafe H.tells settler.new.writer (H.world host.new) }
     ensures ready { StaysReady (H.is_ready host.old) (H.is_ready host.new) }
 {
     let mut core = core;
     let mut lines = lines;
-    let mut used = 0;
     match run_turns(
-        alloc, checked, &mut core, settler, &mut lines, host, gate, width, picks, &mut used,
+        alloc, checked, &mut core, settler, &mut lines, host, gate, width, picks, used,
     ) {
         Ok(()) => return Ok(core),
         Err(fault) => return Err(fault),
@@ -71,10 +67,9 @@ pub(crate) fn carry_by_workers<
     workers: u32,
 ) -> Result<Core, RunFault>
     requires few { workers ≤ 16 }
-    requires legal { IsLegalRun (own_sight (run_of core)).first }
-    requires loads { NoneLoads (own_sight (run_of core)).mine }
+    requires above { 0 < (run_of core).base }
     requires safe { IsSafe H.tells settler.old.writer (H.world host.old) }
-    ensures carried { CarriedLines H.tells workers_manner (program_tree checked.now) (L.lines lines)
+    ensures carried { (used : ℕ) → CarriedLines H.tells workers_manner (program_tree checked.now) (L.lines lines) used used
         (stage_of H.world H.faults (run_of core) settler.old host.old) (side_of H.world H.faults settler.new host.new) result }
     ensures safe { IsSafe H.tells settler.new.writer (H.world host.new) }
     ensures ready { StaysReady (H.is_ready host.old) (H.is_ready host.new) }

@@ -4,7 +4,7 @@ ghost use Rattle.host_trait.specs.Files.{StaysReady};
 ghost use Rattle.core_model.specs.LegalRuns.{ends};
 ghost use Rattle.history_core.specs.Cores.{run_of};
 ghost use Rattle.promise_spec.specs.Words as command;
-ghost use Rattle.promise_spec.specs.Endings.{HasFailedAs};
+ghost use Rattle.promise_spec.specs.Endings.{HasFailedAs, IsLoadCarried};
 ghost use Rattle.promise_spec.specs.Loads.{Loads};
 ghost use Rattle.bank_load.specs.Summaries.{summary_line, total_kept};
 ghost use Rattle.silo_top.specs.CallAnswers.{AnswersRun, shown, turns_manner, workers_manner};
@@ -40,7 +40,7 @@ fn print_summary<H: Host>(alloc: Global, core: &Core, requests: usize, host: &mu
     ensures ready { StaysReady (H.is_ready host.old) (H.is_ready host.new) }
 {
     let total = total_balance(core);
-    let text = match load_summary(alloc, core.settled(), requests, total) {
+    let text = match load_summary(alloc, core, requests, total) {
         Ok(text) => text,
         Err(AllocError) => return Status::Memory,
     };
@@ -117,7 +117,7 @@ fn begin_load<H: Host>(
     // Where it didn't begin, it has kept it.
     ensures loads { IfErr result (λ status. IsTrue H.tells → (m : Manner) → Loads transfers seed m
         (shown (H.world host.old) (H.world host.new) (H.faults host.old) (H.faults host.new) status (command.Load transfers seed m))) }
-    ensures answers { IfErr result (λ status. AnswersRun (status_ending status) (H.faults host.old) (H.faults host.new)) }
+    ensures answers { IfErr result (λ status. AnswersRun IsLoadCarried (status_ending status) (H.faults host.old) (H.faults host.new)) }
     ensures ready { StaysReady (H.is_ready host.old) (H.is_ready host.new) }
 {
     let Ok(bank) = accept(alloc, bank_text()) else {
@@ -164,7 +164,7 @@ pub(crate) fn load_in_turns<H: Host, G: Gate>(
     ensures loads { IsTrue H.tells → Loads transfers seed (turns_manner width picks.now)
         (shown (H.world host.old) (H.world host.new) (H.faults host.old) (H.faults host.new) result
         (command.Load transfers seed (turns_manner width picks.now))) }
-    ensures answers { AnswersRun (status_ending result) (H.faults host.old) (H.faults host.new) }
+    ensures answers { AnswersRun IsLoadCarried (status_ending result) (H.faults host.old) (H.faults host.new) }
     ensures ready { StaysReady (H.is_ready host.old) (H.is_ready host.new) }
 {
     let BegunLoad { started, lines } = match begin_load(alloc, host, transfers, seed) {
@@ -179,6 +179,7 @@ pub(crate) fn load_in_turns<H: Host, G: Gate>(
         mut settler,
     } = started;
     let placed = ListLines::new(&lines);
+    let mut used = 0;
     let ended = carry_in_turns(
         alloc,
         &checked,
@@ -189,6 +190,7 @@ pub(crate) fn load_in_turns<H: Host, G: Gate>(
         gate,
         width,
         picks,
+        &mut used,
     );
     end_load(alloc, slot, ended, requests, host)
 }
@@ -207,7 +209,7 @@ pub(crate) fn load_by_workers<R: Threads + Wait + Sync, H: Host, G: Gate + Sync>
     requires many { transfers ≤ 100000 }
     ensures loads { IsTrue H.tells → Loads transfers seed workers_manner
         (shown (H.world host.old) (H.world host.new) (H.faults host.old) (H.faults host.new) result (command.Load transfers seed workers_manner)) }
-    ensures answers { AnswersRun (status_ending result) (H.faults host.old) (H.faults host.new) }
+    ensures answers { AnswersRun IsLoadCarried (status_ending result) (H.faults host.old) (H.faults host.new) }
     ensures ready { StaysReady (H.is_ready host.old) (H.is_ready host.new) }
 {
     let BegunLoad { started, lines } = match begin_load(alloc, host, transfers, seed) {

@@ -16,7 +16,6 @@ use Rattle.turn_cell.specs.History.{In, entry, entries_of}
 use Rattle.turn_cell.proofs.Lists.{in_append}
 use Rattle.turn_rules.specs.NextEvent.{MayCome}
 use Rattle.turn_rules.specs.QuietRun.{IsQuiet}
-use Rattle.turn_rules.proofs.LegalRuns.{legal-run}
 use Rattle.core_access.specs.Histories.{Told, run_after}
 use Rattle.core_access.specs.Sights.{Sight, run_seen, Counts}
 use Rattle.core_access.specs.PassSights.{all_come}
@@ -37,9 +36,9 @@ use Rattle.run_books.proofs.Reliance.{counts-on, relies-before}
 use Rattle.run_books.proofs.SettlerSights.{going-all}
 use Rattle.shared_settling.specs.SharedSettler.{SettlesAmong, StopsAmong, EndsAmong, CanSettleAmong, SettledAmong}
 use Rattle.shared_settling.proofs.OthersBooks.{fault-on}
-use Rattle.closing_rules.specs.ClosedCore.{IsClosed, PutsNothing, SettlesOrStops, AreOverAndFree, HasBegunLines}
-use Rattle.closing_rules.specs.JoinedPasses.{sight_by}
-use Rattle.closing_rules.proofs.Closes.{closed-less, closed-rule, settles-alone, works-since, last-since, closed-done, quiet-done, closed-same}
+use Rattle.worker_rules.specs.ClosedCore.{IsClosed, PutsNothing, SettlesOrStops, AreOverAndFree, HasBegunLines}
+use Rattle.worker_rules.specs.JoinedPasses.{sight_by}
+use Rattle.worker_rules.proofs.Closes.{closed-less, closed-rule, settles-alone, works-since, last-since, closed-done, quiet-done, closed-same}
 use Rattle.silo_workers.specs.SettlerThread.{HasSettled}
 use Rattle.silo_workers.specs.RunEnd.{IsOfProgram, HasGathered}
 use Rattle.silo_workers.specs.WorkerPasses.{HasWorked, SaysOfUnits, IsGathered}
@@ -59,7 +58,7 @@ settles-or-stops s t none (inr p) = λ x i. ⊎_elim
     (λ j. ⊎_elim (λ (q : x ≡ entry p.mid.number Halt p.reply). inr (ap (λ (z : Told). z.event) q)) (λ k. absurd k) j)
     (in_append x p.mid.mine (entry p.mid.number Halt p.reply ∷ []) (subst (λ (z : Sight). In x z.mine) p.stop.sight i))
 
-ends-settle : {T : Type 0} (s t : Sight) (result : Result T RunFault) → s.mine ≡ [] → EndsAmong all_come s t result → SettlesOrStops t.mine
+pub ends-settle : {T : Type 0} (s t : Sight) (result : Result T RunFault) → s.mine ≡ [] → EndsAmong all_come s t result → SettlesOrStops t.mine
 ends-settle s t (Ok done) none a = settles-only s t none a
 ends-settle s t (Err InDoubt) none a = settles-only s t none a
 ends-settle s t (Err WriteFault) none a = settles-or-stops s t none a
@@ -179,7 +178,7 @@ module _ {T : Type 0} {tells : Bool} {shape : Shape} {before after : Side} {resu
       program = program-on;
       units = ruled;
       books = gathered-books;
-      done = λ through. closed-done (basis_of o) r r' (carried through) program.above units (λ u born. quiet-done r u (legal-run (basis_of o) r program.above units) quiet born);
+      done = λ through. closed-done (basis_of o) r r' (carried through) program.above units (λ u born. quiet-done r u quiet born);
       lines = λ through. subst (λ (n : ℕ). HasBegunLines n r') all (g.shown through);
     }
 

@@ -16,6 +16,7 @@ use Rattle.history_core.specs.contracts.whole_core.Core as core
 use Rattle.history_core.specs.contracts.whole_core.Core.TheInside as inside
 use Rattle.open_batch.specs.contracts.members.FinishedUnit as finished
 use Rattle.unit_table.specs.contracts.entry.RunningUnit as running
+use Rattle.unit_table.specs.contracts.entry.PastUnit as past
 use Rattle.unit_table.specs.contracts.entry.UnitEntry as entry
 use Rattle.unit_table.specs.contracts.table.UnitTable as units
 
@@ -37,8 +38,11 @@ running_send = search (sendable, crosses, maps, read_send, deps_send) depth 60 f
 entry_send : IsSend entry.the_row
 entry_send = search (sendable, crosses, maps, running_send) depth 60 fits 90000
 
+past_send : IsSend past.the_row
+past_send = search (sendable, crosses, maps) depth 60 fits 90000
+
 units_send : IsSend units.the_row
-units_send = search (sendable, crosses, maps, entry_send, running_send) depth 60 fits 90000
+units_send = search (sendable, crosses, maps, entry_send, running_send, past_send) depth 60 fits 90000
 
 parts_send : IsSend parts.the_row
 parts_send = declared_send parts.the_type (

@@ -25,10 +25,10 @@ use Rattle.settle_loop.specs.declared.settler.Settler.{Settler}
 use Rattle.run_books.specs.declared.faults.RunFault.{RunFault}
 use Rattle.run_books.specs.RecordFrame.{TurnsBeside}
 use Rattle.run_books.proofs.Reliance.{sees-none}
-use Rattle.closing_rules.specs.ClosedCore.{IsClosed, HasBegunLines}
-use Rattle.closing_rules.specs.JoinedPasses.{sight_by, Returns, GathersSights}
-use Rattle.closing_rules.proofs.Closes.{closed-lines}
-use Rattle.closing_rules.proofs.JoinedPasses.{shown-more, gathers-less, gathers-split, closes-known}
+use Rattle.worker_rules.specs.ClosedCore.{IsClosed, HasBegunLines}
+use Rattle.worker_rules.specs.JoinedPasses.{sight_by, Returns, GathersSights}
+use Rattle.worker_rules.proofs.Closes.{closed-lines}
+use Rattle.worker_rules.proofs.JoinedPasses.{shown-more, gathers-less, gathers-split, closes-known}
 use Rattle.silo_workers.specs.SettlerThread.{SettlesBeside, HasSettled}
 use Rattle.silo_workers.specs.WorkerPasses.{CorePass, HasWorked, SaysOfUnits, SaysOfLines, BringsBack, BringsTogether, IsGathered, both_ends}
 use Rattle.silo_workers.specs.declared.work.WorkEnd.{WorkEnd}

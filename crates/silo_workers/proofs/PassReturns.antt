@@ -24,8 +24,8 @@ use Rattle.worker_rules.specs.SharedHistories.{Promised}
 use Rattle.worker_rules.specs.Work.{OnlyWorks}
 use Rattle.worker_rules.proofs.OwnEntries.{promise-none}
 use Rattle.unit_crew.specs.FinishedUnits.{IsThrough, AreThrough}
-use Rattle.closing_rules.specs.ClosedCore.{IsOverAndFree, AreOverAndFree, PutsNothing}
-use Rattle.closing_rules.specs.JoinedPasses.{Returns}
+use Rattle.worker_rules.specs.ClosedCore.{IsOverAndFree, AreOverAndFree, PutsNothing}
+use Rattle.worker_rules.specs.JoinedPasses.{Returns}
 use Rattle.silo_workers.specs.PassFrame.{PassAside, aside_of}
 use Rattle.silo_workers.specs.WorkerPasses.{HasWorked}
 use Rattle.silo_workers.specs.declared.work.WorkEnd.TheVariants.{Idle, Through, Lacking}

@@ -1,21 +1,14 @@
 -- Where a run with workers begins.
-use Rattle.std.proofs.Common.{◌≡◌, inl, inr, ℕ, zero, suc, Option, None, length, List, [], ◌∷◌, Bool, refl, sym, ap, ◌∙◌, subst, arith}
+use Rattle.std.proofs.Common.{◌≡◌, ℕ, zero, suc, Option, None, length, List, [], ◌∷◌, Bool, sym, ap, ◌∙◌, subst, arith}
 use Rattle.base_types.specs.declared.shapes.Shape.{Shape}
 use Rattle.base_types.specs.declared.shapes.TypeShape.{TypeShape}
 use Rattle.host_trait.specs.declared.channels.Channel.{Channel}
 use Rattle.host_trait.specs.World.{World}
 use Rattle.request_wire.specs.declared.requests.Line.{Line}
 use Rattle.core_model.specs.LegalRuns.{Run, ends}
-use Rattle.core_access.specs.Histories.{Told, run_after}
-use Rattle.core_access.specs.OneHolder.{own_sight}
-use Rattle.core_access.proofs.OneHolder.{own-run}
 use Rattle.script_check.specs.AcceptedPrograms.{IsAcceptedProgram}
 use Rattle.script_check.specs.Shapes.{type_shapes}
 use Rattle.script_tree.specs.Programs.{ProgramTree}
-use Rattle.turn_rules.specs.NextEvent.{with_event}
-use Rattle.worker_rules.specs.SharedHistories.{NoneLoads}
-use Rattle.txn_agent.specs.CoreLink.{IsLegalRun}
-use Rattle.txn_agent.proofs.OthersEvents.{sound-event}
 use Rattle.promise_spec.specs.Lines.{ReadsLineAs}
 use Rattle.settle_loop.specs.declared.settler.Settler.{Settler}
 use Rattle.run_books.specs.Beginnings.{Outset, IsOutset, CanTurn, GoUpFrom, basis_of}
@@ -24,18 +17,10 @@ use Rattle.run_books.specs.Records.{KeepsRecord}
 use Rattle.run_books.proofs.EvenBooks.{even-at-rest}
 use Rattle.shared_settling.specs.SharedSettler.{CanSettleAmong}
 use Rattle.unit_crew.specs.Crews.{IsBasisOf}
-use Rattle.closing_rules.specs.JoinedPasses.{sight_by}
+use Rattle.worker_rules.specs.JoinedPasses.{sight_by}
 use Rattle.silo_workers.specs.RunEnd.{IsOfProgram}
 use Rattle.std.specs.Prelude.{slice_get, Some, ◌+◌}
 use Rattle.run_books.specs.Stages.{side_by, stage_by}
-
--- a core's run is legal, where it began so and no grain was loaded
-legal-after : (log : List Told) (r : Run) → IsLegalRun r → NoneLoads log → IsLegalRun (run_after r log)
-legal-after [] r legal none = legal
-legal-after (x ∷ log) r legal none = legal-after log (with_event r x.event) (sound-event r x.event (none x (inl refl)) legal) (λ y i. none y (inr i))
-
-pub own-legal : (r : Run) → IsLegalRun (own_sight r).first → NoneLoads (own_sight r).mine → IsLegalRun r
-own-legal r legal none = subst IsLegalRun (own-run r) (legal-after (own_sight r).mine (own_sight r).first legal none)
 
 -- the lines' numbers, by their places
 number-at : (lines : List Line) (before place : ℕ) (line : Line) → GoUpFrom before lines → slice_get lines place ≡ Some line → line.number ≡ before + place + 1

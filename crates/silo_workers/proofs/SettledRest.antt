@@ -28,9 +28,9 @@ use Rattle.shared_settling.specs.SharedSettler.{SettlesAmong, CanSettleRest, Say
 use Rattle.shared_settling.proofs.LoneSettler.{settling-may, run-own}
 use Rattle.shared_settling.proofs.RunEnds.{carried-all}
 use Rattle.history_core.specs.Cores.{HasFewNumbers}
-use Rattle.closing_rules.specs.ClosedCore.{IsOverAndFree}
-use Rattle.closing_rules.proofs.Growth.{going-before, lines-after}
-use Rattle.closing_rules.proofs.SharedHistories.{Story, begun-after, none-began, reply-there, settles-no-begin, done-after}
+use Rattle.worker_rules.specs.ClosedCore.{IsOverAndFree}
+use Rattle.worker_rules.proofs.Growth.{going-before, lines-after}
+use Rattle.worker_rules.proofs.JoinedHistories.{Story, begun-after, none-began, reply-there, settles-no-begin, done-after}
 use Rattle.silo_workers.specs.RunEnd.{HasGathered}
 use Rattle.silo_workers.specs.declared.work.WorkEnd.{WorkEnd}
 use Rattle.silo_workers.specs.declared.work.WorkEnd.TheVariants.{Through}

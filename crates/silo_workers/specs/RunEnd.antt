@@ -12,7 +12,7 @@ use Rattle.run_books.specs.Beginnings.{Outset, basis_of}
 use Rattle.run_books.specs.Books.{Books}
 use Rattle.run_books.specs.Stages.{Stage}
 use Rattle.shared_settling.specs.SharedSettler.{SettledAmong}
-use Rattle.closing_rules.specs.ClosedCore.{IsOverAndFree, HasBegunLines}
+use Rattle.worker_rules.specs.ClosedCore.{IsOverAndFree, HasBegunLines}
 use Rattle.silo_workers.specs.declared.work.WorkEnd.{WorkEnd}
 use Rattle.silo_workers.specs.declared.work.WorkEnd.TheVariants.{Through}
 

@@ -6,7 +6,7 @@ use Rattle.core_access.specs.Sights.{Sight}
 use Rattle.run_books.specs.declared.faults.RunFault.{RunFault}
 use Rattle.run_books.specs.SharedSteps.{SeesOn}
 use Rattle.run_books.specs.Stages.{Side}
-use Rattle.closing_rules.specs.ClosedCore.{PutsNothing}
+use Rattle.worker_rules.specs.ClosedCore.{PutsNothing}
 use Rattle.shared_settling.specs.SharedSettler.{EndsAmong, LeavesBeside}
 
 -- Events of the settler's were put, and a stop last, perhaps, where it failed; and this is left beside them.

@@ -1,5 +1,5 @@
 -- What a worker's pass brings back, and what is known of several.
-use Rattle.std.specs.Prelude.{◌≡◌, ◌+◌, ◌≤◌, ℕ, List, [], length, ⊤}
+use Rattle.std.specs.Prelude.{◌≡◌, ◌+◌, ◌≤◌, ℕ, List, [], length, ⊤, ◌<◌}
 use Rattle.atomic_table.specs.Seated.{TableId}
 use Rattle.atomic_table.specs.declared.shared.Seat.{Seat}
 use Rattle.request_wire.specs.declared.requests.Line.{Line}
@@ -14,12 +14,11 @@ use Rattle.promise_spec.specs.UnitRule.{Basis}
 use Rattle.turn_cell.specs.declared.place.Place.{Place}
 use Rattle.turn_cell.specs.declared.view.View.{View}
 use Rattle.turn_cell.specs.Passes.{IsPassOf, pass_view}
-use Rattle.txn_agent.specs.CoreLink.{IsLegalRun}
 use Rattle.unit_crew.specs.Crews.{IsBasisOf}
 use Rattle.worker_rules.specs.UnitOwnership.{KeepsPromise}
 use Rattle.worker_rules.specs.Work.{OnlyWorks}
-use Rattle.closing_rules.specs.ClosedCore.{IsClosed, PutsNothing, AreOverAndFree, HasBegunLines}
-use Rattle.closing_rules.specs.JoinedPasses.{Returns, GathersSights, WasShown}
+use Rattle.worker_rules.specs.ClosedCore.{IsClosed, PutsNothing, AreOverAndFree, HasBegunLines}
+use Rattle.worker_rules.specs.JoinedPasses.{Returns, GathersSights, WasShown}
 use Rattle.silo_workers.specs.declared.work.WorkEnd.{WorkEnd}
 use Rattle.silo_workers.specs.declared.work.WorkEnd.TheVariants.{Idle, Through, Lacking}
 
@@ -55,11 +54,11 @@ both_ends Lacking b = Lacking
 abbrev pub CorePass : Type 0
 CorePass = Seat (Place CoreData CoreEvent CoreReply) (View CoreData CoreEvent CoreReply)
 
--- a pass of this cell by which nothing was put, over a legal run that has taken so many lines
+-- a pass of this cell by which nothing was put, over a run that has taken so many lines
 abbrev pub IsFreshPass : TableId → ℕ → CorePass → Type 0
 IsFreshPass cell before p =
     IsPassOf cell p
-    × IsLegalRun (run_of (pass_view p).first)
+    × (0 < (run_of (pass_view p).first).base)
     × (before ≤ (ends (run_of (pass_view p).first)).units.lines)
     × ((pass_view p).hand.mine ≡ [])
 

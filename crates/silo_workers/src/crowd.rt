@@ -8,7 +8,7 @@ ghost use Rattle.script_tree.specs.Programs.{program_tree};
 ghost use Rattle.turn_cell.specs.Hands.{first_hand};
 ghost use Rattle.turn_cell.specs.Passes.{pass_view, view};
 ghost use Rattle.unit_crew.specs.Crews.{IsBasisOf};
-ghost use Rattle.closing_rules.specs.JoinedPasses.{sight_by};
+ghost use Rattle.worker_rules.specs.JoinedPasses.{sight_by};
 ghost use Rattle.silo_workers.specs.SettlerThread.{HasSettled};
 ghost use Rattle.silo_workers.specs.WorkerPasses.{HasWorked, IsFreshPass, BringsBack, BringsTogether, IsGathered, both_ends};
 ghost use Rattle.run_books.specs.Stages.{side_of, IsSafe};

@@ -1,11 +1,8 @@
-ghost use Rattle.std.specs.Prelude.{◌≡◌, ◌≤◌, [], None, Err, true, false, IfOk, IfSome};
+ghost use Rattle.std.specs.Prelude.{◌≡◌, ◌≤◌, [], None, Err, true, false, IfOk, IfSome, ◌<◌};
 ghost use Rattle.host_trait.specs.Files.{StaysReady};
 ghost use Rattle.core_model.specs.LegalRuns.{ends};
-ghost use Rattle.core_access.specs.OneHolder.{own_sight};
 ghost use Rattle.history_core.specs.Cores.{run_of};
 ghost use Rattle.script_tree.specs.Programs.{program_tree};
-ghost use Rattle.txn_agent.specs.CoreLink.{IsLegalRun};
-ghost use Rattle.worker_rules.specs.SharedHistories.{NoneLoads};
 ghost use Rattle.run_books.specs.RecordFrame.{TurnsBeside};
 ghost use Rattle.run_books.specs.Records.{RecordGoesOn};
 ghost use Rattle.interleaver.specs.Turns.{TurnsCarry, WhereTurnsBegin};
@@ -64,8 +61,7 @@ fn carry_in_turns<H: Host, G: Gate, L: Lines + Copy>(
     host: &mut H,
     gate: &G,
 ) -> Result<(), RunFault>
-    requires legal { IsLegalRun (own_sight (run_of core.old)).first }
-    requires loads { NoneLoads (own_sight (run_of core.old)).mine }
+    requires above { 0 < (run_of core.old).base }
     requires safe { IsSafe H.tells settler.old.writer (H.world host.old) }
     ensures carries { TurnsCarry H.tells (program_tree checked.now) (L.lines lines.now) 1 [] 0
         (stage_of H.world H.faults (run_of core.old) settler.old host.old)
@@ -117,8 +113,7 @@ pub fn run_with_workers<R: Threads + Wait + Sync, H: Host, G: Gate + Sync, L: Li
     workers: usize,
 ) -> (Option<Core>, Result<(), RunFault>)
     requires few { workers ≤ 16 }
-    requires legal { IsLegalRun (own_sight (run_of core)).first }
-    requires loads { NoneLoads (own_sight (run_of core)).mine }
+    requires above { 0 < (run_of core).base }
     requires safe { IsSafe H.tells settler.old.writer (H.world host.old) }
 
     // The run's record, however it ends.

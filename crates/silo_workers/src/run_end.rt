@@ -1,5 +1,6 @@
 // How a run with workers ends.
 ghost use Rattle.host_trait.specs.Files.{StaysReady};
+ghost use Rattle.core_access.specs.OneHolder.{own_sight};
 ghost use Rattle.history_core.specs.Cores.{run_of};
 ghost use Rattle.run_books.specs.Beginnings.{Outset};
 ghost use Rattle.run_books.specs.RecordFrame.{TurnsBeside};

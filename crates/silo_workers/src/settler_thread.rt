@@ -4,7 +4,7 @@ ghost use Rattle.host_trait.specs.Files.{StaysReady};
 ghost use Rattle.core_access.specs.PassSights.{sight_of};
 ghost use Rattle.history_core.specs.Cores.{run_of};
 ghost use Rattle.turn_cell.specs.Passes.{IsPassOf, pass_view};
-ghost use Rattle.closing_rules.specs.JoinedPasses.{Returns};
+ghost use Rattle.worker_rules.specs.JoinedPasses.{Returns};
 ghost use Rattle.silo_workers.specs.SettlerThread.{SettlesBeside};
 ghost use Rattle.run_books.specs.Stages.{side_of, IsSafe};
 

@@ -6,7 +6,7 @@ use Rattle.base_types.specs.declared.calls.Origin.TheVariants.{Child}
 use Rattle.base_types.specs.declared.calls.Mode.TheVariants.{Update}
 use Rattle.cell_model.specs.Locks.{holds_lock}
 use Rattle.cell_model.proofs.Units.{same_unit-is, same_grain-true, any-true}
-use Rattle.core_model.specs.CoreState.{UnitNo, GrainId, Value, Call, Outcome, Mode, Member, same_grain, top, CoreState}
+use Rattle.core_model.specs.CoreState.{UnitNo, GrainId, Call, Outcome, Mode, Member, same_grain, top, CoreState}
 use Rattle.core_model.specs.declared.effects.Effect.{Effect}
 use Rattle.core_model.specs.declared.phases.Phase.TheVariants.{Unborn, Running}
 use Rattle.core_model.specs.Tests.{is_over, is_before, outcome_of}
@@ -15,7 +15,6 @@ use Rattle.core_model.specs.declared.events.CoreEvent.{CoreEvent}
 use Rattle.core_model.specs.declared.events.CoreEvent.TheVariants.{Begin, Grant, Refuse, Finish, EndPlain, Release}
 use Rattle.core_model.specs.Events.{applies, step}
 use Rattle.core_model.specs.LegalRuns.{Run, ends}
-use Rattle.core_laws.proofs.KeptInvariant.{Kept}
 use Rattle.core_laws.proofs.Growth.{grows-step, grows-outcome}
 use Rattle.script_tree.specs.Programs.{ProgramTree}
 use Rattle.script_meaning.specs.Trails.{Given, GivenLock, GivenRaise, GivenOutcome}
@@ -29,6 +28,7 @@ use Rattle.turn_rules.proofs.Frame.{Extends, given-stays, got-stays, still-step,
 use Rattle.turn_rules.proofs.Growth.{ends-more, got-event}
 use Rattle.turn_rules.proofs.Movers.{still-locks}
 use Rattle.promise_spec.proofs.Lists.{some_is}
+use Rattle.core_laws.proofs.LoadlessKept.{LoadlessKept}
 
 -- ---- what may be put
 
@@ -92,8 +92,8 @@ due-release s r u g rest f h e = by (any-true (same_grain h) (g ∷ rest) (sym (
 -- ---- events of others
 
 -- a known outcome stays
-pub outcomes-stay : (opening : GrainId → List Value) (r : Run) (e : CoreEvent) → Kept opening (ends r) → Extends (outcome_of (ends r)) (outcome_of (ends (with_event r e)))
-outcomes-stay opening r e k = subst (λ (w : CoreState). Extends (outcome_of (ends r)) (outcome_of w)) (sym (ends-more r e)) (grows-outcome (ends r) (step (ends r) e) (grows-step opening (ends r) e k))
+pub outcomes-stay : (r : Run) (e : CoreEvent) → LoadlessKept (ends r) → Extends (outcome_of (ends r)) (outcome_of (ends (with_event r e)))
+outcomes-stay r e k = subst (λ (w : CoreState). Extends (outcome_of (ends r)) (outcome_of w)) (sym (ends-more r e)) (grows-outcome (ends r) (step (ends r) e) (grows-step (ends r) e k))
 
 -- who runs has begun
 runs-born : (w : CoreState) (u : UnitNo) → w.units.phase u ≡ Running → w.units.phase u ≡ Unborn → ⊥
@@ -104,42 +104,42 @@ over-born : (w : CoreState) (u : UnitNo) → is_over (w.units.phase u) ≡ true 
 over-born w u o e = (let t : false ≡ true = sym (ap is_over e) ∙ o in cc)
 
 -- another's event leaves a unit as it was
-pub still-others : (opening : GrainId → List Value) (r : Run) (u : UnitNo) (e : CoreEvent) → Kept opening (ends r) → ((ends r).units.phase u ≡ Unborn → ⊥) → is_own u e ≡ false → IsStill u (ends r) (ends (with_event r e))
-still-others opening r u e k b o = subst (IsStill u (ends r)) (sym (ends-more r e)) (still-step opening u (ends r) e k b o)
+pub still-others : (r : Run) (u : UnitNo) (e : CoreEvent) → LoadlessKept (ends r) → ((ends r).units.phase u ≡ Unborn → ⊥) → is_own u e ≡ false → IsStill u (ends r) (ends (with_event r e))
+still-others r u e k b o = subst (IsStill u (ends r)) (sym (ends-more r e)) (still-step u (ends r) e k b o)
 
 -- and what it was given
-pub given-others : (opening : GrainId → List Value) (r : Run) (u : UnitNo) (trail : List Given) (e : CoreEvent) → Kept opening (ends r) → is_own u e ≡ false → HasTrail r u trail → HasTrail (with_event r e) u trail
-given-others opening r u trail e k o g =
-    let s = still-others opening r u e k (runs-born (ends r) u g.running) o in
+pub given-others : (r : Run) (u : UnitNo) (trail : List Given) (e : CoreEvent) → LoadlessKept (ends r) → is_own u e ≡ false → HasTrail r u trail → HasTrail (with_event r e) u trail
+given-others r u trail e k o g =
+    let s = still-others r u e k (runs-born (ends r) u g.running) o in
     record {
       running = s.phase ∙ g.running;
-      given = subst (λ (l : List Got). given_by (ends (with_event r e)) l ≡ Some trail) (sym (got-stays r u e o)) (given-stays (ends r) (ends (with_event r e)) (got_in r u) trail (outcomes-stay opening r e k) g.given);
+      given = subst (λ (l : List Got). given_by (ends (with_event r e)) l ≡ Some trail) (sym (got-stays r u e o)) (given-stays (ends r) (ends (with_event r e)) (got_in r u) trail (outcomes-stay r e k) g.given);
     }
 
 -- and the child that it waits for
-pub awaiting-others : (opening : GrainId → List Value) (r : Run) (u child : UnitNo) (call : Call) (depth : ℕ) (trail : List Given) (e : CoreEvent) → Kept opening (ends r) → is_own u e ≡ false →
+pub awaiting-others : (r : Run) (u child : UnitNo) (call : Call) (depth : ℕ) (trail : List Given) (e : CoreEvent) → LoadlessKept (ends r) → is_own u e ≡ false →
     IsAwaiting r u child call depth trail → IsAwaiting (with_event r e) u child call depth trail
-awaiting-others opening r u child call depth trail e k o a =
-    let s = still-others opening r u e k (runs-born (ends r) u a.running) o in
+awaiting-others r u child call depth trail e k o a =
+    let s = still-others r u e k (runs-born (ends r) u a.running) o in
     record {
       running = s.phase ∙ a.running;
       before = a.before;
       got = got-stays r u e o ∙ a.got;
-      given = given-stays (ends r) (ends (with_event r e)) a.before trail (outcomes-stay opening r e k) a.given;
+      given = given-stays (ends r) (ends (with_event r e)) a.before trail (outcomes-stay r e k) a.given;
     }
 
 -- and its locks
-pub holds-others : (opening : GrainId → List Value) (r : Run) (u : UnitNo) (held : List GrainId) (e : CoreEvent) → Kept opening (ends r) → ((ends r).units.phase u ≡ Unborn → ⊥) → is_own u e ≡ false →
+pub holds-others : (r : Run) (u : UnitNo) (held : List GrainId) (e : CoreEvent) → LoadlessKept (ends r) → ((ends r).units.phase u ≡ Unborn → ⊥) → is_own u e ≡ false →
     HoldsLocks r u held → HoldsLocks (with_event r e) u held
-holds-others opening r u held e k b o h g = still-locks u (ends r) (ends (with_event r e)) (still-others opening r u e k b o) g ∙ h g
+holds-others r u held e k b o h g = still-locks u (ends r) (ends (with_event r e)) (still-others r u e k b o) g ∙ h g
 
 -- and those that are left to be released
-pub freeing-others : (opening : GrainId → List Value) (r : Run) (u : UnitNo) (held : List GrainId) (e : CoreEvent) → Kept opening (ends r) → is_own u e ≡ false → IsFreeing r u held → IsFreeing (with_event r e) u held
-freeing-others opening r u held e k o f =
+pub freeing-others : (r : Run) (u : UnitNo) (held : List GrainId) (e : CoreEvent) → LoadlessKept (ends r) → is_own u e ≡ false → IsFreeing r u held → IsFreeing (with_event r e) u held
+freeing-others r u held e k o f =
     let b = over-born (ends r) u f.over in
     record {
-      over = ap is_over (still-others opening r u e k b o).phase ∙ f.over;
-      locks = holds-others opening r u held e k b o f.locks;
+      over = ap is_over (still-others r u e k b o).phase ∙ f.over;
+      locks = holds-others r u held e k b o f.locks;
       ascending = f.ascending;
     }
 
@@ -184,40 +184,40 @@ got-applied : (r : Run) (u : UnitNo) (e : CoreEvent) → applies (ends r) e ≡ 
 got-applied r u e a = got-event r e u ∙ ap (λ (t : Bool). got_in r u ++ (if t then got_by (ends r) u e else [])) a
 
 -- a child of its own began
-pub child-began : (r : Run) (u : UnitNo) (index depth : ℕ) (call : Call) (trail : List Given) (opening : GrainId → List Value) → Kept opening (ends r) → applies (ends r) (Begin (Child u index depth) call false) ≡ true → HasTrail r u trail →
+pub child-began : (r : Run) (u : UnitNo) (index depth : ℕ) (call : Call) (trail : List Given) → LoadlessKept (ends r) → applies (ends r) (Begin (Child u index depth) call false) ≡ true → HasTrail r u trail →
     (ends (with_event r (Begin (Child u index depth) call false))).units.phase u ≡ Running → IsAwaiting (with_event r (Begin (Child u index depth) call false)) u (new_unit (ends r)) call depth trail
-child-began r u index depth call trail opening k a g still = record {
+child-began r u index depth call trail k a g still = record {
   running = still;
   before = got_in r u;
   got = got-applied r u (Begin (Child u index depth) call false) a ∙ ap (λ (t : Bool). got_in r u ++ (if t then GotChild call depth (new_unit (ends r)) ∷ [] else [])) (same_unit-is u u refl);
-  given = given-stays (ends r) (ends (with_event r (Begin (Child u index depth) call false))) (got_in r u) trail (outcomes-stay opening r (Begin (Child u index depth) call false) k) g.given;
+  given = given-stays (ends r) (ends (with_event r (Begin (Child u index depth) call false))) (got_in r u) trail (outcomes-stay r (Begin (Child u index depth) call false) k) g.given;
 }
 
 -- a grain was locked for the first time
-pub locked-first : (r : Run) (u : UnitNo) (g : GrainId) (mode : Mode) (trail : List Given) (opening : GrainId → List Value) → Kept opening (ends r) → applies (ends r) (Grant u g mode) ≡ true → holds_lock u ((ends r).cells.holds g) ≡ false → HasTrail r u trail →
+pub locked-first : (r : Run) (u : UnitNo) (g : GrainId) (mode : Mode) (trail : List Given) → LoadlessKept (ends r) → applies (ends r) (Grant u g mode) ≡ true → holds_lock u ((ends r).cells.holds g) ≡ false → HasTrail r u trail →
     (ends (with_event r (Grant u g mode))).units.phase u ≡ Running → HasTrail (with_event r (Grant u g mode)) u (trail ++ (GivenLock g mode (top (cleaned (ends r) g)).state ∷ []))
-locked-first r u g mode trail opening k a fresh given still = record {
+locked-first r u g mode trail k a fresh given still = record {
   running = still;
   given = subst (λ (l : List Got). given_by (ends (with_event r (Grant u g mode))) l ≡ Some (trail ++ (GivenLock g mode (top (cleaned (ends r) g)).state ∷ [])))
       (sym (got-applied r u (Grant u g mode) a
       ∙ ap (λ (t : Bool). got_in r u ++ (if t then got_lock (ends r) u g mode ∷ [] else [])) (same_unit-is u u refl)
       ∙ ap (λ (x : Got). got_in r u ++ (x ∷ [])) (lock-first fresh)))
       (given-last (ends (with_event r (Grant u g mode))) (got_in r u) trail (GotLock g mode (top (cleaned (ends r) g)).state) (GivenLock g mode (top (cleaned (ends r) g)).state)
-      (given-stays (ends r) (ends (with_event r (Grant u g mode))) (got_in r u) trail (outcomes-stay opening r (Grant u g mode) k) given.given) refl);
+      (given-stays (ends r) (ends (with_event r (Grant u g mode))) (got_in r u) trail (outcomes-stay r (Grant u g mode) k) given.given) refl);
 }
   where
     lock-first : holds_lock u ((ends r).cells.holds g) ≡ false → got_lock (ends r) u g mode ≡ GotLock g mode (top (cleaned (ends r) g)).state
     lock-first e = cond-false (holds_lock u ((ends r).cells.holds g)) (GotRaise g) (GotLock g mode (top (cleaned (ends r) g)).state) e
 
 -- a shared lock became exclusive
-pub locked-again : (r : Run) (u : UnitNo) (g : GrainId) (trail : List Given) (opening : GrainId → List Value) → Kept opening (ends r) → applies (ends r) (Grant u g Update) ≡ true → holds_lock u ((ends r).cells.holds g) ≡ true → HasTrail r u trail →
+pub locked-again : (r : Run) (u : UnitNo) (g : GrainId) (trail : List Given) → LoadlessKept (ends r) → applies (ends r) (Grant u g Update) ≡ true → holds_lock u ((ends r).cells.holds g) ≡ true → HasTrail r u trail →
     (ends (with_event r (Grant u g Update))).units.phase u ≡ Running → HasTrail (with_event r (Grant u g Update)) u (trail ++ (GivenRaise g ∷ []))
-locked-again r u g trail opening k a held given still = record {
+locked-again r u g trail k a held given still = record {
   running = still;
   given = subst (λ (l : List Got). given_by (ends (with_event r (Grant u g Update))) l ≡ Some (trail ++ (GivenRaise g ∷ [])))
       (sym (got-applied r u (Grant u g Update) a
       ∙ ap (λ (t : Bool). got_in r u ++ (if t then got_lock (ends r) u g Update ∷ [] else [])) (same_unit-is u u refl)
       ∙ ap (λ (x : Got). got_in r u ++ (x ∷ [])) (cond-true (holds_lock u ((ends r).cells.holds g)) (GotRaise g) (GotLock g Update (top (cleaned (ends r) g)).state) held)))
       (given-last (ends (with_event r (Grant u g Update))) (got_in r u) trail (GotRaise g) (GivenRaise g)
-      (given-stays (ends r) (ends (with_event r (Grant u g Update))) (got_in r u) trail (outcomes-stay opening r (Grant u g Update) k) given.given) refl);
+      (given-stays (ends r) (ends (with_event r (Grant u g Update))) (got_in r u) trail (outcomes-stay r (Grant u g Update) k) given.given) refl);
 }

@@ -6,7 +6,7 @@ use Rattle.std.proofs.lemmas.Bool.{and_parts, cond_both, cases_Bool}
 use Rattle.base_types.specs.declared.calls.Origin.TheVariants.{Line, Child}
 use Rattle.cell_model.specs.Locks.{is_hold_of, dropped, granted}
 use Rattle.cell_model.proofs.Units.{same_unit-true, same_unit-false}
-use Rattle.core_model.specs.CoreState.{UnitNo, GrainId, same_unit, put_grain, Hold, Mode, Value, Outcome, Origin, Call, Units, CoreState}
+use Rattle.core_model.specs.CoreState.{UnitNo, GrainId, same_unit, put_grain, Hold, Mode, Outcome, Origin, Call, Units, CoreState}
 use Rattle.core_model.specs.declared.phases.Phase.TheVariants.{Unborn}
 use Rattle.core_model.specs.Tests.{outcome_of}
 use Rattle.core_model.specs.declared.events.CoreEvent.{CoreEvent}
@@ -15,17 +15,17 @@ use Rattle.core_model.specs.Changes.{new_unit, begun, swept, swept_by}
 use Rattle.core_model.specs.Events.{applies, can, does, step, is_allowed}
 use Rattle.core_model.specs.LegalRuns.{Run, ends}
 use Rattle.core_laws.proofs.Puts.{put-other, grain-at}
-use Rattle.core_laws.proofs.KeptInvariant.{Kept}
 use Rattle.core_laws.proofs.EventCases.{Change, bad, begin, lock, raise, refuse, finish, end_plain, end_snapshot, release, take_batch, vote, decide_some, decide_none, seal_batch, spoil_batch, doubt_batch, learn, emit, halt_run, want, load, decode}
 use Rattle.script_tree.specs.Programs.{ProgramTree}
 use Rattle.script_meaning.specs.Trails.{Given, GivenLock, GivenRaise, GivenOutcome, locks_of, answers_of}
-use Rattle.promise_spec.specs.SerialExecution.{depth_of}
+use Rattle.base_types.specs.Origins.{depth_of}
 use Rattle.promise_spec.specs.UnitAnswers.{Got, GotLock, GotRaise, GotChild, got_lock, got_by, and_given, given_by, wanted_by, got_in}
 use Rattle.turn_rules.specs.NextEvent.{with_event, is_begin, is_own}
 use Rattle.turn_rules.specs.UnitFrame.{own_holds, IsStill}
 use Rattle.script_meaning.specs.Play as script
 use Rattle.turn_rules.proofs.Growth.{got-event}
 use Rattle.promise_spec.proofs.Lists.{some_is}
+use Rattle.core_laws.proofs.LoadlessKept.{LoadlessKept}
 
 -- a list that isn't chosen is empty
 none-if : {A : Type 0} (b : Bool) (xs : List A) → b ≡ false → (if b then xs else []) ≡ []
@@ -246,8 +246,8 @@ still-swept u w w' s = go w'.cells.capacity
     go (Some m) = record { phase = s.phase; origin = s.origin; call = s.call; plain = s.plain; kids = s.kids; reads = s.reads; own = s.own }
 
 -- a unit that has begun isn't the next one
-pub begun-old : (opening : GrainId → List Value) (w : CoreState) (u : UnitNo) → Kept opening w → (w.units.phase u ≡ Unborn → ⊥) → u ≡ new_unit w → ⊥
-begun-old opening w u k born q = born (k.0.unborn u (subst (λ (v : UnitNo). w.units.next ≤ v.0) (sym q) (le_refl w.units.next)))
+pub begun-old : (w : CoreState) (u : UnitNo) → LoadlessKept w → (w.units.phase u ≡ Unborn → ⊥) → u ≡ new_unit w → ⊥
+begun-old w u k born q = born (k.0.unborn u (subst (λ (v : UnitNo). w.units.next ≤ v.0) (sym q) (le_refl w.units.next)))
 
 -- one event of others
 pub still-event : (u : UnitNo) (w : CoreState) (e : CoreEvent) → (is_begin e ≡ true → u ≡ new_unit w → ⊥) → is_own u e ≡ false → IsStill u w (step w e)
@@ -256,8 +256,8 @@ still-event u w e new o = cond_both (applies w e) (swept (does w e)) w (IsStill 
     (λ a. still-same u w)
 
 -- one event of others, for a unit that has begun
-pub still-step : (opening : GrainId → List Value) (u : UnitNo) (w : CoreState) (e : CoreEvent) → Kept opening w → (w.units.phase u ≡ Unborn → ⊥) → is_own u e ≡ false → IsStill u w (step w e)
-still-step opening u w e k born o = still-event u w e (λ b. begun-old opening w u k born) o
+pub still-step : (u : UnitNo) (w : CoreState) (e : CoreEvent) → LoadlessKept w → (w.units.phase u ≡ Unborn → ⊥) → is_own u e ≡ false → IsStill u w (step w e)
+still-step u w e k born o = still-event u w e (λ b. begun-old w u k born) o
 
 -- ---- what the script asks for
 

@@ -9,7 +9,7 @@ pub mod Waits
 pub mod WaitOrder
 pub mod AgentLinks
 pub mod OthersEvents
-pub mod LegalRuns
 pub mod Picks
 pub mod Settlers
+pub mod WithinWindows
 pub mod Turns

@@ -7,7 +7,7 @@ use Rattle.std.proofs.lemmas.Bool.{and_parts, cond_both, cases_Bool, or_parts, o
 use Rattle.base_types.specs.declared.entries.Entry.{Entry}
 use Rattle.cell_model.specs.Locks.{holds_lock, is_hold_of}
 use Rattle.cell_model.proofs.Units.{same_unit-true, any-true, any-member, Member-left, Member-append, filter-member}
-use Rattle.core_model.specs.CoreState.{UnitNo, GrainId, Value, Call, Origin, Member, same_unit, CoreState}
+use Rattle.core_model.specs.CoreState.{UnitNo, GrainId, Call, Origin, Member, same_unit, CoreState}
 use Rattle.core_model.specs.declared.effects.Read.{Read}
 use Rattle.core_model.specs.declared.phases.Phase.{Phase}
 use Rattle.core_model.specs.declared.phases.Phase.TheVariants.{Unborn, Running, Finished, Refused, Ended}
@@ -20,21 +20,21 @@ use Rattle.core_model.specs.Events.{applies, can, does, step, is_allowed}
 use Rattle.core_model.specs.LegalRuns.{Run, ends}
 use Rattle.core_model.specs.Laws.{HoldsNothing}
 use Rattle.core_laws.proofs.Basics.{is_running-true}
-use Rattle.core_laws.proofs.KeptInvariant.{Kept}
 use Rattle.core_laws.proofs.Replies.{extends-ends}
 use Rattle.core_laws.proofs.BatchPrefix.{free-holds}
 use Rattle.core_laws.proofs.EventCases.{Change, bad, begin, lock, raise, refuse, finish, end_plain, end_snapshot, release, take_batch, vote, decide_some, decide_none, seal_batch, spoil_batch, doubt_batch, learn, emit, halt_run, want, load, decode}
 use Rattle.script_tree.specs.Programs.{ProgramTree}
 use Rattle.promise_spec.specs.UnitAnswers.{Got, wanted_by, got_in}
 use Rattle.core_model.specs.Settler.{has_step, settler_step}
-use Rattle.promise_spec.specs.TurnRule.{OfUnit, OfSettler, can_move, line_can_begin, in_flight, is_line, is_settled, is_unhindered, units_of, units_from}
-use Rattle.turn_rules.specs.NextEvent.{with_event, is_begin, is_own, movers_in}
+use Rattle.promise_spec.specs.TurnRule.{OfUnit, OfSettler, can_move, in_flight, is_line, is_settled, is_unhindered, units_of, units_from}
+use Rattle.turn_rules.specs.NextEvent.{with_event, is_begin, is_own, movers_in, line_has_place}
 use Rattle.turn_rules.specs.UnitFrame.{IsStill}
 use Rattle.turn_rules.specs.CarriedUnits.{is_live, is_flying, is_kept, AreKept, movers_of, can_begin_by}
 use Rattle.turn_rules.proofs.ListTests.{any-filter, filter-agree, filter-among, filter-stronger, or-left, or-right, some_of}
 use Rattle.turn_rules.proofs.Growth.{ends-more}
 use Rattle.turn_rules.proofs.Numbers.{next-begun, next-stays, units-below, units-last}
 use Rattle.turn_rules.proofs.Frame.{still-event, still-same}
+use Rattle.core_laws.proofs.LoadlessKept.{LoadlessKept}
 
 -- ---- movers and lines in flight
 
@@ -61,8 +61,8 @@ flying-kept r units kept =
     sym (length-filter (is_flying (ends r)) (units_of r (ends r)))
     ∙ ap length (filter-stronger (is_flying (ends r)) (is_kept (ends r)) (λ u e. or-right (is_live (ends r) u) (is_flying (ends r) u) e) (units_of r (ends r)) units (sym kept.kept))
 
--- so is whether a line can begin
-pub begins-kept : (width lines : ℕ) (r : Run) (units : List UnitNo) → AreKept r units → line_can_begin width lines r (ends r) ≡ can_begin_by width lines r units
+-- so is whether a line has a place
+pub begins-kept : (width lines : ℕ) (r : Run) (units : List UnitNo) → AreKept r units → line_has_place width lines r ≡ can_begin_by width lines r units
 begins-kept width lines r units kept = ap (λ (n : ℕ). is_none (ends r).manager.doubt && (nat_lt n width && nat_lt (ends r).units.lines lines)) (flying-kept r units kept)
 
 -- units that are no more to be looked at may go
@@ -110,8 +110,8 @@ no-own u w e w' (want v g running free fresh) idle none o = not-running u v w id
 no-own u w e w' (load g v state gone wanted) idle none o = (let t : true ≡ false = sym o in cc)
 
 -- and each event leaves it as it was
-rest-still : (opening : GrainId → List Value) (u : UnitNo) (w : CoreState) (e : CoreEvent) → (is_begin e ≡ true → u ≡ new_unit w → ⊥) → is_running (w.units.phase u) ≡ false → HoldsNothing w u → IsStill u w (step w e)
-rest-still opening u w e new idle none = elim (cases_Bool (is_own u e)) [
+rest-still : (u : UnitNo) (w : CoreState) (e : CoreEvent) → (is_begin e ≡ true → u ≡ new_unit w → ⊥) → is_running (w.units.phase u) ≡ false → HoldsNothing w u → IsStill u w (step w e)
+rest-still u w e new idle none = elim (cases_Bool (is_own u e)) [
   | inl o ↦ cond_both (applies w e) (swept (does w e)) w (IsStill u w)
       (λ a. absurd (no-own u w e (does w e) (decode w e (and_parts (is_allowed w e) (can w e) a).1) idle none o))
       (λ a. still-same u w)
@@ -135,8 +135,8 @@ settled-stays r e u s =
     (subst (Member t.0) (sym more.1) (Member-left t.0 (ends r).manager.settled more.0 t.1)) t.2
 
 -- who isn't looked at has no lock, and doesn't run
-idle-free : (opening : GrainId → List Value) (w : CoreState) (u : UnitNo) → Kept opening w → is_live w u ≡ false → (is_running (w.units.phase u) ≡ false) × (is_free w u ≡ true)
-idle-free opening w u k e =
+idle-free : (w : CoreState) (u : UnitNo) → LoadlessKept w → is_live w u ≡ false → (is_running (w.units.phase u) ≡ false) × (is_free w u ≡ true)
+idle-free w u k e =
     let p = or_parts (is_running (w.units.phase u)) (is_over (w.units.phase u) && not (is_free w u)) e in
     (p.0, by (w.units.phase u) refl p.0 p.1)
   where
@@ -151,9 +151,9 @@ idle-free opening w u k e =
     by Ended q a b = over (is_free w u) (subst (λ (x : Phase). (is_over x && not (is_free w u)) ≡ false) q b)
 
 -- and isn't looked at after any event
-pub gone-stays : (opening : GrainId → List Value) (r : Run) (e : CoreEvent) (u : UnitNo) → Kept opening (ends r) → (is_begin e ≡ true → u ≡ new_unit (ends r) → ⊥) →
+pub gone-stays : (r : Run) (e : CoreEvent) (u : UnitNo) → LoadlessKept (ends r) → (is_begin e ≡ true → u ≡ new_unit (ends r) → ⊥) →
     is_kept (ends (with_event r e)) u ≡ true → is_kept (ends r) u ≡ true
-gone-stays opening r e u k new later = elim (cases_Bool (is_kept (ends r) u)) [
+gone-stays r e u k new later = elim (cases_Bool (is_kept (ends r) u)) [
   | inl a ↦ a
   | inr a ↦ (let t : true ≡ false = sym later ∙ stays a in cc)
 ]
@@ -188,8 +188,8 @@ gone-stays opening r e u k new later = elim (cases_Bool (is_kept (ends r) u)) [
     stays : is_kept w u ≡ false → is_kept w' u ≡ false
     stays a =
         let p = or_parts (is_live w u) (is_flying w u) a in
-        let q = idle-free opening w u k p.0 in
-        let s : IsStill u w w' = subst (IsStill u w) (sym (ends-more r e)) (rest-still opening u w e new q.0 (free-holds opening _ w k.0 u q.1)) in
+        let q = idle-free w u k p.0 in
+        let s : IsStill u w w' = subst (IsStill u w) (sym (ends-more r e)) (rest-still u w e new q.0 (free-holds _ w k.0 u q.1)) in
         let free : is_free w' u ≡ true = still-free u w w' s ∙ q.1 in
         or_from (is_live w' u) (is_flying w' u)
         (live-not (is_running (w'.units.phase u)) (is_over (w'.units.phase u)) (is_free w' u) (ap is_running s.phase ∙ q.0) free)
@@ -202,10 +202,10 @@ gone-stays opening r e u k new later = elim (cases_Bool (is_kept (ends r) u)) [
 -- ---- the units that are looked at
 
 -- an event by which no unit begins
-pub kept-on : (opening : GrainId → List Value) (r : Run) (e : CoreEvent) (units : List UnitNo) → Kept opening (ends r) → is_begin e ≡ false → AreKept r units → AreKept (with_event r e) units
-kept-on opening r e units k o kept =
+pub kept-on : (r : Run) (e : CoreEvent) (units : List UnitNo) → LoadlessKept (ends r) → is_begin e ≡ false → AreKept r units → AreKept (with_event r e) units
+kept-on r e units k o kept =
     let same : (ends (with_event r e)).units.next ≡ (ends r).units.next = ap (λ (x : CoreState). x.units.next) (ends-more r e) ∙ next-stays (ends r) e o in
-    let weak : (u : UnitNo) → is_kept (ends (with_event r e)) u ≡ true → is_kept (ends r) u ≡ true = λ u later. gone-stays opening r e u k (λ b. (let t : true ≡ false = sym b ∙ o in cc)) later in
+    let weak : (u : UnitNo) → is_kept (ends (with_event r e)) u ≡ true → is_kept (ends r) u ≡ true = λ u later. gone-stays r e u k (λ b. (let t : true ≡ false = sym b ∙ o in cc)) later in
     record {
       kept = filter-stronger (is_kept (ends (with_event r e))) (is_kept (ends r)) weak units (units_of r (ends r)) kept.kept
           ∙ ap (λ (n : ℕ). filter (is_kept (ends (with_event r e))) (units_from (n - r.base) r.base)) (sym same);
@@ -213,9 +213,9 @@ kept-on opening r e units k o kept =
     }
 
 -- a unit that begins comes last
-pub kept-begun : (opening : GrainId → List Value) (r : Run) (origin : Origin) (call : Call) (plain : Bool) (units : List UnitNo) → Kept opening (ends r) → r.base ≤ (ends r).units.next →
+pub kept-begun : (r : Run) (origin : Origin) (call : Call) (plain : Bool) (units : List UnitNo) → LoadlessKept (ends r) → r.base ≤ (ends r).units.next →
     applies (ends r) (Begin origin call plain) ≡ true → AreKept r units → AreKept (with_event r (Begin origin call plain)) (units ++ (new_unit (ends r) ∷ []))
-kept-begun opening r origin call plain units k above a kept =
+kept-begun r origin call plain units k above a kept =
     record {
       kept = filter-append later units (new_unit (ends r) ∷ [])
           ∙ ap (λ (l : List UnitNo). l ++ filter later (new_unit (ends r) ∷ [])) (filter-agree later (is_kept (ends r)) units (units_of r (ends r)) weak kept.kept)
@@ -252,7 +252,7 @@ kept-begun opening r origin call plain units k above a kept =
         ∙ ap (λ (n : ℕ). units_of r (ends r) ++ (record { 0 = n } ∷ [])) f
 
     weak : (u : UnitNo) → Member u units ⊎ Member u (units_of r (ends r)) → is_kept (ends (with_event r (Begin origin call plain))) u ≡ true → is_kept (ends r) u ≡ true
-    weak u m = gone-stays opening r (Begin origin call plain) u k (λ b q. old u m (ap (λ (x : UnitNo). x.0) q))
+    weak u m = gone-stays r (Begin origin call plain) u k (λ b q. old u m (ap (λ (x : UnitNo). x.0) q))
       where
         old : (u : UnitNo) → Member u units ⊎ Member u (units_of r (ends r)) → u.0 ≡ (ends r).units.next → ⊥
         old u (inl n) q = (let less = kept.below u n in omega (arith, less, q))

@@ -7,23 +7,20 @@ use Rattle.base_types.specs.declared.calls.Origin.TheVariants.{Line, Child}
 use Rattle.base_types.specs.declared.entries.Entry.{Entry}
 use Rattle.cell_model.specs.Locks.{holds_lock}
 use Rattle.cell_model.proofs.Units.{same_unit-true, same_unit-is, cases_unit, Member-left, Member-last}
-use Rattle.core_model.specs.CoreState.{UnitNo, GrainId, nobody, top, Mode, Value, Call, Origin, Member, same_unit, put, CoreState}
+use Rattle.core_model.specs.CoreState.{UnitNo, GrainId, nobody, top, Mode, Call, Origin, Member, same_unit, put, CoreState}
 use Rattle.core_model.specs.declared.phases.Phase.{Phase}
 use Rattle.core_model.specs.declared.phases.Phase.TheVariants.{Unborn, Running, Finished, Refused, Ended}
 use Rattle.core_model.specs.Changes.{new_unit, begun, cleaned, lines_with, kids_with, swept, swept_by}
 use Rattle.core_model.specs.declared.events.CoreEvent.{CoreEvent}
 use Rattle.core_model.specs.declared.events.CoreEvent.TheVariants.{Begin, Grant}
 use Rattle.core_model.specs.Events.{applies, can, does, step, run, is_allowed}
-use Rattle.core_model.specs.LegalRuns.{Run, IsLegal, begins, ends}
-use Rattle.core_model.specs.SerialOrder.{AllLoadsTrue}
-use Rattle.core_laws.proofs.KeptInvariant.{Kept, kept-step}
-use Rattle.core_laws.proofs.Ends.{kept-begins}
-use Rattle.core_model.specs.declared.effects.Effect.{Effect}
+use Rattle.core_model.specs.LegalRuns.{Run, begins, ends}
 use Rattle.base_types.specs.declared.entries.Settled.TheVariants.{Bad as Wrong}
 use Rattle.core_laws.proofs.Puts.{put-is, put-other, put-same}
 use Rattle.core_laws.proofs.EventCases.{Change, bad, begin, lock, raise, refuse, finish, end_plain, end_snapshot, release, take_batch, vote, decide_some, decide_none, seal_batch, spoil_batch, doubt_batch, learn, emit, halt_run, want, load, decode}
 use Rattle.promise_spec.specs.UnitAnswers.{Got, GotLock, GotRaise, GotChild, got_lock, got_by, got_from, got_in, kids_got}
 use Rattle.turn_rules.specs.RunCounts.{IsCounted}
+use Rattle.core_laws.proofs.LoadlessKept.{LoadlessKept, loadless-begins, loadless-step}
 
 -- the children of two lists
 kids_got-append : (xs ys : List Got) → kids_got (xs ++ ys) ≡ kids_got xs ++ kids_got ys
@@ -196,27 +193,27 @@ counted-swept base w got c = go w.cells.capacity
     go (Some m) = steady base w (swept_by w (Some m)) got got refl refl refl refl (λ u q. q) (λ u q. q) (λ x m. m) (λ u. refl) c
 
 -- one event, whether it applies or not
-pub counted-step : (opening : GrainId → List Value) (base : ℕ) (w : CoreState) (got : UnitNo → List Got) (e : CoreEvent) → Kept opening w → IsCounted base w got →
+pub counted-step : (base : ℕ) (w : CoreState) (got : UnitNo → List Got) (e : CoreEvent) → LoadlessKept w → IsCounted base w got →
     IsCounted base (step w e) (λ u. got u ++ (if applies w e then got_by w u e else []))
-counted-step opening base w got e k c = by (applies w e) refl
+counted-step base w got e k c = by (applies w e) refl
   where
     by : (b : Bool) → applies w e ≡ b → IsCounted base (if b then swept (does w e) else w) (λ u. got u ++ (if b then got_by w u e else []))
     by true a = counted-swept base (does w e) (λ u. got u ++ got_by w u e) (counted-change base w got e (does w e) (decode w e (and_parts (is_allowed w e) (can w e) a).1) k.0.unborn c)
     by false a = subst (λ (h : UnitNo → List Got). IsCounted base w h) (λ i u. sym (append-nil (got u)) i) c
 
 -- by a list of events
-counted-run : (opening : GrainId → List Value) (base : ℕ) (es : List CoreEvent) (w : CoreState) (got : UnitNo → List Got) → AllLoadsTrue opening w es → Kept opening w → IsCounted base w got →
+counted-run : (base : ℕ) (es : List CoreEvent) (w : CoreState) (got : UnitNo → List Got) → LoadlessKept w → IsCounted base w got →
     IsCounted base (run w es) (λ u. got u ++ got_from w es u)
-counted-run opening base [] w got loads k c = subst (λ (h : UnitNo → List Got). IsCounted base w h) (λ i u. sym (append-nil (got u)) i) c
-counted-run opening base (e ∷ es) w got loads k c =
+counted-run base [] w got k c = subst (λ (h : UnitNo → List Got). IsCounted base w h) (λ i u. sym (append-nil (got u)) i) c
+counted-run base (e ∷ es) w got k c =
     subst (λ (h : UnitNo → List Got). IsCounted base (run (step w e) es) h)
     (λ i u. append_assoc (got u) (if applies w e then got_by w u e else []) (got_from (step w e) es u) i)
-    (counted-run opening base es (step w e) (λ u. got u ++ (if applies w e then got_by w u e else [])) loads.1 (kept-step opening w e loads.0 k) (counted-step opening base w got e k c))
+    (counted-run base es (step w e) (λ u. got u ++ (if applies w e then got_by w u e else [])) (loadless-step w e k) (counted-step base w got e k c))
 
 -- every run
-pub counted-ends : (plays : Effect → Bool) (r : Run) → IsLegal plays r → IsCounted r.base (ends r) (got_in r)
-counted-ends plays r legal =
-    counted-run r.opening r.base r.events (begins r) (λ u. []) legal.loads (kept-begins plays r legal) record {
+pub counted-ends : (r : Run) → 0 < r.base → IsCounted r.base (ends r) (got_in r)
+counted-ends r above =
+    counted-run r.base r.events (begins r) (λ u. []) (loadless-begins r above) record {
       above = le_refl r.base;
       numbered = λ u b. absurd (b refl);
       born = λ u low high e. absurd (omega (arith, low, high));

@@ -1,5 +1,5 @@
 -- The events of the settler's steps, and that no run by turns is stopped.
-use Rattle.std.proofs.Common.{◌≡◌, ℕ, suc, Option, Some, None, List, [], ◌∷◌, get_or, true, false, inl, inr, refl, sym, ap, ◌∙◌, subst}
+use Rattle.std.proofs.Common.{◌≡◌, ℕ, Bool, suc, Option, Some, None, List, [], ◌∷◌, get_or, true, false, inl, inr, refl, sym, ap, ◌∙◌, subst}
 use Rattle.std.specs.Prelude.{take, slice_get}
 use Rattle.std.proofs.lemmas.Bool.{cond_both, and_parts}
 use Rattle.core_model.specs.CoreState.{UnitNo, CoreState}
@@ -83,10 +83,10 @@ pub going-by : (r : Run) (e : CoreEvent) → (e ≡ Halt → ⊥) → (ends r).u
 going-by r e other going = ap (λ (w : CoreState). w.units.halt) (ends-more r e) ∙ halt-step (ends r) e (λ a. other) ∙ going
 
 -- no run that keeps the turn rule is stopped
-pub never-halted : (types : ProgramTree) (lines width : ℕ) (picks : List ℕ) (r : Run) → KeepsTurnRule types lines width picks r → (ends r).units.halt ≡ false
-never-halted types lines width picks r keeps =
+pub never-halted : (types : ProgramTree) (windowed : Bool) (lines width : ℕ) (picks : List ℕ) (r : Run) → KeepsTurnRule types windowed lines width picks r → (ends r).units.halt ≡ false
+never-halted types windowed lines width picks r keeps =
     halt-run r.events (begins r) (λ at e there a q.
-    no-halt-step (settler_step (state_before r at)) (subst (λ (x : CoreEvent). IsTurn (line_can_begin width lines r (state_before r at)) (picked (movers types r (state_before r at) (got_from (begins r) (take at r.events))) (get_or picks (picks_used r at) 0)) (state_before r at) x (mover_of x)) q
+    no-halt-step (settler_step (state_before r at)) (subst (λ (x : CoreEvent). IsTurn (line_can_begin windowed width lines r (state_before r at) (movers types r (state_before r at) (got_from (begins r) (take at r.events)))) (picked (movers types r (state_before r at) (got_from (begins r) (take at r.events))) (get_or picks (picks_used r at) 0)) (state_before r at) x (mover_of x)) q
     (keeps at e (record { there = there; applied = a }))).2)
 
 -- the settler's events

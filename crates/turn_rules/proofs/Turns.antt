@@ -1,48 +1,52 @@
 -- One turn of the loop.
-use Rattle.std.proofs.Common.{◌≡◌, ℕ, ◌+◌, ◌-◌, ◌<◌, Some, None, List, [], length, get_or, Bool, true, false, refl, sym, ap, ◌∙◌, subst, arith}
+use Rattle.std.proofs.Common.{◌≡◌, ℕ, ◌+◌, ◌-◌, ◌<◌, ◌≤◌, Some, None, List, [], length, get_or, Bool, true, false, refl, sym, ap, ◌∙◌, subst, arith}
 use Rattle.std.specs.Prelude.{filter, take, slice_get, count_by}
 use Rattle.base_types.specs.declared.calls.Origin.TheVariants.{Line, Child}
 use Rattle.core_model.specs.CoreState.{UnitNo, Call, CoreState}
-use Rattle.core_model.specs.declared.effects.Effect.{Effect}
 use Rattle.core_model.specs.declared.events.CoreEvent.{CoreEvent}
 use Rattle.core_model.specs.declared.events.CoreEvent.TheVariants.{Begin, Halt}
 use Rattle.core_model.specs.Changes.{new_unit}
 use Rattle.core_model.specs.Events.{applies, can, run}
-use Rattle.core_model.specs.LegalRuns.{Run, IsLegal, begins, ends}
-use Rattle.core_laws.proofs.KeptInvariant.{Kept}
-use Rattle.core_laws.proofs.Ends.{kept-ends}
+use Rattle.core_model.specs.LegalRuns.{Run, begins, ends}
 use Rattle.core_laws.proofs.Replies.{no-change}
 use Rattle.promise_spec.specs.Cores.{applied_from}
 use Rattle.promise_spec.specs.UnitAnswers.{got_in}
 use Rattle.promise_spec.specs.UnitRule.{Basis}
+use Rattle.promise_spec.specs.Windows.{window_lines}
 use Rattle.core_model.specs.Settler.{MakesEvent, settler_step}
 use Rattle.promise_spec.specs.TurnRule.{Mover, OfLine, OfUnit, OfSettler, IsTurn, line_can_begin, mover_of, takes_pick, picked, units_of, units_from}
 use Rattle.turn_rules.specs.NextEvent.{with_event, is_begin, MayCome, IsNext, movers_in, next_pick}
 use Rattle.turn_rules.specs.CarriedUnits.{AreKept, movers_of, is_kept}
 use Rattle.turn_rules.specs.QuietRun.{HasRun}
+use Rattle.turn_rules.specs.Windows.{InWindow}
 use Rattle.turn_rules.specs.TurnLoop.{TurnLoop, IsTurning, IsPicked, has_room, with_new, turned}
 use Rattle.turn_rules.proofs.Movers.{begins-kept, drop-kept, kept-begun, kept-on, movers-kept}
 use Rattle.turn_rules.proofs.RunCounts.{counted-ends}
 use Rattle.turn_rules.proofs.Growth.{ends-more, turn-grows, unit-grows}
-use Rattle.turn_rules.proofs.LegalRuns.{legal-run}
+use Rattle.turn_rules.proofs.WithinWindows.{tests, stays, begins-fresh}
 use Rattle.turn_rules.proofs.Settlers.{going-by, settlers, settlers-due, settlers-go}
 use Rattle.turn_rules.proofs.Numbers.{older-filter, older-last}
 use Rattle.turn_rules.proofs.Picks.{used-none, used-one, used-unapplied}
 use Rattle.turn_rules.proofs.WaitOrder.{without-mover}
+use Rattle.core_laws.proofs.LoadlessKept.{LoadlessKept, loadless-ends}
 
 -- ---- the turns
 
 module _ (l : TurnLoop) (t : IsTurning l) where
-  -- what the core's laws ask for
-  legal : IsLegal (λ (e : Effect). true) l.run
-  legal = legal-run l.basis l.run t.first t.unit_rule
-
-  held : Kept l.run.opening (ends l.run)
-  held = kept-ends (λ (e : Effect). true) l.run legal
+  held : LoadlessKept (ends l.run)
+  held = loadless-ends l.run t.first
 
   -- a mover's event is no stop, where a stop isn't the mover's
   no_stop : (e : CoreEvent) (m : Mover) → mover_of e ≡ m → (OfSettler ≡ m → ⊥) → e ≡ Halt → ⊥
   no_stop e m is other q = other (sym (ap mover_of q) ∙ is)
+
+  -- where the run is of turns alone, a line can begin where there is room
+  can-begin : l.ruled ≡ true → line_can_begin l.windowed l.width (length l.basis.lines) l.run (ends l.run) (movers_in l.basis.types l.run) ≡ has_room l
+  can-begin ruled = tests l.basis.types l.windowed l.width (length l.basis.lines) l.run (t.within ruled) ∙ begins-kept l.width (length l.basis.lines) l.run l.units t.kept
+
+  -- and it stays within its window by an event that keeps the turn rule
+  window-stays : (e : CoreEvent) → (l.ruled ≡ true → IsNext l.basis.types l.windowed (length l.basis.lines) l.width l.picks l.run e) → l.ruled ≡ true → InWindow l.basis.types l.windowed (length l.basis.lines) (with_event l.run e)
+  window-stays e next ruled = stays l.basis.types l.windowed (length l.basis.lines) l.width l.picks l.run e (t.within ruled) (next ruled)
 
   -- an event that doesn't apply
   pub turn-unapplied : (e : CoreEvent) → applies (ends l.run) e ≡ false → IsTurning (turned l e l.units l.used)
@@ -50,7 +54,8 @@ module _ (l : TurnLoop) (t : IsTurning l) where
     first = t.first;
     unit_rule = unit-grows l.basis l.run e t.unit_rule (λ b. not_both b);
     unstopped = ap (λ (w : CoreState). w.units.halt) same ∙ t.unstopped;
-    turn_rule = λ ruled. turn-grows l.basis.types (length l.basis.lines) l.width l.picks l.run e (t.turn_rule ruled) (λ b. not_both b);
+    turn_rule = λ ruled. turn-grows l.basis.types l.windowed (length l.basis.lines) l.width l.picks l.run e (t.turn_rule ruled) (λ b. not_both b);
+    within = window-stays e (λ ruled b. not_both b);
     kept = same_kept;
     older = t.older;
     count = λ ruled. used-unapplied l.run e l.used (t.count ruled) a;
@@ -74,14 +79,15 @@ module _ (l : TurnLoop) (t : IsTurning l) where
     first = t.first;
     unit_rule = unit-grows l.basis l.run e t.unit_rule may;
     unstopped = going-by l.run e (no_stop e OfLine m (λ q. absurd cc)) t.unstopped;
-    turn_rule = λ ruled. turn-grows l.basis.types (length l.basis.lines) l.width l.picks l.run e (t.turn_rule ruled) (λ a. no_mover a);
-    kept = kept-on l.run.opening l.run e l.units held b t.kept;
+    turn_rule = λ ruled. turn-grows l.basis.types l.windowed (length l.basis.lines) l.width l.picks l.run e (t.turn_rule ruled) (no_mover ruled);
+    within = window-stays e no_mover;
+    kept = kept-on l.run e l.units held b t.kept;
     older = t.older;
     count = λ ruled. used-none l.run e l.used (t.count ruled) (ap takes_pick m);
   }
     where
-      no_mover : applies (ends l.run) e ≡ true → IsTurn (line_can_begin l.width (length l.basis.lines) l.run (ends l.run)) (picked (movers_in l.basis.types l.run) (next_pick l.picks l.run)) (ends l.run) e (mover_of e)
-      no_mover a = subst (λ (o : Mover). IsTurn (line_can_begin l.width (length l.basis.lines) l.run (ends l.run)) (picked (movers_in l.basis.types l.run) (next_pick l.picks l.run)) (ends l.run) e o) (sym m) (begins-kept l.width (length l.basis.lines) l.run l.units t.kept ∙ can)
+      no_mover : l.ruled ≡ true → applies (ends l.run) e ≡ true → IsTurn (line_can_begin l.windowed l.width (length l.basis.lines) l.run (ends l.run) (movers_in l.basis.types l.run)) (picked (movers_in l.basis.types l.run) (next_pick l.picks l.run)) (ends l.run) e (mover_of e)
+      no_mover ruled a = subst (λ (o : Mover). IsTurn (line_can_begin l.windowed l.width (length l.basis.lines) l.run (ends l.run) (movers_in l.basis.types l.run)) (picked (movers_in l.basis.types l.run) (next_pick l.picks l.run)) (ends l.run) e o) (sym m) (can-begin ruled ∙ can)
 
   -- a line that begins
   pub turn-line : (n : ℕ) (call : Call) (plain : Bool) → has_room l ≡ true → MayCome l.basis l.run (Begin (Line n) call plain) → applies (ends l.run) (Begin (Line n) call plain) ≡ true →
@@ -90,8 +96,9 @@ module _ (l : TurnLoop) (t : IsTurning l) where
     first = t.first;
     unit_rule = unit-grows l.basis l.run (Begin (Line n) call plain) t.unit_rule may;
     unstopped = going-by l.run (Begin (Line n) call plain) (no_stop (Begin (Line n) call plain) OfLine refl (λ q. absurd cc)) t.unstopped;
-    turn_rule = λ ruled. turn-grows l.basis.types (length l.basis.lines) l.width l.picks l.run (Begin (Line n) call plain) (t.turn_rule ruled) (λ b. begins-kept l.width (length l.basis.lines) l.run l.units t.kept ∙ can);
-    kept = kept-begun l.run.opening l.run (Line n) call plain l.units held (counted-ends (λ (e : Effect). true) l.run legal).above a t.kept;
+    turn_rule = λ ruled. turn-grows l.basis.types l.windowed (length l.basis.lines) l.width l.picks l.run (Begin (Line n) call plain) (t.turn_rule ruled) (λ b. can-begin ruled ∙ can);
+    within = window-stays (Begin (Line n) call plain) (λ ruled b. can-begin ruled ∙ can);
+    kept = kept-begun l.run (Line n) call plain l.units held (counted-ends l.run t.first).above a t.kept;
     older = older-last l.units (new_unit (ends l.run)) (λ v m. t.kept.below v m) t.older;
     count = λ ruled. used-none l.run (Begin (Line n) call plain) l.used (t.count ruled) refl;
   }
@@ -102,13 +109,13 @@ module _ (l : TurnLoop) (t : IsTurning l) where
       ap (λ (ms : List Mover). picked ms (next_pick l.picks l.run)) (movers-kept l.basis.types l.run l.units t.kept) ∙ ap (λ (n : ℕ). picked (movers_of l.basis.types l.run l.units) (get_or l.picks n 0)) (sym (t.count ruled)) ∙ pick
 
   -- no line can begin
-  none_begins : has_room l ≡ false → line_can_begin l.width (length l.basis.lines) l.run (ends l.run) ≡ false
-  none_begins cannot = begins-kept l.width (length l.basis.lines) l.run l.units t.kept ∙ cannot
+  none_begins : l.ruled ≡ true → has_room l ≡ false → line_can_begin l.windowed l.width (length l.basis.lines) l.run (ends l.run) (movers_in l.basis.types l.run) ≡ false
+  none_begins ruled cannot = can-begin ruled ∙ cannot
 
   -- the turn is a mover's whose event it is
-  at_turn : (m : Mover) (e : CoreEvent) → mover_of e ≡ m → IsTurn (line_can_begin l.width (length l.basis.lines) l.run (ends l.run)) (picked (movers_in l.basis.types l.run) (next_pick l.picks l.run)) (ends l.run) e m → IsNext l.basis.types (length l.basis.lines) l.width l.picks l.run e
+  at_turn : (m : Mover) (e : CoreEvent) → mover_of e ≡ m → IsTurn (line_can_begin l.windowed l.width (length l.basis.lines) l.run (ends l.run) (movers_in l.basis.types l.run)) (picked (movers_in l.basis.types l.run) (next_pick l.picks l.run)) (ends l.run) e m → IsNext l.basis.types l.windowed (length l.basis.lines) l.width l.picks l.run e
   at_turn m e is turn a =
-      subst (λ (o : Mover). IsTurn (line_can_begin l.width (length l.basis.lines) l.run (ends l.run)) (picked (movers_in l.basis.types l.run) (next_pick l.picks l.run)) (ends l.run) e o) (sym is) turn
+      subst (λ (o : Mover). IsTurn (line_can_begin l.windowed l.width (length l.basis.lines) l.run (ends l.run) (movers_in l.basis.types l.run)) (picked (movers_in l.basis.types l.run) (next_pick l.picks l.run)) (ends l.run) e o) (sym is) turn
 
   -- the settler's step
   pub turn-settler : (e : CoreEvent) → IsPicked l OfSettler → MakesEvent (settler_step (ends l.run)) e → applies (ends l.run) e ≡ true → IsTurning (turned l e l.units (l.used + 1))
@@ -118,8 +125,9 @@ module _ (l : TurnLoop) (t : IsTurning l) where
         first = t.first;
         unit_rule = unit-grows l.basis l.run e t.unit_rule (λ b. settlers-due l.basis (ends l.run) (got_in l.run) (settler_step (ends l.run)) e makes);
         unstopped = going-by l.run e (settlers-go (settler_step (ends l.run)) e makes) t.unstopped;
-        turn_rule = λ ruled. turn-grows l.basis.types (length l.basis.lines) l.width l.picks l.run e (t.turn_rule ruled) (at_turn OfSettler e s.0 (none_begins turn.none, chosen ruled OfSettler turn.pick, makes));
-        kept = kept-on l.run.opening l.run e l.units held s.1 t.kept;
+        turn_rule = λ ruled. turn-grows l.basis.types l.windowed (length l.basis.lines) l.width l.picks l.run e (t.turn_rule ruled) (at_turn OfSettler e s.0 (none_begins ruled turn.none, chosen ruled OfSettler turn.pick, makes));
+        within = window-stays e (λ ruled. (at_turn OfSettler e s.0 (none_begins ruled turn.none, chosen ruled OfSettler turn.pick, makes)));
+        kept = kept-on l.run e l.units held s.1 t.kept;
         older = t.older;
         count = λ ruled. used-one l.run e l.used (t.count ruled) a (ap takes_pick s.0);
       }
@@ -131,8 +139,9 @@ module _ (l : TurnLoop) (t : IsTurning l) where
     first = t.first;
     unit_rule = unit-grows l.basis l.run e t.unit_rule may;
     unstopped = going-by l.run e (no_stop e (OfUnit u) is (λ q. absurd cc)) t.unstopped;
-    turn_rule = λ ruled. turn-grows l.basis.types (length l.basis.lines) l.width l.picks l.run e (t.turn_rule ruled) (at_turn (OfUnit u) e is (none_begins turn.none, chosen ruled (OfUnit u) turn.pick));
-    kept = kept-on l.run.opening l.run e l.units held b t.kept;
+    turn_rule = λ ruled. turn-grows l.basis.types l.windowed (length l.basis.lines) l.width l.picks l.run e (t.turn_rule ruled) (at_turn (OfUnit u) e is (none_begins ruled turn.none, chosen ruled (OfUnit u) turn.pick));
+    within = window-stays e (λ ruled. (at_turn (OfUnit u) e is (none_begins ruled turn.none, chosen ruled (OfUnit u) turn.pick)));
+    kept = kept-on l.run e l.units held b t.kept;
     older = t.older;
     count = λ ruled. used-one l.run e l.used (t.count ruled) a (ap takes_pick is);
   }
@@ -144,8 +153,9 @@ module _ (l : TurnLoop) (t : IsTurning l) where
     first = t.first;
     unit_rule = unit-grows l.basis l.run (Begin (Child u index depth) call false) t.unit_rule may;
     unstopped = going-by l.run (Begin (Child u index depth) call false) (no_stop (Begin (Child u index depth) call false) (OfUnit u) refl (λ q. absurd cc)) t.unstopped;
-    turn_rule = λ ruled. turn-grows l.basis.types (length l.basis.lines) l.width l.picks l.run (Begin (Child u index depth) call false) (t.turn_rule ruled) (at_turn (OfUnit u) (Begin (Child u index depth) call false) refl (none_begins turn.none, chosen ruled (OfUnit u) turn.pick));
-    kept = kept-begun l.run.opening l.run (Child u index depth) call false l.units held (counted-ends (λ (e : Effect). true) l.run legal).above a t.kept;
+    turn_rule = λ ruled. turn-grows l.basis.types l.windowed (length l.basis.lines) l.width l.picks l.run (Begin (Child u index depth) call false) (t.turn_rule ruled) (at_turn (OfUnit u) (Begin (Child u index depth) call false) refl (none_begins ruled turn.none, chosen ruled (OfUnit u) turn.pick));
+    within = window-stays (Begin (Child u index depth) call false) (λ ruled. (at_turn (OfUnit u) (Begin (Child u index depth) call false) refl (none_begins ruled turn.none, chosen ruled (OfUnit u) turn.pick)));
+    kept = kept-begun l.run (Child u index depth) call false l.units held (counted-ends l.run t.first).above a t.kept;
     older = older-last l.units (new_unit (ends l.run)) (λ v m. t.kept.below v m) t.older;
     count = λ ruled. used-one l.run (Begin (Child u index depth) call false) l.used (t.count ruled) a refl;
   }
@@ -157,6 +167,7 @@ module _ (l : TurnLoop) (t : IsTurning l) where
     unit_rule = t.unit_rule;
     unstopped = t.unstopped;
     turn_rule = t.turn_rule;
+    within = t.within;
     kept = drop-kept l.run l.units stays weak t.kept;
     older = older-filter stays l.units t.older;
     count = t.count;
@@ -166,17 +177,19 @@ module _ (l : TurnLoop) (t : IsTurning l) where
   pub turn-ended : (ends l.run).manager.doubt ≡ None → movers_of l.basis.types l.run l.units ≡ [] → 0 < l.width → has_room l ≡ false →
       HasRun (length l.basis.lines) (ends l.run)
   turn-ended doubt none some cannot =
-      without-mover l.basis.types (λ (e : Effect). true) l.run l.width (length l.basis.lines) legal doubt t.unstopped (movers-kept l.basis.types l.run l.units t.kept ∙ none) some (begins-kept l.width (length l.basis.lines) l.run l.units t.kept ∙ cannot)
+      without-mover l.basis.types l.run l.width (length l.basis.lines) t.first doubt t.unstopped (movers-kept l.basis.types l.run l.units t.kept ∙ none) some (begins-kept l.width (length l.basis.lines) l.run l.units t.kept ∙ cannot)
 
 -- ---- the start
 
 -- a run without events
-pub turning-begins : (around : Basis) (ruled : Bool) (width : ℕ) (picks : List ℕ) (r : Run) → r.events ≡ [] → 0 < r.base → IsTurning (record { basis = around; ruled = ruled; width = width; picks = picks; run = r; units = []; used = 0 })
-turning-begins around ruled width picks r none first = record {
+pub turning-begins : (around : Basis) (windowed ruled : Bool) (width : ℕ) (picks : List ℕ) (r : Run) → r.events ≡ [] → 0 < r.base → (windowed ≡ true → length around.lines ≤ window_lines)
+    → IsTurning (record { basis = around; windowed = windowed; ruled = ruled; width = width; picks = picks; run = r; units = []; used = 0 })
+turning-begins around windowed ruled width picks r none first few = record {
   first = first;
   unit_rule = λ at e a. absurd (nothing at e a.there);
   unstopped = ap (λ (l : List CoreEvent). (run (begins r) l).units.halt) none;
   turn_rule = λ is at e a. absurd (nothing at e a.there);
+  within = λ is. begins-fresh around.types windowed (length around.lines) r none few;
   kept = record { kept = kept; below = λ u m. absurd m };
   older = tt;
   count = λ is. sym (ap (λ (l : List CoreEvent). count_by (λ e. takes_pick (mover_of e)) (applied_from (begins r) (take (length l) l))) none);

@@ -11,29 +11,24 @@ use Rattle.cell_model.specs.Locks.{holds_lock}
 use Rattle.cell_model.proofs.Units.{same_unit-is, any-member}
 use Rattle.core_model.specs.CoreState.{UnitNo, GrainId, Hold, Origin, Outcome, Member, same_unit, CoreState}
 use Rattle.core_model.specs.declared.effects.Read.{Read}
-use Rattle.core_model.specs.declared.effects.Effect.{Effect}
 use Rattle.core_model.specs.declared.phases.Phase.{Phase}
 use Rattle.core_model.specs.declared.phases.Phase.TheVariants.{Unborn, Running, Finished, Refused, Ended}
 use Rattle.core_model.specs.Tests.{all, is_running, is_over, is_free, is_final, outcome_of, outcome_in, waiting, free_prefix}
 use Rattle.core_model.specs.declared.events.CoreEvent.TheVariants.{Take}
 use Rattle.core_model.specs.Events.{applies, is_allowed, batch_size}
-use Rattle.core_model.specs.LegalRuns.{Run, IsLegal, ends}
+use Rattle.core_model.specs.LegalRuns.{Run, ends}
 use Rattle.core_model.specs.Laws.{HoldsNothing}
 use Rattle.core_model.specs.SerialOrder.{batch_begin}
 use Rattle.core_model.specs.Lines.{IsSettled}
 use Rattle.core_laws.proofs.Basics.{is_final-cases}
-use Rattle.core_laws.proofs.Ends.{kept-ends}
-use Rattle.core_laws.proofs.KeptInvariant.{Kept}
 use Rattle.core_laws.proofs.Orders.{in_drop, Member-at}
-use Rattle.core_laws.proofs.FurtherLaws.{children-ends}
 use Rattle.core_laws.proofs.LineEntries.{once-ends}
-use Rattle.core_laws.proofs.Consistency.{consistent-ends}
 use Rattle.core_laws.proofs.BatchPrefix.{free-holds, unfree-holds}
 use Rattle.script_tree.specs.Programs.{ProgramTree}
 use Rattle.promise_spec.specs.UnitAnswers.{Got, wanted_by, got_in, kids_got}
 use Rattle.core_model.specs.Settler.{has_step, settler_step}
-use Rattle.promise_spec.specs.TurnRule.{OfSettler, can_move, line_can_begin, in_flight, is_line, is_settled, is_unhindered, units_of}
-use Rattle.turn_rules.specs.NextEvent.{movers_in}
+use Rattle.promise_spec.specs.TurnRule.{OfSettler, can_move, in_flight, is_line, is_settled, is_unhindered, units_of}
+use Rattle.turn_rules.specs.NextEvent.{movers_in, line_has_place}
 use Rattle.turn_rules.specs.RunCounts.{IsCounted, HasEntry}
 use Rattle.turn_rules.specs.QuietRun.{IsQuiet, HasRun}
 use Rattle.turn_rules.proofs.SettlerRest.{Rested, no-doubt-list, no-step, rested}
@@ -41,6 +36,8 @@ use Rattle.turn_rules.proofs.RunCounts.{counted-ends}
 use Rattle.turn_rules.proofs.ListTests.{filter-none, none-passes}
 use Rattle.turn_rules.proofs.Numbers.{units-member, units-within}
 use Rattle.turn_rules.proofs.Waits.{waiting-cases}
+use Rattle.core_laws.proofs.LoadlessKept.{LoadlessKept, loadless-ends}
+use Rattle.core_laws.proofs.LoadlessRuns.{prefix-ends, children-ends}
 
 -- ---- all is settled
 
@@ -68,13 +65,13 @@ runs-moves types w got u q c =
 first-free : (w : CoreState) (x : UnitNo) (xs : List UnitNo) → is_free w x ≡ true → 0 < free_prefix w (x ∷ xs)
 first-free w x xs e = subst (λ (t : Bool). 0 < (if t then free_prefix w xs + 1 else 0)) (sym e) (omega arith)
 
-module _ (types : ProgramTree) (plays : Effect → Bool) (r : Run) (legal : IsLegal plays r)
+module _ (types : ProgramTree) (r : Run) (above : 0 < r.base)
     (kids : (u : UnitNo) → kids_got (got_in r u) ≡ (ends r).units.kids u)
     (numbered : (u : UnitNo) → ((ends r).units.phase u ≡ Unborn → ⊥) → r.base ≤ u.0)
     (born : (u : UnitNo) → r.base ≤ u.0 → u.0 < (ends r).units.next → (ends r).units.phase u ≡ Unborn → ⊥)
     (doubt : (ends r).manager.doubt ≡ None) (halt : (ends r).units.halt ≡ false) (none : movers_in types r ≡ []) where
-  kept : Kept r.opening (ends r)
-  kept = kept-ends plays r legal
+  kept : LoadlessKept (ends r)
+  kept = loadless-ends r above
 
   parted : (filter (can_move types (ends r) (got_in r)) (units_of r (ends r)) ≡ []) × ((if has_step (settler_step (ends r)) then OfSettler ∷ [] else []) ≡ [])
   parted = no-doubt-list (ends r) (filter (can_move types (ends r) (got_in r)) (units_of r (ends r))) (if has_step (settler_step (ends r)) then OfSettler ∷ [] else []) doubt none
@@ -101,7 +98,7 @@ module _ (types : ProgramTree) (plays : Effect → Bool) (r : Run) (legal : IsLe
   finished-free u q = over-free u Finished q refl refl (λ e. absurd cc)
 
   empties : (u : UnitNo) → is_free (ends r) u ≡ true → HoldsNothing (ends r) u
-  empties u f = free-holds r.opening _ (ends r) kept.0 u f
+  empties u f = free-holds _ (ends r) kept.0 u f
 
   no-waiting : waiting (ends r) ≡ []
   no-waiting = by (waiting (ends r)) refl
@@ -109,7 +106,7 @@ module _ (types : ProgramTree) (plays : Effect → Bool) (r : Run) (legal : IsLe
       by : (us : List UnitNo) → waiting (ends r) ≡ us → waiting (ends r) ≡ []
       by [] q = q
       by (x ∷ us) q =
-          let f = in_drop r.opening _ (ends r) kept.0 (ends r).manager.closed x (subst (Member x) (sym q) (inl refl)) in
+          let f = in_drop _ (ends r) kept.0 (ends r).manager.closed x (subst (Member x) (sym q) (inl refl)) in
           let size : 0 < batch_size (ends r) = subst (λ (l : List UnitNo). 0 < free_prefix (ends r) (take 64 l)) (sym q) (first-free (ends r) x (take 63 us) (finished-free x f.0)) in
           let t : true ≡ false = sym (take-applies (ends r) doubt halt rest.none size) ∙ rest.untaken in absurd cc
 
@@ -133,7 +130,7 @@ module _ (types : ProgramTree) (plays : Effect → Bool) (r : Run) (legal : IsLe
       ]
     where
       final : (u : UnitNo) → (ends r).units.phase u ≡ Finished → is_final ((ends r).manager.verdict u) ≡ true
-      final u q = (consistent-ends plays r legal).closed_batches_are_a_prefix.decided u q
+      final u q = (prefix-ends r above).decided u q
           (subst (λ (o : Option ℕ). (ends r).manager.place u ≤ batch_begin o (ends r).manager.closed) (sym doubt) (all-closed u q))
 
   unborn-free : (u : UnitNo) → (ends r).units.phase u ≡ Unborn → is_free (ends r) u ≡ true
@@ -145,7 +142,7 @@ module _ (types : ProgramTree) (plays : Effect → Bool) (r : Run) (legal : IsLe
     | inl t ↦ holder t.0 t.1 t.2 (λ run. still n t.0.unit (let less = t.3 in omega (arith, le, less)) run) ((ends r).units.phase t.0.unit) refl
     | inr t ↦
         let m : Member t.0 ((ends r).units.kids u) = subst (Member t.0) (kids u) t.1 in
-        let less = (children-ends plays r legal).younger u t.0 m in
+        let less = (children-ends r above).younger u t.0 m in
         child t.0 (kid-born u t.0 m) t.2 (λ run. still n t.0 (omega (arith, le, less)) run)
   ]
     where
@@ -162,7 +159,7 @@ module _ (types : ProgramTree) (plays : Effect → Bool) (r : Run) (legal : IsLe
       kid-born : (u c : UnitNo) → Member c ((ends r).units.kids u) → (ends r).units.phase c ≡ Unborn → ⊥
       kid-born u c m =
           let at = Member-at c ((ends r).units.kids u) m in
-          let o = (children-ends plays r legal).origin u at.0 at.1 in
+          let o = (children-ends r above).origin u at.0 at.1 in
           subst (λ (x : UnitNo). (ends r).units.phase x ≡ Unborn → ⊥) at.2 o.2
 
   no-runner : (u : UnitNo) → (ends r).units.phase u ≡ Running → ⊥
@@ -193,18 +190,18 @@ module _ (types : ProgramTree) (plays : Effect → Bool) (r : Run) (legal : IsLe
 -- ---- each line has its entry
 
 -- Where nobody moves and no line can begin, all is quiet and each line has its entry.
-pub without-mover : (types : ProgramTree) (plays : Effect → Bool) (r : Run) (width count : ℕ) → IsLegal plays r → (ends r).manager.doubt ≡ None → (ends r).units.halt ≡ false → movers_in types r ≡ [] →
-    0 < width → line_can_begin width count r (ends r) ≡ false → HasRun count (ends r)
-without-mover types plays r width count legal doubt halt none some over = record { quiet = quiet; answered = answered }
+pub without-mover : (types : ProgramTree) (r : Run) (width count : ℕ) → 0 < r.base → (ends r).manager.doubt ≡ None → (ends r).units.halt ≡ false → movers_in types r ≡ [] →
+    0 < width → line_has_place width count r ≡ false → HasRun count (ends r)
+without-mover types r width count above doubt halt none some over = record { quiet = quiet; answered = answered }
   where
     counted : IsCounted r.base (ends r) (got_in r)
-    counted = counted-ends plays r legal
+    counted = counted-ends r above
 
     quiet : IsQuiet (ends r)
-    quiet = all-quiet types plays r legal (counted-ends plays r legal).kids (counted-ends plays r legal).numbered (counted-ends plays r legal).born doubt halt none
+    quiet = all-quiet types r above (counted-ends r above).kids (counted-ends r above).numbered (counted-ends r above).born doubt halt none
 
     entry : (u : UnitNo) (n : ℕ) → ((ends r).units.phase u ≡ Unborn → ⊥) → (ends r).units.origin u ≡ Line n → (x : Entry) × Member x (ends r).manager.settled × (x.unit ≡ u) × (x.line ≡ n)
-    entry u n b o = (once-ends plays r legal).complete u n (b, o) (quiet.settled u b)
+    entry u n b o = (once-ends r above).complete u n (b, o) (quiet.settled u b)
 
     settled-line : (u : UnitNo) → ((ends r).units.phase u ≡ Unborn → ⊥) → (o : Origin) → (ends r).units.origin u ≡ o → is_free (ends r) u ≡ true → (is_line o && (not (is_settled (ends r) u) || not (is_free (ends r) u))) ≡ false
     settled-line u b (Child p i d) q f = refl

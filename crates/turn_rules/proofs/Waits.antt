@@ -11,7 +11,7 @@ use Rattle.core_model.specs.CoreState.{UnitNo, GrainId, Hold, Mode, Outcome, Mem
 use Rattle.core_model.specs.Tests.{ask_answer, ask_lock, ask_doom, doomed_by, is_active, outcome_of}
 use Rattle.script_tree.specs.Programs.{ProgramTree}
 use Rattle.script_meaning.specs.Trails.{Given, GivenLock, GivenRaise, GivenOutcome, locks_of, answers_of}
-use Rattle.promise_spec.specs.SerialExecution.{depth_of}
+use Rattle.base_types.specs.Origins.{depth_of}
 use Rattle.promise_spec.specs.UnitAnswers.{Got, GotLock, GotRaise, GotChild, and_given, given_by, wanted_by, kids_got}
 use Rattle.promise_spec.specs.TurnRule.{is_unhindered, is_wait}
 use Rattle.cell_model.specs.Locks as locks

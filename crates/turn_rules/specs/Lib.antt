@@ -4,4 +4,5 @@ pub mod CarriedUnits
 pub mod RunCounts
 pub mod QuietRun
 pub mod Links
+pub mod Windows
 pub mod TurnLoop

@@ -9,7 +9,7 @@ use Rattle.core_model.specs.LegalRuns.{Run, ends}
 use Rattle.script_tree.specs.Programs.{ProgramTree}
 use Rattle.script_meaning.specs.Play.{Want, next}
 use Rattle.script_meaning.specs.Trails.{Given, locks_of, answers_of}
-use Rattle.promise_spec.specs.SerialExecution.{depth_of}
+use Rattle.base_types.specs.Origins.{depth_of}
 use Rattle.promise_spec.specs.UnitAnswers.{Got, GotChild, given_by, got_in}
 use Rattle.turn_rules.specs.NextEvent.{with_event}
 

@@ -8,16 +8,18 @@ use Rattle.promise_spec.specs.UnitRule.{Basis, KeepsUnitRule}
 use Rattle.promise_spec.specs.TurnRule.{Mover, KeepsTurnRule, picked, picks_used}
 use Rattle.turn_rules.specs.NextEvent.{with_event}
 use Rattle.turn_rules.specs.CarriedUnits.{AreKept, movers_of, can_begin_by}
+use Rattle.turn_rules.specs.Windows.{InWindow}
 
 -- each unit is older than those behind it
 abbrev pub AreOlder : List UnitNo → Type 0
 AreOlder [] = ⊤
 AreOlder (u ∷ us) = ((v : UnitNo) → Member v us → u.0 < v.0) × AreOlder us
 
--- Where a loop of turns stands: what the unit rule is told, whether the run so far is of turns alone, the width and the picks, the
--- run so far, the units that are looked at, and how many picks were used.
+-- Where a loop of turns stands: what the unit rule is told, whether the input comes in windows, whether the run so far is of turns
+-- alone, the width and the picks, the run so far, the units that are looked at, and how many picks were used.
 pub record TurnLoop : Type 0 where
   pub basis : Basis
+  pub windowed : Bool
   pub ruled : Bool
   pub width : ℕ
   pub picks : List ℕ
@@ -26,12 +28,13 @@ pub record TurnLoop : Type 0 where
   pub used : ℕ
 
 -- The run keeps the unit rule and isn't stopped; the units that are looked at are in number order, and leave no mover out. Where the
--- run so far is of turns alone, it keeps the turn rule too, and so many picks were used.
+-- run so far is of turns alone, it keeps the turn rule too, is within a window, and so many picks were used.
 pub record IsTurning (l : TurnLoop) : Type 0 where
   pub first : 0 < l.run.base
   pub unit_rule : KeepsUnitRule l.basis l.run
   pub unstopped : (ends l.run).units.halt ≡ false
-  pub turn_rule : l.ruled ≡ true → KeepsTurnRule l.basis.types (length l.basis.lines) l.width l.picks l.run
+  pub turn_rule : l.ruled ≡ true → KeepsTurnRule l.basis.types l.windowed (length l.basis.lines) l.width l.picks l.run
+  pub within : l.ruled ≡ true → InWindow l.basis.types l.windowed (length l.basis.lines) l.run
   pub kept : AreKept l.run l.units
   pub older : AreOlder l.units
   pub count : l.ruled ≡ true → l.used ≡ picks_used l.run (length l.run.events)

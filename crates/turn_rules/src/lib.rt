@@ -3,7 +3,8 @@
 //! There is no code but public functions with empty bodies, whose contracts are laws of the unit rule and the turn rule:
 //! `next_event` says that a run which keeps a rule keeps it with one more event that does, `frames` what others' events leave
 //! a unit, `links` what who carries a unit may put, `carried_units` that the movers are among the units that are carried,
-//! `run_ends` that without a mover each line has its entry, and `turn_loop` what one turn keeps.
+//! `run_ends` that without a mover each line has its entry, `windows` when a line can begin within a window of the input, and
+//! `turn_loop` what one turn keeps.
 #![tactic(auto)]
 
 mod carried_units;
@@ -12,6 +13,7 @@ mod links;
 mod next_event;
 mod run_ends;
 mod turn_loop;
+mod windows;
 
 pub use carried_units::{carried_units_stay, carried_units_tell};
 pub use frames::others_leave_a_unit;
@@ -19,3 +21,4 @@ pub use links::{links_stay, what_is_asked_for_is_due};
 pub use next_event::rules_go_on;
 pub use run_ends::{runs_are_counted, without_a_mover_all_is_settled};
 pub use turn_loop::turns_go_on;
+pub use windows::turns_stay_in_a_window;

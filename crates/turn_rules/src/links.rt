@@ -1,4 +1,4 @@
-ghost use Rattle.std.specs.Prelude.{◌≡◌, ◌++◌, ℕ, Bool, true, false, List, [], ◌∷◌, Some};
+ghost use Rattle.std.specs.Prelude.{◌≡◌, ◌++◌, ℕ, false, List, [], ◌∷◌, Some, ◌<◌};
 ghost use Rattle.base_types.specs.declared.calls.Mode.{Mode};
 ghost use Rattle.base_types.specs.declared.calls.Mode.TheVariants.{Update};
 ghost use Rattle.base_types.specs.declared.calls.Origin.TheVariants.{Child};
@@ -7,7 +7,7 @@ ghost use Rattle.core_model.specs.declared.events.CoreEvent.{CoreEvent};
 ghost use Rattle.core_model.specs.declared.events.CoreEvent.TheVariants.{Begin, Grant, Refuse, Finish, EndPlain, Release};
 ghost use Rattle.core_model.specs.CoreState.{UnitNo, GrainId, Call, Outcome};
 ghost use Rattle.core_model.specs.Tests.{outcome_of};
-ghost use Rattle.core_model.specs.LegalRuns.{Run, IsLegal, ends};
+ghost use Rattle.core_model.specs.LegalRuns.{Run, ends};
 ghost use Rattle.script_meaning.specs.Play.{WantLock, WantRaise, WantUnit, Over};
 ghost use Rattle.script_meaning.specs.Trails.{Given, GivenOutcome};
 ghost use Rattle.promise_spec.specs.UnitAnswers.{got_in};
@@ -36,11 +36,11 @@ pub fn what_is_asked_for_is_due()
 /// Others' events leave what a running unit was given, the child that it waits for, and the locks that an ended one has
 /// left. Where the child is decided, its outcome was given too.
 pub fn links_stay()
-    ensures given { (plays : Effect → Bool) (r : Run) (e : CoreEvent) (u : UnitNo) (trail : List Given) → IsLegal plays r → is_own u e ≡ false
+    ensures given { (r : Run) (e : CoreEvent) (u : UnitNo) (trail : List Given) → 0 < r.base → is_own u e ≡ false
         → HasTrail r u trail → HasTrail (with_event r e) u trail }
-    ensures awaiting { (plays : Effect → Bool) (r : Run) (e : CoreEvent) (u child : UnitNo) (call : Call) (depth : ℕ) (trail : List Given) → IsLegal plays r
+    ensures awaiting { (r : Run) (e : CoreEvent) (u child : UnitNo) (call : Call) (depth : ℕ) (trail : List Given) → 0 < r.base
         → is_own u e ≡ false → IsAwaiting r u child call depth trail → IsAwaiting (with_event r e) u child call depth trail }
-    ensures freeing { (plays : Effect → Bool) (r : Run) (e : CoreEvent) (u : UnitNo) (held : List GrainId) → IsLegal plays r → is_own u e ≡ false
+    ensures freeing { (r : Run) (e : CoreEvent) (u : UnitNo) (held : List GrainId) → 0 < r.base → is_own u e ≡ false
         → IsFreeing r u held → IsFreeing (with_event r e) u held }
     ensures heard { (r : Run) (u child : UnitNo) (call : Call) (depth : ℕ) (trail : List Given) (o : Outcome)
         → IsAwaiting r u child call depth trail → outcome_of (ends r) child ≡ Some o

@@ -1,4 +1,4 @@
-ghost use Rattle.std.specs.Prelude.{◌≡◌, ◌++◌, ℕ, List};
+ghost use Rattle.std.specs.Prelude.{◌≡◌, ◌++◌, ℕ, Bool, List};
 ghost use Rattle.core_model.specs.declared.events.CoreEvent.{CoreEvent};
 ghost use Rattle.core_model.specs.CoreState.{UnitNo};
 ghost use Rattle.core_model.specs.Events.{step};
@@ -13,8 +13,8 @@ ghost use Rattle.turn_rules.specs.NextEvent.{with_event, got_next, MayCome, IsNe
 /// turn rule. Its last state is one step on, and each unit got what the event gives it besides.
 pub fn rules_go_on()
     ensures unit_rule { (s : Basis) (r : Run) (e : CoreEvent) → KeepsUnitRule s r → MayCome s r e → KeepsUnitRule s (with_event r e) }
-    ensures turn_rule { (types : ProgramTree) (lines width : ℕ) (picks : List ℕ) (r : Run) (e : CoreEvent) → KeepsTurnRule types lines width picks r
-        → IsNext types lines width picks r e → KeepsTurnRule types lines width picks (with_event r e) }
+    ensures turn_rule { (types : ProgramTree) (windowed : Bool) (lines width : ℕ) (picks : List ℕ) (r : Run) (e : CoreEvent) → KeepsTurnRule types windowed lines width picks r
+        → IsNext types windowed lines width picks r e → KeepsTurnRule types windowed lines width picks (with_event r e) }
     ensures state { (r : Run) (e : CoreEvent) → ends (with_event r e) ≡ step (ends r) e }
     ensures got { (r : Run) (e : CoreEvent) (u : UnitNo) → got_in (with_event r e) u ≡ got_in r u ++ got_next (ends r) e u }
 {}

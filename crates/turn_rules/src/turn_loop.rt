@@ -1,4 +1,4 @@
-ghost use Rattle.std.specs.Prelude.{◌≡◌, ◌+◌, ◌<◌, ℕ, Bool, true, false, List, [], length, filter, None};
+ghost use Rattle.std.specs.Prelude.{◌≡◌, ◌+◌, ◌<◌, ◌≤◌, ℕ, Bool, true, false, List, [], length, filter, None};
 ghost use Rattle.base_types.specs.declared.calls.Origin.TheVariants.{Line, Child};
 ghost use Rattle.core_model.specs.declared.events.CoreEvent.{CoreEvent};
 ghost use Rattle.core_model.specs.declared.events.CoreEvent.TheVariants.{Begin};
@@ -8,18 +8,20 @@ ghost use Rattle.core_model.specs.LegalRuns.{Run, ends};
 ghost use Rattle.promise_spec.specs.UnitRule.{Basis};
 ghost use Rattle.core_model.specs.Settler.{MakesEvent, settler_step};
 ghost use Rattle.promise_spec.specs.TurnRule.{OfLine, OfUnit, OfSettler, mover_of};
+ghost use Rattle.promise_spec.specs.Windows.{window_lines};
 ghost use Rattle.turn_rules.specs.NextEvent.{with_event, is_begin, MayCome};
 ghost use Rattle.turn_rules.specs.CarriedUnits.{is_kept, movers_of};
 ghost use Rattle.turn_rules.specs.QuietRun.{HasRun};
 ghost use Rattle.turn_rules.specs.TurnLoop.{TurnLoop, IsTurning, IsPicked, has_room, with_new, turned};
 
-/// What a loop of turns keeps, over a run of turns alone or not: it holds of a run without events, and goes on by an event that doesn't apply, by a bad line
+/// What a loop of turns keeps, over a run of turns alone or not: it holds of a run without events within the first window, and goes on by an event that doesn't apply, by a bad line
 /// or one that begins, where a line can begin, and else by an event of the mover at the pick: of the unit's own, of a child
 /// that the unit begins, or of the settler's step. A unit that begins is carried last; units that are no more to be looked
 /// at may be dropped. Where no mover and no line is left and there is no doubt, all is settled, and each line has its entry.
 pub fn turns_go_on()
-    ensures none { (s : Basis) (ruled : Bool) (width : ℕ) (picks : List ℕ) (r : Run) → r.events ≡ [] → 0 < r.base
-        → IsTurning (record { basis = s; ruled = ruled; width = width; picks = picks; run = r; units = []; used = 0 }) }
+    ensures none { (s : Basis) (windowed ruled : Bool) (width : ℕ) (picks : List ℕ) (r : Run) → r.events ≡ [] → 0 < r.base
+        → (windowed ≡ true → length s.lines ≤ window_lines)
+        → IsTurning (record { basis = s; windowed = windowed; ruled = ruled; width = width; picks = picks; run = r; units = []; used = 0 }) }
     ensures unapplied { (l : TurnLoop) → IsTurning l → (e : CoreEvent) → applies (ends l.run) e ≡ false → IsTurning (turned l e l.units l.used) }
     ensures bad { (l : TurnLoop) → IsTurning l → (e : CoreEvent) → is_begin e ≡ false → mover_of e ≡ OfLine → has_room l ≡ true
         → MayCome l.basis l.run e → IsTurning (turned l e l.units l.used) }

@@ -12,7 +12,8 @@ use Rattle.silo_nodes.specs.Coordinators.{Coordination, parts_from, begun, find,
 use Rattle.silo_nodes.proofs.Lists.{Member-append}
 use Rattle.two_silos.specs.World.{World, WorldEvent, Start, Deliver, NudgeCoordinator, Nudge, RestartCoordinator, Restart, node_at, log_at, can_start, next_txn, started, handed, send, delivered, does, is_within, step, run, begin, parts_in}
 use Rattle.two_silos.specs.Promise.{IsOpening}
-use Rattle.two_silos.specs.LaterWorlds.{IsFront, IsLater, given_by, given_in, KeepsPart}
+use Rattle.base_types.specs.Lists.{IsPrefix}
+use Rattle.two_silos.specs.LaterWorlds.{IsLater, given_by, given_in, KeepsPart}
 use Rattle.two_silos.proofs.Invariant.{Issued, Inv, set-at, unissued}
 use Rattle.two_silos.proofs.SmallChanges.{opening_of}
 use Rattle.two_silos.proofs.KeptInvariant.{kept}
@@ -22,44 +23,44 @@ use Rattle.two_silos.proofs.StartedTransactions.{stays-step, next-issued}
 
 -- ---- fronts
 
-front-same : {A : Type 0} (xs : List A) → IsFront xs xs
+front-same : {A : Type 0} (xs : List A) → IsPrefix xs xs
 front-same xs = ([], sym (append-nil xs))
 
-front-on : {A : Type 0} (xs ys zs : List A) → IsFront xs ys → IsFront ys zs → IsFront xs zs
+front-on : {A : Type 0} (xs ys zs : List A) → IsPrefix xs ys → IsPrefix ys zs → IsPrefix xs zs
 front-on xs ys zs h k = (h.0 ++ k.0, k.1 ∙ ap (λ l. l ++ k.0) h.1 ∙ append_assoc xs h.0 k.0)
 
 -- the commits after a vote
-voted-front : (c : Coordination) (t : TxnId) (n : ℕ) (b : Bool) (o : Option Pending) → IsFront c.commits (voted c t n b o).commits
+voted-front : (c : Coordination) (t : TxnId) (n : ℕ) (b : Bool) (o : Option Pending) → IsPrefix c.commits (voted c t n b o).commits
 voted-front c t n false None = front-same c.commits
 voted-front c t n true None = front-same c.commits
 voted-front c t n false (Some p) = front-same c.commits
 voted-front c t n true (Some p) =
-    cond_both (is_unanimous p.parts (n ∷ p.yes)) (with_decision c t true) (record c { pending = agreed t n c.pending }) (λ (d : Coordination). IsFront c.commits d.commits)
+    cond_both (is_unanimous p.parts (n ∷ p.yes)) (with_decision c t true) (record c { pending = agreed t n c.pending }) (λ (d : Coordination). IsPrefix c.commits d.commits)
     (λ e. (t ∷ [], refl)) (λ e. front-same c.commits)
 
-begun-front : (c : Coordination) (qs : List Part) → IsFront c.commits (begun c qs).commits
+begun-front : (c : Coordination) (qs : List Part) → IsPrefix c.commits (begun c qs).commits
 begun-front c [] = (record { epoch = c.epoch; number = c.number + 1 } ∷ [], refl)
 begun-front c (q ∷ qs) = front-same c.commits
 
 -- a participant's log after a packet
-learned-front : (node : Node) (k : Packet) → IsFront node.log (learned node k).log
+learned-front : (node : Node) (k : Packet) → IsPrefix node.log (learned node k).log
 learned-front node (Prepare t to s) = go (to == node.number)
   where
-    longer : IsFront node.log (log_prepare (opening_in node.opening) node.log t s)
+    longer : IsPrefix node.log (log_prepare (opening_in node.opening) node.log t s)
     longer =
-        cond_both (is_done node.log t || is_prepared node.log t) node.log (if can_prepare (opening_in node.opening) node.log s then node.log ++ Prepared t s ∷ [] else node.log) (IsFront node.log)
-        (λ e. front-same node.log) (λ e. cond_both (can_prepare (opening_in node.opening) node.log s) (node.log ++ Prepared t s ∷ []) node.log (IsFront node.log) (λ f. (Prepared t s ∷ [], refl)) (λ f. front-same node.log))
+        cond_both (is_done node.log t || is_prepared node.log t) node.log (if can_prepare (opening_in node.opening) node.log s then node.log ++ Prepared t s ∷ [] else node.log) (IsPrefix node.log)
+        (λ e. front-same node.log) (λ e. cond_both (can_prepare (opening_in node.opening) node.log s) (node.log ++ Prepared t s ∷ []) node.log (IsPrefix node.log) (λ f. (Prepared t s ∷ [], refl)) (λ f. front-same node.log))
 
-    go : (b : Bool) → IsFront node.log ((if b then record node { log = log_prepare (opening_in node.opening) node.log t s } else node).log)
+    go : (b : Bool) → IsPrefix node.log ((if b then record node { log = log_prepare (opening_in node.opening) node.log t s } else node).log)
     go true = longer
     go false = front-same node.log
 learned-front node (Vote t from' b) = front-same node.log
 learned-front node (Decision t to c) = go (to == node.number)
   where
-    longer : IsFront node.log (log_decision node.log t c)
-    longer = cond_both (is_prepared node.log t && not (is_done node.log t)) (node.log ++ Done t c ∷ []) node.log (IsFront node.log) (λ e. (Done t c ∷ [], refl)) (λ e. front-same node.log)
+    longer : IsPrefix node.log (log_decision node.log t c)
+    longer = cond_both (is_prepared node.log t && not (is_done node.log t)) (node.log ++ Done t c ∷ []) node.log (IsPrefix node.log) (λ e. (Done t c ∷ [], refl)) (λ e. front-same node.log)
 
-    go : (b : Bool) → IsFront node.log ((if b then record node { log = log_decision node.log t c } else node).log)
+    go : (b : Bool) → IsPrefix node.log ((if b then record node { log = log_decision node.log t c } else node).log)
     go true = longer
     go false = front-same node.log
 learned-front node (Ask t from') = front-same node.log
@@ -69,7 +70,7 @@ learned-front node (Ask t from') = front-same node.log
 later-same : (w : World) → IsLater w w
 later-same w = record { commits = front-same w.coordinator.commits; logs = λ n. front-same (log_at w.nodes n) }
 
-later-coordinator : (w : World) (c : Coordination) (ps : List Packet) → IsFront w.coordinator.commits c.commits → IsLater w (record w { coordinator = c; packets = ps })
+later-coordinator : (w : World) (c : Coordination) (ps : List Packet) → IsPrefix w.coordinator.commits c.commits → IsLater w (record w { coordinator = c; packets = ps })
 later-coordinator w c ps h = record { commits = h; logs = λ n. front-same (log_at w.nodes n) }
 
 later-handed : (w : World) (k : ℕ) (p : Packet) → IsLater w (handed w k p)
@@ -77,8 +78,8 @@ later-handed w k p =
     cond_both (nat_lt k (length w.nodes)) (record w { nodes = slice_set w.nodes k (learned (node_at w.nodes k) p); packets = w.packets ++ answers (node_at w.nodes k) p }) w (IsLater w)
     (λ e. record {
       commits = front-same w.coordinator.commits;
-      logs = λ n. set-at w.nodes k (learned (node_at w.nodes k) p) (IsFront (log_at w.nodes n)) n (ltb-true k (length w.nodes) e)
-          (λ q. subst (λ m. IsFront (log_at w.nodes m) (learned (node_at w.nodes k) p).log) (sym q) (learned-front (node_at w.nodes k) p)) (λ q. front-same (log_at w.nodes n));
+      logs = λ n. set-at w.nodes k (learned (node_at w.nodes k) p) (IsPrefix (log_at w.nodes n)) n (ltb-true k (length w.nodes) e)
+          (λ q. subst (λ m. IsPrefix (log_at w.nodes m) (learned (node_at w.nodes k) p).log) (sym q) (learned-front (node_at w.nodes k) p)) (λ q. front-same (log_at w.nodes n));
     })
     (λ e. later-same w)
 

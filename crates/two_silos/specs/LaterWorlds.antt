@@ -1,18 +1,15 @@
 -- What stays whatever comes, which numbers are given, and what keeps a grain busy.
 use Rattle.std.specs.Prelude.{◌≡◌, ℕ, List, [], ◌∷◌, ◌++◌, true, false, ◌&&◌, if◌then◌else◌}
+use Rattle.base_types.specs.Lists.{IsPrefix}
 use Rattle.two_silos.specs.Nodes.{GrainId, Part, Prepared, Shift, TxnId}
 use Rattle.silo_nodes.specs.Packets.{Member, touches}
 use Rattle.silo_nodes.specs.Logs.{is_done}
 use Rattle.two_silos.specs.World.{World, WorldEvent, Start, Deliver, NudgeCoordinator, Nudge, RestartCoordinator, Restart, log_at, can_start, next_txn, is_within, does, step}
 
--- the first list stands at the front of the second
-abbrev pub IsFront : {A : Type 0} → List A → List A → Type 0
-IsFront {A} xs ys = (rest : List A) × (ys ≡ xs ++ rest)
-
 -- the commits and each log are at the front of the later ones
 pub record IsLater (w v : World) : Type 0 where
-  pub commits : IsFront w.coordinator.commits v.coordinator.commits
-  pub logs : (n : ℕ) → IsFront (log_at w.nodes n) (log_at v.nodes n)
+  pub commits : IsPrefix w.coordinator.commits v.coordinator.commits
+  pub logs : (n : ℕ) → IsPrefix (log_at w.nodes n) (log_at v.nodes n)
 
 -- the number that an event gives to a transaction, where it starts one
 abbrev pub given_by : World → WorldEvent → List TxnId

@@ -24,9 +24,9 @@ use Rattle.script_machine.specs.declared.machine.Machine.{Machine}
 use Rattle.script_machine.specs.declared.machine.Pause.{Pause}
 use Rattle.script_machine.specs.declared.machine.Pause.TheVariants.{NeedGrain, NeedUnit, Done}
 use Rattle.script_machine.specs.Machines.{FollowsTrail, has_begun, rest}
-use Rattle.promise_spec.specs.SerialExecution.{depth_of}
+use Rattle.base_types.specs.Origins.{depth_of}
 use Rattle.turn_rules.specs.NextEvent.{with_event}
-use Rattle.worker_rules.specs.SharedHistories.{Told, is_load}
+use Rattle.worker_rules.specs.SharedHistories.{Told}
 use Rattle.worker_rules.specs.UnitOwnership.{leaves_unit}
 use Rattle.core_access.specs.Sights.{Sight, run_seen, saw, Looks, Tells, Counts}
 use Rattle.core_access.proofs.Sights.{looks-none}
@@ -40,7 +40,7 @@ use Rattle.txn_agent.specs.CoreLink.{IfOwn, IsPaused, IsWaiting, IsOver, IsBarre
 use Rattle.txn_agent.specs.AgentStep.{Acts, AnswerSays, Puts}
 use Rattle.txn_agent.proofs.Trails.{missing-unit, next-own, unit-wants}
 use Rattle.txn_agent.proofs.CoreGrowth.{going-back}
-use Rattle.txn_agent.proofs.OthersEvents.{ends-as, paused-on, waiting-on, over-on, stopped-on, paused-as, sound-event}
+use Rattle.txn_agent.proofs.OthersEvents.{ends-as, paused-on, waiting-on, over-on, stopped-on, paused-as}
 use Rattle.txn_agent.proofs.ChildBegins.{began-waiting}
 use Rattle.txn_agent.proofs.UnitEnds.{is_began, is_granted, missed, over-refused, over-finished, over-ended}
 use Rattle.txn_agent.proofs.DueEvents.{due-grant, due-refuse, due-begin, due-finished, due-ended, can-begin, can-finished, can-ended}
@@ -95,10 +95,10 @@ few_kids types s c work call depth k =
 -- ---- a call that puts an event
 
 -- an end that is possible and doesn't apply comes after a doubt or a stop
-stopped-by : (types : ProgramTree) (r : Run) (c : Carried) (work : Work) (trail : List Given) (e : CoreEvent) → IsPaused types r c work trail → is_load e ≡ false →
+stopped-by : (types : ProgramTree) (r : Run) (c : Carried) (work : Work) (trail : List Given) (e : CoreEvent) → IsPaused types r c work trail →
     can (ends r) e ≡ true → applies (ends r) e ≡ false → IsBarred (with_event r e) c
-stopped-by types r c work trail e p plain possible a = record {
-  sound = sound-event r e plain p.linked.sound;
+stopped-by types r c work trail e p possible a = record {
+  above = p.linked.above;
   running = ap (λ (w : CoreState). w.units.phase c.unit) (ends-as r e a) ∙ p.given.running;
   stopped = λ going. (let g = going-back r e going in
       absurd (true≢false (sym (and_from (is_allowed (ends r) e) (can (ends r) e)
@@ -108,14 +108,14 @@ stopped-by types r c work trail e p plain possible a = record {
 
 module _ (may : CoreEvent → Bool) (types : ProgramTree) (s t : Sight) (c : Carried) (work : Work) (counts : Counts s) where
   -- where it didn't apply, what is known stays
-  paused-missed : (pause : Pause) (e : CoreEvent) (y : CoreReply) (l : Tells may s e y t) → is_load e ≡ false → applies (ends (run_seen (saw s l.rest))) e ≡ false →
+  paused-missed : (pause : Pause) (e : CoreEvent) (y : CoreReply) (l : Tells may s e y t) → applies (ends (run_seen (saw s l.rest))) e ≡ false →
       KnowsPaused types s c work pause → KnowsPaused types t c work pause
-  paused-missed pause e y l plain a k = record {
+  paused-missed pause e y l a k = record {
     trail = k.trail;
     at_work = k.at_work;
     ready = k.ready;
     linked = tells-knows (leaves_unit c.unit) (λ r. IsPaused types r c work k.trail) (λ r e h p. paused-on types r e c h work k.trail p) (λ r. IsPaused types r c work k.trail)
-        may s t e y l counts (λ p. paused-as types (run_seen (saw s l.rest)) e c a plain work k.trail p) k.linked;
+        may s t e y l counts (λ p. paused-as types (run_seen (saw s l.rest)) e c a work k.trail p) k.linked;
   }
 
   module _ (g : GrainId) (mode : Mode) (y : CoreReply) (k : KnowsPaused types s c work (NeedGrain g mode)) where
@@ -137,7 +137,7 @@ module _ (may : CoreEvent → Bool) (types : ProgramTree) (s t : Sight) (c : Car
     grant_missed l f = missed (ends (run_seen (saw s l.rest))) (Grant c.unit g mode) y is_granted refl l.reply f
 
     pub grant_stays : Tells may s (Grant c.unit g mode) y t → is_granted y ≡ false → KnowsPaused types t c work (NeedGrain g mode)
-    grant_stays l f = paused-missed (NeedGrain g mode) (Grant c.unit g mode) y l refl (grant_missed l f) k
+    grant_stays l f = paused-missed (NeedGrain g mode) (Grant c.unit g mode) y l (grant_missed l f) k
 
     pub grant_moves : Tells may s (Grant c.unit g mode) y t → is_granted y ≡ false → ask_answer (ends (run_seen s)) c.unit g mode ≡ answer.Free → (kids : ℕ) → AnswerSays may types c.unit kids s t came.Moved
     grant_moves l f free kids = inr (inl record {
@@ -168,7 +168,7 @@ module _ (may : CoreEvent → Bool) (types : ProgramTree) (s t : Sight) (c : Car
     refuse_missed l f = missed (ends (run_seen (saw s l.rest))) (Refuse c.unit g mode) y is_done refl l.reply f
 
     pub refuse_stays : Tells may s (Refuse c.unit g mode) y t → is_done y ≡ false → KnowsPaused types t c work (NeedGrain g mode)
-    refuse_stays l f = paused-missed (NeedGrain g mode) (Refuse c.unit g mode) y l refl (refuse_missed l f) k
+    refuse_stays l f = paused-missed (NeedGrain g mode) (Refuse c.unit g mode) y l (refuse_missed l f) k
 
     pub refuse_moves : Tells may s (Refuse c.unit g mode) y t → is_done y ≡ false → is_some (refusal g (ask_answer (ends (run_seen s)) c.unit g mode)) ≡ true → (kids : ℕ) → AnswerSays may types c.unit kids s t came.Moved
     refuse_moves l f barred kids = inr (inl record {
@@ -206,7 +206,7 @@ module _ (may : CoreEvent → Bool) (types : ProgramTree) (s t : Sight) (c : Car
 
     pub begin_stays : Tells may s (Begin (Child c.unit work.kids depth) call false) y t → is_began y ≡ false → (asked : Call) → asked ≡ call → KnowsPaused types t c work (NeedUnit asked depth)
     begin_stays l f asked same = subst (λ (x : Call). KnowsPaused types t c work (NeedUnit x depth)) (sym same)
-        (paused-missed (NeedUnit call depth) (Begin (Child c.unit work.kids depth) call false) y l refl (begin_missed l f) k)
+        (paused-missed (NeedUnit call depth) (Begin (Child c.unit work.kids depth) call false) y l (begin_missed l f) k)
 
     pub begin_moves : Tells may s (Begin (Child c.unit work.kids depth) call false) y t → is_began y ≡ false → AnswerSays may types c.unit work.kids s t came.Moved
     begin_moves l f = inr (inl record {
@@ -274,7 +274,7 @@ module _ (may : CoreEvent → Bool) (types : ProgramTree) (s t : Sight) (c : Car
     pub finish_stopped : Tells may s (Finish c.unit effect) y t → is_done y ≡ false → c.plain ≡ false → IfOwn c t (λ r. IsBarred r c)
     finish_stopped l f kind = tells-knows (leaves_unit c.unit) (λ r. IsPaused types r c work k.trail) (λ r e h p. paused-on types r e c h work k.trail p) (λ r. IsBarred r c)
         may s t (Finish c.unit effect) y l counts
-        (λ p. stopped-by types (run_seen (saw s l.rest)) c work k.trail (Finish c.unit effect) p refl (can-finished types (run_seen (saw s l.rest)) c work k.trail _ k.at_work p effect made kind) (finish_missed l f)) k.linked
+        (λ p. stopped-by types (run_seen (saw s l.rest)) c work k.trail (Finish c.unit effect) p (can-finished types (run_seen (saw s l.rest)) c work k.trail _ k.at_work p effect made kind) (finish_missed l f)) k.linked
 
     -- the end of a plain run
     abbrev pub end_puts : Tells may s (EndPlain c.unit effect) y t → Puts may types c.unit s (EndPlain c.unit effect) y t
@@ -311,4 +311,4 @@ module _ (may : CoreEvent → Bool) (types : ProgramTree) (s t : Sight) (c : Car
     pub end_stopped : Tells may s (EndPlain c.unit effect) y t → is_done y ≡ false → c.plain ≡ true → IfOwn c t (λ r. IsBarred r c)
     end_stopped l f kind = tells-knows (leaves_unit c.unit) (λ r. IsPaused types r c work k.trail) (λ r e h p. paused-on types r e c h work k.trail p) (λ r. IsBarred r c)
         may s t (EndPlain c.unit effect) y l counts
-        (λ p. stopped-by types (run_seen (saw s l.rest)) c work k.trail (EndPlain c.unit effect) p refl (can-ended types (run_seen (saw s l.rest)) c work k.trail _ k.at_work p effect made kind) (end_missed l f)) k.linked
+        (λ p. stopped-by types (run_seen (saw s l.rest)) c work k.trail (EndPlain c.unit effect) p (can-ended types (run_seen (saw s l.rest)) c work k.trail _ k.at_work p effect made kind) (end_missed l f)) k.linked

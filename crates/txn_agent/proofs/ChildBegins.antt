@@ -1,12 +1,12 @@
 -- What the begin of a unit leaves of the one that asked for it, and of the new one.
-use Rattle.std.proofs.Common.{◌≡◌, ◌≤◌, ℕ, List, [], ◌∷◌, ◌++◌, Bool, true, false, true≢false, refl, sym, ap, ◌∙◌, subst, arith, Option, Some, None, le_refl, inl, inr}
+use Rattle.std.proofs.Common.{◌≡◌, ◌≤◌, ℕ, List, [], ◌∷◌, ◌++◌, Bool, true, false, true≢false, refl, sym, ap, ◌∙◌, subst, arith, Option, Some, None, le_refl, inl, inr, ◌<◌}
 use Rattle.std.specs.Prelude.{if◌then◌else◌, map}
 use Rattle.std.proofs.lemmas.Bool.{cond-true, and_parts, cases_Bool}
 use Rattle.base_types.specs.declared.calls.Origin.{Origin}
 use Rattle.base_types.specs.declared.calls.Origin.TheVariants.{Line, Child}
 use Rattle.cell_model.specs.Locks.{holds_lock, is_hold_of}
 use Rattle.cell_model.proofs.Units.{any-none, same_unit-true, same_unit-not}
-use Rattle.core_model.specs.CoreState.{UnitNo, GrainId, Hold, Call, Value, Member, same_unit, CoreState}
+use Rattle.core_model.specs.CoreState.{UnitNo, GrainId, Hold, Call, Member, same_unit, CoreState}
 use Rattle.core_model.specs.declared.effects.Read.{Read}
 use Rattle.core_model.specs.declared.phases.Phase.TheVariants.{Unborn, Running}
 use Rattle.core_model.specs.declared.events.CoreEvent.{CoreEvent}
@@ -16,10 +16,7 @@ use Rattle.core_model.specs.Tests.{is_running}
 use Rattle.core_model.specs.Changes.{begun, new_unit, swept, swept_by}
 use Rattle.core_model.specs.Events.{applies, can, does, is_allowed, reply_with, reply_without, reply_to, run, step}
 use Rattle.core_model.specs.LegalRuns.{Run, begins, ends}
-use Rattle.core_model.specs.SerialOrder.{AllLoadsTrue}
 use Rattle.core_laws.proofs.Puts.{put-other, put-same}
-use Rattle.core_laws.proofs.KeptInvariant.{Kept, kept-step}
-use Rattle.core_laws.proofs.Ends.{kept-begins}
 use Rattle.core_laws.proofs.EventCases.{ask-granted}
 use Rattle.script_tree.specs.Programs.{ProgramTree}
 use Rattle.script_meaning.specs.Play.{IsTransaction}
@@ -33,9 +30,10 @@ use Rattle.turn_rules.proofs.AgentLinks.{child-began}
 use Rattle.txn_agent.specs.declared.work.Carried.{Carried}
 use Rattle.txn_agent.specs.declared.work.Work.{Work}
 use Rattle.txn_agent.specs.MachineState.{found_by, source_of}
-use Rattle.txn_agent.specs.CoreLink.{IsLegalRun, IsPaused, IsWaiting, IsNew}
+use Rattle.txn_agent.specs.CoreLink.{IsPaused, IsWaiting, IsNew}
 use Rattle.txn_agent.proofs.CoreGrowth.{next-grows}
-use Rattle.txn_agent.proofs.OthersEvents.{kept-sound, runs-born, sound-event, alone-is}
+use Rattle.txn_agent.proofs.OthersEvents.{runs-born, alone-is}
+use Rattle.core_laws.proofs.LoadlessKept.{LoadlessKept, loadless-begins, loadless-step, loadless-ends}
 
 -- the reply with a number comes where the unit began
 pub began-reply : (w : CoreState) (origin : Origin) (call : Call) (plain : Bool) (child : UnitNo) → reply.Began child ≡ reply_to w (Begin origin call plain) → (applies w (Begin origin call plain) ≡ true) × (child ≡ new_unit w)
@@ -110,10 +108,10 @@ pub began-waiting : (types : ProgramTree) (r : Run) (c : Carried) (work work' : 
     IsWaiting types (with_event r (Begin (Child c.unit index depth) call false)) c work' trail child call depth
 began-waiting types r c work work' trail call depth index child p replied same sources =
     let told = began-reply (ends r) (Child c.unit index depth) call false child replied in
-    let i = parent-step r (Child c.unit index depth) call false told.0 c.unit (begun-old r.opening (ends r) c.unit (kept-sound r p.linked.sound) (runs-born (ends r) c.unit p.given.running)) in
+    let i = parent-step r (Child c.unit index depth) call false told.0 c.unit (begun-old (ends r) c.unit (loadless-ends r p.linked.above) (runs-born (ends r) c.unit p.given.running)) in
     record {
       linked = record {
-        sound = sound-event r (Begin (Child c.unit index depth) call false) refl p.linked.sound;
+        above = p.linked.above;
         call = i.call_of ∙ p.linked.call ∙ sym same;
         came = i.origin_of ∙ p.linked.came;
         kind = i.plain_of ∙ p.linked.kind;
@@ -124,7 +122,7 @@ began-waiting types r c work work' trail call depth index child p replied same s
         alone = λ g. ap (λ (f : GrainId → List Hold). alone-is c.unit (f g)) i.holds ∙ p.linked.alone g;
       };
       awaits = subst (λ (k : UnitNo). IsAwaiting (with_event r (Begin (Child c.unit index depth) call false)) c.unit k call depth trail) (sym told.1)
-          (child-began r c.unit index depth call trail r.opening (kept-sound r p.linked.sound) told.0 p.given (i.phase ∙ p.given.running));
+          (child-began r c.unit index depth call trail (loadless-ends r p.linked.above) told.0 p.given (i.phase ∙ p.given.running));
     }
 
 -- ---- the new one
@@ -164,10 +162,10 @@ idle-gets w u (Want v g) idle a = refl
 idle-gets w u (Load g v state) idle a = refl
 
 -- a unit whose number isn't reached got nothing
-unborn-got : (opening : GrainId → List Value) (es : List CoreEvent) (w : CoreState) (u : UnitNo) → AllLoadsTrue opening w es → Kept opening w → (run w es).units.next ≤ u.0 → got_from w es u ≡ []
-unborn-got opening [] w u loads k far = refl
-unborn-got opening (e ∷ es) w u loads k far =
-    (λ i. by (applies w e) refl i ++ unborn-got opening es (step w e) u loads.1 (kept-step opening w e loads.0 k) far i)
+unborn-got : (es : List CoreEvent) (w : CoreState) (u : UnitNo) → LoadlessKept w → (run w es).units.next ≤ u.0 → got_from w es u ≡ []
+unborn-got [] w u k far = refl
+unborn-got (e ∷ es) w u k far =
+    (λ i. by (applies w e) refl i ++ unborn-got es (step w e) u (loadless-step w e k) far i)
   where
     idle : is_running (w.units.phase u) ≡ false
     idle = (let a = next-grows (e ∷ es) w in ap is_running (k.0.unborn u (omega (arith, a, far))))
@@ -177,10 +175,10 @@ unborn-got opening (e ∷ es) w u loads k far =
     by false a = refl
 
 -- it has nothing but its call
-pub new-is : (types : ProgramTree) (r : Run) (c : Carried) (call : Call) → IsLegalRun r → reply.Began c.unit ≡ reply_to (ends r) (Begin c.origin call c.plain) → (c.plain ≡ true → IsTransaction types call → ⊥) →
+pub new-is : (types : ProgramTree) (r : Run) (c : Carried) (call : Call) → 0 < r.base → reply.Began c.unit ≡ reply_to (ends r) (Begin c.origin call c.plain) → (c.plain ≡ true → IsTransaction types call → ⊥) →
     IsNew types (with_event r (Begin c.origin call c.plain)) c call
-new-is types r c call sound replied plainly = subst (λ (u : UnitNo). IsNew types (with_event r (Begin c.origin call c.plain)) (record { unit = u; origin = c.origin; plain = c.plain }) call) (sym told.1) record {
-  sound = sound-event r (Begin c.origin call c.plain) refl sound;
+new-is types r c call above replied plainly = subst (λ (u : UnitNo). IsNew types (with_event r (Begin c.origin call c.plain)) (record { unit = u; origin = c.origin; plain = c.plain }) call) (sym told.1) record {
+  above = above;
   running = i.phase;
   called = i.call_of;
   came = i.origin_of;
@@ -200,14 +198,14 @@ new-is types r c call sound replied plainly = subst (λ (u : UnitNo). IsNew type
     i : IsBorn r c.origin call c.plain told.0 (ends (with_event r (Begin c.origin call c.plain)))
     i = born-step r c.origin call c.plain told.0
 
-    k : Kept r.opening (ends r)
-    k = kept-sound r sound
+    k : LoadlessKept (ends r)
+    k = loadless-ends r above
 
     unborn : (ends r).units.phase u ≡ Unborn
-    unborn = (kept-sound r sound).0.unborn (new_unit (ends r)) (le_refl (ends r).units.next)
+    unborn = (loadless-ends r above).0.unborn (new_unit (ends r)) (le_refl (ends r).units.next)
 
     before : got_in r u ≡ []
-    before = unborn-got r.opening r.events (begins r) u sound.loads (kept-begins (λ e. true) r sound) (le_refl (ends r).units.next)
+    before = unborn-got r.events (begins r) u (loadless-begins r above) (le_refl (ends r).units.next)
 
     next : got_next (ends r) (Begin c.origin call c.plain) u ≡ []
     next = by (applies (ends r) (Begin c.origin call c.plain)) refl

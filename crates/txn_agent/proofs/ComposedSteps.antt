@@ -11,10 +11,10 @@ use Rattle.core_model.specs.declared.events.CoreEvent.{CoreEvent}
 use Rattle.core_model.specs.declared.events.CoreReply.{CoreReply}
 use Rattle.core_model.specs.declared.questions.AskAnswer.{AskAnswer}
 use Rattle.core_model.specs.declared.questions.AskAnswer.TheVariants as answer
-use Rattle.core_model.specs.LockAnswers.{AskExactly}
+use Rattle.core_model.specs.LockAnswers.{AskedLocks}
 use Rattle.core_model.specs.Tests.{any, ask_answer, outcome_of}
 use Rattle.core_model.specs.LegalRuns.{ends}
-use Rattle.core_laws.proofs.LockAnswers.{ask-ends}
+use Rattle.core_laws.proofs.LockAnswers.{asked-locks}
 use Rattle.script_tree.specs.Programs.{ProgramTree}
 use Rattle.script_meaning.specs.Laws.{IsOfTypes}
 use Rattle.script_meaning.specs.Play.{Want, asks, next}
@@ -22,7 +22,7 @@ use Rattle.script_meaning.specs.Trails.{answers_of, locks_of}
 use Rattle.script_meaning.proofs.AskedTypes.{next_is_of_types_lem}
 use Rattle.script_machine.specs.declared.machine.Pause.TheVariants.{NeedGrain}
 use Rattle.script_machine.specs.Machines.{pause_for, rest}
-use Rattle.promise_spec.specs.SerialExecution.{depth_of}
+use Rattle.base_types.specs.Origins.{depth_of}
 use Rattle.promise_spec.specs.UnitAnswers.{got_in, wanted_by, wanted_lock}
 use Rattle.turn_rules.proofs.AgentLinks.{wants}
 use Rattle.worker_rules.specs.UnitOwnership.{leaves_unit}
@@ -134,8 +134,8 @@ module _ (may : CoreEvent → Bool) (types : ProgramTree) (s t : Sight) (c : Car
           ∙ as_lock (asks (rest types work.machine)) k.ready.asks_for
 
   -- what the core answers to a unit that may go on
-  never : (said : AskAnswer) → ask_answer (ends (run_seen t)) c.unit g mode ≡ said → IsPaused types (run_seen t) c work k.trail → AskExactly (ends (run_seen t)) c.unit g mode said
-  never said q p = subst (AskExactly (ends (run_seen t)) c.unit g mode) q (ask-ends (λ e. true) (run_seen t) p.linked.sound c.unit g mode)
+  never : (said : AskAnswer) → ask_answer (ends (run_seen t)) c.unit g mode ≡ said → AskedLocks (ends (run_seen t)) c.unit g mode said
+  never said q = subst (AskedLocks (ends (run_seen t)) c.unit g mode) q (asked-locks (ends (run_seen t)) c.unit g mode)
 
   -- the grain's type is one of the program's
   of-types : g.kind < length types
@@ -182,19 +182,19 @@ module _ (may : CoreEvent → Bool) (types : ProgramTree) (s t : Sight) (c : Car
   inactive_happened a is asked = inr (inr record {
     looked = l;
     never = λ alone kinds here. (let p = there.linked alone in
-        never answer.NotActive (sym asked ∙ is) p (p.given.running, (let n = of-types in let q : (ends (run_seen t)).units.kinds ≡ length types = kinds-ends (run_seen t) ∙ kinds in omega (arith, n, q))));
+        never answer.NotActive (sym asked ∙ is) (p.given.running, (let n = of-types in let q : (ends (run_seen t)).units.kinds ≡ length types = kinds-ends (run_seen t) ∙ kinds in omega (arith, n, q))));
   })
 
   pub held_happened : (a : AskAnswer) → a ≡ answer.Held → a ≡ ask_answer (ends (run_seen t)) c.unit g mode → AnswerSays may types c.unit kids s t Moved
   held_happened a is asked = inr (inr record {
     looked = l;
-    never = λ alone kinds here. (let p = there.linked alone in uncovered p (never answer.Held (sym asked ∙ is) p).lock);
+    never = λ alone kinds here. (let p = there.linked alone in uncovered p (never answer.Held (sym asked ∙ is)).1);
   })
 
   pub absent_happened : (a : AskAnswer) → a ≡ answer.Absent → a ≡ ask_answer (ends (run_seen t)) c.unit g mode → AnswerSays may types c.unit kids s t Moved
   absent_happened a is asked = inr (inr record {
     looked = l;
-    never = λ alone kinds here. (let p = there.linked alone in true≢false (sym (here-ends (run_seen t) here g) ∙ (never answer.Absent (sym asked ∙ is) p).1));
+    never = λ alone kinds here. (let p = there.linked alone in true≢false (sym (here-ends (run_seen t) here g) ∙ (never answer.Absent (sym asked ∙ is)).2));
   })
 
 -- ---- the unit waits for its child, or was stopped

@@ -26,7 +26,7 @@ use Rattle.script_meaning.specs.Trails.{Given, GivenLock, GivenRaise, GivenOutco
 use Rattle.script_meaning.proofs.Plays.{plain_runs_lock_nothing_lem}
 use Rattle.script_machine.specs.declared.machine.Pause.TheVariants.{NeedGrain, NeedUnit}
 use Rattle.script_machine.specs.Machines.{pause_for, rest}
-use Rattle.promise_spec.specs.SerialExecution.{depth_of}
+use Rattle.base_types.specs.Origins.{depth_of}
 use Rattle.promise_spec.specs.UnitAnswers.{Got, GotLock, GotRaise, GotChild, and_given, given_by, got_in}
 use Rattle.promise_spec.specs.UnitRule.{Basis, IsDue, IsPlayOf}
 use Rattle.promise_spec.proofs.Lists.{some_is}
@@ -177,7 +177,7 @@ module _ (types : ProgramTree) (r : Run) (c : Carried) (work : Work) (trail : Li
 
   -- each child is answered
   kids-answered : answered_by (ends r) ((ends r).units.kids c.unit) (answers_of trail) ≡ true
-  kids-answered = subst (λ (l : List UnitNo). answered_by (ends r) l (answers_of trail) ≡ true) ((counted-ends (λ (e : Effect). true) r p.linked.sound).kids c.unit) (given-kids (ends r) (got_in r c.unit) trail p.given.given)
+  kids-answered = subst (λ (l : List UnitNo). answered_by (ends r) l (answers_of trail) ≡ true) ((counted-ends r p.linked.above).kids c.unit) (given-kids (ends r) (got_in r c.unit) trail p.given.given)
 
   -- the next child may begin
   pub can-begin : (call : Call) (depth : ℕ) → kids ≡ length (answers_of trail) → can (ends r) (Begin (Child c.unit work.kids depth) call false) ≡ true

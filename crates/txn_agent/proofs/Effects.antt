@@ -12,7 +12,7 @@ use Rattle.script_meaning.proofs.SingleReads.{trails_read_once_lem}
 use Rattle.script_meaning.proofs.Plays.{next_is_play_lem}
 use Rattle.script_machine.specs.declared.machine.Parts.{Parts}
 use Rattle.script_machine.specs.Machines.{FollowsTrail, IsPartsOf, holding_of, reads_in, rest}
-use Rattle.promise_spec.specs.SerialExecution.{depth_of}
+use Rattle.base_types.specs.Origins.{depth_of}
 use Rattle.promise_spec.specs.UnitRule.{played_by}
 use Rattle.txn_agent.specs.declared.work.Carried.{Carried}
 use Rattle.txn_agent.specs.declared.work.Work.{Work}

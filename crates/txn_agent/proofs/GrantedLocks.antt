@@ -34,7 +34,7 @@ use Rattle.txn_agent.specs.declared.work.Work.{Work}
 use Rattle.txn_agent.specs.MachineState.{found_by, source_of}
 use Rattle.txn_agent.specs.CoreLink.{IsPaused}
 use Rattle.txn_agent.proofs.Trails.{reads-last, exclusive-last, grains-last, any-last}
-use Rattle.txn_agent.proofs.OthersEvents.{kept-sound, sound-event}
+use Rattle.core_laws.proofs.LoadlessKept.{loadless-ends}
 
 -- ---- the reply
 
@@ -199,7 +199,7 @@ module _ (types : ProgramTree) (r : Run) (c : Carried) (work work' : Work) (trai
     pub first-linked : IsPaused types (with_event r (Grant c.unit g mode)) c work' (trail ++ (GivenLock g mode s ∷ []))
     first-linked = record {
       linked = record {
-        sound = sound-event r (Grant c.unit g mode) refl p.linked.sound;
+        above = p.linked.above;
         call = ap (λ (f : UnitNo → Call). f c.unit) i.call ∙ p.linked.call ∙ sym call;
         came = ap (λ (f : UnitNo → Origin). f c.unit) i.origin ∙ p.linked.came;
         kind = ap (λ (f : UnitNo → Bool). f c.unit) i.plain ∙ p.linked.kind;
@@ -215,7 +215,7 @@ module _ (types : ProgramTree) (r : Run) (c : Carried) (work work' : Work) (trai
         alone = λ h. alone-by mode refl h ∙ sym (ap (any (same_grain h)) (exclusive-last trail given));
       };
       given = subst (λ (v : List Value). HasTrail (with_event r (Grant c.unit g mode)) c.unit (trail ++ (GivenLock g mode v ∷ []))) (sym told.1)
-          (locked-first r c.unit g mode trail r.opening (kept-sound r p.linked.sound) told.0 unlocked p.given (ap (λ (f : UnitNo → Phase). f c.unit) i.phase ∙ p.given.running));
+          (locked-first r c.unit g mode trail (loadless-ends r p.linked.above) told.0 unlocked p.given (ap (λ (f : UnitNo → Phase). f c.unit) i.phase ∙ p.given.running));
     }
 
   module _ (update : mode ≡ Update) (held : any (same_grain g) (grains_with_states (reads_of trail)) ≡ true) (sources : work'.sources ≡ work.sources) where
@@ -238,7 +238,7 @@ module _ (types : ProgramTree) (r : Run) (c : Carried) (work work' : Work) (trai
     pub again-linked : IsPaused types (with_event r (Grant c.unit g mode)) c work' (trail ++ (GivenRaise g ∷ []))
     again-linked = record {
       linked = record {
-        sound = sound-event r (Grant c.unit g mode) refl p.linked.sound;
+        above = p.linked.above;
         call = ap (λ (f : UnitNo → Call). f c.unit) j.call ∙ p.linked.call ∙ sym call;
         came = ap (λ (f : UnitNo → Origin). f c.unit) j.origin ∙ p.linked.came;
         kind = ap (λ (f : UnitNo → Bool). f c.unit) j.plain ∙ p.linked.kind;
@@ -259,4 +259,4 @@ module _ (types : ProgramTree) (r : Run) (c : Carried) (work work' : Work) (trai
       where
         again-given : (m : Mode) → m ≡ Update → applies (ends r) (Grant c.unit g m) ≡ true → IsGranted (ends r) c.unit g m (ends (with_event r (Grant c.unit g m))) → HasTrail (with_event r (Grant c.unit g m)) c.unit (trail ++ (GivenRaise g ∷ []))
         again-given m q = subst (λ (m : Mode). applies (ends r) (Grant c.unit g m) ≡ true → IsGranted (ends r) c.unit g m (ends (with_event r (Grant c.unit g m))) → HasTrail (with_event r (Grant c.unit g m)) c.unit (trail ++ (GivenRaise g ∷ []))) (sym q)
-            (λ a k. locked-again r c.unit g trail r.opening (kept-sound r p.linked.sound) a has p.given (ap (λ (f : UnitNo → Phase). f c.unit) k.phase ∙ p.given.running))
+            (λ a k. locked-again r c.unit g trail (loadless-ends r p.linked.above) a has p.given (ap (λ (f : UnitNo → Phase). f c.unit) k.phase ∙ p.given.running))

@@ -1,5 +1,5 @@
 -- Where nobody else puts events, a step says that it moved exactly where the unit can move by the turn rule.
-use Rattle.std.proofs.Common.{◌≡◌, inl, inr, ℕ, length, List, Bool, true, false, true≢false, refl, sym, ap, ◌∙◌, subst, Option, Some, None}
+use Rattle.std.proofs.Common.{◌≡◌, inl, inr, ℕ, length, List, Bool, true, false, true≢false, refl, sym, ap, ◌∙◌, subst, Option, Some, None, ◌<◌}
 use Rattle.std.specs.Prelude.{if◌then◌else◌, not, is_some, ◌&&◌, option_map}
 use Rattle.std.proofs.lemmas.Bool.{and_parts, cases_Bool}
 use Rattle.base_types.specs.declared.calls.Mode.{Mode}
@@ -31,13 +31,12 @@ use Rattle.core_access.specs.Sights.{Sight, run_seen, saw, IsAlone, IfAlone}
 use Rattle.core_access.proofs.Sights.{looks-alone}
 use Rattle.txn_agent.specs.declared.agent.Advanced.{Advanced}
 use Rattle.txn_agent.specs.declared.agent.Advanced.TheVariants.{Moved, Granted, Began, Waits, WaitsFor, Ended}
-use Rattle.txn_agent.specs.CoreLink.{IsLegalRun}
 use Rattle.txn_agent.specs.AgentStep.{AnswerSays, HasNoEventLeft, IsDueFor, Puts, WaitsBehind, WaitsForChild, is_move}
-use Rattle.txn_agent.proofs.OthersEvents.{kept-sound}
 use Rattle.txn_agent.proofs.UnitEnds.{idle-asks}
 use Rattle.txn_agent.proofs.ShownMoves.{given-none, over-moves, running-moves}
 use Rattle.txn_agent.proofs.LoneSteps.{missed-not, puts-applied}
 use Rattle.txn_agent.proofs.StepPromises.{line-not, settler-not, unit-is}
+use Rattle.core_laws.proofs.LoadlessKept.{loadless-ends}
 
 -- the grain and the mode that are asked for
 pair-is : (x y : GrainId × Mode) → Some x ≡ Some y → (x.0 ≡ y.0) × (x.1 ≡ y.1)
@@ -79,7 +78,7 @@ moves-by : (types : ProgramTree) (w : CoreState) (got : UnitNo → List Got) (u 
 moves-by types w got u e = ap (λ (b : Bool). if b then is_unhindered w u (wanted_by types w u (got u)) else is_over (w.units.phase u) && not (is_free w u)) e
 
 -- what is due and applies, moves
-module _ (b : Basis) (r : Run) (sound : IsLegalRun r) where
+module _ (b : Basis) (r : Run) (above : 0 < r.base) where
   lock-due : (v : UnitNo) (g : GrainId) (mode : Mode) → wanted_lock (wanted_by b.types (ends r) v (got_in r v)) ≡ Some (g, mode) → (is_wait (ask_answer (ends r) v g mode) ≡ false) × (ask_answer (ends r) v g mode ≡ answer.NotActive → ⊥) → can_move b.types (ends r) (got_in r) v ≡ true
   lock-due v g mode due free =
       moves-by b.types (ends r) (got_in r) v (asks-running (ends r) v g mode free.1)
@@ -90,7 +89,7 @@ module _ (b : Basis) (r : Run) (sound : IsLegalRun r) where
     where
       unfree : is_free (ends r) v ≡ false
       unfree = elim (cases_Bool (is_free (ends r) v)) [
-        | inl e ↦ (let t = any-true (is_hold_of v) ((ends r).cells.holds g) held in absurd (free-holds r.opening _ (ends r) (kept-sound r sound).0 v e g t.0 t.1 (same_unit-true t.0.unit v t.2)))
+        | inl e ↦ (let t = any-true (is_hold_of v) ((ends r).cells.holds g) held in absurd (free-holds _ (ends r) (loadless-ends r above).0 v e g t.0 t.1 (same_unit-true t.0.unit v t.2)))
         | inr e ↦ e
       ]
 
@@ -124,12 +123,12 @@ module _ (b : Basis) (r : Run) (sound : IsLegalRun r) where
 
 -- ---- by what each answer says
 
-module _ (b : Basis) (u : UnitNo) (s t : Sight) (alone : IsAlone (leaves_unit u) s) (sound : IsLegalRun (run_seen s)) where
+module _ (b : Basis) (u : UnitNo) (s t : Sight) (alone : IsAlone (leaves_unit u) s) (above : 0 < (run_seen s).base) where
   -- an event that was put and applies
   puts-moves : (e : CoreEvent) (y : CoreReply) → Puts none_comes b.types u s e y t → applies (ends (run_seen s)) e ≡ true → true ≡ can_move b.types (ends (run_seen s)) (got_in (run_seen s)) u
   puts-moves e y p a =
       let same : saw s p.told.rest ≡ s = looks-alone s (saw s p.told.rest) (record { rest = p.told.rest; others = p.told.others; sight = refl }) in
-      sym (due-moves b (run_seen s) sound u e p.own (and_parts (is_allowed (ends (run_seen s)) e) (can (ends (run_seen s)) e) a).1
+      sym (due-moves b (run_seen s) above u e p.own (and_parts (is_allowed (ends (run_seen s)) e) (can (ends (run_seen s)) e) a).1
       (subst (λ (x : Sight). IfAlone (leaves_unit u) x (λ z. IsDueFor b.types z e)) same p.due alone b refl a))
 
   -- the unit must wait
@@ -160,17 +159,17 @@ module _ (b : Basis) (u : UnitNo) (s t : Sight) (alone : IsAlone (leaves_unit u)
 
 -- so a step tells whether the unit can move
 pub alone-tells : (b : Basis) (u : UnitNo) (kids : ℕ) (s t : Sight) (a : Advanced) → AnswerSays none_comes b.types u kids s t a → IsAlone (leaves_unit u) s
-    → (run_seen s).kinds ≡ length b.types → (run_seen s).capacity ≡ None → IsGoing (ends (run_seen s)) → IsLegalRun (run_seen s)
+    → (run_seen s).kinds ≡ length b.types → (run_seen s).capacity ≡ None → IsGoing (ends (run_seen s)) → 0 < (run_seen s).base
     → is_move a ≡ can_move b.types (ends (run_seen s)) (got_in (run_seen s)) u
-alone-tells b u kids s t (Granted g source) h alone kinds here going sound = puts-moves b u s t alone sound _ _ h.1.1 (puts-applied b.types u s t _ _ refl h.1.1)
-alone-tells b u kids s t (Began child call depth) h alone kinds here going sound = puts-moves b u s t alone sound _ _ h (puts-applied b.types u s t _ _ refl h)
-alone-tells b u kids s t (Waits holder) h alone kinds here going sound = waits-moves b u s t alone sound holder h
-alone-tells b u kids s t (WaitsFor child) h alone kinds here going sound = child-moves b u s t alone sound child h
-alone-tells b u kids s t Ended h alone kinds here going sound =
+alone-tells b u kids s t (Granted g source) h alone kinds here going above = puts-moves b u s t alone above _ _ h.1.1 (puts-applied b.types u s t _ _ refl h.1.1)
+alone-tells b u kids s t (Began child call depth) h alone kinds here going above = puts-moves b u s t alone above _ _ h (puts-applied b.types u s t _ _ refl h)
+alone-tells b u kids s t (Waits holder) h alone kinds here going above = waits-moves b u s t alone above holder h
+alone-tells b u kids s t (WaitsFor child) h alone kinds here going above = child-moves b u s t alone above child h
+alone-tells b u kids s t Ended h alone kinds here going above =
     let same : t ≡ s = looks-alone s t h.0 in
-    ended-moves b u s t alone sound (subst (λ (x : Sight). IfAlone (leaves_unit u) x (λ r. HasNoEventLeft (ends r) u)) same h.1 alone) going
-alone-tells b u kids s t Moved (inl (e, p)) alone kinds here going sound = puts-moves b u s t alone sound e _ p (puts-applied b.types u s t e _ refl p)
-alone-tells b u kids s t Moved (inr (inl x)) alone kinds here going sound = absurd (missed-not b.types u s t x alone going)
-alone-tells b u kids s t Moved (inr (inr x)) alone kinds here going sound =
+    ended-moves b u s t alone above (subst (λ (x : Sight). IfAlone (leaves_unit u) x (λ r. HasNoEventLeft (ends r) u)) same h.1 alone) going
+alone-tells b u kids s t Moved (inl (e, p)) alone kinds here going above = puts-moves b u s t alone above e _ p (puts-applied b.types u s t e _ refl p)
+alone-tells b u kids s t Moved (inr (inl x)) alone kinds here going above = absurd (missed-not b.types u s t x alone going)
+alone-tells b u kids s t Moved (inr (inr x)) alone kinds here going above =
     let same : t ≡ s = looks-alone s t x.looked in
     absurd (x.never (subst (IsAlone (leaves_unit u)) (sym same) alone) (ap (λ (z : Sight). (run_seen z).kinds) same ∙ kinds) (ap (λ (z : Sight). (run_seen z).capacity) same ∙ here))

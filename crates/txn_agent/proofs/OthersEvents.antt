@@ -3,18 +3,13 @@ use Rattle.std.proofs.Common.{◌≡◌, ℕ, List, [], ◌∷◌, ◌++◌, Boo
 use Rattle.std.specs.Prelude.{◌&&◌, ◌||◌, if◌then◌else◌, map}
 use Rattle.std.proofs.lemmas.Bool.{cond-false}
 use Rattle.cell_model.specs.Locks.{holds_lock, is_hold_of, is_update}
-use Rattle.core_model.specs.CoreState.{UnitNo, GrainId, Hold, Call, Value, CoreState}
-use Rattle.core_model.specs.declared.effects.Effect.{Effect}
+use Rattle.core_model.specs.CoreState.{UnitNo, GrainId, Hold, Call, CoreState}
 use Rattle.core_model.specs.declared.phases.Phase.TheVariants.{Unborn, Running}
 use Rattle.core_model.specs.declared.events.CoreEvent.{CoreEvent}
-use Rattle.core_model.specs.declared.events.CoreEvent.TheVariants.{Finish, EndPlain, Load}
 use Rattle.core_model.specs.Tests.{any, is_over}
 use Rattle.core_model.specs.Changes.{swept}
-use Rattle.core_model.specs.Events.{applies, does, holds_alone, step}
-use Rattle.core_model.specs.LegalRuns.{Run, begins, ends}
-use Rattle.core_model.specs.SerialOrder.{Plays, AllPlay, AllLoadsTrue, IsTrueLoad}
-use Rattle.core_laws.proofs.KeptInvariant.{Kept}
-use Rattle.core_laws.proofs.Ends.{kept-ends}
+use Rattle.core_model.specs.Events.{applies, does, holds_alone}
+use Rattle.core_model.specs.LegalRuns.{Run, ends}
 use Rattle.script_tree.specs.Programs.{ProgramTree}
 use Rattle.script_meaning.specs.Trails.{Given}
 use Rattle.promise_spec.specs.UnitAnswers.{got_by, got_in, given_by}
@@ -23,45 +18,14 @@ use Rattle.turn_rules.specs.UnitFrame.{IsStill, own_holds}
 use Rattle.turn_rules.proofs.Growth.{ends-more, got-event}
 use Rattle.turn_rules.proofs.Movers.{still-locks}
 use Rattle.turn_rules.proofs.AgentLinks.{still-others, given-others, awaiting-others, holds-others}
-use Rattle.worker_rules.specs.SharedHistories.{is_load}
 use Rattle.worker_rules.specs.UnitOwnership.{leaves_unit}
 use Rattle.worker_rules.proofs.CallPromises.{leaves-is}
 use Rattle.txn_agent.specs.declared.work.Carried.{Carried}
 use Rattle.txn_agent.specs.declared.work.Work.{Work}
 use Rattle.txn_agent.specs.MachineState.{found_by, source_of}
-use Rattle.txn_agent.specs.CoreLink.{IsLegalRun, IsLinked, IsPaused, IsWaiting, IsOver, IsBarred}
+use Rattle.txn_agent.specs.CoreLink.{IsLinked, IsPaused, IsWaiting, IsOver, IsBarred}
 use Rattle.txn_agent.proofs.CoreGrowth.{going-back}
-
--- ---- the run stays legal
-
--- each effect passes
-plays-one : (e : CoreEvent) → Plays (λ (x : Effect). true) e
-plays-one (Finish u x) = refl
-plays-one (EndPlain u x) = refl
-plays-one _ = tt
-
--- one more too
-plays-more : (es : List CoreEvent) (e : CoreEvent) → AllPlay (λ (x : Effect). true) es → AllPlay (λ (x : Effect). true) (es ++ (e ∷ []))
-plays-more [] e all = (plays-one e, tt)
-plays-more (f ∷ es) e all = (all.0, plays-more es e all.1)
-
--- what isn't a load, loads nothing false
-true-load : (opening : GrainId → List Value) (w : CoreState) (e : CoreEvent) → is_load e ≡ false → IsTrueLoad opening w e
-true-load opening w (Load g u state) q = absurd (let t : true ≡ false = q in cc)
-true-load opening w _ q = tt
-
--- behind others
-loads-more : (opening : GrainId → List Value) (es : List CoreEvent) (w : CoreState) (e : CoreEvent) → is_load e ≡ false → AllLoadsTrue opening w es → AllLoadsTrue opening w (es ++ (e ∷ []))
-loads-more opening [] w e q all = (true-load opening w e q, tt)
-loads-more opening (f ∷ es) w e q all = (all.0, loads-more opening es (step w f) e q all.1)
-
--- by an event that loads nothing
-pub sound-event : (r : Run) (e : CoreEvent) → is_load e ≡ false → IsLegalRun r → IsLegalRun (with_event r e)
-sound-event r e q s = record { above = s.above; effects = plays-more r.events e s.effects; loads = loads-more r.opening r.events (begins r) e q s.loads }
-
--- what holds of each legal run
-pub kept-sound : (r : Run) → IsLegalRun r → Kept r.opening (ends r)
-kept-sound r s = kept-ends (λ (x : Effect). true) r s
+use Rattle.core_laws.proofs.LoadlessKept.{loadless-ends}
 
 -- ---- an event of others
 
@@ -94,18 +58,14 @@ still-alone u w w' s g = alone-own u (w'.cells.holds g) ∙ ap (any (λ (h : Hol
 module _ (types : ProgramTree) (r : Run) (e : CoreEvent) (c : Carried) (leaves : leaves_unit c.unit e ≡ true) where
   -- it is none of the unit's
   other : is_own c.unit e ≡ false
-  other = (leaves-is c.unit e leaves).0
-
-  -- and the run is legal behind it
-  sound-on : IsLegalRun r → IsLegalRun (with_event r e)
-  sound-on s = sound-event r e (leaves-is c.unit e leaves).1 s
+  other = leaves-is c.unit e leaves
 
   -- the link
   linked-on : (work : Work) (trail : List Given) → (ends r).units.phase c.unit ≡ Running → IsLinked types r c work trail → IsLinked types (with_event r e) c work trail
   linked-on work trail runs l =
-      let still = still-others r.opening r c.unit e (kept-sound r l.sound) (runs-born (ends r) c.unit runs) other in
+      let still = still-others r c.unit e (loadless-ends r l.above) (runs-born (ends r) c.unit runs) other in
       record {
-        sound = sound-on l.sound;
+        above = l.above;
         call = still.call ∙ l.call;
         came = still.origin ∙ l.came;
         kind = still.plain ∙ l.kind;
@@ -120,14 +80,14 @@ module _ (types : ProgramTree) (r : Run) (e : CoreEvent) (c : Carried) (leaves :
   pub paused-on : (work : Work) (trail : List Given) → IsPaused types r c work trail → IsPaused types (with_event r e) c work trail
   paused-on work trail p = record {
     linked = linked-on work trail p.given.running p.linked;
-    given = given-others r.opening r c.unit trail e (kept-sound r p.linked.sound) other p.given;
+    given = given-others r c.unit trail e (loadless-ends r p.linked.above) other p.given;
   }
 
   -- where it waits for its child
   pub waiting-on : (work : Work) (trail : List Given) (child : UnitNo) (call : Call) (depth : ℕ) → IsWaiting types r c work trail child call depth → IsWaiting types (with_event r e) c work trail child call depth
   waiting-on work trail child call depth p = record {
     linked = linked-on work trail p.awaits.running p.linked;
-    awaits = awaiting-others r.opening r c.unit child call depth trail e (kept-sound r p.linked.sound) other p.awaits;
+    awaits = awaiting-others r c.unit child call depth trail e (loadless-ends r p.linked.above) other p.awaits;
   }
 
   -- where it is over
@@ -135,16 +95,16 @@ module _ (types : ProgramTree) (r : Run) (e : CoreEvent) (c : Carried) (leaves :
   over-on held o =
       let born = over-born (ends r) c.unit o.over in
       record {
-        sound = sound-on o.sound;
-        over = ap is_over (still-others r.opening r c.unit e (kept-sound r o.sound) born other).phase ∙ o.over;
-        locks = holds-others r.opening r c.unit held e (kept-sound r o.sound) born other o.locks;
+        above = o.above;
+        over = ap is_over (still-others r c.unit e (loadless-ends r o.above) born other).phase ∙ o.over;
+        locks = holds-others r c.unit held e (loadless-ends r o.above) born other o.locks;
       }
 
   -- where it was stopped
   pub stopped-on : IsBarred r c → IsBarred (with_event r e) c
   stopped-on o = record {
-    sound = sound-on o.sound;
-    running = (still-others r.opening r c.unit e (kept-sound r o.sound) (runs-born (ends r) c.unit o.running) other).phase ∙ o.running;
+    above = o.above;
+    running = (still-others r c.unit e (loadless-ends r o.above) (runs-born (ends r) c.unit o.running) other).phase ∙ o.running;
     stopped = λ going. o.stopped (going-back r e going);
   }
 
@@ -158,7 +118,7 @@ ends-as r e a = ends-more r e ∙ cond-false (applies (ends r) e) (swept (does (
 got-as : (r : Run) (e : CoreEvent) (u : UnitNo) → applies (ends r) e ≡ false → got_in (with_event r e) u ≡ got_in r u
 got-as r e u a = got-event r e u ∙ ap (λ (t : Bool). got_in r u ++ (if t then got_by (ends r) u e else [])) a ∙ append-nil (got_in r u)
 
-module _ (types : ProgramTree) (r : Run) (e : CoreEvent) (c : Carried) (a : applies (ends r) e ≡ false) (plain : is_load e ≡ false) where
+module _ (types : ProgramTree) (r : Run) (e : CoreEvent) (c : Carried) (a : applies (ends r) e ≡ false) where
   same : ends (with_event r e) ≡ ends r
   same = ends-as r e a
 
@@ -166,7 +126,7 @@ module _ (types : ProgramTree) (r : Run) (e : CoreEvent) (c : Carried) (a : appl
   pub paused-as : (work : Work) (trail : List Given) → IsPaused types r c work trail → IsPaused types (with_event r e) c work trail
   paused-as work trail p = record {
     linked = record {
-      sound = sound-event r e plain p.linked.sound;
+      above = p.linked.above;
       call = ap (λ (w : CoreState). w.units.call c.unit) same ∙ p.linked.call;
       came = ap (λ (w : CoreState). w.units.origin c.unit) same ∙ p.linked.came;
       kind = ap (λ (w : CoreState). w.units.plain c.unit) same ∙ p.linked.kind;
@@ -185,7 +145,7 @@ module _ (types : ProgramTree) (r : Run) (e : CoreEvent) (c : Carried) (a : appl
   -- where it is over
   pub over-as : (held : List GrainId) → IsOver r c held → IsOver (with_event r e) c held
   over-as held o = record {
-    sound = sound-event r e plain o.sound;
+    above = o.above;
     over = ap (λ (w : CoreState). is_over (w.units.phase c.unit)) same ∙ o.over;
     locks = λ g. ap (λ (w : CoreState). holds_lock c.unit (w.cells.holds g)) same ∙ o.locks g;
   }

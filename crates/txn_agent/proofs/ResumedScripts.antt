@@ -26,7 +26,7 @@ use Rattle.script_machine.specs.declared.machine.Input.TheVariants as input
 use Rattle.script_machine.specs.declared.machine.Pause.{Pause}
 use Rattle.script_machine.specs.declared.machine.Pause.TheVariants.{NeedGrain}
 use Rattle.script_machine.specs.Machines.{AnswersRequest, FollowsTrail, asks_raise, given_by, has_begun, rest}
-use Rattle.promise_spec.specs.SerialExecution.{depth_of}
+use Rattle.base_types.specs.Origins.{depth_of}
 use Rattle.promise_spec.specs.UnitAnswers.{given_by as given_in}
 use Rattle.turn_rules.proofs.AgentLinks.{heard}
 use Rattle.worker_rules.specs.UnitOwnership.{leaves_unit}
@@ -153,7 +153,7 @@ heard_known may types s t c work work' child o pause counts k l told call held s
           (let w = there.linked alone in
           record {
             linked = record {
-              sound = w.linked.sound;
+              above = w.linked.above;
               call = w.linked.call ∙ sym call;
               came = w.linked.came;
               kind = w.linked.kind;
@@ -186,7 +186,7 @@ new_known types s c call machine work pause follows resumed same held sources ki
       (let n = new alone in
       record {
         linked = record {
-          sound = n.sound;
+          above = n.above;
           call = n.called ∙ sym same;
           came = n.came;
           kind = n.kind;
@@ -243,7 +243,7 @@ module _ (may : CoreEvent → Bool) (types : ProgramTree) (s t : Sight) (c : Car
 
   pub release_stays : Tells may s (Release c.unit g) y t → is_done y ≡ false → IfOwn c t (λ r. IsOver r c held)
   release_stays l f = tells-knows (leaves_unit c.unit) (λ r. IsOver r c held) (λ r e h p. over-on types r e c h held p) (λ r. IsOver r c held)
-      may s t (Release c.unit g) y l counts (λ o. over-as types (run_seen (saw s l.rest)) (Release c.unit g) c (release_missed l f) refl held o) k
+      may s t (Release c.unit g) y l counts (λ o. over-as types (run_seen (saw s l.rest)) (Release c.unit g) c (release_missed l f) held o) k
 
 -- no first one
 no-some : (o : Option GrainId) → ((g : GrainId) → o ≡ Some g → ⊥) → o ≡ None

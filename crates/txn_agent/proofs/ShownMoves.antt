@@ -32,9 +32,9 @@ use Rattle.txn_agent.specs.MachineState.{IsAtWork}
 use Rattle.txn_agent.specs.CoreLink.{IfOwn, IsPaused, IsWaiting, IsOver, KnowsDoing}
 use Rattle.txn_agent.specs.ShownMoves.{ShowsMove, moves}
 use Rattle.txn_agent.proofs.Trails.{grain-wants}
-use Rattle.txn_agent.proofs.OthersEvents.{kept-sound}
 use Rattle.txn_agent.proofs.DueEvents.{next-is}
 use Rattle.txn_agent.proofs.AgentCalls.{paused-looks, waiting-looks, over-looks}
+use Rattle.core_laws.proofs.LoadlessKept.{loadless-ends}
 
 -- a running unit moves where nothing hinders it
 pub running-moves : (types : ProgramTree) (r : Run) (u : UnitNo) → (ends r).units.phase u ≡ Running → can_move types (ends r) (got_in r) u ≡ is_unhindered (ends r) u (wanted_by types (ends r) u (got_in r u))
@@ -104,7 +104,7 @@ free-is r c (g ∷ held) o = elim (cases_Bool (is_free (ends r) c.unit)) [
   | inl e ↦ (
       let has : holds_lock c.unit ((ends r).cells.holds g) ≡ true = o.locks g ∙ ap (λ (b : Bool). b || any (same_grain g) held) (same_grain-is g g refl) in
       let t = any-true (is_hold_of c.unit) ((ends r).cells.holds g) has in
-      absurd (free-holds r.opening _ (ends r) (kept-sound r o.sound).0 c.unit e g t.0 t.1 (same_unit-true t.0.unit c.unit t.2)))
+      absurd (free-holds _ (ends r) (loadless-ends r o.above).0 c.unit e g t.0 t.1 (same_unit-true t.0.unit c.unit t.2)))
 ]
 
 freeing-moves : (types : ProgramTree) (r : Run) (c : Carried) (held : List GrainId) → IsOver r c held → not (length held == 0) ≡ moves types r c

@@ -1,5 +1,5 @@
 -- What a step leaves of what others know, of the promise of one's own entries, and of the unit rule.
-use Rattle.std.proofs.Common.{◌≡◌, inl, inr, List, [], ◌∷◌, Bool, true, false, true≢false, refl, sym, ◌∙◌, subst}
+use Rattle.std.proofs.Common.{◌≡◌, inl, inr, List, [], ◌∷◌, Bool, true, false, refl, sym, ◌∙◌, subst, ◌<◌}
 use Rattle.base_types.specs.declared.calls.Origin.TheVariants.{Line, Child}
 use Rattle.cell_model.proofs.Units.{same_unit-true, same_unit-is}
 use Rattle.core_model.specs.CoreState.{UnitNo, Call, same_unit}
@@ -12,24 +12,24 @@ use Rattle.script_tree.specs.Programs.{ProgramTree}
 use Rattle.script_meaning.specs.Play.{IsTransaction}
 use Rattle.promise_spec.specs.TurnRule.{OfLine, OfUnit, OfSettler, mover_of}
 use Rattle.promise_spec.specs.UnitRule.{Basis, KeepsUnitRule}
-use Rattle.turn_cell.specs.History.{In, entry}
+use Rattle.turn_cell.specs.History.{entry}
 use Rattle.turn_cell.proofs.Lists.{in_left, in_right}
 use Rattle.turn_rules.specs.NextEvent.{with_event, is_own}
 use Rattle.turn_rules.proofs.Growth.{unit-grows}
-use Rattle.worker_rules.specs.SharedHistories.{Told, is_load, NoneLoads, Quiet, run_after}
+use Rattle.worker_rules.specs.SharedHistories.{Told, run_after}
 use Rattle.worker_rules.specs.UnitOwnership.{leaves_unit, BeganHere, KeepsPromise}
-use Rattle.worker_rules.proofs.CallPromises.{alone-quiet, is-harmless, settling-none, looks-promise, tells-promise}
+use Rattle.worker_rules.proofs.CallPromises.{is-harmless, settling-none, looks-promise, tells-promise}
 use Rattle.core_access.specs.OneHolder.{none_comes}
 use Rattle.core_access.specs.SettlerEvents.{is_settling}
 use Rattle.core_access.specs.Sights.{Sight, run_seen, saw, Looks, Tells, Counts, IsAlone, IfAlone}
-use Rattle.core_access.proofs.Sights.{looks-alone, tells-alone, run-alone, run-told, tells-before, told-stays}
+use Rattle.core_access.proofs.Sights.{looks-alone, tells-alone, run-alone, run-told, told-stays}
 use Rattle.core_access.proofs.Knowledge.{tells-knows}
 use Rattle.txn_agent.specs.declared.work.Carried.{Carried}
 use Rattle.txn_agent.specs.declared.work.Doing.{Doing}
 use Rattle.txn_agent.specs.declared.work.Doing.TheVariants.{Asks, Awaits, Frees, Stopped}
-use Rattle.txn_agent.specs.CoreLink.{IfOwn, IsNew, IsOver, IsPaused, IsLegalRun, IsBarred, IsWaiting, KnowsDoing}
+use Rattle.txn_agent.specs.CoreLink.{IfOwn, IsNew, IsOver, IsPaused, IsBarred, IsWaiting, KnowsDoing}
 use Rattle.txn_agent.specs.AgentStep.{Acts, IsDueFor}
-use Rattle.txn_agent.proofs.OthersEvents.{over-on, paused-on, sound-event, stopped-on, waiting-on}
+use Rattle.txn_agent.proofs.OthersEvents.{over-on, paused-on, stopped-on, waiting-on}
 use Rattle.txn_agent.proofs.ChildBegins.{new-is}
 use Rattle.txn_agent.proofs.AgentCalls.{over-looks, paused-looks, stopped-looks, waiting-looks}
 
@@ -47,17 +47,17 @@ line-not u e = absurd cc
 pub settler-not : {A : Type 0} (u : UnitNo) → OfSettler ≡ OfUnit u → A
 settler-not u e = absurd cc
 
--- a unit's event loads nothing, and is one of its own
-moves-own : (u : UnitNo) (e : CoreEvent) → mover_of e ≡ OfUnit u → (is_own u e ≡ true) × (is_load e ≡ false)
+-- a unit's event is one of its own
+moves-own : (u : UnitNo) (e : CoreEvent) → mover_of e ≡ OfUnit u → is_own u e ≡ true
 moves-own u (Bad n why) q = line-not u q
 moves-own u (Begin (Line n) call plain) q = line-not u q
-moves-own u (Begin (Child parent index depth) call plain) q = (same_unit-is parent u (unit-is parent u q), refl)
-moves-own u (Grant v g mode) q = (same_unit-is v u (unit-is v u q), refl)
-moves-own u (Refuse v g mode) q = (same_unit-is v u (unit-is v u q), refl)
-moves-own u (Finish v e) q = (same_unit-is v u (unit-is v u q), refl)
-moves-own u (EndPlain v e) q = (same_unit-is v u (unit-is v u q), refl)
-moves-own u (EndSnapshot v at outcome) q = (same_unit-is v u (unit-is v u q), refl)
-moves-own u (Release v g) q = (same_unit-is v u (unit-is v u q), refl)
+moves-own u (Begin (Child parent index depth) call plain) q = same_unit-is parent u (unit-is parent u q)
+moves-own u (Grant v g mode) q = same_unit-is v u (unit-is v u q)
+moves-own u (Refuse v g mode) q = same_unit-is v u (unit-is v u q)
+moves-own u (Finish v e) q = same_unit-is v u (unit-is v u q)
+moves-own u (EndPlain v e) q = same_unit-is v u (unit-is v u q)
+moves-own u (EndSnapshot v at outcome) q = same_unit-is v u (unit-is v u q)
+moves-own u (Release v g) q = same_unit-is v u (unit-is v u q)
 moves-own u Take q = settler-not u q
 moves-own u (Vote n g kept) q = settler-not u q
 moves-own u (Decide n) q = settler-not u q
@@ -125,20 +125,15 @@ knows-tells may types c (Frees held) s t e r l h n k =
 knows-tells may types c Stopped s t e r l h n k =
     tells-knows (leaves_unit c.unit) (λ x. IsBarred x c) (λ x f g p. stopped-on types x f c g p) (λ x. IsBarred x c) may s t e r l n (λ p. stopped-on types (run_seen (saw s l.rest)) e c h p) k
 
--- the settler's events load nothing
-settling-loads : (e : CoreEvent) → is_settling e ≡ true → is_load e ≡ false
-settling-loads (Load g u state) q = absurd (true≢false (sym q))
-settling-loads _ q = refl
-
 -- behind an event of the settler's
 pub knows-settles : (may : CoreEvent → Bool) (types : ProgramTree) (c : Carried) (doing : Doing) (s t : Sight) (e : CoreEvent) (r : CoreReply) → Tells may s e r t → is_settling e ≡ true → Counts s → KnowsDoing types s c doing → KnowsDoing types t c doing
-knows-settles may types c doing s t e r l q n k = knows-tells may types c doing s t e r l (is-harmless c.unit e (settling-none e q c.unit) (settling-loads e q)) n k
+knows-settles may types c doing s t e r l q n k = knows-tells may types c doing s t e r l (is-harmless c.unit e (settling-none e q c.unit)) n k
 
 -- behind another unit's step
 pub knows-steps : (may : CoreEvent → Bool) (types : ProgramTree) (c : Carried) (doing : Doing) (other : UnitNo) (s t : Sight) → Acts may types other s t → (c.unit ≡ other → ⊥) → Counts s → KnowsDoing types s c doing → KnowsDoing types t c doing
 knows-steps may types c doing other s t (inl l) apart n k = knows-looks may types c doing s t l n k
 knows-steps may types c doing other s t (inr (e, (r, p))) apart n k = knows-tells may types c doing s t e r p.told
-    (is-harmless c.unit e (not-own (is_own c.unit e) refl) (moves-own other e p.own).1) n k
+    (is-harmless c.unit e (not-own (is_own c.unit e) refl)) n k
   where
     not-own : (b : Bool) → is_own c.unit e ≡ b → is_own c.unit e ≡ false
     not-own true q = absurd (apart (moves-one other c.unit e p.own q))
@@ -154,9 +149,9 @@ acts-began may types u v s t (inr (e, (r, p))) b = subst (BeganHere v) (sym p.to
 -- one who steps for a unit that began here keeps its promise
 pub acts-promise : (may : CoreEvent → Bool) (b : Basis) (u : UnitNo) (s t : Sight) → Acts may b.types u s t → BeganHere u s → KeepsPromise b s → KeepsPromise b t
 acts-promise may b u s t (inl l) began p = looks-promise b may s t l p
-acts-promise may b u s t (inr (e, (r, x))) began p = tells-promise b may s t e r x.told (moves-own u e x.own).1
+acts-promise may b u s t (inr (e, (r, x))) began p = tells-promise b may s t e r x.told
     (λ w own. subst (λ (z : UnitNo). BeganHere z s) (sym (moves-one u w e x.own own)) began)
-    (λ alone. x.due (alone u (moves-own u e x.own).0) b refl) p
+    (λ alone. x.due (alone u (moves-own u e x.own)) b refl) p
 
 -- ---- nobody else puts
 
@@ -179,18 +174,15 @@ acts-rule b u s t (inr (e, (r, p))) alone keeps =
 pub new-began : (may : CoreEvent → Bool) (s t : Sight) (e : CoreEvent) (u : UnitNo) → Tells may s e (Began u) t → BeganHere u t
 new-began may s t e u l = subst (BeganHere u) (sym l.sight) (entry s.number e (Began u), in_right (entry s.number e (Began u)) s.mine (entry s.number e (Began u) ∷ []) (inl refl), refl)
 
--- the run is legal, where nothing was loaded
-sound-after : (r : Run) (seen : List Told) → IsLegalRun r → ((x : Told) → In x seen → is_load x.event ≡ false) → IsLegalRun (run_after r seen)
-sound-after r [] s all = s
-sound-after r (x ∷ seen) s all = sound-after (with_event r x.event) seen (sound-event r x.event (all x (inl refl)) s) (λ y i. all y (inr i))
+-- units keep their first number
+pub above-after : (r : Run) (seen : List Told) → 0 < r.base → 0 < (run_after r seen).base
+above-after r [] above = above
+above-after r (x ∷ seen) above = above-after (with_event r x.event) seen above
 
 -- it can be carried
 pub new-carried : (may : CoreEvent → Bool) (types : ProgramTree) (s t : Sight) (c : Carried) (call : Call) → Tells may s (Begin c.origin call c.plain) (Began c.unit) t
-    → Counts s → IsLegalRun s.first → NoneLoads s.mine → (c.plain ≡ true → IsTransaction types call → ⊥) → IfOwn c t (λ r. IsNew types r c call)
-new-carried may types s t c call l n sound plain plainly alone =
-    let before : IsAlone (leaves_unit c.unit) (saw s l.rest) = (tells-before (leaves_unit c.unit) may s t n (Begin c.origin call c.plain) (Began c.unit) l alone).2 in
-    let quiet : Quiet s.number c.unit (saw s l.rest).seen = alone-quiet c.unit (saw s l.rest) plain before in
-    let legal : IsLegalRun (run_seen (saw s l.rest)) = sound-after s.first (saw s l.rest).seen sound (λ x i. (quiet x i).1) in
+    → Counts s → 0 < s.first.base → (c.plain ≡ true → IsTransaction types call → ⊥) → IfOwn c t (λ r. IsNew types r c call)
+new-carried may types s t c call l n above plainly alone =
     subst (λ (x : Sight). IsNew types (run_seen x) c call) (sym l.sight)
     (subst (λ (r : Run). IsNew types r c call) (sym (run-told (saw s l.rest) (Begin c.origin call c.plain) (Began c.unit)))
-    (new-is types (run_seen (saw s l.rest)) c call legal l.reply plainly))
+    (new-is types (run_seen (saw s l.rest)) c call (above-after s.first (saw s l.rest).seen above) l.reply plainly))

@@ -31,13 +31,11 @@ use Rattle.script_meaning.specs.Play.{grains_with_states}
 use Rattle.script_meaning.specs.Trails.{Given, reads_of}
 use Rattle.turn_rules.specs.NextEvent.{with_event, is_own}
 use Rattle.turn_rules.proofs.Growth.{ends-more}
-use Rattle.worker_rules.specs.SharedHistories.{is_load}
 use Rattle.txn_agent.specs.declared.work.Carried.{Carried}
 use Rattle.txn_agent.specs.declared.work.Work.{Work}
 use Rattle.txn_agent.specs.Replies.{is_done}
 use Rattle.txn_agent.specs.CoreLink.{IsPaused, IsOver, IsBarred}
 use Rattle.txn_agent.specs.AgentStep.{HasNoEventLeft, all_but}
-use Rattle.txn_agent.proofs.OthersEvents.{sound-event}
 
 -- ---- the reply
 
@@ -87,12 +85,12 @@ refused-ending w u (Some why) e = record { over = ap is_over (put-same w.units.p
 
 module _ (types : ProgramTree) (r : Run) (c : Carried) (work : Work) (trail : List Given) (p : IsPaused types r c work trail) (held : List GrainId) (is : held ≡ grains_with_states (reads_of trail)) where
   -- behind an event that ends it
-  over-behind : (e : CoreEvent) → is_load e ≡ false → applies (ends r) e ≡ true → IsEnding (ends r) c.unit (does (ends r) e) → IsOver (with_event r e) c held
-  over-behind e plain a ending =
+  over-behind : (e : CoreEvent) → applies (ends r) e ≡ true → IsEnding (ends r) c.unit (does (ends r) e) → IsOver (with_event r e) c held
+  over-behind e a ending =
       let i : IsEnding (ends r) c.unit (ends (with_event r e)) =
       subst (IsEnding (ends r) c.unit) (sym (ends-more r e ∙ cond-true (applies (ends r) e) (swept (does (ends r) e)) (ends r) a)) (ending-swept (ends r) c.unit (does (ends r) e) ending) in
       record {
-        sound = sound-event r e plain p.linked.sound;
+        above = p.linked.above;
         over = i.over;
         locks = λ h. ap (λ (f : GrainId → List Hold). holds_lock c.unit (f h)) i.holds ∙ p.linked.locks h ∙ sym (ap (any (same_grain h)) is);
       }
@@ -101,16 +99,16 @@ module _ (types : ProgramTree) (r : Run) (c : Carried) (work : Work) (trail : Li
   pub over-refused : (g : GrainId) (mode : Mode) → reply.Done ≡ reply_to (ends r) (Refuse c.unit g mode) → IsOver (with_event r (Refuse c.unit g mode)) c held
   over-refused g mode q =
       let a = done-applied (ends r) (Refuse c.unit g mode) refl q in
-      over-behind (Refuse c.unit g mode) refl a (refused-ending (ends r) c.unit (refusal g (ask_answer (ends r) c.unit g mode)) (and_parts (is_allowed (ends r) (Refuse c.unit g mode)) (can (ends r) (Refuse c.unit g mode)) a).1)
+      over-behind (Refuse c.unit g mode) a (refused-ending (ends r) c.unit (refusal g (ask_answer (ends r) c.unit g mode)) (and_parts (is_allowed (ends r) (Refuse c.unit g mode)) (can (ends r) (Refuse c.unit g mode)) a).1)
 
   -- a transaction's end
   pub over-finished : (effect : Effect) → reply.Done ≡ reply_to (ends r) (Finish c.unit effect) → IsOver (with_event r (Finish c.unit effect)) c held
-  over-finished effect q = over-behind (Finish c.unit effect) refl (done-applied (ends r) (Finish c.unit effect) refl q)
+  over-finished effect q = over-behind (Finish c.unit effect) (done-applied (ends r) (Finish c.unit effect) refl q)
       record { over = ap is_over (put-same (ends r).units.phase c.unit Finished); holds = refl }
 
   -- a plain run's
   pub over-ended : (effect : Effect) → reply.Done ≡ reply_to (ends r) (EndPlain c.unit effect) → IsOver (with_event r (EndPlain c.unit effect)) c held
-  over-ended effect q = over-behind (EndPlain c.unit effect) refl (done-applied (ends r) (EndPlain c.unit effect) refl q)
+  over-ended effect q = over-behind (EndPlain c.unit effect) (done-applied (ends r) (EndPlain c.unit effect) refl q)
       record { over = ap is_over (put-same (ends r).units.phase c.unit Ended); holds = refl }
 
 -- ---- a lock is given back
@@ -162,7 +160,7 @@ over-released r c g held a o =
     subst (IsReleased (ends r) c.unit g) (sym (ends-more r (Release c.unit g) ∙ cond-true (applies (ends r) (Release c.unit g)) (swept (does (ends r) (Release c.unit g))) (ends r) a))
     (released-swept (ends r) c.unit g (after_release (ends r) c.unit g) record { phase = refl; holds = refl }) in
     record {
-      sound = sound-event r (Release c.unit g) refl o.sound;
+      above = o.above;
       over = ap (λ (f : UnitNo → Phase). is_over (f c.unit)) i.phase ∙ o.over;
       locks = λ h. ap (λ (f : GrainId → List Hold). holds_lock c.unit (f h)) i.holds
           ∙ grain-at (ends r).cells.holds g (dropped ((ends r).cells.holds g) c.unit) (λ (hs : List Hold). holds_lock c.unit hs ≡ any (same_grain h) (all_but g held)) h

@@ -1,13 +1,12 @@
 -- What links an agent to its unit in the core. All of it rests on nobody else making an event of the unit.
-use Rattle.std.specs.Prelude.{◌≡◌, ◌+◌, ℕ, List, [], length, map, true, false}
+use Rattle.std.specs.Prelude.{◌≡◌, ◌<◌, ◌+◌, ℕ, List, [], length, map, true, false}
 use Rattle.cell_model.specs.Locks.{holds_lock}
 use Rattle.core_model.specs.CoreState.{UnitNo, GrainId, Call, same_grain}
-use Rattle.core_model.specs.declared.effects.Effect.{Effect}
 use Rattle.core_model.specs.declared.phases.Phase.TheVariants.{Running}
 use Rattle.core_model.specs.Tests.{any, is_over}
 use Rattle.core_model.specs.Events.{holds_alone}
 use Rattle.core_model.specs.LockAnswers.{IsGoing}
-use Rattle.core_model.specs.LegalRuns.{Run, IsLegal, ends}
+use Rattle.core_model.specs.LegalRuns.{Run, ends}
 use Rattle.core_access.specs.Sights.{Sight, IfAlone}
 use Rattle.script_tree.specs.Programs.{ProgramTree}
 use Rattle.script_meaning.specs.Play.{IsTransaction, WantUnit, asks, grains_with_states}
@@ -24,14 +23,10 @@ use Rattle.txn_agent.specs.declared.work.Doing.TheVariants.{Asks, Awaits, Frees,
 use Rattle.txn_agent.specs.declared.agent.Agent.{Agent}
 use Rattle.txn_agent.specs.MachineState.{IsAtWork, IsReady, found_by, source_of}
 
--- the core's run is legal, whatever its effects are
-abbrev pub IsLegalRun : Run → Type 0
-IsLegalRun r = IsLegal (λ (e : Effect). true) r
-
 -- The unit is in the core as the agent has it: its call, where it came from, its reads with their sources, its locks. A
 -- plain run is of a call that makes no transaction.
 pub record IsLinked (types : ProgramTree) (r : Run) (c : Carried) (work : Work) (trail : List Given) : Type 0 where
-  pub sound : IsLegalRun r
+  pub above : 0 < r.base
   pub call : (ends r).units.call c.unit ≡ work.call
   pub came : (ends r).units.origin c.unit ≡ c.origin
   pub kind : (ends r).units.plain c.unit ≡ c.plain
@@ -53,19 +48,19 @@ pub record IsWaiting (types : ProgramTree) (r : Run) (c : Carried) (work : Work)
 
 -- The unit is over, and has these locks.
 pub record IsOver (r : Run) (c : Carried) (held : List GrainId) : Type 0 where
-  pub sound : IsLegalRun r
+  pub above : 0 < r.base
   pub over : is_over ((ends r).units.phase c.unit) ≡ true
   pub locks : HoldsLocks r c.unit held
 
 -- The unit runs, but there is a doubt, or the run is to stop.
 pub record IsBarred (r : Run) (c : Carried) : Type 0 where
-  pub sound : IsLegalRun r
+  pub above : 0 < r.base
   pub running : (ends r).units.phase c.unit ≡ Running
   pub stopped : IsGoing (ends r) → ⊥
 
 -- The unit has just begun.
 pub record IsNew (types : ProgramTree) (r : Run) (c : Carried) (call : Call) : Type 0 where
-  pub sound : IsLegalRun r
+  pub above : 0 < r.base
   pub running : (ends r).units.phase c.unit ≡ Running
   pub called : (ends r).units.call c.unit ≡ call
   pub came : (ends r).units.origin c.unit ≡ c.origin
@@ -75,7 +70,7 @@ pub record IsNew (types : ProgramTree) (r : Run) (c : Carried) (call : Call) : T
   pub reads : (ends r).units.reads c.unit ≡ []
   pub locks : (g : GrainId) → holds_lock c.unit ((ends r).cells.holds g) ≡ false
 
--- this holds of the core's run by now, if nobody else made an event of the unit and no grain was loaded
+-- this holds of the core's run by now, if nobody else made an event of the unit
 abbrev pub IfOwn : Carried → Sight → (Run → Type 0) → Type 0
 IfOwn c s P = IfAlone (leaves_unit c.unit) s P
 

@@ -11,7 +11,7 @@ use Rattle.script_machine.specs.declared.machine.Input.{Input}
 use Rattle.script_machine.specs.declared.machine.Machine.{Machine}
 use Rattle.script_machine.specs.declared.machine.Pause.{Pause}
 use Rattle.script_machine.specs.Machines.{FollowsTrail, HasRoomForParts, given_by, has_begun, is_done, is_over, pause_for, rest}
-use Rattle.promise_spec.specs.SerialExecution.{depth_of}
+use Rattle.base_types.specs.Origins.{depth_of}
 use Rattle.promise_spec.specs.UnitRule.{IsPlayOf}
 use Rattle.txn_agent.specs.declared.work.Carried.{Carried}
 use Rattle.txn_agent.specs.declared.work.Work.{Work}

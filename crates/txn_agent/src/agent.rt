@@ -1,7 +1,6 @@
 ghost use Rattle.std.specs.Prelude.{◌≡◌, IfOk, IsOk};
 ghost use Rattle.core_access.specs.Sights.{Sight, Counts, Looks};
 ghost use Rattle.script_tree.specs.Programs.{ProgramTree, program_tree};
-ghost use Rattle.promise_spec.specs.SerialExecution.{depth_of as depth_in};
 ghost use Rattle.txn_agent.specs.CoreLink.{IfOwn, IsNew, Knows};
 ghost use Rattle.promise_spec.specs.TurnRule.{is_line};
 ghost use Rattle.txn_agent.specs.AgentStep.{Acts, AnswerSays, Hears, children_of, has_freed_all, is_freeing};
@@ -70,7 +69,7 @@ impl Agent {
         ensures knows { IfOk result (λ agent. (s : Sight) → IfOwn agent.carried s (λ r. IsNew (program_tree checked.now) r agent.carried call) → Knows (program_tree checked.now) s agent) }
     {
         let asked = call.copy()?;
-        let machine = Machine::start(alloc, checked, asked, depth_of(origin))?;
+        let machine = Machine::start(alloc, checked, asked, origin.depth())?;
         let work = Work {
             call,
             machine,
@@ -243,19 +242,5 @@ impl Agent {
         let (doing, advanced) = step(alloc, checked, access, self.carried, doing)?;
         self.go_on(doing);
         Ok(advanced)
-    }
-}
-
-/// The depth of a unit's first frame.
-fn depth_of(origin: Origin) -> u16
-    ensures { result ≡ depth_in origin }
-{
-    match origin {
-        Origin::Line(_line) => 1,
-        Origin::Child {
-            parent: _parent,
-            index: _index,
-            depth,
-        } => depth,
     }
 }

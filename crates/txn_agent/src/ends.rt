@@ -6,7 +6,7 @@ ghost use Rattle.script_tree.specs.Programs.{ProgramTree, program_tree};
 ghost use Rattle.script_meaning.specs.Trails.{Given};
 ghost use Rattle.script_machine.specs.Machines.{FollowsTrail, HasRoomForParts, is_over, reads_in};
 ghost use Rattle.script_machine.specs.declared.machine.Pause.TheVariants.{Done as IsAtEnd};
-ghost use Rattle.promise_spec.specs.SerialExecution.{depth_of};
+ghost use Rattle.base_types.specs.Origins.{depth_of};
 ghost use Rattle.txn_agent.specs.declared.work.Doing.TheVariants.{Frees as FreesAll};
 ghost use Rattle.txn_agent.specs.MachineState.{IsEffectOf, found_by, source_of};
 ghost use Rattle.txn_agent.specs.CoreLink.{KnowsPaused, KnowsDoing};

@@ -1,4 +1,4 @@
-ghost use Rattle.std.specs.Prelude.{◌≡◌, ℕ, Bool, true, false, length, None};
+ghost use Rattle.std.specs.Prelude.{◌≡◌, ◌<◌, ℕ, Bool, true, false, length, None};
 ghost use Rattle.core_model.specs.LockAnswers.{IsGoing};
 ghost use Rattle.core_model.specs.CoreState.{UnitNo as AUnit, Call as ACall};
 ghost use Rattle.core_model.specs.declared.events.CoreEvent.{CoreEvent as AnEvent};
@@ -15,23 +15,22 @@ ghost use Rattle.promise_spec.specs.UnitAnswers.{got_in};
 ghost use Rattle.promise_spec.specs.TurnRule.{can_move};
 ghost use Rattle.promise_spec.specs.UnitRule.{Basis, KeepsUnitRule};
 ghost use Rattle.worker_rules.specs.UnitOwnership.{leaves_unit, BeganHere, KeepsPromise};
-ghost use Rattle.worker_rules.specs.SharedHistories.{NoneLoads};
 ghost use Rattle.txn_agent.specs.declared.agent.Advanced.{Advanced as AnAnswer};
 ghost use Rattle.txn_agent.specs.declared.agent.Agent.{Agent as AnAgent};
 ghost use Rattle.txn_agent.specs.declared.work.Carried.{Carried as AUnitAsBegun};
-ghost use Rattle.txn_agent.specs.CoreLink.{IfOwn, IsNew, IsLegalRun, Knows};
+ghost use Rattle.txn_agent.specs.CoreLink.{IfOwn, IsNew, Knows};
 ghost use Rattle.txn_agent.specs.AgentStep.{Acts, GoesByEvent, AnswerSays, is_move};
 
 /// A unit that began by an event that was put through an access has nothing by then but its call, if nobody else made an event
-/// of it: so it can be carried. No grain was loaded, and what makes no transaction is begun as a plain run.
+/// of it: so it can be carried. What makes no transaction is begun as a plain run.
 pub fn a_new_unit_can_be_carried()
     ensures began { (may : AnEvent → Bool) (s t : Sight) (e : AnEvent) (u : AUnit) → Tells may s e (Began u) t → BeganHere u t }
     ensures new { (may : AnEvent → Bool) (types : ProgramTree) (s t : Sight) (c : AUnitAsBegun) (call : ACall) → Tells may s (Begin c.origin call c.plain) (Began c.unit) t
-        → Counts s → IsLegalRun s.first → NoneLoads s.mine → (c.plain ≡ true → IsTransaction types call → ⊥) → IfOwn c t (λ r. IsNew types r c call) }
+        → Counts s → 0 < s.first.base → (c.plain ≡ true → IsTransaction types call → ⊥) → IfOwn c t (λ r. IsNew types r c call) }
 {}
 
-/// What an agent knows of its unit it knows behind a look, behind an event that isn't the unit's and loads nothing, as each of
-/// the settler's, and behind another unit's step.
+/// What an agent knows of its unit it knows behind a look, behind an event that isn't the unit's, as a load and each of the
+/// settler's, and behind another unit's step.
 pub fn others_leave_an_agent()
     ensures looks { (may : AnEvent → Bool) (types : ProgramTree) (a : AnAgent) (s t : Sight) → Looks may s t → Counts s → Knows types s a → Knows types t a }
     ensures tells { (may : AnEvent → Bool) (types : ProgramTree) (a : AnAgent) (s t : Sight) (e : AnEvent) (r : AReply) → Tells may s e r t → leaves_unit a.carried.unit e ≡ true
@@ -71,7 +70,7 @@ pub fn a_step_alone_goes_on()
     ensures moves { (types : ProgramTree) (u : AUnit) (kids : ℕ) (s t : Sight) (a : AnAnswer) → AnswerSays none_comes types u kids s t a → IsAlone (leaves_unit u) s
         → (run_seen s).kinds ≡ length types → (run_seen s).capacity ≡ None → IsGoing (ends (run_seen s)) → is_move a ≡ true → GoesByEvent u (run_seen s) (run_seen t) }
     ensures tells { (b : Basis) (u : AUnit) (kids : ℕ) (s t : Sight) (a : AnAnswer) → AnswerSays none_comes b.types u kids s t a → IsAlone (leaves_unit u) s
-        → (run_seen s).kinds ≡ length b.types → (run_seen s).capacity ≡ None → IsGoing (ends (run_seen s)) → IsLegalRun (run_seen s)
+        → (run_seen s).kinds ≡ length b.types → (run_seen s).capacity ≡ None → IsGoing (ends (run_seen s)) → 0 < (run_seen s).base
         → is_move a ≡ can_move b.types (ends (run_seen s)) (got_in (run_seen s)) u }
     ensures waits { (types : ProgramTree) (u : AUnit) (kids : ℕ) (s t : Sight) (a : AnAnswer) → AnswerSays none_comes types u kids s t a → is_move a ≡ false → t ≡ s }
 {}

@@ -1,5 +1,5 @@
 -- What is known of carried units, as calls follow one another.
-use Rattle.std.proofs.Common.{◌≡◌, ℕ, ◌<◌, ◌≤◌, List, [], ◌∷◌, ◌++◌, Bool, true, false, true≢false, inl, inr, ⊎_elim, refl, sym, ap, ◌∙◌, subst, arith, map, None}
+use Rattle.std.proofs.Common.{◌≡◌, ℕ, ◌<◌, ◌≤◌, List, [], ◌∷◌, Bool, true, false, inl, inr, ⊎_elim, refl, sym, ap, ◌∙◌, subst, arith, map, None}
 use Rattle.std.specs.Prelude.{filter, is_some}
 use Rattle.std.specs.List.{AllByRecursion}
 use Rattle.core_model.specs.CoreState.{UnitNo, Member, CoreState}
@@ -8,28 +8,22 @@ use Rattle.core_model.specs.Tests.{is_decided, outcome_of}
 use Rattle.core_model.specs.LegalRuns.{Run, ends}
 use Rattle.core_model.specs.Laws.{extended}
 use Rattle.core_model.specs.declared.events.CoreEvent.{CoreEvent}
-use Rattle.core_model.specs.declared.events.CoreEvent.TheVariants.{Load}
 use Rattle.core_model.specs.declared.events.CoreReply.{CoreReply}
 use Rattle.core_laws.proofs.Proper.{grown-ends}
 use Rattle.std.proofs.lemmas.Bool.{cond_both}
-use Rattle.turn_cell.specs.History.{entry}
-use Rattle.turn_cell.proofs.Lists.{in_append}
-use Rattle.core_access.specs.Histories.{Told}
 use Rattle.core_access.specs.OneHolder.{none_comes, own_sight}
 use Rattle.core_access.specs.SettlerEvents.{is_settling}
 use Rattle.core_access.specs.Sights.{Sight, run_seen, told, Looks, Tells, Counts}
 use Rattle.core_access.proofs.Sights.{looks-alone, run-told, tells-alone, tells-counts, told-stays}
 use Rattle.core_access.proofs.OneHolder.{own-counts, own-alone}
 use Rattle.script_tree.specs.Programs.{ProgramTree}
-use Rattle.promise_spec.specs.TurnRule.{OfUnit, mover_of}
 use Rattle.turn_rules.specs.TurnLoop.{AreOlder}
 use Rattle.turn_rules.proofs.Growth.{ends-more}
-use Rattle.worker_rules.specs.SharedHistories.{NoneLoads, is_load}
 use Rattle.txn_agent.specs.declared.agent.Agent.{Agent}
 use Rattle.txn_agent.specs.declared.work.Doing.TheVariants.{Asks, Awaits, Frees, Stopped}
 use Rattle.txn_agent.specs.declared.work.Doing.{Doing}
 use Rattle.txn_agent.specs.declared.work.Carried.{Carried}
-use Rattle.txn_agent.specs.CoreLink.{IsLegalRun, Knows, KnowsDoing}
+use Rattle.txn_agent.specs.CoreLink.{Knows, KnowsDoing}
 use Rattle.txn_agent.specs.AgentStep.{Acts, Hears}
 use Rattle.txn_agent.specs.ShownMoves.{ShowsMove, moves}
 use Rattle.txn_agent.proofs.StepPromises.{knows-settles}
@@ -46,35 +40,20 @@ looks-same may s t none l = looks-alone s t (subst (λ (m : CoreEvent → Bool).
 pub tells-same : (may : CoreEvent → Bool) (s t : Sight) (e : CoreEvent) (r : CoreReply) → may ≡ none_comes → Tells may s e r t → t ≡ told s e r
 tells-same may s t e r none l = tells-alone s t e r (subst (λ (m : CoreEvent → Bool). Tells m s e r t) none l)
 
--- and loads nothing more
-loads-more : (mine : List Told) (x : Told) → NoneLoads mine → is_load x.event ≡ false → NoneLoads (mine ++ (x ∷ []))
-loads-more mine x all one e i = ⊎_elim (λ j. all e j) (λ j. ⊎_elim (λ (t : e ≡ x). ap (λ (z : Told). is_load z.event) t ∙ one) (λ k. absurd k) j) (in_append e mine (x ∷ []) i)
-
 -- so one has it alone still
-pub tells-holds : (may : CoreEvent → Bool) (s t : Sight) (e : CoreEvent) (r : CoreReply) → Tells may s e r t → is_load e ≡ false → HasCoreAlone may s → HasCoreAlone may t
-tells-holds may s t e r l q h =
+pub tells-holds : (may : CoreEvent → Bool) (s t : Sight) (e : CoreEvent) (r : CoreReply) → Tells may s e r t → HasCoreAlone may s → HasCoreAlone may t
+tells-holds may s t e r l h =
     subst (HasCoreAlone may) (sym (tells-same may s t e r h.none l)) (record {
       none = h.none;
       counts = subst Counts (tells-same may s t e r h.none l) (tells-counts may s t e r l h.counts);
       alone = λ harmless. told-stays harmless s e r (h.alone harmless);
-      sound = h.sound;
-      loads = loads-more s.mine (entry s.number e r) h.loads q;
+      above = h.above;
     })
-
--- ---- which events load nothing
-
-pub settling-loads : (e : CoreEvent) → is_settling e ≡ true → is_load e ≡ false
-settling-loads (Load g u state) q = absurd (true≢false (sym q))
-settling-loads _ q = refl
-
-pub moving-loads : (u : UnitNo) (e : CoreEvent) → mover_of e ≡ OfUnit u → is_load e ≡ false
-moving-loads u (Load g v state) q = absurd cc
-moving-loads u _ q = refl
 
 -- a step leaves one alone with the core
 pub acts-holds : (may : CoreEvent → Bool) (types : ProgramTree) (u : UnitNo) (s t : Sight) → Acts may types u s t → HasCoreAlone may s → HasCoreAlone may t
 acts-holds may types u s t (inl l) h = subst (HasCoreAlone may) (sym (looks-same may s t h.none l)) h
-acts-holds may types u s t (inr (e, (r, p))) h = tells-holds may s t e r p.told (moving-loads u e p.own) h
+acts-holds may types u s t (inr (e, (r, p))) h = tells-holds may s t e r p.told h
 
 -- ---- units that have begun
 
@@ -152,7 +131,7 @@ came-still s t agents same below all =
 pub settles-carried : (types : ProgramTree) (may : CoreEvent → Bool) (s t : Sight) (e : CoreEvent) (r : CoreReply) (agents : List Agent)
     → Tells may s e r t → is_settling e ≡ true → AreCarried types may s agents → AreCarried types may t agents
 settles-carried types may s t e r agents l q c = record {
-  holds = tells-holds may s t e r l (settling-loads e q) c.holds;
+  holds = tells-holds may s t e r l c.holds;
   known = all-each (Knows types s) (Knows types t) agents (λ a m k. knows-settles may types a.carried a.doing s t e r l q c.holds.counts k) c.known;
   came = came-still s t agents (λ v less. tells-origin may s t e r v c.holds.none l less) c.below c.came;
   older = c.older;
@@ -170,9 +149,9 @@ drops-carried types may s agents stays c = record {
 }
 
 -- nobody, by one who has a core
-pub none-carried : (types : ProgramTree) (r : Run) → IsLegalRun (own_sight r).first → NoneLoads (own_sight r).mine → AreCarried types none_comes (own_sight r) []
-none-carried types r sound loads = record {
-  holds = record { none = refl; counts = own-counts r; alone = λ harmless. own-alone harmless r; sound = sound; loads = loads };
+pub none-carried : (types : ProgramTree) (r : Run) → 0 < r.base → AreCarried types none_comes (own_sight r) []
+none-carried types r above = record {
+  holds = record { none = refl; counts = own-counts r; alone = λ harmless. own-alone harmless r; above = above };
   known = tt;
   came = tt;
   older = tt;

@@ -134,15 +134,15 @@ module _ (types : ProgramTree) (may : CoreEvent → Bool) (s t : Sight) (line : 
   call-carried : (call : Call) (after : List Agent) (began : Option UnitNo) (x : StartsCall may types line call s t before after began) → (b : Option UnitNo) → began ≡ b
       → CarriesBegun types line call x.plain before after b → AreCarried types may s before → AreCarried types may t after
   call-carried call after began x None q k c =
-      subst (AreCarried types may t) (sym k) (tells-carried types may s t (Begin (OfLine line) call x.plain) x.r before x.told refl (λ u. refl) c)
+      subst (AreCarried types may t) (sym k) (tells-carried types may s t (Begin (OfLine line) call x.plain) x.r before x.told (λ u. refl) c)
   call-carried call after began x (Some unit) q k c =
       begins-carried types may s t (OfLine line) call x.plain unit before after
       (subst (λ (z : CoreReply). Tells may s (Begin (OfLine line) call x.plain) z t) (began-is x.r unit (sym x.is ∙ q)) x.told)
       (plain-makes-none types call x.plain x.of_kind) c.holds c.below
-      (tells-carried types may s t (Begin (OfLine line) call x.plain) x.r before x.told refl (λ u. refl) c) k
+      (tells-carried types may s t (Begin (OfLine line) call x.plain) x.r before x.told (λ u. refl) c) k
 
   pub line-carried : (what : Result Call BadRequest) (after : List Agent) (began : Option UnitNo) → StartsLine may types line what s t before after began
       → AreCarried types may s before → AreCarried types may t after
   line-carried (Ok call) after began x c = call-carried call after began x began refl x.carries c
   line-carried (Err why) after began x c =
-      subst (AreCarried types may t) (sym x.same) (tells-carried types may s t (Bad line why) x.r before x.told refl (λ u. refl) c)
+      subst (AreCarried types may t) (sym x.same) (tells-carried types may s t (Bad line why) x.r before x.told (λ u. refl) c)

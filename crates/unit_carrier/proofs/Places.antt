@@ -25,7 +25,6 @@ use Rattle.turn_rules.specs.NextEvent.{is_own}
 use Rattle.turn_rules.specs.TurnLoop.{AreOlder}
 use Rattle.turn_rules.proofs.Numbers.{older-last, next-begun}
 use Rattle.turn_rules.proofs.Growth.{ends-more}
-use Rattle.worker_rules.specs.SharedHistories.{is_load}
 use Rattle.worker_rules.proofs.CallPromises.{is-harmless}
 use Rattle.txn_agent.specs.declared.agent.Advanced.{Advanced}
 use Rattle.txn_agent.specs.declared.agent.Advanced.TheVariants as came
@@ -137,10 +136,10 @@ unit-here agents i a q = get_or_from_slice_get (units_carried agents) i a.carrie
 
 -- what is known stays
 pub tells-carried : (types : ProgramTree) (may : CoreEvent → Bool) (s t : Sight) (e : CoreEvent) (r : CoreReply) (agents : List Agent)
-    → Tells may s e r t → is_load e ≡ false → ((u : UnitNo) → is_own u e ≡ false) → AreCarried types may s agents → AreCarried types may t agents
-tells-carried types may s t e r agents l plain none c = record {
-  holds = tells-holds may s t e r l plain c.holds;
-  known = all-each (Knows types s) (Knows types t) agents (λ a m k. knows-tells may types a.carried a.doing s t e r l (is-harmless a.carried.unit e (none a.carried.unit) plain) c.holds.counts k) c.known;
+    → Tells may s e r t → ((u : UnitNo) → is_own u e ≡ false) → AreCarried types may s agents → AreCarried types may t agents
+tells-carried types may s t e r agents l none c = record {
+  holds = tells-holds may s t e r l c.holds;
+  known = all-each (Knows types s) (Knows types t) agents (λ a m k. knows-tells may types a.carried a.doing s t e r l (is-harmless a.carried.unit e (none a.carried.unit)) c.holds.counts k) c.known;
   came = came-still s t agents (λ v less. tells-origin may s t e r v c.holds.none l less) c.below c.came;
   older = c.older;
   below = below-more (units_carried agents) (ends (run_seen s)).units.next (ends (run_seen t)).units.next (tells-next may s t e r c.holds.none l) c.below;
@@ -195,7 +194,7 @@ begins-carried types may s t origin call plain unit agents after l plainly h bel
 
     fresh : IfOwn k.agent.carried t (λ r. IsNew types r k.agent.carried call)
     fresh = subst (λ (x : Carried). IfOwn x t (λ r. IsNew types r x call)) (sym k.carried)
-        (new-carried may types s t (record { unit = unit; origin = origin; plain = plain }) call l h.counts h.sound h.loads plainly)
+        (new-carried may types s t (record { unit = unit; origin = origin; plain = plain }) call l h.counts h.above plainly)
 
     units : units_carried after ≡ units_carried agents ++ (unit ∷ [])
     units = carries-units types unit origin call plain agents after k

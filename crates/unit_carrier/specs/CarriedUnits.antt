@@ -12,12 +12,11 @@ use Rattle.script_tree.specs.Programs.{ProgramTree}
 use Rattle.promise_spec.specs.UnitAnswers.{got_in}
 use Rattle.promise_spec.specs.TurnRule.{can_move}
 use Rattle.turn_rules.specs.TurnLoop.{AreOlder}
-use Rattle.worker_rules.specs.SharedHistories.{NoneLoads}
 use Rattle.txn_agent.specs.declared.agent.Advanced.{Advanced}
 use Rattle.txn_agent.specs.declared.agent.Advanced.TheVariants as advanced
 use Rattle.txn_agent.specs.declared.agent.Agent.{Agent}
 use Rattle.txn_agent.specs.declared.work.Carried.{Carried}
-use Rattle.txn_agent.specs.CoreLink.{IfOwn, IsLegalRun, IsNew, Knows}
+use Rattle.txn_agent.specs.CoreLink.{IfOwn, IsNew, Knows}
 use Rattle.txn_agent.specs.AgentStep.{AnswerSays, has_freed_all}
 use Rattle.unit_carrier.specs.declared.agents.Found.{Found}
 use Rattle.unit_carrier.specs.declared.agents.Found.TheVariants.{At, Few}
@@ -36,13 +35,12 @@ units_carried agents = map (λ (a : Agent). a.carried.unit) agents
 abbrev pub unit_at : List Agent → ℕ → UnitNo
 unit_at agents index = get_or (units_carried agents) index nobody
 
--- Nobody else puts events into the core: all that was seen is one's own, behind a run without events, and no grain was loaded.
+-- Nobody else puts events into the core: all that was seen is one's own, behind a run without events.
 pub record HasCoreAlone (may_come : CoreEvent → Bool) (s : Sight) : Type 0 where
   pub none : may_come ≡ none_comes
   pub counts : Counts s
   pub alone : (harmless : CoreEvent → Bool) → IsAlone harmless s
-  pub sound : IsLegalRun s.first
-  pub loads : NoneLoads s.mine
+  pub above : 0 < s.first.base
 
 -- the agent's unit is of the origin that the agent has
 abbrev pub CameAs : Sight → Agent → Type 0

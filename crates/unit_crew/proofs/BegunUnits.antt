@@ -24,14 +24,11 @@ use Rattle.turn_rules.specs.TurnLoop.{AreOlder}
 use Rattle.turn_rules.proofs.Growth.{ends-more}
 use Rattle.turn_rules.proofs.Numbers.{older-last}
 use Rattle.worker_rules.specs.UnitOwnership.{leaves_unit, BeganHere}
-use Rattle.worker_rules.specs.SharedHistories.{NoneLoads}
-use Rattle.worker_rules.specs.Work.{OnlyWorks}
 use Rattle.worker_rules.proofs.Numbers.{began-next}
-use Rattle.worker_rules.proofs.Workers.{work-loads}
 use Rattle.txn_agent.specs.declared.agent.Agent.{Agent}
 use Rattle.txn_agent.specs.declared.agent.Advanced.TheVariants as came
 use Rattle.txn_agent.specs.declared.work.Carried.{Carried}
-use Rattle.txn_agent.specs.CoreLink.{IfOwn, IsNew, IsLegalRun, Knows}
+use Rattle.txn_agent.specs.CoreLink.{IfOwn, IsNew, Knows}
 use Rattle.txn_agent.specs.AgentStep.{AnswerSays, Misses, Puts, children_of}
 use Rattle.txn_agent.proofs.StepPromises.{new-began, new-carried}
 use Rattle.unit_carrier.specs.CarriedUnits.{CarriesOneMore, units_carried}
@@ -94,10 +91,6 @@ member-own s [] v m own = absurd m
 member-own s (a ∷ agents) v (inl q) own = subst (λ (x : UnitNo). BeganHere x s) (sym q) own.0
 member-own s (a ∷ agents) v (inr m) own = member-own s agents v m own.1
 
--- what is a worker's loads nothing
-pub works-loads : (s : Sight) → OnlyWorks s.mine → NoneLoads s.mine
-works-loads s only e i = work-loads e.event (only e i)
-
 module _ (types : ProgramTree) (may : CoreEvent → Bool) (s t : Sight) (origin : Origin) (call : Call) (plain : Bool) (unit : UnitNo)
     (l : Tells may s (Begin origin call plain) (reply.Began unit) t) where
   -- it has the next number
@@ -120,11 +113,11 @@ module _ (types : ProgramTree) (may : CoreEvent → Bool) (s t : Sight) (origin 
   now-begun v b = elim (tells-back may v s t (Begin origin call plain) (reply.Began unit) l b) [ inl old ↦ inl old | inr q ↦ inr (let e : v ≡ unit = cc in e) ]
 
   -- a unit that began is known behind all others
-  pub one-more : (agents after : List Agent) → (plain ≡ true → IsTransaction types call → ⊥) → Counts s → IsLegalRun s.first → OnlyWorks s.mine
+  pub one-more : (agents after : List Agent) → (plain ≡ true → IsTransaction types call → ⊥) → Counts s → 0 < s.first.base
       → IsCrewSo types s t agents → CarriesOneMore types unit origin call plain agents after → IsCrew types t after
-  one-more agents after plainly counts sound only c k = record {
+  one-more agents after plainly counts above c k = record {
     counts = c.counts;
-    sound = c.sound;
+    above = c.above;
     only = c.only;
     below = λ v b. elim (now-begun v b) [
       | inl old ↦ (let low : v.0 < (ends (run_seen s)).units.next = c.below v old in let n = c.next in omega (arith, low, n))
@@ -143,7 +136,7 @@ module _ (types : ProgramTree) (may : CoreEvent → Bool) (s t : Sight) (origin 
     where
       fresh : IfOwn k.agent.carried t (λ r. IsNew types r k.agent.carried call)
       fresh = subst (λ (x : Carried). IfOwn x t (λ r. IsNew types r x call)) (sym k.carried)
-          (new-carried may types s t (record { unit = unit; origin = origin; plain = plain }) call l counts sound (works-loads s only) plainly)
+          (new-carried may types s t (record { unit = unit; origin = origin; plain = plain }) call l counts above plainly)
 
       units : units_carried after ≡ units_carried agents ++ (unit ∷ [])
       units = carries-units types unit origin call plain agents after k
@@ -171,7 +164,7 @@ pub child-crew : (types : ProgramTree) (may : CoreEvent → Bool) (s t : Sight) 
     → (unit : UnitNo) → unit ≡ old.carried.unit → (kids : ℕ) → kids ≡ children_of old.doing → Knows types t new
     → (after : List Agent) → CarriesOneMore types child (Child unit kids depth) call false (slice_set agents i new) after → IsCrew types t after
 child-crew types may s t agents c i old new q same child call depth says unit of_unit kids number knows after k =
-    one-more types may s t (Child unit kids depth) call false child tells (slice_set agents i new) after (λ f. absurd (true≢false (sym f))) c.counts c.sound c.only
+    one-more types may s t (Child unit kids depth) call false child tells (slice_set agents i new) after (λ f. absurd (true≢false (sym f))) c.counts c.above
     (acts-so types may s t agents c i old new q same (inr (_, (_, says))) knows) k
   where
     tells : Tells may s (Begin (Child unit kids depth) call false) (reply.Began child) t
@@ -183,13 +176,13 @@ child-crew types may s t agents c i old new q same child call depth says unit of
 module _ (types : ProgramTree) (may : CoreEvent → Bool) (s t : Sight) (number : ℕ) (agents after : List Agent) (began : Option UnitNo) (c : IsCrew types s agents) where
   call-crew : (call : Call) (x : StartsCall may types number call s t agents after began) → (b : Option UnitNo) → began ≡ b → CarriesBegun types number call x.plain agents after b → IsCrew types t after
   call-crew call x None q k = subst (IsCrew types t) (sym k)
-      (crew-so types s t agents back (tells-so types may s t agents c (Begin (OfLine number) call x.plain) x.r x.told refl refl (λ u. refl)))
+      (crew-so types s t agents back (tells-so types may s t agents c (Begin (OfLine number) call x.plain) x.r x.told refl (λ u. refl)))
     where
       back : (u : UnitNo) → BeganHere u t → BeganHere u s
       back u b = elim (tells-back may u s t (Begin (OfLine number) call x.plain) x.r x.told b) [ inl old ↦ old | inr is ↦ granted-began x.r u (sym x.is ∙ q) is ]
   call-crew call x (Some unit) q k =
-      one-more types may s t (OfLine number) call x.plain unit tells agents after (plain-makes-none types call x.plain x.of_kind) c.counts c.sound c.only
-      (tells-so types may s t agents c (Begin (OfLine number) call x.plain) x.r x.told refl refl (λ u. refl)) k
+      one-more types may s t (OfLine number) call x.plain unit tells agents after (plain-makes-none types call x.plain x.of_kind) c.counts c.above
+      (tells-so types may s t agents c (Begin (OfLine number) call x.plain) x.r x.told refl (λ u. refl)) k
     where
       tells : Tells may s (Begin (OfLine number) call x.plain) (reply.Began unit) t
       tells = subst (λ (z : CoreReply). Tells may s (Begin (OfLine number) call x.plain) z t) (began-is x.r unit (sym x.is ∙ q)) x.told
@@ -198,7 +191,7 @@ module _ (types : ProgramTree) (may : CoreEvent → Bool) (s t : Sight) (number 
   pub starts-crew : (what : Result Call BadRequest) → StartsLine may types number what s t agents after began → IsCrew types t after
   starts-crew (Ok call) x = call-crew call x began refl x.carries
   starts-crew (Err why) x = subst (IsCrew types t) (sym x.same)
-      (crew-so types s t agents back (tells-so types may s t agents c (Bad number why) x.r x.told refl refl (λ u. refl)))
+      (crew-so types s t agents back (tells-so types may s t agents c (Bad number why) x.r x.told refl (λ u. refl)))
     where
       back : (u : UnitNo) → BeganHere u t → BeganHere u s
       back u b = elim (tells-back may u s t (Bad number why) x.r x.told b) [

@@ -20,19 +20,18 @@ use Rattle.turn_cell.specs.History.{entry}
 use Rattle.turn_cell.proofs.Lists.{in_append, in_left}
 use Rattle.turn_rules.specs.NextEvent.{is_own, with_event}
 use Rattle.turn_rules.specs.TurnLoop.{AreOlder}
-use Rattle.worker_rules.specs.SharedHistories.{is_load}
 use Rattle.worker_rules.specs.UnitOwnership.{leaves_unit, BeganHere}
 use Rattle.worker_rules.specs.Work.{OnlyWorks, is_work}
 use Rattle.worker_rules.proofs.CallPromises.{is-harmless}
 use Rattle.txn_agent.specs.declared.agent.Agent.{Agent}
 use Rattle.txn_agent.specs.declared.work.Carried.{Carried}
-use Rattle.txn_agent.specs.CoreLink.{IsLegalRun, Knows}
+use Rattle.txn_agent.specs.CoreLink.{Knows}
 use Rattle.txn_agent.specs.AgentStep.{Acts}
 use Rattle.txn_agent.proofs.ComposedSteps.{acts-counts}
 use Rattle.txn_agent.proofs.StepPromises.{acts-began, knows-looks, knows-tells}
 use Rattle.unit_carrier.specs.CarriedUnits.{units_carried}
 use Rattle.unit_carrier.proofs.MoverSearch.{all-at, all-set}
-use Rattle.unit_carrier.proofs.CarriedUnits.{all-each, moving-loads, next-more}
+use Rattle.unit_carrier.proofs.CarriedUnits.{all-each, next-more}
 use Rattle.unit_carrier.proofs.Places.{steps-known, units-set}
 use Rattle.unit_carrier.proofs.MoverSearch.{map-at}
 use Rattle.unit_crew.specs.Crews.{IsCrew, IsOwnUnit}
@@ -86,7 +85,7 @@ at-member (y ∷ xs) (suc i) x q = inr (at-member xs i x q)
 -- What is known of agents behind a call, of the units that began before it.
 pub record IsCrewSo (types : ProgramTree) (s t : Sight) (agents : List Agent) : Type 0 where
   pub counts : Counts t
-  pub sound : IsLegalRun t.first
+  pub above : 0 < t.first.base
   pub only : OnlyWorks t.mine
   pub next : (ends (run_seen s)).units.next ≤ (ends (run_seen t)).units.next
   pub below : (u : UnitNo) → BeganHere u s → u.0 < (ends (run_seen s)).units.next
@@ -100,7 +99,7 @@ pub record IsCrewSo (types : ProgramTree) (s t : Sight) (agents : List Agent) : 
 pub crew-so : (types : ProgramTree) (s t : Sight) (agents : List Agent) → ((u : UnitNo) → BeganHere u t → BeganHere u s) → IsCrewSo types s t agents → IsCrew types t agents
 crew-so types s t agents back c = record {
   counts = c.counts;
-  sound = c.sound;
+  above = c.above;
   only = c.only;
   below = λ u b. (let low : u.0 < (ends (run_seen s)).units.next = c.below u (back u b) in let n = c.next in omega (arith, low, n));
   known = c.known;
@@ -151,7 +150,7 @@ module _ (types : ProgramTree) (may : CoreEvent → Bool) (s t : Sight) (agents 
   looks-so : Looks may s t → IsCrewSo types s t agents
   looks-so l = record {
     counts = looks-counts may s t l c.counts;
-    sound = subst (λ (x : Sight). IsLegalRun x.first) (sym l.sight) c.sound;
+    above = subst (λ (x : Sight). 0 < x.first.base) (sym l.sight) c.above;
     only = subst (λ (x : Sight). OnlyWorks x.mine) (sym l.sight) c.only;
     next = looks-next may s t l;
     below = c.below;
@@ -166,19 +165,19 @@ module _ (types : ProgramTree) (may : CoreEvent → Bool) (s t : Sight) (agents 
   pub looks-crew : Looks may s t → IsCrew types t agents
   looks-crew l = crew-so types s t agents (λ u b. looks-back may u s t l b) (looks-so l)
 
-  -- behind an event of no unit, that loads nothing
-  pub tells-so : (e : CoreEvent) (r : CoreReply) → Tells may s e r t → is_work e ≡ true → is_load e ≡ false → ((u : UnitNo) → is_own u e ≡ false) → IsCrewSo types s t agents
-  tells-so e r l work plain none = record {
+  -- behind an event of no unit
+  pub tells-so : (e : CoreEvent) (r : CoreReply) → Tells may s e r t → is_work e ≡ true → ((u : UnitNo) → is_own u e ≡ false) → IsCrewSo types s t agents
+  tells-so e r l work none = record {
     counts = tells-counts may s t e r l c.counts;
-    sound = subst (λ (x : Sight). IsLegalRun x.first) (sym l.sight) c.sound;
+    above = subst (λ (x : Sight). 0 < x.first.base) (sym l.sight) c.above;
     only = (works-tells (λ (b : Basis). ⊥) may s t e r l work (λ b no p. absurd no)).only c.only;
     next = tells-next may s t e r l;
     below = c.below;
     began = λ u b. tells-began may u s t e r l b;
-    known = all-each (Knows types s) (Knows types t) agents (λ a m k. knows-tells may types a.carried a.doing s t e r l (is-harmless a.carried.unit e (none a.carried.unit) plain) c.counts k) c.known;
+    known = all-each (Knows types s) (Knows types t) agents (λ a m k. knows-tells may types a.carried a.doing s t e r l (is-harmless a.carried.unit e (none a.carried.unit)) c.counts k) c.known;
     own = c.own;
     older = c.older;
-    rest = λ u b. elim (c.rest u b) [ inl m ↦ inl m | inr k ↦ inr (tells-through may u s t e r l (is-harmless u e (none u) plain) c.counts k) ];
+    rest = λ u b. elim (c.rest u b) [ inl m ↦ inl m | inr k ↦ inr (tells-through may u s t e r l (is-harmless u e (none u)) c.counts k) ];
   }
 
   -- ---- the step of the unit at an index
@@ -199,7 +198,7 @@ module _ (types : ProgramTree) (may : CoreEvent → Bool) (s t : Sight) (agents 
       where
         by : (b : Bool) → is_own u e ≡ b → Member u (units_carried agents) ⊎ IfAlone (leaves_unit u) t (λ r. IsThrough r u)
         by true o = inl (subst (λ (x : UnitNo). Member x (units_carried agents)) (sym (moves-one old.carried.unit u e p.own o)) member-here)
-        by false o = inr (tells-through may u s t e r p.told (is-harmless u e o (moving-loads old.carried.unit e p.own)) c.counts k)
+        by false o = inr (tells-through may u s t e r p.told (is-harmless u e o) c.counts k)
 
     acts-next : Acts may types old.carried.unit s t → (ends (run_seen s)).units.next ≤ (ends (run_seen t)).units.next
     acts-next (inl l) = looks-next may s t l
@@ -211,7 +210,7 @@ module _ (types : ProgramTree) (may : CoreEvent → Bool) (s t : Sight) (agents 
         let works = works-acts may types old.carried.unit s t acts own-here in
         let units = units-set agents i old new q same in record {
           counts = acts-counts may types old.carried.unit s t acts c.counts;
-          sound = subst IsLegalRun (sym works.first) c.sound;
+          above = subst (λ (r : Run). 0 < r.base) (sym works.first) c.above;
           only = works.only c.only;
           next = acts-next acts;
           below = c.below;

@@ -36,17 +36,17 @@ as-begun u = record { unit = u; origin = OfLine 0; plain = false }
 
 pub let-go-over : (r : Run) (u : UnitNo) → HasLetGo r u → IsOver r (as-begun u) []
 unfolding as-begun
-let-go-over r u x = record { sound = x.sound; over = x.over; locks = x.locks }
+let-go-over r u x = record { above = x.above; over = x.over; locks = x.locks }
 
 pub over-let-go : (r : Run) (c : Carried) → IsOver r c [] → HasLetGo r c.unit
-over-let-go r c x = record { sound = x.sound; over = x.over; locks = x.locks }
+over-let-go r c x = record { above = x.above; over = x.over; locks = x.locks }
 
 held-barred : (r : Run) (u : UnitNo) → IsHeldUp r u → IsBarred r (as-begun u)
 unfolding as-begun
-held-barred r u x = record { sound = x.sound; running = x.running; stopped = x.stopped }
+held-barred r u x = record { above = x.above; running = x.running; stopped = x.stopped }
 
 pub barred-held : (r : Run) (c : Carried) → IsBarred r c → IsHeldUp r c.unit
-barred-held r c x = record { sound = x.sound; running = x.running; stopped = x.stopped }
+barred-held r c x = record { above = x.above; running = x.running; stopped = x.stopped }
 
 -- it stays so by an event of others
 pub through-on : (u : UnitNo) (r : Run) (e : CoreEvent) → leaves_unit u e ≡ true → IsThrough r u → IsThrough (with_event r e) u

@@ -1,5 +1,5 @@
 -- A worker that has put nothing, and what its call comes to.
-use Rattle.std.proofs.Common.{◌≡◌, ◌⊎◌, ◌+◌, ℕ, List, [], length, inl, inr, sym, ap, subst, arith, Bool}
+use Rattle.std.proofs.Common.{◌≡◌, ◌⊎◌, ◌+◌, ℕ, List, [], length, inl, inr, sym, ap, subst, arith, Bool, ◌<◌}
 use Rattle.core_model.specs.declared.events.CoreEvent.{CoreEvent}
 use Rattle.core_access.specs.Histories.{Told}
 use Rattle.core_access.specs.Sights.{Sight, Counts, Looks}
@@ -12,7 +12,6 @@ use Rattle.worker_rules.specs.UnitOwnership.{KeepsPromise}
 use Rattle.worker_rules.specs.SharedHistories.{Promised}
 use Rattle.worker_rules.specs.Work.{OnlyWorks}
 use Rattle.worker_rules.proofs.OwnEntries.{promise-none}
-use Rattle.txn_agent.specs.CoreLink.{IsLegalRun}
 use Rattle.unit_crew.specs.Crews.{IsCrew, WorksOn}
 use Rattle.unit_crew.specs.Rounds.{IsOverAt}
 use Rattle.unit_crew.specs.FinishedUnits.{AreThrough, IsHalted, IsPastLine, Showed}
@@ -25,10 +24,10 @@ none-in : {A : Type 0} (s : Sight) → s.mine ≡ [] → (x : Told) → In x s.m
 none-in s e x i = absurd (subst (In x) e i)
 
 -- nobody is carried
-pub crew-none : (types : ProgramTree) (s : Sight) → IsLegalRun s.first → s.mine ≡ [] → IsCrew types s []
-crew-none types s sound e = record {
+pub crew-none : (types : ProgramTree) (s : Sight) → 0 < s.first.base → s.mine ≡ [] → IsCrew types s []
+crew-none types s above e = record {
   counts = none-counts;
-  sound = sound;
+  above = above;
   only = λ x i. none-in s e x i;
   below = λ u b. none-in s e b.0 b.1;
   known = tt;

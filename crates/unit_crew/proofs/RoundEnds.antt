@@ -72,7 +72,7 @@ kept-or-through types s (a ∷ agents) u all (inr m) = left-behind s a (filter i
 pub drops-crew : (types : ProgramTree) (s : Sight) (agents left : List Agent) → left ≡ filter is_left agents → IsCrew types s agents → IsCrew types s left
 drops-crew types s agents left e c = subst (IsCrew types s) (sym e) (record {
   counts = c.counts;
-  sound = c.sound;
+  above = c.above;
   only = c.only;
   below = c.below;
   known = all-filter (Knows types s) is_left agents c.known;
@@ -91,8 +91,8 @@ none-through types s (a ∷ agents) e c u b = absurd (omega (arith, e))
 -- where the run is halted, so is a unit that runs
 held-through : (types : ProgramTree) (s : Sight) (c : Carried) (doing : Doing) → is_freeing doing ≡ false → (IsGoing (ends (run_seen s)) → ⊥) → KnowsDoing types s c doing
     → IfAlone (leaves_unit c.unit) s (λ r. IsThrough r c.unit)
-held-through types s c (Asks work pause) e halted k alone = inr (record { sound = (k.linked alone).linked.sound; running = (k.linked alone).given.running; stopped = halted })
-held-through types s c (Awaits work child) e halted k alone = inr (record { sound = (k.linked alone).linked.sound; running = (k.linked alone).awaits.running; stopped = halted })
+held-through types s c (Asks work pause) e halted k alone = inr (record { above = (k.linked alone).linked.above; running = (k.linked alone).given.running; stopped = halted })
+held-through types s c (Awaits work child) e halted k alone = inr (record { above = (k.linked alone).linked.above; running = (k.linked alone).awaits.running; stopped = halted })
 held-through types s c (Frees held) e halted k alone = absurd (true≢false e)
 held-through types s c Stopped e halted k alone = inr (barred-held (run_seen s) c (k alone))
 

@@ -112,12 +112,12 @@ works-puts may types before place lines line s t r here x = by line.what refl x.
     by : (what : Result Call BadRequest) → line.what ≡ what → IsEventOf types line.number what x.e → WorksOn (IsBasisOf types before lines) s t
     by (Ok call) q is =
         works-tells (IsBasisOf types before lines) may s t (Begin (OfLine line.number) call is.0) r (put (Begin (OfLine line.number) call is.0) is.1) refl
-        (λ b asked p. tells-promise b may s t (Begin (OfLine line.number) call is.0) r (put (Begin (OfLine line.number) call is.0) is.1) refl
+        (λ b asked p. tells-promise b may s t (Begin (OfLine line.number) call is.0) r (put (Begin (OfLine line.number) call is.0) is.1)
         (λ u own. line-owns own)
         (λ alone applied. (subst (ReadsLineAs b.types b.lines line.number) q (reads b asked), subst (λ (z : ProgramTree). (is.0 ≡ false) ↔ IsTransaction z call) (sym asked.0) is.2)) p)
     by (Err why) q is =
         works-tells (IsBasisOf types before lines) may s t (Bad line.number why) r (put (Bad line.number why) is) refl
-        (λ b asked p. tells-promise b may s t (Bad line.number why) r (put (Bad line.number why) is) refl
+        (λ b asked p. tells-promise b may s t (Bad line.number why) r (put (Bad line.number why) is)
         (λ u own. line-owns own)
         (λ alone applied. subst (ReadsLineAs b.types b.lines line.number) q (reads b asked)) p)
 

@@ -13,7 +13,7 @@ use Rattle.turn_rules.specs.TurnLoop.{AreOlder}
 use Rattle.worker_rules.specs.UnitOwnership.{leaves_unit, BeganHere, KeepsPromise}
 use Rattle.worker_rules.specs.Work.{OnlyWorks}
 use Rattle.txn_agent.specs.declared.agent.Agent.{Agent}
-use Rattle.txn_agent.specs.CoreLink.{IsLegalRun, Knows}
+use Rattle.txn_agent.specs.CoreLink.{Knows}
 use Rattle.unit_carrier.specs.CarriedUnits.{units_carried}
 use Rattle.unit_crew.specs.FinishedUnits.{IsThrough}
 
@@ -50,7 +50,7 @@ IsOwnUnit s a = BeganHere a.carried.unit s
 -- The agents, in number order, know their units, which began by own entries; and each other unit that did is through.
 pub record IsCrew (types : ProgramTree) (s : Sight) (agents : List Agent) : Type 0 where
   pub counts : Counts s
-  pub sound : IsLegalRun s.first
+  pub above : 0 < s.first.base
   pub only : OnlyWorks s.mine
   pub below : (u : UnitNo) → BeganHere u s → u.0 < (ends (run_seen s)).units.next
   pub known : AllByRecursion (Knows types s) agents

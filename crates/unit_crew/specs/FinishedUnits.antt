@@ -10,19 +10,18 @@ use Rattle.core_access.specs.Histories.{Told, run_after}
 use Rattle.core_access.specs.Sights.{Sight, IfAlone}
 use Rattle.turn_cell.specs.History.{StartsWith}
 use Rattle.worker_rules.specs.UnitOwnership.{leaves_unit, BeganHere}
-use Rattle.txn_agent.specs.CoreLink.{IsLegalRun}
 
 -- ---- units
 
 -- The unit is over, and holds no lock.
 pub record HasLetGo (r : Run) (u : UnitNo) : Type 0 where
-  pub sound : IsLegalRun r
+  pub above : 0 < r.base
   pub over : is_over ((ends r).units.phase u) ≡ true
   pub locks : (g : GrainId) → holds_lock u ((ends r).cells.holds g) ≡ false
 
 -- The unit runs, but there is a doubt, or the run is to stop.
 pub record IsHeldUp (r : Run) (u : UnitNo) : Type 0 where
-  pub sound : IsLegalRun r
+  pub above : 0 < r.base
   pub running : (ends r).units.phase u ≡ Running
   pub stopped : IsGoing (ends r) → ⊥
 

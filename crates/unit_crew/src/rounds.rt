@@ -1,10 +1,9 @@
-ghost use Rattle.std.specs.Prelude.{◌≡◌, ◌⊎◌, ◌+◌, ◌≤◌, [], IfOk, OnErr, length};
+ghost use Rattle.std.specs.Prelude.{◌≡◌, ◌⊎◌, ◌+◌, ◌≤◌, [], IfOk, OnErr, length, ◌<◌};
 ghost use Rattle.core_model.specs.LegalRuns.{ends};
 ghost use Rattle.core_access.specs.Sights.{Counts, IsHistory, Looks, run_seen};
 ghost use Rattle.promise_spec.specs.UnitRule.{Basis};
 ghost use Rattle.script_tree.specs.Programs.{program_tree};
 ghost use Rattle.turn_cell.specs.History.{StartsWith};
-ghost use Rattle.txn_agent.specs.CoreLink.{IsLegalRun};
 ghost use Rattle.worker_rules.specs.UnitOwnership.{KeepsPromise};
 ghost use Rattle.worker_rules.specs.Work.{OnlyWorks};
 ghost use Rattle.unit_crew.specs.Crews.{IsBasisOf, IsCrew, WorksOn};
@@ -172,7 +171,7 @@ pub fn carry_lines<A: Access, L: Lines, G: Gate, R: Wait>(
     signals: &Signals,
 ) -> Result<(), AllocError>
     requires fit { A.is_fit access.old }
-    requires sound { IsLegalRun (A.sight access.old).first }
+    requires above { 0 < (A.sight access.old).first.base }
     requires before { before ≤ (ends (A.sight access.old).first).units.lines }
     requires fresh { (A.sight access.old).mine ≡ [] }
     ensures fit { A.is_fit access.new }

@@ -1,5 +1,5 @@
 -- A unit begins: its parent has one child more, then it is known itself.
-use Rattle.std.proofs.Common.{◌≡◌, ℕ, ◌+◌, List, [], ◌∷◌, ◌++◌, Bool, refl, sym, ap, ◌∙◌, Option}
+use Rattle.std.proofs.Common.{◌≡◌, ℕ, ◌+◌, List, [], ◌∷◌, ◌++◌, Bool, refl, sym, ap, ◌∙◌, Option, vec_len}
 use Rattle.base_types.specs.declared.calls.Origin.TheVariants.{Line, Child}
 use Rattle.core_model.specs.CoreState.{UnitNo, Origin, Call, put}
 use Rattle.core_model.specs.Changes.{lines_with, kids_with}
@@ -39,7 +39,7 @@ kid-kids f (Child p i d) u = put-of (λ (k : KnownUnit). k.kids) f p (record (f 
 
 -- counting leaves the number of the next unit
 pub next-counted : (t m : UnitTable) → SameRoom t m → SameRest t m → next_in m ≡ next_in t
-next-counted t m room rest = λ i. rest.base i + room.len i
+next-counted t m room rest = λ i. rest.base i + vec_len (room.past i) + room.len i
 
 -- what all others keep, and the new unit hasn't
 fresh-kept : {A : Type 0} (of : KnownUnit → A) (t m n : UnitTable) (origin : Origin) (u : UnitNo) (x : KnownUnit) → Counted t m origin u → Pushed m n x →

@@ -12,6 +12,7 @@ use Rattle.core_model.specs.Tests.{outcome_in}
 use Rattle.core_model.specs.declared.phases.Phase.TheVariants as phase
 use Rattle.unit_table.specs.declared.entry.RunningUnit.{RunningUnit}
 use Rattle.unit_table.specs.declared.entry.OverUnit.{OverUnit}
+use Rattle.unit_table.specs.declared.entry.PastUnit.{PastUnit}
 use Rattle.unit_table.specs.declared.entry.Ending.{Ending}
 use Rattle.unit_table.specs.declared.entry.Ending.TheVariants as ending
 use Rattle.unit_table.specs.declared.entry.UnitEntry.{UnitEntry}
@@ -76,6 +77,10 @@ phase_at ending.Ended = phase.Ended
 abbrev pub known_over : OverUnit → KnownUnit
 known_over x = record (known_running x.gone.value) { phase = phase_at x.ending; verdict = x.verdict; result = x.result }
 
+-- a unit whose result has gone: what it was stays known
+abbrev pub known_past : PastUnit → KnownUnit
+known_past x = record (known_over x.gone.value) { phase = phase_at x.ending; verdict = x.verdict }
+
 -- what the entry stands for
 abbrev pub known_entry : UnitEntry → KnownUnit
 known_entry (entry.Running unit) = known_running unit.value
@@ -84,6 +89,10 @@ known_entry (entry.Over unit) = known_over unit
 -- the outcome of a unit that is over, once it is decided for good
 abbrev pub outcome_over : OverUnit → Option Outcome
 outcome_over x = outcome_in (phase_at x.ending) x.verdict x.result
+
+-- the outcome of a unit whose result has gone, once it is decided for good
+abbrev pub outcome_past : PastUnit → Option Outcome
+outcome_past x = outcome_in (phase_at x.ending) x.verdict x.gone.value.result
 
 -- a unit's outcome, once it is decided for good
 abbrev pub entry_outcome : UnitEntry → Option Outcome

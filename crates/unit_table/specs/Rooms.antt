@@ -1,5 +1,6 @@
 -- What room a table of units has.
 use Rattle.std.specs.Prelude.{◌≡◌, ◌<◌, ◌^◌, ℕ, Option, Some, None, true, Box, vec_len, vec_capacity}
+use Rattle.std.specs.VecDeque.{deque_len, deque_capacity}
 use Rattle.std.specs.Global.{Global}
 use Rattle.base_types.specs.declared.calls.Origin.{Origin}
 use Rattle.base_types.specs.declared.calls.Origin.TheVariants.{Line, Child}
@@ -24,10 +25,11 @@ pub record SameRest (old new : UnitTable) : Type 0 where
   pub kinds : new.kinds ≡ old.kinds
   pub halt : new.halt ≡ old.halt
 
--- The two have as many units, room for the same, and the same waits.
+-- The two have the same units whose results have gone, as many others, room for the same, and the same waits.
 pub record SameRoom (old new : UnitTable) : Type 0 where
-  pub len : vec_len new.units ≡ vec_len old.units
-  pub capacity : vec_capacity new.units ≡ vec_capacity old.units
+  pub past : new.past ≡ old.past
+  pub len : deque_len new.units ≡ deque_len old.units
+  pub capacity : deque_capacity new.units ≡ deque_capacity old.units
   pub spare : new.spare ≡ old.spare
   pub wants : new.wants ≡ old.wants
 
@@ -54,7 +56,7 @@ BlankAt (Some x) = IsBlank x.value
 -- What a unit that begins needs is there, and its number is below 2^63.
 pub record RoomToBegin (t : UnitTable) (origin : Origin) : Type 0 where
   pub number : next_in t < 2 ^ 63
-  pub entry : vec_len t.units < vec_capacity t.units
+  pub entry : deque_len t.units < deque_capacity t.units
   pub unit : BlankAt t.spare
   pub parent : ParentHasRoom t origin
 

@@ -1,30 +1,49 @@
 -- What a table of units stands for.
-use Rattle.std.specs.Prelude.{ℕ, ◌+◌, ◌-◌, List, Bool, Option, Some, None, nat_lt, if◌then◌else◌, slice_get, vec_len}
+use Rattle.std.specs.Prelude.{ℕ, ◌+◌, ◌-◌, List, Bool, Option, Some, None, is_some, nat_lt, if◌then◌else◌, slice_get, vec_len}
+use Rattle.std.specs.VecDeque.{deque_len}
 use Rattle.core_model.specs.CoreState.{UnitNo, GrainId, Origin, Call, Outcome, Units}
 use Rattle.core_model.specs.declared.effects.Read.{Read}
 use Rattle.core_model.specs.declared.phases.Phase.{Phase}
 use Rattle.core_model.specs.declared.phases.Verdict.{Verdict}
 use Rattle.core_model.specs.Tests.{outcome_in}
+use Rattle.unit_table.specs.declared.entry.PastUnit.{PastUnit}
 use Rattle.unit_table.specs.declared.entry.UnitEntry.{UnitEntry}
 use Rattle.unit_table.specs.declared.table.UnitTable.{UnitTable}
-use Rattle.unit_table.specs.KnownUnits.{KnownUnit, unborn, known_entry}
+use Rattle.unit_table.specs.KnownUnits.{KnownUnit, unborn, known_entry, known_past}
 
--- the unit's entry among these, whose first is the unit of that number
-abbrev pub entry_among : ℕ → List UnitEntry → UnitNo → Option UnitEntry
-entry_among base xs u = if nat_lt u.0 base then None else slice_get xs (u.0 - base)
+-- the unit's place among these, whose first is the unit of that number
+abbrev pub among : {A : Type 0} → ℕ → List A → UnitNo → Option A
+among base xs u = if nat_lt u.0 base then None else slice_get xs (u.0 - base)
 
--- the unit's entry
+-- the number of the first unit whose result is kept
+abbrev pub first_in : UnitTable → ℕ
+first_in t = t.base + vec_len t.past
+
+-- the unit's entry, where its result is kept
 abbrev pub entry_in : UnitTable → UnitNo → Option UnitEntry
-entry_in t u = entry_among t.base t.units.items u
+entry_in t u = among (first_in t) t.units.items u
+
+-- what is kept of the unit, where its result has gone
+abbrev pub past_in : UnitTable → UnitNo → Option PastUnit
+past_in t u = among t.base t.past.items u
+
+-- the unit's result has gone
+abbrev pub is_past : UnitTable → UnitNo → Bool
+is_past t u = is_some (past_in t u)
 
 -- what an entry stands for, where there is one
 abbrev pub known_of : Option UnitEntry → KnownUnit
 known_of None = unborn
 known_of (Some x) = known_entry x
 
+-- what is known of a unit by what is kept of it
+abbrev pub known_by : Option PastUnit → Option UnitEntry → KnownUnit
+known_by None entry = known_of entry
+known_by (Some past) entry = known_past past
+
 -- what is known of each unit
 abbrev pub known_in : UnitTable → UnitNo → KnownUnit
-known_in t u = known_of (entry_in t u)
+known_in t u = known_by (past_in t u) (entry_in t u)
 
 -- the number of the first unit
 abbrev pub base_of : UnitTable → ℕ
@@ -32,7 +51,7 @@ base_of t = t.base
 
 -- the number of the next unit
 abbrev pub next_in : UnitTable → ℕ
-next_in t = t.base + vec_len t.units
+next_in t = first_in t + deque_len t.units
 
 -- how many lines have begun or are bad
 abbrev pub lines_in : UnitTable → ℕ

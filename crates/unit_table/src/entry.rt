@@ -3,7 +3,7 @@ ghost use Rattle.std.specs.Option.{option_copied};
 ghost use Rattle.core_model.specs.declared.phases.Phase.TheVariants as phases;
 ghost use Rattle.core_model.specs.Tests.{is_running, is_over, is_final, outcome_in};
 ghost use Rattle.unit_table.specs.Parts.{deps_after};
-ghost use Rattle.unit_table.specs.KnownUnits.{HasKidRoom, HasReadRoom, IsBlank, just_begun, known_running, known_entry, phase_at, outcome_over, entry_outcome};
+ghost use Rattle.unit_table.specs.KnownUnits.{HasKidRoom, HasReadRoom, IsBlank, just_begun, known_running, known_entry, known_over, known_past, phase_at, outcome_over, outcome_past, entry_outcome};
 
 use base_types::{Call, GrainId, List, Origin, Outcome, UnitNo};
 use core_model::{Phase, Read, Verdict};
@@ -44,15 +44,27 @@ pub struct OverUnit {
     pub gone: Snapshot<RunningUnit>,
 }
 
-/// What is kept of a unit.
+/// What is kept of a unit whose result is.
 #[derive(Drop)]
 pub enum UnitEntry {
     Running(Box<RunningUnit>),
     Over(OverUnit),
 }
 
+/// What is kept of a unit that is decided, and whose result has gone. What it was is for contracts alone, and takes no
+/// bytes.
+#[derive(Drop)]
+pub struct PastUnit {
+    pub ending: Ending,
+    pub verdict: Verdict,
+    pub gone: Snapshot<OverUnit>,
+}
+
 // So many bytes a unit takes that is over, beside what its result owns.
 const _: () = prove!(mem::size_of::<UnitEntry>() == 56);
+
+// And so many once its result has gone.
+const _: () = prove!(mem::size_of::<PastUnit>() == 2);
 
 impl Ending {
     /// The phase of a unit that ended so.
@@ -160,6 +172,17 @@ impl OverUnit {
         }
     }
 
+    /// What stays of it once its result has gone.
+    pub fn past(&self) -> PastUnit
+        ensures { known_past result ≡ known_over self.now }
+    {
+        PastUnit {
+            ending: self.ending,
+            verdict: self.verdict,
+            gone: Snapshot::of(self),
+        }
+    }
+
     /// A copy of its outcome, `None` where it isn't decided for good.
     pub fn outcome(&self) -> Result<Option<Outcome>, AllocError>
         ensures { IfOk result (λ known. known ≡ outcome_over self.now) }
@@ -185,7 +208,60 @@ impl OverUnit {
     }
 }
 
+impl PastUnit {
+    /// Whether its outcome is decided for good.
+    pub fn is_decided(&self) -> bool
+        ensures { result ≡ is_some (outcome_past self.now) }
+    {
+        match self.ending {
+            Ending::Refused => true,
+            Ending::Ended => true,
+            Ending::Finished => is_final(self.verdict),
+        }
+    }
+
+    /// Its outcome, where it is an abort; `None` where it isn't decided for good. A result has gone: it is wanting as where
+    /// there is no memory.
+    pub fn outcome(&self) -> Result<Option<Outcome>, AllocError>
+        ensures { IfOk result (λ known. known ≡ outcome_past self.now) }
+    {
+        match self.ending {
+            Ending::Refused => Ok(Some(Outcome::Aborted)),
+            Ending::Ended => Err(AllocError),
+            Ending::Finished => self.outcome_finished(),
+        }
+    }
+
+    // The outcome of a transaction that has finished, where it is an abort.
+    fn outcome_finished(&self) -> Result<Option<Outcome>, AllocError>
+        ensures { IfOk result (λ known. known ≡ outcome_in phases.Finished self.now.verdict self.now.gone.value.result) }
+    {
+        match self.verdict {
+            Verdict::Committed => Err(AllocError),
+            Verdict::Aborted => Ok(Some(Outcome::Aborted)),
+            Verdict::Open => Ok(None),
+            Verdict::Chosen => Ok(None),
+            Verdict::Condemned => Ok(None),
+        }
+    }
+}
+
 impl UnitEntry {
+    /// What stays of it once its result has gone, where it is decided for good.
+    pub fn past(&self) -> Option<PastUnit>
+        ensures { IfSome result (λ past. known_past past ≡ known_entry self.now) }
+    {
+        match self {
+            UnitEntry::Running(_) => None,
+            UnitEntry::Over(unit) => {
+                if !unit.is_decided() {
+                    return None;
+                }
+                Some(unit.past())
+            }
+        }
+    }
+
     /// What is kept of it while it runs.
     pub fn running(&self) -> Option<&RunningUnit>
         ensures { MatchOption (option_copied result) (is_running (known_entry self.now).phase ≡ false) (λ kept. known_entry self.now ≡ known_running kept) }

@@ -1,15 +1,17 @@
-ghost use Rattle.std.specs.Prelude.{◌≡◌, ◌<◌, ◌+◌, ◌^◌, ℕ, true, Option, Some, None, is_some, vec_len, OnOk};
+ghost use Rattle.std.specs.Prelude.{◌≡◌, ◌<◌, ◌+◌, ◌^◌, ℕ, true, Option, Some, None, is_some, OnOk};
+ghost use Rattle.std.specs.VecDeque.{deque_len};
 ghost use Rattle.base_types.specs.declared.calls.UnitNo.{UnitNo};
 ghost use Rattle.base_types.specs.declared.calls.Outcome.TheVariants as outcomes;
 ghost use Rattle.core_model.specs.declared.phases.Verdict.TheVariants as verdicts;
 ghost use Rattle.core_model.specs.Events.{first_units};
 ghost use Rattle.unit_table.specs.Parts.{units_bad_line, units_wanting, units_halted};
-ghost use Rattle.unit_table.specs.Table.{entry_in, lines_in, base_of, verdict_in, result_in, units_of};
+ghost use Rattle.unit_table.specs.Table.{entry_in, first_in, lines_in, base_of, verdict_in, result_in, units_of};
 ghost use Rattle.unit_table.specs.Rooms.{SameUnits, RoomToWant};
 
-use crate::entry::{RunningUnit, UnitEntry};
+use crate::entry::{PastUnit, RunningUnit, UnitEntry};
 use base_types::{GrainId, UnitNo};
 use std::alloc::{AllocError, Global};
+use std::collections::VecDeque;
 
 /// All that is known of each unit, by number. No call walks over units that are over.
 #[derive(Drop)]
@@ -19,8 +21,10 @@ pub struct UnitTable {
     pub(crate) kinds: u64,
     // How many lines have begun or are bad.
     pub(crate) lines: u64,
-    // The units in order, from the first on.
-    pub(crate) units: Vec<UnitEntry>,
+    // The first units, in order: each is decided, and its result has gone.
+    pub(crate) past: Vec<PastUnit>,
+    // The units behind them, in order.
+    pub(crate) units: VecDeque<UnitEntry>,
     // What the next unit is written into, where room was made for it.
     pub(crate) spare: Option<Box<RunningUnit>>,
     // Who waits for which grain.
@@ -42,7 +46,8 @@ impl UnitTable {
             base: base.0,
             kinds,
             lines: 0,
-            units: Vec::new(alloc),
+            past: Vec::new(alloc),
+            units: VecDeque::new(alloc),
             spare: None,
             wants: Vec::new(alloc),
             halt: false,
@@ -94,9 +99,9 @@ impl UnitTable {
     // Where the unit's entry stands.
     pub(crate) fn place(&self, unit: UnitNo) -> usize
         requires { is_some (entry_in self.now unit) ≡ true }
-        ensures at { unit.0 ≡ self.now.base + result }
-        ensures within { result < vec_len self.now.units }
+        ensures at { unit.0 ≡ first_in self.now + result }
+        ensures within { result < deque_len self.now.units }
     {
-        (unit.0 - self.base) as usize
+        (unit.0 - self.base) as usize - self.past.len()
     }
 }

@@ -1,4 +1,5 @@
-ghost use Rattle.std.specs.Prelude.{◌≡◌, ◌<◌, ◌≤◌, ◌+◌, ◌^◌, ◌∷◌, ◌++◌, [], ℕ, true, Option, nat_lt, vec_len, vec_capacity, OnOk, IsErrOf};
+ghost use Rattle.std.specs.Prelude.{◌≡◌, ◌<◌, ◌≤◌, ◌+◌, ◌^◌, ◌∷◌, ◌++◌, [], ℕ, true, Option, nat_lt, OnOk, IsErrOf};
+ghost use Rattle.std.specs.VecDeque.{deque_len, deque_capacity};
 ghost use Rattle.base_types.specs.declared.calls.UnitNo.{UnitNo};
 ghost use Rattle.core_model.specs.CoreState.{put};
 ghost use Rattle.core_model.specs.Tests.{is_running};
@@ -32,6 +33,7 @@ impl UnitTable {
         if !self.has_number() {
             return Err(BeginFault::NoNumber);
         }
+        self.forget();
         self.reserve_kid(origin)?;
         self.reserve_entry()?;
         Ok(())
@@ -41,7 +43,8 @@ impl UnitTable {
     fn has_number(&self) -> bool
         ensures { result ≡ nat_lt (next_in self.now) (2 ^ 63) }
     {
-        self.base < NUMBER_LIMIT && (self.units.len() as u64) < NUMBER_LIMIT - self.base
+        let count = (self.past.len() + self.units.len()) as u64;
+        self.base < NUMBER_LIMIT && count < NUMBER_LIMIT - self.base
     }
 
     // Makes room for one more child of a child's parent.
@@ -73,9 +76,10 @@ impl UnitTable {
     fn reserve_entry(&mut self) -> Result<(), AllocError>
         ensures same { SameUnits self.old self.new }
         ensures base { self.new.base ≡ self.old.base }
+        ensures past { self.new.past ≡ self.old.past }
         ensures entries { self.new.units.items ≡ self.old.units.items }
-        ensures len { vec_len self.new.units ≡ vec_len self.old.units }
-        ensures room { OnOk result (vec_len self.new.units < vec_capacity self.new.units) }
+        ensures len { deque_len self.new.units ≡ deque_len self.old.units }
+        ensures room { OnOk result (deque_len self.new.units < deque_capacity self.new.units) }
         ensures unit { OnOk result (BlankAt self.new.spare) }
     {
         self.units.reserve(1)?;
@@ -95,7 +99,7 @@ impl UnitTable {
         ensures result { result_in self.new ≡ result_in self.old }
         ensures base { base_of self.new ≡ base_of self.old }
     {
-        let unit = UnitNo(self.base + self.units.len() as u64);
+        let unit = UnitNo(self.base + self.past.len() as u64 + self.units.len() as u64);
         self.count(origin, unit);
         self.push(origin, call, plain);
         unit
@@ -131,7 +135,7 @@ impl UnitTable {
 
     // The next unit's entry, in room that was made.
     fn push(&mut self, origin: Origin, call: Call, plain: bool)
-        requires entry { vec_len self.old.units < vec_capacity self.old.units }
+        requires entry { deque_len self.old.units < deque_capacity self.old.units }
         requires unit { BlankAt self.old.spare }
         ensures known { known_in self.new ≡ put (known_in self.old) (record { 0 = next_in self.old }) (just_begun origin call plain) }
         ensures lines { self.new.lines ≡ self.old.lines }
@@ -141,8 +145,7 @@ impl UnitTable {
     {
         if let Some(mut unit) = self.spare.take() {
             unit.begin(origin, call, plain);
-            let done = self.units.push(UnitEntry::Running(unit));
-            prove!(done.is_ok());
+            self.units.push_back_reserved(UnitEntry::Running(unit));
         }
     }
 }

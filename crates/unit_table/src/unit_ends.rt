@@ -7,7 +7,7 @@ ghost use Rattle.core_model.specs.Changes.{without_wants};
 ghost use Rattle.core_model.specs.Tests.{is_running, is_over};
 ghost use Rattle.unit_table.specs.KnownUnits.{phase_at};
 ghost use Rattle.unit_table.specs.Parts.{units_over};
-ghost use Rattle.unit_table.specs.Table.{known_in, base_of, next_in, phase_in, deps_in, verdict_in, result_in, units_of, wants_in};
+ghost use Rattle.unit_table.specs.Table.{is_past, known_in, base_of, next_in, phase_in, deps_in, verdict_in, result_in, units_of, wants_in};
 ghost use Rattle.unit_table.specs.Rooms.{SameRest};
 
 use crate::entry::Ending;
@@ -61,9 +61,27 @@ impl UnitTable {
         ensures result { result_in self.new ≡ result_in self.old }
         ensures base { base_of self.new ≡ base_of self.old }
     {
+        if self.is_past(unit) {
+            self.set_past_verdict(unit, verdict);
+            return;
+        }
         let at = self.place(unit);
         let entry = &mut self.units[at];
         entry.set_verdict(verdict);
+    }
+
+    // A unit whose result has gone is decided.
+    fn set_past_verdict(&mut self, unit: UnitNo, verdict: Verdict)
+        requires { is_past self.old unit ≡ true }
+        ensures known { known_in self.new ≡ put (known_in self.old) unit (record (known_in self.old unit) { verdict = verdict }) }
+        ensures next { next_in self.new ≡ next_in self.old }
+        ensures lines { self.new.lines ≡ self.old.lines }
+        ensures wants { wants_in self.new ≡ wants_in self.old }
+        ensures rest { SameRest self.old self.new }
+    {
+        let at = (unit.0 - self.base) as usize;
+        let past = &mut self.past[at];
+        past.verdict = verdict;
     }
 
     // A running unit comes to its end, and waits for no grain. Its dependencies are handed out.

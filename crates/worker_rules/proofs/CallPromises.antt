@@ -1,6 +1,6 @@
 -- Calls of an access, and a promise of the own entries.
 use Rattle.std.proofs.Common.{◌≡◌, ◌⊎◌, ⊎_elim, inl, inr, List, [], ◌∷◌, ◌++◌, Bool, true, false, true≢false, refl, sym, ap, ◌∙◌, subst}
-use Rattle.std.specs.Prelude.{◌&&◌, not}
+use Rattle.std.specs.Prelude.{not}
 use Rattle.core_model.specs.CoreState.{UnitNo}
 use Rattle.core_model.specs.declared.events.CoreEvent.{CoreEvent}
 use Rattle.core_model.specs.declared.events.CoreEvent.TheVariants.{Bad, Begin, Grant, Refuse, Finish, EndPlain, EndSnapshot, Release, Take, Vote, Decide, Sealed, NotSealed, Doubt, Learn, Emitted, Halt, Want, Load}
@@ -9,41 +9,31 @@ use Rattle.core_model.specs.declared.events.CoreReply.TheVariants.{Began}
 use Rattle.core_model.specs.LegalRuns.{Run}
 use Rattle.turn_cell.specs.History.{In, entries_of, entry}
 use Rattle.turn_cell.proofs.Lists.{in_left, in_append}
-use Rattle.turn_cell.proofs.Histories.{in_entries}
 use Rattle.core_access.specs.Sights.{Sight, run_seen, saw, Looks, Tells, IsAlone}
 use Rattle.core_access.specs.SettlerEvents.{is_settling}
 use Rattle.promise_spec.specs.UnitRule.{Basis}
 use Rattle.turn_rules.specs.NextEvent.{MayCome, is_own}
-use Rattle.worker_rules.specs.SharedHistories.{Told, is_load, NoneLoads, OwnsUnits, Quiet}
+use Rattle.worker_rules.specs.SharedHistories.{Told, OwnsUnits, Quiet}
 use Rattle.worker_rules.specs.UnitOwnership.{leaves_unit, BeganHere, KeepsPromise}
 use Rattle.worker_rules.proofs.OwnEntries.{promise-sees, promise-adds}
 
--- what is harmless to a unit is none of its own, and loads nothing
-pub leaves-is : (u : UnitNo) (e : CoreEvent) → leaves_unit u e ≡ true → (is_own u e ≡ false) × (is_load e ≡ false)
-leaves-is u e = by (is_own u e) (is_load e)
+-- what is harmless to a unit is none of its own
+pub leaves-is : (u : UnitNo) (e : CoreEvent) → leaves_unit u e ≡ true → is_own u e ≡ false
+leaves-is u e = by (is_own u e)
   where
-    by : (a b : Bool) → (not a && not b) ≡ true → (a ≡ false) × (b ≡ false)
-    by true b q = absurd (true≢false (sym q))
-    by false true q = absurd (true≢false (sym q))
-    by false false q = (refl, refl)
+    by : (a : Bool) → not a ≡ true → a ≡ false
+    by true q = absurd (true≢false (sym q))
+    by false q = refl
 
 -- and the other way
-pub is-harmless : (u : UnitNo) (e : CoreEvent) → is_own u e ≡ false → is_load e ≡ false → leaves_unit u e ≡ true
-is-harmless u e = by (is_own u e) (is_load e)
-  where
-    by : (a b : Bool) → a ≡ false → b ≡ false → (not a && not b) ≡ true
-    by true b p q = absurd (true≢false p)
-    by false true p q = absurd (true≢false q)
-    by false false p q = refl
+pub is-harmless : (u : UnitNo) (e : CoreEvent) → is_own u e ≡ false → leaves_unit u e ≡ true
+is-harmless u e q = ap not q
 
 -- ---- alone with a unit
 
 -- nothing is heard of it
-pub alone-quiet : (u : UnitNo) (s : Sight) → NoneLoads s.mine → IsAlone (leaves_unit u) s → Quiet s.number u s.seen
-alone-quiet u s plain a x i = ⊎_elim
-    (λ (own : x.by ≡ s.number). ((λ o. own), plain x (subst (In x) a.own (in_entries s.seen s.number x (sym own) i))))
-    (λ (ok : leaves_unit u x.event ≡ true). (let p = leaves-is u x.event ok in ((λ o. absurd (true≢false (sym o ∙ p.0))), p.1)))
-    (a.others x i)
+pub alone-quiet : (u : UnitNo) (s : Sight) → IsAlone (leaves_unit u) s → Quiet s.number u s.seen
+alone-quiet u s a x i o = ⊎_elim (λ (own : x.by ≡ s.number). own) (λ (ok : leaves_unit u x.event ≡ true). absurd (true≢false (sym o ∙ leaves-is u x.event ok))) (a.others x i)
 
 -- where nothing is heard, one is alone
 pub quiet-alone : (u : UnitNo) (s : Sight) → Quiet s.number u s.seen → entries_of s.number s.seen ≡ s.mine → IsAlone (leaves_unit u) s
@@ -53,18 +43,14 @@ quiet-alone u s quiet is = record {
 }
   where
     by : (x : Told) → In x s.seen → (o : Bool) → is_own u x.event ≡ o → (x.by ≡ s.number) ⊎ (leaves_unit u x.event ≡ true)
-    by x i true o = inl ((quiet x i).0 o)
-    by x i false o = inr (is-harmless u x.event o (quiet x i).1)
+    by x i true o = inl (quiet x i o)
+    by x i false o = inr (is-harmless u x.event o)
 
 -- ---- the promise
 
 -- one who looks keeps it
 pub looks-promise : (b : Basis) (may : CoreEvent → Bool) (s t : Sight) → Looks may s t → KeepsPromise b s → KeepsPromise b t
 looks-promise b may s t l p = subst (KeepsPromise b) (sym l.sight) (promise-sees (MayCome b) s.first s.number s.seen l.rest s.mine p)
-
--- nothing is loaded by one more
-none-loads-more : (mine : List Told) (x : Told) → NoneLoads mine → is_load x.event ≡ false → NoneLoads (mine ++ (x ∷ []))
-none-loads-more mine x all one e i = ⊎_elim (λ j. all e j) (λ j. ⊎_elim (λ (t : e ≡ x). ap (λ (z : Told). is_load z.event) t ∙ one) (λ k. absurd k) j) (in_append e mine (x ∷ []) i)
 
 -- one entry more is of units that began before it
 owns-more : (mine : List Told) (x : Told) → OwnsUnits mine → ((u : UnitNo) → is_own u x.event ≡ true → (b : Told) × In b mine × (b.reply ≡ Began u)) → OwnsUnits (mine ++ (x ∷ []))
@@ -74,14 +60,13 @@ owns-more mine x owns new e u i own = ⊎_elim
     (in_append e mine (x ∷ []) i)
 
 -- one who puts such an event keeps it
-pub tells-promise : (b : Basis) (may : CoreEvent → Bool) (s t : Sight) (e : CoreEvent) (r : CoreReply) (l : Tells may s e r t) → is_load e ≡ false
+pub tells-promise : (b : Basis) (may : CoreEvent → Bool) (s t : Sight) (e : CoreEvent) (r : CoreReply) (l : Tells may s e r t)
     → ((u : UnitNo) → is_own u e ≡ true → BeganHere u s)
     → (((u : UnitNo) → is_own u e ≡ true → IsAlone (leaves_unit u) (saw s l.rest)) → MayCome b (run_seen (saw s l.rest)) e)
     → KeepsPromise b s → KeepsPromise b t
-tells-promise b may s t e r l plain began due p = subst (KeepsPromise b) (sym l.sight)
+tells-promise b may s t e r l began due p = subst (KeepsPromise b) (sym l.sight)
     (promise-adds (MayCome b) s.first s.number s.seen l.rest s.mine e r p
     (λ is quiet. due (λ u own. quiet-alone u (saw s l.rest) (quiet u own) is))
-    (none-loads-more s.mine (entry s.number e r) p.plain plain)
     (owns-more s.mine (entry s.number e r) p.owns began))
 
 -- ---- the settler's events
@@ -108,16 +93,16 @@ settling-none Halt q u = absurd (true≢false (sym q))
 settling-none (Want v g) q u = absurd (true≢false (sym q))
 settling-none (Load g v state) q u = absurd (true≢false (sym q))
 
--- they load nothing, and may come anywhere
-settling-due : (b : Basis) (run : Run) (e : CoreEvent) → is_settling e ≡ true → (is_load e ≡ false) × MayCome b run e
-settling-due b run Take q = (refl, (λ a. tt))
-settling-due b run (Vote n g kept) q = (refl, (λ a. tt))
-settling-due b run (Decide n) q = (refl, (λ a. tt))
-settling-due b run (Sealed n) q = (refl, (λ a. tt))
-settling-due b run (NotSealed n) q = (refl, (λ a. tt))
-settling-due b run (Doubt n) q = (refl, (λ a. tt))
-settling-due b run (Learn v g) q = (refl, (λ a. tt))
-settling-due b run Emitted q = (refl, (λ a. tt))
+-- they may come anywhere
+settling-due : (b : Basis) (run : Run) (e : CoreEvent) → is_settling e ≡ true → MayCome b run e
+settling-due b run Take q = λ a. tt
+settling-due b run (Vote n g kept) q = λ a. tt
+settling-due b run (Decide n) q = λ a. tt
+settling-due b run (Sealed n) q = λ a. tt
+settling-due b run (NotSealed n) q = λ a. tt
+settling-due b run (Doubt n) q = λ a. tt
+settling-due b run (Learn v g) q = λ a. tt
+settling-due b run Emitted q = λ a. tt
 settling-due b run (Bad n why) q = absurd (true≢false (sym q))
 settling-due b run (Begin origin call plain) q = absurd (true≢false (sym q))
 settling-due b run (Grant v g mode) q = absurd (true≢false (sym q))
@@ -133,6 +118,6 @@ settling-due b run (Load g v state) q = absurd (true≢false (sym q))
 -- so one who puts them keeps the promise
 pub settles-promise : (b : Basis) (may : CoreEvent → Bool) (s t : Sight) (e : CoreEvent) (r : CoreReply) → Tells may s e r t → is_settling e ≡ true → KeepsPromise b s → KeepsPromise b t
 settles-promise b may s t e r l q p =
-    tells-promise b may s t e r l (settling-due b (run_seen (saw s l.rest)) e q).0
+    tells-promise b may s t e r l
     (λ u own. absurd (true≢false (sym own ∙ settling-none e q u)))
-    (λ alone. (settling-due b (run_seen (saw s l.rest)) e q).1) p
+    (λ alone. settling-due b (run_seen (saw s l.rest)) e q) p

@@ -3,3 +3,7 @@ pub mod OwnEntries
 pub mod WholeHistories
 pub mod CallPromises
 pub mod Workers
+pub mod JoinedPasses
+pub mod Growth
+pub mod JoinedHistories
+pub mod Closes

@@ -7,7 +7,7 @@ use Rattle.core_model.specs.LegalRuns.{Run}
 use Rattle.turn_cell.specs.History.{In, entries_of, same_number, entry}
 use Rattle.turn_cell.proofs.Lists.{in_right}
 use Rattle.core_access.proofs.Entries.{entries-append, entries-single, nothing, not-nothing, front-of, rest-of, ends-same}
-use Rattle.worker_rules.specs.SharedHistories.{Told, OwnsUnits, NoneLoads, IsDueBehind, AllDue, Promised, Keeps}
+use Rattle.worker_rules.specs.SharedHistories.{Told, OwnsUnits, IsDueBehind, AllDue, Promised, Keeps}
 
 -- an entry of the number is one of the whole list
 pub of-log : (n : List ℕ) (log : List Told) (e : Told) → In e (entries_of n log) → In e log × (same_number n e.by ≡ true)
@@ -60,7 +60,6 @@ module _ (Due : Run → CoreEvent → Type 0) (first : Run) (n : List ℕ) where
   pub promise-sees : (seen more mine : List Told) → Promised Due first n seen mine → Promised Due first n (seen ++ more) mine
   promise-sees seen more mine p = record {
     owns = p.owns;
-    plain = p.plain;
     some = (let s = p.some in let a = ap (length {A = Told}) (entries-append n seen more) in omega (arith, s, a, length-append (entries_of n seen) (entries_of n more)));
     due = λ is.
         let a = ap (length {A = Told}) (sym (entries-append n seen more) ∙ is) in
@@ -73,16 +72,14 @@ module _ (Due : Run → CoreEvent → Type 0) (first : Run) (n : List ℕ) where
   -- and then an entry of the number was put, which is due there and of a unit that began
   pub promise-adds : (seen more mine : List Told) (e : CoreEvent) (r : CoreReply) → Promised Due first n seen mine
       → (entries_of n (seen ++ more) ≡ mine → IsDueBehind Due first n (seen ++ more) (entry n e r))
-      → NoneLoads (mine ++ (entry n e r ∷ []))
       → OwnsUnits (mine ++ (entry n e r ∷ []))
       → Promised Due first n ((seen ++ more) ++ (entry n e r ∷ [])) (mine ++ (entry n e r ∷ []))
-  promise-adds seen more mine e r p one plain owns =
+  promise-adds seen more mine e r p one owns =
       let now = promise-sees seen more mine p in
       let new : Told = entry n e r in
       let single : entries_of n (new ∷ []) ≡ new ∷ [] = entries-single n e r in
       let whole : entries_of n ((seen ++ more) ++ (new ∷ [])) ≡ entries_of n (seen ++ more) ++ (new ∷ []) = entries-append n (seen ++ more) (new ∷ []) ∙ ap (λ (l : List Told). entries_of n (seen ++ more) ++ l) single in record {
         owns = owns;
-        plain = plain;
         some = (let s = now.some in let a = ap (length {A = Told}) whole in omega (arith, s, a, length-append mine (new ∷ []), length-append (entries_of n (seen ++ more)) (new ∷ [])));
         due = λ is.
             let same : entries_of n (seen ++ more) ≡ mine = ends-same (entries_of n (seen ++ more)) mine new (sym whole ∙ is) in
@@ -93,7 +90,6 @@ module _ (Due : Run → CoreEvent → Type 0) (first : Run) (n : List ℕ) where
   pub promise-none : (seen : List Told) → Promised Due first n seen []
   promise-none seen = record {
     owns = λ e u i own. absurd i;
-    plain = λ e i. absurd i;
     some = omega arith;
     due = λ is before e rest q by. absurd (not-nothing n seen e (subst (In e) (sym q) (in-middle before e rest)) (sym by) is);
   }

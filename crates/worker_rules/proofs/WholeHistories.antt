@@ -10,7 +10,7 @@ use Rattle.turn_cell.proofs.Names.{decide, same_else}
 use Rattle.turn_cell.proofs.Lists.{in_left, in_right}
 use Rattle.turn_cell.proofs.Histories.{in_entries}
 use Rattle.turn_rules.specs.NextEvent.{with_event, is_own}
-use Rattle.worker_rules.specs.SharedHistories.{Told, run_after, is_load, IsTrue, AllPromise, IsRuled}
+use Rattle.worker_rules.specs.SharedHistories.{Told, run_after, IsTrue, AllPromise, IsRuled}
 use Rattle.worker_rules.specs.UnitOwnership.{leaves_unit}
 use Rattle.worker_rules.proofs.Numbers.{begins-once}
 use Rattle.worker_rules.proofs.CallPromises.{is-harmless}
@@ -42,17 +42,13 @@ module _ (Due : Run → CoreEvent → Type 0) (first : Run) (log : List Told) (l
       here : (g : Told) → In g log → In g (entries_of g.by log)
       here g h = in_entries log g.by g refl h
 
-  -- and none is a load
-  no-load : (f : Told) → In f log → is_load f.event ≡ false
-  no-load f k = (let p = all f k in p.2.promise.plain f (subst (In f) p.1 (in_entries log f.by f refl k)))
-
   -- so each event is due at its place
   pub all-ruled : IsRuled Due first log
   all-ruled before e rest q =
       let i : In e log = subst (In e) (sym q) (in_right e before (e ∷ rest) (inl refl)) in
       let p = all e i in
       due-whole Due first e.by log p.0 p.2 p.1 before e rest q refl
-      (λ u own f j. let k = subst (In f) (sym q) (in_left f before (e ∷ rest) j) in ((λ own'. one-number e f u i k own own'), no-load f k))
+      (λ u own f j. let k = subst (In f) (sym q) (in_left f before (e ∷ rest) j) in (λ own'. one-number e f u i k own own'))
 
   -- one who began a unit is alone with it
   pub alone-with : (number : List ℕ) (mine : List Told) (u : UnitNo) → entries_of number log ≡ mine → (y : Told) → In y mine → y.reply ≡ Began u
@@ -70,7 +66,7 @@ module _ (Due : Run → CoreEvent → Type 0) (first : Run) (log : List Told) (l
           let here = of-log number log y (subst (In y) (sym is) j) in
           let same : b.0 ≡ y = begins-once log first b.0 y u legal there.0 here.0 b.2 began in
           inl (same-is x.by b.0.by there.1 ∙ (ap (λ (z : Told). z.by) same ∙ sym (same-is number y.by here.1)))
-      by x i false own = inr (is-harmless u x.event own (no-load x i))
+      by x i false own = inr (is-harmless u x.event own)
 
 -- what the first run keeps, and each event that is due keeps, the last run keeps
 pub rule-on : (Due : Run → CoreEvent → Type 0) (Rule : Run → Type 0) → ((r : Run) (e : CoreEvent) → Rule r → Due r e → Rule (with_event r e)) → (first : Run) (log : List Told) → IsRuled Due first log → Rule first → Rule (run_after first log)

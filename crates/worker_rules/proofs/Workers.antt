@@ -1,10 +1,10 @@
 -- What a worker puts is none of the settler's events, no stop and no load.
-use Rattle.std.proofs.Common.{◌≡◌, Bool, true, false, true≢false, refl, sym, ap, ◌∙◌}
+use Rattle.std.proofs.Common.{◌≡◌, List, true, false, true≢false, refl, sym, ap, ◌∙◌}
 use Rattle.base_types.specs.declared.calls.Origin.TheVariants.{Line, Child}
 use Rattle.core_model.specs.declared.events.CoreEvent.{CoreEvent}
 use Rattle.core_model.specs.declared.events.CoreEvent.TheVariants.{Bad, Begin, Grant, Refuse, Finish, EndPlain, EndSnapshot, Release, Take, Vote, Decide, Sealed, NotSealed, Doubt, Learn, Emitted, Halt, Want, Load}
+use Rattle.core_model.specs.CoreState.{UnitNo, GrainId, Value}
 use Rattle.core_access.specs.SettlerEvents.{is_settling}
-use Rattle.worker_rules.specs.SharedHistories.{is_load}
 use Rattle.worker_rules.specs.Work.{is_work}
 
 -- an event of the settler's is no worker's
@@ -35,24 +35,5 @@ pub work-stops : (e : CoreEvent) → is_work e ≡ true → e ≡ Halt → ⊥
 work-stops e q is = true≢false (sym q ∙ ap is_work is)
 
 -- nor is a load
-pub work-loads : (e : CoreEvent) → is_work e ≡ true → is_load e ≡ false
-work-loads (Bad line why) q = refl
-work-loads (Begin (Line n) call plain) q = refl
-work-loads (Begin (Child parent index depth) call plain) q = refl
-work-loads (Grant u g mode) q = refl
-work-loads (Refuse u g mode) q = refl
-work-loads (Finish u effect) q = refl
-work-loads (EndPlain u effect) q = refl
-work-loads (EndSnapshot u at outcome) q = refl
-work-loads (Release u g) q = refl
-work-loads Take q = refl
-work-loads (Vote n g kept) q = refl
-work-loads (Decide n) q = refl
-work-loads (Sealed n) q = refl
-work-loads (NotSealed n) q = refl
-work-loads (Doubt n) q = refl
-work-loads (Learn u g) q = refl
-work-loads Emitted q = refl
-work-loads Halt q = refl
-work-loads (Want u g) q = refl
-work-loads (Load g u state) q = absurd (true≢false (sym q))
+pub work-loads : (e : CoreEvent) (g : GrainId) (u : UnitNo) (state : List Value) → is_work e ≡ true → e ≡ Load g u state → ⊥
+work-loads e g u state q is = true≢false (sym q ∙ ap is_work is)

@@ -1,3 +1,5 @@
 pub mod SharedHistories
 pub mod UnitOwnership
 pub mod Work
+pub mod JoinedPasses
+pub mod ClosedCore

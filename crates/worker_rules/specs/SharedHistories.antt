@@ -1,30 +1,20 @@
 -- What those who share a core promise of the events that they put, and what that gives for the whole history.
-use Rattle.std.specs.Prelude.{◌≡◌, ℕ, ◌≤◌, Bool, true, false, List, ◌∷◌, ◌++◌, length}
+use Rattle.std.specs.Prelude.{◌≡◌, ℕ, ◌≤◌, true, List, ◌∷◌, ◌++◌, length}
 use Rattle.core_model.specs.CoreState.{UnitNo}
 use Rattle.core_model.specs.declared.events.CoreEvent.{CoreEvent}
-use Rattle.core_model.specs.declared.events.CoreEvent.TheVariants.{Load}
 use Rattle.core_model.specs.declared.events.CoreReply.TheVariants.{Began}
 use Rattle.core_model.specs.LegalRuns.{Run}
 use Rattle.turn_rules.specs.NextEvent.{is_own}
 use Rattle.turn_cell.specs.History.{In, entries_of, StartsWith}
 pub use Rattle.core_access.specs.Histories.{Told, reply_in, run_after, IsTrue}
 
--- a grain is loaded
-abbrev pub is_load : CoreEvent → Bool
-is_load (Load g u state) = true
-is_load _ = false
-
 -- each event of a unit is of one that began by an entry of the same list
 abbrev pub OwnsUnits : List Told → Type 0
 OwnsUnits mine = (e : Told) (u : UnitNo) → In e mine → is_own u e.event ≡ true → (b : Told) × In b mine × (b.reply ≡ Began u)
 
--- no grain was loaded by these
-abbrev pub NoneLoads : List Told → Type 0
-NoneLoads mine = (e : Told) → In e mine → is_load e.event ≡ false
-
--- no entry of another number is an event of the unit, and no grain was loaded
+-- no entry of another number is an event of the unit
 abbrev pub Quiet : List ℕ → UnitNo → List Told → Type 0
-Quiet n u seen = (e : Told) → In e seen → (is_own u e.event ≡ true → e.by ≡ n) × (is_load e.event ≡ false)
+Quiet n u seen = (e : Told) → In e seen → is_own u e.event ≡ true → e.by ≡ n
 
 -- Due says when an event may come behind a run: of the unit rule, `MayCome`.
 module _ (Due : Run → CoreEvent → Type 0) (first : Run) where
@@ -41,7 +31,6 @@ module _ (Due : Run → CoreEvent → Type 0) (first : Run) where
   -- the cell is closed.
   pub record Promised (n : List ℕ) (seen mine : List Told) : Type 0 where
     pub owns : OwnsUnits mine
-    pub plain : NoneLoads mine
     pub some : length mine ≤ length (entries_of n seen)
     pub due : entries_of n seen ≡ mine → AllDue n seen
 

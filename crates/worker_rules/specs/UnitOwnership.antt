@@ -1,5 +1,5 @@
 -- What one who reaches the core through an access may know of a unit, and promises of the own entries.
-use Rattle.std.specs.Prelude.{◌≡◌, Bool, ◌&&◌, not}
+use Rattle.std.specs.Prelude.{◌≡◌, Bool, not}
 use Rattle.core_model.specs.CoreState.{UnitNo}
 use Rattle.core_model.specs.declared.events.CoreEvent.{CoreEvent}
 use Rattle.core_model.specs.declared.events.CoreReply.TheVariants.{Began}
@@ -8,11 +8,11 @@ use Rattle.core_access.specs.Histories.{Told}
 use Rattle.core_access.specs.Sights.{Sight}
 use Rattle.promise_spec.specs.UnitRule.{Basis}
 use Rattle.turn_rules.specs.NextEvent.{MayCome, is_own}
-use Rattle.worker_rules.specs.SharedHistories.{is_load, Promised}
+use Rattle.worker_rules.specs.SharedHistories.{Promised}
 
--- the event is harmless to the unit: it isn't one of the unit's own, and loads no grain
+-- the event is harmless to the unit: it isn't one of the unit's own
 abbrev pub leaves_unit : UnitNo → CoreEvent → Bool
-leaves_unit u e = not (is_own u e) && not (is_load e)
+leaves_unit u e = not (is_own u e)
 
 -- the unit began by an entry of one's own
 abbrev pub BeganHere : UnitNo → Sight → Type 0

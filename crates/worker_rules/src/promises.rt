@@ -7,7 +7,7 @@ ghost use Rattle.core_model.specs.LegalRuns.{Run};
 ghost use Rattle.turn_cell.specs.History.{In, entry, entries_of};
 ghost use Rattle.promise_spec.specs.UnitRule.{Basis, KeepsUnitRule};
 ghost use Rattle.turn_rules.specs.NextEvent.{MayCome};
-ghost use Rattle.worker_rules.specs.SharedHistories.{Told, run_after, IsTrue, NoneLoads, OwnsUnits, IsDueBehind, Promised, AllPromise, IsRuled};
+ghost use Rattle.worker_rules.specs.SharedHistories.{Told, run_after, IsTrue, OwnsUnits, IsDueBehind, Promised, AllPromise, IsRuled};
 
 /// In a true history no two entries begin one unit.
 pub fn numbers_are_given_once()
@@ -15,9 +15,9 @@ pub fn numbers_are_given_once()
         → f.reply ≡ Began u → e ≡ f }
 {}
 
-/// Where each who puts events promises of its own that they are of units which it began, that none loads a grain, and that
-/// each is due at its place if no other puts events of these units, each event of the whole history is due at its place. So
-/// a run that keeps the unit rule keeps it behind the whole history.
+/// Where each who puts events promises of its own that they are of units which it began, and that each is due at its place if
+/// no other puts events of these units, each event of the whole history is due at its place. So a run that keeps the unit
+/// rule keeps it behind the whole history.
 pub fn promises_keep_the_rule()
     ensures ruled { (s : Basis) (first : Run) (log : List Told) → IsTrue first log → AllPromise (MayCome s) first log → IsRuled (MayCome s) first log }
     ensures rule { (s : Basis) (first : Run) (log : List Told) → IsTrue first log → AllPromise (MayCome s) first log → KeepsUnitRule s first
@@ -25,7 +25,7 @@ pub fn promises_keep_the_rule()
 {}
 
 /// The promise of one pass: it holds where nothing was put, and stays as more of the history is seen. It goes on by one more
-/// entry that is due at its place, if so, that loads nothing, and whose units the pass began.
+/// entry that is due at its place, if so, and whose units the pass began.
 pub fn promises_go_on()
     ensures none { (s : Basis) (first : Run) (number : List ℕ) (seen : List Told) → Promised (MayCome s) first number seen [] }
     ensures sees { (s : Basis) (first : Run) (number : List ℕ) (seen more mine : List Told) → Promised (MayCome s) first number seen mine
@@ -33,6 +33,6 @@ pub fn promises_go_on()
     ensures adds { (s : Basis) (first : Run) (number : List ℕ) (seen more mine : List Told) (e : CoreEvent) (r : CoreReply)
         → Promised (MayCome s) first number seen mine
         → (entries_of number (seen ++ more) ≡ mine → IsDueBehind (MayCome s) first number (seen ++ more) (entry number e r))
-        → NoneLoads (mine ++ (entry number e r ∷ [])) → OwnsUnits (mine ++ (entry number e r ∷ []))
+        → OwnsUnits (mine ++ (entry number e r ∷ []))
         → Promised (MayCome s) first number ((seen ++ more) ++ (entry number e r ∷ [])) (mine ++ (entry number e r ∷ [])) }
 {}

@@ -5,10 +5,10 @@ use Rattle.commit_log.proofs.Decoding.{found_body, only_body, within_body, if_ok
 use Rattle.commit_log.proofs.bodies.read_records.Goals as goal
 
 pub returns-clause-found : goal.returns-clause-found
-returns-clause-found c = if_ok (λ records. IsBlockBody Logged c.args.shape.now records c.args.body.now) c.get_body.result (found_body Logged c.args.shape.now c.args.body.now c.get_body.result c.get_body.ensures (λ i. omega (arith, c.type_inv.body i)))
+returns-clause-found c = if_ok (λ records. IsBlockBody c.args.format Logged c.args.shape.now records c.args.body.now) c.get_body.result (found_body c.args.format Logged c.args.shape.now c.args.body.now c.get_body.result c.get_body.ensures (λ i. omega (arith, c.type_inv.body i)))
 
 pub returns-clause-only : goal.returns-clause-only
-returns-clause-only c = only_body Logged c.args.shape.now c.args.body.now c.get_body.result c.get_body.ensures
+returns-clause-only c = only_body c.args.format Logged c.args.shape.now c.args.body.now c.get_body.result c.get_body.ensures
 
 pub returns-clause-within : goal.returns-clause-within
-returns-clause-within c = within_body Logged c.args.shape.now c.args.body.now c.get_body.result c.get_body.ensures (λ i. omega (arith, c.type_inv.body i))
+returns-clause-within c = within_body c.args.format Logged c.args.shape.now c.args.body.now c.get_body.result c.get_body.ensures (λ i. omega (arith, c.type_inv.body i))

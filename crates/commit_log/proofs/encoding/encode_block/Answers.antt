@@ -1,5 +1,6 @@
 use Rattle.std.proofs.Common.{rules, ◌<◌, ◌^◌, subst, ◌≡◌, ℕ, List, [], ◌∷◌, ◌++◌, length, ap, ◌∙◌}
 use Rattle.std.proofs.Math.Facts.{Fits-of_lt}
+use Rattle.field_codec.specs.declared.formats.Format.TheVariants.{One}
 use Rattle.commit_log.specs.declared.records.CommitRecord.{CommitRecord}
 use Rattle.commit_log.specs.Spelling.{spelling_of_body}
 use Rattle.commit_log.proofs.Lengths.{size_fits, body_short}
@@ -13,4 +14,4 @@ overflow_cast-size c =
 pub returns-clause-small : goal.returns-clause-small
 returns-clause-small c =
     let same : c.as_slice.result.now ≡ c.args.records.now = search rules in
-    subst (λ (rs : List CommitRecord). length (spelling_of_body rs) < 2 ^ 32) same (body_short c.as_slice.result.now c.in_ok-append_body.ensures.fits)
+    subst (λ (rs : List CommitRecord). length (spelling_of_body rs) < 2 ^ 32) same (body_short One c.as_slice.result.now c.in_ok-append_body.ensures.fits)

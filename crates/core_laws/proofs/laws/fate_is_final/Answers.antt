@@ -3,7 +3,7 @@ use Rattle.core_laws.proofs.laws.fate_is_final.Goals as goal
 
 pub returns : goal.returns
 returns c = record {
-  dead = λ plays r more l u d. dead-ends plays r more l u d;
-  known = λ plays r more l u o e. outcome-ends plays r more l u o e;
+  dead = λ r more above u d. dead-ends r more above u d;
+  known = λ r more above u o e. outcome-ends r more above u o e;
   either_way = λ plays r l. either-ends plays r l;
 }

@@ -4,6 +4,6 @@ use Rattle.core_laws.proofs.laws.holders_have_read.Goals as goal
 
 pub returns : goal.returns
 returns c = record {
-  read = λ plays r l. holders-ends plays r l;
-  keep = λ plays r more l. keeping-ends plays r more l;
+  read = λ r above. holders-ends r above;
+  keep = λ r more above. keeping-ends r more above;
 }

@@ -2,4 +2,4 @@ use Rattle.core_laws.proofs.LineEntries.{once-ends}
 use Rattle.core_laws.proofs.laws.lines_are_answered_once.Goals as goal
 
 pub returns : goal.returns
-returns c = λ plays r l. once-ends plays r l
+returns c = λ r above. once-ends r above

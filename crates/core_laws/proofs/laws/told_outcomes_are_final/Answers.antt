@@ -4,5 +4,5 @@ use Rattle.core_laws.proofs.laws.told_outcomes_are_final.Goals as goal
 pub returns : goal.returns
 returns c = record {
   told = λ plays r l. told-ends plays r l;
-  lines = λ plays r l none. lines-ends plays r l none;
+  lines = λ r above none. lines-ends r above none;
 }

@@ -9,4 +9,4 @@ returns-clause-exact g c told =
     let fields : fields_in c.args.shape.now c.args.file ≡ Some c.in-Some.fields = search rules in
     let there : (place.len ≤ length seen - place.offset) × (c.in-Some-2.text.items ≡ take place.len (drop place.offset seen)) = search rules in
     let here : IsTextAt place seen c.deref.result.now = record { within = there.0; bytes = c.deref.ensures.value ∙ there.1 } in
-    ap (λ (o : Option ℕ). owned_version o c.args.unit place seen) fields ∙ c.in_ok-version.ensures.exact seen here
+    ap (λ (o : Option ℕ). owned_version c.args.format o c.args.unit place seen) fields ∙ c.in_ok-version.ensures.exact seen here

@@ -3,7 +3,7 @@ use Rattle.core_model.specs.CoreState.{UnitNo, Decision, Entry, Units, put}
 use Rattle.core_model.specs.declared.phases.Verdict.{Verdict}
 use Rattle.cell_model.specs.declared.outcomes.Decision.TheVariants.{Commit}
 use Rattle.core_model.specs.Tests.{is_over}
-use Rattle.core_lists.specs.States.{last_in, has_place}
+use Rattle.core_parts.specs.States.{last_in, has_place}
 use Rattle.open_batch.specs.declared.members.FinishedUnit.{FinishedUnit}
 use Rattle.open_batch.specs.Members.{effect_in}
 use Rattle.unit_table.specs.Table.{verdict_in, phase_in}

@@ -3,7 +3,7 @@ use Rattle.std.specs.Prelude.{Option, ℕ}
 use Rattle.base_types.specs.declared.calls.UnitNo.{UnitNo}
 use Rattle.base_types.specs.declared.calls.GrainId.{GrainId}
 use Rattle.core_model.specs.Tests.{is_over}
-use Rattle.core_lists.specs.States.{last_in, has_place}
+use Rattle.core_parts.specs.States.{last_in, has_place}
 use Rattle.open_batch.specs.Members.{effect_in}
 use Rattle.unit_table.specs.Table.{units_of, verdict_in, result_in, phase_in}
 use Rattle.history_core.specs.Fronts.{ends_as, verdicts_after, entries_after, pairs_after, last_after, writes_after, AreOver, PlacedAfter}

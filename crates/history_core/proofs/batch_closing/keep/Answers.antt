@@ -1,7 +1,7 @@
 use Rattle.std.proofs.Common.{◌≡◌, ◌∙◌, ◌++◌, ◌∷◌, [], sym, ap, subst, List}
 use Rattle.core_model.specs.CoreState.{Write, GrainId}
 use Rattle.core_model.specs.Tests.{state_written}
-use Rattle.core_lists.specs.States.{last_in, has_place}
+use Rattle.core_parts.specs.States.{last_in, has_place}
 use Rattle.history_core.specs.ClosedUnits.{ArePlaced, or_else}
 use Rattle.history_core.proofs.Loops.{placed-last, placed-more, written-last, last-put}
 use Rattle.history_core.proofs.batch_closing.keep.Goals as goal

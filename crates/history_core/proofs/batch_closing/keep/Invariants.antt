@@ -1,6 +1,6 @@
 use Rattle.std.proofs.Common.{◌≡◌, length}
 use Rattle.base_types.specs.declared.calls.GrainId.{GrainId}
-use Rattle.core_lists.specs.States.{last_in, has_place, KeepsPlaces}
+use Rattle.core_parts.specs.States.{last_in, has_place, KeepsPlaces}
 use Rattle.core_model.specs.Tests.{state_written}
 use Rattle.history_core.specs.ClosedUnits.{ArePlaced, or_else}
 use Rattle.history_core.proofs.batch_closing.keep.Given as goal

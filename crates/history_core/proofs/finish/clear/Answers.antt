@@ -1,6 +1,6 @@
 use Rattle.std.proofs.Common.{◌≡◌, ◌∙◌, sym, ap, None, drop, ◌+◌, ◌∷◌, List}
 use Rattle.core_model.specs.declared.effects.Read.{Read}
-use Rattle.core_lists.specs.States.{handed_in}
+use Rattle.core_parts.specs.States.{handed_in}
 use Rattle.history_core.specs.HandedWrites.{cleared}
 use Rattle.history_core.proofs.Loops.{drop-at, puts-is}
 use Rattle.history_core.proofs.finish.clear.Goals as goal

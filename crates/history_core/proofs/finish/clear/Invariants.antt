@@ -1,7 +1,7 @@
 use Rattle.std.proofs.Common.{◌≡◌, drop}
 use Rattle.base_types.specs.declared.calls.UnitNo.{UnitNo}
 use Rattle.base_types.specs.declared.calls.GrainId.{GrainId}
-use Rattle.core_lists.specs.States.{handed_in}
+use Rattle.core_parts.specs.States.{handed_in}
 use Rattle.history_core.specs.HandedWrites.{cleared}
 use Rattle.history_core.proofs.finish.clear.Given as goal
 

@@ -1,6 +1,6 @@
 use Rattle.std.proofs.Common.{◌≡◌, ◌∙◌, sym, ap, Some, drop, ◌+◌, ◌-◌, ◌∷◌, List, arith}
 use Rattle.core_model.specs.CoreState.{Write}
-use Rattle.core_lists.specs.States.{handed_in}
+use Rattle.core_parts.specs.States.{handed_in}
 use Rattle.history_core.specs.HandedWrites.{with_writes, put_handed}
 use Rattle.history_core.proofs.Loops.{drop-at, puts-is}
 use Rattle.history_core.proofs.finish.hand.Goals as goal

@@ -1,7 +1,7 @@
 use Rattle.std.proofs.Common.{◌≡◌, ◌∙◌, ◌≤◌, ◌<◌, sym, ap, arith, length, List}
 use Rattle.base_types.specs.declared.calls.UnitNo.{UnitNo}
 use Rattle.base_types.specs.declared.calls.GrainId.{GrainId}
-use Rattle.core_lists.specs.Pairs.{other_pairs, without_first}
+use Rattle.core_parts.specs.Pairs.{other_pairs, without_first}
 use Rattle.history_core.proofs.Learns.{other-first, first-shorter, no-pair}
 use Rattle.history_core.proofs.learn.forget.Goals as goal
 

@@ -1,5 +1,5 @@
 use Rattle.std.proofs.Common.{◌≡◌, ◌≤◌, length}
-use Rattle.core_lists.specs.Pairs.{other_pairs}
+use Rattle.core_parts.specs.Pairs.{other_pairs}
 use Rattle.history_core.proofs.learn.forget.Given as goal
 
 abbrev pub decreases-loop-unit : goal.decreases-loop-unit

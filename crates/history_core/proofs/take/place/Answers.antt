@@ -1,6 +1,6 @@
 use Rattle.std.proofs.Common.{◌≡◌, ◌∙◌, sym, subst}
 use Rattle.core_model.specs.CoreState.{Write}
-use Rattle.core_lists.specs.States.{has_place}
+use Rattle.core_parts.specs.States.{has_place}
 use Rattle.history_core.specs.ClosedUnits.{ArePlaced}
 use Rattle.history_core.proofs.Loops.{drop-at, drop-end}
 use Rattle.history_core.proofs.take.place.Goals as goal

@@ -1,6 +1,6 @@
 use Rattle.std.proofs.Common.{◌≡◌, ◌∙◌, sym, subst, ap}
 use Rattle.core_model.specs.CoreState.{Write}
-use Rattle.core_lists.specs.States.{has_place}
+use Rattle.core_parts.specs.States.{has_place}
 use Rattle.open_batch.specs.declared.members.FinishedUnit.{FinishedUnit}
 use Rattle.history_core.specs.ClosedUnits.{ArePlaced}
 use Rattle.history_core.specs.KeptParts.{AllPlaced}

@@ -1,6 +1,6 @@
 use Rattle.std.proofs.Common.{◌≡◌, drop, true, Bool}
 use Rattle.base_types.specs.declared.calls.GrainId.{GrainId}
-use Rattle.core_lists.specs.States.{last_in, has_place, KeepsPlaces}
+use Rattle.core_parts.specs.States.{last_in, has_place, KeepsPlaces}
 use Rattle.history_core.specs.KeptParts.{AllPlaced}
 use Rattle.history_core.proofs.take.place_all.Given as goal
 

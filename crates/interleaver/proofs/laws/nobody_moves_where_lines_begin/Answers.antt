@@ -1,4 +1,4 @@
-use Rattle.interleaver.proofs.RunContinuation.{nobody-moves}
+use Rattle.interleaver.proofs.RunStart.{nobody-moves}
 use Rattle.interleaver.proofs.laws.nobody_moves_where_lines_begin.Goals as goal
 
 pub returns : goal.returns

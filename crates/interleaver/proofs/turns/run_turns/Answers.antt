@@ -30,7 +30,7 @@ pub loop-turn-init : goal.loop-turn-init
 loop-turn-init g c = record {
   units = record {
     carried = subst (λ (l : List Agent). AreCarried (program_tree c.args.checked.now) none_comes (own_sight (run_of c.args.core.now)) l) (sym c.new.ensures)
-        (none-carried (program_tree c.args.checked.now) (run_of c.args.core.now) c.requires.legal c.requires.loads);
+        (none-carried (program_tree c.args.checked.now) (run_of c.args.core.now) c.requires.above);
     looked = tt;
     freed = tt;
   };

@@ -3,18 +3,17 @@ use Rattle.base_types.specs.declared.shapes.Shape.{Shape}
 use Rattle.host_trait.specs.declared.channels.Channel.{Channel}
 use Rattle.host_trait.specs.Disk.{settled}
 use Rattle.host_trait.specs.World.{Disk, Image}
-use Rattle.host_trait.specs.Runs.{RunsOnFile}
 use Rattle.host_trait.proofs.Counts.{none_then}
+use Rattle.field_codec.specs.declared.formats.Format.TheVariants.{One}
 use Rattle.log_reading.specs.Blocks.{records_in_file}
 use Rattle.host_trait.specs.declared.channels.FileId.TheVariants.{Manager}
 use Rattle.log_reading.specs.Steps.{seen_in}
 use Rattle.script_tree.specs.Programs.{program_tree}
 use Rattle.silo_spec.specs.Slots.{IsLive}
 use Rattle.silo_opening.specs.Counts.{OpenFaulted}
-use Rattle.silo_opening.specs.OpenedSilo.{Stays, ending_of}
+use Rattle.silo_opening.specs.OpenedSilo.{ending_of}
 use Rattle.silo_opening.specs.declared.faults.OpenFault.{OpenFault}
-use Rattle.silo_opening.proofs.OpeningSteps.{seen_same}
-use Rattle.silo_opening.proofs.Runs.{run_only_asked}
+use Rattle.silo_opening.proofs.OpeningCalls.{opens_same, opens_and_asked}
 use Rattle.promise_spec.specs.Programs.{shape_in}
 use Rattle.promise_spec.specs.Records.{Commit}
 use Rattle.promise_spec.specs.Entries.{Log, new_log, grown, records_of}
@@ -39,10 +38,10 @@ returns-in-Ok-replay_log-clause-audited g c told =
     let image = seen_in old.disk in
     let o = c.in-Ok.ensures.opened told in
     let p = program_opened image opened o in
-    let same : seen_in mid.disk ≡ image = seen_same _ old mid (c.in-Ok.ensures.run told) in
+    let same : seen_in mid.disk ≡ image = opens_same _ old mid (c.in-Ok.ensures.only told) in
     let shape : c.in-Ok-shape.shape ≡ shape_in p = (λ i. record { types = c.in-Ok-shape.ensures i }) in
     let whole = parts image opened o in
-    let read : records_in_file c.in-Ok-shape.shape ((mid.disk (Manager opened.slot)).seen) ≡ Ok whole.records = (λ i. records_in_file (shape i) (same i (Manager opened.slot))) ∙ whole.read in
+    let read : records_in_file One c.in-Ok-shape.shape ((mid.disk (Manager opened.slot)).seen) ≡ Ok whole.records = (λ i. records_in_file One (shape i) (same i (Manager opened.slot))) ∙ whole.read in
     let bad = c.in-Ok-replay_log.first_bad in
     let commits : List Commit = map (commit_of opened.slot (shape_in p) image) whole.records in
     let seen : as_commits opened.slot c.in-Ok-shape.shape (seen_in mid.disk) whole.records ≡ commits = (λ i. as_commits opened.slot (shape i) (same i) whole.records) in
@@ -69,33 +68,11 @@ returns-in-Ok-replay_log-clause-settled g c told live is =
 pub returns-in-Ok-replay_log-clause-calm : goal.returns-in-Ok-replay_log-clause-calm
 returns-in-Ok-replay_log-clause-calm g c = none_then _ _ _ c.in-Ok.ensures.calm c.in-Ok-replay_log.ensures.calm
 
-pub returns-in-Ok-replay_log-clause-run : goal.returns-in-Ok-replay_log-clause-run
-returns-in-Ok-replay_log-clause-run g c told live is =
-    let old = g.H.Host.world c.args.host.now in
-    let new = g.H.Host.world c.replay_log.new.host in
-    let opened = c.in-Ok.opened in
-    let o = c.in-Ok.ensures.opened told in
-    let read : IsLive magic opened.slot (seen_in old.disk) = reads_is_live (seen_in old.disk) opened.slot o.log o.reads in
-    let here : RunsOnFile (Manager opened.slot) Stays 1 old new = run_only_asked _ _ _ _ _ _ (c.in-Ok.ensures.run told) (c.replay_log.ensures.asked told) in
-    subst (λ (slot : ℕ). RunsOnFile (Manager slot) Stays 1 old new) (read.slot ∙ sym is.slot) here
+pub returns-in-Ok-replay_log-clause-only : goal.returns-in-Ok-replay_log-clause-only
+returns-in-Ok-replay_log-clause-only g c told = opens_and_asked _ _ _ _ (c.in-Ok.ensures.only told) (c.replay_log.ensures.asked told)
 
-pub returns-in-Err-shape-clause-looked : goal.returns-in-Err-shape-clause-looked
-returns-in-Err-shape-clause-looked g c told =
-    let old = g.H.Host.world c.args.host.now in
-    let opened = c.in-Ok.opened in
-    let o = c.in-Ok.ensures.opened told in
-    let read : IsLive magic opened.slot (seen_in old.disk) = reads_is_live (seen_in old.disk) opened.slot o.log o.reads in
-    subst (λ (slot : ℕ). RunsOnFile (Manager slot) Stays 1 old (g.H.Host.world c.open_silo.new.host)) read.slot (c.in-Ok.ensures.run told)
-
-pub returns-clause-looked : goal.returns-clause-looked
-returns-clause-looked g c told =
-    let old = g.H.Host.world c.args.host.now in
-    let new = g.H.Host.world c.replay_log.new.host in
-    let opened = c.in-Ok.opened in
-    let o = c.in-Ok.ensures.opened told in
-    let read : IsLive magic opened.slot (seen_in old.disk) = reads_is_live (seen_in old.disk) opened.slot o.log o.reads in
-    let here : RunsOnFile (Manager opened.slot) Stays 1 old new = run_only_asked _ _ _ _ _ _ (c.in-Ok.ensures.run told) (c.replay_log.ensures.asked told) in
-    subst (λ (slot : ℕ). RunsOnFile (Manager slot) Stays 1 old new) read.slot here
+pub returns-clause-only : goal.returns-clause-only
+returns-clause-only g c told = opens_and_asked _ _ _ _ (c.in-Ok.ensures.only told) (c.replay_log.ensures.asked told)
 
 pub returns-clause-refused : goal.returns-clause-refused
 returns-clause-refused g c told =
@@ -105,10 +82,10 @@ returns-clause-refused g c told =
     let image = seen_in old.disk in
     let o = c.in-Ok.ensures.opened told in
     let p = program_opened image opened o in
-    let same : seen_in mid.disk ≡ image = seen_same _ old mid (c.in-Ok.ensures.run told) in
+    let same : seen_in mid.disk ≡ image = opens_same _ old mid (c.in-Ok.ensures.only told) in
     let shape : c.in-Ok-shape.shape ≡ shape_in p = (λ i. record { types = c.in-Ok-shape.ensures i }) in
     let whole = parts image opened o in
-    let read : records_in_file c.in-Ok-shape.shape ((mid.disk (Manager opened.slot)).seen) ≡ Ok whole.records = (λ i. records_in_file (shape i) (same i (Manager opened.slot))) ∙ whole.read in
+    let read : records_in_file One c.in-Ok-shape.shape ((mid.disk (Manager opened.slot)).seen) ≡ Ok whole.records = (λ i. records_in_file One (shape i) (same i (Manager opened.slot))) ∙ whole.read in
     let fault = c.in-Err-replay_log.fault in
     let again : IsRereadFault opened.slot (shape_in p) image whole.records fault = subst (λ (im : Image). IsRereadFault opened.slot (shape_in p) im whole.records fault) same
     (subst (λ (s : Shape). IsRereadFault opened.slot s (seen_in mid.disk) whole.records fault) shape (c.in-Err-replay_log.ensures.unread told whole.records read)) in

@@ -3,6 +3,7 @@ use Rattle.std.proofs.lemmas.Result.{err_from_is_err_and}
 use Rattle.host_trait.specs.World.{Disk}
 use Rattle.host_trait.proofs.Runs.{asked_then}
 use Rattle.host_trait.proofs.Counts.{none_then}
+use Rattle.field_codec.specs.declared.formats.Format.TheVariants.{One}
 use Rattle.commit_log.specs.declared.records.CommitRecord.{CommitRecord}
 use Rattle.host_trait.specs.declared.channels.FileId.TheVariants.{Manager}
 use Rattle.log_reading.specs.Steps.{next_in}
@@ -31,8 +32,8 @@ returns-in_err-records-clause-unread g c =
     log_fault shape file c.args.slot c.in_err-records.field-0.0
     (λ at place is.
     let here = c.in_err-records.ensures.damaged at place is told in
-    let there : next_in shape gate file ≡ Err place = subst (λ (d : Disk). next_in shape gate (d (Manager c.args.slot)).seen ≡ Err place) (inv.asked told).disk here in
-    follows_breaks shape file (inv.has told).records gate ((inv.has told).follows (clean_of shape file records read)) place there)
+    let there : next_in One shape gate file ≡ Err place = subst (λ (d : Disk). next_in One shape gate (d (Manager c.args.slot)).seen ≡ Err place) (inv.asked told).disk here in
+    follows_breaks One shape file (inv.has told).records gate ((inv.has told).follows (clean_of shape file records read)) place there)
     (λ at is. c.in_err-records.ensures.failed at is)
 
 pub returns-in_err-records-clause-asked : goal.returns-in_err-records-clause-asked
@@ -53,8 +54,8 @@ loop-grains-preserved g c =
     record {
       bound = far.1;
       has = λ told.
-          let here : next_in shape gate ((g.H.Host.world c.loop-grains.host).disk (Manager c.args.slot)).seen ≡ Ok (Some (more, behind)) = search rules in
-          let there : next_in shape gate file ≡ Ok (Some (more, behind)) = subst (λ (d : Disk). next_in shape gate (d (Manager c.args.slot)).seen ≡ Ok (Some (more, behind))) (inv.asked told).disk here in
+          let here : next_in One shape gate ((g.H.Host.world c.loop-grains.host).disk (Manager c.args.slot)).seen ≡ Ok (Some (more, behind)) = search rules in
+          let there : next_in One shape gate file ≡ Ok (Some (more, behind)) = subst (λ (d : Disk). next_in One shape gate (d (Manager c.args.slot)).seen ≡ Ok (Some (more, behind))) (inv.asked told).disk here in
           grains_more shape file gate c.loop-grains.grains.keys (inv.has told) more behind _
           (c.in_ok-add_grains.ensures ∙ ap (λ (l : List CommitRecord). grains_added c.loop-grains.grains.keys (grains_recorded l)) c.as_slice.ensures) there;
       asked = λ told. asked_then _ _ _ (inv.asked told) (c.next_block.ensures.asked told);
@@ -68,8 +69,8 @@ returns-clause-found g c told records is =
     let shape = c.args.shape.now in
     let gate = c.loop-grains.gate_at in
     let file = ((g.H.Host.world c.args.host.now).disk (Manager c.args.slot)).seen in
-    let here : next_in shape gate ((g.H.Host.world c.loop-grains.host).disk (Manager c.args.slot)).seen ≡ Ok None = search rules in
-    let there : next_in shape gate file ≡ Ok None = subst (λ (d : Disk). next_in shape gate (d (Manager c.args.slot)).seen ≡ Ok None) (inv.asked told).disk here in
+    let here : next_in One shape gate ((g.H.Host.world c.loop-grains.host).disk (Manager c.args.slot)).seen ≡ Ok None = search rules in
+    let there : next_in One shape gate file ≡ Ok None = subst (λ (d : Disk). next_in One shape gate (d (Manager c.args.slot)).seen ≡ Ok None) (inv.asked told).disk here in
     grains_ended shape file gate c.loop-grains.grains.keys (inv.has told) there records is
 
 pub returns-clause-asked : goal.returns-clause-asked

@@ -2,6 +2,7 @@ use Rattle.std.proofs.Common.{rules, arith, ◌≡◌, ◌+◌, ◌^◌, ◌<◌
 use Rattle.std.proofs.lemmas.Result.{err_from_is_err_and}
 use Rattle.host_trait.specs.World.{Disk}
 use Rattle.host_trait.proofs.Counts.{none_then}
+use Rattle.field_codec.specs.declared.formats.Format.TheVariants.{One}
 use Rattle.commit_log.specs.declared.records.CommitRecord.{CommitRecord}
 use Rattle.host_trait.specs.declared.channels.FileId.TheVariants.{Manager}
 use Rattle.log_reading.specs.Steps.{next_in}
@@ -52,8 +53,8 @@ returns-in_err-write_records-clause-puts g c =
     let more = c.in-Some.records in
     let behind = c.in-Some.behind in
     rw p.1 λ told records is.
-    let here : next_in shape gate ((g.H.Host.world c.loop-records.host).disk (Manager c.args.slot)).seen ≡ Ok (Some (more, behind)) = search rules in
-    let there = subst (λ (d : Disk). next_in shape gate (d (Manager c.args.slot)).seen ≡ Ok (Some (more, behind))) (inv.puts told).puts.disk here in
+    let here : next_in One shape gate ((g.H.Host.world c.loop-records.host).disk (Manager c.args.slot)).seen ≡ Ok (Some (more, behind)) = search rules in
+    let there = subst (λ (d : Disk). next_in One shape gate (d (Manager c.args.slot)).seen ≡ Ok (Some (more, behind))) (inv.puts told).puts.disk here in
     copied_cut shape types _ gate _ _ _ _ (inv.puts told) (c.next_records.ensures.asked told) more behind false there
     (subst (λ (l : List CommitRecord). PutsPart (record_lines shape types l) false (g.H.Host.world c.next_records.new.host) (g.H.Host.world c.write_records.new.host)) c.as_slice.ensures (c.in_err-write_records.ensures.puts told)) records is
 
@@ -74,8 +75,8 @@ loop-records-preserved g c =
     record {
       bound = far.1;
       puts = λ told.
-          let here : next_in shape gate ((g.H.Host.world c.loop-records.host).disk (Manager c.args.slot)).seen ≡ Ok (Some (more, behind)) = search rules in
-          let there = subst (λ (d : Disk). next_in shape gate (d (Manager c.args.slot)).seen ≡ Ok (Some (more, behind))) (inv.puts told).puts.disk here in
+          let here : next_in One shape gate ((g.H.Host.world c.loop-records.host).disk (Manager c.args.slot)).seen ≡ Ok (Some (more, behind)) = search rules in
+          let there = subst (λ (d : Disk). next_in One shape gate (d (Manager c.args.slot)).seen ≡ Ok (Some (more, behind))) (inv.puts told).puts.disk here in
           copied_more shape types _ gate _ _ _ _ (inv.puts told) (c.next_records.ensures.asked told) more behind there
           (subst (λ (l : List CommitRecord). PutsPart (record_lines shape types l) true (g.H.Host.world c.next_records.new.host) (g.H.Host.world c.write_records.new.host)) c.as_slice.ensures (c.in_ok-write_records.ensures.puts told));
       calm = none_then _ _ _ (none_then _ _ _ inv.calm c.in_ok-records.ensures.exact) c.in_ok-write_records.ensures.exact;
@@ -87,6 +88,6 @@ returns-clause-puts g c told records is =
     let inv = c.loop-records.invariant in
     let shape = c.args.shape.now in
     let gate = c.loop-records.gate_at in
-    let here : next_in shape gate ((g.H.Host.world c.loop-records.host).disk (Manager c.args.slot)).seen ≡ Ok None = search rules in
-    let there = subst (λ (d : Disk). next_in shape gate (d (Manager c.args.slot)).seen ≡ Ok None) (inv.puts told).puts.disk here in
+    let here : next_in One shape gate ((g.H.Host.world c.loop-records.host).disk (Manager c.args.slot)).seen ≡ Ok None = search rules in
+    let there = subst (λ (d : Disk). next_in One shape gate (d (Manager c.args.slot)).seen ≡ Ok None) (inv.puts told).puts.disk here in
     copied_all _ _ _ gate _ _ _ (inv.puts told) (c.next_records.ensures.asked told) records is there

@@ -23,7 +23,7 @@ returns-then-agrees-clause-replays g c told =
     let one : Commit = commit_of c.args.slot c.args.shape.now image r in
     let states : States = found_in types c.args.store.now in
     let given : Played = played_of c.in_ok-played.played in
-    let is : given ≡ played types states r = played_is types c.args.store.now r given _ _ c.in_ok-played.ensures c.depth_of-depth.ensures c.as_slice-answers.ensures in
+    let is : given ≡ played types states r = played_is types c.args.store.now r given _ _ c.in_ok-played.ensures c.depth-depth.ensures c.as_slice-answers.ensures in
     let kept : c.in_ok-kept.kept.items ≡ written one = c.in_ok-kept.ensures.writes told in
     let same : c.are_same_writes-same.result ≡ same_list same_write (played types states r).writes (written one) =
     c.are_same_writes-same.ensures ∙ (λ i. same_list same_write ((c.as_slice.ensures ∙ ap (λ (p : Played). p.writes) is) i) ((c.as_slice-2.ensures.value ∙ kept) i)) in
@@ -39,7 +39,7 @@ returns-clause-replays g c told =
     let one : Commit = commit_of c.args.slot c.args.shape.now image r in
     let states : States = found_in types c.args.store.now in
     let given : Played = played_of c.in_ok-played.played in
-    let is : given ≡ played types states r = played_is types c.args.store.now r given _ _ c.in_ok-played.ensures c.depth_of-depth.ensures c.as_slice-answers.ensures in
+    let is : given ≡ played types states r = played_is types c.args.store.now r given _ _ c.in_ok-played.ensures c.depth-depth.ensures c.as_slice-answers.ensures in
     let kept : c.in_ok-kept.kept.items ≡ written one = c.in_ok-kept.ensures.writes told in
     let same : c.are_same_writes-same.result ≡ same_list same_write (played types states r).writes (written one) =
     c.are_same_writes-same.ensures ∙ (λ i. same_list same_write ((c.as_slice.ensures ∙ ap (λ (p : Played). p.writes) is) i) ((c.as_slice-2.ensures.value ∙ kept) i)) in

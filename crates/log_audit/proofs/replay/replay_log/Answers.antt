@@ -4,6 +4,7 @@ use Rattle.std.proofs.lemmas.Result.{err_from_is_err_and}
 use Rattle.host_trait.specs.World.{Disk}
 use Rattle.host_trait.proofs.Runs.{asked_then}
 use Rattle.host_trait.proofs.Counts.{none_then}
+use Rattle.field_codec.specs.declared.formats.Format.TheVariants.{One}
 use Rattle.commit_log.specs.declared.records.CommitRecord.{CommitRecord}
 use Rattle.host_trait.specs.declared.channels.FileId.TheVariants.{Manager}
 use Rattle.log_reading.specs.Steps.{next_in, seen_in}
@@ -39,8 +40,8 @@ returns-in_err-records-clause-unread g c =
     inl (log_fault shape file c.args.slot c.in_err-records.field-0.0
     (λ at place fault.
     let here = c.in_err-records.ensures.damaged at place fault told in
-    let there : next_in shape gate file ≡ Err place = subst (λ (d : Disk). next_in shape gate (d (Manager c.args.slot)).seen ≡ Err place) (inv.asked told).disk here in
-    follows_breaks shape file (inv.audited told).records gate ((inv.audited told).follows (clean_of shape file records is)) place there)
+    let there : next_in One shape gate file ≡ Err place = subst (λ (d : Disk). next_in One shape gate (d (Manager c.args.slot)).seen ≡ Err place) (inv.asked told).disk here in
+    follows_breaks One shape file (inv.audited told).records gate ((inv.audited told).follows (clean_of shape file records is)) place there)
     (λ at fault. c.in_err-records.ensures.failed at fault))
 
 pub returns-in_err-records-clause-asked : goal.returns-in_err-records-clause-asked
@@ -59,9 +60,9 @@ returns-in_err-found-clause-unread g c =
     let e = c.in_err-found.field-0.0 in
     rw (p.1, p.2) λ told records is.
     let h = inv.audited told in
-    let step : next_in shape gate ((g.H.Host.world c.loop-store.host).disk (Manager c.args.slot)).seen ≡ Ok (Some (more, behind)) = search rules in
-    let there = subst (λ (d : Disk). next_in shape gate (d (Manager c.args.slot)).seen ≡ Ok (Some (more, behind))) (inv.asked told).disk step in
-    let rest = rest_of shape file (h.records ++ more) records behind (λ clean. follows_on shape file h.records gate (h.follows clean) more behind there) is in
+    let step : next_in One shape gate ((g.H.Host.world c.loop-store.host).disk (Manager c.args.slot)).seen ≡ Ok (Some (more, behind)) = search rules in
+    let there = subst (λ (d : Disk). next_in One shape gate (d (Manager c.args.slot)).seen ≡ Ok (Some (more, behind))) (inv.asked told).disk step in
+    let rest = rest_of shape file (h.records ++ more) records behind (λ clean. follows_on One shape file h.records gate (h.follows clean) more behind there) is in
     let mid = asked_then _ _ _ (inv.asked told) (c.next_block.ensures.asked told) in
     let here = subst (λ (d : Disk). IsVersionFault c.args.slot shape (seen_in d) more e) mid.disk
     (subst (λ (l : List CommitRecord). IsVersionFault c.args.slot shape (seen_in (g.H.Host.world c.next_block.new.host).disk) l e) c.as_slice.ensures (c.in_err-found.ensures.unread told)) in
@@ -81,8 +82,8 @@ returns-then-is_some-clause-replays g c told records is =
     let behind = c.in-Some.behind in
     let found = c.in_ok-found.found in
     let some : is_some found ≡ true = sym c.is_some.ensures ∙ c.if-is_some.true in
-    let step : next_in shape gate ((g.H.Host.world c.loop-store.host).disk (Manager c.args.slot)).seen ≡ Ok (Some (more, behind)) = search rules in
-    let there = subst (λ (d : Disk). next_in shape gate (d (Manager c.args.slot)).seen ≡ Ok (Some (more, behind))) (inv.asked told).disk step in
+    let step : next_in One shape gate ((g.H.Host.world c.loop-store.host).disk (Manager c.args.slot)).seen ≡ Ok (Some (more, behind)) = search rules in
+    let there = subst (λ (d : Disk). next_in One shape gate (d (Manager c.args.slot)).seen ≡ Ok (Some (more, behind))) (inv.asked told).disk step in
     let mid = asked_then _ _ _ (inv.asked told) (c.next_block.ensures.asked told) in
     let to = subst (λ (d : Disk). AllReplayTo types (found_in types c.loop-store.store) (as_commits c.args.slot shape (seen_in d) more) (found_in types c.replay_block.new.store) found) mid.disk
     (subst (λ (l : List CommitRecord). AllReplayTo types (found_in types c.loop-store.store) (as_commits c.args.slot shape (seen_in (g.H.Host.world c.next_block.new.host).disk) l) (found_in types c.replay_block.new.store) found) c.as_slice.ensures (c.in_ok-found.ensures.replays told)) in
@@ -105,8 +106,8 @@ loop-store-preserved g c =
     record {
       bound = far.1;
       audited = λ told.
-          let step : next_in shape gate ((g.H.Host.world c.loop-store.host).disk (Manager c.args.slot)).seen ≡ Ok (Some (more, behind)) = search rules in
-          let there = subst (λ (d : Disk). next_in shape gate (d (Manager c.args.slot)).seen ≡ Ok (Some (more, behind))) (inv.asked told).disk step in
+          let step : next_in One shape gate ((g.H.Host.world c.loop-store.host).disk (Manager c.args.slot)).seen ≡ Ok (Some (more, behind)) = search rules in
+          let there = subst (λ (d : Disk). next_in One shape gate (d (Manager c.args.slot)).seen ≡ Ok (Some (more, behind))) (inv.asked told).disk step in
           let mid = asked_then _ _ _ (inv.asked told) (c.next_block.ensures.asked told) in
           let to = subst (λ (d : Disk). AllReplayTo types (found_in types c.loop-store.store) (as_commits c.args.slot shape (seen_in d) more) (found_in types c.replay_block.new.store) found) mid.disk
           (subst (λ (l : List CommitRecord). AllReplayTo types (found_in types c.loop-store.store) (as_commits c.args.slot shape (seen_in (g.H.Host.world c.next_block.new.host).disk) l) (found_in types c.replay_block.new.store) found) c.as_slice.ensures (c.in_ok-found.ensures.replays told)) in
@@ -121,8 +122,8 @@ returns-clause-replays g c told records is =
     let inv = c.loop-store.invariant in
     let shape = c.args.shape.now in
     let gate = c.loop-store.gate_at in
-    let step : next_in shape gate ((g.H.Host.world c.loop-store.host).disk (Manager c.args.slot)).seen ≡ Ok None = search rules in
-    let there = subst (λ (d : Disk). next_in shape gate (d (Manager c.args.slot)).seen ≡ Ok None) (inv.asked told).disk step in
+    let step : next_in One shape gate ((g.H.Host.world c.loop-store.host).disk (Manager c.args.slot)).seen ≡ Ok None = search rules in
+    let there = subst (λ (d : Disk). next_in One shape gate (d (Manager c.args.slot)).seen ≡ Ok None) (inv.asked told).disk step in
     audit_done _ _ _ _ _ _ gate _ (inv.audited told) there records is
 
 pub returns-clause-asked : goal.returns-clause-asked

@@ -2,7 +2,7 @@ use Rattle.std.proofs.Common.{◌≡◌, inl, inr, Err, sym, ◌∙◌, ap, subs
 use Rattle.host_trait.specs.World.{Image}
 use Rattle.log_reading.specs.Steps.{seen_in}
 use Rattle.silo_opening.specs.OpenedSilo.{IsOpenedFrom}
-use Rattle.silo_opening.proofs.OpeningSteps.{seen_same}
+use Rattle.silo_opening.proofs.OpeningCalls.{opens_same}
 use Rattle.promise_spec.specs.Openings.{opened_as}
 use Rattle.promise_spec.specs.Endings.{Ending, HasFailedAs}
 use Rattle.promise_spec.specs.Reports.{show_text}
@@ -14,8 +14,8 @@ returns-in-Ok-clause-reports g c told manner asked =
     let old = g.H.Host.world c.args.host.now in
     let mid = g.H.Host.world c.open_silo.new.host in
     let opened = c.in-Ok.opened in
-    let run = c.in-Ok.ensures.run told in
-    let same : seen_in mid.disk ≡ seen_in old.disk = seen_same _ old mid run in
+    let run = c.in-Ok.ensures.only told in
+    let same : seen_in mid.disk ≡ seen_in old.disk = opens_same _ old mid run in
     let o : IsOpenedFrom (seen_in mid.disk) opened = subst (λ (image : Image). IsOpenedFrom image opened) (sym same) (c.in-Ok.ensures.opened told) in
     inr (is_reported opened.slot old mid (c.in-Ok.ensures.settled told) run show_text o.log manner asked (g.H.Host.world c.write_show.new.host) (g.H.Host.faults c.args.host.now) (g.H.Host.faults c.write_show.new.host) c.write_show.result
     (ap (λ (image : Image). opened_as image) (sym same) ∙ o.reads) (c.write_show.ensures.puts told o) (c.write_show.ensures.ended told o)
@@ -30,7 +30,7 @@ returns-in-Ok-clause-good g c = never_bad_use c.write_show.result
 pub returns-in-Err-clause-reports : goal.returns-in-Err-clause-reports
 returns-in-Err-clause-reports g c told manner asked =
     inl (not_opened {A = Unit {0}} manner asked (g.H.Host.world c.args.host.now) (g.H.Host.world c.open_silo.new.host) (g.H.Host.faults c.args.host.now) (g.H.Host.faults c.open_silo.new.host) (Err c.unopened.result) c.in-Err.fault c.unopened.ensures
-    (c.in-Err.ensures.looked told) (c.in-Err.ensures.refused told) c.in-Err.ensures.fault)
+    (c.in-Err.ensures.only told) (c.in-Err.ensures.refused told) c.in-Err.ensures.fault)
 
 pub returns-in-Err-clause-exact : goal.returns-in-Err-clause-exact
 returns-in-Err-clause-exact g c = subst (λ (e : Ending). HasFailedAs e (g.H.Host.faults c.args.host.now) (g.H.Host.faults c.open_silo.new.host)) (sym c.unopened.ensures) (open_failed _ _ c.in-Err.fault c.in-Err.ensures.fault)

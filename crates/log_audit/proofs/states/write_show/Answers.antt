@@ -3,6 +3,7 @@ use Rattle.std.specs.Prelude.{is_ok}
 use Rattle.std.proofs.lemmas.Result.{err_from_is_err_and}
 use Rattle.base_types.specs.declared.shapes.Shape.{Shape}
 use Rattle.host_trait.proofs.Counts.{none_then}
+use Rattle.field_codec.specs.declared.formats.Format.TheVariants.{One}
 use Rattle.log_reading.specs.Blocks.{records_in_file}
 use Rattle.host_trait.specs.declared.channels.FileId.TheVariants.{Manager}
 use Rattle.log_reading.specs.Steps.{seen_in}
@@ -35,7 +36,7 @@ returns-in-Err-clause-ended g c told o =
     let p = program_opened image opened o in
     let shape : c.in_ok-shape.shape ≡ shape_in p = (λ i. record { types = c.in_ok-shape.ensures i }) in
     let records = (parts image opened o).records in
-    let read : records_in_file c.in_ok-shape.shape (image (Manager opened.slot)) ≡ Ok records = subst (λ (s : Shape). records_in_file s (image (Manager opened.slot)) ≡ Ok records) (sym shape) (parts image opened o).read in
+    let read : records_in_file One c.in_ok-shape.shape (image (Manager opened.slot)) ≡ Ok records = subst (λ (s : Shape). records_in_file One s (image (Manager opened.slot)) ≡ Ok records) (sym shape) (parts image opened o).read in
     subst (λ (e : ReportFault). MayEnd (fault_ending e)) (sym c.unread.ensures) (folder_ends c.in_ok-shape.shape (image (Manager opened.slot)) opened.slot records read c.in-Err.fault (c.in-Err.ensures.unread told records read))
 
 pub returns-in-Err-clause-exact : goal.returns-in-Err-clause-exact
@@ -51,7 +52,7 @@ returns-in_err-write_grains-clause-puts g c =
     let program = program_opened image opened o in
     let shape : c.in_ok-shape.shape ≡ shape_in program = (λ i. record { types = c.in_ok-shape.ensures i }) in
     let records = (parts image opened o).records in
-    let read : records_in_file c.in_ok-shape.shape (image (Manager opened.slot)) ≡ Ok records = subst (λ (s : Shape). records_in_file s (image (Manager opened.slot)) ≡ Ok records) (sym shape) (parts image opened o).read in
+    let read : records_in_file One c.in_ok-shape.shape (image (Manager opened.slot)) ≡ Ok records = subst (λ (s : Shape). records_in_file One s (image (Manager opened.slot)) ≡ Ok records) (sym shape) (parts image opened o).read in
     let keys = c.in-Ok.grains.keys in
     let part = subst (λ (s : Shape). PutsPart (grain_lines s types opened.store keys) false (g.H.Host.world c.read_grains.new.host) (g.H.Host.world c.write_grains.new.host)) shape (c.in_err-write_grains.ensures.puts told) in
     part_cut _ _ [] (grain_lines (shape_in program) types opened.store keys) (line_of (count_data opened.count)) false _ _ (asked_puts _ _ (c.read_grains.ensures.asked told)) part
@@ -72,7 +73,7 @@ returns-in_err-line-clause-puts g c =
     let program = program_opened image opened o in
     let shape : c.in_ok-shape.shape ≡ shape_in program = (λ i. record { types = c.in_ok-shape.ensures i }) in
     let records = (parts image opened o).records in
-    let read : records_in_file c.in_ok-shape.shape (image (Manager opened.slot)) ≡ Ok records = subst (λ (s : Shape). records_in_file s (image (Manager opened.slot)) ≡ Ok records) (sym shape) (parts image opened o).read in
+    let read : records_in_file One c.in_ok-shape.shape (image (Manager opened.slot)) ≡ Ok records = subst (λ (s : Shape). records_in_file One s (image (Manager opened.slot)) ≡ Ok records) (sym shape) (parts image opened o).read in
     let keys = c.in-Ok.grains.keys in
     let text : List ℕ = grain_lines (shape_in program) types opened.store keys in
     let part = subst (λ (s : Shape). PutsPart (grain_lines s types opened.store keys) true (g.H.Host.world c.read_grains.new.host) (g.H.Host.world c.write_grains.new.host)) shape (c.in_ok-write_grains.ensures.puts told) in
@@ -87,7 +88,7 @@ returns-clause-puts g c told o =
     let program = program_opened image opened o in
     let shape : c.in_ok-shape.shape ≡ shape_in program = (λ i. record { types = c.in_ok-shape.ensures i }) in
     let records = (parts image opened o).records in
-    let read : records_in_file c.in_ok-shape.shape (image (Manager opened.slot)) ≡ Ok records = subst (λ (s : Shape). records_in_file s (image (Manager opened.slot)) ≡ Ok records) (sym shape) (parts image opened o).read in
+    let read : records_in_file One c.in_ok-shape.shape (image (Manager opened.slot)) ≡ Ok records = subst (λ (s : Shape). records_in_file One s (image (Manager opened.slot)) ≡ Ok records) (sym shape) (parts image opened o).read in
     let keys = c.in-Ok.grains.keys in
     let text : List ℕ = grain_lines (shape_in program) types opened.store keys in
     let part = subst (λ (s : Shape). PutsPart (grain_lines s types opened.store keys) true (g.H.Host.world c.read_grains.new.host) (g.H.Host.world c.write_grains.new.host)) shape (c.in_ok-write_grains.ensures.puts told) in

@@ -11,6 +11,7 @@ use Rattle.log_reading.proofs.contents.read_contents.Goals as goal
 
 pub returns-in-Ok-read_versions-clause-opened : goal.returns-in-Ok-read_versions-clause-opened
 returns-in-Ok-read_versions-clause-opened g c told =
+    let format = c.args.format in
     let shape = c.args.shape.now in
     let image = seen_in (g.H.Host.world c.args.host.now).disk in
     let l = c.in-Ok.ensures.log in
@@ -20,10 +21,10 @@ returns-in-Ok-read_versions-clause-opened g c told =
     record {
       records = l.records;
       read = l.read told;
-      whole = sym (λ i. first_missing c.args.slot shape (same i) (order i)) ∙ v.found told;
+      whole = sym (λ i. first_missing c.args.slot format shape (same i) (order i)) ∙ v.found told;
       count = l.count;
       next = l.next;
-      states = λ grain. v.states told grain ∙ (λ i. state_after c.args.slot shape (same i) (c.new-store.ensures grain i) (order i) grain);
+      states = λ grain. v.states told grain ∙ (λ i. state_after c.args.slot format shape (same i) (c.new-store.ensures grain i) (order i) grain);
       ends = λ grain. v.ends grain ∙ (λ i. end_after (c.new-ends.ensures grain i) (order i) grain);
       gate = l.gate told;
       closed = l.closed told;
@@ -41,18 +42,19 @@ returns-clause-asked g c told = asked_then _ _ _ (c.read_log.ensures.asked told)
 
 pub returns-in-Err-clause-refused : goal.returns-in-Err-clause-refused
 returns-in-Err-clause-refused g c told =
-    read_refused c.args.slot c.args.shape.now (seen_in (g.H.Host.world c.args.host.now).disk) c.in-Err.fault
+    read_refused c.args.slot c.args.format c.args.shape.now (seen_in (g.H.Host.world c.args.host.now).disk) c.in-Err.fault
     (λ file place is. (c.in-Err.ensures.file file place is, c.in-Err.ensures.damaged file place is told))
     (λ file is. c.in-Err.ensures.failed file is)
 
 pub returns-clause-refused : goal.returns-clause-refused
 returns-clause-refused g c told =
+    let format = c.args.format in
     let shape = c.args.shape.now in
     let image = seen_in (g.H.Host.world c.args.host.now).disk in
     let l = c.in-Ok.ensures.log in
     let same : seen_in (g.H.Host.world c.read_log.new.host).disk ≡ image = ap seen_in (c.read_log.ensures.asked told).disk in
     let order : c.as_slice.result.now ≡ named_by_grain (named_by l.records) = c.as_slice.ensures.value ∙ c.in-Ok-sort_by_grain.ensures ∙ ap named_by_grain (c.into_vec-named.ensures ∙ l.named) in
     let v = c.in-Err-read_versions.ensures in
-    versions_refused c.args.slot shape image l.records (l.read told) c.in-Err-read_versions.fault
-    (λ file place is. sym (λ i. first_missing c.args.slot shape (same i) (order i)) ∙ v.damaged file place is told)
-    (λ file is. subst (λ (im : Image). StopsAt c.args.slot shape im (named_by_grain (named_by l.records)) file) same (subst (λ (ns : List Named). StopsAt c.args.slot shape (seen_in (g.H.Host.world c.read_log.new.host).disk) ns file) order (v.failed file is told)))
+    versions_refused c.args.slot format shape image l.records (l.read told) c.in-Err-read_versions.fault
+    (λ file place is. sym (λ i. first_missing c.args.slot format shape (same i) (order i)) ∙ v.damaged file place is told)
+    (λ file is. subst (λ (im : Image). StopsAt c.args.slot format shape im (named_by_grain (named_by l.records)) file) same (subst (λ (ns : List Named). StopsAt c.args.slot format shape (seen_in (g.H.Host.world c.read_log.new.host).disk) ns file) order (v.failed file is told)))

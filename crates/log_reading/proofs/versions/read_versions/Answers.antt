@@ -22,7 +22,7 @@ pub loop-one-init : goal.loop-one-init
 loop-one-init g c = record {
   at = refl;
   piece = c.no_piece-piece.ensures _ _ _;
-  passed = λ told. passed_none _ _ _ c.args.named.now;
+  passed = λ told. passed_none _ _ _ _ c.args.named.now;
   states = λ told grain. refl;
   ends = λ grain. refl;
   near = λ was. was;
@@ -43,13 +43,14 @@ pub returns-in_err-refill-clause-failed : goal.returns-in_err-refill-clause-fail
 returns-in_err-refill-clause-failed g c =
     let p = err_from_is_err_and c.from_residual.result c.from_residual.ensures.1 in
     let inv = c.loop-one.invariant in
+    let format = c.args.format in
     let shape = c.args.shape.now in
     let i = c.loop-one.one-index in
     let xs = c.args.named.now in
     let x : Named = get_or xs i no_name in
     rw (p.1, p.2) λ file is told.
     let at : file ≡ Grain c.args.slot x.written.grain = c.in_err-refill.ensures.failed file (other_value _ (FolderFault.Failed file) is) in
-    stops_here c.args.slot shape _ xs (drop i xs) (inv.passed told) x (drop (i + 1) xs) (next_default i xs no_name c.loop-one-test.true) file at
+    stops_here c.args.slot format shape _ xs (drop i xs) (inv.passed told) x (drop (i + 1) xs) (next_default i xs no_name c.loop-one-test.true) file at
 
 pub returns-in_err-refill-clause-asked : goal.returns-in_err-refill-clause-asked
 returns-in_err-refill-clause-asked g c told = asked_then _ _ _ (c.loop-one.invariant.asked told) (c.refill.ensures.asked told)
@@ -62,6 +63,7 @@ pub returns-in_err-version-clause-damaged : goal.returns-in_err-version-clause-d
 returns-in_err-version-clause-damaged g c =
     let p = err_from_is_err_and c.from_residual-in_err-version.result c.from_residual-in_err-version.ensures.1 in
     let inv = c.loop-one.invariant in
+    let format = c.args.format in
     let shape = c.args.shape.now in
     let i = c.loop-one.one-index in
     let xs = c.args.named.now in
@@ -69,23 +71,24 @@ returns-in_err-version-clause-damaged g c =
     rw (p.1, p.2) λ file place is told.
     let err = other_value _ (FolderFault.Damaged file place) is in
     let mid = asked_then _ _ _ (inv.asked told) (c.refill.ensures.asked told) in
-    let here : version_named c.args.slot shape (seen_in (g.H.Host.world c.refill.new.host).disk) x ≡ Err place = c.in_err-version.ensures.damaged file place err told in
-    let there : version_named c.args.slot shape (seen_in (g.H.Host.world c.args.host.now).disk) x ≡ Err place = subst (λ (d : Disk). version_named c.args.slot shape (seen_in d) x ≡ Err place) mid.disk here in
+    let here : version_named c.args.slot format shape (seen_in (g.H.Host.world c.refill.new.host).disk) x ≡ Err place = c.in_err-version.ensures.damaged file place err told in
+    let there : version_named c.args.slot format shape (seen_in (g.H.Host.world c.args.host.now).disk) x ≡ Err place = subst (λ (d : Disk). version_named c.args.slot format shape (seen_in d) x ≡ Err place) mid.disk here in
     let at : file ≡ Grain c.args.slot x.written.grain = c.in_err-version.ensures.file file place err in
-    passed_here c.args.slot shape _ xs (drop i xs) (inv.passed told) x (drop (i + 1) xs) (next_default i xs no_name c.loop-one-test.true) place there
+    passed_here c.args.slot format shape _ xs (drop i xs) (inv.passed told) x (drop (i + 1) xs) (next_default i xs no_name c.loop-one-test.true) place there
     ∙ ap (λ (f : FileId). Some (f, place)) (sym at)
 
 pub returns-in_err-version-clause-failed : goal.returns-in_err-version-clause-failed
 returns-in_err-version-clause-failed g c =
     let p = err_from_is_err_and c.from_residual-in_err-version.result c.from_residual-in_err-version.ensures.1 in
     let inv = c.loop-one.invariant in
+    let format = c.args.format in
     let shape = c.args.shape.now in
     let i = c.loop-one.one-index in
     let xs = c.args.named.now in
     let x : Named = get_or xs i no_name in
     rw (p.1, p.2) λ file is told.
     let at : file ≡ Grain c.args.slot x.written.grain = c.in_err-version.ensures.failed file (other_value _ (FolderFault.Failed file) is) in
-    stops_here c.args.slot shape _ xs (drop i xs) (inv.passed told) x (drop (i + 1) xs) (next_default i xs no_name c.loop-one-test.true) file at
+    stops_here c.args.slot format shape _ xs (drop i xs) (inv.passed told) x (drop (i + 1) xs) (next_default i xs no_name c.loop-one-test.true) file at
 
 pub returns-in_err-version-clause-asked : goal.returns-in_err-version-clause-asked
 returns-in_err-version-clause-asked g c told = asked_then _ _ _ (asked_then _ _ _ (c.loop-one.invariant.asked told) (c.refill.ensures.asked told)) (c.next_version.ensures.asked told)
@@ -96,6 +99,7 @@ returns-in_err-keep-clause-asked g c told = asked_then _ _ _ (asked_then _ _ _ (
 pub loop-one-preserved : goal.loop-one-preserved
 loop-one-preserved g c =
     let inv = c.loop-one.invariant in
+    let format = c.args.format in
     let shape = c.args.shape.now in
     let i = c.loop-one.one-index in
     let xs = c.args.named.now in
@@ -103,14 +107,14 @@ loop-one-preserved g c =
     let v = c.in_ok-version.version in
     let next = next_default i xs no_name c.loop-one-test.true in
     let image = seen_in (g.H.Host.world c.args.host.now).disk in
-    let found : (told : IsTrue g.H.Host.tells) → version_named c.args.slot shape image x ≡ Ok v = λ told.
-    let here : version_named c.args.slot shape (seen_in (g.H.Host.world c.refill.new.host).disk) x ≡ Ok v = c.in_ok-version.ensures.found told in
-    subst (λ (d : Disk). version_named c.args.slot shape (seen_in d) x ≡ Ok v) (asked_then _ _ _ (inv.asked told) (c.refill.ensures.asked told)).disk here in
+    let found : (told : IsTrue g.H.Host.tells) → version_named c.args.slot format shape image x ≡ Ok v = λ told.
+    let here : version_named c.args.slot format shape (seen_in (g.H.Host.world c.refill.new.host).disk) x ≡ Ok v = c.in_ok-version.ensures.found told in
+    subst (λ (d : Disk). version_named c.args.slot format shape (seen_in d) x ≡ Ok v) (asked_then _ _ _ (inv.asked told) (c.refill.ensures.asked told)).disk here in
     record {
       at = ap (λ (n : ℕ). n + 1) inv.at;
       piece = still_piece _ _ _ _ _ (λ told. ap seen_in (inv.asked told).disk) c.in_ok-refill.ensures.piece;
-      passed = λ told. passed_more c.args.slot shape image xs (drop i xs) (inv.passed told) x (drop (i + 1) xs) next v (found told);
-      states = λ told grain. state_more c.args.slot shape image x (drop (i + 1) xs) (drop i xs) grain v _ _ _ next (found told) (c.in_ok-keep.ensures.states grain) (inv.states told grain);
+      passed = λ told. passed_more c.args.slot format shape image xs (drop i xs) (inv.passed told) x (drop (i + 1) xs) next v (found told);
+      states = λ told grain. state_more c.args.slot format shape image x (drop (i + 1) xs) (drop i xs) grain v _ _ _ next (found told) (c.in_ok-keep.ensures.states grain) (inv.states told grain);
       ends = λ grain. end_more x (drop (i + 1) xs) (drop i xs) grain _ _ _ next (c.in_ok-keep.ensures.ends grain) (inv.ends grain);
       near = λ was grain. near_more x grain _ _ (c.in_ok-version.ensures.near) (c.in_ok-keep.ensures.ends grain) (inv.near was grain);
       asked = λ told. asked_then _ _ _ (asked_then _ _ _ (inv.asked told) (c.refill.ensures.asked told)) (c.next_version.ensures.asked told);
@@ -119,10 +123,10 @@ loop-one-preserved g c =
     }
 
 pub returns-clause-found : goal.returns-clause-found
-returns-clause-found g c told = passed_all c.args.slot c.args.shape.now _ c.args.named.now (drop c.loop-one.one-index c.args.named.now) (c.loop-one.invariant.passed told) (no_item c.loop-one.one-index c.args.named.now c.loop-one-test.false)
+returns-clause-found g c told = passed_all c.args.slot c.args.format c.args.shape.now _ c.args.named.now (drop c.loop-one.one-index c.args.named.now) (c.loop-one.invariant.passed told) (no_item c.loop-one.one-index c.args.named.now c.loop-one-test.false)
 
 pub returns-clause-states : goal.returns-clause-states
-returns-clause-states g c told grain = state_all c.args.slot c.args.shape.now (seen_in (g.H.Host.world c.args.host.now).disk) (drop c.loop-one.one-index c.args.named.now) grain _ _ (no_item c.loop-one.one-index c.args.named.now c.loop-one-test.false) (c.loop-one.invariant.states told grain)
+returns-clause-states g c told grain = state_all c.args.slot c.args.format c.args.shape.now (seen_in (g.H.Host.world c.args.host.now).disk) (drop c.loop-one.one-index c.args.named.now) grain _ _ (no_item c.loop-one.one-index c.args.named.now c.loop-one-test.false) (c.loop-one.invariant.states told grain)
 
 pub returns-clause-ends : goal.returns-clause-ends
 returns-clause-ends g c grain = end_all (drop c.loop-one.one-index c.args.named.now) grain _ _ (no_item c.loop-one.one-index c.args.named.now c.loop-one-test.false) (c.loop-one.invariant.ends grain)

@@ -1,4 +1,4 @@
-use Rattle.promise_examples.proofs.WrongAnswers.{another_place, sound_damaged, silo_called_none, none_opened, damaged_carried, no_bad_use, grain_blamed, unnamed_blamed, done_unread, done_unanswered, grain_fault_opened, said_unbegun, blamed_behind}
+use Rattle.promise_examples.proofs.WrongAnswers.{another_place, sound_damaged, silo_called_none, none_opened, damaged_carried, no_bad_use, grain_blamed, unnamed_blamed, done_unread, done_unanswered, fault_forgets, fault_says, long_forgets, long_says, long_misnumbers, long_blames, done_passes, grain_fault_opened, said_unopened, blamed_behind}
 use Rattle.promise_examples.proofs.wrong_runs.refusals_are_true.Goals as goal
 
 pub returns-clause-place : goal.returns-clause-place
@@ -35,7 +35,28 @@ pub returns-clause-grain : goal.returns-clause-grain
 returns-clause-grain c = grain_fault_opened
 
 pub returns-clause-said : goal.returns-clause-said
-returns-clause-said c = said_unbegun
+returns-clause-said c = said_unopened
 
 pub returns-clause-behind : goal.returns-clause-behind
 returns-clause-behind c = blamed_behind
+
+pub returns-clause-forgotten : goal.returns-clause-forgotten
+returns-clause-forgotten c = fault_forgets
+
+pub returns-clause-early : goal.returns-clause-early
+returns-clause-early c = fault_says
+
+pub returns-clause-before_bad : goal.returns-clause-before_bad
+returns-clause-before_bad c m r told number keeps is first some quiet = long_forgets m r told is number keeps first some quiet
+
+pub returns-clause-in_bad : goal.returns-clause-in_bad
+returns-clause-in_bad c m r told number keeps is first none said = long_says m r told is number keeps first none said
+
+pub returns-clause-number : goal.returns-clause-number
+returns-clause-number c m r told number keeps is first differ = long_misnumbers m r told is number keeps first differ
+
+pub returns-clause-no_bad : goal.returns-clause-no_bad
+returns-clause-no_bad c m r told keeps is none = long_blames m r told is keeps none
+
+pub returns-clause-passed : goal.returns-clause-passed
+returns-clause-passed c = done_passes

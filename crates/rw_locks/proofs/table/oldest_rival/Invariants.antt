@@ -1,7 +1,7 @@
 use Rattle.std.proofs.Common.{◌≡◌, drop}
 use Rattle.cell_model.specs.Units.{oldest}
 use Rattle.cell_model.specs.Locks.{rivals}
-use Rattle.rw_locks.specs.LockView.{joined}
+use Rattle.cell_model.specs.Units.{joined}
 use Rattle.rw_locks.proofs.table.oldest_rival.Given as goal
 
 abbrev pub invariant-loop-hold : goal.invariant-loop-hold

@@ -4,7 +4,7 @@ use Rattle.script_tree.specs.Programs.{ProgramTree, program_tree}
 use Rattle.history_core.specs.Cores.{run_of}
 use Rattle.silo_spec.specs.Silos.{IsNewSilo}
 use Rattle.silo_spec.specs.Creation.{CameThisFar, IsMade}
-use Rattle.promise_spec.specs.Endings.{Memory}
+use Rattle.promise_spec.specs.Endings.{Memory, IsLoadCarried}
 use Rattle.promise_spec.specs.Logs.{magic}
 use Rattle.promise_spec.specs.Loads.{bank_text, load_calls}
 use Rattle.bank_load.specs.Requests.{load_texts}
@@ -27,6 +27,7 @@ use Rattle.silo_top.proofs.load_command.begin_load.Goals as goal
 pub returns-in-Err-clause-loads : goal.returns-in-Err-clause-loads
 returns-in-Err-clause-loads g c = λ told m. record {
   manner = refl;
+  windowed = refl;
   answers = inl (uncreated m (load_texts c.args.transfers c.args.seed) (g.H.Host.world c.args.host.now) (g.H.Host.world c.create.new.host) (g.H.Host.faults c.args.host.now) (g.H.Host.faults c.create.new.host) (Unit {0})
       c.in-Err.fault c.creation_status.result c.creation_status.ensures (c.create.ensures.beside told) (subst (λ (t : List ℕ). CameThisFar magic t (g.H.Host.world c.args.host.now) (g.H.Host.world c.create.new.host)) c.bank_text-2.ensures (c.create.ensures.moments told)) c.in-Err.ensures.fault
       (λ is. (c.in-Err.ensures.already is told, c.in-Err.ensures.lasts is told)) (c.in-Err.ensures.silo told) (c.create.ensures.untouched told));
@@ -44,11 +45,11 @@ returns-in-Err-open_silo-clause-loads g c = λ told m.
     (subst (λ (t : List ℕ). IsMade magic t (g.H.Host.world c.create.new.host).disk) c.bank_text-2.ensures (c.in-Ok-create.ensures.files told)) (λ file. g.met.H.Host.seen_may_stay c.create.new.host file told)
     (c.in-Ok-create.ensures.least told) (c.in-Ok-create.ensures.most told) in
     made_loads c.args.transfers c.args.seed m (load_texts c.args.transfers c.args.seed) (g.H.Host.world c.args.host.now) (g.H.Host.world c.create.new.host) (g.H.Host.world c.open_silo.new.host) (g.H.Host.faults c.args.host.now) (g.H.Host.faults c.create.new.host) (g.H.Host.faults c.open_silo.new.host) c.open_status.result made c.in-Ok-create.ensures.calm
-    (unopened_carries c.args.transfers c.args.seed m (load_texts c.args.transfers c.args.seed) c.in-Ok.bank (g.H.Host.world c.create.new.host) (g.H.Host.world c.open_silo.new.host) (g.H.Host.faults c.create.new.host) (g.H.Host.faults c.open_silo.new.host) c.in-Err-open_silo.fault c.open_status.result bank_is c.open_status.ensures (c.in-Err-open_silo.ensures.looked told) (c.in-Err-open_silo.ensures.refused told) c.in-Err-open_silo.ensures.fault)
+    (unopened_carries c.args.transfers c.args.seed m (load_texts c.args.transfers c.args.seed) c.in-Ok.bank (g.H.Host.world c.create.new.host) (g.H.Host.world c.open_silo.new.host) (g.H.Host.faults c.create.new.host) (g.H.Host.faults c.open_silo.new.host) c.in-Err-open_silo.fault c.open_status.result bank_is c.open_status.ensures (c.in-Err-open_silo.ensures.only told) (c.in-Err-open_silo.ensures.refused told) c.in-Err-open_silo.ensures.fault)
 
 pub returns-in-Err-open_silo-clause-answers : goal.returns-in-Err-open_silo-clause-answers
-returns-in-Err-open_silo-clause-answers g c = answers_behind (status_ending c.open_status.result) (g.H.Host.faults c.args.host.now) (g.H.Host.faults c.create.new.host) (g.H.Host.faults c.open_silo.new.host) c.in-Ok-create.ensures.calm
-    (unopened_answers c.in-Err-open_silo.fault c.open_status.result (g.H.Host.faults c.create.new.host) (g.H.Host.faults c.open_silo.new.host) c.open_status.ensures c.in-Err-open_silo.ensures.fault)
+returns-in-Err-open_silo-clause-answers g c = answers_behind IsLoadCarried (status_ending c.open_status.result) (g.H.Host.faults c.args.host.now) (g.H.Host.faults c.create.new.host) (g.H.Host.faults c.open_silo.new.host) c.in-Ok-create.ensures.calm
+    (unopened_answers IsLoadCarried c.in-Err-open_silo.fault c.open_status.result (g.H.Host.faults c.create.new.host) (g.H.Host.faults c.open_silo.new.host) c.open_status.ensures c.in-Err-open_silo.ensures.fault)
 
 pub returns-in-Err-start-clause-loads : goal.returns-in-Err-start-clause-loads
 returns-in-Err-start-clause-loads g c = λ told m.
@@ -62,7 +63,8 @@ returns-in-Err-start-clause-loads g c = λ told m.
       opened = c.in-Ok-open_silo.ensures.opened told;
       settled = c.in-Ok-open_silo.ensures.settled told;
       count = c.in-Ok-open_silo.ensures.count told;
-      run = c.in-Ok-open_silo.ensures.run told;
+      left = c.in-Ok-open_silo.ensures.left told;
+      run = c.in-Ok-open_silo.ensures.only told;
       stays = λ file. g.met.H.Host.seen_may_stay c.create.new.host file told;
     } in
     let behind_bank : IsBehindOpening (g.H.Host.world c.create.new.host) (g.H.Host.world c.open_silo.new.host) (with_checked c.in-Ok-open_silo.opened c.in-Ok.bank) = same_behind c.in-Ok-open_silo.opened c.in-Ok.bank (g.H.Host.world c.create.new.host) (g.H.Host.world c.open_silo.new.host) bank_is new_bank (λ file. g.met.H.Host.seen_may_stay c.create.new.host file told) behind in
@@ -70,7 +72,7 @@ returns-in-Err-start-clause-loads g c = λ told m.
     (starved_carries c.args.transfers c.args.seed m (load_texts c.args.transfers c.args.seed) (with_checked c.in-Ok-open_silo.opened c.in-Ok.bank) (g.H.Host.world c.create.new.host) (g.H.Host.world c.open_silo.new.host) (g.H.Host.faults c.create.new.host) (g.H.Host.faults c.open_silo.new.host) bank_is behind_bank c.in-Ok-open_silo.ensures.calm)
 
 pub returns-in-Err-start-clause-answers : goal.returns-in-Err-start-clause-answers
-returns-in-Err-start-clause-answers g c = exactly_answers (g.H.Host.faults c.args.host.now) (g.H.Host.faults c.open_silo.new.host) Memory (λ q. cc q) (λ channel. c.in-Ok-open_silo.ensures.calm channel ∙ c.in-Ok-create.ensures.calm channel)
+returns-in-Err-start-clause-answers g c = exactly_answers (g.H.Host.faults c.args.host.now) (g.H.Host.faults c.open_silo.new.host) IsLoadCarried Memory (λ q. cc q) (λ channel. c.in-Ok-open_silo.ensures.calm channel ∙ c.in-Ok-create.ensures.calm channel)
 
 pub returns-in-Err-load_lines-clause-loads : goal.returns-in-Err-load_lines-clause-loads
 returns-in-Err-load_lines-clause-loads g c = λ told m.
@@ -84,7 +86,8 @@ returns-in-Err-load_lines-clause-loads g c = λ told m.
       opened = c.in-Ok-open_silo.ensures.opened told;
       settled = c.in-Ok-open_silo.ensures.settled told;
       count = c.in-Ok-open_silo.ensures.count told;
-      run = c.in-Ok-open_silo.ensures.run told;
+      left = c.in-Ok-open_silo.ensures.left told;
+      run = c.in-Ok-open_silo.ensures.only told;
       stays = λ file. g.met.H.Host.seen_may_stay c.create.new.host file told;
     } in
     let behind_bank : IsBehindOpening (g.H.Host.world c.create.new.host) (g.H.Host.world c.open_silo.new.host) (with_checked c.in-Ok-open_silo.opened c.in-Ok.bank) = same_behind c.in-Ok-open_silo.opened c.in-Ok.bank (g.H.Host.world c.create.new.host) (g.H.Host.world c.open_silo.new.host) bank_is new_bank (λ file. g.met.H.Host.seen_may_stay c.create.new.host file told) behind in
@@ -92,7 +95,7 @@ returns-in-Err-load_lines-clause-loads g c = λ told m.
     (starved_carries c.args.transfers c.args.seed m (load_texts c.args.transfers c.args.seed) (with_checked c.in-Ok-open_silo.opened c.in-Ok.bank) (g.H.Host.world c.create.new.host) (g.H.Host.world c.open_silo.new.host) (g.H.Host.faults c.create.new.host) (g.H.Host.faults c.open_silo.new.host) bank_is behind_bank c.in-Ok-open_silo.ensures.calm)
 
 pub returns-in-Err-load_lines-clause-answers : goal.returns-in-Err-load_lines-clause-answers
-returns-in-Err-load_lines-clause-answers g c = exactly_answers (g.H.Host.faults c.args.host.now) (g.H.Host.faults c.open_silo.new.host) Memory (λ q. cc q) (λ channel. c.in-Ok-open_silo.ensures.calm channel ∙ c.in-Ok-create.ensures.calm channel)
+returns-in-Err-load_lines-clause-answers g c = exactly_answers (g.H.Host.faults c.args.host.now) (g.H.Host.faults c.open_silo.new.host) IsLoadCarried Memory (λ q. cc q) (λ channel. c.in-Ok-open_silo.ensures.calm channel ∙ c.in-Ok-create.ensures.calm channel)
 
 pub returns-in-Ok-load_lines-clause-can : goal.returns-in-Ok-load_lines-clause-can
 returns-in-Ok-load_lines-clause-can g c = can_carry g.H.Host.tells (with_checked c.in-Ok-open_silo.opened c.in-Ok.bank) c.in-Ok-start.started (g.H.Host.world c.open_silo.new.host) c.in-Ok-start.ensures.start c.in-Ok-open_silo.ensures.bound.1.0 c.in-Ok-start.ensures.bounds
@@ -101,7 +104,8 @@ returns-in-Ok-load_lines-clause-can g c = can_carry g.H.Host.tells (with_checked
       opened = c.in-Ok-open_silo.ensures.opened told;
       settled = c.in-Ok-open_silo.ensures.settled told;
       count = c.in-Ok-open_silo.ensures.count told;
-      run = c.in-Ok-open_silo.ensures.run told;
+      left = c.in-Ok-open_silo.ensures.left told;
+      run = c.in-Ok-open_silo.ensures.only told;
       stays = λ file. g.met.H.Host.seen_may_stay c.create.new.host file told;
     } in
     fits_within (with_checked c.in-Ok-open_silo.opened c.in-Ok.bank) c.in-Ok-start.started (g.H.Host.world c.open_silo.new.host).disk (lies_within c.in-Ok-open_silo.opened c.in-Ok.bank (g.H.Host.world c.create.new.host) (g.H.Host.world c.open_silo.new.host) behind) c.in-Ok-start.ensures.start)
@@ -118,18 +122,19 @@ returns-in-Ok-load_lines-clause-keeps g c = λ told m settler' after new result 
       opened = c.in-Ok-open_silo.ensures.opened told;
       settled = c.in-Ok-open_silo.ensures.settled told;
       count = c.in-Ok-open_silo.ensures.count told;
-      run = c.in-Ok-open_silo.ensures.run told;
+      left = c.in-Ok-open_silo.ensures.left told;
+      run = c.in-Ok-open_silo.ensures.only told;
       stays = λ file. g.met.H.Host.seen_may_stay c.create.new.host file told;
     } in
     let behind_bank : IsBehindOpening (g.H.Host.world c.create.new.host) (g.H.Host.world c.open_silo.new.host) (with_checked c.in-Ok-open_silo.opened c.in-Ok.bank) = same_behind c.in-Ok-open_silo.opened c.in-Ok.bank (g.H.Host.world c.create.new.host) (g.H.Host.world c.open_silo.new.host) bank_is new_bank (λ file. g.met.H.Host.seen_may_stay c.create.new.host file told) behind in
     let types : ProgramTree = program_tree c.in-Ok.bank in
     let read : AreReadBy types (load_calls c.args.transfers c.args.seed) = load_read (bank_of types) c.args.transfers c.args.seed (bank_checked types bank_is) refl in
     let are : AreReadFrom types 0 (load_texts c.args.transfers c.args.seed) c.in-Ok-load_lines.lines = subst (AreReadFrom types 0 (load_texts c.args.transfers c.args.seed)) (sym c.in-Ok-load_lines.ensures) (lines_read types 0 (load_calls c.args.transfers c.args.seed) read) in
-    let carried = told_lines g.H.Host.tells m types c.in-Ok-load_lines.lines (run_of c.in-Ok-start.started.core) c.in-Ok-start.started.settler settler' (g.H.Host.faults c.open_silo.new.host) after (g.H.Host.world c.open_silo.new.host) new result told
+    let carried = told_lines g.H.Host.tells m types c.in-Ok-load_lines.lines went.used (run_of c.in-Ok-start.started.core) c.in-Ok-start.started.settler settler' (g.H.Host.faults c.open_silo.new.host) after (g.H.Host.world c.open_silo.new.host) new result told
     (of_opened g.H.Host.tells (with_checked c.in-Ok-open_silo.opened c.in-Ok.bank) c.in-Ok-start.started (λ (k : ProgramTree). c.in-Ok-load_lines.lines) (g.H.Host.faults c.open_silo.new.host) (g.H.Host.world c.open_silo.new.host) m settler' after new result c.in-Ok-start.ensures.start went) in
     made_loads c.args.transfers c.args.seed m (load_texts c.args.transfers c.args.seed) (g.H.Host.world c.args.host.now) (g.H.Host.world c.create.new.host) last (g.H.Host.faults c.args.host.now) (g.H.Host.faults c.create.new.host) final status made c.in-Ok-create.ensures.calm
     (load_carries c.args.transfers c.args.seed m (with_checked c.in-Ok-open_silo.opened c.in-Ok.bank) c.in-Ok-start.started (g.H.Host.world c.create.new.host) (g.H.Host.world c.open_silo.new.host) new (g.H.Host.faults c.create.new.host) (g.H.Host.faults c.open_silo.new.host) after result behind_bank c.in-Ok-start.ensures.start bank_is new_bank (λ file. g.met.H.Host.seen_may_stay c.open_silo.new.host file told) stay c.in-Ok-start.ensures.quiet
-    c.in-Ok-load_lines.lines are went.wide c.in-Ok-open_silo.ensures.bound.1.0 c.in-Ok-open_silo.ensures.calm settler' carried (texts_ask types c.args.transfers c.args.seed read) requests
+    c.in-Ok-load_lines.lines are went.wide c.in-Ok-open_silo.ensures.bound.1.0 c.in-Ok-open_silo.ensures.calm settler' went.used carried (texts_ask types c.args.transfers c.args.seed read) requests
     (many ∙ ap length c.in-Ok-load_lines.ensures ∙ numbered_many 0 (load_calls c.args.transfers c.args.seed)) status final last (subst (λ (n : ℕ). LoadCounts n result status after final) c.in-Ok-start.ensures.start.slot counts) says)
 
 pub returns-in-Ok-load_lines-clause-answers_on : goal.returns-in-Ok-load_lines-clause-answers_on
@@ -139,6 +144,6 @@ returns-in-Ok-load_lines-clause-answers_on g c = λ m settler' after new result 
     let read : AreReadBy types (load_calls c.args.transfers c.args.seed) = load_read (bank_of types) c.args.transfers c.args.seed (bank_checked types bank_is) refl in
     let are : AreReadFrom types 0 (load_texts c.args.transfers c.args.seed) c.in-Ok-load_lines.lines = subst (AreReadFrom types 0 (load_texts c.args.transfers c.args.seed)) (sym c.in-Ok-load_lines.ensures) (lines_read types 0 (load_calls c.args.transfers c.args.seed) read) in
     let carried = of_opened g.H.Host.tells (with_checked c.in-Ok-open_silo.opened c.in-Ok.bank) c.in-Ok-start.started (λ (k : ProgramTree). c.in-Ok-load_lines.lines) (g.H.Host.faults c.open_silo.new.host) (g.H.Host.world c.open_silo.new.host) m settler' after new result c.in-Ok-start.ensures.start went in
-    answers_behind (status_ending status) (g.H.Host.faults c.args.host.now) (g.H.Host.faults c.create.new.host) final c.in-Ok-create.ensures.calm
-    (answers_behind (status_ending status) (g.H.Host.faults c.create.new.host) (g.H.Host.faults c.open_silo.new.host) final c.in-Ok-open_silo.ensures.calm
-    (load_answers g.H.Host.tells c.args.transfers c.args.seed m (with_checked c.in-Ok-open_silo.opened c.in-Ok.bank) c.in-Ok-start.started (g.H.Host.world c.open_silo.new.host) new (g.H.Host.faults c.open_silo.new.host) after result c.in-Ok-start.ensures.start c.in-Ok-start.ensures.quiet c.in-Ok-load_lines.lines are went.wide c.in-Ok-open_silo.ensures.bound.1.0 settler' carried status final (subst (λ (n : ℕ). LoadCounts n result status after final) c.in-Ok-start.ensures.start.slot counts)))
+    answers_behind IsLoadCarried (status_ending status) (g.H.Host.faults c.args.host.now) (g.H.Host.faults c.create.new.host) final c.in-Ok-create.ensures.calm
+    (answers_behind IsLoadCarried (status_ending status) (g.H.Host.faults c.create.new.host) (g.H.Host.faults c.open_silo.new.host) final c.in-Ok-open_silo.ensures.calm
+    (load_answers g.H.Host.tells c.args.transfers c.args.seed m (with_checked c.in-Ok-open_silo.opened c.in-Ok.bank) c.in-Ok-start.started (g.H.Host.world c.open_silo.new.host) new (g.H.Host.faults c.open_silo.new.host) after result c.in-Ok-start.ensures.start c.in-Ok-start.ensures.quiet c.in-Ok-load_lines.lines are went.wide c.in-Ok-open_silo.ensures.bound.1.0 settler' went.used carried status final (subst (λ (n : ℕ). LoadCounts n result status after final) c.in-Ok-start.ensures.start.slot counts)))

@@ -3,7 +3,6 @@ use Rattle.std.specs.Prelude.{is_ok}
 use Rattle.std.proofs.lemmas.Int.{to_z-of_z}
 use mir.Val.{to_z, of_z, SFits}
 use mir.Syntax.{w128}
-use Rattle.base_types.specs.declared.entries.Entry.{Entry}
 use Rattle.core_model.specs.LegalRuns.{ends}
 use Rattle.history_core.specs.Cores.{run_of}
 use Rattle.promise_spec.specs.Endings as ending
@@ -19,8 +18,7 @@ returns-in-Ok-emit-clause-says g c = λ told.
     let w = ends (run_of c.args.core.now) in
     let fits : SFits w128 c.total_balance-total.result = search rules in
     let bytes : c.as_slice.result.now ≡ summary_line w.manager.settled c.args.requests (total_kept w 64) =
-    c.as_slice.ensures ∙ c.in-Ok.ensures ∙ ap (λ (es : List Entry). summary_line es c.args.requests (to_z w128 (of_z w128 c.total_balance-total.result))) c.settled.ensures
-    ∙ ap (summary_line w.manager.settled c.args.requests) (to_z-of_z w128 c.total_balance-total.result fits ∙ c.total_balance-total.ensures) in
+    c.as_slice.ensures ∙ c.in-Ok.ensures ∙ ap (summary_line w.manager.settled c.args.requests) (to_z-of_z w128 c.total_balance-total.result fits ∙ c.total_balance-total.ensures) in
     emitted_so (summary_line w.manager.settled c.args.requests (total_kept w 64)) c.as_slice.result.now ending.Done (length c.as_slice.result.now) (g.H.Host.world c.args.host.now) (g.H.Host.world c.emit.new.self) bytes (c.in-Ok-emit.ensures.ok told) (λ q. refl) (λ q. cc q)
 
 pub returns-in-Ok-emit-clause-exact : goal.returns-in-Ok-emit-clause-exact
@@ -31,7 +29,6 @@ returns-clause-says g c = λ told.
     let w = ends (run_of c.args.core.now) in
     let fits : SFits w128 c.total_balance-total.result = search rules in
     let bytes : c.as_slice.result.now ≡ summary_line w.manager.settled c.args.requests (total_kept w 64) =
-    c.as_slice.ensures ∙ c.in-Ok.ensures ∙ ap (λ (es : List Entry). summary_line es c.args.requests (to_z w128 (of_z w128 c.total_balance-total.result))) c.settled.ensures
-    ∙ ap (summary_line w.manager.settled c.args.requests) (to_z-of_z w128 c.total_balance-total.result fits ∙ c.total_balance-total.ensures) in
+    c.as_slice.ensures ∙ c.in-Ok.ensures ∙ ap (summary_line w.manager.settled c.args.requests) (to_z-of_z w128 c.total_balance-total.result fits ∙ c.total_balance-total.ensures) in
     let part = c.emit.ensures.part told in
     emitted_so (summary_line w.manager.settled c.args.requests (total_kept w 64)) c.as_slice.result.now ending.WriteFault part.0 (g.H.Host.world c.args.host.now) (g.H.Host.world c.emit.new.self) bytes part.1 (λ q. absurd (let t : ⊥ = cc q in t)) (λ q. cc q)

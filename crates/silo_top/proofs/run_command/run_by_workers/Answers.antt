@@ -1,36 +1,14 @@
-use denote.Param.Send.{sendable}
-use Rattle.std.proofs.Common.{List, length, sym, ◌∙◌, ap, subst, arith}
-use Rattle.history_core.specs.Cores.{run_of}
-use Rattle.promise_spec.specs.Endings.{Ending}
-use Rattle.request_wire.specs.declared.requests.Line.{Line}
-use Rattle.run_lines.proofs.SharedValues.{lines_sync}
-use Rattle.run_lines.specs.LineReadings.{input_lines}
-use Rattle.script_tree.specs.Programs.{program_tree}
-use Rattle.silo_top.specs.CallAnswers.{workers_manner, AnswersRun}
-use Rattle.silo_top.specs.LineExecution.{CarriedLines}
+use Rattle.std.proofs.Common.{arith}
+use Rattle.silo_top.specs.CallAnswers.{workers_manner}
 use Rattle.silo_top.proofs.run_command.run_by_workers.Goals as goal
-use Rattle.run_books.specs.Stages.{side_of, stage_of}
+
+pub returns-in-Ok-clause-promises : goal.returns-in-Ok-clause-promises
+returns-in-Ok-clause-promises g c = λ told.
+    (c.windows_by_workers.ensures.ends (g.H.Host.faults c.args.host.now) (g.H.Host.world c.args.host.now) (c.in-Ok.ensures.begins workers_manner (omega arith))).promises told
+
+pub returns-in-Ok-clause-answers : goal.returns-in-Ok-clause-answers
+returns-in-Ok-clause-answers g c =
+    (c.windows_by_workers.ensures.ends (g.H.Host.faults c.args.host.now) (g.H.Host.world c.args.host.now) (c.in-Ok.ensures.begins workers_manner (omega arith))).answers
 
 pub returns-in-Err-clause-promises : goal.returns-in-Err-clause-promises
 returns-in-Err-clause-promises g c = λ told. c.in-Err.ensures.promises told workers_manner
-
-pub returns-clause-promises : goal.returns-clause-promises
-returns-clause-promises g c = λ told. c.in-Ok.ensures.keeps told workers_manner c.carry_by_workers-ended.new.settler (g.H.Host.faults c.carry_by_workers-ended.new.host) (g.H.Host.world c.carry_by_workers-ended.new.host) c.carry_by_workers-ended.result c.turns_status.result
-    (record {
-      wide = omega arith;
-      carried = subst (λ (ls : List Line). CarriedLines g.H.Host.tells workers_manner (program_tree c.in-Ok.begun.started.checked) ls (stage_of g.H.Host.world g.H.Host.faults (run_of c.in-Ok.begun.started.core) c.in-Ok.begun.started.settler c.begin_run.new.host) (side_of g.H.Host.world g.H.Host.faults c.carry_by_workers-ended.new.settler c.carry_by_workers-ended.new.host) c.carry_by_workers-ended.result)
-          (c.new-lines.ensures ∙ ap (input_lines (program_tree c.in-Ok.begun.started.checked)) c.as_slice.ensures.value) c.carry_by_workers-ended.ensures.carried;
-    })
-    (λ file. g.met.H.Host.seen_may_stay c.carry_by_workers-ended.new.host file told) (omega (arith, ap length c.as_slice.ensures.value, c.as_slice.ensures.len, c.in-Ok.ensures.within)) c.turns_status.ensures
-
-pub returns-clause-answers : goal.returns-clause-answers
-returns-clause-answers g c = subst (λ (e : Ending). AnswersRun e (g.H.Host.faults c.args.host.now) (g.H.Host.faults c.carry_by_workers-ended.new.host)) (sym c.turns_status.ensures)
-    (c.in-Ok.ensures.answers_on workers_manner c.carry_by_workers-ended.new.settler (g.H.Host.faults c.carry_by_workers-ended.new.host) (g.H.Host.world c.carry_by_workers-ended.new.host) c.carry_by_workers-ended.result
-    (record {
-      wide = omega arith;
-      carried = subst (λ (ls : List Line). CarriedLines g.H.Host.tells workers_manner (program_tree c.in-Ok.begun.started.checked) ls (stage_of g.H.Host.world g.H.Host.faults (run_of c.in-Ok.begun.started.core) c.in-Ok.begun.started.settler c.begin_run.new.host) (side_of g.H.Host.world g.H.Host.faults c.carry_by_workers-ended.new.settler c.carry_by_workers-ended.new.host) c.carry_by_workers-ended.result)
-          (c.new-lines.ensures ∙ ap (input_lines (program_tree c.in-Ok.begun.started.checked)) c.as_slice.ensures.value) c.carry_by_workers-ended.ensures.carried;
-    }))
-
-pub carry_by_workers-ended-requires-sync-L : goal.carry_by_workers-ended-requires-sync-L
-carry_by_workers-ended-requires-sync-L g c κs within = search (sendable, lines_sync) depth 20

@@ -3,7 +3,7 @@ use Rattle.core_model.specs.declared.events.CoreEvent.{CoreEvent}
 use Rattle.core_model.specs.declared.events.CoreReply.{CoreReply}
 use Rattle.history_core.specs.Cores.{CoreData, run_of}
 use Rattle.turn_cell.specs.declared.view.View.{View}
-use Rattle.closing_rules.proofs.JoinedPasses.{whole-gathered}
+use Rattle.worker_rules.proofs.JoinedPasses.{whole-gathered}
 use Rattle.silo_workers.proofs.JoinedPasses.{is-gathered}
 use Rattle.silo_workers.proofs.crowd.gather.Goals as goal
 

@@ -2,7 +2,7 @@ use Rattle.script_tree.specs.Programs.{program_tree}
 use Rattle.core_access.specs.PassSights.{sight_of}
 use Rattle.history_core.specs.Cores.{run_of}
 use Rattle.unit_crew.specs.Crews.{IsBasisOf}
-use Rattle.closing_rules.proofs.JoinedPasses.{gathers-returns}
+use Rattle.worker_rules.proofs.JoinedPasses.{gathers-returns}
 use Rattle.silo_workers.specs.WorkerPasses.{HasWorked}
 use Rattle.silo_workers.specs.declared.work.WorkEnd.TheVariants.{Idle}
 use Rattle.silo_workers.proofs.PassReturns.{returned-same}

@@ -1,16 +1,13 @@
-use Rattle.std.proofs.Common.{ℕ, ◌+◌, ◌≤◌, length, [], sym, ap, ◌∙◌, subst, arith}
+use Rattle.std.proofs.Common.{ℕ, ◌+◌, ◌≤◌, length, [], sym, ap, ◌∙◌, subst, arith, ◌<◌}
 use Rattle.core_model.specs.declared.events.CoreEvent.{CoreEvent}
 use Rattle.core_model.specs.declared.events.CoreReply.{CoreReply}
 use Rattle.core_model.specs.LegalRuns.{Run, ends}
-use Rattle.core_access.specs.OneHolder.{own_sight}
 use Rattle.history_core.specs.Cores.{CoreData, run_of}
 use Rattle.turn_cell.specs.declared.view.View.{View}
-use Rattle.txn_agent.specs.CoreLink.{IsLegalRun}
-use Rattle.worker_rules.specs.SharedHistories.{NoneLoads}
 use Rattle.run_books.proofs.SettlerFrame.{core-beside, run-stays}
 use Rattle.interleaver.proofs.RunningTurns.{turns-record}
 use Rattle.silo_workers.proofs.LoneRun.{turned, turned-beside}
-use Rattle.silo_workers.proofs.RunStart.{own-legal, reads-lines, of-program, can-among}
+use Rattle.silo_workers.proofs.RunStart.{reads-lines, of-program, can-among}
 use Rattle.silo_workers.proofs.ClosedCore.{closed-from, has-gathered, gathered-beside, gathered-same}
 use Rattle.silo_workers.proofs.run.run_with_workers.Goals as goal
 
@@ -18,7 +15,7 @@ pub gather-core-requires-clause-fresh : goal.gather-core-requires-clause-fresh
 gather-core-requires-clause-fresh g c κs = λ out.
     let first = c.in-Ok-new-2.ensures.first in (
       c.in-Ok-new-2.ensures.own,
-      subst (λ (z : View CoreData CoreEvent CoreReply). IsLegalRun (run_of z.first)) (sym first) (own-legal (run_of c.args.core) c.requires.legal c.requires.loads),
+      subst (λ (z : View CoreData CoreEvent CoreReply). 0 < (run_of z.first).base) (sym first) c.requires.above,
       subst (λ (z : View CoreData CoreEvent CoreReply). c.in-Ok.before ≤ (ends (run_of z.first)).units.lines) (sym first) (subst (λ (n : ℕ). c.in-Ok.before ≤ n) c.in-Ok.ensures (omega arith)),
       ap (λ (z : View CoreData CoreEvent CoreReply). z.hand.mine) first,
     )
@@ -47,11 +44,11 @@ returns-in-Ok-new-2-clause-record_kept g c = λ o b is can fresh turns.
 pub returns-in-Ok-new-2-clause-beside : goal.returns-in-Ok-new-2-clause-beside
 returns-in-Ok-new-2-clause-beside g c = c.end_run-ended.ensures.beside _ (gathered-beside (closed-from c.in-Ok-new-2.ensures.first c.gather-core.ensures.closed))
 
-pub carry_in_turns-ended-requires-clause-loads : goal.carry_in_turns-ended-requires-clause-loads
-carry_in_turns-ended-requires-clause-loads g c =
+pub carry_in_turns-ended-requires-clause-above : goal.carry_in_turns-ended-requires-clause-above
+carry_in_turns-ended-requires-clause-above g c =
     let none = c.has_none.ensures c.if-has_none.true in
     let still = gathered-same (closed-from c.in-Ok-new-2.ensures.first c.gather-core.ensures.closed) none.0 none.1 in
-    subst (λ (x : Run). NoneLoads (own_sight x).mine) (sym still) c.requires.loads
+    subst (λ (x : Run). 0 < x.base) (sym still) c.requires.above
 
 pub returns-then-has_none-clause-record_kept : goal.returns-then-has_none-clause-record_kept
 returns-then-has_none-clause-record_kept g c =

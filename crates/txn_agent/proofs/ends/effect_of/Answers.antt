@@ -1,6 +1,6 @@
 use Rattle.std.proofs.Common.{ap, ◌∙◌, sym}
 use Rattle.std.specs.Prelude.{length}
-use Rattle.promise_spec.specs.SerialExecution.{depth_of}
+use Rattle.base_types.specs.Origins.{depth_of}
 use Rattle.script_meaning.specs.Trails.{reads_of, states_of}
 use Rattle.script_meaning.proofs.SingleReads.{trails_read_once_lem}
 use Rattle.txn_agent.proofs.Effects.{effect-is}

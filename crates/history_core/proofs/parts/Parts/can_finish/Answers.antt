@@ -11,4 +11,4 @@ returns-then-is_going c = λ w s r.
     let p = c.args.self.now in
     let t = finishes_as p c.args.unit c.args.effect.now (known_in p.units c.args.unit) in
     c.has_finished.ensures ∙ ap (λ b. b && t) (sym c.if-is_going.true)
-    ∙ tells-going p (Finish c.args.unit c.args.effect.now) c.is_going.result t refl refl c.is_going.ensures (λ v k q. can-finish-is p v c.args.unit c.args.effect.now k) w s r
+    ∙ tells-going p (Finish c.args.unit c.args.effect.now) c.is_going.result t refl refl c.is_going.ensures (λ v k q. can-finish-is p v c.args.unit c.args.effect.now k q) w s r

@@ -1,6 +1,6 @@
 use Rattle.std.proofs.Common.{◌≡◌, ◌∙◌, sym, ap, refl, ◌&&◌}
 use Rattle.core_model.specs.Events.{applies}
-use Rattle.core_lists.specs.Pairs.{has_pair}
+use Rattle.core_parts.specs.Pairs.{has_pair}
 use Rattle.history_core.proofs.Learns.{can-learn-is}
 use Rattle.core_model.specs.declared.events.CoreEvent.TheVariants.{Learn}
 use Rattle.history_core.proofs.OneEvent.{tells-going}

@@ -3,7 +3,7 @@ use Rattle.core_model.specs.CoreState.{put}
 use Rattle.core_model.specs.Tests.{is_running}
 use Rattle.core_model.specs.declared.events.CoreEvent.TheVariants.{Finish}
 use Rattle.core_model.specs.declared.events.CoreReply.TheVariants as reply
-use Rattle.core_lists.specs.States.{handed_in}
+use Rattle.core_parts.specs.States.{handed_in}
 use Rattle.unit_table.specs.Table.{phase_in, result_in}
 use Rattle.unit_table.specs.declared.table.UnitTable.{UnitTable}
 use Rattle.open_batch.specs.declared.members.FinishedUnit.{FinishedUnit}

@@ -2,7 +2,7 @@ use Rattle.std.proofs.Common.{◌≡◌, ◌∙◌, sym, ap, refl, subst, Option
 use Rattle.cell_model.specs.Cells.{cell_released}
 use Rattle.core_model.specs.CoreState.{put_grain, Value}
 use Rattle.cell_table.specs.Table.{cell_in}
-use Rattle.core_lists.specs.States.{handed_in}
+use Rattle.core_parts.specs.States.{handed_in}
 use Rattle.unit_table.specs.Table.{phase_in}
 use Rattle.history_core.specs.Releases.{if_finished}
 use Rattle.history_core.proofs.Releases.{does-release, has-alone}

@@ -1,6 +1,6 @@
 use Rattle.std.proofs.Common.{◌≡◌, ◌∙◌, ◌≤◌, sym, ap, subst, List, length, take, Vec, Global}
 use Rattle.core_model.specs.Tests.{is_bad}
-use Rattle.core_lists.specs.States.{has_place}
+use Rattle.core_parts.specs.States.{has_place}
 use Rattle.unit_table.specs.Table.{verdict_in}
 use Rattle.open_batch.specs.declared.members.FinishedUnit.{FinishedUnit}
 use Rattle.open_batch.specs.TakenBatch.{first_batch}

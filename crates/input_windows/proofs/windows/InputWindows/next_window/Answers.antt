@@ -3,7 +3,7 @@ use Rattle.std.proofs.Math.ListN.{drop_of_length-le}
 use Rattle.std.proofs.Math.Seq.{take-append_seam}
 use Rattle.std.proofs.lemmas.List.{take-append-drop}
 use Rattle.request_wire.specs.Lines.{lines_of}
-use Rattle.input_windows.specs.Lines.{first_bad}
+use Rattle.promise_spec.specs.Windows.{first_bad}
 use Rattle.input_windows.specs.Scans.{Stands}
 use Rattle.input_windows.specs.Windows.{window_in, left_in, before_in, given_in}
 use Rattle.input_windows.proofs.Giving.{on_same_fault, took_then, took_as, took_nothing, gives_full, gives_rest, refuses_pull, none_begun, left_in_all, found_end, found_bad, found_open}

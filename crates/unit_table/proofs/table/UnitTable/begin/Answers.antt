@@ -9,7 +9,7 @@ use Rattle.unit_table.proofs.table.UnitTable.begin.Goals.{After-push}
 counted : (c : After-push) → Counted c.args.self.now c.count.new.self c.args.origin (record { 0 = next_in c.args.self.now })
 counted c =
     let t = c.args.self.now in
-    let number : t.base + c.len.result ≡ next_in t = ap (λ (q : ℕ). t.base + q) c.len.ensures in
+    let number : t.base + c.len.result + c.len-2.result ≡ next_in t = λ i. t.base + c.len.ensures i + c.len-2.ensures i in
     record {
       known = c.count.ensures.known ∙ ap (λ (q : ℕ). with_kid (known_in t) c.args.origin (record { 0 = q })) number;
       lines = c.count.ensures.lines;

@@ -1,5 +1,5 @@
 use Rattle.std.proofs.Common.{◌≡◌, refl, [], ◌∷◌, ◌++◌}
-use Rattle.std.specs.Vec.{with_item}
+use Rattle.std.specs.VecDeque.{deque_with_item}
 use Rattle.core_model.specs.CoreState.{put}
 use Rattle.unit_table.specs.declared.table.UnitTable.{UnitTable}
 use Rattle.unit_table.specs.KnownUnits.{KnownUnit}
@@ -11,7 +11,7 @@ use Rattle.unit_table.proofs.table.UnitTable.note_read.Goals.{After-add_read}
 
 -- the table at the end
 abbrev left : After-add_read → UnitTable
-left c = record c.args.self.now { wants = c.drop_want.new.wants; units = with_item c.args.self.now.units c.place-at.result c.add_read.new.self }
+left c = record c.args.self.now { wants = c.drop_want.new.wants; units = deque_with_item c.args.self.now.units c.place-at.result c.add_read.new.self }
 
 -- what is known of a unit, after the read
 abbrev has_read : After-add_read → KnownUnit → KnownUnit
@@ -21,7 +21,7 @@ has_read c k = record k { reads = k.reads ++ c.args.read ∷ []; deps = deps_aft
 read_more : (c : After-add_read) → known_in (left c) ≡ put (known_in c.args.self.now) c.args.unit (has_read c (known_in c.args.self.now c.args.unit))
 read_more c =
     known-changed c.args.self.now (left c) c.args.unit c.place-at.result c.index_mut-entry.result.now c.add_read.new.self (has_read c)
-    refl refl c.place-at.ensures.at c.place-at.ensures.within c.index_mut-entry.ensures.value c.add_read.ensures
+    (record { base = refl; past = refl }) refl c.place-at.ensures.at c.place-at.ensures.within c.index_mut-entry.ensures.value c.add_read.ensures
 
 pub returns-clause-units : goal.returns-clause-units
 returns-clause-units c =

@@ -1,4 +1,0 @@
-pub mod JoinedPasses
-pub mod Growth
-pub mod SharedHistories
-pub mod Closes

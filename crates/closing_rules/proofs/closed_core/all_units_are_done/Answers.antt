@@ -1,9 +1,0 @@
-use Rattle.turn_rules.proofs.LegalRuns.{legal-run}
-use Rattle.closing_rules.proofs.Closes.{closed-done, quiet-done}
-use Rattle.closing_rules.proofs.closed_core.all_units_are_done.Goals as goal
-
-pub returns-clause-all : goal.returns-clause-all
-returns-clause-all c = λ b first last h above rule before u born. closed-done b first last h above rule before u born
-
-pub returns-clause-quiet : goal.returns-clause-quiet
-returns-clause-quiet c = λ b r u above rule quiet born. quiet-done r u (legal-run b r above rule) quiet born

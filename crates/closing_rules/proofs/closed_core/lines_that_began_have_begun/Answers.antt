@@ -1,5 +1,0 @@
-use Rattle.closing_rules.proofs.Closes.{closed-lines}
-use Rattle.closing_rules.proofs.closed_core.lines_that_began_have_begun.Goals as goal
-
-pub returns : goal.returns
-returns c = closed-lines

@@ -1,2 +1,0 @@
-pub mod JoinedPasses
-pub mod ClosedCore

@@ -1,0 +1,4 @@
+pub mod RunsBehindOpening
+pub mod LoadImages
+pub mod LoadKept
+pub mod Balances

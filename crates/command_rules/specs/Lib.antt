@@ -1,0 +1,2 @@
+pub mod RunsBehindOpening
+pub mod LoadObligations

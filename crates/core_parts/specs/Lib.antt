@@ -1,0 +1,4 @@
+pub mod Pairs
+pub mod LineEnds
+pub mod Room
+pub mod States

@@ -1,3 +1,0 @@
-pub mod LoadImages
-pub mod LoadKept
-pub mod Balances

@@ -1,5 +1,0 @@
-use Rattle.load_rules.proofs.LoadKept.{kept_load}
-use Rattle.load_rules.proofs.load_promise.shown_loads_keep.Goals as goal
-
-pub returns : goal.returns
-returns c = kept_load
