@@ -1,5 +1,5 @@
 -- Members and first parts of lists.
-use Rattle.std.specs.Prelude.{◌≡◌, ◌⊎◌, List, [], ◌∷◌, ◌++◌, ⊥}
+use Rattle.std.specs.Prelude.{◌≡◌, ◌⊎◌, List, [], ◌∷◌, ◌++◌}
 
 -- x is in the list
 abbrev pub Member : {A : Type 0} → A → List A → Type 0
