@@ -6,6 +6,7 @@
 
 mod calls;
 mod entries;
+mod limits;
 mod list;
 mod shapes;
 mod state;
@@ -14,8 +15,9 @@ mod text;
 
 pub use calls::{Call, GrainId, Mode, Origin, Outcome, UnitNo, Value};
 pub use entries::{BadRequest, Entry, Settled};
+pub use limits::{FILE_LIMIT, PROGRAM_LIMIT, STATE_LIMIT, TEXT_LIMIT};
 pub use list::{List, TryCopy};
 pub use shapes::{Shape, TypeShape};
-pub use state::{STATE_LIMIT, State};
+pub use state::State;
 pub use stores::{Ends, Place, Store, Version};
-pub use text::{TEXT_LIMIT, Text};
+pub use text::Text;

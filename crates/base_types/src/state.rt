@@ -2,12 +2,10 @@ ghost use Rattle.std.specs.Prelude.{◌≡◌, ◌≤◌, ◌<◌, ◌+◌, [], 
 ghost use Rattle.std.specs.Option.{option_copied};
 
 use crate::calls::Value;
+use crate::limits::STATE_LIMIT;
 use crate::list::{List, TryCopy};
 use std::alloc::{AllocError, AllocFailed, Global};
 use std::marker::Model;
-
-/// The most fields that a type may have.
-pub const STATE_LIMIT: usize = 16;
 
 /// A grain's state: one value per field of its type, in the order of the fields, at most [`STATE_LIMIT`].
 /// Contracts see the list of the values.

@@ -1,11 +1,9 @@
 ghost use Rattle.std.specs.Prelude.{◌≡◌, ◌≤◌, length, IfOk};
 ghost use Rattle.base_types.specs.Texts.{short_text};
 
+use crate::limits::TEXT_LIMIT;
 use std::alloc::{AllocError, Global};
 use std::marker::Model;
-
-/// The most bytes that a text may have.
-pub const TEXT_LIMIT: usize = 256;
 
 /// A text of at most [`TEXT_LIMIT`] bytes of UTF-8. Contracts see its bytes.
 #[derive(Drop)]

@@ -13,10 +13,9 @@ ghost use Rattle.host_files.specs.declared.folder.Entries.{Entries};
 use crate::claim::Claim;
 use crate::pieces::{put_out, read_whole, take_input, write_whole};
 use crate::table::Asked;
+use base_types::FILE_LIMIT;
 use host_trait::FileId;
 use system_calls::{Access, Handle, Refused, SystemCalls};
-
-const LIMIT: u64 = 1 << 63;
 
 /// A handle that is kept from one call to the next.
 #[derive(Drop)]
@@ -322,7 +321,7 @@ impl<S: SystemCalls + Drop> Folder<S> {
             file: asked.file,
             opened,
         });
-        if found.length >= LIMIT {
+        if found.length >= FILE_LIMIT {
             return Err(Refused::Failed);
         }
         Ok(found.length)
@@ -447,7 +446,7 @@ impl<S: SystemCalls + Drop> Folder<S> {
     {
         refuse_lost(asked.is_lost)?;
         let count = bytes.len() as u64;
-        if at >= LIMIT || count >= LIMIT - at {
+        if at >= FILE_LIMIT || count >= FILE_LIMIT - at {
             return Err(Refused::Failed);
         }
         let opened = self.take_writer(asked)?;

@@ -10,6 +10,7 @@ ghost use Rattle.host_memory.specs.declared.events.Noted.{Noted};
 ghost use Rattle.host_memory.specs.declared.files.Stored.{Stored};
 
 use crate::files::{Stored, keep, put, replace};
+use base_types::FILE_LIMIT;
 use host_trait::FileId;
 use std::alloc::{AllocError, Global};
 
@@ -114,8 +115,7 @@ pub fn write(
     ensures stays { StaysKept files.old.items files.new.items }
     ensures faults { SameFaults files.old.items files.new.items }
 {
-    const LIMIT: u64 = 1 << 63;
-    if at >= LIMIT || bytes.len() as u64 >= LIMIT - at {
+    if at >= FILE_LIMIT || bytes.len() as u64 >= FILE_LIMIT - at {
         return Err(AllocError);
     }
     let copy = bytes.to_vec(alloc)?;

@@ -8,6 +8,7 @@ use crate::classes::{
     digits_len, is_blank_byte, is_digit_byte, is_letter_byte, line_len, name_len, skip, text_len,
 };
 use crate::tokens::{Symbol, Token, Word};
+use base_types::TEXT_LIMIT;
 use script_tree::Chars;
 use std::alloc::{AllocError, Global};
 
@@ -21,9 +22,6 @@ pub(crate) enum Lexeme {
 
 /// The most bytes of a name.
 const NAME_LIMIT: usize = 32;
-
-/// The most bytes of a text.
-const TEXT_LIMIT: usize = 256;
 
 /// The reserved words.
 const WORDS: [Word; 13] = [

@@ -9,5 +9,5 @@ mod programs;
 mod statements;
 mod types;
 
-pub use programs::{DEPTH_LIMIT, PROGRAM_LIMIT, parse};
+pub use programs::{NESTING_LIMIT, parse};
 pub use script_lexer::ParseFault;

@@ -8,16 +8,14 @@ ghost use Rattle.script_parser.specs.Grammar.{IsProgram};
 ghost use Rattle.script_parser.specs.Refusals.{IsRefusal};
 
 use crate::types::types;
+use base_types::PROGRAM_LIMIT;
 use script_expressions::Cursor;
 use script_lexer::{ParseFault, Spanned, tokens_of};
 use script_tree::Program;
 use std::alloc::Global;
 
-/// The most bytes of a program's text.
-pub const PROGRAM_LIMIT: usize = 262144;
-
 /// The most braces, parentheses and prefix operators that may be open at a place.
-pub const DEPTH_LIMIT: u8 = 32;
+pub const NESTING_LIMIT: u8 = 32;
 
 /// The program that a text is. A text that is none is refused with its first place that is wrong, in the order of the
 /// text; only want of memory may be answered in place of any other answer.
@@ -59,7 +57,7 @@ fn program(alloc: Global, stop: ParseFault, tokens: &[Spanned]) -> Result<Progra
     ensures { Makes program_tree result (program_over stop tokens.now) }
 {
     let mut cursor = Cursor { tokens, stop };
-    let types = types(alloc, &mut cursor, DEPTH_LIMIT)?;
+    let types = types(alloc, &mut cursor, NESTING_LIMIT)?;
     finish(&cursor)?;
     Ok(Program::new(types))
 }

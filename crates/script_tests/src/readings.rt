@@ -1,11 +1,11 @@
 use crate::printer::{print_call, print_expr, print_program};
 use crate::tokens::add_tokens;
 use crate::trouble::Trouble;
-use base_types::TypeShape;
+use base_types::{PROGRAM_LIMIT, TypeShape};
 use script_check::{Checked, check};
 use script_expressions::Cursor;
 use script_lexer::{Lexed, ParseFault, Symbol, tokens_of};
-use script_parser::{DEPTH_LIMIT, PROGRAM_LIMIT, parse};
+use script_parser::{NESTING_LIMIT, parse};
 use script_tree::{CallExpr, Expr, Program};
 use std::alloc::{AllocError, Global};
 use test_cases::add_values;
@@ -88,14 +88,14 @@ struct Parts {
 }
 
 fn value_at(alloc: Global, cursor: &mut Cursor<'_>) -> Result<Expr, ParseFault> {
-    let value = cursor.expression(alloc, DEPTH_LIMIT)?;
+    let value = cursor.expression(alloc, NESTING_LIMIT)?;
     cursor.expect(Symbol::Semicolon)?;
     Ok(value)
 }
 
 fn parts_at(alloc: Global, cursor: &mut Cursor<'_>) -> Result<Parts, ParseFault> {
     let value = value_at(alloc, cursor)?;
-    let call = cursor.call(alloc, DEPTH_LIMIT)?;
+    let call = cursor.call(alloc, NESTING_LIMIT)?;
     let stop = cursor.refused();
     Ok(Parts { value, call, stop })
 }

@@ -4,12 +4,10 @@ ghost use Rattle.host_trait.specs.Files.{StaysReady};
 ghost use Rattle.host_trait.specs.World.{Passes, moment_of};
 ghost use Rattle.silo_opening.specs.Counts.{InputFaulted};
 
+use base_types::PROGRAM_LIMIT;
 use host_trait::{Failed, Host};
 use std::alloc::{AllocError, Global};
 use thiserror::Error;
-
-/// The most bytes that a program's text may have.
-pub const PROGRAM_LIMIT: usize = 262_144;
 
 // The most bytes that are pulled at once.
 const PIECE: usize = 4096;
