@@ -34,7 +34,7 @@ within_by : (fields : Option ℕ) (place : Place) (file : List ℕ) (v : Version
 within_by None place file v e = absurd cc
 within_by (Some fields) place file v e =
     let one = past (is_beyond One place) place.offset (text_in One fields place file) v e in
-    let two = past (ltb (length file - place.offset) place.len) place.offset (in_file place.offset (version_of fields (take place.len (drop place.offset file)))) v one.1 in
+    let two = past (ltb (length file - place.offset) place.len) place.offset (in_file place.offset (version_of One fields (take place.len (drop place.offset file)))) v one.1 in
     ltb-false _ _ two.0
 
 module _ (live : ℕ) (shape : Shape) (image : Image) where
