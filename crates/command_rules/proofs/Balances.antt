@@ -96,7 +96,7 @@ module _ (w : CoreState) (reached : IsCoreReached w) where
           let at : ℕ = w.manager.closed + t.0 in
           let long = length-drop w.manager.closed w.manager.order in
           let is : get_or w.manager.order at nobody ≡ u = sym (get_or-drop w.manager.closed w.manager.order t.0 nobody) ∙ t.2 in
-          let listed = (rests w reached).ordered.listed at (omega (arith, t.1, long, closed-within w reached)) in
+          let listed = (rests w reached).prefix.order.listed at (omega (arith, t.1, long, closed-within w reached)) in
           let place : w.manager.place u ≡ at + 1 = subst (λ (x : UnitNo). w.manager.place x ≡ at + 1) is listed.1 in
           let early = committed-closed w reached u (committed-true (w.manager.verdict u) q) in
           absurd (omega (arith, place, early.1))
