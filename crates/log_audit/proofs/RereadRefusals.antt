@@ -45,7 +45,7 @@ module _ (image : Image) (live : ℕ) (p : Program) (log : Log) (parts : HasPart
   refused_by first (FolderFault.Damaged at place) (inr f) =
       let there = each_of (IsThere live (shape_in p) image) (named_by parts.records) f.0 all_there f.1 in
       absurd (let no : Err place ≡ Ok there.0 = sym f.2 ∙ there.1 in cc)
-  refused_by first (FolderFault.Failed at) (inl here) = inl (inl (here ∙ ap (λ (slot : ℕ). Manager slot) first))
+  refused_by first (FolderFault.Failed at) (inl here) = inl (inl (inl (here ∙ ap (λ (slot : ℕ). Manager slot) first)))
   refused_by first (FolderFault.Failed at) (inr f) =
       inr (f.0.written.grain, f.2, record { program = p; records = parts.records; first = parts.program; then_log = parts.read; named = in_map (λ (n : Named). n.written.grain) f.0 (named_by parts.records) f.1 })
   refused_by first FolderFault.Memory f = tt

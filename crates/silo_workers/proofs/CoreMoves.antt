@@ -10,6 +10,8 @@ use Rattle.std.proofs.Crossing.{crosses}
 use Rattle.std.proofs.MapsCrossing.{crosses as maps}
 use Rattle.base_types.specs.contracts.state.State as state
 use Rattle.core_model.specs.contracts.effects.Read as read
+use Rattle.core_parts.specs.contracts.entry_list.EntryList as entries
+use Rattle.core_parts.specs.contracts.entry_list.EntryList.TheInside as entries_inside
 use Rattle.dependency_sets.specs.contracts.set.DepSet as deps
 use Rattle.history_core.specs.contracts.parts.Parts as parts
 use Rattle.history_core.specs.contracts.whole_core.Core as core
@@ -44,6 +46,9 @@ past_send = search (sendable, crosses, maps) depth 60 fits 90000
 units_send : IsSend units.the_row
 units_send = search (sendable, crosses, maps, entry_send, running_send, past_send) depth 60 fits 90000
 
+entries_send : IsSend entries.the_row
+entries_send = view_send _ _ _ _ _ (declared_send entries_inside.the_type (search sendable, (search (sendable, crosses, maps) depth 60 fits 90000, (search sendable depth 20, tt))))
+
 parts_send : IsSend parts.the_row
 parts_send = declared_send parts.the_type (
   units_send,
@@ -58,7 +63,7 @@ parts_send = declared_send parts.the_type (
           (
             search sendable,
             (
-              search (sendable, crosses, maps) depth 40 fits 30000,
+              entries_send,
               (
                 search (sendable, crosses, maps) depth 40 fits 30000,
                 (
