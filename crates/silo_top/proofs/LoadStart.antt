@@ -70,8 +70,8 @@ pub same_behind : (x : Opened) (bank : Tree) (old mid : World) → program_in ba
 same_behind x bank old mid reads new stay is = record {
   opened = same_opened x bank (seen_in old.disk) (ap (λ (p : Program). p.types) (opened_same (program_tree bank) reads x (seen_in old.disk) (new (seen_in old.disk) stay) is.opened).0) is.opened;
   left = is.left;
+  settled = is.settled;
   count = is.count;
-  left = is.left;
   run = is.run;
   stays = is.stays;
 }

@@ -512,10 +512,10 @@ module _ (tells : Bool) (m : Manner) (before : Counts) (old : World) (run : Runn
     }
 
 -- where all lines of a window are carried, those of a further one can be
-pub can_further : (tells : Bool) (st : Started) (core : Core) (settler : Settler) (now now' : World) (m : Manner) (types : ProgramTree) (lines : List Line) (used used' : ℕ) (f f' : Counts) (mid : World) (result : Result Core RunFault)
-    → CarriedLines tells m types lines used used' (stage_by (run_of st.core) st.settler f mid) (side_by settler f' now') result → result ≡ Ok core → CanCarry tells st now → IsSafe tells settler.writer now'
+pub can_further : (tells : Bool) (st : Started) (core : Core) (settler : Settler) (now now' : World) (m : Manner) (of : ProgramTree) (lines : List Line) (used used' : ℕ) (f f' : Counts) (mid : World) (result : Result Core RunFault)
+    → CarriedLines tells m of lines used used' (stage_by (run_of st.core) st.settler f mid) (side_by settler f' now') result → result ≡ Ok core → CanCarry tells st now → IsSafe tells settler.writer now'
     → CanCarry tells (record { slot = st.slot; checked = st.checked; core = core; settler = settler }) now'
-can_further tells st core settler now now' m types lines used used' f f' mid result carried is can safe =
+can_further tells st core settler now now' m of lines used used' f f' mid result carried is can safe =
     let core_is : run_of core ≡ carried.left = subst (λ (y : Result Core RunFault). IfOk y (λ c. run_of c ≡ carried.left)) is carried.core in
     record {
       above = subst (λ (z : Run). 0 < z.base) (sym (core_is ∙ carried.beside.core)) can.above;

@@ -356,9 +356,9 @@ module _ {T : Type 0} (n seed : ℕ) (m : Manner) (x : Opened) (st : Started) (o
       }
 
       -- so many syncs were asked at most
-      most_so : last.syncs ≡ new.syncs → last.syncs ≤ old.syncs + most_syncs_of (core_run p c0)
+      most_so : last.syncs ≡ new.syncs → last.syncs ≤ old.syncs + most_syncs_of (seen_in old.disk) (core_run p c0)
       most_so said =
-          subst (λ (k : ℕ). k ≤ old.syncs + most_syncs_of (core_run p c0)) (sym said)
+          subst (λ (k : ℕ). k ≤ old.syncs + most_syncs_of (seen_in old.disk) (core_run p c0)) (sym said)
           (subst (λ (y : Run). new.syncs ≤ old.syncs + most_syncs_of (seen_in old.disk) y) (sym run_is)
           (most_syncs new.syncs mid.syncs old.syncs (opening_syncs (seen_in old.disk)) (how_many is_vote r') (how_many is_sealed r') (how_many is_unsealed r') (goes.on.record_kept.books.outside told).calls.most is.count))
 

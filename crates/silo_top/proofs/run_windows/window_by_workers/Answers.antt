@@ -1,8 +1,10 @@
+use denote.Param.Send.{sendable}
 use Rattle.std.proofs.Common.{◌+◌, ◌<◌, ℕ, List, ap, subst, ◌∙◌}
 use Rattle.history_core.specs.Cores.{run_of}
 use Rattle.input_windows.specs.Windows.{before_in}
 use Rattle.request_wire.specs.Lines.{lines_of}
 use Rattle.request_wire.specs.declared.requests.Line.{Line}
+use Rattle.run_lines.proofs.SharedValues.{lines_sync}
 use Rattle.run_lines.specs.LineReadings.{lines_from_texts}
 use Rattle.script_tree.specs.Programs.{program_tree}
 use Rattle.run_books.specs.Stages.{side_of, stage_of}
@@ -19,7 +21,10 @@ returns-in-Err-clause-goes g c = λ before old u.
     c.in-Err.status u (λ told. c.next_window.ensures.only told) (c.in-Err.ensures.comes old.input u.asked u.given) c.in-Err.ensures.counts (λ told file. g.met.H.Host.seen_may_stay c.next_window.new.host file told)
 
 pub carry_by_workers-requires-clause-safe : goal.carry_by_workers-requires-clause-safe
-carry_by_workers-requires-clause-safe g c = safe_pulled g.H.Host.tells c.args.running.started.settler.writer (g.H.Host.world c.args.host.now) (g.H.Host.world c.next_window.new.host) (λ told. c.next_window.ensures.only told) c.requires.can.safe
+carry_by_workers-requires-clause-safe g c κs within = safe_pulled g.H.Host.tells c.args.running.started.settler.writer (g.H.Host.world c.args.host.now) (g.H.Host.world c.next_window.new.host) (λ told. c.next_window.ensures.only told) c.requires.can.safe
+
+pub carry_by_workers-requires-sync-L : goal.carry_by_workers-requires-sync-L
+carry_by_workers-requires-sync-L g c κs within = search (sendable, lines_sync) depth 20
 
 pub returns-in-Ok-carry_by_workers-clause-goes : goal.returns-in-Ok-carry_by_workers-clause-goes
 returns-in-Ok-carry_by_workers-clause-goes g c = λ before old u.

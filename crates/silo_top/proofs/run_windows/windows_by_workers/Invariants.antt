@@ -9,8 +9,8 @@ use Rattle.silo_top.specs.RunWindows.{IsUnderWay}
 use Rattle.silo_top.proofs.run_windows.windows_by_workers.Given as goal
 
 -- wherever the run was under way it is still, and it can go on
-abbrev pub invariant-loop-running : goal.invariant-loop-running
-invariant-loop-running g l = record {
+abbrev pub invariant-loop-further : goal.invariant-loop-further
+invariant-loop-further g l = record {
   stays : (before : Channel → ℕ) (old : World) → IsUnderWay g.H.Host.tells workers_manner before old l.initial.running (g.H.Host.faults l.initial.host) (g.H.Host.world l.initial.host)
       → IsUnderWay g.H.Host.tells workers_manner before old l.running (g.H.Host.faults l.host) (g.H.Host.world l.host);
   can : CanCarry g.H.Host.tells l.running.started (g.H.Host.world l.host);
@@ -18,5 +18,5 @@ invariant-loop-running g l = record {
 }
 
 -- each window has a line at least, and its number 32 bits
-abbrev pub decreases-loop-running : goal.decreases-loop-running
-decreases-loop-running g l = 2 ^ 32 - given_in l.running.windows
+abbrev pub decreases-loop-further : goal.decreases-loop-further
+decreases-loop-further g l = 2 ^ 32 - given_in l.running.windows
