@@ -18,9 +18,9 @@ from harness import BANK, PROGRAM, Ended, Rows, ask, deposit, run, start
 
 rows = Rows("folders")
 
-# A run has begun to read its input once it has taken more than a pipe holds, and has the folder and its log then: a line that is no
-# request.
-FIRST_LINE = b" " * 200_000 + b"\n"
+# A run has begun to read its input once it has taken more than a pipe holds, and has the folder and its log then: lines that are no
+# requests.
+FIRST_LINES = (b" " * 50_000 + b"\n") * 4
 REPORTS = ("show", "history", "audit")
 ALL_IS_WELL = b'"first_bad":null}\n'
 SECONDS = 5
@@ -154,7 +154,7 @@ with tempfile.TemporaryDirectory() as room:
         """A run over the folder that has it, and waits for its lines."""
         it = start(folder, "run")
         with contextlib.suppress(BrokenPipeError):
-            it.stdin.write(FIRST_LINE)
+            it.stdin.write(FIRST_LINES)
             it.stdin.flush()
         return it
 
@@ -181,9 +181,9 @@ with tempfile.TemporaryDirectory() as room:
                 order = [("second", second), ("first", first)] if last == "first" else [("first", first), ("second", second)]
                 ends = {name: carries(it, LINES) for name, it in order}
             elif last == "first":
-                ends = {"second": run(folder, "run", given=FIRST_LINE + LINES), "first": carries(first, LINES)}
+                ends = {"second": run(folder, "run", given=FIRST_LINES + LINES), "first": carries(first, LINES)}
             else:
-                ends = {"first": carries(first, LINES), "second": run(folder, "run", given=FIRST_LINE + LINES)}
+                ends = {"first": carries(first, LINES), "second": run(folder, "run", given=FIRST_LINES + LINES)}
             what = f"a backup that is restored while a run waits, and a second run that {'waits too' if second_waits else 'does not wait'}; the {last} ends last"
             wrong = [is_kept(away, before[0][0]), is_kept(folder, before[1][0])]
             found = [logged(away, before[0][0]), logged(folder, before[1][0])]

@@ -7,8 +7,9 @@ import tempfile
 from harness import BANK, Ended, Rows, ask, deposit, reply, run, start
 
 LINES = 20
-# More than a pipe takes, so that once it is written the run has begun to read: a line that is no request, and requests.
-GIVEN = b" " * 200_000 + b"\n" + deposit(1) * LINES
+# More than a pipe takes, so that once it is written the run has begun to read: lines that are no requests, and requests.
+BLANKS = 4
+GIVEN = (b" " * 50_000 + b"\n") * BLANKS + deposit(1) * LINES
 TAKEN = Ended(6, b"", b"silo: disk fault in manager-0.otx\n")
 
 rows = Rows("one process")
@@ -23,7 +24,7 @@ with tempfile.TemporaryDirectory() as folder:
     for command in ("run", "init"):
         rows.row(f"{command} beside a run", run(folder, command, given=BANK), TAKEN)
     output, errors = first.communicate()
-    rows.row("the run that has the folder", (first.returncode, output.count(b"\n"), errors), (0, 1 + LINES, b""))
+    rows.row("the run that has the folder", (first.returncode, output.count(b"\n"), errors), (0, BLANKS + LINES, b""))
     rows.row("afterwards", run(folder, "run", given=ask()), Ended(0, reply(1, LINES, LINES + 1), b""))
 
     # Killed while it has the folder.
