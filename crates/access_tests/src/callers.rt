@@ -3,6 +3,7 @@ ghost use Rattle.std.specs.Prelude.{◌≡◌, false, IfOk, OnErr};
 ghost use Rattle.core_model.specs.Events.{applies};
 ghost use Rattle.core_model.specs.declared.events.CoreEvent.TheVariants.{Emitted};
 ghost use Rattle.core_model.specs.LegalRuns.{ends};
+ghost use Rattle.core_access.specs.FitAccess.{StaysFit};
 ghost use Rattle.core_access.specs.Sights.{run_seen, Looks, Tells};
 ghost use Rattle.access_tests.specs.Calls.{SpoilsNext};
 
@@ -20,8 +21,7 @@ fn fault_of(refused: (AllocError, CoreEvent)) -> AllocError {
 /// event doesn't apply. Want of memory also where the number is beyond those of lines.
 pub fn spoil_next<A: Access>(access: &mut A) -> Result<CoreReply, AllocError>
     requires { A.is_fit access.old }
-    ensures fit { A.is_fit access.new }
-    ensures aside { A.aside access.new ≡ A.aside access.old }
+    ensures kept { StaysFit (A.is_fit access.new) (A.aside access.old) (A.aside access.new) }
     ensures put { IfOk result (λ r. SpoilsNext A.may_come (A.sight access.old) r (A.sight access.new)) }
     ensures unput { OnErr result (Looks A.may_come (A.sight access.old) (A.sight access.new)) }
 {
@@ -45,8 +45,7 @@ pub fn spoil_next<A: Access>(access: &mut A) -> Result<CoreReply, AllocError>
 /// Puts that an entry is written. Where there is one, that takes no memory.
 pub fn write_one<A: Access>(access: &mut A) -> Result<CoreReply, AllocError>
     requires { A.is_fit access.old }
-    ensures fit { A.is_fit access.new }
-    ensures aside { A.aside access.new ≡ A.aside access.old }
+    ensures kept { StaysFit (A.is_fit access.new) (A.aside access.old) (A.aside access.new) }
     ensures put { IfOk result (λ r. Tells A.may_come (A.sight access.old) Emitted r (A.sight access.new)) }
     ensures spared { OnErr result (applies (ends (run_seen (A.sight access.new))) Emitted ≡ false) }
 {

@@ -97,9 +97,9 @@ impl Bench {
         match self.agents.find(alloc, checked, &mut self.core, 0, place)? {
             Found::At(index) => {
                 self.agents.advance(alloc, checked, &mut self.core, index)?;
-                return Ok(true);
+                Ok(true)
             }
-            Found::Few(_) => return Ok(false),
+            Found::Few(_) => Ok(false),
         }
     }
 
@@ -109,10 +109,10 @@ impl Bench {
         ensures { IfOk result (λ _. IsCarrying (program_tree checked.now) self.new) }
     {
         match next_settling(&self.core.core, written)? {
-            None => return Ok(false),
+            None => Ok(false),
             Some(event) => match Access::put(&mut self.core.core, event) {
-                Ok(_reply) => return Ok(true),
-                Err((fault, _event)) => return Err(fault),
+                Ok(_reply) => Ok(true),
+                Err((fault, _event)) => Err(fault),
             },
         }
     }

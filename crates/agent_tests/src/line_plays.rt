@@ -63,8 +63,8 @@ fn play_row<R: Wait>(
     ensures { IfOk result (λ _. IsCarrying (program_tree checked.now) bench.new) }
 {
     match line.strip_prefix("race ") {
-        Some(words) => return play_race(waiting, alloc, checked, words),
-        None => return play_line(bench, alloc, checked, line),
+        Some(words) => play_race(waiting, alloc, checked, words),
+        None => play_line(bench, alloc, checked, line),
     }
 }
 

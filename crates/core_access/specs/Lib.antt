@@ -1,5 +1,6 @@
 pub mod Histories
 pub mod Sights
+pub mod FitAccess
 pub mod CallsWithoutMemory
 pub mod SettlerEvents
 pub mod OneHolder

@@ -2,6 +2,7 @@ ghost use Rattle.std.specs.Prelude.{◌≡◌, Bool, false, IfOk, IfErr};
 ghost use Rattle.core_model.specs.Answers.{answer_to};
 ghost use Rattle.core_model.specs.declared.events.CoreEvent.{CoreEvent as AnEvent};
 ghost use Rattle.core_model.specs.LegalRuns.{ends};
+ghost use Rattle.core_access.specs.FitAccess.{StaysFit};
 ghost use Rattle.core_access.specs.Sights.{Sight, run_seen, IsHistory, Looks, Tells};
 ghost use Rattle.core_access.specs.CallsWithoutMemory.{is_spared, is_plain};
 
@@ -37,8 +38,7 @@ pub trait Access {
     /// grain learns, and an entry that is written.
     fn put(&mut self, event: CoreEvent) -> Result<CoreReply, (AllocError, CoreEvent)>
         requires fit { is_fit self.old }
-        ensures fit { is_fit self.new }
-        ensures aside { aside self.new ≡ aside self.old }
+        ensures kept { StaysFit (is_fit self.new) (aside self.old) (aside self.new) }
         ensures legal { IsHistory (sight self.new) }
         ensures put { IfOk result (λ r. Tells may_come (sight self.old) event r (sight self.new)) }
         ensures refused { IfErr result (λ e. (e.1 ≡ event) × Looks may_come (sight self.old) (sight self.new)) }
@@ -49,8 +49,7 @@ pub trait Access {
     /// Where there is no memory for the answer there is none. That is never so of one that is a few numbers.
     fn see(&mut self, question: &CoreQuestion) -> Result<CoreAnswer, AllocError>
         requires fit { is_fit self.old }
-        ensures fit { is_fit self.new }
-        ensures aside { aside self.new ≡ aside self.old }
+        ensures kept { StaysFit (is_fit self.new) (aside self.old) (aside self.new) }
         ensures legal { IsHistory (sight self.new) }
         ensures looked { Looks may_come (sight self.old) (sight self.new) }
         ensures answer { IfOk result (λ a. a ≡ answer_to (ends (run_seen (sight self.new))) question.now) }

@@ -32,8 +32,8 @@ impl Parts {
         ensures { (w : CoreState) → PartsStand self.now w → result ≡ nat_lt 0 (batch_size w) }
     {
         match self.waiting.first() {
-            None => return false,
-            Some(member) => return self.is_free(&member.effect),
+            None => false,
+            Some(member) => self.is_free(&member.effect),
         }
     }
 

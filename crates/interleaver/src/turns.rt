@@ -255,16 +255,16 @@ impl Turns {
             settler,
             pick,
         )? {
-            NextMover::Nobody => return Ok(false),
+            NextMover::Nobody => Ok(false),
             NextMover::Settler => {
                 settle(&self.shape, core, settler, host, gate)?;
                 self.used += 1;
-                return Ok(true);
+                Ok(true)
             }
             NextMover::Unit(index) => {
                 self.move_unit(checked, core, gate, index)?;
                 self.used += 1;
-                return Ok(true);
+                Ok(true)
             }
         }
     }
@@ -307,9 +307,9 @@ impl Turns {
         match self.next_line(settler, lines, width)? {
             Some(line) => {
                 self.begin(checked, core, &line, gate)?;
-                return Ok(true);
+                Ok(true)
             }
-            None => return self.move_one(checked, core, settler, host, gate, picks),
+            None => self.move_one(checked, core, settler, host, gate, picks),
         }
     }
 }

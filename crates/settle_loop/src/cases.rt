@@ -131,17 +131,17 @@ impl Settler {
         match self.writer.seal(host, made) {
             Sealing::Sealed {
                 next_gate: _next_gate,
-            } => return Ok(Made::Event {
+            } => Ok(Made::Event {
                 event: CoreEvent::Sealed { batch },
                 writes: false,
                 doubts: false,
             }),
-            Sealing::NotSealed => return Ok(Made::Event {
+            Sealing::NotSealed => Ok(Made::Event {
                 event: CoreEvent::NotSealed { batch },
                 writes: false,
                 doubts: false,
             }),
-            Sealing::InDoubt => return Ok(Made::Event {
+            Sealing::InDoubt => Ok(Made::Event {
                 event: CoreEvent::Doubt { batch },
                 writes: false,
                 doubts: true,
@@ -166,12 +166,12 @@ impl Settler {
         }
         let text = reply_text(self.alloc, &entry, shape)?;
         match host.emit(text.as_slice()) {
-            Ok(()) => return Ok(Made::Event {
+            Ok(()) => Ok(Made::Event {
                 event: CoreEvent::Emitted,
                 writes: true,
                 doubts: false,
             }),
-            Err(_) => return Ok(Made::Cut),
+            Err(_) => Ok(Made::Cut),
         }
     }
 
@@ -195,31 +195,25 @@ impl Settler {
                 batch,
                 grain,
                 versions,
-            } => {
-                return self.vote(host, batch, grain, versions);
-            }
-            SettlerWork::Decide { batch } => return Ok(Made::Event {
+            } => self.vote(host, batch, grain, versions),
+            SettlerWork::Decide { batch } => Ok(Made::Event {
                 event: CoreEvent::Decide { batch },
                 writes: false,
                 doubts: false,
             }),
-            SettlerWork::Seal { batch, effects } => {
-                return self.seal(host, gate, batch, effects);
-            }
-            SettlerWork::Learn { unit, grain } => {
-                return Ok(Made::Event {
-                    event: CoreEvent::Learn { unit, grain },
-                    writes: false,
-                    doubts: false,
-                });
-            }
-            SettlerWork::Write { entry } => return self.write(shape, host, entry),
-            SettlerWork::Take => return Ok(Made::Event {
+            SettlerWork::Seal { batch, effects } => self.seal(host, gate, batch, effects),
+            SettlerWork::Learn { unit, grain } => Ok(Made::Event {
+                event: CoreEvent::Learn { unit, grain },
+                writes: false,
+                doubts: false,
+            }),
+            SettlerWork::Write { entry } => self.write(shape, host, entry),
+            SettlerWork::Take => Ok(Made::Event {
                 event: CoreEvent::Take,
                 writes: false,
                 doubts: false,
             }),
-            SettlerWork::Nothing => return Ok(Made::Idle),
+            SettlerWork::Nothing => Ok(Made::Idle),
         }
     }
 }

@@ -1,6 +1,7 @@
 ghost use Rattle.std.specs.Prelude.{◌≡◌, Bool, false, IfOk, OnErr};
 ghost use Rattle.core_model.specs.declared.events.CoreReply.{CoreReply as AReply};
 ghost use Rattle.core_model.specs.Settler.{settler_step};
+ghost use Rattle.core_access.specs.FitAccess.{StaysFit};
 ghost use Rattle.core_access.specs.Sights.{run_seen, Looks, Tells};
 ghost use Rattle.core_access.specs.CallsWithoutMemory.{is_spared};
 ghost use Rattle.settle_loop.specs.ShownWork.{ShowsWork, has_applied};
@@ -14,8 +15,7 @@ use std::alloc::AllocError;
 #[tactic(auto, using(crate::proofs::ShownWork::work_of))]
 pub fn look<A: Access>(access: &mut A) -> Result<SettlerWork, AllocError>
     requires fit { A.is_fit access.old }
-    ensures fit { A.is_fit access.new }
-    ensures aside { A.aside access.new ≡ A.aside access.old }
+    ensures kept { StaysFit (A.is_fit access.new) (A.aside access.old) (A.aside access.new) }
     ensures looked { Looks A.may_come (A.sight access.old) (A.sight access.new) }
     ensures work { IfOk result (λ work. ShowsWork (state_shown (A.sight access.new)) (settler_step (state_shown (A.sight access.new))) work) }
 {
@@ -28,8 +28,7 @@ pub fn look<A: Access>(access: &mut A) -> Result<SettlerWork, AllocError>
 /// Puts an event. Without memory it wasn't put.
 pub fn put<A: Access>(access: &mut A, event: CoreEvent) -> Result<CoreReply, AllocError>
     requires fit { A.is_fit access.old }
-    ensures fit { A.is_fit access.new }
-    ensures aside { A.aside access.new ≡ A.aside access.old }
+    ensures kept { StaysFit (A.is_fit access.new) (A.aside access.old) (A.aside access.new) }
     ensures told { IfOk result (λ reply. Tells A.may_come (A.sight access.old) event reply (A.sight access.new)) }
     ensures refused { OnErr result (Looks A.may_come (A.sight access.old) (A.sight access.new)) }
     ensures unspared { OnErr result (is_spared (run_seen (A.sight access.new)) event ≡ false) }
@@ -43,8 +42,7 @@ pub fn put<A: Access>(access: &mut A, event: CoreEvent) -> Result<CoreReply, All
 /// Whether a settled entry isn't written.
 pub fn sees_unwritten<A: Access>(access: &mut A) -> Result<bool, AllocError>
     requires fit { A.is_fit access.old }
-    ensures fit { A.is_fit access.new }
-    ensures aside { A.aside access.new ≡ A.aside access.old }
+    ensures kept { StaysFit (A.is_fit access.new) (A.aside access.old) (A.aside access.new) }
     ensures looked { Looks A.may_come (A.sight access.old) (A.sight access.new) }
     ensures answer { IfOk result (λ found. found ≡ has_unwritten (state_shown (A.sight access.new))) }
 {

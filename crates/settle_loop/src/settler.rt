@@ -3,6 +3,7 @@ ghost use Rattle.base_types.specs.Stores.{end_in};
 ghost use Rattle.base_types.specs.declared.calls.GrainId.{GrainId as AGrain};
 ghost use Rattle.host_trait.specs.Files.{StaysReady};
 ghost use Rattle.core_model.specs.Settler.{settler_step, has_step, step_of};
+ghost use Rattle.core_access.specs.FitAccess.{StaysFit};
 ghost use Rattle.core_access.specs.Sights.{Looks};
 ghost use Rattle.batch_disk.specs.Writers.{file_end, kept_of, IsInBounds, FitsDisk};
 ghost use Rattle.settle_loop.specs.ShownWork.{counted_up};
@@ -101,8 +102,7 @@ impl Settler {
     /// Whether one of its cases applies to what it looked at in this call.
     pub fn applies<A: Access>(&self, access: &mut A) -> Result<bool, AllocError>
         requires fit { A.is_fit access.old }
-        ensures fit { A.is_fit access.new }
-        ensures aside { A.aside access.new ≡ A.aside access.old }
+        ensures kept { StaysFit (A.is_fit access.new) (A.aside access.old) (A.aside access.new) }
         ensures looked { Looks A.may_come (A.sight access.old) (A.sight access.new) }
         ensures applies { IfOk result (λ b. b ≡ has_step (settler_step (state_shown (A.sight access.new)))) }
     {
@@ -132,8 +132,7 @@ impl Settler {
         doubts: bool,
     ) -> Result<Turned, AllocError>
         requires fit { A.is_fit access.old }
-        ensures fit { A.is_fit access.new }
-        ensures aside { A.aside access.new ≡ A.aside access.old }
+        ensures kept { StaysFit (A.is_fit access.new) (A.aside access.old) (A.aside access.new) }
         ensures told { ToldAs A.may_come event writes doubts self.old self.new (A.sight access.old) (A.sight access.new) result }
         ensures writer { self.new.writer ≡ self.old.writer }
     {
@@ -169,8 +168,7 @@ impl Settler {
         requires fit { A.is_fit access.old }
         requires bounds { IsInBounds self.old.writer }
         requires fits { IsTrue H.tells → FitsDisk self.old.writer (H.world host.old).disk }
-        ensures fit { A.is_fit access.new }
-        ensures aside { A.aside access.new ≡ A.aside access.old }
+        ensures kept { StaysFit (A.is_fit access.new) (A.aside access.old) (A.aside access.new) }
 
         // What it did to the core and to the host, for each answer and for want of memory.
         ensures turns { TurnsAs H.tells H.world H.faults A.may_come shape.now self.old self.new (A.sight access.old) (A.sight access.new) host.old host.new result }
@@ -189,11 +187,9 @@ impl Settler {
                 event,
                 writes,
                 doubts,
-            } => {
-                return self.tell(access, event, writes, doubts);
-            }
-            Made::Idle => return Ok(Turned::Nothing),
-            Made::Cut => return Ok(Turned::Stop(StopCause::WriteFault)),
+            } => self.tell(access, event, writes, doubts),
+            Made::Idle => Ok(Turned::Nothing),
+            Made::Cut => Ok(Turned::Stop(StopCause::WriteFault)),
         }
     }
 }

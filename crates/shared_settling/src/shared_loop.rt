@@ -1,6 +1,7 @@
 ghost use Rattle.std.specs.Prelude.{◌≡◌, IfOk};
 ghost use Rattle.host_trait.specs.Files.{StaysReady};
 ghost use Rattle.core_model.specs.Settler.{settler_step, Rests};
+ghost use Rattle.core_access.specs.FitAccess.{StaysFit};
 ghost use Rattle.core_access.specs.Sights.{run_seen};
 ghost use Rattle.settle_loop.specs.SettlerStep.{state_shown};
 ghost use Rattle.run_books.specs.SharedSteps.{SeesOn};
@@ -22,8 +23,7 @@ use worker_signals::Signals;
 #[tactic(auto, using(crate::proofs::Stops::put_stop, crate::proofs::Stops::spared_stop))]
 fn stop<A: Access>(access: &mut A, signals: &Signals)
     requires fit { A.is_fit access.old }
-    ensures fit { A.is_fit access.new }
-    ensures aside { A.aside access.new ≡ A.aside access.old }
+    ensures kept { StaysFit (A.is_fit access.new) (A.aside access.old) (A.aside access.new) }
     ensures stops { MayStop A.may_come (A.sight access.old) (A.sight access.new) }
     ensures stopped { HasToStop (run_seen (A.sight access.new)) }
 {
@@ -39,8 +39,7 @@ fn stop<A: Access>(access: &mut A, signals: &Signals)
 /// Ends the others behind a fault: by a stop, unless it is a doubt, by which they end as well.
 fn end_others<A: Access>(access: &mut A, signals: &Signals, fault: &RunFault)
     requires fit { A.is_fit access.old }
-    ensures fit { A.is_fit access.new }
-    ensures aside { A.aside access.new ≡ A.aside access.old }
+    ensures kept { StaysFit (A.is_fit access.new) (A.aside access.old) (A.aside access.new) }
     ensures ends { EndsOthers A.may_come fault.now (A.sight access.old) (A.sight access.new) }
 {
     match fault {
@@ -75,8 +74,7 @@ pub fn settle_beside<A: Access, H: Host, G: Gate, R: Wait>(
 ) -> Result<(), RunFault>
     requires fit { A.is_fit access.old }
     requires safe { IsSafe H.tells settler.old.writer (H.world host.old) }
-    ensures fit { A.is_fit access.new }
-    ensures aside { A.aside access.new ≡ A.aside access.old }
+    ensures kept { StaysFit (A.is_fit access.new) (A.aside access.old) (A.aside access.new) }
 
     // What it put: the settler's events, and a stop last, perhaps, where it failed.
     ensures sees { SeesOn (A.sight access.old) (A.sight access.new) }

@@ -1,6 +1,7 @@
 ghost use Rattle.std.specs.Prelude.{◌≡◌, true, false, IfOk, IfErr};
 ghost use Rattle.host_trait.specs.Files.{StaysReady};
 ghost use Rattle.core_model.specs.Settler.{settler_step, Rests};
+ghost use Rattle.core_access.specs.FitAccess.{StaysFit};
 ghost use Rattle.core_access.specs.Sights.{run_seen};
 ghost use Rattle.settle_loop.specs.SettlerStep.{state_shown};
 ghost use Rattle.run_books.specs.declared.faults.RunFault.TheVariants.{InDoubt};
@@ -25,8 +26,7 @@ pub(crate) fn settle_once<A: Access, H: Host, G: Gate>(
 ) -> Result<bool, RunFault>
     requires fit { A.is_fit access.old }
     requires safe { IsSafe H.tells settler.old.writer (H.world host.old) }
-    ensures fit { A.is_fit access.new }
-    ensures aside { A.aside access.new ≡ A.aside access.old }
+    ensures kept { StaysFit (A.is_fit access.new) (A.aside access.old) (A.aside access.new) }
     ensures own { SettlesAmong (A.sight access.old) (A.sight access.new) }
     ensures leaves { LeavesBeside H.tells shape.now (side_of H.world H.faults settler.old host.old)
         (side_of H.world H.faults settler.new host.new) result (A.sight access.old) (A.sight access.new) }

@@ -43,13 +43,13 @@ pub(crate) fn end_run<H: Host, G: Gate>(
         settled,
     } = gathered;
     match settled {
-        Err(fault) => return Err(fault),
+        Err(fault) => Err(fault),
         Ok(()) => match end {
-            WorkEnd::Idle => return Err(RunFault::Memory),
-            WorkEnd::Lacking => return Err(RunFault::Memory),
+            WorkEnd::Idle => Err(RunFault::Memory),
+            WorkEnd::Lacking => Err(RunFault::Memory),
             WorkEnd::Through => {
                 core.show_few();
-                return settle_rest(shape, core, settler, host, gate);
+                settle_rest(shape, core, settler, host, gate)
             }
         },
     }

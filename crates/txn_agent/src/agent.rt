@@ -1,4 +1,5 @@
 ghost use Rattle.std.specs.Prelude.{◌≡◌, IfOk, IsOk};
+ghost use Rattle.core_access.specs.FitAccess.{StaysFit};
 ghost use Rattle.core_access.specs.Sights.{Sight, Counts, Looks};
 ghost use Rattle.script_tree.specs.Programs.{ProgramTree, program_tree};
 ghost use Rattle.txn_agent.specs.CoreLink.{IfOwn, IsNew, Knows};
@@ -164,8 +165,7 @@ impl Agent {
         requires fit { A.is_fit access.old }
         requires counts { Counts (A.sight access.old) }
         requires knows { Knows (program_tree checked.now) (A.sight access.old) self.old }
-        ensures fit { A.is_fit access.new }
-        ensures aside { A.aside access.new ≡ A.aside access.old }
+        ensures kept { StaysFit (A.is_fit access.new) (A.aside access.old) (A.aside access.new) }
         ensures carried { self.new.carried ≡ self.old.carried }
         ensures looked { Looks A.may_come (A.sight access.old) (A.sight access.new) }
         ensures heard { IfOk result (λ _. Hears (A.sight access.new) self.new.doing) }
@@ -189,8 +189,7 @@ impl Agent {
         requires fit { A.is_fit access.old }
         requires counts { Counts (A.sight access.old) }
         requires knows { Knows (program_tree checked.now) (A.sight access.old) self.old }
-        ensures fit { A.is_fit access.new }
-        ensures aside { A.aside access.new ≡ A.aside access.old }
+        ensures kept { StaysFit (A.is_fit access.new) (A.aside access.old) (A.aside access.new) }
         ensures carried { self.new.carried ≡ self.old.carried }
         ensures looked { Looks A.may_come (A.sight access.old) (A.sight access.new) }
         ensures heard { IfOk result (λ _. Hears (A.sight access.new) self.new.doing) }
@@ -209,8 +208,7 @@ impl Agent {
     /// does by hearing of it. It takes no memory.
     pub fn can_move<A: Access>(&self, access: &mut A) -> Result<bool, AllocError>
         requires fit { A.is_fit access.old }
-        ensures fit { A.is_fit access.new }
-        ensures aside { A.aside access.new ≡ A.aside access.old }
+        ensures kept { StaysFit (A.is_fit access.new) (A.aside access.old) (A.aside access.new) }
         ensures looked { Looks A.may_come (A.sight access.old) (A.sight access.new) }
         ensures sure { IsOk result }
         ensures moves { IfOk result (λ b. (types : ProgramTree) → Counts (A.sight access.old) → Knows types (A.sight access.old) self.now → IfOwn self.now.carried (A.sight access.new) (λ r. ShowsMove types r self.now.carried self.now.doing b)) }
@@ -229,8 +227,7 @@ impl Agent {
         requires fit { A.is_fit access.old }
         requires counts { Counts (A.sight access.old) }
         requires knows { Knows (program_tree checked.now) (A.sight access.old) self.old }
-        ensures fit { A.is_fit access.new }
-        ensures aside { A.aside access.new ≡ A.aside access.old }
+        ensures kept { StaysFit (A.is_fit access.new) (A.aside access.old) (A.aside access.new) }
         ensures carried { self.new.carried ≡ self.old.carried }
 
         // What was put stands where memory was wanting too.

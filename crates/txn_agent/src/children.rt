@@ -1,4 +1,5 @@
 ghost use Rattle.std.specs.Prelude.{◌≡◌, IfOk};
+ghost use Rattle.core_access.specs.FitAccess.{StaysFit};
 ghost use Rattle.core_access.specs.Sights.{Counts, Looks};
 ghost use Rattle.script_tree.specs.Programs.{program_tree};
 ghost use Rattle.script_machine.specs.declared.machine.Pause.TheVariants.{NeedUnit as NeedsUnit};
@@ -28,8 +29,7 @@ pub fn hear<A: Access>(
     requires fit { A.is_fit access.old }
     requires counts { Counts (A.sight access.old) }
     requires waits { KnowsWaiting (program_tree checked.now) (A.sight access.old) carried work child }
-    ensures fit { A.is_fit access.new }
-    ensures aside { A.aside access.new ≡ A.aside access.old }
+    ensures kept { StaysFit (A.is_fit access.new) (A.aside access.old) (A.aside access.new) }
     ensures looked { Looks A.may_come (A.sight access.old) (A.sight access.new) }
     ensures heard { IfOk result (λ made. Hears (A.sight access.new) made) }
     ensures children { IfOk result (λ made. children_of made ≡ work.kids) }
@@ -56,8 +56,7 @@ pub fn begin_child<A: Access>(
     requires fit { A.is_fit access.old }
     requires counts { Counts (A.sight access.old) }
     requires paused { KnowsPaused (program_tree checked.now) (A.sight access.old) carried work (NeedsUnit call depth) }
-    ensures fit { A.is_fit access.new }
-    ensures aside { A.aside access.new ≡ A.aside access.old }
+    ensures kept { StaysFit (A.is_fit access.new) (A.aside access.old) (A.aside access.new) }
     ensures acts { Acts A.may_come (program_tree checked.now) carried.unit (A.sight access.old) (A.sight access.new) }
     ensures told { IfOk result (λ made. AnswerSays A.may_come (program_tree checked.now) carried.unit work.kids (A.sight access.old) (A.sight access.new) made.1) }
     ensures doing { IfOk result (λ made. KnowsDoing (program_tree checked.now) (A.sight access.new) carried made.0) }
@@ -75,18 +74,18 @@ pub fn begin_child<A: Access>(
         Some(child) => {
             let mut work = work;
             work.kids = begun;
-            return Ok((
+            Ok((
                 Doing::Awaits { work, child },
                 Advanced::Began {
                     child,
                     call: asked,
                     depth,
                 },
-            ));
+            ))
         }
         None => {
             let pause = Pause::NeedUnit { call: asked, depth };
-            return Ok((Doing::Asks { work, pause }, Advanced::Moved));
+            Ok((Doing::Asks { work, pause }, Advanced::Moved))
         }
     }
 }

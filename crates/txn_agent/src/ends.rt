@@ -1,6 +1,7 @@
 ghost use Rattle.std.specs.Prelude.{◌≡◌, IfOk, List as AList, length, map, not, true, false, Some};
 ghost use Rattle.core_model.specs.CoreState.{same_grain};
 ghost use Rattle.core_model.specs.Tests.{first_grain, first_of_two, is_before};
+ghost use Rattle.core_access.specs.FitAccess.{StaysFit};
 ghost use Rattle.core_access.specs.Sights.{Counts};
 ghost use Rattle.script_tree.specs.Programs.{ProgramTree, program_tree};
 ghost use Rattle.script_meaning.specs.Trails.{Given};
@@ -95,8 +96,7 @@ pub fn finish<A: Access>(
     requires counts { Counts (A.sight access.old) }
     requires paused { KnowsPaused (program_tree checked.now) (A.sight access.old) carried work (IsAtEnd outcome) }
     requires kind { carried.plain ≡ false }
-    ensures fit { A.is_fit access.new }
-    ensures aside { A.aside access.new ≡ A.aside access.old }
+    ensures kept { StaysFit (A.is_fit access.new) (A.aside access.old) (A.aside access.new) }
     ensures acts { Acts A.may_come (program_tree checked.now) carried.unit (A.sight access.old) (A.sight access.new) }
     ensures told { IfOk result (λ made. AnswerSays A.may_come (program_tree checked.now) carried.unit work.kids (A.sight access.old) (A.sight access.new) made.1) }
     ensures doing { IfOk result (λ made. KnowsDoing (program_tree checked.now) (A.sight access.new) carried made.0) }
@@ -122,8 +122,7 @@ pub fn end_plain<A: Access>(
     requires counts { Counts (A.sight access.old) }
     requires paused { KnowsPaused (program_tree checked.now) (A.sight access.old) carried work (IsAtEnd outcome) }
     requires kind { carried.plain ≡ true }
-    ensures fit { A.is_fit access.new }
-    ensures aside { A.aside access.new ≡ A.aside access.old }
+    ensures kept { StaysFit (A.is_fit access.new) (A.aside access.old) (A.aside access.new) }
     ensures acts { Acts A.may_come (program_tree checked.now) carried.unit (A.sight access.old) (A.sight access.new) }
     ensures told { IfOk result (λ made. AnswerSays A.may_come (program_tree checked.now) carried.unit work.kids (A.sight access.old) (A.sight access.new) made.1) }
     ensures doing { IfOk result (λ made. KnowsDoing (program_tree checked.now) (A.sight access.new) carried made.0) }
@@ -195,8 +194,7 @@ pub fn release<A: Access>(
     requires fit { A.is_fit access.old }
     requires counts { Counts (A.sight access.old) }
     requires over { KnowsDoing (program_tree checked.now) (A.sight access.old) carried (FreesAll held) }
-    ensures fit { A.is_fit access.new }
-    ensures aside { A.aside access.new ≡ A.aside access.old }
+    ensures kept { StaysFit (A.is_fit access.new) (A.aside access.old) (A.aside access.new) }
     ensures acts { Acts A.may_come (program_tree checked.now) carried.unit (A.sight access.old) (A.sight access.new) }
     ensures told { IfOk result (λ made. AnswerSays A.may_come (program_tree checked.now) carried.unit 0 (A.sight access.old) (A.sight access.new) made.1) }
     ensures doing { IfOk result (λ made. KnowsDoing (program_tree checked.now) (A.sight access.new) carried made.0) }

@@ -2,6 +2,7 @@ ghost use Rattle.std.specs.Prelude.{◌≡◌, IfOk, is_some, true};
 ghost use Rattle.core_model.specs.Changes.{refusal};
 ghost use Rattle.core_model.specs.LegalRuns.{ends};
 ghost use Rattle.core_model.specs.Tests.{ask_answer};
+ghost use Rattle.core_access.specs.FitAccess.{StaysFit};
 ghost use Rattle.core_access.specs.Sights.{run_seen, Counts};
 ghost use Rattle.script_tree.specs.Programs.{program_tree};
 ghost use Rattle.script_machine.specs.declared.machine.Pause.TheVariants.{NeedGrain};
@@ -33,8 +34,7 @@ fn refuse<A: Access>(
     requires counts { Counts (A.sight access.old) }
     requires paused { KnowsPaused (program_tree checked.now) (A.sight access.old) carried work (NeedGrain grain mode) }
     requires barred { is_some (refusal grain (ask_answer (ends (run_seen (A.sight access.old))) carried.unit grain mode)) ≡ true }
-    ensures fit { A.is_fit access.new }
-    ensures aside { A.aside access.new ≡ A.aside access.old }
+    ensures kept { StaysFit (A.is_fit access.new) (A.aside access.old) (A.aside access.new) }
     ensures acts { Acts A.may_come (program_tree checked.now) carried.unit (A.sight access.old) (A.sight access.new) }
     ensures told { IfOk result (λ made. AnswerSays A.may_come (program_tree checked.now) carried.unit work.kids (A.sight access.old) (A.sight access.new) made.1) }
     ensures doing { IfOk result (λ made. KnowsDoing (program_tree checked.now) (A.sight access.new) carried made.0) }
@@ -60,8 +60,7 @@ pub fn take_grain<A: Access>(
     requires fit { A.is_fit access.old }
     requires counts { Counts (A.sight access.old) }
     requires paused { KnowsPaused (program_tree checked.now) (A.sight access.old) carried work (NeedGrain grain mode) }
-    ensures fit { A.is_fit access.new }
-    ensures aside { A.aside access.new ≡ A.aside access.old }
+    ensures kept { StaysFit (A.is_fit access.new) (A.aside access.old) (A.aside access.new) }
     ensures acts { Acts A.may_come (program_tree checked.now) carried.unit (A.sight access.old) (A.sight access.new) }
     ensures told { IfOk result (λ made. AnswerSays A.may_come (program_tree checked.now) carried.unit work.kids (A.sight access.old) (A.sight access.new) made.1) }
     ensures doing { IfOk result (λ made. KnowsDoing (program_tree checked.now) (A.sight access.new) carried made.0) }
@@ -69,31 +68,32 @@ pub fn take_grain<A: Access>(
     match ask_for(access, carried.unit, grain, mode) {
         AskAnswer::Free => {
             if work.machine.is_raise() {
-                return grant_again(alloc, checked, access, carried, work, grain, mode);
+                grant_again(alloc, checked, access, carried, work, grain, mode)
+            } else {
+                grant_first(alloc, checked, access, carried, work, grain, mode)
             }
-            return grant_first(alloc, checked, access, carried, work, grain, mode);
         }
         AskAnswer::MustWait { holder } => {
             let pause = Pause::NeedGrain { grain, mode };
-            return Ok((Doing::Asks { work, pause }, Advanced::Waits { holder }));
+            Ok((Doing::Asks { work, pause }, Advanced::Waits { holder }))
         }
-        AskAnswer::MustDie { holder: _holder } => {
-            return refuse(checked, access, carried, work, grain, mode);
-        }
-        AskAnswer::Doomed { source: _source } => {
-            return refuse(checked, access, carried, work, grain, mode);
-        }
+        AskAnswer::MustDie { holder: _holder } => refuse(
+            checked, access, carried, work, grain, mode,
+        ),
+        AskAnswer::Doomed { source: _source } => refuse(
+            checked, access, carried, work, grain, mode,
+        ),
         AskAnswer::NotActive => {
             let pause = Pause::NeedGrain { grain, mode };
-            return Ok((Doing::Asks { work, pause }, Advanced::Moved));
+            Ok((Doing::Asks { work, pause }, Advanced::Moved))
         }
         AskAnswer::Held => {
             let pause = Pause::NeedGrain { grain, mode };
-            return Ok((Doing::Asks { work, pause }, Advanced::Moved));
+            Ok((Doing::Asks { work, pause }, Advanced::Moved))
         }
         AskAnswer::Absent => {
             let pause = Pause::NeedGrain { grain, mode };
-            return Ok((Doing::Asks { work, pause }, Advanced::Moved));
+            Ok((Doing::Asks { work, pause }, Advanced::Moved))
         }
     }
 }

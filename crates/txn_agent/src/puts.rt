@@ -1,5 +1,6 @@
 ghost use Rattle.std.specs.Prelude.{◌≡◌, false, IfOk, IfErr};
 ghost use Rattle.core_model.specs.declared.events.CoreEvent.TheVariants as event;
+ghost use Rattle.core_access.specs.FitAccess.{StaysFit};
 ghost use Rattle.core_access.specs.Sights.{Looks, Tells, run_seen};
 ghost use Rattle.core_access.specs.CallsWithoutMemory.{is_spared};
 ghost use Rattle.txn_agent.specs.Replies.{Says, began_by, granted_by, is_done};
@@ -13,8 +14,7 @@ use std::alloc::AllocError;
 /// and has no need of room.
 fn put<A: Access>(access: &mut A, event: CoreEvent) -> Result<CoreReply, AllocError>
     requires fit { A.is_fit access.old }
-    ensures fit { A.is_fit access.new }
-    ensures aside { A.aside access.new ≡ A.aside access.old }
+    ensures kept { StaysFit (A.is_fit access.new) (A.aside access.old) (A.aside access.new) }
     ensures put { IfOk result (λ reply. Tells A.may_come (A.sight access.old) event reply (A.sight access.new)) }
     ensures looked { IfErr result (λ _. Looks A.may_come (A.sight access.old) (A.sight access.new)) }
     ensures unspared { IfErr result (λ _. is_spared (run_seen (A.sight access.new)) event ≡ false) }
@@ -82,8 +82,7 @@ fn granted(reply: CoreReply) -> Option<(State, UnitNo)>
 /// Puts an event, and answers whether it was done.
 fn put_done<A: Access>(access: &mut A, event: CoreEvent) -> Result<bool, AllocError>
     requires fit { A.is_fit access.old }
-    ensures fit { A.is_fit access.new }
-    ensures aside { A.aside access.new ≡ A.aside access.old }
+    ensures kept { StaysFit (A.is_fit access.new) (A.aside access.old) (A.aside access.new) }
     ensures said { IfOk result (λ said. Says A.may_come (A.sight access.old) (event) is_done said (A.sight access.new)) }
     ensures looked { IfErr result (λ _. Looks A.may_come (A.sight access.old) (A.sight access.new)) }
 {
@@ -98,8 +97,7 @@ pub fn put_begin<A: Access>(
     call: Call,
 ) -> Result<Option<UnitNo>, AllocError>
     requires fit { A.is_fit access.old }
-    ensures fit { A.is_fit access.new }
-    ensures aside { A.aside access.new ≡ A.aside access.old }
+    ensures kept { StaysFit (A.is_fit access.new) (A.aside access.old) (A.aside access.new) }
     ensures said { IfOk result (λ said. Says A.may_come (A.sight access.old) (event.Begin origin call false) began_by said (A.sight access.new)) }
     ensures looked { IfErr result (λ _. Looks A.may_come (A.sight access.old) (A.sight access.new)) }
 {
@@ -122,8 +120,7 @@ pub fn put_grant<A: Access>(
     mode: Mode,
 ) -> Result<Option<(State, UnitNo)>, AllocError>
     requires fit { A.is_fit access.old }
-    ensures fit { A.is_fit access.new }
-    ensures aside { A.aside access.new ≡ A.aside access.old }
+    ensures kept { StaysFit (A.is_fit access.new) (A.aside access.old) (A.aside access.new) }
     ensures said { IfOk result (λ said. Says A.may_come (A.sight access.old) (event.Grant unit grain mode) granted_by said (A.sight access.new)) }
     ensures looked { IfErr result (λ _. Looks A.may_come (A.sight access.old) (A.sight access.new)) }
 {
@@ -139,8 +136,7 @@ pub fn put_refuse<A: Access>(
     mode: Mode,
 ) -> Result<bool, AllocError>
     requires fit { A.is_fit access.old }
-    ensures fit { A.is_fit access.new }
-    ensures aside { A.aside access.new ≡ A.aside access.old }
+    ensures kept { StaysFit (A.is_fit access.new) (A.aside access.old) (A.aside access.new) }
     ensures said { IfOk result (λ said. Says A.may_come (A.sight access.old) (event.Refuse unit grain mode) is_done said (A.sight access.new)) }
     ensures looked { IfErr result (λ _. Looks A.may_come (A.sight access.old) (A.sight access.new)) }
 {
@@ -154,8 +150,7 @@ pub fn put_finish<A: Access>(
     effect: Effect,
 ) -> Result<bool, AllocError>
     requires fit { A.is_fit access.old }
-    ensures fit { A.is_fit access.new }
-    ensures aside { A.aside access.new ≡ A.aside access.old }
+    ensures kept { StaysFit (A.is_fit access.new) (A.aside access.old) (A.aside access.new) }
     ensures said { IfOk result (λ said. Says A.may_come (A.sight access.old) (event.Finish unit effect) is_done said (A.sight access.new)) }
     ensures looked { IfErr result (λ _. Looks A.may_come (A.sight access.old) (A.sight access.new)) }
 {
@@ -165,8 +160,7 @@ pub fn put_finish<A: Access>(
 /// Puts the end of a plain run, and answers whether it was done.
 pub fn put_end<A: Access>(access: &mut A, unit: UnitNo, effect: Effect) -> Result<bool, AllocError>
     requires fit { A.is_fit access.old }
-    ensures fit { A.is_fit access.new }
-    ensures aside { A.aside access.new ≡ A.aside access.old }
+    ensures kept { StaysFit (A.is_fit access.new) (A.aside access.old) (A.aside access.new) }
     ensures said { IfOk result (λ said. Says A.may_come (A.sight access.old) (event.EndPlain unit effect) is_done said (A.sight access.new)) }
     ensures looked { IfErr result (λ _. Looks A.may_come (A.sight access.old) (A.sight access.new)) }
 {
@@ -180,8 +174,7 @@ pub fn put_release<A: Access>(
     grain: GrainId,
 ) -> Result<bool, AllocError>
     requires fit { A.is_fit access.old }
-    ensures fit { A.is_fit access.new }
-    ensures aside { A.aside access.new ≡ A.aside access.old }
+    ensures kept { StaysFit (A.is_fit access.new) (A.aside access.old) (A.aside access.new) }
     ensures said { IfOk result (λ said. Says A.may_come (A.sight access.old) (event.Release unit grain) is_done said (A.sight access.new)) }
     ensures looked { IfErr result (λ _. Looks A.may_come (A.sight access.old) (A.sight access.new)) }
 {

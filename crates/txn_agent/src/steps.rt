@@ -1,4 +1,5 @@
 ghost use Rattle.std.specs.Prelude.{◌≡◌, IfOk, IsOk};
+ghost use Rattle.core_access.specs.FitAccess.{StaysFit};
 ghost use Rattle.core_access.specs.Sights.{Counts, Looks};
 ghost use Rattle.script_tree.specs.Programs.{ProgramTree, program_tree};
 ghost use Rattle.promise_spec.specs.TurnRule.{is_wait};
@@ -29,20 +30,17 @@ pub fn hear_child<A: Access>(
     requires fit { A.is_fit access.old }
     requires counts { Counts (A.sight access.old) }
     requires doing { KnowsDoing (program_tree checked.now) (A.sight access.old) carried doing }
-    ensures fit { A.is_fit access.new }
-    ensures aside { A.aside access.new ≡ A.aside access.old }
+    ensures kept { StaysFit (A.is_fit access.new) (A.aside access.old) (A.aside access.new) }
     ensures looked { Looks A.may_come (A.sight access.old) (A.sight access.new) }
     ensures heard { IfOk result (λ made. Hears (A.sight access.new) made) }
     ensures children { IfOk result (λ made. children_of made ≡ children_of doing) }
     ensures doing { IfOk result (λ made. KnowsDoing (program_tree checked.now) (A.sight access.new) carried made) }
 {
     match doing {
-        Doing::Awaits { work, child } => {
-            return hear(alloc, checked, access, carried, work, child);
-        }
-        Doing::Asks { work, pause } => return Ok(Doing::Asks { work, pause }),
-        Doing::Frees { held } => return Ok(Doing::Frees { held }),
-        Doing::Stopped => return Ok(Doing::Stopped),
+        Doing::Awaits { work, child } => hear(alloc, checked, access, carried, work, child),
+        Doing::Asks { work, pause } => Ok(Doing::Asks { work, pause }),
+        Doing::Frees { held } => Ok(Doing::Frees { held }),
+        Doing::Stopped => Ok(Doing::Stopped),
     }
 }
 
@@ -58,24 +56,22 @@ fn do_asked<A: Access>(
     requires fit { A.is_fit access.old }
     requires counts { Counts (A.sight access.old) }
     requires paused { KnowsPaused (program_tree checked.now) (A.sight access.old) carried work pause }
-    ensures fit { A.is_fit access.new }
-    ensures aside { A.aside access.new ≡ A.aside access.old }
+    ensures kept { StaysFit (A.is_fit access.new) (A.aside access.old) (A.aside access.new) }
     ensures acts { Acts A.may_come (program_tree checked.now) carried.unit (A.sight access.old) (A.sight access.new) }
     ensures told { IfOk result (λ made. AnswerSays A.may_come (program_tree checked.now) carried.unit work.kids (A.sight access.old) (A.sight access.new) made.1) }
     ensures doing { IfOk result (λ made. KnowsDoing (program_tree checked.now) (A.sight access.new) carried made.0) }
 {
     match pause {
-        Pause::NeedGrain { grain, mode } => {
-            return take_grain(alloc, checked, access, carried, work, grain, mode);
-        }
-        Pause::NeedUnit { call, depth } => {
-            return begin_child(checked, access, carried, work, call, depth);
-        }
+        Pause::NeedGrain { grain, mode } => take_grain(
+            alloc, checked, access, carried, work, grain, mode,
+        ),
+        Pause::NeedUnit { call, depth } => begin_child(checked, access, carried, work, call, depth),
         Pause::Done { outcome } => {
             if carried.plain {
-                return end_plain(alloc, checked, access, carried, work, outcome);
+                end_plain(alloc, checked, access, carried, work, outcome)
+            } else {
+                finish(alloc, checked, access, carried, work, outcome)
             }
-            return finish(alloc, checked, access, carried, work, outcome);
         }
     }
 }
@@ -91,21 +87,19 @@ pub fn step<A: Access>(
     requires fit { A.is_fit access.old }
     requires counts { Counts (A.sight access.old) }
     requires doing { KnowsDoing (program_tree checked.now) (A.sight access.old) carried doing }
-    ensures fit { A.is_fit access.new }
-    ensures aside { A.aside access.new ≡ A.aside access.old }
+    ensures kept { StaysFit (A.is_fit access.new) (A.aside access.old) (A.aside access.new) }
     ensures acts { Acts A.may_come (program_tree checked.now) carried.unit (A.sight access.old) (A.sight access.new) }
     ensures told { IfOk result (λ made. AnswerSays A.may_come (program_tree checked.now) carried.unit (children_of doing) (A.sight access.old) (A.sight access.new) made.1) }
     ensures doing { IfOk result (λ made. KnowsDoing (program_tree checked.now) (A.sight access.new) carried made.0) }
 {
     match hear_child(alloc, checked, access, carried, doing)? {
-        Doing::Asks { work, pause } => {
-            return do_asked(alloc, checked, access, carried, work, pause);
-        }
-        Doing::Awaits { work, child } => {
-            return Ok((Doing::Awaits { work, child }, Advanced::WaitsFor { child }));
-        }
-        Doing::Frees { held } => return release(checked, access, carried, held),
-        Doing::Stopped => return Ok((Doing::Stopped, Advanced::Ended)),
+        Doing::Asks { work, pause } => do_asked(alloc, checked, access, carried, work, pause),
+        Doing::Awaits { work, child } => Ok((
+            Doing::Awaits { work, child },
+            Advanced::WaitsFor { child },
+        )),
+        Doing::Frees { held } => release(checked, access, carried, held),
+        Doing::Stopped => Ok((Doing::Stopped, Advanced::Ended)),
     }
 }
 
@@ -131,8 +125,7 @@ pub fn moves_now<A: Access>(
     doing: &Doing,
 ) -> Result<bool, AllocError>
     requires fit { A.is_fit access.old }
-    ensures fit { A.is_fit access.new }
-    ensures aside { A.aside access.new ≡ A.aside access.old }
+    ensures kept { StaysFit (A.is_fit access.new) (A.aside access.old) (A.aside access.new) }
     ensures looked { Looks A.may_come (A.sight access.old) (A.sight access.new) }
     ensures sure { IsOk result }
     ensures moves { IfOk result (λ b. (types : ProgramTree) → Counts (A.sight access.old) → KnowsDoing types (A.sight access.old) carried doing.now → IfOwn carried (A.sight access.new) (λ r. ShowsMove types r carried doing.now b)) }
@@ -141,16 +134,16 @@ pub fn moves_now<A: Access>(
         Doing::Asks { pause, .. } => match pause {
             Pause::NeedGrain { grain, mode } => {
                 let answer = ask_for(access, carried.unit, *grain, *mode);
-                return Ok(!must_wait(answer));
+                Ok(!must_wait(answer))
             }
-            Pause::NeedUnit { .. } => return Ok(true),
-            Pause::Done { .. } => return Ok(true),
+            Pause::NeedUnit { .. } => Ok(true),
+            Pause::Done { .. } => Ok(true),
         },
         Doing::Awaits { child, .. } => {
             let decided = is_decided(access, *child)?;
-            return Ok(decided);
+            Ok(decided)
         }
-        Doing::Frees { held } => return Ok(!held.is_empty()),
-        Doing::Stopped => return Ok(false),
+        Doing::Frees { held } => Ok(!held.is_empty()),
+        Doing::Stopped => Ok(false),
     }
 }

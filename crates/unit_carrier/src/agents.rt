@@ -1,6 +1,7 @@
 ghost use Rattle.std.specs.Prelude.{◌≡◌, ◌<◌, ◌≤◌, ℕ, [], length, IfOk};
 ghost use Rattle.core_model.specs.LockAnswers.{IsGoing};
 ghost use Rattle.core_model.specs.LegalRuns.{ends};
+ghost use Rattle.core_access.specs.FitAccess.{StaysFit};
 ghost use Rattle.core_access.specs.Sights.{run_seen};
 ghost use Rattle.script_tree.specs.Programs.{program_tree};
 ghost use Rattle.txn_agent.specs.AgentStep.{Acts};
@@ -77,8 +78,7 @@ impl Agents {
         requires fit { A.is_fit access.old }
         requires carried { AreCarried (program_tree checked.now) A.may_come (A.sight access.old) self.old.list.items }
         requires freed { AreFreed front self.old.list.items }
-        ensures fit { A.is_fit access.new }
-        ensures aside { A.aside access.new ≡ A.aside access.old }
+        ensures kept { StaysFit (A.is_fit access.new) (A.aside access.old) (A.aside access.new) }
         ensures same { A.sight access.new ≡ A.sight access.old }
         ensures carried { IfOk result (λ _. AreCarried (program_tree checked.now) A.may_come (A.sight access.new) self.new.list.items) }
         ensures units { IfOk result (λ _. as_carried self.new.list.items ≡ as_carried self.old.list.items) }
@@ -126,8 +126,7 @@ impl Agents {
         requires fit { A.is_fit access.old }
         requires within { index < length self.old.list.items }
         requires carried { AreCarried (program_tree checked.now) A.may_come (A.sight access.old) self.old.list.items }
-        ensures fit { A.is_fit access.new }
-        ensures aside { A.aside access.new ≡ A.aside access.old }
+        ensures kept { StaysFit (A.is_fit access.new) (A.aside access.old) (A.aside access.new) }
         ensures acts { Acts A.may_come (program_tree checked.now) (unit_at self.old.list.items index) (A.sight access.old) (A.sight access.new) }
         ensures steps { IfOk result (λ went. StepsOn A.may_come (program_tree checked.now) (unit_at self.old.list.items index) (A.sight access.old) (A.sight access.new) (units_carried self.old.list.items) (units_carried self.new.list.items) went) }
         ensures carried { IfOk result (λ _. AreCarried (program_tree checked.now) A.may_come (A.sight access.new) self.new.list.items) }
@@ -144,13 +143,13 @@ impl Agents {
                     depth,
                 };
                 self.carry(alloc, checked, child, origin, call, false)?;
-                return Ok(Went::Began { child });
+                Ok(Went::Began { child })
             }
-            Advanced::Granted { grain, source } => return Ok(Went::Granted { grain, source }),
-            Advanced::Moved => return Ok(Went::Moved),
-            Advanced::Waits { holder: _holder } => return Ok(Went::Stayed),
-            Advanced::WaitsFor { child: _child } => return Ok(Went::Stayed),
-            Advanced::Ended => return Ok(Went::Stayed),
+            Advanced::Granted { grain, source } => Ok(Went::Granted { grain, source }),
+            Advanced::Moved => Ok(Went::Moved),
+            Advanced::Waits { holder: _holder } => Ok(Went::Stayed),
+            Advanced::WaitsFor { child: _child } => Ok(Went::Stayed),
+            Advanced::Ended => Ok(Went::Stayed),
         }
     }
 }

@@ -1,5 +1,6 @@
 ghost use Rattle.std.specs.Prelude.{◌≡◌, ◌⊎◌, Ok, IfOk, OnErr, option_map, slice_get};
 ghost use Rattle.std.specs.Option.{option_copied};
+ghost use Rattle.core_access.specs.FitAccess.{StaysFit};
 ghost use Rattle.core_access.specs.Sights.{Looks, Tells};
 ghost use Rattle.core_model.specs.declared.events.CoreReply.{CoreReply as AReply};
 ghost use Rattle.script_tree.specs.Programs.{method_tree, program_tree, type_tree};
@@ -48,10 +49,10 @@ fn makes_transaction(checked: &Checked, call: &Call) -> bool
     ensures { result ≡ makes_unit (numbered (slice_get (program_tree checked.now) call.now.grain.kind) call.now.method) }
 {
     match type_at(checked, call.grain.kind) {
-        None => return false,
+        None => false,
         Some(of_type) => match method_at(of_type, call.method) {
-            None => return false,
-            Some(method) => return is_new_unit(enter(method.option, false)),
+            None => false,
+            Some(method) => is_new_unit(enter(method.option, false)),
         },
     }
 }
@@ -59,8 +60,7 @@ fn makes_transaction(checked: &Checked, call: &Call) -> bool
 /// Puts an event of a line.
 fn put<A: Access>(access: &mut A, event: CoreEvent) -> Result<CoreReply, AllocError>
     requires fit { A.is_fit access.old }
-    ensures fit { A.is_fit access.new }
-    ensures aside { A.aside access.new ≡ A.aside access.old }
+    ensures kept { StaysFit (A.is_fit access.new) (A.aside access.old) (A.aside access.new) }
     ensures told { IfOk result (λ reply. Tells A.may_come (A.sight access.old) event reply (A.sight access.new)) }
     ensures refused { OnErr result (Looks A.may_come (A.sight access.old) (A.sight access.new)) }
 {
@@ -98,8 +98,7 @@ fn start_call<A: Access>(
     call: &Call,
 ) -> Result<Option<UnitNo>, AllocError>
     requires fit { A.is_fit access.old }
-    ensures fit { A.is_fit access.new }
-    ensures aside { A.aside access.new ≡ A.aside access.old }
+    ensures kept { StaysFit (A.is_fit access.new) (A.aside access.old) (A.aside access.new) }
     ensures put { OnErr result (Looks A.may_come (A.sight access.old) (A.sight access.new) ⊎ ((r : AReply) × PutsLine A.may_come (program_tree checked.now) line (Ok call.now) (A.sight access.old) (A.sight access.new) r)) }
     ensures starts { IfOk result (λ began. StartsCall A.may_come (program_tree checked.now) line call.now (A.sight access.old) (A.sight access.new) agents.old.list.items agents.new.list.items began) }
 {
@@ -118,9 +117,9 @@ fn start_call<A: Access>(
     match begun(&reply) {
         Some(unit) => {
             agents.carry(alloc, checked, unit, origin, asked, plain)?;
-            return Ok(Some(unit));
+            Ok(Some(unit))
         }
-        None => return Ok(None),
+        None => Ok(None),
     }
 }
 
@@ -134,13 +133,12 @@ pub fn start_line<A: Access>(
     line: &Line,
 ) -> Result<Option<UnitNo>, AllocError>
     requires fit { A.is_fit access.old }
-    ensures fit { A.is_fit access.new }
-    ensures aside { A.aside access.new ≡ A.aside access.old }
+    ensures kept { StaysFit (A.is_fit access.new) (A.aside access.old) (A.aside access.new) }
     ensures put { OnErr result (Looks A.may_come (A.sight access.old) (A.sight access.new) ⊎ ((r : AReply) × PutsLine A.may_come (program_tree checked.now) line.now.number line.now.what (A.sight access.old) (A.sight access.new) r)) }
     ensures starts { IfOk result (λ began. StartsLine A.may_come (program_tree checked.now) line.now.number line.now.what (A.sight access.old) (A.sight access.new) agents.old.list.items agents.new.list.items began) }
 {
     match &line.what {
-        Ok(call) => return start_call(alloc, checked, access, agents, line.number, call),
+        Ok(call) => start_call(alloc, checked, access, agents, line.number, call),
         Err(why) => {
             put(
                 access,
@@ -149,7 +147,7 @@ pub fn start_line<A: Access>(
                     why: *why,
                 },
             )?;
-            return Ok(None);
+            Ok(None)
         }
     }
 }
@@ -164,8 +162,7 @@ pub fn begin_line<A: Access>(
 ) -> Result<Option<UnitNo>, AllocError>
     requires fit { A.is_fit access.old }
     requires carried { AreCarried (program_tree checked.now) A.may_come (A.sight access.old) agents.old.list.items }
-    ensures fit { A.is_fit access.new }
-    ensures aside { A.aside access.new ≡ A.aside access.old }
+    ensures kept { StaysFit (A.is_fit access.new) (A.aside access.old) (A.aside access.new) }
     ensures put { OnErr result (Looks A.may_come (A.sight access.old) (A.sight access.new) ⊎ ((r : AReply) × PutsLine A.may_come (program_tree checked.now) line.now.number line.now.what (A.sight access.old) (A.sight access.new) r)) }
     ensures begins { IfOk result (λ began. BeginsOn A.may_come (program_tree checked.now) line.now.number line.now.what (A.sight access.old) (A.sight access.new) (units_carried agents.old.list.items) (units_carried agents.new.list.items) began) }
     ensures carried { IfOk result (λ _. AreCarried (program_tree checked.now) A.may_come (A.sight access.new) agents.new.list.items) }

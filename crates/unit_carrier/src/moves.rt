@@ -1,6 +1,7 @@
 ghost use Rattle.std.specs.Prelude.{◌≡◌, IfOk};
 ghost use Rattle.core_model.specs.LockAnswers.{IsGoing};
 ghost use Rattle.core_model.specs.LegalRuns.{ends};
+ghost use Rattle.core_access.specs.FitAccess.{StaysFit};
 ghost use Rattle.core_access.specs.Sights.{run_seen};
 ghost use Rattle.script_tree.specs.Programs.{program_tree};
 ghost use Rattle.promise_spec.specs.UnitAnswers.{got_in};
@@ -24,8 +25,7 @@ pub(crate) fn can_move_now<A: Access>(
     requires fit { A.is_fit access.old }
     requires holds { HasCoreAlone A.may_come (A.sight access.old) }
     requires knows { Knows (program_tree checked.now) (A.sight access.old) agent.old }
-    ensures fit { A.is_fit access.new }
-    ensures aside { A.aside access.new ≡ A.aside access.old }
+    ensures kept { StaysFit (A.is_fit access.new) (A.aside access.old) (A.aside access.new) }
     ensures same { A.sight access.new ≡ A.sight access.old }
     ensures carried { agent.new.carried ≡ agent.old.carried }
     ensures knows { IfOk result (λ _. Knows (program_tree checked.now) (A.sight access.new) agent.new) }

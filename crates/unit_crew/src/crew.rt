@@ -1,4 +1,5 @@
 ghost use Rattle.std.specs.Prelude.{◌≡◌, ◌<◌, ◌≤◌, IfOk, length, filter, count_by, not};
+ghost use Rattle.core_access.specs.FitAccess.{StaysFit};
 ghost use Rattle.core_access.specs.Sights.{Looks};
 ghost use Rattle.script_tree.specs.Programs.{program_tree};
 ghost use Rattle.txn_agent.specs.declared.agent.Agent.{Agent as AnAgent};
@@ -31,8 +32,7 @@ fn step<A: Access, G: Gate>(
     requires fit { A.is_fit access.old }
     requires within { index < length agents.old.list.items }
     requires crew { IsCrew (program_tree checked.now) (A.sight access.old) agents.old.list.items }
-    ensures fit { A.is_fit access.new }
-    ensures aside { A.aside access.new ≡ A.aside access.old }
+    ensures kept { StaysFit (A.is_fit access.new) (A.aside access.old) (A.aside access.new) }
     ensures works { WorksOn (HasTypes (program_tree checked.now)) (A.sight access.old) (A.sight access.new) }
     ensures crew { IfOk result (λ _. IsCrew (program_tree checked.now) (A.sight access.new) agents.new.list.items) }
     ensures more { IfOk result (λ _. length agents.old.list.items ≤ length agents.new.list.items) }
@@ -49,7 +49,7 @@ fn step<A: Access, G: Gate>(
             };
             agents.carry(alloc, checked, child, origin, call, false)?;
             gate.reach(GatePlace::Begun { unit: child });
-            return Ok(true);
+            Ok(true)
         }
         Advanced::Granted { grain, source } => {
             gate.reach(GatePlace::Granted {
@@ -57,12 +57,12 @@ fn step<A: Access, G: Gate>(
                 grain,
                 source,
             });
-            return Ok(true);
+            Ok(true)
         }
-        Advanced::Moved => return Ok(true),
-        Advanced::Waits { holder: _holder } => return Ok(false),
-        Advanced::WaitsFor { child: _child } => return Ok(false),
-        Advanced::Ended => return Ok(false),
+        Advanced::Moved => Ok(true),
+        Advanced::Waits { holder: _holder } => Ok(false),
+        Advanced::WaitsFor { child: _child } => Ok(false),
+        Advanced::Ended => Ok(false),
     }
 }
 
@@ -81,8 +81,7 @@ fn go_far<A: Access, G: Gate>(
     requires fit { A.is_fit access.old }
     requires within { index < length agents.old.list.items }
     requires crew { IsCrew (program_tree checked.now) (A.sight access.old) agents.old.list.items }
-    ensures fit { A.is_fit access.new }
-    ensures aside { A.aside access.new ≡ A.aside access.old }
+    ensures kept { StaysFit (A.is_fit access.new) (A.aside access.old) (A.aside access.new) }
     ensures works { WorksOn (HasTypes (program_tree checked.now)) (A.sight access.old) (A.sight access.new) }
     ensures crew { IfOk result (λ _. IsCrew (program_tree checked.now) (A.sight access.new) agents.new.list.items) }
     ensures more { IfOk result (λ _. length agents.old.list.items ≤ length agents.new.list.items) }
@@ -114,8 +113,7 @@ fn go_each<A: Access, G: Gate>(
 ) -> Result<bool, AllocError>
     requires fit { A.is_fit access.old }
     requires crew { IsCrew (program_tree checked.now) (A.sight access.old) agents.old.list.items }
-    ensures fit { A.is_fit access.new }
-    ensures aside { A.aside access.new ≡ A.aside access.old }
+    ensures kept { StaysFit (A.is_fit access.new) (A.aside access.old) (A.aside access.new) }
     ensures works { WorksOn (HasTypes (program_tree checked.now)) (A.sight access.old) (A.sight access.new) }
     ensures crew { IfOk result (λ _. IsCrew (program_tree checked.now) (A.sight access.new) agents.new.list.items) }
 {
@@ -130,8 +128,7 @@ fn go_each<A: Access, G: Gate>(
 /// Tells of the line that it died by a lock, where its unit was aborted and has none left.
 fn tell_death<A: Access>(access: &mut A, agents: &Agents, signals: &Signals, stand: &Stand)
     requires fit { A.is_fit access.old }
-    ensures fit { A.is_fit access.new }
-    ensures aside { A.aside access.new ≡ A.aside access.old }
+    ensures kept { StaysFit (A.is_fit access.new) (A.aside access.old) (A.aside access.new) }
     ensures looked { Looks A.may_come (A.sight access.old) (A.sight access.new) }
 {
     if let Some(first) = agents.list.first() {
@@ -154,8 +151,7 @@ pub(crate) fn go_on<A: Access, G: Gate>(
 ) -> Result<bool, AllocError>
     requires fit { A.is_fit access.old }
     requires crew { IsCrew (program_tree checked.now) (A.sight access.old) agents.old.list.items }
-    ensures fit { A.is_fit access.new }
-    ensures aside { A.aside access.new ≡ A.aside access.old }
+    ensures kept { StaysFit (A.is_fit access.new) (A.aside access.old) (A.aside access.new) }
     ensures works { WorksOn (HasTypes (program_tree checked.now)) (A.sight access.old) (A.sight access.new) }
     ensures crew { IfOk result (λ _. IsCrew (program_tree checked.now) (A.sight access.new) agents.new.list.items) }
 {

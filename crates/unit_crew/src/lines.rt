@@ -1,5 +1,6 @@
 ghost use Rattle.std.specs.Prelude.{◌≡◌, ◌+◌, ◌≤◌, false, IfOk, length};
 ghost use Rattle.core_model.specs.LegalRuns.{ends};
+ghost use Rattle.core_access.specs.FitAccess.{StaysFit};
 ghost use Rattle.core_access.specs.Sights.{run_seen};
 ghost use Rattle.script_tree.specs.Programs.{program_tree};
 ghost use Rattle.unit_crew.specs.Crews.{IsBasisOf, IsCrew, WorksOn};
@@ -30,8 +31,7 @@ pub(crate) fn begin_next<A: Access, L: Lines, G: Gate>(
     requires fit { A.is_fit access.old }
     requires before { before ≤ (ends (A.sight access.old).first).units.lines }
     requires crew { IsCrew (program_tree checked.now) (A.sight access.old) agents.old.list.items }
-    ensures fit { A.is_fit access.new }
-    ensures aside { A.aside access.new ≡ A.aside access.old }
+    ensures kept { StaysFit (A.is_fit access.new) (A.aside access.old) (A.aside access.new) }
     ensures same { L.lines lines.new ≡ L.lines lines.old }
     ensures works { WorksOn (IsBasisOf (program_tree checked.now) before (L.lines lines.old)) (A.sight access.old) (A.sight access.new) }
     ensures crew { IfOk result (λ _. IsCrew (program_tree checked.now) (A.sight access.new) agents.new.list.items) }
@@ -42,15 +42,15 @@ pub(crate) fn begin_next<A: Access, L: Lines, G: Gate>(
     signals.come_to(next);
     let place = next.saturating_sub(1).saturating_sub(before);
     match lines.line_at(alloc, place as usize)? {
-        None => return Ok(false),
+        None => Ok(false),
         Some(line) => {
             let began = start_line(alloc, checked, access, agents, &line)?;
             match began {
-                None => return Ok(true),
+                None => Ok(true),
                 Some(unit) => {
                     signals.carry(stand, next);
                     gate.reach(GatePlace::Begun { unit });
-                    return Ok(true);
+                    Ok(true)
                 }
             }
         }

@@ -1,5 +1,6 @@
 ghost use Rattle.std.specs.Prelude.{◌≡◌, ◌⊎◌, ◌+◌, ◌≤◌, [], IfOk, OnErr, length, ◌<◌};
 ghost use Rattle.core_model.specs.LegalRuns.{ends};
+ghost use Rattle.core_access.specs.FitAccess.{StaysFit};
 ghost use Rattle.core_access.specs.Sights.{Counts, IsHistory, Looks, run_seen};
 ghost use Rattle.promise_spec.specs.UnitRule.{Basis};
 ghost use Rattle.script_tree.specs.Programs.{program_tree};
@@ -50,8 +51,7 @@ fn go_round<A: Access, L: Lines, G: Gate>(
     requires fit { A.is_fit access.old }
     requires before { before ≤ (ends (A.sight access.old).first).units.lines }
     requires crew { IsCrew (program_tree checked.now) (A.sight access.old) agents.old.list.items }
-    ensures fit { A.is_fit access.new }
-    ensures aside { A.aside access.new ≡ A.aside access.old }
+    ensures kept { StaysFit (A.is_fit access.new) (A.aside access.old) (A.aside access.new) }
     ensures same { L.lines lines.new ≡ L.lines lines.old }
     ensures works { WorksOn (IsBasisOf (program_tree checked.now) before (L.lines lines.old)) (A.sight access.old) (A.sight access.new) }
     ensures crew { IfOk result (λ _. IsCrew (program_tree checked.now) (A.sight access.new) agents.new.list.items) }
@@ -98,8 +98,7 @@ fn go_rounds<A: Access, L: Lines, G: Gate, R: Wait>(
     requires fit { A.is_fit access.old }
     requires before { before ≤ (ends (A.sight access.old).first).units.lines }
     requires crew { IsCrew (program_tree checked.now) (A.sight access.old) [] }
-    ensures fit { A.is_fit access.new }
-    ensures aside { A.aside access.new ≡ A.aside access.old }
+    ensures kept { StaysFit (A.is_fit access.new) (A.aside access.old) (A.aside access.new) }
     ensures same { L.lines lines.new ≡ L.lines lines.old }
     ensures works { WorksOn (IsBasisOf (program_tree checked.now) before (L.lines lines.old)) (A.sight access.old) (A.sight access.new) }
     ensures shown { IfOk result (λ _. Showed IsHalted (A.sight access.new) ⊎ Showed (IsPastLine (before + length (L.lines lines.old))) (A.sight access.new)) }
@@ -132,8 +131,7 @@ fn go_rounds<A: Access, L: Lines, G: Gate, R: Wait>(
 /// Waits until a stop or a doubt is seen. It takes no memory.
 fn wait_for_stop<A: Access, R: Wait>(rt: &R, access: &mut A, signals: &Signals, stand: &mut Stand)
     requires fit { A.is_fit access.old }
-    ensures fit { A.is_fit access.new }
-    ensures aside { A.aside access.new ≡ A.aside access.old }
+    ensures kept { StaysFit (A.is_fit access.new) (A.aside access.old) (A.aside access.new) }
     ensures legal { IsHistory (A.sight access.new) }
     ensures looked { Looks A.may_come (A.sight access.old) (A.sight access.new) }
     ensures halted { IsHalted (run_seen (A.sight access.new)) }
@@ -174,8 +172,7 @@ pub fn carry_lines<A: Access, L: Lines, G: Gate, R: Wait>(
     requires above { 0 < (A.sight access.old).first.base }
     requires before { before ≤ (ends (A.sight access.old).first).units.lines }
     requires fresh { (A.sight access.old).mine ≡ [] }
-    ensures fit { A.is_fit access.new }
-    ensures aside { A.aside access.new ≡ A.aside access.old }
+    ensures kept { StaysFit (A.is_fit access.new) (A.aside access.old) (A.aside access.new) }
     ensures same { L.lines lines.new ≡ L.lines lines.old }
 
     // More was seen, of one history.
@@ -201,13 +198,13 @@ pub fn carry_lines<A: Access, L: Lines, G: Gate, R: Wait>(
         Ok(()) => {
             signals.leave(&mut stand);
             is_halted(access)?;
-            return Ok(());
+            Ok(())
         }
         Err(fault) => {
             signals.leave(&mut stand);
             signals.fail();
             wait_for_stop(rt, access, signals, &mut stand);
-            return Err(fault);
+            Err(fault)
         }
     }
 }

@@ -26,8 +26,8 @@ loop-init g c =
 pub loop-preserved-in-Ok-true : goal.loop-preserved-in-Ok-true
 loop-preserved-in-Ok-true g c =
     record {
-      fit = c.settle_once.ensures.fit;
-      aside = c.settle_once.ensures.aside ∙ c.loop.invariant.aside;
+      fit = c.settle_once.ensures.kept.fit;
+      aside = c.settle_once.ensures.kept.aside ∙ c.loop.invariant.aside;
       own = (among-both (g.A.Access.sight c.args.access.now) (g.A.Access.sight c.loop.access) (g.A.Access.sight c.settle_once.new.access) c.loop.invariant.own c.settle_once.ensures.own);
       promise = λ basis p. c.settle_once.ensures.leaves.promise basis (c.loop.invariant.promise basis p);
       knows = λ truly. c.settle_once.ensures.knows (c.loop.invariant.knows truly);
@@ -46,8 +46,8 @@ loop-preserved-in-Ok-true g c =
 pub loop-preserved : goal.loop-preserved
 loop-preserved g c =
     record {
-      fit = c.settle_once.ensures.fit;
-      aside = c.settle_once.ensures.aside ∙ c.loop.invariant.aside;
+      fit = c.settle_once.ensures.kept.fit;
+      aside = c.settle_once.ensures.kept.aside ∙ c.loop.invariant.aside;
       own = (among-both (g.A.Access.sight c.args.access.now) (g.A.Access.sight c.loop.access) (g.A.Access.sight c.settle_once.new.access) c.loop.invariant.own c.settle_once.ensures.own);
       promise = λ basis p. c.settle_once.ensures.leaves.promise basis (c.loop.invariant.promise basis p);
       knows = λ truly. c.settle_once.ensures.knows (c.loop.invariant.knows truly);
@@ -71,8 +71,7 @@ returns-then-has_failed g c =
     (λ o b can rely. settled-lack g.H.Host.tells o b (stage_of g.H.Host.world g.H.Host.faults (run_seen (g.A.Access.sight c.args.access.now)) c.args.settler.now c.args.host.now) (stage_of g.H.Host.world g.H.Host.faults (run_seen (g.A.Access.sight c.loop.access)) c.loop.settler c.loop.host) {T = Bool} {U = Bool} true (c.loop.invariant.books o b can rely))
     (beside-well g.H.Host.tells (run_seen (g.A.Access.sight c.args.access.now)) (run_seen (g.A.Access.sight c.loop.access)) c.args.settler.now c.loop.settler (g.H.Host.faults c.args.host.now) (g.H.Host.faults c.loop.host) (g.H.Host.world c.args.host.now) (g.H.Host.world c.loop.host) {T = Bool} {U = Bool} true (Err Memory) c.loop.invariant.beside) in
     record {
-      fit = c.stop.ensures.fit;
-      aside = c.stop.ensures.aside ∙ c.loop.invariant.aside;
+      kept = record { fit = c.stop.ensures.kept.fit; aside = c.stop.ensures.kept.aside ∙ c.loop.invariant.aside };
       sees = left.sees;
       own = left.own;
       stopped = c.stop.ensures.stopped;
@@ -116,8 +115,7 @@ returns-in-Err g c =
     c.loop.invariant.own c.settle_once.ensures.own c.loop.invariant.books c.settle_once.result (Err c.in-Err.fault) c.in-Err.is c.settle_once.ensures.leaves.books)
     (beside-on g.H.Host.tells c.args.shape.now (g.A.Access.sight c.args.access.now) (g.A.Access.sight c.loop.access) (g.A.Access.sight c.settle_once.new.access) c.args.settler.now c.loop.settler c.settle_once.new.settler (g.H.Host.faults c.args.host.now) (g.H.Host.faults c.loop.host) (g.H.Host.faults c.settle_once.new.host) (g.H.Host.world c.args.host.now) (g.H.Host.world c.loop.host) (g.H.Host.world c.settle_once.new.host) c.loop.invariant.beside c.settle_once.result (Err c.in-Err.fault) c.in-Err.is c.settle_once.ensures.leaves.beside) in
     record {
-      fit = c.end_others.ensures.fit;
-      aside = c.end_others.ensures.aside ∙ c.settle_once.ensures.aside ∙ c.loop.invariant.aside;
+      kept = record { fit = c.end_others.ensures.kept.fit; aside = c.end_others.ensures.kept.aside ∙ c.settle_once.ensures.kept.aside ∙ c.loop.invariant.aside };
       sees = left.sees;
       own = left.own;
       stopped = fault-stopped g.A.Access.may_come (g.A.Access.sight c.args.access.now) (g.A.Access.sight c.settle_once.new.access) (g.A.Access.sight c.end_others.new.access) c.in-Err.fault c.end_others.ensures.ends c.args.settler.now c.settle_once.new.settler

@@ -14,7 +14,7 @@ returns-in-Ok g c =
     record {
       back = (
         search rules,
-        returned run_of c.args.pass.me.0 c.carry_lines-carried.new.access.pass.me.0 (HasWorked asked Through) _ _ _ _ said.aside said.first said.number said.seen
+        returned run_of c.args.pass.me.0 c.carry_lines-carried.new.access.pass.me.0 (HasWorked asked Through) _ _ _ _ said.kept.aside said.first said.number said.seen
             (worked-through run_of c.args.pass.me.0 c.carry_lines-carried.new.access.pass.me.0 asked said.counts said.works said.promise said.through),
         search rules,
       );

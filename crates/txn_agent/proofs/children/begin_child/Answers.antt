@@ -18,8 +18,7 @@ returns-in-Some-clause-doing g c =
 
 pub returns-in-None : goal.returns-in-None
 returns-in-None g c = record {
-  fit = c.put_begin.ensures.fit;
-  aside = c.put_begin.ensures.aside;
+  kept = c.put_begin.ensures.kept;
   acts = begin_acts g.A.Access.may_come (program_tree c.args.checked.now) (g.A.Access.sight c.args.access.now) (g.A.Access.sight c.put_begin.new.access) c.args.carried c.args.work c.requires.counts c.args.call c.args.depth c.in_ok-begun_as.ensures.said.0 c.requires.paused c.in_ok-begun_as.ensures.said.1;
   told = begin_moves g.A.Access.may_come (program_tree c.args.checked.now) (g.A.Access.sight c.args.access.now) (g.A.Access.sight c.put_begin.new.access) c.args.carried c.args.work c.requires.counts c.args.call c.args.depth c.in_ok-begun_as.ensures.said.0 c.requires.paused c.in_ok-begun_as.ensures.said.1 (not-began c.in_ok-begun_as.ensures.said.0 (sym c.in_ok-begun_as.ensures.said.2 ∙ c.in-None.is));
   doing = begin_stays g.A.Access.may_come (program_tree c.args.checked.now) (g.A.Access.sight c.args.access.now) (g.A.Access.sight c.put_begin.new.access) c.args.carried c.args.work c.requires.counts c.args.call c.args.depth c.in_ok-begun_as.ensures.said.0 c.requires.paused c.in_ok-begun_as.ensures.said.1 (not-began c.in_ok-begun_as.ensures.said.0 (sym c.in_ok-begun_as.ensures.said.2 ∙ c.in-None.is)) c.in_ok-asked.asked c.in_ok-asked.ensures;

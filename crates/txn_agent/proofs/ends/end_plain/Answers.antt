@@ -19,8 +19,7 @@ returns-then-done-clause-doing g c = end_over g.A.Access.may_come (program_tree 
 
 pub returns : goal.returns
 returns g c = record {
-  fit = c.put_end.ensures.fit;
-  aside = c.put_end.ensures.aside;
+  kept = c.put_end.ensures.kept;
   acts = end_acts g.A.Access.may_come (program_tree c.args.checked.now) (g.A.Access.sight c.args.access.now) (g.A.Access.sight c.put_end.new.access) c.args.carried c.args.work c.requires.counts c.args.outcome c.in_ok-effect.effect c.in_ok-done.ensures.said.0 c.requires.paused (c.in_ok-effect.ensures.effect (program_tree c.args.checked.now) c.requires.paused.trail c.requires.paused.at_work.follows) c.in_ok-done.ensures.said.1;
   told = end_moves g.A.Access.may_come (program_tree c.args.checked.now) (g.A.Access.sight c.args.access.now) (g.A.Access.sight c.put_end.new.access) c.args.carried c.args.work c.requires.counts c.args.outcome c.in_ok-effect.effect c.in_ok-done.ensures.said.0 c.requires.paused (c.in_ok-effect.ensures.effect (program_tree c.args.checked.now) c.requires.paused.trail c.requires.paused.at_work.follows) c.in_ok-done.ensures.said.1 (sym c.in_ok-done.ensures.said.2 ∙ c.if-done.false) c.requires.kind c.args.work.kids;
   doing = end_stopped g.A.Access.may_come (program_tree c.args.checked.now) (g.A.Access.sight c.args.access.now) (g.A.Access.sight c.put_end.new.access) c.args.carried c.args.work c.requires.counts c.args.outcome c.in_ok-effect.effect c.in_ok-done.ensures.said.0 c.requires.paused (c.in_ok-effect.ensures.effect (program_tree c.args.checked.now) c.requires.paused.trail c.requires.paused.at_work.follows) c.in_ok-done.ensures.said.1 (sym c.in_ok-done.ensures.said.2 ∙ c.if-done.false) c.requires.kind;

@@ -19,8 +19,7 @@ returns-then-done-clause-doing g c = finish_over g.A.Access.may_come (program_tr
 
 pub returns : goal.returns
 returns g c = record {
-  fit = c.put_finish.ensures.fit;
-  aside = c.put_finish.ensures.aside;
+  kept = c.put_finish.ensures.kept;
   acts = finish_acts g.A.Access.may_come (program_tree c.args.checked.now) (g.A.Access.sight c.args.access.now) (g.A.Access.sight c.put_finish.new.access) c.args.carried c.args.work c.requires.counts c.args.outcome c.in_ok-effect.effect c.in_ok-done.ensures.said.0 c.requires.paused (c.in_ok-effect.ensures.effect (program_tree c.args.checked.now) c.requires.paused.trail c.requires.paused.at_work.follows) c.in_ok-done.ensures.said.1;
   told = finish_moves g.A.Access.may_come (program_tree c.args.checked.now) (g.A.Access.sight c.args.access.now) (g.A.Access.sight c.put_finish.new.access) c.args.carried c.args.work c.requires.counts c.args.outcome c.in_ok-effect.effect c.in_ok-done.ensures.said.0 c.requires.paused (c.in_ok-effect.ensures.effect (program_tree c.args.checked.now) c.requires.paused.trail c.requires.paused.at_work.follows) c.in_ok-done.ensures.said.1 (sym c.in_ok-done.ensures.said.2 ∙ c.if-done.false) c.requires.kind c.args.work.kids;
   doing = finish_stopped g.A.Access.may_come (program_tree c.args.checked.now) (g.A.Access.sight c.args.access.now) (g.A.Access.sight c.put_finish.new.access) c.args.carried c.args.work c.requires.counts c.args.outcome c.in_ok-effect.effect c.in_ok-done.ensures.said.0 c.requires.paused (c.in_ok-effect.ensures.effect (program_tree c.args.checked.now) c.requires.paused.trail c.requires.paused.at_work.follows) c.in_ok-done.ensures.said.1 (sym c.in_ok-done.ensures.said.2 ∙ c.if-done.false) c.requires.kind;

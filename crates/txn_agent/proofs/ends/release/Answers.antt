@@ -20,8 +20,7 @@ returns-then-done-clause-doing g c = subst (λ (l : List GrainId). KnowsDoing (p
 
 pub returns : goal.returns
 returns g c = record {
-  fit = c.put_release.ensures.fit;
-  aside = c.put_release.ensures.aside;
+  kept = c.put_release.ensures.kept;
   acts = release_acts g.A.Access.may_come (program_tree c.args.checked.now) (g.A.Access.sight c.args.access.now) (g.A.Access.sight c.put_release.new.access) c.args.carried c.args.held c.in-Some.grain c.in_ok-done.ensures.said.0 c.requires.counts c.requires.over (c.in-Some.ensures ∙ ap first_grain c.as_slice.ensures) c.in_ok-done.ensures.said.1;
   told = release_moves g.A.Access.may_come (program_tree c.args.checked.now) (g.A.Access.sight c.args.access.now) (g.A.Access.sight c.put_release.new.access) c.args.carried c.args.held c.in-Some.grain c.in_ok-done.ensures.said.0 c.requires.counts c.requires.over (c.in-Some.ensures ∙ ap first_grain c.as_slice.ensures) c.in_ok-done.ensures.said.1 (sym c.in_ok-done.ensures.said.2 ∙ c.if-done.false) 0;
   doing = release_stays g.A.Access.may_come (program_tree c.args.checked.now) (g.A.Access.sight c.args.access.now) (g.A.Access.sight c.put_release.new.access) c.args.carried c.args.held c.in-Some.grain c.in_ok-done.ensures.said.0 c.requires.counts c.requires.over (c.in-Some.ensures ∙ ap first_grain c.as_slice.ensures) c.in_ok-done.ensures.said.1 (sym c.in_ok-done.ensures.said.2 ∙ c.if-done.false);

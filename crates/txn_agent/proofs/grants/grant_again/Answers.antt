@@ -24,8 +24,7 @@ returns-in_ok-work-in-Some-clause-doing g c =
 
 pub returns-in-None : goal.returns-in-None
 returns-in-None g c = record {
-  fit = c.put_grant.ensures.fit;
-  aside = c.put_grant.ensures.aside;
+  kept = c.put_grant.ensures.kept;
   acts = grant_acts g.A.Access.may_come (program_tree c.args.checked.now) (g.A.Access.sight c.args.access.now) (g.A.Access.sight c.put_grant.new.access) c.args.carried c.args.work c.requires.counts c.args.grain c.args.mode c.in_ok-granted.ensures.said.0 c.requires.paused c.in_ok-granted.ensures.said.1;
   told = grant_moves g.A.Access.may_come (program_tree c.args.checked.now) (g.A.Access.sight c.args.access.now) (g.A.Access.sight c.put_grant.new.access) c.args.carried c.args.work c.requires.counts c.args.grain c.args.mode c.in_ok-granted.ensures.said.0 c.requires.paused c.in_ok-granted.ensures.said.1 (not-granted c.in_ok-granted.ensures.said.0 (sym c.in_ok-granted.ensures.said.2 ∙ c.in-None.is)) c.requires.free c.args.work.kids;
   doing = grant_stays g.A.Access.may_come (program_tree c.args.checked.now) (g.A.Access.sight c.args.access.now) (g.A.Access.sight c.put_grant.new.access) c.args.carried c.args.work c.requires.counts c.args.grain c.args.mode c.in_ok-granted.ensures.said.0 c.requires.paused c.in_ok-granted.ensures.said.1 (not-granted c.in_ok-granted.ensures.said.0 (sym c.in_ok-granted.ensures.said.2 ∙ c.in-None.is));

@@ -15,8 +15,7 @@ returns-then-done-clause-doing g c = refuse_over g.A.Access.may_come (program_tr
 
 pub returns : goal.returns
 returns g c = record {
-  fit = c.put_refuse.ensures.fit;
-  aside = c.put_refuse.ensures.aside;
+  kept = c.put_refuse.ensures.kept;
   acts = refuse_acts g.A.Access.may_come (program_tree c.args.checked.now) (g.A.Access.sight c.args.access.now) (g.A.Access.sight c.put_refuse.new.access) c.args.carried c.args.work c.requires.counts c.args.grain c.args.mode c.in_ok-done.ensures.said.0 c.requires.paused c.in_ok-done.ensures.said.1;
   told = refuse_moves g.A.Access.may_come (program_tree c.args.checked.now) (g.A.Access.sight c.args.access.now) (g.A.Access.sight c.put_refuse.new.access) c.args.carried c.args.work c.requires.counts c.args.grain c.args.mode c.in_ok-done.ensures.said.0 c.requires.paused c.in_ok-done.ensures.said.1 (sym c.in_ok-done.ensures.said.2 ∙ c.if-done.false) c.requires.barred c.args.work.kids;
   doing = refuse_stays g.A.Access.may_come (program_tree c.args.checked.now) (g.A.Access.sight c.args.access.now) (g.A.Access.sight c.put_refuse.new.access) c.args.carried c.args.work c.requires.counts c.args.grain c.args.mode c.in_ok-done.ensures.said.0 c.requires.paused c.in_ok-done.ensures.said.1 (sym c.in_ok-done.ensures.said.2 ∙ c.if-done.false);

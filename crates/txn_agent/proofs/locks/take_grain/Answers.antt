@@ -56,11 +56,11 @@ returns-then-is_raise-clause-acts g c = acts_on g.A.Access.may_come (program_tre
 pub returns-then-is_raise-clause-told : goal.returns-then-is_raise-clause-told
 returns-then-is_raise-clause-told g c = told_on g.A.Access.may_come (program_tree c.args.checked.now) c.args.carried.unit (g.A.Access.sight c.args.access.now) (g.A.Access.sight c.ask_for.new.access) (g.A.Access.sight c.grant_again.new.access) c.ask_for.ensures.looked c.args.work.kids c.grant_again.result c.grant_again.ensures.told
 
-pub returns-in-Free-clause-acts : goal.returns-in-Free-clause-acts
-returns-in-Free-clause-acts g c = acts_on g.A.Access.may_come (program_tree c.args.checked.now) c.args.carried.unit (g.A.Access.sight c.args.access.now) (g.A.Access.sight c.ask_for.new.access) (g.A.Access.sight c.grant_first.new.access) c.ask_for.ensures.looked c.grant_first.ensures.acts
+pub returns-else-is_raise-clause-acts : goal.returns-else-is_raise-clause-acts
+returns-else-is_raise-clause-acts g c = acts_on g.A.Access.may_come (program_tree c.args.checked.now) c.args.carried.unit (g.A.Access.sight c.args.access.now) (g.A.Access.sight c.ask_for.new.access) (g.A.Access.sight c.grant_first.new.access) c.ask_for.ensures.looked c.grant_first.ensures.acts
 
-pub returns-in-Free-clause-told : goal.returns-in-Free-clause-told
-returns-in-Free-clause-told g c = told_on g.A.Access.may_come (program_tree c.args.checked.now) c.args.carried.unit (g.A.Access.sight c.args.access.now) (g.A.Access.sight c.ask_for.new.access) (g.A.Access.sight c.grant_first.new.access) c.ask_for.ensures.looked c.args.work.kids c.grant_first.result c.grant_first.ensures.told
+pub returns-else-is_raise-clause-told : goal.returns-else-is_raise-clause-told
+returns-else-is_raise-clause-told g c = told_on g.A.Access.may_come (program_tree c.args.checked.now) c.args.carried.unit (g.A.Access.sight c.args.access.now) (g.A.Access.sight c.ask_for.new.access) (g.A.Access.sight c.grant_first.new.access) c.ask_for.ensures.looked c.args.work.kids c.grant_first.result c.grant_first.ensures.told
 
 pub returns-in-MustDie-clause-acts : goal.returns-in-MustDie-clause-acts
 returns-in-MustDie-clause-acts g c = acts_on g.A.Access.may_come (program_tree c.args.checked.now) c.args.carried.unit (g.A.Access.sight c.args.access.now) (g.A.Access.sight c.ask_for.new.access) (g.A.Access.sight c.refuse.new.access) c.ask_for.ensures.looked c.refuse.ensures.acts

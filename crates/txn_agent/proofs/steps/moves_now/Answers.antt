@@ -17,8 +17,8 @@ pub returns-in-Done-clause-moves : goal.returns-in-Done-clause-moves
 returns-in-Done-clause-moves g c = λ types n k.
     other_all g.A.Access.may_come types (g.A.Access.sight c.args.access.now) (g.A.Access.sight c.args.access.now) c.args.carried (looks_self g.A.Access.may_come (g.A.Access.sight c.args.access.now)) n c.args.doing.now k c.in-Asks.work c.in-Asks.pause (Done c.in-Done.outcome) c.in-Asks.is c.in-Done.is refl
 
-pub returns-in-Awaits-clause-moves : goal.returns-in-Awaits-clause-moves
-returns-in-Awaits-clause-moves g c = λ types n k.
+pub returns-in_ok-decided-in-Awaits-clause-moves : goal.returns-in_ok-decided-in-Awaits-clause-moves
+returns-in_ok-decided-in-Awaits-clause-moves g c = λ types n k.
     waiting_all g.A.Access.may_come types (g.A.Access.sight c.args.access.now) (g.A.Access.sight c.is_decided.new.access) c.args.carried c.is_decided.ensures.looked n c.args.doing.now k c.in-Awaits.work c.in-Awaits.child c.in_ok-decided-in-Awaits.decided c.in-Awaits.is c.in_ok-decided-in-Awaits.ensures.answer
 
 pub returns-in-Frees-clause-moves : goal.returns-in-Frees-clause-moves

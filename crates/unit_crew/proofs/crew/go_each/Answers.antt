@@ -9,8 +9,8 @@ returns-in_err-went-clause-works g c = works-on (HasTypes (program_tree c.args.c
 
 pub loop-index-preserved : goal.loop-index-preserved
 loop-index-preserved g c = record {
-  fit = c.go_far.ensures.fit;
-  aside = c.go_far.ensures.aside ∙ c.loop-index.invariant.aside;
+  fit = c.go_far.ensures.kept.fit;
+  aside = c.go_far.ensures.kept.aside ∙ c.loop-index.invariant.aside;
   works = works-on (HasTypes (program_tree c.args.checked.now)) (g.A.Access.sight c.args.access.now) (g.A.Access.sight c.loop-index.access) (g.A.Access.sight c.go_far.new.access) c.loop-index.invariant.works c.go_far.ensures.works;
   crew = c.in_ok-went.ensures.crew;
   more = omega (arith, c.in_ok-went.ensures.more, c.loop-index.invariant.more);

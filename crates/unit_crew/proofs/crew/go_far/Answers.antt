@@ -12,8 +12,8 @@ returns-then-not-branch-clause-works g c = works-on (HasTypes (program_tree c.ar
 
 pub loop-count-preserved : goal.loop-count-preserved
 loop-count-preserved g c = record {
-  fit = c.step.ensures.fit;
-  aside = c.step.ensures.aside ∙ c.loop-count.invariant.aside;
+  fit = c.step.ensures.kept.fit;
+  aside = c.step.ensures.kept.aside ∙ c.loop-count.invariant.aside;
   works = works-on (HasTypes (program_tree c.args.checked.now)) (g.A.Access.sight c.args.access.now) (g.A.Access.sight c.loop-count.access) (g.A.Access.sight c.step.new.access) c.loop-count.invariant.works c.step.ensures.works;
   crew = c.in_ok-step.ensures.crew;
   more = omega (arith, c.in_ok-step.ensures.more, c.loop-count.invariant.more);

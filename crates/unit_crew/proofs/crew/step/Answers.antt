@@ -19,8 +19,8 @@ returns-in_err-carry-in-Began-clause-works g c =
     let q : slice_get c.args.agents.now.list.items c.args.index ≡ Some c.index_mut-agent.result.now = slice_get_read c.args.agents.now.list.items _ c.args.index c.index_mut-agent.result.now refl c.requires.within c.index_mut-agent.ensures.value in
     works-acts g.A.Access.may_come (program_tree c.args.checked.now) c.index_mut-agent.result.now.carried.unit (g.A.Access.sight c.args.access.now) (g.A.Access.sight c.advance.new.access) c.advance.ensures.acts (own-here (program_tree c.args.checked.now) g.A.Access.may_come (g.A.Access.sight c.args.access.now) (g.A.Access.sight c.advance.new.access) c.args.agents.now.list.items c.requires.crew c.args.index c.index_mut-agent.result.now c.advance.new.self q c.advance.ensures.carried)
 
-pub returns-in-Began-clause-works : goal.returns-in-Began-clause-works
-returns-in-Began-clause-works g c =
+pub returns-in_ok-carry-in-Began-clause-works : goal.returns-in_ok-carry-in-Began-clause-works
+returns-in_ok-carry-in-Began-clause-works g c =
     let q : slice_get c.args.agents.now.list.items c.args.index ≡ Some c.index_mut-agent.result.now = slice_get_read c.args.agents.now.list.items _ c.args.index c.index_mut-agent.result.now refl c.requires.within c.index_mut-agent.ensures.value in
     works-acts g.A.Access.may_come (program_tree c.args.checked.now) c.index_mut-agent.result.now.carried.unit (g.A.Access.sight c.args.access.now) (g.A.Access.sight c.advance.new.access) c.advance.ensures.acts (own-here (program_tree c.args.checked.now) g.A.Access.may_come (g.A.Access.sight c.args.access.now) (g.A.Access.sight c.advance.new.access) c.args.agents.now.list.items c.requires.crew c.args.index c.index_mut-agent.result.now c.advance.new.self q c.advance.ensures.carried)
 
@@ -49,8 +49,8 @@ returns-in-Ended-clause-works g c =
     let q : slice_get c.args.agents.now.list.items c.args.index ≡ Some c.index_mut-agent.result.now = slice_get_read c.args.agents.now.list.items _ c.args.index c.index_mut-agent.result.now refl c.requires.within c.index_mut-agent.ensures.value in
     works-acts g.A.Access.may_come (program_tree c.args.checked.now) c.index_mut-agent.result.now.carried.unit (g.A.Access.sight c.args.access.now) (g.A.Access.sight c.advance.new.access) c.advance.ensures.acts (own-here (program_tree c.args.checked.now) g.A.Access.may_come (g.A.Access.sight c.args.access.now) (g.A.Access.sight c.advance.new.access) c.args.agents.now.list.items c.requires.crew c.args.index c.index_mut-agent.result.now c.advance.new.self q c.advance.ensures.carried)
 
-pub returns-in-Began-clause-crew : goal.returns-in-Began-clause-crew
-returns-in-Began-clause-crew g c =
+pub returns-in_ok-carry-in-Began-clause-crew : goal.returns-in_ok-carry-in-Began-clause-crew
+returns-in_ok-carry-in-Began-clause-crew g c =
     let q : slice_get c.args.agents.now.list.items c.args.index ≡ Some c.index_mut-agent.result.now = slice_get_read c.args.agents.now.list.items _ c.args.index c.index_mut-agent.result.now refl c.requires.within c.index_mut-agent.ensures.value in
     child-crew (program_tree c.args.checked.now) g.A.Access.may_come (g.A.Access.sight c.args.access.now) (g.A.Access.sight c.advance.new.access) c.args.agents.now.list.items c.requires.crew c.args.index c.index_mut-agent.result.now c.advance.new.self q c.advance.ensures.carried c.in-Began.child c.in-Began.call c.in-Began.depth
     (subst (λ (x : Advanced). AnswerSays g.A.Access.may_come (program_tree c.args.checked.now) c.index_mut-agent.result.now.carried.unit (children_of c.index_mut-agent.result.now.doing) (g.A.Access.sight c.args.access.now) (g.A.Access.sight c.advance.new.access) x) c.in-Began.is c.in_ok-child.ensures.told)

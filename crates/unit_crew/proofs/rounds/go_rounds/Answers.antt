@@ -14,8 +14,8 @@ pub loop-preserved-in-Moved : goal.loop-preserved-in-Moved
 loop-preserved-in-Moved g c = record {
   can = tt;
   finite = tt;
-  fit = c.go_round.ensures.fit;
-  aside = c.go_round.ensures.aside ∙ c.loop.invariant.aside;
+  fit = c.go_round.ensures.kept.fit;
+  aside = c.go_round.ensures.kept.aside ∙ c.loop.invariant.aside;
   same = c.go_round.ensures.same ∙ c.loop.invariant.same;
   works = works-on (IsBasisOf (program_tree c.args.checked.now) c.args.before (g.L.Lines.lines c.args.lines.now)) (g.A.Access.sight c.args.access.now) (g.A.Access.sight c.loop.access) (g.A.Access.sight c.go_round.new.access) c.loop.invariant.works (works-same (program_tree c.args.checked.now) c.args.before (g.L.Lines.lines c.loop.lines) (g.L.Lines.lines c.args.lines.now) (g.A.Access.sight c.loop.access) (g.A.Access.sight c.go_round.new.access) c.loop.invariant.same c.go_round.ensures.works);
   crew = c.in_ok-go_round.ensures.crew;
@@ -25,8 +25,8 @@ pub loop-preserved-in-Stayed : goal.loop-preserved-in-Stayed
 loop-preserved-in-Stayed g c = record {
   can = tt;
   finite = tt;
-  fit = c.go_round.ensures.fit;
-  aside = c.go_round.ensures.aside ∙ c.loop.invariant.aside;
+  fit = c.go_round.ensures.kept.fit;
+  aside = c.go_round.ensures.kept.aside ∙ c.loop.invariant.aside;
   same = c.go_round.ensures.same ∙ c.loop.invariant.same;
   works = works-on (IsBasisOf (program_tree c.args.checked.now) c.args.before (g.L.Lines.lines c.args.lines.now)) (g.A.Access.sight c.args.access.now) (g.A.Access.sight c.loop.access) (g.A.Access.sight c.go_round.new.access) c.loop.invariant.works (works-same (program_tree c.args.checked.now) c.args.before (g.L.Lines.lines c.loop.lines) (g.L.Lines.lines c.args.lines.now) (g.A.Access.sight c.loop.access) (g.A.Access.sight c.go_round.new.access) c.loop.invariant.same c.go_round.ensures.works);
   crew = c.in_ok-go_round.ensures.crew;
@@ -36,8 +36,8 @@ pub loop-preserved : goal.loop-preserved
 loop-preserved g c = record {
   can = tt;
   finite = tt;
-  fit = c.go_round.ensures.fit;
-  aside = c.go_round.ensures.aside ∙ c.loop.invariant.aside;
+  fit = c.go_round.ensures.kept.fit;
+  aside = c.go_round.ensures.kept.aside ∙ c.loop.invariant.aside;
   same = c.go_round.ensures.same ∙ c.loop.invariant.same;
   works = works-on (IsBasisOf (program_tree c.args.checked.now) c.args.before (g.L.Lines.lines c.args.lines.now)) (g.A.Access.sight c.args.access.now) (g.A.Access.sight c.loop.access) (g.A.Access.sight c.go_round.new.access) c.loop.invariant.works (works-same (program_tree c.args.checked.now) c.args.before (g.L.Lines.lines c.loop.lines) (g.L.Lines.lines c.args.lines.now) (g.A.Access.sight c.loop.access) (g.A.Access.sight c.go_round.new.access) c.loop.invariant.same c.go_round.ensures.works);
   crew = c.in_ok-go_round.ensures.crew;

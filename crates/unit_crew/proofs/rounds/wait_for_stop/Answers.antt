@@ -9,7 +9,7 @@ pub loop-preserved : goal.loop-preserved
 loop-preserved g c = record {
   can = tt;
   finite = tt;
-  fit = c.is_halted.ensures.fit;
-  aside = c.is_halted.ensures.aside ∙ c.loop.invariant.aside;
+  fit = c.is_halted.ensures.kept.fit;
+  aside = c.is_halted.ensures.kept.aside ∙ c.loop.invariant.aside;
   looked = looks-on g.A.Access.may_come (g.A.Access.sight c.args.access.now) (g.A.Access.sight c.loop.access) (g.A.Access.sight c.is_halted.new.access) c.loop.invariant.looked c.is_halted.ensures.looked;
 }

@@ -34,8 +34,8 @@ returns-in-Nobody-clause-units g c = record {
   freed = c.in_ok-next_mover.ensures.freed;
 }
 
-pub returns-in-Settler-clause-units : goal.returns-in-Settler-clause-units
-returns-in-Settler-clause-units g c = record {
+pub returns-in_ok-settle-in-Settler-clause-units : goal.returns-in_ok-settle-in-Settler-clause-units
+returns-in_ok-settle-in-Settler-clause-units g c = record {
   carried = settles-known (program_tree c.args.checked.now) c.next_mover.new.agents.list.items (run_of c.next_mover.new.core) (run_of c.settle.new.core) c.settle.ensures.settles c.in_ok-next_mover.ensures.carried;
   looked = settles-looked (program_tree c.args.checked.now) c.args.self.now.looked (run_of c.next_mover.new.core) (run_of c.settle.new.core) c.next_mover.new.agents.list.items c.in_ok-next_mover.ensures.carried c.settle.ensures.settles
       (same-looked c.args.self.now.looked (run_of c.args.core.now) (run_of c.next_mover.new.core) (units_carried c.args.self.now.agents.list.items) (units_carried c.next_mover.new.agents.list.items) c.next_mover.ensures.same
@@ -83,8 +83,8 @@ returns-in_err-move_unit-in-Unit-clause-turns g c = record {
       (acts-beside g.H.Host.tells (run_of c.next_mover.new.core) (run_of c.move_unit.new.core) c.args.settler.now (g.H.Host.faults c.args.host.now) (g.H.Host.world c.args.host.now) c.from_residual-in_err-move_unit-in-Unit.result (program_tree c.args.checked.now) (unit_at c.next_mover.new.agents.list.items c.in-Unit.index) c.move_unit.ensures.acts);
 }
 
-pub returns-in-Unit-clause-turns : goal.returns-in-Unit-clause-turns
-returns-in-Unit-clause-turns g c = record {
+pub returns-in_ok-move_unit-in-Unit-clause-turns : goal.returns-in_ok-move_unit-in-Unit-clause-turns
+returns-in_ok-move_unit-in-Unit-clause-turns g c = record {
   says = λ o b lines width way full.
       unit-says others-keep g.H.Host.tells o (program_tree c.args.checked.now) lines width c.args.picks.now b (turn_stage (stage_of g.H.Host.world g.H.Host.faults (run_of c.args.core.now) c.args.settler.now c.args.host.now) c.args.self.now) refl way full (record { at = stage_of g.H.Host.world g.H.Host.faults (run_of c.move_unit.new.core) c.args.settler.now c.args.host.now; agents = c.move_unit.new.self.agents.list.items; begun = c.move_unit.new.self.begun; used = c.move_unit.new.self.used + 1 }) (run_of c.next_mover.new.core) c.next_mover.new.agents.list.items c.in-Unit.index c.pick_at-pick.result c.pick_at-pick.ensures
       (subst (IsNextMover (program_tree c.args.checked.now) (run_of c.args.core.now) (units_carried c.args.self.now.agents.list.items) c.pick_at-pick.result) c.in-Unit.is (c.in_ok-next_mover.ensures.mover way.books.doubt (way-unstopped way))) c.next_mover.ensures.same c.in_ok-next_mover.ensures.units c.in_ok-move_unit-in-Unit.ensures.moves (ap (λ (n : ℕ). n + 1) c.move_unit.ensures.used) c.move_unit.ensures.begun refl refl refl;
@@ -113,8 +113,8 @@ returns-in_err-settle-in-Settler-clause-turns g c = record {
       c.from_residual-in_err-settle-in-Settler.result (p.1 ∙ ap Err p.2));
 }
 
-pub returns-in-Settler-clause-turns : goal.returns-in-Settler-clause-turns
-returns-in-Settler-clause-turns g c = record {
+pub returns-in_ok-settle-in-Settler-clause-turns : goal.returns-in_ok-settle-in-Settler-clause-turns
+returns-in_ok-settle-in-Settler-clause-turns g c = record {
   says = λ o b lines width way full.
       settler-says others-keep g.H.Host.tells o (program_tree c.args.checked.now) lines width c.args.picks.now b (turn_stage (stage_of g.H.Host.world g.H.Host.faults (run_of c.args.core.now) c.args.settler.now c.args.host.now) c.args.self.now) refl way full (record { at = stage_of g.H.Host.world g.H.Host.faults (run_of c.settle.new.core) c.settle.new.settler c.settle.new.host; agents = c.next_mover.new.agents.list.items; begun = c.args.self.now.begun; used = c.args.self.now.used + 1 }) c.pick_at-pick.result c.pick_at-pick.ensures (subst (IsNextMover (program_tree c.args.checked.now) (run_of c.args.core.now) (units_carried c.args.self.now.agents.list.items) c.pick_at-pick.result) c.in-Settler.is (c.in_ok-next_mover.ensures.mover way.books.doubt (way-unstopped way)))
       (subst (λ (x : Run). has_step (settler_step (ends x)) ≡ true → SettlesOne x (run_of c.settle.new.core)) c.next_mover.ensures.same c.in_ok-settle-in-Settler.ensures.acted)

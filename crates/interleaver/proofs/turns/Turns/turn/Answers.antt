@@ -46,8 +46,8 @@ returns-in_err-begin-in-Some-clause-turns g c = record {
   beside = puts-beside g.H.Host.tells (run_of c.args.core.now) (run_of c.begin.new.core) c.args.settler.now (g.H.Host.faults c.args.host.now) (g.H.Host.world c.args.host.now) c.from_residual-in_err-begin-in-Some.result (program_tree c.args.checked.now) c.in-Some.line c.in_err-begin-in-Some.ensures.put;
 }
 
-pub returns-in-Some-clause-turns : goal.returns-in-Some-clause-turns
-returns-in-Some-clause-turns g c = record {
+pub returns-in_ok-begin-in-Some-clause-turns : goal.returns-in_ok-begin-in-Some-clause-turns
+returns-in_ok-begin-in-Some-clause-turns g c = record {
   says = λ o b way.
       line-says g.H.Host.tells o (program_tree c.args.checked.now) (g.L.Lines.lines c.args.lines.now) c.args.width c.args.picks.now b (turn_stage (stage_of g.H.Host.world g.H.Host.faults (run_of c.args.core.now) c.args.settler.now c.args.host.now) c.args.self.now) c.drop_unless_doubted.new.agents.list.items c.drop_unless_doubted.ensures.flown c.requires.units.carried way others-keep c.in-Some.line (sym c.in-Some.is ∙ c.in_ok-line.ensures.next) (turn_stage (stage_of g.H.Host.world g.H.Host.faults (run_of c.begin.new.core) c.args.settler.now c.args.host.now) c.begin.new.self) c.in_ok-begin-in-Some.ensures.begins c.begin.ensures.used c.in_ok-begin-in-Some.ensures.begun refl refl refl;
   beside = begins-beside g.H.Host.tells (run_of c.args.core.now) (run_of c.begin.new.core) c.args.settler.now (g.H.Host.faults c.args.host.now) (g.H.Host.world c.args.host.now) (Ok true) (program_tree c.args.checked.now) c.in-Some.line c.drop_unless_doubted.new.agents.list.items c.begin.new.self.agents.list.items c.in_ok-begin-in-Some.ensures.begins;

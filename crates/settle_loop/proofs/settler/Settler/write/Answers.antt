@@ -1,6 +1,6 @@
 use Rattle.std.proofs.Common.{inl, ℕ, List, Bool, refl, sym, ap, subst, ◌∙◌}
-use Rattle.std.specs.Prelude.{is_ok, is_err}
-use Rattle.host_trait.specs.World.{IsEmitted, Emitted}
+use Rattle.std.specs.Prelude.{is_ok}
+use Rattle.host_trait.specs.World.{IsEmitted}
 use Rattle.settle_loop.specs.HostSteps.{HasLine}
 use Rattle.settle_loop.proofs.HostAnswers.{write_made, none_made}
 use Rattle.settle_loop.proofs.settler.Settler.write.Goals as goal
@@ -38,22 +38,3 @@ returns-in-Ok-clause-made g c = λ w shown.
           (c.emit.ensures.faults.calm (ap is_ok c.in-Ok.is), λ told. subst (λ (l : List ℕ). IsEmitted l (g.H.Host.world h0) (g.H.Host.world h1)) (c.as_slice.ensures ∙ c.in_ok-text.ensures) (c.in-Ok.ensures.ok told));
       writer = refl;
     })
-
-pub returns-in-Err-clause-made : goal.returns-in-Err-clause-made
-returns-in-Err-clause-made g c = λ w shown.
-    let h0 = c.args.host.now in
-    let h1 = c.emit.new.self in (
-      shown.0,
-      (
-        record {
-          loud = c.if-self.false;
-          entry = c.args.entry;
-          range = record { line = search; unit = search; said = c.read_said.ensures };
-          next = shown.1;
-          part = λ told. subst (λ (l : List ℕ). (n : ℕ) × Emitted n l (g.H.Host.world h0) (g.H.Host.world h1)) (c.as_slice.ensures ∙ c.in_ok-text.ensures) (c.emit.ensures.part told);
-          fault = c.emit.ensures.faults.cause (ap is_err c.in-Err.is);
-          writer = refl;
-        },
-        refl,
-      ),
-    )

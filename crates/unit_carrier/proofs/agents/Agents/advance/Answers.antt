@@ -20,13 +20,13 @@ returns-in_err-carry-in-Began-clause-acts g c =
     let q : slice_get c.args.self.now.list.items c.args.index ≡ Some c.index_mut-agent.result.now = slice_get_read c.args.self.now.list.items _ c.args.index c.index_mut-agent.result.now refl c.requires.within c.index_mut-agent.ensures.value in
     acts-here (program_tree c.args.checked.now) g.A.Access.may_come (g.A.Access.sight c.args.access.now) (g.A.Access.sight c.advance.new.access) c.args.self.now.list.items c.args.index c.index_mut-agent.result.now q c.advance.ensures.acts
 
-pub returns-in-Began-clause-acts : goal.returns-in-Began-clause-acts
-returns-in-Began-clause-acts g c =
+pub returns-in_ok-carry-in-Began-clause-acts : goal.returns-in_ok-carry-in-Began-clause-acts
+returns-in_ok-carry-in-Began-clause-acts g c =
     let q : slice_get c.args.self.now.list.items c.args.index ≡ Some c.index_mut-agent.result.now = slice_get_read c.args.self.now.list.items _ c.args.index c.index_mut-agent.result.now refl c.requires.within c.index_mut-agent.ensures.value in
     acts-here (program_tree c.args.checked.now) g.A.Access.may_come (g.A.Access.sight c.args.access.now) (g.A.Access.sight c.advance.new.access) c.args.self.now.list.items c.args.index c.index_mut-agent.result.now q c.advance.ensures.acts
 
-pub returns-in-Began-clause-steps : goal.returns-in-Began-clause-steps
-returns-in-Began-clause-steps g c =
+pub returns-in_ok-carry-in-Began-clause-steps : goal.returns-in_ok-carry-in-Began-clause-steps
+returns-in_ok-carry-in-Began-clause-steps g c =
     let q : slice_get c.args.self.now.list.items c.args.index ≡ Some c.index_mut-agent.result.now = slice_get_read c.args.self.now.list.items _ c.args.index c.index_mut-agent.result.now refl c.requires.within c.index_mut-agent.ensures.value in
     steps-on (program_tree c.args.checked.now) g.A.Access.may_come (g.A.Access.sight c.args.access.now) (g.A.Access.sight c.advance.new.access) c.args.self.now.list.items c.carry.new.self.list.items c.args.index c.index_mut-agent.result.now (came.Began c.in-Began.child c.in-Began.call c.in-Began.depth) q
     (subst (λ (x : Advanced). AnswerSays g.A.Access.may_come (program_tree c.args.checked.now) c.index_mut-agent.result.now.carried.unit (children_of c.index_mut-agent.result.now.doing) (g.A.Access.sight c.args.access.now) (g.A.Access.sight c.advance.new.access) x) c.in-Began.is c.in_ok-child.ensures.told)
@@ -34,8 +34,8 @@ returns-in-Began-clause-steps g c =
     (subst (λ (x : Advanced). AnswerSays g.A.Access.may_come (program_tree c.args.checked.now) c.index_mut-agent.result.now.carried.unit (children_of c.index_mut-agent.result.now.doing) (g.A.Access.sight c.args.access.now) (g.A.Access.sight c.advance.new.access) x) c.in-Began.is c.in_ok-child.ensures.told)
     c.unit-unit.result c.unit-unit.ensures c.children-children.result c.children-children.ensures c.carry.new.self.list.items c.in_ok-carry-in-Began.ensures)
 
-pub returns-in-Began-clause-carried : goal.returns-in-Began-clause-carried
-returns-in-Began-clause-carried g c =
+pub returns-in_ok-carry-in-Began-clause-carried : goal.returns-in_ok-carry-in-Began-clause-carried
+returns-in_ok-carry-in-Began-clause-carried g c =
     let q : slice_get c.args.self.now.list.items c.args.index ≡ Some c.index_mut-agent.result.now = slice_get_read c.args.self.now.list.items _ c.args.index c.index_mut-agent.result.now refl c.requires.within c.index_mut-agent.ensures.value in
     child-carried (program_tree c.args.checked.now) g.A.Access.may_come (g.A.Access.sight c.args.access.now) (g.A.Access.sight c.advance.new.access) c.args.self.now.list.items c.args.index c.index_mut-agent.result.now c.advance.new.self q c.advance.ensures.carried c.in-Began.child c.in-Began.call c.in-Began.depth
     (subst (λ (x : Advanced). AnswerSays g.A.Access.may_come (program_tree c.args.checked.now) c.index_mut-agent.result.now.carried.unit (children_of c.index_mut-agent.result.now.doing) (g.A.Access.sight c.args.access.now) (g.A.Access.sight c.advance.new.access) x) c.in-Began.is c.in_ok-child.ensures.told)
@@ -126,6 +126,6 @@ returns-in-WaitsFor-clause-freed g c = λ front le freed. freed-set c.args.self.
 pub returns-in-Ended-clause-freed : goal.returns-in-Ended-clause-freed
 returns-in-Ended-clause-freed g c = λ front le freed. freed-set c.args.self.now.list.items front c.args.index c.advance.new.self le freed
 
-pub returns-in-Began-clause-freed : goal.returns-in-Began-clause-freed
-returns-in-Began-clause-freed g c = λ front le freed.
+pub returns-in_ok-carry-in-Began-clause-freed : goal.returns-in_ok-carry-in-Began-clause-freed
+returns-in_ok-carry-in-Began-clause-freed g c = λ front le freed.
     freed-set-more c.args.self.now.list.items c.carry.new.self.list.items front c.args.index c.advance.new.self c.in_ok-carry-in-Began.ensures.agent c.in_ok-carry-in-Began.ensures.list le c.requires.within freed

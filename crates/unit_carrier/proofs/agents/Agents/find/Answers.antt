@@ -67,8 +67,8 @@ loop-index-preserved g c =
     let moves = told-first types (g.A.Access.sight c.args.access.now) (g.A.Access.sight c.loop-index.access) c.index_mut.result.now.carried.unit c.in_ok-can_move_now.field-0
     c.loop-index.invariant.same c.in_ok-can_move_now.ensures.moves in
     record {
-      fit = c.can_move_now.ensures.fit;
-      aside = c.can_move_now.ensures.aside ∙ c.loop-index.invariant.aside;
+      fit = c.can_move_now.ensures.kept.fit;
+      aside = c.can_move_now.ensures.kept.aside ∙ c.loop-index.invariant.aside;
       same = c.can_move_now.ensures.same ∙ c.loop-index.invariant.same;
       carried = set-carried types g.A.Access.may_come (g.A.Access.sight c.can_move_now.new.access) c.loop-index.self.list.items c.loop-index.index c.index_mut.result.now c.can_move_now.new.agent q
           c.can_move_now.ensures.carried c.in_ok-can_move_now.ensures.knows
