@@ -123,6 +123,28 @@ class Report(Case):
         return wrong
 
 
+class Compact(Case):
+    """`compact`, which leaves the states, and a log that replays and goes on."""
+
+    def untold(self, ended, failed):
+        # Once all is written it does without memory.
+        return [] if failed == {shim.NO_FILE} else super().untold(ended, failed)
+
+    def wrong(self, folder, ended, failed):
+        wrong = kept.wrong_number(ended, failed)
+        if ended.output:
+            wrong.append(f"it printed {ended.output}")
+        audit, shown = run(folder, "audit"), run(folder, "show")
+        if audit.output != REPORTS["audit"] or shown.output != REPORTS["show"]:
+            wrong.append(f"behind it an audit and a show ended so: {audit}, {shown}")
+        if ended.number != 0 and kept.history(folder)[0] not in (BEFORE, []):
+            wrong.append("a part of the records is gone")
+        used = run(folder, "run", given=kept.line("account/0.deposit", 5))
+        if used.number != 0 or b'"reply"' not in used.output:
+            wrong.append(f"a run behind it ended so: {used}")
+        return wrong
+
+
 class Making(Case):
     """`init`: it makes a silo or leaves none, and a second one makes it."""
 
@@ -206,6 +228,11 @@ with tempfile.TemporaryDirectory(dir=MEMORY) as room:
     kept.make(template)
     BEFORE = kept.history(template)[0]
     REPORTS = {command: run(template, command).output for command in ("show", "history", "audit")}
+    # Its files of two generations ago are there.
+    twice = os.path.join(room, "twice")
+    shutil.copytree(template, twice)
+    run(twice, "compact")
+    run(twice, "compact")
     loaded = os.path.join(room, "loaded")
     os.mkdir(loaded)
     SUMMARY_LINE = run(loaded, "load", "4", "7", "--width", "8").output
@@ -218,6 +245,8 @@ with tempfile.TemporaryDirectory(dir=MEMORY) as room:
         Nested(room, library, "transactions within others at width 4", template, ["run", "--width", "4"], b"".join(NESTED)),
         Making(room, library, "init", empty, ["init"], kept.PROGRAM_TEXT),
         Load(room, library, "load", empty, ["load", "4", "7", "--width", "8"]),
+        Compact(room, library, "compact", template, ["compact"]),
+        Compact(room, library, "compact once more", twice, ["compact"]),
         *(Report(room, library, command, template, [command]) for command in REPORTS),
     ]
     stride = 1 if "--all" in sys.argv[1:] else STRIDE

@@ -1,7 +1,7 @@
 #!/usr/bin/env python3
 """Reads a silo's folder, by docs/FORMATS.md alone:  examples/reader/read.py FOLDER
 
-Prints each record of the log, then the state of each grain that one wrote, then the next unit's number. Or it says that the
+Prints each record of the log, then the state of each grain that one or its checkpoint names, then the next unit's number. Or it says that the
 folder is no silo, or which file is damaged and where. Of the program it takes the types, fields and methods, and checks no more.
 """
 import json, re, struct, sys
@@ -80,28 +80,52 @@ def record_of(body, types):
     told = {"unit": unit, **origin, "call": f"{name}/{key}.{method}", "args": arguments, "answers": answers, "result": result}
     return unit, told, writes
 
-def log_of(name, held, types):
+def bodies_of(name, held):
+    """Each open block's body, and then one of no bytes where the log ends; beside each whether it is a block's."""
     gate = 15
     while held[gate] == 1:
         block = Bytes(name, held, gate + 1, len(held))
         block.need(gate + 5 <= len(held), gate + 1)
         size = block.number("I")
         block.need(gate + 6 + size <= len(held), gate + 1)
-        body = Bytes(name, held, gate + 5, gate + 5 + size)
-        yield from [record_of(body, types) for _ in range(body.number("I", lambda count: count <= 64))]
-        body.ended()
+        yield True, Bytes(name, held, gate + 5, gate + 5 + size)
         gate += 5 + size
+    yield False, Bytes(name, held, gate, gate)
+
+def checkpoint_of(bodies, types):
+    """The count, the next unit's number, and the versions that it names."""
+    head, writes, more = None, [], 1
+    while more:
+        _is_block, body = next(bodies)
+        more = body.number("B", lambda flag: flag < 2)
+        count = body.number("Q", lambda count: count < 2**63 and (head is None or count == head[0]))
+        following = body.number("Q", lambda unit: 0 < unit <= 2**63 and (head is None or unit == head[1]))
+        head = count, following
+        for _ in range(body.number("I", lambda count: count <= 65536)):
+            at, grain = body.at, (body.number("H", lambda kind: kind < len(types)), body.number("I"))
+            body.need(not writes or writes[-1][0] < grain, at)
+            writes.append((grain, body.number("Q"), body.number("I")))
+        body.ended()
+    return *head, writes
+
+def records_of(bodies, types):
+    for is_block, body in bodies:
+        if is_block:
+            yield from [record_of(body, types) for _ in range(body.number("I", lambda count: count <= 64))]
+            body.ended()
 
 def state_of(name, held, offset, length, unit, fields):
     version = Bytes(name, held, offset, offset + length)
     version.need(length <= 4154 and offset + length <= len(held), offset)
-    version.number("Q", lambda found: found == unit)
+    version.number("Q", lambda found: 0 < found < 2**63 if unit is None else found == unit)
     version.number("H", lambda count: count == len(fields))
     state = {field: version.value() for field in fields}
     version.ended()
     return state
 
-def read(folder):
+def found_in(folder):
+    """The records, the state of each grain, and the next unit's number. None where the folder is no silo; the first damage is raised."""
+
     def file(name):
         try:
             with open(f"{folder}/{name}", "rb") as it:
@@ -109,31 +133,43 @@ def read(folder):
         except FileNotFoundError:
             return b""
 
-    manager = file("manager-0.otx")
-    if len(manager) < 16 or manager[:9] != b"\1OTXLOG01":
-        return print("no silo")
-    program = Bytes("program-0.otx", held := file("program-0.otx"), 0, len(held))
+    slots = [(slot, held) for slot in (0, 1) if len(held := file(f"manager-{slot}.otx")) >= 16 and held[:9] == b"\1OTXLOG01"]
+    if not slots:
+        return None
+    live, manager = max(slots, key=lambda one: (struct.unpack("<I", one[1][9:13])[0], -one[0]))
+    program = Bytes(f"program-{live}.otx", held := file(f"program-{live}.otx"), 0, len(held))
     program.need(len(held) >= 4, len(held))
     size = program.number("I", lambda size: size <= 262144)
     program.need(size <= len(held) - 4, len(held))
     types = types_of(program.take(size).decode(errors="replace"))
-    header = Bytes("manager-0.otx", manager, 13, 15)
-    for _ in range(2):
-        header.number("B", lambda byte: byte == 0)
-    named, last = [], 0
-    for unit, told, writes in log_of("manager-0.otx", manager, types):
-        print(json.dumps(told))
+    header = Bytes(f"manager-{live}.otx", manager, 13, 15)
+    begins = header.number("B", lambda byte: byte < 2)
+    header.number("B", lambda byte: byte == 0)
+    bodies = bodies_of(f"manager-{live}.otx", manager)
+    _count, following, writes = checkpoint_of(bodies, types) if begins else (0, 1, [])
+    records, named = [], [(grain, offset, length, None) for grain, offset, length in writes]
+    for unit, told, writes in records_of(bodies, types):
+        records.append(told)
         named += [(grain, offset, length, unit) for grain, offset, length in writes]
-        last = max(last, unit)
+        following = max(following, unit + 1)
     files, states = {}, {}
     for (kind, key), offset, length, unit in sorted(named, key=lambda one: one[0]):
-        name = f"grain-0-{kind}-{key}.otx"
+        name = f"grain-{live}-{kind}-{key}.otx"
         if name not in files:
             files = {name: file(name)}
         states[f"{types[kind][0]}/{key}"] = state_of(name, files[name], offset, length, unit, types[kind][1])
+    return records, states, following
+
+def read(folder):
+    found = found_in(folder)
+    if found is None:
+        return print("no silo")
+    records, states, following = found
+    for told in records:
+        print(json.dumps(told))
     for grain, state in states.items():
         print(json.dumps({"grain": grain, "state": state}))
-    print(json.dumps({"next_unit": last + 1}))
+    print(json.dumps({"next_unit": following}))
 
 if __name__ == "__main__":
     try:

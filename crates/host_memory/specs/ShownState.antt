@@ -34,6 +34,10 @@ calls_in h = h.plan.calls
 abbrev pub left_in : MemoryHost → ℕ
 left_in h = h.plan.left
 
+-- how many calls ahead the one of any kind is that is to fail, 0 where none is
+abbrev pub ahead_in : MemoryHost → ℕ
+ahead_in h = h.plan.ahead
+
 -- which calls are to fail
 abbrev pub planned_in : MemoryHost → List Planned
 planned_in h = h.plan.faults.items
@@ -50,9 +54,9 @@ ready_in h = is_kept h.files.items
 abbrev pub is_stopped : MemoryHost → Bool
 is_stopped h = left_in h == 0
 
--- the next call of this kind on this channel is planned to fail
+-- the next call of this kind on this channel is planned to fail: as a call of any kind, or as one of these
 abbrev pub is_planned : MemoryHost → CallKind → Channel → Bool
-is_planned h what channel = list_any (is_due what channel) (planned_in h)
+is_planned h what channel = (ahead_in h == 1) || list_any (is_due what channel) (planned_in h)
 
 -- whether the next call of this kind on this channel is one that fails as planned, or comes after the stop
 abbrev pub is_named : MemoryHost → CallKind → Channel → Bool
@@ -85,13 +89,15 @@ pub record SameWorld (old new : MemoryHost) : Type 0 where
 pub record SamePlan (old new : MemoryHost) : Type 0 where
   pub calls : calls_in new ≡ calls_in old
   pub left : left_in new ≡ left_in old
+  pub ahead : ahead_in new ≡ ahead_in old
   pub planned : planned_in new ≡ planned_in old
 
--- One call of this kind on this channel was made: it is counted, and so it is in each planned fault of this kind there; after the stop
--- nothing is counted.
+-- One call of this kind on this channel was made: it is counted, and so it is in each planned fault of this kind there, and in the one
+-- of any kind; after the stop nothing is counted.
 pub record TakesTurn (what : CallKind) (channel : Channel) (old new : MemoryHost) : Type 0 where
   pub calls : calls_in new ≡ (if left_in old == 0 then calls_in old else calls_in old + 1)
   pub left : left_in new ≡ left_in old - 1
+  pub ahead : ahead_in new ≡ (if left_in old == 0 then ahead_in old else ahead_in old - 1)
   pub planned : planned_in new ≡ (if left_in old == 0 then planned_in old else map (counted what channel) (planned_in old))
 
 -- what isn't a file is as it was
@@ -117,4 +123,5 @@ pub record IsFresh (h : MemoryHost) : Type 0 where
   pub starved : starved_in h ≡ 0
   pub calls : calls_in h ≡ 0
   pub left : left_in h ≡ 2 ^ 62
+  pub ahead : ahead_in h ≡ 0
   pub planned : planned_in h ≡ []

@@ -101,6 +101,16 @@ pub fn bytes_of(files: &[Stored], file: FileId) -> &[u8]
     &files[i].bytes
 }
 
+// How often calls on a file have failed.
+pub fn faults_of(files: &[Stored], file: FileId) -> u64
+    ensures { result ≡ faults_in files.now file }
+{
+    match position_of(files, file) {
+        Some(i) => files[i].faults,
+        None => 0,
+    }
+}
+
 // Puts a file into the list, unless it is there.
 pub fn keep(alloc: Global, files: &mut Vec<Stored>, file: FileId) -> Result<(), AllocError>
     ensures kept { OnOk result (IsTrue (is_kept files.new.items file)) }

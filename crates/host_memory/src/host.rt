@@ -12,7 +12,7 @@ ghost use Rattle.host_memory.specs.ReadLaws.{stays};
 
 use crate::crash::outcome_of;
 use crate::events::{Noted, count_syncs, file_of, flush, place, put_out, tear, write};
-use crate::files::{Stored, bytes_of, find, keep, raise};
+use crate::files::{Stored, bytes_of, faults_of, find, keep, raise};
 use crate::plan::{CallKind, Plan, Turn};
 use host_trait::{Channel, Failed, FileId, Host};
 use std::alloc::{AllocError, Global};
@@ -55,7 +55,7 @@ fn first_files(alloc: Global) -> Result<Vec<Stored>, AllocError>
 }
 
 impl MemoryHost {
-    ghost use Rattle.host_memory.specs.ShownState.{world_in, counts_in, starved_in, calls_in, left_in, planned_in, most_in, is_written, image_in, IsCrashOf, SameWorld, SamePlan, SameButFiles, PutsFile, IsFresh};
+    ghost use Rattle.host_memory.specs.ShownState.{world_in, counts_in, starved_in, calls_in, left_in, ahead_in, planned_in, most_in, is_written, image_in, IsCrashOf, SameWorld, SamePlan, SameButFiles, PutsFile, IsFresh};
     ghost use Rattle.host_memory.specs.Drawings.{IsDrawing};
     ghost use Rattle.host_memory.specs.declared.events.Noted.{Noted};
 
@@ -88,6 +88,7 @@ impl MemoryHost {
             ≡ planned_in self.old ++ (record { what = what; channel = channel; left = nth }) ∷ []) }
         ensures err { OnErr result (planned_in self.new ≡ planned_in self.old) }
         ensures left { left_in self.new ≡ left_in self.old }
+        ensures ahead { ahead_in self.new ≡ ahead_in self.old }
         ensures calls { calls_in self.new ≡ calls_in self.old }
         ensures same { SameWorld self.old self.new }
     {
@@ -95,10 +96,24 @@ impl MemoryHost {
         Ok(())
     }
 
+    /// The nth call from now fails, counted from 1, of whatever kind and on whatever channel it is, and counts as a fault there; as
+    /// [`fail_on`](MemoryHost::fail_on) has it fail, whose plans stay. (A call of number 0 never comes.) What was planned so before
+    /// is planned no more.
+    pub fn fail_call(&mut self, nth: u64)
+        ensures ahead { ahead_in self.new ≡ nth }
+        ensures planned { planned_in self.new ≡ planned_in self.old }
+        ensures left { left_in self.new ≡ left_in self.old }
+        ensures calls { calls_in self.new ≡ calls_in self.old }
+        ensures same { SameWorld self.old self.new }
+    {
+        self.plan.fail_call(nth);
+    }
+
     /// After so many further calls every call fails and changes nothing, and is counted no more. A host stops by itself after
     /// 2 to the 62 calls.
     pub fn stop_after(&mut self, calls: u64)
         ensures left { left_in self.new ≡ min calls (2 ^ 62 - calls_in self.old) }
+        ensures ahead { ahead_in self.new ≡ ahead_in self.old }
         ensures planned { planned_in self.new ≡ planned_in self.old }
         ensures calls { calls_in self.new ≡ calls_in self.old }
         ensures same { SameWorld self.old self.new }
@@ -193,6 +208,17 @@ impl MemoryHost {
         ensures { result ≡ calls_in self.now }
     {
         self.plan.calls
+    }
+
+    /// How often calls on a channel have failed, up to the last value of a `u64`.
+    pub fn faults(&self, channel: Channel) -> u64
+        ensures { result ≡ counts_in self.now channel }
+    {
+        match channel {
+            Channel::Input => self.input_faults,
+            Channel::Output => self.output_faults,
+            Channel::File(file) => faults_of(&self.files, file),
+        }
     }
 
     /// How many calls found no memory for this host's own bytes, up to the last value of a `u64`. Such a call fails and

@@ -40,6 +40,8 @@ pub enum Turn {
 pub struct Plan {
     pub calls: u64,
     pub left: u64,
+    // The call of any kind that is to fail comes as this one from now, counted from 1; 0 where none is to.
+    pub ahead: u64,
     pub faults: Vec<Planned>,
     ghost in_time: { calls + left ≤ 2 ^ 62 },
 }
@@ -72,6 +74,16 @@ fn is_same_channel(a: Channel, b: Channel) -> bool
     }
 }
 
+// Counts one call towards the one that is to fail, and answers whether it is that.
+fn count_one(left: &mut u64) -> bool
+    ensures due { result ≡ (left.old == 1) }
+    ensures after { left.new ≡ left.old - 1 }
+{
+    let before = *left;
+    *left = before.saturating_sub(1);
+    before == 1
+}
+
 impl Planned {
     fn is_of(&self, what: CallKind, channel: Channel) -> bool
         ensures { result ≡ is_of what channel self.now }
@@ -87,9 +99,7 @@ impl Planned {
         if !self.is_of(what, channel) {
             return false;
         }
-        let left = self.left;
-        self.left = left.saturating_sub(1);
-        left == 1
+        count_one(&mut self.left)
     }
 }
 
@@ -115,11 +125,13 @@ impl Plan {
     pub fn new(alloc: Global) -> Plan
         ensures calls { result.calls ≡ 0 }
         ensures left { result.left ≡ 2 ^ 62 }
+        ensures ahead { result.ahead ≡ 0 }
         ensures faults { result.faults.items ≡ [] }
     {
         Plan {
             calls: 0,
             left: LAST_CALL,
+            ahead: 0,
             faults: Vec::new(alloc),
         }
     }
@@ -128,15 +140,27 @@ impl Plan {
     pub fn stop_after(&mut self, calls: u64)
         ensures calls { self.new.calls ≡ self.old.calls }
         ensures left { self.new.left ≡ min calls (2 ^ 62 - self.old.calls) }
+        ensures ahead { self.new.ahead ≡ self.old.ahead }
         ensures faults { self.new.faults ≡ self.old.faults }
     {
         self.left = calls.min(LAST_CALL - self.calls);
+    }
+
+    // Sets which call of any kind is to fail.
+    pub fn fail_call(&mut self, nth: u64)
+        ensures calls { self.new.calls ≡ self.old.calls }
+        ensures left { self.new.left ≡ self.old.left }
+        ensures ahead { self.new.ahead ≡ nth }
+        ensures faults { self.new.faults ≡ self.old.faults }
+    {
+        self.ahead = nth;
     }
 
     // Adds a call that is to fail. Without memory all stays as it was.
     pub fn fail_on(&mut self, what: CallKind, channel: Channel, nth: u64) -> Result<(), AllocError>
         ensures calls { self.new.calls ≡ self.old.calls }
         ensures left { self.new.left ≡ self.old.left }
+        ensures ahead { self.new.ahead ≡ self.old.ahead }
         ensures ok { OnOk result (self.new.faults.items ≡ self.old.faults.items ++ (record { what = what; channel = channel; left = nth }) ∷ []) }
         ensures err { OnErr result (self.new.faults.items ≡ self.old.faults.items) }
     {
@@ -152,10 +176,11 @@ impl Plan {
     pub fn turn(&mut self, what: CallKind, channel: Channel) -> Turn
         ensures ticks { CallsAfter result self.old.calls self.new.calls }
         ensures named { result ≡ (if self.old.left == 0 then Turn.Stopped else
-            (if list_any (is_due what channel) self.old.faults.items then Turn.Fails else Turn.Goes)) }
-        ensures fails { is_failing result ≡ ((self.old.left == 0) || list_any (is_due what channel) self.old.faults.items) }
+            (if (self.old.ahead == 1) || list_any (is_due what channel) self.old.faults.items then Turn.Fails else Turn.Goes)) }
+        ensures fails { is_failing result ≡ ((self.old.left == 0) || ((self.old.ahead == 1) || list_any (is_due what channel) self.old.faults.items)) }
         ensures count { self.new.calls ≡ (if self.old.left == 0 then self.old.calls else self.old.calls + 1) }
         ensures left { self.new.left ≡ self.old.left - 1 }
+        ensures ahead { self.new.ahead ≡ (if self.old.left == 0 then self.old.ahead else self.old.ahead - 1) }
         ensures faults { self.new.faults.items ≡ (if self.old.left == 0 then self.old.faults.items else map (counted what channel) self.old.faults.items) }
         ensures clock { (events : List Noted) → AreBy (2 * self.old.calls + 1) events → AreBy (2 * self.new.calls + 1) events }
         ensures told { (input : List ℕ) (events : List Noted) → AreBy (2 * self.old.calls + 1) events
@@ -166,7 +191,9 @@ impl Plan {
         }
         self.left -= 1;
         self.calls += 1;
-        if count_down(&mut self.faults, what, channel) {
+        let is_next = count_one(&mut self.ahead);
+        let is_due = count_down(&mut self.faults, what, channel);
+        if is_next || is_due {
             return Turn::Fails;
         }
         Turn::Goes

@@ -164,6 +164,32 @@ fn the_planned_calls_fail(rt: HostRuntime) -> Result<(), Fail> {
 }
 
 #[test]
+fn the_nth_call_of_any_kind_fails(rt: HostRuntime) -> Result<(), Fail> {
+    let manager = Channel::File(MANAGER);
+    for nth in 0..5u64 {
+        let mut host = MemoryHost::new(rt.alloc(), b"abc")?;
+        host.fail_call(nth);
+        let mut into = [0; 2];
+        let pulled = host.pull(&mut into).is_ok();
+        let written = host.write_at(FileId::Manager { slot: 0 }, 0, b"x").is_ok();
+        let synced = host.sync(FileId::Manager { slot: 0 }).is_ok();
+        let emitted = host.emit(b"y").is_ok();
+        assert_eq!(rt;
+            (pulled, written, synced, emitted),
+            (nth != 1, nth != 2, nth != 3, nth != 4)
+        );
+        assert_eq!(rt; host.faults(Channel::Input), if nth == 1 { 1 } else { 0 });
+        assert_eq!(rt;
+            host.faults(manager),
+            if nth == 2 || nth == 3 { 1 } else { 0 }
+        );
+        assert_eq!(rt; host.faults(Channel::Output), if nth == 4 { 1 } else { 0 });
+        assert_eq!(rt; host.calls(), 4);
+    }
+    Ok(())
+}
+
+#[test]
 fn after_the_stop_nothing_changes(rt: HostRuntime) -> Result<(), Fail> {
     for calls in 0..4u64 {
         let mut host = MemoryHost::new(rt.alloc(), b"abc")?;
