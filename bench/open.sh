@@ -51,7 +51,7 @@ cat >"$bench/src/main.rt" <<END
 #![tactic(auto)]
 
 use base_types::{GrainId, Place, Shape, State, UnitNo, Version};
-use field_codec::{get_exactly, get_u64};
+use field_codec::{Format, get_exactly, get_u64};
 use grain_log::read_named;
 use host_files::FolderHost;
 use host_trait::{FileId, Host, read_full};
@@ -88,9 +88,9 @@ fn one_by_one<H: Host>(alloc: Global, host: &mut H, shape: &Shape, records: u64)
     for key in 0..64u32 {
         for at in 0..count_on(key, records) {
             let first = if key == 0 { 64 } else { key as u64 };
-            let unit = UnitNo(at.wrapping_mul(64).wrapping_add(first));
+            let unit = Some(UnitNo(at.wrapping_mul(64).wrapping_add(first)));
             let place = Place { offset: at.wrapping_mul(19), len: 19 };
-            if read_named(alloc, host, FileId::Grain { slot: 0, grain: GrainId { kind: 0, key } }, unit, place, shape).is_err() {
+            if read_named(alloc, host, FileId::Grain { slot: 0, grain: GrainId { kind: 0, key } }, unit, place, shape, Format::One).is_err() {
                 return Err(ErrorKind::InvalidData.into());
             }
             seen = 1u64.wrapping_add(seen);
@@ -103,7 +103,7 @@ fn decode(alloc: Global, bytes: &[u8]) -> io::Result<Version> {
     let Ok((unit, after)) = get_u64(bytes, 0) else {
         return Err(ErrorKind::InvalidData.into());
     };
-    let Ok((values, _)) = get_exactly(alloc, bytes, after, 16, 1) else {
+    let Ok((values, _)) = get_exactly(alloc, bytes, after, 16, 1, Format::One) else {
         return Err(ErrorKind::InvalidData.into());
     };
     Ok(Version { unit: UnitNo(unit), state: State::from_list(values) })

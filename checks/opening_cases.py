@@ -55,9 +55,31 @@ def grain_bytes(grain):
     return num(grain[0], 2) + num(grain[1], 4)
 
 
+def add_body(manager, body):
+    """The manager file with its last gate open, and the block of this body behind it."""
+    return manager[:-1] + b"\1" + num(len(body), 4) + body + b"\0"
+
+
 def add_block(manager, count, records):
-    """The manager file with its last gate open, and the block of so many records behind it."""
-    return manager[:-1] + b"\1" + num(len(records) + 4, 4) + num(count, 4) + records + b"\0"
+    return add_body(manager, num(count, 4) + records)
+
+
+def piece(more, count, following, writes):
+    """The body of a checkpoint's piece."""
+    body = bytes([more]) + num(count, 8) + num(following, 8) + num(len(writes), 4)
+    return body + b"".join(grain_bytes(grain) + num(offset, 8) + num(length, 4) for grain, offset, length in writes)
+
+
+def with_pieces(*bodies):
+    """The manager file whose log begins with these pieces of a checkpoint."""
+    manager = changed(HEADER, 13, 1) + b"\0"
+    for body in bodies:
+        manager = add_body(manager, body)
+    return manager
+
+
+def with_generation(manager, number):
+    return manager[:9] + num(number, 4) + manager[13:]
 
 
 # The first deposit: type 0, key 1, method 0 with the argument 5, as unit 1 and line 1, and its version.
@@ -123,7 +145,8 @@ def openings():
 
 
 def other_slot():
-    title("The other slot's manager file is looked at, synced where it has 16 bytes or more, and never live.")
+    title("The other slot's manager file is looked at, synced where it has 16 bytes or more, "
+          "and not live where its generation isn't greater.")
     lay_deposit()
     for content, syncs in [(HEADER, 1), (bytes(16), 3), (MANAGER, 5)]:
         put("manager-1", content)
@@ -134,12 +157,12 @@ def other_slot():
         case("open", "fault of manager-1")
         case("open", OPENED)
     case("stopped-open 1", "so after each")
-    title("With no silo in slot 0 there is none, whatever stands there.")
+    title("With no silo in slot 0 that of slot 1 is opened, which has no program here.")
     put("manager", b"")
-    case("open", "no silo")
+    case("open", "program-1 at 0")
     case("fail length manager-1 1")
     case("open", "fault of manager-1")
-    case("open", "no silo")
+    case("open", "program-1 at 0")
 
 
 def transfer():
@@ -334,6 +357,125 @@ def many_records():
     return manager, files
 
 
+def version(unit, balance):
+    return num(unit, 8) + num(1, 2) + integer(balance)
+
+
+# What a checkpoint names, a first piece and the last one behind it, and a deposit of 3 as unit 4 behind those.
+ONE, TWO = ((0, 1), 0, 19), ((0, 2), 0, 19)
+FIRST, LAST = piece(1, 3, 4, [ONE]), piece(0, 3, 4, [TWO])
+FOURTH = (num(4, 8) + b"\0" + num(1, 4) + grain_bytes((0, 1)) + num(0, 2) + num(1, 2) + integer(3) + num(0, 2)
+          + b"\1" + integer(8) + num(1, 2) + grain_bytes((0, 1)) + num(19, 8) + num(19, 4))
+
+
+def opens(rows):
+    for name, content, told in rows:
+        put(name, content)
+        case("open", told)
+
+
+def checkpoints():
+    title("A log that begins with a checkpoint: its count, its next unit, and the versions that it names, whichever unit's they are.")
+    case("new")
+    case("program " + TEXT)
+    put("0/1", VERSION)
+    put("manager", with_pieces(piece(0, 1, 2, [ONE])))
+    told = f"1 records, next unit 2, gate 59; 0/1 {VERSION[8:].hex()} to 19"
+    case("open", told)
+    case("syncs", "1")
+    six = told.replace("0500", "0600")
+    opens([("0/1", version(unit, 6), at) for unit, at in
+           [(9, six), (2 ** 63 - 1, six), (0, "0/1 at 0"), (2 ** 63, "0/1 at 0")]])
+    opens([("0/1", version(1, 6)[:-1], "0/1 at 0"), ("0/1", changed(version(1, 6), 8, 2), "0/1 at 8")])
+    put("0/1", VERSION)
+    opens([("manager", with_pieces(piece(0, 0, 1, [])), "0 records, next unit 1, gate 41"),
+           ("manager", with_pieces(piece(0, 2 ** 63 - 1, 2 ** 63, [ONE])),
+            told.replace("1 records", f"{2 ** 63 - 1} records").replace("unit 2", f"unit {2 ** 63}"))])
+    title("Its pieces stand in blocks of their own, and records behind them.")
+    put("0/1", VERSION + version(4, 8))
+    put("0/2", version(3, 7))
+    one, two = (f"0/1 {VERSION[8:].hex()} to 19", f"0/2 {version(3, 7)[8:].hex()} to 19")
+    opens([("manager", with_pieces(FIRST, LAST), f"3 records, next unit 4, gate 103; {one}; {two}"),
+           ("manager", with_pieces(piece(1, 3, 4, []), FIRST, LAST), f"3 records, next unit 4, gate 129; {one}; {two}"),
+           ("manager", add_block(with_pieces(FIRST, LAST), 1, FOURTH),
+            f"4 records, next unit 5, gate 176; 0/1 {version(4, 8)[8:].hex()} to 38; {two}"),
+           ("0/1", changed(VERSION, 0, 0) + version(3, 8), "0/1 at 0"), ("0/1", VERSION + version(3, 8), "0/1 at 19")])
+    put("0/1", VERSION + version(4, 8))
+    case("stopped-open 4", "so after each")
+    title("Where byte 13 says that a checkpoint follows it is damaged where no piece of one is, "
+          "and else the first field that isn't right is named.")
+    both, none = with_pieces(FIRST, LAST), piece(0, 3, 4, [])
+    for manager, place in [
+            (with_pieces(), 15), (with_pieces(FIRST), 59), (add_block(with_pieces(), 1, FOURTH), 59),
+            (with_pieces(piece(2, 3, 4, [])), 20), (with_pieces(piece(0, 2 ** 63, 4, [])), 21),
+            (with_pieces(piece(0, 3, 0, [])), 29), (with_pieces(piece(0, 3, 2 ** 63 + 1, [])), 29),
+            (with_pieces(none[:-4] + num(65537, 4)), 37), (with_pieces(none[:-4] + num(256, 4)), 41),
+            (with_pieces(piece(0, 3, 4, [((1, 1), 0, 19)])), 41), (with_pieces(piece(0, 3, 4, [TWO, ONE])), 59),
+            (with_pieces(FIRST, piece(0, 3, 4, [ONE])), 85), (with_pieces(FIRST, piece(0, 2, 4, [TWO])), 65),
+            (with_pieces(FIRST, piece(0, 3, 5, [TWO])), 73), (with_pieces(none + b"\0"), 41), (with_pieces(none)[:-1], 16),
+            (changed(both, 13, 2), 13), (changed(both, 14, 1), 14), (changed(both, 13, 0), 20)]:
+        put("manager", manager)
+        case("open", f"manager at {place}")
+
+
+def two_slots():
+    title("Of two silos the one of the greater generation is opened, and slot 0's where both are equal.")
+    case("new")
+    case("program " + TEXT)
+    program = num(len(TEXT), 4) + TEXT.encode()
+    other = with_pieces(piece(0, 2, 3, [ONE]))
+    told = f"slot 1: 2 records, next unit 3, gate 59; 0/1 {version(2, 9)[8:].hex()} to 19"
+    put("program-1", program)
+    put("0/1", VERSION)
+    put("0/1-1", version(2, 9))
+    put("manager", MANAGER)
+    put("manager-1", with_generation(other, 1))
+    case("open", told)
+    case("syncs", "2")
+    last = with_generation(other, 2 ** 32 - 1)
+    opens([("manager", with_generation(MANAGER, 1), OPENED), ("manager", with_generation(MANAGER, 256), OPENED),
+           ("manager-1", last, told)])
+    case("stopped-open 2", "so after each")
+    opens([("program-1", b"", "program-1 at 0")])
+    put("program-1", program)
+    opens([("0/1-1", version(0, 9), "0/1-1 at 0")])
+    put("0/1-1", version(2, 9))
+    opens([("manager-1", changed(last, 0, 0), OPENED)])
+    put("manager-1", other)
+    opens([("manager", b"", told)])
+    case("fail read manager-1 1")
+    case("open", "fault of manager-1")
+    case("open", told)
+
+
+def makings_beside():
+    title("A making looks at both manager files: a silo in either is one, and what slot 1's file has otherwise is synced and stays.")
+    case("input " + TEXT)
+    case("init", "the folder is a silo")
+    no_silo = changed(HEADER, 0, 0) + b"\0"
+    put("manager-1", no_silo)
+    case("input " + TEXT)
+    case("init", "made")
+    case("open", EMPTY)
+    case("show manager-1", no_silo.hex())
+    for files, syncs in [([("manager-1", b"\1")], 5), ([("manager", b"\2"), ("manager-1", b"\1")], 6)]:
+        case("new")
+        for name, content in files:
+            put(name, content)
+        case("input " + TEXT)
+        case("init", "made")
+        case("syncs", str(syncs))
+        if len(files) == 1:
+            case("show manager-1", "01")
+    for call in ("length", "sync", "read"):
+        case("new")
+        put("manager-1", b"\1")
+        case(f"fail {call} manager-1 1")
+        case("input " + TEXT)
+        case("init", "fault of manager-1")
+        case("show manager", "none")
+
+
 class Damage(Exception):
     """The place of the first fault."""
 
@@ -427,26 +569,63 @@ class Walk:
         return unit
 
 
+    def piece(self, first, named):
+        """Whether another piece follows, and what a checkpoint's first piece said."""
+        more = self.where(1, lambda n: n < 2)
+        count = self.where(8, lambda n: n < 2 ** 63 if first is None else n == first[0])
+        following = self.where(8, lambda n: 0 < n <= 2 ** 63 if first is None else n == first[1])
+        for _ in range(self.where(4, lambda n: n <= 65536)):
+            place = self.at
+            grain = (self.where(2, lambda n: n < 2), self.number(4))
+            if named and grain <= named[-1][1]:
+                raise Damage(place)
+            named.append((None, grain, self.number(8), self.number(4)))
+        self.end()
+        return more == 1, (count, following)
+
+
+def block_behind(manager, gate):
+    """The body behind a gate and the next gate, none where it is closed."""
+    if gate >= len(manager) or manager[gate] != 1:
+        return None
+    start = gate + 5
+    end = start + int.from_bytes(manager[gate + 1:start], "little")
+    if start > len(manager) or end >= len(manager):
+        raise Damage(gate + 1)
+    return manager[start:end], end
+
+
+def read_saved(manager):
+    """What a log begins with, by its pieces: the count, the next unit, the gate behind them, and the versions that are named."""
+    gate, first, named, more = 15, None, [], True
+    while more:
+        block = block_behind(manager, gate)
+        if block is None:
+            raise Damage(gate)
+        try:
+            more, first = Walk(block[0]).piece(first, named)
+        except Damage as damage:
+            raise Damage(gate + 5 + damage.args[0]) from None
+        gate = block[1]
+    return *first, gate, named
+
+
 def read_log(manager):
     """The records' count, the next unit, the gate at which the log ends, and the versions that are named."""
-    for at in ZEROS:
-        if manager[at] != 0:
+    for at, most in HEADER_BYTES:
+        if manager[at] > most:
             raise Damage(at)
-    count, following, gate, named = 0, 1, 15, []
-    while gate < len(manager) and manager[gate] == 1:
-        start = gate + 5
-        end = start + int.from_bytes(manager[gate + 1:start], "little")
-        if start > len(manager) or end >= len(manager):
-            raise Damage(gate + 1)
-        walk = Walk(manager[start:end])
+    count, following, gate, named = read_saved(manager) if manager[13] == 1 else (0, 1, 15, [])
+    while (block := block_behind(manager, gate)) is not None:
+        walk = Walk(block[0])
         try:
             for _ in range(walk.where(4, lambda n: n <= 64)):
                 following = max(following, walk.record(named) + 1)
                 count += 1
             walk.end()
         except Damage as damage:
-            raise Damage(start + damage.args[0]) from None
-        gate = end
+            raise Damage(gate + 5 + damage.args[0]) from None
+        gate = block[1]
     return count, following, gate, named
 
 
@@ -456,7 +635,7 @@ def version_damage(content, unit, grain, offset, length):
     if offset + length > len(content):
         return offset
     try:
-        walk.where(8, lambda n: n == unit)
+        walk.where(8, lambda n: 0 < n < 2 ** 63 if unit is None else n == unit)
         walk.values(2 if grain[0] == 0 else 1)
         walk.end()
     except Damage as damage:
@@ -517,8 +696,9 @@ def changes():
                  [with_file(name, changed(content, at, byte(at, content[at]))) for at in range(len(content))])
 
 
-# The bytes of the header that have to be zero, and the calls of an opening on each file that are to fail.
-ZEROS = [13, 14]
+# The bytes of the header behind its generation and the greatest that each may be, and the calls of an opening on each file that are to
+# fail.
+HEADER_BYTES = [(13, 1), (14, 0)]
 ZERO_ROWS = [(13, 255, "manager at 13"), (14, 1, "manager at 14")]
 OPENING_CALLS = [("length", "manager", 2), ("sync", "manager", 1), ("read", "manager", 7), ("length", "program", 1),
                  ("read", "program", 2), ("read", "0/1", 1)]
@@ -528,6 +708,9 @@ transfer()
 makings()
 pieces()
 changes()
+checkpoints()
+two_slots()
+makings_beside()
 crate = pathlib.Path(__file__).resolve().parent.parent / "crates" / "opening_tests"
 for name, lines in (("stdin", CASES), ("stdout", TOLD)):
     text = "\n".join(lines) + "\n"

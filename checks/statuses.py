@@ -115,4 +115,14 @@ with tempfile.TemporaryDirectory() as room:
     rows.row("program too long: afterwards", os.listdir(wide), [])
     rows.row("line too long: afterwards", after(long), silent(0, reply(1, 0, 1)))
 
+    # 12: no generation follows. Nothing was changed.
+    last = folder("last", BANK, deposit(5))
+    with open(os.path.join(last, "manager-0.otx"), "r+b") as file:
+        file.seek(9)
+        file.write(b"\xff" * 4)
+    before = sorted(os.listdir(last))
+    rows.row("compact of the last generation", run(last, "compact"), says(12, b"last generation"))
+    rows.row("last generation: its files", sorted(os.listdir(last)), before)
+    rows.row("last generation: afterwards", after(last), silent(0, reply(1, 5, 2)))
+
 rows.end()

@@ -20,7 +20,7 @@ _silo() {
   fi
   if [ "$COMP_CWORD" -eq 2 ]; then
     found="init load"
-    [ ! -e "$folder/manager-0.otx" ] || found="run show history audit"
+    [ ! -e "$folder/manager-0.otx" ] || found="run show history audit compact"
     mapfile -t COMPREPLY < <(compgen -W "$found" -- "$word")
     return
   fi

@@ -1,5 +1,5 @@
 -- What stands in an image stands in another that has the same bytes at its places.
-use Rattle.std.proofs.Common.{◌≡◌, ℕ, ◌+◌, ◌<◌, ◌≤◌, List, [], ◌∷◌, length, take, drop, slice_index, None, refl, sym, ◌∙◌, ap, arith, subst}
+use Rattle.std.proofs.Common.{◌≡◌, ℕ, ◌+◌, ◌<◌, ◌≤◌, List, [], ◌∷◌, length, take, drop, slice_index, refl, sym, ◌∙◌, ap, arith, subst}
 use Rattle.std.proofs.lemmas.List.{take-take, drop-take, get_or-take}
 use Rattle.std.specs.Prelude.{⊤}
 use Rattle.std.specs.List.{AllByRecursion}
@@ -14,16 +14,16 @@ use Rattle.cell_model.specs.Units.{Member}
 use Rattle.field_codec.specs.declared.units.Numbers.TheVariants.{Logged}
 use Rattle.commit_log.specs.Bodies.{IsRecordIn}
 use Rattle.commit_log.specs.declared.records.Written.{Written}
-use Rattle.log_reading.specs.Blocks.{header_damage}
 use Rattle.host_trait.specs.declared.channels.FileId.TheVariants.{Manager, Program as ProgramFile, Grain}
-use Rattle.silo_spec.specs.Silos.{IsSilo, HasProgram}
+use Rattle.silo_spec.specs.Silos.{HasProgram}
 use Rattle.promise_spec.specs.Records.{Commit}
 use Rattle.promise_spec.specs.Programs.{Program, shape_in}
 use Rattle.promise_spec.specs.Entries.{LogEntry, Recorded, records_among, Log, records_of}
 use Rattle.promise_spec.specs.Versions.{WriteStands, WritesStand, IsKept}
-use Rattle.promise_spec.specs.Blocks.{AreKept}
-use Rattle.promise_spec.specs.Logs.{magic, StandsUpTo, IsLog}
-use Rattle.batch_disk.specs.ImagesAtRest.{BeginsSilo, Voted, StandsIn, PlacesAreNamed, IsAtRest}
+use Rattle.promise_spec.specs.Blocks.{AreKept, Saved, saved_by, IsSaved, Beginning, Fresh, From, BeginsWhole}
+use Rattle.promise_spec.specs.Logs.{StandsUpTo, IsLog}
+use Rattle.promise_spec.proofs.Slots.{header_silo}
+use Rattle.batch_disk.specs.ImagesAtRest.{AreNamedBy, Voted, StandsIn, IsAtRest}
 use Rattle.batch_disk.proofs.Lists.{each_of}
 
 module _ (live : ℕ) (shape : Shape) (was image : Image) where
@@ -89,57 +89,70 @@ pub batch_stands : (live : ℕ) (shape : Shape) (image : Image) (voted : List Vo
 batch_stands live shape image voted [] are each = tt
 batch_stands live shape image voted (c ∷ batch) are each = (record { fits = are.0.fits; whole = voted_stand live shape image voted c.logged.unit c.logged.writes c.states are.0.whole each }, batch_stands live shape image voted batch are.1 each)
 
--- a file with blocks and a silo's header is a silo's
-pub silo_of : (head : List ℕ) (bodies : List (List ℕ)) (gate : ℕ) (file : List ℕ) → BeginsSilo head → take 15 file ≡ head → HasBlocks bodies gate file → IsSilo magic file
-silo_of head bodies gate file is header blocks =
+-- a checkpoint stands whole in an image as in another, where the bytes at its places are the same
+saved_same : (live : ℕ) (p : Program) (was image : Image) (ss : List Saved) → AllByRecursion (λ (s : Saved). IsSameAt live (shape_in p) was image s.write) ss
+    → AllByRecursion (IsSaved live p was) ss → AllByRecursion (IsSaved live p image) ss
+saved_same live p was image [] same all = tt
+saved_same live p was image (s ∷ ss) same all =
+    (record { fits = all.0.fits; unit = all.0.unit; stands = stands_same live (shape_in p) was image s.unit s.write s.state same.0 all.0.stands }, saved_same live p was image ss same.1 all.1)
+
+begins_same : (live : ℕ) (p : Program) (was image : Image) (b : Beginning) → AreNamedBy (IsSameAt live (shape_in p) was image) b → BeginsWhole live p was b → BeginsWhole live p image b
+begins_same live p was image Fresh same whole = tt
+begins_same live p was image (From ck) same whole = record {
+  count = whole.count;
+  next = whole.next;
+  sizes = whole.sizes;
+  order = whole.order;
+  each = saved_same live p was image (saved_by ck) same whole.each;
+}
+
+-- what is named of a beginning leads on
+saved_lead : (P Q : Written → Type 0) (ss : List Saved) → ((w : Written) → P w → Q w) → AllByRecursion (λ (s : Saved). P s.write) ss → AllByRecursion (λ (s : Saved). Q s.write) ss
+saved_lead P Q [] lead all = tt
+saved_lead P Q (s ∷ ss) lead all = (lead s.write all.0, saved_lead P Q ss lead all.1)
+
+pub named_lead : (P Q : Written → Type 0) (b : Beginning) → ((w : Written) → P w → Q w) → AreNamedBy P b → AreNamedBy Q b
+named_lead P Q Fresh lead all = tt
+named_lead P Q (From ck) lead all = saved_lead P Q (saved_by ck) lead all
+
+-- A log stands in an image as in another, where the blocks stand there, the header and the program's file are the same, and so are
+-- the bytes at its places.
+pub stands_up_same : (live : ℕ) (shape : Shape) (was image : Image) (log : Log) (bodies : List (List ℕ)) (gate : ℕ) → (is : StandsUpTo live was log bodies gate)
+    → take 15 (image (Manager live)) ≡ take 15 (was (Manager live)) → image (ProgramFile live) ≡ was (ProgramFile live) → HasBlocks bodies gate (image (Manager live))
+    → AllByRecursion (λ c. AllByRecursion (IsSameAt live shape was image) c.logged.writes) (records_of log) → AreNamedBy (IsSameAt live shape was image) is.begins → StandsUpTo live image log bodies gate
+stands_up_same live shape was image log bodies gate is head same blocks places begun =
+    let byte : (i : ℕ) → i < 15 → slice_index (image (Manager live)) i ≡ slice_index (was (Manager live)) i =
+    λ i low. sym (get_or-take 15 (image (Manager live)) i 0 low) ∙ ap (λ (l : List ℕ). slice_index l i) head ∙ get_or-take 15 (was (Manager live)) i 0 low in
     record {
-      long = omega (arith, blocks.at, blocks.within);
-      gate = sym (get_or-take 15 file 0 0 (omega arith)) ∙ ap (λ (l : List ℕ). slice_index l 0) header ∙ is.gate;
-      named = below_same (take 15 file) file 1 8 15 (sym (take-take 15 15 file (omega arith))) (omega arith) ∙ ap (λ (l : List ℕ). take 8 (drop 1 l)) header ∙ is.named;
+      silo = header_silo (image (Manager live)) (was (Manager live)) head (omega (arith, blocks.at, blocks.within)) is.silo;
+      program = is.program;
+      checked = is.checked;
+      text = subst (HasProgram is.program.text) (sym same) is.text;
+      begins = is.begins;
+      kind = byte 13 (omega arith) ∙ is.kind;
+      zero = byte 14 (omega arith) ∙ is.zero;
+      base = is.base;
+      whole = begins_same live is.program was image is.begins begun is.whole;
+      blocks = is.blocks;
+      fit = is.fit;
+      spelled = is.spelled;
+      stand = blocks;
+      entries = is.entries;
+      kept = kept_same live is.program was image log.entries places is.kept;
     }
 
--- whether a header is damaged is told by the bytes in front of the first gate
-header_front : (file : List ℕ) → header_damage (take 15 file) ≡ header_damage file
-header_front file =
-    let byte : (i : ℕ) → i < 15 → slice_index (take 15 file) i ≡ slice_index file i = λ i low. get_or-take 15 file i 0 low in
-    rw (byte 13 (omega arith), byte 14 (omega arith)) refl
-
--- a file with a silo's header is not damaged there
-pub whole_of : (head file : List ℕ) → BeginsSilo head → take 15 file ≡ head → header_damage file ≡ None
-whole_of head file is header = sym (header_front file) ∙ ap header_damage header ∙ is.whole
-
--- and a silo's file, whose header isn't damaged, begins so
-pub silo_begins : (file : List ℕ) → IsSilo magic file → header_damage file ≡ None → BeginsSilo (take 15 file)
-silo_begins file silo whole = record {
-  gate = get_or-take 15 file 0 0 (omega arith) ∙ silo.gate;
-  named = ap (take 8) (drop-take 1 14 file) ∙ take-take 8 14 (drop 1 file) (omega arith) ∙ silo.named;
-  whole = header_front file ∙ whole;
-}
-
--- A log stands in an image as in another, where the blocks stand there, the manager file is a silo's, its header isn't damaged, the
--- program's file is the same, and so are the bytes at its places.
-pub stands_up_same : (live : ℕ) (shape : Shape) (was image : Image) (log : Log) (bodies : List (List ℕ)) (gate : ℕ) → StandsUpTo live was log bodies gate
-    → IsSilo magic (image (Manager live)) → header_damage (image (Manager live)) ≡ None → image (ProgramFile live) ≡ was (ProgramFile live) → HasBlocks bodies gate (image (Manager live))
-    → AllByRecursion (λ c. AllByRecursion (IsSameAt live shape was image) c.logged.writes) (records_of log) → StandsUpTo live image log bodies gate
-stands_up_same live shape was image log bodies gate is silo whole same blocks places = record {
-  silo = silo;
-  header = whole;
-  program = is.program;
-  checked = is.checked;
-  text = subst (HasProgram is.program.text) (sym same) is.text;
-  base = is.base;
-  blocks = is.blocks;
-  fit = is.fit;
-  spelled = is.spelled;
-  stand = blocks;
-  entries = is.entries;
-  kept = kept_same live is.program was image log.entries places is.kept;
-}
+-- it begins as there
+pub begins_up_same : (live : ℕ) (shape : Shape) (was image : Image) (log : Log) (bodies : List (List ℕ)) (gate : ℕ) → (is : StandsUpTo live was log bodies gate)
+    → (head : take 15 (image (Manager live)) ≡ take 15 (was (Manager live))) → (same : image (ProgramFile live) ≡ was (ProgramFile live)) → (blocks : HasBlocks bodies gate (image (Manager live)))
+    → (places : AllByRecursion (λ c. AllByRecursion (IsSameAt live shape was image) c.logged.writes) (records_of log)) → (begun : AreNamedBy (IsSameAt live shape was image) is.begins)
+    → (stands_up_same live shape was image log bodies gate is head same blocks places begun).begins ≡ is.begins
+unfolding stands_up_same
+begins_up_same live shape was image log bodies gate is head same blocks places begun = refl
 
 -- each image's log between two steps
-pub rests_log : (live : ℕ) (shape : Shape) (head : List ℕ) (log : Log) (bodies : List (List ℕ)) (gate : ℕ) (ends : GrainId → ℕ) (voted : List Voted) (image : Image) → PlacesAreNamed live shape head log ends
+pub rests_log : (live : ℕ) (shape : Shape) (head : List ℕ) (log : Log) (bodies : List (List ℕ)) (gate : ℕ) (ends : GrainId → ℕ) (voted : List Voted) (image : Image)
     → IsAtRest live shape head log bodies gate ends voted image → IsLog live image log
-rests_log live shape head log bodies gate ends voted image named rests = record {
-  is_live = named.is_live image rests.stands.silo;
+rests_log live shape head log bodies gate ends voted image rests = record {
+  is_live = rests.is_live;
   is = record { bodies = bodies; gate = gate; stands = rests.stands; closed = rests.closed };
 }

@@ -1,5 +1,5 @@
 -- What each image keeps while the records of a batch are sealed.
-use Rattle.std.proofs.Common.{◌≡◌, ◌≢◌, ◌⊎◌, inl, inr, ℕ, ◌+◌, ◌<◌, ◌≤◌, List, [], ◌∷◌, ◌++◌, length, slice_index, take, drop, map, true, false, refl, sym, ◌∙◌, ap, subst, arith, append_assoc, length-append}
+use Rattle.std.proofs.Common.{◌≡◌, ◌≢◌, ◌⊎◌, inl, inr, ℕ, ◌+◌, ◌-◌, ◌<◌, ◌≤◌, List, [], ◌∷◌, ◌++◌, length, slice_index, take, drop, map, true, false, refl, sym, ◌∙◌, ap, subst, arith, append_assoc, length-append}
 use Rattle.std.specs.List.{AllByRecursion}
 use Rattle.std.proofs.lemmas.List.{length-take, take_at, drop_at}
 use Rattle.std.proofs.lemmas.Bool.{cases_lt, cases_eq}
@@ -26,16 +26,18 @@ use Rattle.promise_spec.specs.Programs.{shape_in}
 use Rattle.promise_spec.specs.Entries.{Recorded, Log, records_of, standing_of, grown}
 use Rattle.promise_spec.specs.Versions.{IsKept}
 use Rattle.promise_spec.specs.Blocks.{Records, body_of}
-use Rattle.promise_spec.specs.Logs.{StandsUpTo, IsLog}
+use Rattle.silo_spec.specs.Slots.{IsLive}
+use Rattle.promise_spec.specs.Logs.{magic, StandsUpTo, IsLog}
 use Rattle.promise_spec.proofs.Standings.{in_force, grown_records}
-use Rattle.promise_spec.proofs.Growing.{sealed as grows}
-use Rattle.batch_disk.specs.ImagesAtRest.{EachImage, SomeImage, IsBelow, AreBelow, PlacesAreNamed, Voted, StandsIn, IsAtRest, raised_ends, all_writes}
+use Rattle.promise_spec.proofs.Growing.{sealed as grows, sealed_begins as grows_begin}
+use Rattle.promise_spec.proofs.Slots.{live_moves, other_slot}
+use Rattle.batch_disk.specs.ImagesAtRest.{EachImage, SomeImage, IsBelow, AreBelow, AreNamedBy, PlacesAreNamed, Voted, StandsIn, IsAtRest, raised_ends, all_writes}
 use Rattle.batch_disk.specs.Moments.{LeavesRest, KeepsLog, IsSeam}
 use Rattle.batch_disk.specs.Seals.{may_open, NoneHas, IsSealInDoubt}
 use Rattle.batch_disk.proofs.Lists.{each_any, each_leads, each_list, both_parts}
 use Rattle.batch_disk.proofs.Ends.{raised_up, raised_each, raised_long, kept_within}
 use Rattle.batch_disk.proofs.OpenGates.{opens, stays_shut}
-use Rattle.batch_disk.proofs.ImagePlaces.{IsSameAt, IsNextBatch, stands_same, stands_up_same, shorter_front, batch_stands, silo_of, whole_of}
+use Rattle.batch_disk.proofs.ImagePlaces.{IsSameAt, IsNextBatch, stands_same, named_lead, stands_up_same, begins_up_same, shorter_front, batch_stands}
 
 -- the slot of a manager file, this one for any other file
 abbrev slot_in : ℕ → FileId → ℕ
@@ -57,7 +59,7 @@ with_left disk image file c is left f = elim (cases_file f file) [
   | inr other ↦ subst (λ (l : List ℕ). MayLeave (disk f) l) (sym (with_bytes-other image file c f other)) (is f)
 ]
 
-module _ (live : ℕ) (shape : Shape) (head : List ℕ) (log : Log) (bodies : List (List ℕ)) (gate : ℕ) (ends : GrainId → ℕ) (voted : List Voted) (batch : List Commit) (named : PlacesAreNamed live shape head log ends) (next : IsNextBatch shape voted batch) where
+module _ (live : ℕ) (shape : Shape) (head : List ℕ) (log : Log) (bodies : List (List ℕ)) (gate : ℕ) (ends : GrainId → ℕ) (voted : List Voted) (batch : List Commit) (named : PlacesAreNamed shape log ends) (next : IsNextBatch shape voted batch) where
   -- ---- one image
 
   module _ (was image : Image) (at : IsAtRest live shape head log bodies gate ends voted was) (others : (f : FileId) → f ≢ (Manager live) → image f ≡ was f) (n : ℕ) (torn : Tears gate n (was (Manager live)) (image (Manager live))) where
@@ -74,9 +76,28 @@ module _ (live : ℕ) (shape : Shape) (head : List ℕ) (log : Log) (bodies : Li
     still_front = blocks_same bodies gate (was (Manager live)) (image (Manager live)) at.stands.stand (omega (arith, at.stands.stand.within, torn.no_shorter)) torn.before
 
     -- the log stands up to the gate
+    same_head : take 15 (image (Manager live)) ≡ take 15 (was (Manager live))
+    same_head = still_head ∙ sym at.header
+
+    same_program : image (ProgramFile live) ≡ was (ProgramFile live)
+    same_program = others (ProgramFile live) (λ e. absurd cc)
+
+    same_places : AllByRecursion (λ c. AllByRecursion (IsSameAt live shape was image) c.logged.writes) (records_of log)
+    same_places = each_any (λ (c : Commit). AllByRecursion (IsSameAt live shape was image) c.logged.writes) (λ c. each_any (IsSameAt live shape was image) any_same c.logged.writes) (records_of log)
+
+    same_begun : AreNamedBy (IsSameAt live shape was image) at.stands.begins
+    same_begun = named_lead (IsBelow ends) (IsSameAt live shape was image) at.stands.begins (λ w low. any_same w) at.begun
+
     pub still_stands : StandsUpTo live image log bodies gate
-    still_stands = stands_up_same live shape was image log bodies gate at.stands (silo_of head bodies gate (image (Manager live)) named.silo still_head still_front) (whole_of head (image (Manager live)) named.silo still_head) (others (ProgramFile live) (λ e. absurd cc)) still_front
-        (each_any (λ (c : Commit). AllByRecursion (IsSameAt live shape was image) c.logged.writes) (λ c. each_any (IsSameAt live shape was image) any_same c.logged.writes) (records_of log))
+    still_stands = stands_up_same live shape was image log bodies gate at.stands same_head same_program still_front same_places same_begun
+
+    still_begun : AreNamedBy (IsBelow ends) still_stands.begins
+    unfolding still_stands
+    still_begun = subst (AreNamedBy (IsBelow ends)) (sym (begins_up_same live shape was image log bodies gate at.stands same_head same_program still_front same_places same_begun)) at.begun
+
+    -- the slot is live still
+    still_live : IsLive magic live image
+    still_live = live_moves live was image at.is_live same_head still_stands.silo.long (inl (others (Manager (1 - live)) (λ e. other_slot live at.is_live.slot (sym e))))
 
     still_long : (g : GrainId) → ends g ≤ length (image (Grain live g))
     still_long g = subst (λ (l : List ℕ). ends g ≤ length l) (sym (grains g)) (at.long g)
@@ -88,11 +109,11 @@ module _ (live : ℕ) (shape : Shape) (head : List ℕ) (log : Log) (bodies : Li
     whole_batch = batch_stands live shape image voted batch next.each still_voted
 
     pub rests_still : LogsUpTo bodies gate (image (Manager live)) → IsAtRest live shape head log bodies gate ends voted image
-    rests_still logs = record { header = still_head; stands = still_stands; closed = logs.closed; long = still_long; stand = still_voted }
+    rests_still logs = record { is_live = still_live; header = still_head; stands = still_stands; closed = logs.closed; begun = still_begun; long = still_long; stand = still_voted }
 
     pub log_still : LogsUpTo bodies gate (image (Manager live)) → IsLog live image log
     log_still logs = record {
-      is_live = named.is_live image still_stands.silo;
+      is_live = still_live;
       is = record { bodies = bodies; gate = gate; stands = still_stands; closed = logs.closed };
     }
 
@@ -101,31 +122,38 @@ module _ (live : ℕ) (shape : Shape) (head : List ℕ) (log : Log) (bodies : Li
     more_stands to logs =
         grows live image log bodies gate still_stands batch to next.size (subst (λ (s : Shape). AllByRecursion (IsKept live s image) batch) named.shape_is whole_batch) logs.blocks
 
+    more_begun : (to : ℕ) → (logs : LogsUpTo (bodies ++ body_of (Records batch) ∷ []) to (image (Manager live))) → AreNamedBy (IsBelow (raised_ends ends (all_writes batch))) (more_stands to logs).begins
+    unfolding more_stands
+    more_begun to logs =
+        subst (AreNamedBy (IsBelow (raised_ends ends (all_writes batch))))
+        (sym (grows_begin live image log bodies gate still_stands batch to next.size (subst (λ (s : Shape). AllByRecursion (IsKept live s image) batch) named.shape_is whole_batch) logs.blocks))
+        (named_lead (IsBelow ends) (IsBelow (raised_ends ends (all_writes batch))) still_stands.begins (λ w low. omega (arith, low, raised_up ends (all_writes batch) w.grain)) still_begun)
+
     pub log_more : (to : ℕ) → LogsUpTo (bodies ++ body_of (Records batch) ∷ []) to (image (Manager live)) → IsLog live image (grown log batch)
     log_more to logs = record {
-      is_live = named.is_live image (more_stands to logs).silo;
+      is_live = still_live;
       is = record { bodies = bodies ++ body_of (Records batch) ∷ []; gate = to; stands = more_stands to logs; closed = logs.closed };
     }
 
     pub rests_more : (to : ℕ) → LogsUpTo (bodies ++ body_of (Records batch) ∷ []) to (image (Manager live))
         → IsAtRest live shape head (grown log batch) (bodies ++ body_of (Records batch) ∷ []) to (raised_ends ends (all_writes batch)) [] image
     rests_more to logs = record {
+      is_live = still_live;
       header = still_head;
       stands = more_stands to logs;
       closed = logs.closed;
+      begun = more_begun to logs;
       long = raised_long live image ends (all_writes batch) still_long (kept_within live shape image batch whole_batch);
       stand = tt;
     }
 
   -- what no image decides, once the batch counts
-  pub named_more : PlacesAreNamed live shape head (grown log batch) (raised_ends ends (all_writes batch))
+  pub named_more : PlacesAreNamed shape (grown log batch) (raised_ends ends (all_writes batch))
   named_more =
       let to = raised_ends ends (all_writes batch) in
       let program : (standing_of (grown log batch)).program ≡ (standing_of log).program =
       in_force log.base (log.entries ++ map Recorded batch) ∙ sym (in_force log.base log.entries) in
       record {
-        is_live = named.is_live;
-        silo = named.silo;
         shape_is = named.shape_is ∙ ap shape_in (sym program);
         below = subst (AreBelow to) (sym (grown_records log batch)) (both_parts (λ (c : Commit). AllByRecursion (IsBelow to) c.logged.writes) (records_of log) batch
             (each_leads (λ (c : Commit). AllByRecursion (IsBelow ends) c.logged.writes) (λ (c : Commit). AllByRecursion (IsBelow to) c.logged.writes)

@@ -156,7 +156,7 @@ module _ (live : ℕ) (shape : Shape) (head : List ℕ) (log : Log) (bodies : Li
         let says : (g : GrainId) → raised_ends (file_end a) (all_writes commits) g ≡ file_end b g = λ g. ap (λ (ws : List Written). raised_ends (file_end a) ws g) (sym writes) ∙ sym (ends g) in
         let all : raised_ends (file_end a) (all_writes commits) ≡ file_end b = λ i g. says g i in
         record {
-          named = subst (λ (e : GrainId → ℕ). PlacesAreNamed live shape head (grown log commits) e) all
+          named = subst (λ (e : GrainId → ℕ). PlacesAreNamed shape (grown log commits) e) all
               (sealed.named_more live shape head log bodies a.gate_at (file_end a) (kept_of a) commits keeps.named next);
           images = λ image left.
               let one = sealed.rests_sealed live shape head log bodies a.gate_at (file_end a) (kept_of a) commits keeps.named next old keeps.images (length block + 1) new run.moments run.now to logs image left in
@@ -171,7 +171,7 @@ module _ (live : ℕ) (shape : Shape) (head : List ℕ) (log : Log) (bodies : Li
       sealed.still_moments live shape head log bodies a.gate_at (file_end a) (kept_of a) commits keeps.named next old keeps.images (length block + 1) new run.moments logs.0,
       keeps_with live shape head log bodies a b [] new.disk same none keeps.named (λ image left.
           let rests = sealed.rests_unsealed live shape head log bodies a.gate_at (file_end a) (kept_of a) commits keeps.named next old keeps.images (length block + 1) new run.moments run.now logs.1 image left in
-          record { header = rests.header; stands = rests.stands; closed = rests.closed; long = rests.long; stand = tt }),
+          record { is_live = rests.is_live; header = rests.header; stands = rests.stands; closed = rests.closed; begun = rests.begun; long = rests.long; stand = tt }),
     )
 
     pub stands_in_doubt : (b : BatchWriter) → ((f : FileId) → MayLeave (new.disk f) (new.disk f).seen) → EndsAs live InDoubt a.gate_at block old new → LogsAs live InDoubt bodies (body_of (Records commits)) a.gate_at old new

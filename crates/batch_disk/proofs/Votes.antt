@@ -1,5 +1,5 @@
 -- What each image keeps while a grain's versions are written at its file's end.
-use Rattle.std.proofs.Common.{◌≡◌, ◌≢◌, inl, inr, ℕ, ◌+◌, ◌<◌, ◌≤◌, ◌^◌, List, [], ◌∷◌, ◌++◌, length, take, drop, refl, sym, ◌∙◌, ap, subst, arith, length-append, slice_index}
+use Rattle.std.proofs.Common.{◌≡◌, ◌≢◌, inl, inr, ℕ, ◌+◌, ◌-◌, ◌<◌, ◌≤◌, ◌^◌, List, [], ◌∷◌, ◌++◌, length, take, drop, refl, sym, ◌∙◌, ap, subst, arith, length-append, slice_index}
 use Rattle.std.specs.List.{AllByRecursion}
 use Rattle.base_types.specs.declared.calls.GrainId.{GrainId}
 use Rattle.base_types.specs.declared.shapes.Shape.{Shape}
@@ -15,19 +15,17 @@ use Rattle.host_trait.proofs.Runs.{each_image}
 use Rattle.field_codec.specs.declared.formats.Format.TheVariants.{One}
 use Rattle.field_codec.specs.Spelling.{spelling_of_version, VersionFits}
 use Rattle.gate_block.specs.Log.{HasBlocks}
-use Rattle.log_reading.specs.Blocks.{header_damage}
-use Rattle.silo_spec.specs.Silos.{IsSilo}
 use Rattle.grain_log.specs.Places as places
 use Rattle.grain_log.specs.Places.{spelling_of_versions}
 use Rattle.commit_log.specs.declared.records.Written.{Written}
 use Rattle.promise_spec.specs.Records.{Commit}
 use Rattle.promise_spec.specs.Crashes.{IsAside}
 use Rattle.promise_spec.specs.Entries.{Log, records_of}
-use Rattle.promise_spec.specs.Logs.{magic}
-use Rattle.batch_disk.specs.ImagesAtRest.{EachImage, IsBelow, AreBelow, PlacesAreNamed, Voted, StandsIn, NotAmong, IsAtRest, voted_from, AreOfType}
+use Rattle.promise_spec.proofs.Slots.{live_moves}
+use Rattle.batch_disk.specs.ImagesAtRest.{EachImage, IsBelow, AreBelow, AreNamedBy, PlacesAreNamed, Voted, StandsIn, NotAmong, IsAtRest, voted_from, AreOfType}
 use Rattle.batch_disk.specs.Moments.{KeepsLog}
 use Rattle.batch_disk.proofs.Lists.{each_leads, each_both, both_parts}
-use Rattle.batch_disk.proofs.ImagePlaces.{IsSameAt, stands_same, below_same, stands_up_same, rests_log}
+use Rattle.batch_disk.proofs.ImagePlaces.{IsSameAt, stands_same, named_lead, below_same, stands_up_same, begins_up_same, rests_log}
 
 -- the grain of a grain file, another for any other file
 abbrev grain_in : GrainId → FileId → GrainId
@@ -68,13 +66,18 @@ module _ (live : ℕ) (shape : Shape) (ends : GrainId → ℕ) (grain : GrainId)
       → IsAtRest live shape head log bodies gate ends voted was → IsAtRest live shape head log bodies gate ends voted image
   torn_rests head log bodies gate voted below fresh is =
       let manager : image (Manager live) ≡ was (Manager live) = others (Manager live) (not_manager live grain) in
+      let head : take 15 (image (Manager live)) ≡ take 15 (was (Manager live)) = ap (take 15) manager in
+      let program : image (ProgramFile live) ≡ was (ProgramFile live) = others (ProgramFile live) (λ e. absurd cc) in
+      let blocks : HasBlocks bodies gate (image (Manager live)) = subst (HasBlocks bodies gate) (sym manager) is.stands.stand in
+      let places = each_leads (λ (c : Commit). AllByRecursion (IsBelow ends) c.logged.writes) (λ (c : Commit). AllByRecursion (IsSameAt live shape was image) c.logged.writes)
+      (λ c each. each_leads (IsBelow ends) (IsSameAt live shape was image) same_below c.logged.writes each) (records_of log) below in
+      let begun : AreNamedBy (IsSameAt live shape was image) is.stands.begins = named_lead (IsBelow ends) (IsSameAt live shape was image) is.stands.begins same_below is.begun in
       record {
-        header = ap (take 15) manager ∙ is.header;
-        stands = stands_up_same live shape was image log bodies gate is.stands (subst (IsSilo magic) (sym manager) is.stands.silo) (ap header_damage manager ∙ is.stands.header) (others (ProgramFile live) (λ e. absurd cc))
-            (subst (HasBlocks bodies gate) (sym manager) is.stands.stand)
-            (each_leads (λ (c : Commit). AllByRecursion (IsBelow ends) c.logged.writes) (λ (c : Commit). AllByRecursion (IsSameAt live shape was image) c.logged.writes)
-            (λ c each. each_leads (IsBelow ends) (IsSameAt live shape was image) same_below c.logged.writes each) (records_of log) below);
+        is_live = live_moves live was image is.is_live head (subst (λ (l : List ℕ). 16 ≤ length l) (sym manager) is.stands.silo.long) (inl (others (Manager (1 - live)) (λ e. absurd cc)));
+        header = head ∙ is.header;
+        stands = stands_up_same live shape was image log bodies gate is.stands head program blocks places begun;
         closed = subst (λ (l : List ℕ). slice_index l gate ≢ 1) (sym manager) is.closed;
+        begun = subst (AreNamedBy (IsBelow ends)) (sym (begins_up_same live shape was image log bodies gate is.stands head program blocks places begun)) is.begun;
         long = long_still is.long;
         stand = each_both (λ (n : Voted). n.write.grain ≢ grain) (StandsIn live shape was) (StandsIn live shape image) same_apart voted fresh is.stand;
       }
@@ -107,7 +110,7 @@ aside_grain live grain (Grain slot g) aside e = aside (ap (slot_in slot) e) wher
   slot_in other (Grain s g) = s
 
 module _ (live : ℕ) (shape : Shape) (head : List ℕ) (log : Log) (bodies : List (List ℕ)) (gate : ℕ) (ends : GrainId → ℕ) (voted : List Voted) (grain : GrainId) (size : ℕ)
-    (named : PlacesAreNamed live shape head log ends) (fresh : NotAmong grain voted) (old : World) (is : EachImage (IsAtRest live shape head log bodies gate ends voted) old.disk) where
+    (named : PlacesAreNamed shape log ends) (fresh : NotAmong grain voted) (old : World) (is : EachImage (IsAtRest live shape head log bodies gate ends voted) old.disk) where
   pub vote_rests : (m : Moment) → ChangesFile (Grain live grain) (Tears (ends grain) size) old m → EachImage (IsAtRest live shape head log bodies gate ends voted) m.disk
   vote_rests m changes image left =
       each_image (Grain live grain) (Tears (ends grain) size) (IsAtRest live shape head log bodies gate ends voted) (IsAtRest live shape head log bodies gate ends voted) old m changes
@@ -122,7 +125,7 @@ module _ (live : ℕ) (shape : Shape) (head : List ℕ) (log : Log) (bodies : Li
           aside = λ f aside. changes.others f (aside_grain live grain f aside);
           header = λ image left. (each image left).header;
         };
-        logs = λ image left. rests_log live shape head log bodies gate ends voted image named (each image left);
+        logs = λ image left. rests_log live shape head log bodies gate ends voted image (each image left);
       }
 
   -- CASE 1: at each moment no image's log changes
@@ -136,9 +139,11 @@ module _ (live : ℕ) (shape : Shape) (head : List ℕ) (log : Log) (bodies : Li
   vote_yes new versions changes stand typed fits low image left =
       let rests = vote_rests (moment_of new) changes image left in
       record {
+        is_live = rests.is_live;
         header = rests.header;
         stands = rests.stands;
         closed = rests.closed;
+        begun = rests.begun;
         long = rests.long;
         stand = both_parts (StandsIn live shape image) voted (voted_from grain (ends grain) versions) rests.stand
             (stand_named live shape image grain (ends grain) versions (stand (image (Grain live grain)) (left (Grain live grain))) typed fits low);

@@ -153,13 +153,13 @@ module _ (live : ℕ) (shape : Shape) (head : List ℕ) (log : Log) (bodies : Li
   pub rests_some : (a : BatchWriter) (batch : ℕ) (disk : Disk) → KeepsDisk live shape head log bodies a disk → EachImage (IsAtRest live shape head log bodies a.gate_at (file_end a) (voted_of batch a)) disk
   rests_some a batch disk keeps image left =
       let rests = keeps.images image left in
-      record { header = rests.header; stands = rests.stands; closed = rests.closed; long = rests.long; stand = each_voted (StandsIn live shape image) a batch rests.stand }
+      record { is_live = rests.is_live; header = rests.header; stands = rests.stands; closed = rests.closed; begun = rests.begun; long = rests.long; stand = each_voted (StandsIn live shape image) a batch rests.stand }
 
   -- a writer with these ends that keeps these versions
-  pub keeps_with : (a b : BatchWriter) (voted : List Voted) (disk : Disk) → HasSameEnds a b → kept_of b ≡ voted → PlacesAreNamed live shape head log (file_end a)
+  pub keeps_with : (a b : BatchWriter) (voted : List Voted) (disk : Disk) → HasSameEnds a b → kept_of b ≡ voted → PlacesAreNamed shape log (file_end a)
       → EachImage (IsAtRest live shape head log bodies a.gate_at (file_end a) voted) disk → KeepsDisk live shape head log bodies b disk
   keeps_with a b voted disk same kept named rests = record {
-    named = subst (λ (e : GrainId → ℕ). PlacesAreNamed live shape head log e) (ends_same a b same) named;
+    named = subst (λ (e : GrainId → ℕ). PlacesAreNamed shape log e) (ends_same a b same) named;
     images = λ image left.
         let one = subst (λ (n : ℕ). IsAtRest live shape head log bodies n (file_end a) voted image) (sym same.gate) (rests image left) in
         let two = subst (λ (vs : List Voted). IsAtRest live shape head log bodies b.gate_at (file_end a) vs image) (sym kept) one in
@@ -203,7 +203,7 @@ module _ (live : ℕ) (shape : Shape) (head : List ℕ) (log : Log) (bodies : Li
 
   -- each image's log
   pub keeps_log : (w : BatchWriter) (disk : Disk) → KeepsDisk live shape head log bodies w disk → EachImage (λ image. IsLog live image log) disk
-  keeps_log w disk keeps image left = rests_log live shape head log bodies w.gate_at (file_end w) (kept_of w) image keeps.named (keeps.images image left)
+  keeps_log w disk keeps image left = rests_log live shape head log bodies w.gate_at (file_end w) (kept_of w) image (keeps.images image left)
 
 -- ---- a writer that has gone to a batch, and has room
 

@@ -1,5 +1,5 @@
 -- What each image has between two steps that write a batch, where this slot is live.
-use Rattle.std.specs.Prelude.{◌≡◌, ◌≢◌, ℕ, ◌+◌, ◌≤◌, max, if◌then◌else◌, List, [], ◌∷◌, length, take, drop, slice_index, slice_get, Some, None}
+use Rattle.std.specs.Prelude.{◌≡◌, ◌≢◌, ℕ, ◌+◌, ◌≤◌, max, if◌then◌else◌, List, [], ◌∷◌, length, take, slice_index, slice_get, Some, ⊤}
 use Rattle.std.specs.List.{flat_map, AllByRecursion}
 use Rattle.base_types.specs.declared.calls.GrainId.{GrainId}
 use Rattle.base_types.specs.declared.calls.UnitNo.{UnitNo}
@@ -13,13 +13,12 @@ use Rattle.host_trait.specs.World.{Disk, Image, IsImage}
 use Rattle.grain_log.specs.Places.{places_from}
 use Rattle.grain_log.specs.Reads.{fields_of}
 use Rattle.commit_log.specs.declared.records.Written.{Written}
-use Rattle.silo_spec.specs.Silos.{IsSilo}
 use Rattle.silo_spec.specs.Slots.{IsLive}
-use Rattle.log_reading.specs.Blocks.{header_damage}
 use Rattle.promise_spec.specs.Programs.{shape_in}
 use Rattle.promise_spec.specs.Records.{Commit}
 use Rattle.promise_spec.specs.Entries.{Log, records_of, standing_of}
 use Rattle.promise_spec.specs.Versions.{WriteStands}
+use Rattle.promise_spec.specs.Blocks.{Beginning, Fresh, From, saved_by}
 use Rattle.promise_spec.specs.Logs.{magic, StandsUpTo}
 
 -- this holds of each image that a crash may leave
@@ -31,13 +30,6 @@ pub record SomeImage (P : Image → Type 0) (disk : Disk) : Type 0 where
   pub image : Image
   pub left : IsImage disk image
   pub holds : P image
-
--- the first bytes of a silo's manager file, up to the first gate: they begin with the open header gate and the magic, and
--- aren't damaged
-pub record BeginsSilo (head : List ℕ) : Type 0 where
-  pub gate : slice_index head 0 ≡ 1
-  pub named : take 8 (drop 1 head) ≡ magic
-  pub whole : header_damage head ≡ None
 
 -- ---- places and ends
 
@@ -52,6 +44,11 @@ IsBelow ends w = write_end w ≤ ends w.grain
 -- so do all places that these records name
 abbrev pub AreBelow : (GrainId → ℕ) → List Commit → Type 0
 AreBelow ends log = AllByRecursion (λ c. AllByRecursion (IsBelow ends) c.logged.writes) log
+
+-- this holds of each place that the checkpoint names with which a log begins
+abbrev pub AreNamedBy : (Written → Type 0) → Beginning → Type 0
+AreNamedBy P Fresh = ⊤
+AreNamedBy P (From ck) = AllByRecursion (λ s. P s.write) (saved_by ck)
 
 -- the ends once this place is named
 abbrev pub raised_end : (GrainId → ℕ) → Written → GrainId → ℕ
@@ -98,19 +95,18 @@ AreOfType shape grain versions = AllByRecursion (λ v. fields_of (slice_get shap
 
 -- ---- between two steps
 
--- What no image decides: the slot is live where its manager file is a silo's, the header is a silo's, the shape is that of the
--- program in force, and all that the log's records name ends at most at these ends; a base names no places.
-pub record PlacesAreNamed (live : ℕ) (shape : Shape) (head : List ℕ) (log : Log) (ends : GrainId → ℕ) : Type 0 where
-  pub is_live : (image : Image) → IsSilo magic (image (Manager live)) → IsLive magic live image
-  pub silo : BeginsSilo head
+-- What no image decides: the shape is that of the program in force, and all that the log's records name ends at most at these ends.
+pub record PlacesAreNamed (shape : Shape) (log : Log) (ends : GrainId → ℕ) : Type 0 where
   pub shape_is : shape ≡ shape_in (standing_of log).program
   pub below : AreBelow ends (records_of log)
 
--- What each image has: this header; the log, which stands up to this closed gate; grain files that go on to these ends at least;
--- and the versions that the votes of the open batch wrote.
+-- What each image has: this live slot and header; the log, which stands up to this closed gate; grain files that go on to these ends
+-- at least, at which all that its beginning names ends at most; and the versions that the votes of the open batch wrote.
 pub record IsAtRest (live : ℕ) (shape : Shape) (head : List ℕ) (log : Log) (bodies : List (List ℕ)) (gate : ℕ) (ends : GrainId → ℕ) (voted : List Voted) (image : Image) : Type 0 where
+  pub is_live : IsLive magic live image
   pub header : take 15 (image (Manager live)) ≡ head
   pub stands : StandsUpTo live image log bodies gate
   pub closed : slice_index (image (Manager live)) gate ≢ 1
+  pub begun : AreNamedBy (IsBelow ends) stands.begins
   pub long : (g : GrainId) → ends g ≤ length (image (Grain live g))
   pub stand : AllByRecursion (StandsIn live shape image) voted

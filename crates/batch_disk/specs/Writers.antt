@@ -53,7 +53,7 @@ FitsDisk writer disk = FitsSlot writer.slot writer disk
 -- What the writer keeps of the folder, where this slot is live: its gate and its ends are those of this log, whose blocks have these
 -- bodies, in each image, where what the votes wrote stands.
 pub record KeepsDisk (live : ℕ) (shape : Shape) (head : List ℕ) (log : Log) (bodies : List (List ℕ)) (writer : BatchWriter) (disk : Disk) : Type 0 where
-  pub named : PlacesAreNamed live shape head log (file_end writer)
+  pub named : PlacesAreNamed shape log (file_end writer)
   pub images : EachImage (IsAtRest live shape head log bodies writer.gate_at (file_end writer) (kept_of writer)) disk
 
 -- slot, gate, ends and doubt are as they were

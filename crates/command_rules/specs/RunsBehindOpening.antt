@@ -12,7 +12,7 @@ use Rattle.silo_opening.specs.declared.opened_silo.Opened.{Opened}
 
 -- the program of an opened silo
 abbrev pub program_of : {image : Image} {o : Opened} → IsOpenedFrom image o → Program
-program_of {image} {o} is = record { text = is.text; types = program_tree o.checked }
+program_of {image} {o} is = record { text = o.text; types = program_tree o.checked }
 
 -- The course begins with the log that was opened, in the slot that was. Its early moments are those of the opening, which ends in
 -- the world `mid` as `open_silo` ensures, and the late ones come behind it.

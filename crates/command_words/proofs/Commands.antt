@@ -5,7 +5,7 @@ use Rattle.std.specs.List.{AllByRecursion}
 use Rattle.std.specs.declared.alloc.Global.{Global}
 use Rattle.std.proofs.lemmas.Fmt.{decimal_injective}
 use Rattle.std.proofs.lemmas.Slice.Eq.{bytes_eq-Decides}
-use Rattle.promise_spec.specs.Words.{Choice, Width, Turns, Workers, GivenOption, manner_of, IsNoTurns, AreOptions, Command, Init, Run, Show, History, Audit, Load, Check, Say, SpellsRun, SpellsLoad, SpellsCheck}
+use Rattle.promise_spec.specs.Words.{Choice, Width, Turns, Workers, GivenOption, manner_of, IsNoTurns, AreOptions, Command, Init, Run, Show, History, Audit, Load, Check, Say, SpellsRun, SpellsLoad, SpellsCheck, Compact}
 use Rattle.command_words.specs.Parts.{WidthName, TurnsName, WorkersName, WordPart, OptionPart, NumberPart, option_values, number_words}
 use Rattle.command_words.specs.CutParts.{texts_of, HaveParts}
 use Rattle.command_words.specs.Options.{Chosen, Ask, AreLoadNumbers, AreCheckNumbers, is_first, chosen_manner, run_chosen, load_chosen, has_option}
@@ -113,6 +113,7 @@ run_unsaid texts first none takes History k = other_first (codes "run") texts (c
 run_unsaid texts first none takes Audit k = other_first (codes "run") texts (codes "audit" ∷ []) first k refl
 run_unsaid texts first none takes (Load n seed m) k = other_first (codes "run") texts _ first k.words_are refl
 run_unsaid texts first none takes (Check n seed) k = other_first (codes "run") texts _ first k.words_are refl
+run_unsaid texts first none takes Compact k = other_first (codes "run") texts (codes "compact" ∷ []) first k refl
 
 none_chosen : (options : List GivenOption) → AllByRecursion (λ (g : GivenOption). IsNoTurns g.what) options → (chosen_in options).turns ≡ None
 none_chosen [] none = refl
@@ -135,6 +136,7 @@ load_unsaid texts first none takes (Load n seed m) k =
     none (chosen_in (k.before ++ (k.between ++ k.behind))) n seed (k.many.0, k.many.1, k.small) (none_chosen (k.before ++ (k.between ++ k.behind)) k.no_turns)
     (load_asks takes k.before k.between k.behind n seed (drop 1 texts) k.are (omega (arith, k.many.1)) k.small (ap (λ (l : Texts). drop 1 l) k.words_are))
 load_unsaid texts first none takes (Check n seed) k = other_first (codes "load") texts _ first k.words_are refl
+load_unsaid texts first none takes Compact k = other_first (codes "load") texts (codes "compact" ∷ []) first k refl
 
 pub check_unsaid : (texts : Texts) → is_first (codes "check") texts ≡ true
     → ((starts seed : ℕ) → AreCheckNumbers starts seed → drop 1 texts ≡ decimal starts ∷ decimal seed ∷ [] → ⊥)
@@ -146,3 +148,4 @@ check_unsaid texts first none takes History k = other_first (codes "check") text
 check_unsaid texts first none takes Audit k = other_first (codes "check") texts (codes "audit" ∷ []) first k refl
 check_unsaid texts first none takes (Load n seed m) k = other_first (codes "check") texts _ first k.words_are refl
 check_unsaid texts first none takes (Check n seed) k = none n seed (k.few, k.small) (ap (λ (l : Texts). drop 1 l) k.words_are)
+check_unsaid texts first none takes Compact k = other_first (codes "check") texts (codes "compact" ∷ []) first k refl

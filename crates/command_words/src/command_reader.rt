@@ -135,5 +135,8 @@ pub fn read_words(alloc: Global, words: &[String]) -> Result<Words, WordsFault>
     if first_is(words, "audit") {
         return Ok(Words::Audit);
     }
+    if first_is(words, "compact") {
+        return Ok(Words::Compact);
+    }
     Err(WordsFault::BadUse)
 }

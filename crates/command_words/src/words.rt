@@ -50,4 +50,6 @@ pub enum Words {
     Load(LoadOptions),
     /// Runs two-phase commit between silos.
     Check(CheckNumbers),
+    /// Writes the next generation of a silo.
+    Compact,
 }

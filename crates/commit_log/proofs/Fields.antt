@@ -119,7 +119,7 @@ module _ (shape : Shape) where
   write_out : (last : Option GrainId) (w : Written) → WriteFitsIn last w → GrainFitsIn shape w.grain × PlaceFits last w
   write_out last w fits = ((fits.0.kind, (fits.0.key, fits.1.0)), (fits.0.offset, (fits.0.len, fits.1.1)))
 
-  write_reads : (last : Option GrainId) (low : ℕ) → Reads low Any spelling_of_write (WriteFitsIn last) (write_in shape last)
+  pub write_reads : (last : Option GrainId) (low : ℕ) → Reads low Any spelling_of_write (WriteFitsIn last) (write_in shape last)
   unfolding write_in
   write_reads last low =
       said low Any Any spelling_of_write spelling_of_write (λ w. GrainFitsIn shape w.grain × PlaceFits last w) (WriteFitsIn last) (write_in shape last) (λ w p. tt) (λ w p. tt) (λ w p. refl) (λ w p. write_into last w) (λ w p. write_out last w)

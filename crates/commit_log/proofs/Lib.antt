@@ -1,5 +1,6 @@
 pub mod Fields
 pub mod Decoding
+pub mod CheckpointPieces
 pub mod Agreement
 pub mod Lengths
 pub mod SpellingsApart

@@ -15,9 +15,12 @@ use Rattle.field_codec.proofs.TextsApart.{counted_apart}
 use Rattle.gate_block.specs.Blocks.{block_of}
 use Rattle.commit_log.specs.declared.records.Written.{Written}
 use Rattle.commit_log.specs.declared.records.CommitRecord.{CommitRecord}
+use Rattle.commit_log.specs.declared.records.CheckpointPiece.{CheckpointPiece}
 use Rattle.commit_log.specs.Spelling.{spelling_of_write, WriteFits, AnswersFit, spelling_of_record, RecordFits, spelling_of_body, spelling_of_block, RecordsFit}
 use Rattle.commit_log.specs.Fields.{answers_at}
+use Rattle.commit_log.specs.Checkpoints.{flag_of, body_of_piece, PieceFits, flag_at}
 use Rattle.commit_log.proofs.Lengths.{body_short}
+use Rattle.commit_log.proofs.CheckpointPieces.{flag_reads}
 
 -- a write on any grain
 abbrev write_at : Reader Written
@@ -88,3 +91,22 @@ blocks_apart format a b x y fits also e =
     let same = bodies_apart format a b [] [] fits also (ap (λ (l : List ℕ). l ++ []) counted.0) in
     let behind : 0 ∷ x ≡ 0 ∷ y = counted.1 in
     (same.0, cc)
+
+-- a piece of any checkpoint
+abbrev piece_at : Reader CheckpointPiece
+piece_at = field flag_at λ more p0. field (number_at w64) λ count p1. field (number_at w64) λ next p2. field (list_at w32 65536 write_at) λ writes p3.
+    whole (record { more = more; head = record { count = count; next_unit = record { 0 = next } }; writes = writes })
+
+piece_reads : (low : ℕ) → Reads low Any body_of_piece PieceFits piece_at
+piece_reads low =
+    said low Any Any _ body_of_piece _ PieceFits piece_at (λ p k. tt) (λ p k. tt) (λ p k. simp append-nil)
+    (λ p k f. record { count = f.1.0; next = f.1.1.0; size = f.1.1.1.0.0; writes = f.1.1.1.0.1 }) (λ p k f. (tt, (f.count, (f.next, ((f.size, f.writes), tt)))))
+    (then (λ (p : CheckpointPiece). p.more) (λ b. flag_of b ∷ []) (λ b. Unit {0}) flag_at low Any _ _ _ (flag_reads low) λ more from0.
+    then (λ (p : CheckpointPiece). p.head.count) (to_le_bytes w64) (λ n. n < 2 ^ 64) (number_at w64) from0 _ _ _ _ (reads64 from0) λ count from1.
+    then (λ (p : CheckpointPiece). p.head.next_unit.0) (to_le_bytes w64) (λ n. n < 2 ^ 64) (number_at w64) from1 _ _ _ _ (reads64 from1) λ next from2.
+    then (λ (p : CheckpointPiece). p.writes) (λ ws. to_le_bytes w32 (length ws) ++ flat_map spelling_of_write ws) (λ ws. (length ws ≤ 65536) × AllByRecursion WriteFits ws) (list_at w32 65536 write_at) from2 _ _ _ _ (list_reads spelling_of_write WriteFits write_at write_reads w32 (2 ^ 32) 65536 wide32 (omega arith) from2) λ writes from3.
+    done from3 _ (record { more = more; head = record { count = count; next_unit = record { 0 = next } }; writes = writes }) ((((tt, refl), refl), refl), refl)
+    (λ d k i. record { more = k.0.0.0.1 i; head = record { count = k.0.0.1 i; next_unit = record { 0 = k.0.1 i } }; writes = k.1 i }))
+
+pub pieces_apart : AreApart body_of_piece PieceFits
+pieces_apart = apart body_of_piece PieceFits piece_at (piece_reads 0)

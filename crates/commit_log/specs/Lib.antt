@@ -3,6 +3,7 @@ pub mod Spelling
 pub mod Bodies
 pub mod Fields
 pub mod Agreement
+pub mod Checkpoints
 pub mod EncodableRecords
 pub mod Examples
 pub mod SealImages

@@ -8,15 +8,17 @@ ghost use Rattle.commit_log.specs.Spelling.{spelling_of_write, WriteFits, spelli
 ghost use Rattle.commit_log.specs.Bodies.{HasNumbers, IsBlockBody};
 ghost use Rattle.commit_log.specs.Fields.{body_in};
 ghost use Rattle.commit_log.specs.Agreement.{Agrees};
+ghost use Rattle.commit_log.specs.Checkpoints.{body_of_piece, PieceFits};
 ghost use Rattle.commit_log.specs.declared.records.CommitRecord.{CommitRecord as Record};
 ghost use Rattle.commit_log.specs.Examples.{first_deposit, first_block};
 
-/// No record's spelling begins another's, and so it is with writes, bodies and blocks.
+/// No record's spelling begins another's, and so it is with writes, bodies, blocks and the pieces of a checkpoint.
 pub fn spellings_are_apart()
     ensures writes { AreApart spelling_of_write WriteFits }
     ensures records { (format : AFormat) → AreApart spelling_of_record (RecordFits format) }
     ensures bodies { (format : AFormat) → AreApart spelling_of_body (RecordsFit format) }
     ensures blocks { (format : AFormat) → AreApart spelling_of_block (RecordsFit format) }
+    ensures pieces { AreApart body_of_piece PieceFits }
 {}
 
 /// In each format the reading of a log gives what the one that takes any number gives, as `decode_body`, unless it names a place before

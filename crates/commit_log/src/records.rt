@@ -7,10 +7,27 @@ pub struct Written {
     pub place: Place,
 }
 
-/// A version that a record names: whose it is, the grain that it is of, and its place in the grain's file.
+/// What each piece of a checkpoint says, and all alike: how many records stand before the checkpoint, and the number of the next unit.
+#[derive(Clone, Copy, Debug, PartialEq, Eq)]
+pub struct CheckpointHead {
+    pub count: u64,
+    pub next_unit: UnitNo,
+}
+
+/// A piece of the checkpoint that a log may begin with, which a block of its own has: whether another piece follows, and the version
+/// of each of its grains, in ascending grain order over all pieces. There are at most 65,536.
+#[derive(Drop)]
+pub struct CheckpointPiece {
+    pub more: bool,
+    pub head: CheckpointHead,
+    pub writes: List<Written>,
+}
+
+/// A version that a record or a checkpoint names: whose it is, the grain that it is of, and its place in the grain's file. A checkpoint
+/// names no unit: the version may be any unit's of a log.
 #[derive(Clone, Copy, Debug, PartialEq, Eq)]
 pub struct Named {
-    pub unit: UnitNo,
+    pub unit: Option<UnitNo>,
     pub written: Written,
 }
 

@@ -40,18 +40,19 @@ fn get_write(
     Err(CodecFault::BadOrder { place: at })
 }
 
-// So many writes, in ascending grain order.
-fn writes_there(
+/// So many writes behind a grain, in ascending grain order.
+pub fn writes_there(
     alloc: Global,
     bytes: &[u8],
     at: usize,
     shape: &Shape,
-    count: u16,
+    behind: Option<GrainId>,
+    count: u32,
 ) -> Result<(List<Written>, usize), CodecFault>
-    ensures { GivesRead result (writes_behind shape.now None count bytes.now at) }
+    ensures { GivesRead result (writes_behind shape.now behind count bytes.now at) }
 {
     let mut writes = List::new(alloc);
-    let mut last = None;
+    let mut last = behind;
     let mut place = at;
     for _ in 0..count {
         let (write, after) = get_write(bytes, place, shape, last)?;
@@ -73,6 +74,6 @@ pub fn get_writes(
     ensures { GivesRead result (writes_in shape.now bytes.now at) }
 {
     let (count, after) = get_count(bytes, at, 64)?;
-    let (writes, after) = writes_there(alloc, bytes, after, shape, count)?;
+    let (writes, after) = writes_there(alloc, bytes, after, shape, None, count as u32)?;
     Ok((writes, after))
 }

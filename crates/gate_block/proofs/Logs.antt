@@ -298,3 +298,41 @@ module _ (bodies : List (List ℕ)) (gate : ℕ) (d body : List ℕ) (logs : Log
       let size : length (take gate staged) ≡ gate = omega (arith, length-take gate staged, long) in
       torn_open (overlaid staged gate (1 ∷ [])) (Tears-overlaid gate (1 ∷ []) staged low)
       (ap (λ (l : List ℕ). slice_index l gate) (append_assoc (take gate staged) (1 ∷ []) (drop (gate + 1) staged)) ∙ get_or_at (take gate staged) 1 (drop (gate + 1) staged) 0 gate size)
+
+-- what is written as a log: the open blocks of these bodies from byte 15 on, and a closed gate behind them
+module _ (bodies : List (List ℕ)) (rest file : List ℕ) (small : AreSmall bodies) (written : drop first_gate file ≡ open_blocks bodies ++ 0 ∷ rest) where
+  written_within : first_gate + length (open_blocks bodies) < length file
+  written_within = omega (arith, ap length written, length-drop 15 file, length-append (open_blocks bodies) (0 ∷ rest))
+
+  written_closed : slice_index file (first_gate + length (open_blocks bodies)) ≢ 1
+  written_closed one =
+      let size : ℕ = length (open_blocks bodies) in
+      let byte : slice_index (drop 15 file) size ≡ 0 = ap (λ (l : List ℕ). slice_index l size) written ∙ get_or_at (open_blocks bodies) 0 rest 0 size refl in
+      let wrong : 0 ≡ 1 = sym byte ∙ get_or-drop 15 file size 0 ∙ one in
+      omega (arith, wrong)
+
+  pub written_logs : LogsUpTo bodies (first_gate + length (open_blocks bodies)) file
+  written_logs = record {
+    blocks = record {
+      small = small;
+      at = refl;
+      within = written_within;
+      blocks = drop-take 15 (length (open_blocks bodies)) file ∙ ap (λ (l : List ℕ). take (length (open_blocks bodies)) l) written ∙ take_at (open_blocks bodies) (0 ∷ rest) (length (open_blocks bodies)) refl;
+    };
+    closed = written_closed;
+  }
+
+  pub written_read : (bodies_of file ≡ bodies) × (gate_of file ≡ first_gate + length (open_blocks bodies)) × IsWhole file
+  written_read = logged bodies (first_gate + length (open_blocks bodies)) file written_logs
+
+pub open_blocks-append : (front more : List (List ℕ)) → open_blocks (front ++ more) ≡ open_blocks front ++ open_blocks more
+open_blocks-append [] more = refl
+open_blocks-append (b ∷ front) more = ap (λ (l : List ℕ). block_at b ++ l) (open_blocks-append front more) ∙ sym (append_assoc (block_at b) (open_blocks front) (open_blocks more))
+
+-- what stands behind the first of the blocks before a gate
+pub behind_front : (front more : List (List ℕ)) (gate : ℕ) (file : List ℕ) → HasBlocks (front ++ more) gate file → drop (first_gate + length (open_blocks front)) file ≡ open_blocks more ++ drop gate file
+behind_front front more gate file has =
+    let after : List ℕ = open_blocks more ++ drop gate file in
+    let split : drop 15 file ≡ open_blocks front ++ after =
+    split_at (front ++ more) gate file has ∙ ap (λ (l : List ℕ). l ++ drop gate file) (open_blocks-append front more) ∙ append_assoc (open_blocks front) (open_blocks more) (drop gate file) in
+    sym (drop-drop (length (open_blocks front)) 15 file) ∙ ap (λ (l : List ℕ). drop (length (open_blocks front)) l) split ∙ drop_at (open_blocks front) after (length (open_blocks front)) refl

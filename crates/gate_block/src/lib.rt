@@ -6,6 +6,8 @@
 
 mod blocks;
 mod faults;
+mod laws;
 
 pub use blocks::{append_closed, open_gate, read_block};
 pub use faults::BlockFault;
+pub use laws::written_blocks_are_logged;

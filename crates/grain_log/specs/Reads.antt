@@ -1,6 +1,6 @@
 -- What is read at a place of a grain's file: the version, or the offset at which the file is damaged.
 use Rattle.std.specs.Prelude.{◌≡◌, ℕ, ◌+◌, ◌-◌, ◌≤◌, List, length, take, drop, Bool, true, Option, Some, None, Result, Ok, Err, nat_lt, ◌||◌, if◌then◌else◌, slice_get, bytes_eq}
-use Rattle.std.specs.Int.{w64, to_le_bytes}
+use Rattle.std.specs.Int.{w64, to_le_bytes, from_le_bytes}
 use Rattle.base_types.specs.declared.calls.UnitNo.{UnitNo}
 use Rattle.base_types.specs.declared.shapes.Shape.{Shape}
 use Rattle.base_types.specs.declared.shapes.TypeShape.{TypeShape}
@@ -10,10 +10,12 @@ use Rattle.host_trait.specs.declared.channels.FileId.{FileId}
 use Rattle.host_trait.specs.declared.channels.FileId.TheVariants.{Program, Manager, Grain}
 use Rattle.field_codec.specs.declared.faults.CodecFault.{CodecFault}
 use Rattle.field_codec.specs.declared.formats.Format.{Format}
+use Rattle.field_codec.specs.declared.units.Numbers.TheVariants.{Logged}
 use Rattle.field_codec.specs.Formats.{field_limit, version_limit}
 use Rattle.field_codec.specs.Readers.{Reader, whole_text, whole, field, number_at}
 use Rattle.field_codec.specs.Fields.{exactly_at}
 use Rattle.field_codec.specs.Results.{place_of}
+use Rattle.field_codec.specs.Units.{may_be_unit}
 use Rattle.grain_log.specs.declared.faults.VersionFault.{VersionFault}
 use Rattle.grain_log.specs.declared.faults.VersionFault.TheVariants.{Failed, Damaged, Memory}
 
@@ -67,6 +69,25 @@ is_owned unit place file = bytes_eq (take 8 (drop place.offset file)) (to_le_byt
 -- unit's.
 abbrev pub owned_version : Format → Option ℕ → UnitNo → Place → List ℕ → Result Version ℕ
 owned_version format fields unit place file = if is_owned unit place file then version_at_place format fields place file else Err place.offset
+
+-- the eight bytes at the place are the number of a unit of a log
+abbrev pub is_logged : Place → List ℕ → Bool
+is_logged place file = may_be_unit Logged (from_le_bytes w64 (take 8 (drop place.offset file)))
+
+-- The version of some unit of a log at a place of a file, or where the file is damaged: at the offset, where the version is of a
+-- number that no unit of a log has.
+abbrev pub saved_version : Format → Option ℕ → Place → List ℕ → Result Version ℕ
+saved_version format fields place file = if is_logged place file then version_at_place format fields place file else Err place.offset
+
+-- the version of this unit, or of whichever unit of a log where none is named
+abbrev pub version_by_owner : Format → Option ℕ → Option UnitNo → Place → List ℕ → Result Version ℕ
+version_by_owner format fields (Some unit) place file = owned_version format fields unit place file
+version_by_owner format fields None place file = saved_version format fields place file
+
+-- a text begins with the number of this unit, or of whichever unit of a log where none is named
+abbrev pub BeginsBy : Option UnitNo → List ℕ → Type 0
+BeginsBy (Some unit) text = take 8 text ≡ to_le_bytes w64 unit.0
+BeginsBy None text = (8 ≤ length text) × (may_be_unit Logged (from_le_bytes w64 (take 8 text)) ≡ true)
 
 -- these are the bytes of a file at a place that lies in it
 pub record IsTextAt (place : Place) (file text : List ℕ) : Type 0 where

@@ -1,4 +1,4 @@
-ghost use Rattle.std.specs.Prelude.{◌≡◌, ◌+◌, ◌-◌, ◌^◌, ◌<◌, ◌≤◌, ℕ, List, IsTrue, true, false, length, take, drop, Some, Ok, OnOk, IfOk, IfErr, IfSome, IfNone, IsErrOf};
+ghost use Rattle.std.specs.Prelude.{◌≡◌, ◌+◌, ◌-◌, ◌^◌, ◌<◌, ◌≤◌, ℕ, List, IsTrue, true, false, length, take, drop, Some, None, Ok, OnOk, IfOk, IfErr, IfSome, IfNone, IsErrOf};
 ghost use Rattle.std.specs.Int.{w64, to_le_bytes};
 ghost use Rattle.host_trait.specs.Faults.{NoneFailed};
 ghost use Rattle.host_trait.specs.Files.{HasSlot, StaysReady};
@@ -6,8 +6,10 @@ ghost use Rattle.host_trait.specs.Runs.{OnlyAsked};
 ghost use Rattle.field_codec.specs.Results.{GivesRead, named_place, place_of};
 ghost use Rattle.grain_log.specs.Counts.{VersionReadFaulted};
 ghost use Rattle.grain_log.specs.Places.{IsVersionOf, IsVersionIn, IsVersionAt};
-ghost use Rattle.grain_log.specs.Reads.{fields_in, version_in, version_of, is_beyond, in_file, damage_at, version_at_place, owned_version, IsTextAt, GivesVersion, IsImpossible};
+ghost use Rattle.grain_log.specs.Reads.{fields_in, version_in, version_of, is_beyond, in_file, damage_at, version_at_place, version_by_owner, BeginsBy, IsTextAt, GivesVersion, IsImpossible};
 ghost use Rattle.field_codec.specs.Readers.{AreBytes};
+ghost use Rattle.field_codec.specs.Units.{may_be_unit};
+ghost use Rattle.field_codec.specs.declared.units.Numbers.TheVariants.{Logged};
 ghost use Rattle.grain_log.specs.declared.faults.VersionFault.{VersionFault as Fault};
 ghost use Rattle.base_types.specs.declared.stores.Version.{Version as AVersion};
 
@@ -133,22 +135,51 @@ fn begins_with(text: &[u8], unit: UnitNo) -> bool
     }
 }
 
-// The version of a unit in a text that stands at a place.
+// Whether a unit of a log may have this number.
+fn is_logged(number: u64) -> bool
+    ensures { result ≡ may_be_unit Logged number }
+{
+    0 < number && number < 9_223_372_036_854_775_808
+}
+
+// Whether a text begins with the number of a unit of a log.
+fn begins_logged(text: &[u8]) -> bool
+    ensures yes { result ≡ true → BeginsBy None text.now }
+    ensures no { result ≡ false → BeginsBy None text.now → ⊥ }
+{
+    match text.split_first_chunk::<8>() {
+        Some((first, _)) => is_logged(u64::from_le_bytes(*first)),
+        None => false,
+    }
+}
+
+// Whether a text begins with the number of a unit that is named, or of one of a log where none is.
+fn begins_by(text: &[u8], owner: Option<UnitNo>) -> bool
+    ensures yes { result ≡ true → BeginsBy owner text.now }
+    ensures no { result ≡ false → BeginsBy owner text.now → ⊥ }
+{
+    match owner {
+        Some(unit) => begins_with(text, unit),
+        None => begins_logged(text),
+    }
+}
+
+// The version of a unit, or of any of a log where none is named, in a text that stands at a place.
 fn owned_in(
     alloc: Global,
     text: &[u8],
-    unit: UnitNo,
+    owner: Option<UnitNo>,
     place: Place,
     fields: usize,
     format: Format,
 ) -> Result<Version, VersionFault>
     requires near { is_beyond format place ≡ false }
     requires size { length text.now ≡ place.len }
-    ensures exact { (seen : List ℕ) → IsTextAt place seen text.now → GivesVersion result (owned_version format (Some fields) unit place seen) }
+    ensures exact { (seen : List ℕ) → IsTextAt place seen text.now → GivesVersion result (version_by_owner format (Some fields) owner place seen) }
     ensures quiet { IsErrOf result Fault.Failed → ⊥ }
     ensures shaped { IfOk result (λ version. IsVersionOf format fields place.len version) }
 {
-    if !begins_with(text, unit) {
+    if !begins_by(text, owner) {
         return Err(VersionFault::Damaged {
             place: place.offset,
         });
@@ -278,22 +309,23 @@ pub fn read_version<H: Host>(
     read_there(alloc, host, file, place, shape, format)
 }
 
-/// Reads the version that a unit's record names at a place of a grain's file, by one read, and changes no file. `Damaged` comes
-/// exactly where no version of that unit and of the grain's type stands there with that length: at the place's offset where the
-/// eight bytes there aren't the unit's number, and else where [`read_version`] says.
+/// Reads the version that a unit's record names at a place of a grain's file, or a checkpoint, which names no unit: by one read, and
+/// changes no file. `Damaged` comes exactly where no version of that unit, or of any unit of a log where none is named, and of the
+/// grain's type stands there with that length: at the place's offset where the eight bytes there aren't the unit's number, or aren't
+/// that of a unit of a log, which is above 0 and below 2 to the 63; and else where [`read_version`] says.
 pub fn read_named<H: Host>(
     alloc: Global,
     host: &mut H,
     file: FileId,
-    unit: UnitNo,
+    owner: Option<UnitNo>,
     place: Place,
     shape: &Shape,
     format: Format,
 ) -> Result<Version, VersionFault>
     requires { HasSlot file }
 
-    // It answers the unit's version exactly where one stands, and else the first place that is damaged.
-    ensures exact { IsTrue H.tells → GivesVersion result (owned_version format (fields_in shape.now file) unit place ((H.world host.old).disk file).seen) }
+    // It answers such a version exactly where one stands, and else the first place that is damaged.
+    ensures exact { IsTrue H.tells → GivesVersion result (version_by_owner format (fields_in shape.now file) owner place ((H.world host.old).disk file).seen) }
 
     // Where no version can stand there it is damaged at its offset, and the host is as before.
     ensures impossible { IsImpossible format (fields_in shape.now file) place → host.new ≡ host.old }
@@ -325,25 +357,25 @@ pub fn read_named<H: Host>(
     let Some(text) = read_text(alloc, host, file, place)? else {
         return Err(damaged);
     };
-    let version = owned_in(alloc, &text, unit, place, fields, format)?;
+    let version = owned_in(alloc, &text, owner, place, fields, format)?;
     Ok(version)
 }
 
-/// The version that a unit's record names at a place of a grain's file, from the bytes that stand there and were read before, by no
-/// host call. It is what [`read_named`] answers of a file that has these bytes there.
+/// The version that a unit's record or a checkpoint names at a place of a grain's file, from the bytes that stand there and were read
+/// before, by no host call. It is what [`read_named`] answers of a file that has these bytes there.
 pub fn named_in(
     alloc: Global,
     text: &[u8],
     file: FileId,
-    unit: UnitNo,
+    owner: Option<UnitNo>,
     place: Place,
     shape: &Shape,
     format: Format,
 ) -> Result<Version, VersionFault>
     requires size { length text.now ≡ place.len }
 
-    // It answers the unit's version exactly where one stands, and else the first place that is damaged.
-    ensures exact { (seen : List ℕ) → IsTextAt place seen text.now → GivesVersion result (owned_version format (fields_in shape.now file) unit place seen) }
+    // It answers such a version exactly where one stands, and else the first place that is damaged.
+    ensures exact { (seen : List ℕ) → IsTextAt place seen text.now → GivesVersion result (version_by_owner format (fields_in shape.now file) owner place seen) }
 
     // Where no version can stand there it is damaged at its offset.
     ensures refused { IsImpossible format (fields_in shape.now file) place → IsErrOf result (Fault.Damaged place.offset) }
@@ -361,6 +393,6 @@ pub fn named_in(
     if is_beyond(place, format) {
         return Err(damaged);
     }
-    let version = owned_in(alloc, text, unit, place, fields, format)?;
+    let version = owned_in(alloc, text, owner, place, fields, format)?;
     Ok(version)
 }

@@ -5,6 +5,7 @@ ghost use Rattle.system_calls.specs.System.{NoSyncRefused};
 ghost use Rattle.host_files.specs.Path.{path_of};
 ghost use Rattle.host_files.specs.Table.{is_lost, had_bytes_in, counts_of};
 
+use crate::file_names::name_of;
 use crate::folder::Folder;
 use crate::table::Table;
 use host_trait::{Channel, Failed, FileId, Host};
@@ -27,9 +28,9 @@ use system_calls::SystemCalls;
 ///
 /// Where no file may be written, they are read all the same, so that a folder on a medium that may only be read can be asked.
 ///
-/// Each file has one name: `program-S.otx`, `manager-S.otx` or `grain-S-K-Y.otx`, with slot, type and key in decimal. The names
-/// of the program and manager files are made by [`new`](FolderHost::new), and that of a grain file by [`ready`](Host::ready), so
-/// that no other call takes memory.
+/// Each file has one name: `program-S.otx`, `manager-S.otx` or `grain-S-K-Y.otx`, with slot, type and key in decimal. No name is
+/// kept: each call makes that of its file anew, by no memory but its own. What is kept of a file that is ready is a count and two
+/// marks, for whose entry [`new`](FolderHost::new) and [`ready`](Host::ready) make room, so that no other call takes memory.
 #[derive(Drop)]
 pub struct FolderHost<S: SystemCalls> {
     folder: Folder<S>,
@@ -90,7 +91,7 @@ impl<S: SystemCalls + Drop> Host for FolderHost<S> {
     ghost use Rattle.host_trait.specs.declared.channels.FileId.{FileId};
     ghost use Rattle.host_trait.specs.declared.channels.Channel.{Channel};
     ghost use Rattle.host_trait.specs.declared.channels.Channel.TheVariants.{Input, Output, File};
-    ghost use Rattle.host_files.specs.Table.{is_named, is_lost, had_bytes_in, counts_of, SameLost};
+    ghost use Rattle.host_files.specs.Table.{is_known, is_lost, had_bytes_in, counts_of, SameLost};
     ghost use Rattle.host_files.specs.UnfailingCalls.{WentWell, IsInPlace};
 
     ghost tells = { S.tells };
@@ -99,7 +100,7 @@ impl<S: SystemCalls + Drop> Host for FolderHost<S> {
 
     ghost faults = { λ host. counts_of host.input_faults host.output_faults host.table.files };
 
-    ghost is_ready = { λ host. is_named host.table.files };
+    ghost is_ready = { λ host. is_known host.table.files };
 
     ghost seen_may_stay = { λ host file told. S.seen_may_stay host.folder.system file told };
 
@@ -109,7 +110,7 @@ impl<S: SystemCalls + Drop> Host for FolderHost<S> {
         ensures err { OnErr result (IsTrue S.tells → Asked (S.state self.old.folder.system).world (S.state self.new.folder.system).world) }
         ensures faults { Counted Input result (counts_of self.old.input_faults self.old.output_faults self.old.table.files)
             (counts_of self.new.input_faults self.new.output_faults self.new.table.files) }
-        ensures ready { StaysReady (is_named self.old.table.files) (is_named self.new.table.files) }
+        ensures ready { StaysReady (is_known self.old.table.files) (is_known self.new.table.files) }
         ensures believed { SameLost self.old.table.files self.new.table.files }
         ensures calm { OnOk result (IsTrue S.tells → (S.answered self.new.folder.system).refusals ≡ (S.answered self.old.folder.system).refusals) }
         ensures fine { IsTrue S.tells → WentWell (S.answered self.old.folder.system) (S.answered self.new.folder.system) → IsOk result }
@@ -128,7 +129,7 @@ impl<S: SystemCalls + Drop> Host for FolderHost<S> {
         ensures part { IsTrue S.tells → ((n : ℕ) × Emitted n bytes.now (S.state self.old.folder.system).world (S.state self.new.folder.system).world) }
         ensures faults { Counted Output result (counts_of self.old.input_faults self.old.output_faults self.old.table.files)
             (counts_of self.new.input_faults self.new.output_faults self.new.table.files) }
-        ensures ready { StaysReady (is_named self.old.table.files) (is_named self.new.table.files) }
+        ensures ready { StaysReady (is_known self.old.table.files) (is_known self.new.table.files) }
         ensures believed { SameLost self.old.table.files self.new.table.files }
         ensures calm { OnOk result (IsTrue S.tells → (S.answered self.new.folder.system).refusals ≡ (S.answered self.old.folder.system).refusals) }
         ensures fine { IsTrue S.tells → WentWell (S.answered self.old.folder.system) (S.answered self.new.folder.system) → IsOk result }
@@ -143,13 +144,13 @@ impl<S: SystemCalls + Drop> Host for FolderHost<S> {
     }
 
     fn length(&mut self, file: FileId) -> Result<u64, Failed>
-        requires { MayAsk (is_named self.old.table.files) file }
+        requires { MayAsk (is_known self.old.table.files) file }
         ensures told { IsTrue S.tells → Asked (S.state self.old.folder.system).world (S.state self.new.folder.system).world }
         ensures len { IfOk result (λ n. IsTrue S.tells → n ≡ length ((S.state self.old.folder.system).world.disk file).seen) }
         ensures bound { IfOk result (λ n. n < 2 ^ 63) }
         ensures faults { Counted (File file) result (counts_of self.old.input_faults self.old.output_faults self.old.table.files)
             (counts_of self.new.input_faults self.new.output_faults self.new.table.files) }
-        ensures ready { StaysReady (is_named self.old.table.files) (is_named self.new.table.files) }
+        ensures ready { StaysReady (is_known self.old.table.files) (is_known self.new.table.files) }
         ensures believed { SameLost self.old.table.files self.new.table.files }
         ensures calm { OnOk result (IsTrue S.tells → (S.answered self.new.folder.system).refusals ≡ (S.answered self.old.folder.system).refusals) }
         ensures fine { IsTrue S.tells → WentWell (S.answered self.old.folder.system) (S.answered self.new.folder.system)
@@ -161,20 +162,21 @@ impl<S: SystemCalls + Drop> Host for FolderHost<S> {
         ensures noted { IfOk result (λ n. 0 < n → IsTrue (had_bytes_in self.new.table.files file)) }
         ensures open { OnOk result (IsTrue (had_bytes_in self.old.table.files file) → IsTrue (is_some self.new.folder.reader)) }
     {
-        let answer = self.folder.length(self.table.asked(file));
+        let name = name_of(file);
+        let answer = self.folder.length(self.table.asked(file, name.as_str()));
         let has_bytes = answer.unwrap_or(0) > 0;
         let count = self.table.count(file, answer, has_bytes)?;
         Ok(count)
     }
 
     fn read_at(&mut self, file: FileId, at: u64, into: &mut [u8]) -> Result<usize, Failed>
-        requires { MayAsk (is_named self.old.table.files) file }
+        requires { MayAsk (is_known self.old.table.files) file }
         ensures told { IsTrue S.tells → Asked (S.state self.old.folder.system).world (S.state self.new.folder.system).world }
         ensures bytes { IfOk result (λ n. IsTrue S.tells → Filled n at ((S.state self.old.folder.system).world.disk file).seen into.old into.new) }
         ensures bound { IfOk result (λ n. n ≤ length into.old) }
         ensures faults { Counted (File file) result (counts_of self.old.input_faults self.old.output_faults self.old.table.files)
             (counts_of self.new.input_faults self.new.output_faults self.new.table.files) }
-        ensures ready { StaysReady (is_named self.old.table.files) (is_named self.new.table.files) }
+        ensures ready { StaysReady (is_known self.old.table.files) (is_known self.new.table.files) }
         ensures believed { SameLost self.old.table.files self.new.table.files }
         ensures calm { OnOk result (IsTrue S.tells → (S.answered self.new.folder.system).refusals ≡ (S.answered self.old.folder.system).refusals) }
         ensures fine { IsTrue S.tells → WentWell (S.answered self.old.folder.system) (S.answered self.new.folder.system)
@@ -185,21 +187,24 @@ impl<S: SystemCalls + Drop> Host for FolderHost<S> {
         ensures noted { IfOk result (λ n. 0 < n → IsTrue (had_bytes_in self.new.table.files file)) }
         ensures open { OnOk result (IsTrue (had_bytes_in self.old.table.files file) → IsTrue (is_some self.new.folder.reader)) }
     {
-        let answer = self.folder.read_at(self.table.asked(file), at, into);
+        let name = name_of(file);
+        let answer = self
+            .folder
+            .read_at(self.table.asked(file, name.as_str()), at, into);
         let has_bytes = answer.unwrap_or(0) > 0;
         let count = self.table.count(file, answer, has_bytes)?;
         Ok(count)
     }
 
     fn write_at(&mut self, file: FileId, at: u64, bytes: &[u8]) -> Result<(), Failed>
-        requires file { MayAsk (is_named self.old.table.files) file }
+        requires file { MayAsk (is_known self.old.table.files) file }
         requires place { IsTrue S.tells → at ≤ length ((S.state self.old.folder.system).world.disk file).seen }
         ensures told { IsTrue S.tells → Written file at (length bytes.now) (S.state self.old.folder.system).world (S.state self.new.folder.system).world }
         ensures ok { OnOk result (IsTrue S.tells → Overwrote at bytes.now ((S.state self.old.folder.system).world.disk file) ((S.state self.new.folder.system).world.disk file)) }
         ensures bound { OnOk result (at + length bytes.now < 2 ^ 63) }
         ensures faults { Counted (File file) result (counts_of self.old.input_faults self.old.output_faults self.old.table.files)
             (counts_of self.new.input_faults self.new.output_faults self.new.table.files) }
-        ensures ready { StaysReady (is_named self.old.table.files) (is_named self.new.table.files) }
+        ensures ready { StaysReady (is_known self.old.table.files) (is_known self.new.table.files) }
         ensures believed { SameLost self.old.table.files self.new.table.files }
         ensures calm { OnOk result (IsTrue S.tells → (S.answered self.new.folder.system).refusals ≡ (S.answered self.old.folder.system).refusals) }
         ensures fine { IsTrue S.tells → WentWell (S.answered self.old.folder.system) (S.answered self.new.folder.system)
@@ -210,7 +215,10 @@ impl<S: SystemCalls + Drop> Host for FolderHost<S> {
         ensures regular { OnOk result (IsTrue S.tells → IsTrue (S.is_regular file)) }
         ensures noted { OnOk result (0 < length bytes.now → IsTrue (had_bytes_in self.new.table.files file)) }
     {
-        let answer = self.folder.write_at(self.table.asked(file), at, bytes);
+        let name = name_of(file);
+        let answer = self
+            .folder
+            .write_at(self.table.asked(file, name.as_str()), at, bytes);
         self.table.count(file, answer, !bytes.is_empty())?;
         Ok(())
     }
@@ -218,10 +226,10 @@ impl<S: SystemCalls + Drop> Host for FolderHost<S> {
     fn ready(&mut self, file: FileId) -> Result<(), AllocError>
         requires { HasSlot file }
         ensures told { IsTrue S.tells → (S.state self.new.folder.system).world ≡ (S.state self.old.folder.system).world }
-        ensures ok { OnOk result (IsTrue (is_named self.new.table.files file)) }
+        ensures ok { OnOk result (IsTrue (is_known self.new.table.files file)) }
         ensures faults { (channel : Channel) → counts_of self.new.input_faults self.new.output_faults self.new.table.files channel
             ≡ counts_of self.old.input_faults self.old.output_faults self.old.table.files channel }
-        ensures ready { StaysReady (is_named self.old.table.files) (is_named self.new.table.files) }
+        ensures ready { StaysReady (is_known self.old.table.files) (is_known self.new.table.files) }
         ensures believed { SameLost self.old.table.files self.new.table.files }
     {
         self.table.ready(file)?;
@@ -229,12 +237,12 @@ impl<S: SystemCalls + Drop> Host for FolderHost<S> {
     }
 
     fn sync(&mut self, file: FileId) -> Result<(), Failed>
-        requires { MayAsk (is_named self.old.table.files) file }
+        requires { MayAsk (is_known self.old.table.files) file }
         ensures told { IsTrue S.tells → Synced file (is_ok result) (S.state self.old.folder.system).world (S.state self.new.folder.system).world }
         ensures count { OnOk result (IsTrue S.tells → (S.state self.new.folder.system).world.syncs ≡ (S.state self.old.folder.system).world.syncs + 1) }
         ensures faults { Counted (File file) result (counts_of self.old.input_faults self.old.output_faults self.old.table.files)
             (counts_of self.new.input_faults self.new.output_faults self.new.table.files) }
-        ensures ready { StaysReady (is_named self.old.table.files) (is_named self.new.table.files) }
+        ensures ready { StaysReady (is_known self.old.table.files) (is_known self.new.table.files) }
         ensures believed { OnOk result (SameLost self.old.table.files self.new.table.files) }
         ensures others { (other : FileId) → other ≢ file → is_lost self.new.table.files other ≡ is_lost self.old.table.files other }
         ensures calm { OnOk result (IsTrue S.tells → (S.answered self.new.folder.system).refusals ≡ (S.answered self.old.folder.system).refusals) }
@@ -245,7 +253,8 @@ impl<S: SystemCalls + Drop> Host for FolderHost<S> {
         ensures lost { IsTrue (is_lost self.old.table.files file) → IsErr result }
         ensures regular { OnOk result (IsTrue S.tells → IsTrue (S.is_regular file)) }
     {
-        let answer = self.folder.sync(self.table.asked(file));
+        let name = name_of(file);
+        let answer = self.folder.sync(self.table.asked(file, name.as_str()));
         self.table.count_sync(file, answer)?;
         Ok(())
     }

@@ -10,6 +10,7 @@
 #![tactic(auto)]
 
 mod claim;
+mod file_names;
 mod folder;
 mod host;
 mod pieces;

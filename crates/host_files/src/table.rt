@@ -1,21 +1,20 @@
-// The names of the files that are ready, how often calls on each have failed, and whether a sync of it has.
+// The files that are ready: how often calls on each have failed, whether a sync of it has, and whether it was seen to have bytes.
 ghost use Rattle.std.specs.Prelude.{◌≡◌, ◌≢◌, ◌≤◌, ℕ, Ok, is_ok, false, IsTrue, IfOk, OnOk, OnErr};
-ghost use Rattle.host_trait.specs.Files.{HasSlot, MayAsk, StaysReady, name_of};
+ghost use Rattle.host_trait.specs.Files.{HasSlot, MayAsk, StaysReady};
 ghost use Rattle.host_trait.specs.Faults.{Rose, Counted};
 ghost use Rattle.host_trait.specs.declared.channels.FileId.{FileId};
 ghost use Rattle.host_trait.specs.declared.channels.Channel.TheVariants.{File};
-ghost use Rattle.host_files.specs.Table.{faults_in, is_lost, is_named, had_bytes_in, counts_of, HaveOwnNames, AreAlwaysNamed, SameNames, SameLost, SameHadBytes, StayLost};
+ghost use Rattle.host_files.specs.Table.{faults_in, is_lost, is_known, had_bytes_in, counts_of, AreAlwaysKnown, SameFiles, SameLost, SameHadBytes, StayLost};
 
-use host_trait::{Failed, FileId, file_name};
+use host_trait::{Failed, FileId};
 use std::alloc::{AllocError, Global};
 use std::collections::BTreeMap;
 use system_calls::Refused;
 
-/// A file's name, how often calls on it have failed, up to the last value of a `u64`, whether a sync of it has, and whether it
-/// was seen to have bytes.
+/// What is kept of a file that is ready: how often calls on it have failed, up to the last value of a `u64`, whether a sync of it
+/// has, and whether it was seen to have bytes.
 #[derive(Drop)]
-pub struct Named {
-    pub name: String,
+pub struct Known {
     pub faults: u64,
     pub is_lost: bool,
     pub had_bytes: bool,
@@ -30,12 +29,10 @@ pub struct Asked<'a> {
     pub had_bytes: bool,
 }
 
-// Gives a file its name, unless it has one. Without memory none is given.
-fn enter(alloc: Global, files: &mut BTreeMap<FileId, Named>, file: FileId) -> Result<(), AllocError>
-    requires { HaveOwnNames files.old }
-    ensures named { OnOk result (IsTrue (is_named files.new file)) }
-    ensures names { HaveOwnNames files.new }
-    ensures stays { StaysReady (is_named files.old) (is_named files.new) }
+// Gives a file an entry, unless it has one. Without memory none is given.
+fn enter(files: &mut BTreeMap<FileId, Known>, file: FileId) -> Result<(), AllocError>
+    ensures known { OnOk result (IsTrue (is_known files.new file)) }
+    ensures stays { StaysReady (is_known files.old) (is_known files.new) }
     ensures faults { (other : FileId) → faults_in files.new other ≡ faults_in files.old other }
     ensures lost { (other : FileId) → is_lost files.new other ≡ is_lost files.old other }
     ensures bytes { SameHadBytes files.old files.new }
@@ -43,11 +40,9 @@ fn enter(alloc: Global, files: &mut BTreeMap<FileId, Named>, file: FileId) -> Re
     if files.contains_key(&file) {
         return Ok(());
     }
-    let name = file_name(alloc, file)?;
     files.insert(
         file,
-        Named {
-            name,
+        Known {
             faults: 0,
             is_lost: false,
             had_bytes: false,
@@ -65,71 +60,68 @@ fn one_more(count: u64) -> u64
 }
 
 // Counts a fault of a file.
-fn raise(files: &mut BTreeMap<FileId, Named>, file: FileId)
-    requires { IsTrue (is_named files.old file) }
+fn raise(files: &mut BTreeMap<FileId, Known>, file: FileId)
+    requires { IsTrue (is_known files.old file) }
     ensures rose { Rose (faults_in files.old file) (faults_in files.new file) }
     ensures later { faults_in files.old file ≤ faults_in files.new file }
     ensures others { (other : FileId) → other ≢ file → faults_in files.new other ≡ faults_in files.old other }
     ensures lost { (other : FileId) → is_lost files.new other ≡ is_lost files.old other }
     ensures bytes { SameHadBytes files.old files.new }
-    ensures names { SameNames files.old files.new }
+    ensures files { SameFiles files.old files.new }
 {
-    if let Some(named) = files.get_mut(&file) {
-        named.faults = one_more(named.faults);
+    if let Some(known) = files.get_mut(&file) {
+        known.faults = one_more(known.faults);
     }
 }
 
 // Notes that a sync of a file has failed.
-fn lose(files: &mut BTreeMap<FileId, Named>, file: FileId)
-    requires { IsTrue (is_named files.old file) }
+fn lose(files: &mut BTreeMap<FileId, Known>, file: FileId)
+    requires { IsTrue (is_known files.old file) }
     ensures lost { IsTrue (is_lost files.new file) }
     ensures others { (other : FileId) → other ≢ file → is_lost files.new other ≡ is_lost files.old other }
     ensures stay { StayLost files.old files.new }
     ensures bytes { SameHadBytes files.old files.new }
     ensures faults { (other : FileId) → faults_in files.new other ≡ faults_in files.old other }
-    ensures names { SameNames files.old files.new }
+    ensures files { SameFiles files.old files.new }
 {
-    if let Some(named) = files.get_mut(&file) {
-        named.is_lost = true;
+    if let Some(known) = files.get_mut(&file) {
+        known.is_lost = true;
     }
 }
 
 // Notes that a file has bytes, so that it is there for good.
-fn note_bytes(files: &mut BTreeMap<FileId, Named>, file: FileId)
-    requires { IsTrue (is_named files.old file) }
+fn note_bytes(files: &mut BTreeMap<FileId, Known>, file: FileId)
+    requires { IsTrue (is_known files.old file) }
     ensures noted { IsTrue (had_bytes_in files.new file) }
     ensures others { (other : FileId) → other ≢ file → had_bytes_in files.new other ≡ had_bytes_in files.old other }
     ensures faults { (other : FileId) → faults_in files.new other ≡ faults_in files.old other }
     ensures lost { (other : FileId) → is_lost files.new other ≡ is_lost files.old other }
-    ensures names { SameNames files.old files.new }
+    ensures files { SameFiles files.old files.new }
 {
-    if let Some(named) = files.get_mut(&file) {
-        named.had_bytes = true;
+    if let Some(known) = files.get_mut(&file) {
+        known.had_bytes = true;
     }
 }
 
 // The program and manager files of both slots.
-fn first_files(alloc: Global) -> Result<BTreeMap<FileId, Named>, AllocError>
-    ensures names { IfOk result HaveOwnNames }
-    ensures always { IfOk result AreAlwaysNamed }
+fn first_files(alloc: Global) -> Result<BTreeMap<FileId, Known>, AllocError>
+    ensures always { IfOk result AreAlwaysKnown }
     ensures faults { IfOk result (λ files. (file : FileId) → faults_in files file ≡ 0) }
     ensures bytes { IfOk result (λ files. (file : FileId) → had_bytes_in files file ≡ false) }
 {
     let mut files = BTreeMap::new(alloc);
-    enter(alloc, &mut files, FileId::Program { slot: 0 })?;
-    enter(alloc, &mut files, FileId::Program { slot: 1 })?;
-    enter(alloc, &mut files, FileId::Manager { slot: 0 })?;
-    enter(alloc, &mut files, FileId::Manager { slot: 1 })?;
+    enter(&mut files, FileId::Program { slot: 0 })?;
+    enter(&mut files, FileId::Program { slot: 1 })?;
+    enter(&mut files, FileId::Manager { slot: 0 })?;
+    enter(&mut files, FileId::Manager { slot: 1 })?;
     Ok(files)
 }
 
 /// The files of a folder that are ready. The program and manager files of both slots always are.
 #[derive(Drop)]
 pub struct Table {
-    alloc: Global,
-    files: BTreeMap<FileId, Named>,
-    ghost names: { HaveOwnNames files },
-    ghost always: { AreAlwaysNamed files },
+    files: BTreeMap<FileId, Known>,
+    ghost always: { AreAlwaysKnown files },
 }
 
 impl Table {
@@ -139,16 +131,7 @@ impl Table {
         ensures bytes { IfOk result (λ table. (file : FileId) → had_bytes_in table.files file ≡ false) }
     {
         let files = first_files(alloc)?;
-        Ok(Table { alloc, files })
-    }
-
-    // The name of a file that is ready.
-    fn name(&self, file: FileId) -> &str
-        requires { MayAsk (is_named self.now.files) file }
-        ensures { result.now ≡ name_of file }
-    {
-        let named = self.files.get(&file).unwrap();
-        named.name.as_str()
+        Ok(Table { files })
     }
 
     // Whether a sync of a file has failed.
@@ -156,7 +139,7 @@ impl Table {
         ensures { result ≡ is_lost self.now.files file }
     {
         match self.files.get(&file) {
-            Some(named) => named.is_lost,
+            Some(known) => known.is_lost,
             None => false,
         }
     }
@@ -166,22 +149,21 @@ impl Table {
         ensures { result ≡ had_bytes_in self.now.files file }
     {
         match self.files.get(&file) {
-            Some(named) => named.had_bytes,
+            Some(known) => known.had_bytes,
             None => false,
         }
     }
 
-    /// What the folder has to know of a file that is ready.
-    pub fn asked(&self, file: FileId) -> Asked<'_>
-        requires { MayAsk (is_named self.now.files) file }
+    /// What the folder has to know of a file, of which this is the name.
+    pub fn asked<'a>(&self, file: FileId, name: &'a str) -> Asked<'a>
         ensures file { result.file ≡ file }
-        ensures name { result.name.now ≡ name_of file }
+        ensures name { result.name.now ≡ name.now }
         ensures lost { result.is_lost ≡ is_lost self.now.files file }
         ensures bytes { result.had_bytes ≡ had_bytes_in self.now.files file }
     {
         Asked {
             file,
-            name: self.name(file),
+            name,
             is_lost: self.is_lost(file),
             had_bytes: self.had_bytes(file),
         }
@@ -192,20 +174,20 @@ impl Table {
         ensures { result ≡ faults_in self.now.files file }
     {
         match self.files.get(&file) {
-            Some(named) => named.faults,
+            Some(known) => known.faults,
             None => 0,
         }
     }
 
     /// Makes a file ready. Without memory all stays as it was.
     pub fn ready(&mut self, file: FileId) -> Result<(), AllocError>
-        ensures named { OnOk result (IsTrue (is_named self.new.files file)) }
-        ensures stays { StaysReady (is_named self.old.files) (is_named self.new.files) }
+        ensures known { OnOk result (IsTrue (is_known self.new.files file)) }
+        ensures stays { StaysReady (is_known self.old.files) (is_known self.new.files) }
         ensures faults { (other : FileId) → faults_in self.new.files other ≡ faults_in self.old.files other }
         ensures lost { (other : FileId) → is_lost self.new.files other ≡ is_lost self.old.files other }
         ensures bytes { SameHadBytes self.old.files self.new.files }
     {
-        enter(self.alloc, &mut self.files, file)?;
+        enter(&mut self.files, file)?;
         Ok(())
     }
 
@@ -217,7 +199,7 @@ impl Table {
         answer: Result<T, Refused>,
         has_bytes: bool,
     ) -> Result<T, Failed>
-        requires { MayAsk (is_named self.old.files) file }
+        requires { MayAsk (is_known self.old.files) file }
         ensures ok { IfOk result (λ value. answer ≡ Ok value) }
         ensures answer { is_ok result ≡ is_ok answer }
         ensures noted { OnOk result (IsTrue has_bytes → IsTrue (had_bytes_in self.new.files file)) }
@@ -228,7 +210,7 @@ impl Table {
         ensures faults { (input output : ℕ) → Counted (File file) result
             (counts_of input output self.old.files) (counts_of input output self.new.files) }
         ensures stay { StayLost self.old.files self.new.files }
-        ensures stays { StaysReady (is_named self.old.files) (is_named self.new.files) }
+        ensures stays { StaysReady (is_known self.old.files) (is_known self.new.files) }
     {
         match answer {
             Ok(value) => {
@@ -246,7 +228,7 @@ impl Table {
 
     /// Passes on what a sync of a file answered. Where it failed, that is counted, and the file is lost.
     pub fn count_sync(&mut self, file: FileId, answer: Result<(), Refused>) -> Result<(), Failed>
-        requires { MayAsk (is_named self.old.files) file }
+        requires { MayAsk (is_known self.old.files) file }
         ensures answer { is_ok result ≡ is_ok answer }
         ensures faults { (input output : ℕ) → Counted (File file) result
             (counts_of input output self.old.files) (counts_of input output self.new.files) }
@@ -255,7 +237,7 @@ impl Table {
         ensures others { (other : FileId) → other ≢ file → is_lost self.new.files other ≡ is_lost self.old.files other }
         ensures bytes { SameHadBytes self.old.files self.new.files }
         ensures stay { StayLost self.old.files self.new.files }
-        ensures stays { StaysReady (is_named self.old.files) (is_named self.new.files) }
+        ensures stays { StaysReady (is_known self.old.files) (is_known self.new.files) }
     {
         match answer {
             Ok(()) => Ok(()),

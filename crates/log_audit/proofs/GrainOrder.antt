@@ -1,18 +1,20 @@
 -- Grains that are added one by one are those in ascending order.
 use Rattle.std.proofs.Common.{◌≡◌, ◌⊎◌, inl, inr, ℕ, nat_lt, Bool, true, false, if◌then◌else◌, List, [], ◌∷◌, ◌++◌, map, refl, sym, ◌∙◌, ap, arith}
 use Rattle.std.specs.Prelude.{◌==◌, ◌&&◌, ◌||◌}
+use Rattle.std.specs.List.{list_any}
 use Rattle.std.specs.BTreeSet.{insert_key}
 use Rattle.std.specs.Ordering.{match_ordering, ordering_then, ordering_reverse}
 use Rattle.std.specs.declared.cmp.Ordering.{Ordering}
 use Rattle.std.specs.declared.cmp.Ordering.TheVariants.{Less, Equal, Greater}
 use Rattle.std.specs.Cmp.{IsTotalOrder}
 use Rattle.std.proofs.lemmas.Cmp.{then_total, on_total, nat_cmp_total}
-use Rattle.std.proofs.lemmas.Bool.{ltb-true, eqb-true, false_from_ne_true}
+use Rattle.std.proofs.lemmas.Bool.{ltb-true, eqb-true, eq-eqb, and_parts, and_from, false_from_ne_true}
 use Rattle.base_types.specs.declared.calls.GrainId.{GrainId}
 use Rattle.base_types.specs.Stores.{grain_cmp}
 use Rattle.commit_log.specs.declared.records.CommitRecord.{CommitRecord}
 use Rattle.commit_log.specs.declared.records.Written.{Written}
-use Rattle.log_reading.specs.Versions.{ascending_with, ascending}
+use Rattle.base_types.specs.Grains.{same_grain}
+use Rattle.log_reading.specs.Versions.{is_before, ascending_with, ascending}
 use Rattle.log_audit.specs.WrittenGrains.{grains_recorded, grains_added}
 
 -- ---- two keys that are added to others, in either order
@@ -144,6 +146,85 @@ either_grain a b xs =
     sym (inserted (ascending_with b xs) a) ∙ ap (λ (l : List GrainId). insert_key grain_cmp l a) (sym (inserted xs b))
     ∙ either_first grain_cmp grain_total grain_equal a b xs
     ∙ ap (λ (l : List GrainId). insert_key grain_cmp l b) (inserted xs a) ∙ inserted (ascending_with a xs) b
+
+-- ---- a list that ascends already
+
+same_is : (a b : GrainId) → same_grain a b ≡ true → a ≡ b
+same_is a b e =
+    let p = and_parts (a.kind == b.kind) (a.key == b.key) e in
+    let k : a.kind ≡ b.kind = eqb-true a.kind b.kind p.0 in
+    let y : a.key ≡ b.key = eqb-true a.key b.key p.1 in
+    λ i. record { kind = k i; key = y i }
+
+same_self : (g : GrainId) → same_grain g g ≡ true
+same_self g = and_from (g.kind == g.kind) (g.key == g.key) (eq-eqb g.kind g.kind refl) (eq-eqb g.key g.key refl)
+
+-- by how a grain compares to the first
+module _ (g h : GrainId) (hs : List GrainId) where
+  with_same : same_grain g h ≡ true → ascending_with g (h ∷ hs) ≡ h ∷ hs
+  with_same e = ap (λ (b : Bool). if b then h ∷ hs else (if is_before g h then g ∷ h ∷ hs else h ∷ ascending_with g hs)) e
+
+  with_before : same_grain g h ≡ false → is_before g h ≡ true → ascending_with g (h ∷ hs) ≡ g ∷ h ∷ hs
+  with_before e k =
+      ap (λ (b : Bool). if b then h ∷ hs else (if is_before g h then g ∷ h ∷ hs else h ∷ ascending_with g hs)) e
+      ∙ ap (λ (b : Bool). if b then g ∷ h ∷ hs else h ∷ ascending_with g hs) k
+
+  with_after : same_grain g h ≡ false → is_before g h ≡ false → ascending_with g (h ∷ hs) ≡ h ∷ ascending_with g hs
+  with_after e k =
+      ap (λ (b : Bool). if b then h ∷ hs else (if is_before g h then g ∷ h ∷ hs else h ∷ ascending_with g hs)) e
+      ∙ ap (λ (b : Bool). if b then g ∷ h ∷ hs else h ∷ ascending_with g hs) k
+
+  by_first : (P : Type 0) → (same_grain g h ≡ true → P) → (same_grain g h ≡ false → is_before g h ≡ true → P) → (same_grain g h ≡ false → is_before g h ≡ false → P) → P
+  by_first P same low high = go (same_grain g h) refl (is_before g h) refl
+    where
+      go : (b : Bool) → same_grain g h ≡ b → (d : Bool) → is_before g h ≡ d → P
+      go true e d k = same e
+      go false e true k = low e k
+      go false e false k = high e k
+
+with_twice : (g : GrainId) (xs : List GrainId) → ascending_with g (ascending_with g xs) ≡ ascending_with g xs
+with_twice g [] = with_same g g [] (same_self g)
+with_twice g (h ∷ hs) = by_first g h hs (ascending_with g (ascending_with g (h ∷ hs)) ≡ ascending_with g (h ∷ hs))
+    (λ e. ap (ascending_with g) (with_same g h hs e))
+    (λ e k. ap (ascending_with g) (with_before g h hs e k) ∙ with_same g g (h ∷ hs) (same_self g) ∙ sym (with_before g h hs e k))
+    (λ e k. ap (ascending_with g) (with_after g h hs e k) ∙ with_after g h (ascending_with g hs) e k ∙ ap (λ (l : List GrainId). h ∷ l) (with_twice g hs) ∙ sym (with_after g h hs e k))
+
+of_with : (g : GrainId) (xs : List GrainId) → ascending (ascending_with g xs) ≡ ascending_with g (ascending xs)
+of_with g [] = refl
+of_with g (h ∷ hs) = by_first g h hs (ascending (ascending_with g (h ∷ hs)) ≡ ascending_with g (ascending (h ∷ hs)))
+    (λ e. ap ascending (with_same g h hs e) ∙ sym (with_twice h (ascending hs)) ∙ ap (λ (k : GrainId). ascending_with k (ascending_with h (ascending hs))) (sym (same_is g h e)))
+    (λ e k. ap ascending (with_before g h hs e k))
+    (λ e k. ap ascending (with_after g h hs e k) ∙ ap (ascending_with h) (of_with g hs) ∙ either_grain h g (ascending hs))
+
+pub ascending_twice : (gs : List GrainId) → ascending (ascending gs) ≡ ascending gs
+ascending_twice [] = refl
+ascending_twice (g ∷ gs) = of_with g (ascending gs) ∙ ap (ascending_with g) (ascending_twice gs)
+
+or_again : (a b : Bool) → (a || b) ≡ (a || (a || b))
+or_again true b = refl
+or_again false b = refl
+
+or_turned : (a b c : Bool) → (a || (b || c)) ≡ (b || (a || c))
+or_turned true true c = refl
+or_turned true false c = refl
+or_turned false true c = refl
+or_turned false false c = refl
+
+-- a grain is among them or isn't, in whatever order
+module _ (grain : GrainId) where
+  abbrev one_of : List GrainId → Bool
+  one_of gs = list_any (λ g. same_grain g grain) gs
+
+  any_with : (k : GrainId) (xs : List GrainId) → one_of (ascending_with k xs) ≡ (same_grain k grain || one_of xs)
+  any_with k [] = refl
+  any_with k (h ∷ hs) = by_first k h hs (one_of (ascending_with k (h ∷ hs)) ≡ (same_grain k grain || one_of (h ∷ hs)))
+      (λ e. ap one_of (with_same k h hs e) ∙ or_again (same_grain h grain) (one_of hs) ∙ ap (λ (g : GrainId). same_grain g grain || one_of (h ∷ hs)) (sym (same_is k h e)))
+      (λ e low. ap one_of (with_before k h hs e low))
+      (λ e high. ap one_of (with_after k h hs e high) ∙ ap (λ (b : Bool). same_grain h grain || b) (any_with k hs) ∙ or_turned (same_grain h grain) (same_grain k grain) (one_of hs))
+
+  pub any_ascending : (gs : List GrainId) → one_of (ascending gs) ≡ one_of gs
+  any_ascending [] = refl
+  any_ascending (g ∷ gs) = any_with g (ascending gs) ∙ ap (λ (b : Bool). same_grain g grain || b) (any_ascending gs)
 
 -- ---- one by one
 

@@ -3,10 +3,12 @@ pub mod TextParts
 pub mod Items
 pub mod Floats
 pub mod GrainLists
+pub mod HeldGrains
 pub mod ShownReports
 pub mod ReportTexts
 pub mod RecordLines
 pub mod Replays
+pub mod SavedStates
 pub mod RereadRefusals
 pub mod Versions
 pub mod RereadFaults

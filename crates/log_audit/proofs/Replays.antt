@@ -19,9 +19,10 @@ use Rattle.field_codec.specs.declared.formats.Format.TheVariants.{One}
 use Rattle.commit_log.specs.declared.records.CommitRecord.{CommitRecord}
 use Rattle.core_model.specs.Equality.{same_list, same_text, same_value, same_state, same_outcome}
 use Rattle.core_laws.proofs.Basics.{same_list-true, same_state-true, same_outcome-true}
-use Rattle.log_reading.specs.Blocks.{records_in_file}
 use Rattle.log_reading.specs.Steps.{next_in}
-use Rattle.log_reading.proofs.LogBlocks.{follows_begins, follows_on}
+use Rattle.log_reading.specs.Blocks.{LogBase, LogRead, log_in_file}
+use Rattle.log_reading.specs.Steps.{Follows}
+use Rattle.log_reading.proofs.LogBlocks.{follows_on}
 use Rattle.script_tree.specs.Programs.{ProgramTree}
 use Rattle.script_meaning.specs.Play.{Played, found_in, initial_of, play}
 use Rattle.promise_spec.specs.Records.{Commit, States, written, put_state, after_writes}
@@ -30,8 +31,8 @@ use Rattle.promise_spec.specs.SerialExecution.{IsSerial, Replays, played}
 use Rattle.promise_spec.specs.Family.{states_after}
 use Rattle.promise_spec.specs.Openings.{commit_of}
 use Rattle.log_audit.specs.declared.replay.Bad.{Bad}
-use Rattle.log_audit.specs.Replays.{same_write, agree, first_states, as_commits, FailsToReplay, ReplaysTo, FailsFirst, AllReplayTo, IsFirstFailure}
-use Rattle.log_audit.proofs.GrainLists.{FollowsIfClean, all_read, rest_of}
+use Rattle.log_audit.specs.Replays.{same_write, agree, first_states, base_states, as_commits, FailsToReplay, ReplaysTo, FailsFirst, AllReplayTo, IsFirstFailure}
+use Rattle.log_audit.proofs.GrainLists.{all_read, rest_of}
 
 -- ---- a value is itself, by the tests
 
@@ -200,24 +201,31 @@ module _ (types : ProgramTree) (live : ℕ) (shape : Shape) (image : Image) (sta
 
 -- ---- block by block
 
-module _ (types : ProgramTree) (live : ℕ) (shape : Shape) (image : Image) (file : List ℕ) (start : States) where
+module _ (types : ProgramTree) (live : ℕ) (shape : Shape) (image : Image) (file : List ℕ) where
+  -- the states that a log begins with
+  abbrev start_of : LogBase → States
+  start_of base = base_states live types shape image base
+
   -- the records that were read replay, and leave these states
   pub record HasAudited (gate : ℕ) (now : States) : Type 0 where
+    pub base : LogBase
     pub records : List CommitRecord
-    pub follows : FollowsIfClean shape file records gate
-    pub serial : IsSerial types start (as_commits live shape image records)
-    pub states : now ≡ states_after start (as_commits live shape image records)
+    pub follows : Follows One shape file base records gate
+    pub serial : IsSerial types (start_of base) (as_commits live shape image records)
+    pub states : now ≡ states_after (start_of base) (as_commits live shape image records)
 
-  pub audit_begun : (now : States) → now ≡ start → HasAudited 15 now
-  audit_begun now is = record { records = []; follows = follows_begins One shape file; serial = tt; states = is }
+  pub audit_begun : (base : LogBase) (gate : ℕ) (now : States) → Follows One shape file base [] gate → now ≡ start_of base → HasAudited gate now
+  audit_begun base gate now begins is = record { base = base; records = []; follows = begins; serial = tt; states = is }
 
   pub audit_more : (gate : ℕ) (now new : States) (more : List CommitRecord) (behind : ℕ) → HasAudited gate now → next_in One shape gate file ≡ Ok (Some (more, behind))
       → AllReplayTo types now (as_commits live shape image more) new None → HasAudited behind new
   audit_more gate now new more behind h step to =
+      let start = start_of h.base in
       let seam : as_commits live shape image (h.records ++ more) ≡ as_commits live shape image h.records ++ as_commits live shape image more = map-append (commit_of live shape image) h.records more in
       record {
+        base = h.base;
         records = h.records ++ more;
-        follows = λ clean. follows_on One shape file h.records gate (h.follows clean) more behind step;
+        follows = follows_on One shape file h.base h.records gate h.follows more behind step;
         serial = subst (λ (l : List Commit). IsSerial types start l) (sym seam)
             (serial_both types start (as_commits live shape image h.records) (as_commits live shape image more) h.serial (subst (λ (s : States). IsSerial types s (as_commits live shape image more)) h.states to.0));
         states = to.1 ∙ ap (λ (s : States). states_after s (as_commits live shape image more)) h.states
@@ -225,33 +233,36 @@ module _ (types : ProgramTree) (live : ℕ) (shape : Shape) (image : Image) (fil
       }
 
   pub audit_bad : (gate : ℕ) (now : States) (more : List CommitRecord) (behind : ℕ) (bad : Bad) → HasAudited gate now → next_in One shape gate file ≡ Ok (Some (more, behind)) → FailsFirst types now (as_commits live shape image more) bad
-      → (records : List CommitRecord) → records_in_file One shape file ≡ Ok records → FailsFirst types start (as_commits live shape image records) bad
-  audit_bad gate now more behind bad h step f records is =
-      let read : FollowsIfClean shape file (h.records ++ more) behind = (λ clean. follows_on One shape file h.records gate (h.follows clean) more behind step) in
-      let rest = rest_of shape file (h.records ++ more) records behind read is in
+      → (log : LogRead) → log_in_file One shape file ≡ Ok log → FailsFirst types (start_of log.base) (as_commits live shape image log.records) bad
+  audit_bad gate now more behind bad h step f log is =
+      let start = start_of h.base in
+      let left = rest_of shape file h.base (h.records ++ more) behind (follows_on One shape file h.base h.records gate h.follows more behind step) log is in
+      let rest = left.1 in
       let made = commit_of live shape image in
       let done : List Commit = map made h.records in
-      let all : map made records ≡ done ++ (f.front ++ (f.here ∷ (f.back ++ map made rest.0))) =
+      let all : map made log.records ≡ done ++ (f.front ++ (f.here ∷ (f.back ++ map made rest.0))) =
       ap (map made) rest.1 ∙ map-append made (h.records ++ more) rest.0 ∙ ap (λ (l : List Commit). l ++ map made rest.0) (map-append made h.records more ∙ ap (λ (l : List Commit). done ++ l) f.are)
       ∙ append_assoc done (f.front ++ (f.here ∷ f.back)) (map made rest.0) ∙ ap (λ (l : List Commit). done ++ l) (append_assoc f.front (f.here ∷ f.back) (map made rest.0)) in
-      record {
+      subst (λ (b : LogBase). FailsFirst types (start_of b) (map made log.records) bad) left.0 (record {
         front = done ++ f.front;
         here = f.here;
         back = f.back ++ map made rest.0;
         are = all ∙ sym (append_assoc done f.front (f.here ∷ (f.back ++ map made rest.0)));
         serial = serial_both types start done f.front h.serial (subst (λ (s : States). IsSerial types s f.front) h.states f.serial);
         fails = subst (λ (s : States). FailsToReplay types s f.here bad) (ap (λ (s : States). states_after s f.front) h.states ∙ sym (after_both start done f.front)) f.fails;
-      }
+      })
 
   pub audit_found : (gate : ℕ) (now new : States) (more : List CommitRecord) (behind : ℕ) (found : Option Bad) → HasAudited gate now → next_in One shape gate file ≡ Ok (Some (more, behind)) → is_some found ≡ true
-      → AllReplayTo types now (as_commits live shape image more) new found → (records : List CommitRecord) → records_in_file One shape file ≡ Ok records → IsFirstFailure types start (as_commits live shape image records) found
-  audit_found gate now new more behind None h step some to records is = absurd cc
-  audit_found gate now new more behind (Some bad) h step some to records is = audit_bad gate now more behind bad h step to records is
+      → AllReplayTo types now (as_commits live shape image more) new found → (log : LogRead) → log_in_file One shape file ≡ Ok log → IsFirstFailure types (start_of log.base) (as_commits live shape image log.records) found
+  audit_found gate now new more behind None h step some to log is = absurd cc
+  audit_found gate now new more behind (Some bad) h step some to log is = audit_bad gate now more behind bad h step to log is
 
   pub audit_next : (gate : ℕ) (now new : States) (more : List CommitRecord) (behind : ℕ) (found : Option Bad) → HasAudited gate now → next_in One shape gate file ≡ Ok (Some (more, behind)) → is_some found ≡ false
       → AllReplayTo types now (as_commits live shape image more) new found → HasAudited behind new
   audit_next gate now new more behind None h step none to = audit_more gate now new more behind h step to
   audit_next gate now new more behind (Some bad) h step none to = absurd cc
 
-  pub audit_done : (gate : ℕ) (now : States) → HasAudited gate now → next_in One shape gate file ≡ Ok None → (records : List CommitRecord) → records_in_file One shape file ≡ Ok records → IsFirstFailure types start (as_commits live shape image records) None
-  audit_done gate now h end records is = subst (λ (l : List CommitRecord). IsSerial types start (as_commits live shape image l)) (all_read shape file h.records gate h.follows end records is) h.serial
+  pub audit_done : (gate : ℕ) (now : States) → HasAudited gate now → next_in One shape gate file ≡ Ok None → (log : LogRead) → log_in_file One shape file ≡ Ok log → IsFirstFailure types (start_of log.base) (as_commits live shape image log.records) None
+  audit_done gate now h end log is =
+      let same = all_read shape file h.base h.records gate h.follows end log is in
+      subst (λ (l : List CommitRecord). IsSerial types (start_of log.base) (as_commits live shape image l)) same.1 (subst (λ (b : LogBase). IsSerial types (start_of b) (as_commits live shape image h.records)) same.0 h.serial)

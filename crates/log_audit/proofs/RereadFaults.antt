@@ -1,17 +1,17 @@
 -- Faults of reading again, as those of a report.
-use Rattle.std.proofs.Common.{◌≡◌, inr, ℕ, List, Ok, Err, refl, sym, ◌∙◌, subst}
+use Rattle.std.proofs.Common.{◌≡◌, inr, ℕ, List, Result, Ok, Err, refl, sym, ◌∙◌, subst}
 use Rattle.base_types.specs.declared.shapes.Shape.{Shape}
 use Rattle.host_trait.specs.declared.channels.Channel.{Channel}
 use Rattle.host_trait.specs.declared.channels.FileId.{FileId}
 use Rattle.host_trait.specs.Faults.{NoneFailed}
 use Rattle.field_codec.specs.declared.formats.Format.TheVariants.{One}
-use Rattle.commit_log.specs.declared.records.CommitRecord.{CommitRecord}
-use Rattle.log_reading.specs.Blocks.{records_in_file}
+use Rattle.log_reading.specs.Blocks.{LogRead, log_in_file}
 use Rattle.log_reading.specs.Counts.{ReadFaulted}
 use Rattle.log_reading.specs.Steps.{next_in}
 use Rattle.log_reading.specs.declared.faults.FolderFault.{FolderFault}
 use Rattle.log_reading.proofs.Errors.{failed}
 use Rattle.promise_spec.specs.Endings.{HasFailedAs}
+use Rattle.silo_opening.specs.declared.faults.OpenFault.{OpenFault}
 use Rattle.silo_opening.specs.Counts.{OpenFaulted}
 use Rattle.silo_opening.specs.OpenedSilo.{in_folder}
 use Rattle.log_audit.specs.Endings.{fault_ending, MayEnd, from_folder}
@@ -31,11 +31,20 @@ open_faulted old new (FolderFault.Damaged at place) f = f
 open_faulted old new (FolderFault.Failed at) f = f
 open_faulted old new FolderFault.Memory f = f
 
+abbrev refused : {A : Type 0} → OpenFault → Result A OpenFault
+refused e = Err e
+
+-- no fault of reading a log again is that of its generation
+pub never_last : {A : Type 0} (e : OpenFault) (fault : FolderFault) → e ≡ in_folder fault → refused {A = A} e ≡ refused OpenFault.LastGeneration → ⊥
+never_last e (FolderFault.Damaged at place) is last = absurd cc
+never_last e (FolderFault.Failed at) is last = absurd cc
+never_last e FolderFault.Memory is last = absurd cc
+
 module _ (shape : Shape) (file : List ℕ) where
-  pub folder_ends : (slot : ℕ) (records : List CommitRecord) → records_in_file One shape file ≡ Ok records → (e : FolderFault) → IsLogFault slot shape file e → MayEnd (fault_ending (from_folder e))
-  folder_ends slot records is (FolderFault.Damaged at place) here = absurd (let no : Err place ≡ Ok records = sym here ∙ is in cc)
-  folder_ends slot records is (FolderFault.Failed at) here = inr tt
-  folder_ends slot records is FolderFault.Memory here = inr tt
+  pub folder_ends : (slot : ℕ) (log : LogRead) → log_in_file One shape file ≡ Ok log → (e : FolderFault) → IsLogFault slot shape file e → MayEnd (fault_ending (from_folder e))
+  folder_ends slot log is (FolderFault.Damaged at place) here = absurd (let no : Err place ≡ Ok log = sym here ∙ is in cc)
+  folder_ends slot log is (FolderFault.Failed at) here = inr tt
+  folder_ends slot log is FolderFault.Memory here = inr tt
 
   pub block_fault : {A : Type 0} (gate : ℕ) (e : FolderFault) → ((at : FileId) (place : ℕ) → failed {A = A} e ≡ failed (FolderFault.Damaged at place) → next_in One shape gate file ≡ Err place) → IsBlockFault shape gate file (from_folder e)
   block_fault gate (FolderFault.Damaged at place) damaged = damaged at place refl

@@ -1,5 +1,5 @@
--- The states of the versions that a record names, one after another.
-use Rattle.std.proofs.Common.{◌≡◌, inl, inr, ℕ, zero, suc, ◌<◌, List, [], ◌∷◌, ◌++◌, map, length, get_or, arith, Result, Ok, Err, refl, sym, ◌∙◌, ap, subst, append_assoc, append-nil}
+-- The states of the versions that a record names, one after another, and the faults of versions.
+use Rattle.std.proofs.Common.{◌≡◌, inl, inr, ℕ, zero, suc, ◌<◌, List, [], ◌∷◌, ◌++◌, map, length, get_or, arith, Option, Some, Result, Ok, Err, refl, sym, ◌∙◌, ap, subst, append_assoc, append-nil}
 use Rattle.std.specs.Prelude.{zip}
 use Rattle.base_types.specs.declared.calls.GrainId.{GrainId}
 use Rattle.base_types.specs.declared.calls.UnitNo.{UnitNo}
@@ -14,17 +14,19 @@ use Rattle.commit_log.specs.declared.records.CommitRecord.{CommitRecord}
 use Rattle.commit_log.specs.declared.records.Named.{Named}
 use Rattle.commit_log.specs.declared.records.Written.{Written}
 use Rattle.core_model.specs.CoreState.{Member}
-use Rattle.log_reading.specs.Versions.{named_by, version_named, state_of}
+use Rattle.log_reading.specs.Versions.{named_by, version_named, missing_or, first_missing, state_of}
+use Rattle.log_reading.specs.Sums.{StopsAt}
 use Rattle.log_reading.specs.declared.faults.FolderFault.{FolderFault}
 use Rattle.log_reading.proofs.Errors.{failed}
+use Rattle.promise_spec.proofs.Lists.{in_append}
 use Rattle.log_audit.specs.RereadFaults.{IsVersionFault}
 
 abbrev pub named_as : UnitNo → Written → Named
-named_as unit w = record { unit = unit; written = w }
+named_as unit w = record { unit = Some unit; written = w }
 
 -- these grains with the states that stand at their places
 abbrev pub states_at : ℕ → Shape → Image → UnitNo → List Written → List (GrainId × List Value)
-states_at live shape image unit ws = zip (map (λ w. w.grain) ws) (map (λ w. state_of (version_named live One shape image (record { unit = unit; written = w }))) ws)
+states_at live shape image unit ws = zip (map (λ w. w.grain) ws) (map (λ w. state_of (version_named live One shape image (record { unit = Some unit; written = w }))) ws)
 
 module _ (live : ℕ) (shape : Shape) (image : Image) (unit : UnitNo) where
   -- one more
@@ -55,14 +57,42 @@ in_seam xs i d ws low same = subst (λ (l : List Written). Member (get_or xs i d
 -- a fault of reading a version that a record names
 pub version_fault : {A : Type 0} (live : ℕ) (shape : Shape) (image : Image) (r : CommitRecord) (w : Written) → Member w r.writes → (e : FolderFault)
     → ((at : FileId) (place : ℕ) → failed {A = A} e ≡ failed (FolderFault.Damaged at place) → version_named live One shape image (named_as r.unit w) ≡ Err place)
-    → ((at : FileId) → failed {A = A} e ≡ failed (FolderFault.Failed at) → at ≡ Grain live w.grain) → IsVersionFault live shape image (r ∷ []) e
+    → ((at : FileId) → failed {A = A} e ≡ failed (FolderFault.Failed at) → at ≡ Grain live w.grain) → IsVersionFault live shape image (named_by (r ∷ [])) e
 version_fault {A} live shape image r w in_it e damaged fails = by e damaged fails
   where
     there : Member (named_as r.unit w) (named_by (r ∷ []))
     there = subst (λ (l : List Named). Member (named_as r.unit w) l) (sym (append-nil (map (named_as r.unit) r.writes))) (in_own r.unit w r.writes in_it)
 
     by : (e : FolderFault) → ((at : FileId) (place : ℕ) → failed {A = A} e ≡ failed (FolderFault.Damaged at place) → version_named live One shape image (named_as r.unit w) ≡ Err place)
-        → ((at : FileId) → failed {A = A} e ≡ failed (FolderFault.Failed at) → at ≡ Grain live w.grain) → IsVersionFault live shape image (r ∷ []) e
+        → ((at : FileId) → failed {A = A} e ≡ failed (FolderFault.Failed at) → at ≡ Grain live w.grain) → IsVersionFault live shape image (named_by (r ∷ [])) e
     by (FolderFault.Damaged at place) damaged fails = (named_as r.unit w, there, damaged at place refl)
     by (FolderFault.Failed at) damaged fails = (named_as r.unit w, there, fails at refl)
     by FolderFault.Memory damaged fails = tt
+
+module _ (live : ℕ) (shape : Shape) (image : Image) where
+  -- by the first of them
+  missing_by : (n : Named) (named : List Named) (at : FileId) (place : ℕ) → (first_missing live One shape image named ≡ Some (at, place) → (m : Named) × Member m named × (version_named live One shape image m ≡ Err place))
+      → (r : Result Version ℕ) → version_named live One shape image n ≡ r → missing_or live n.written.grain r (first_missing live One shape image named) ≡ Some (at, place)
+      → (m : Named) × Member m (n ∷ named) × (version_named live One shape image m ≡ Err place)
+  missing_by n named at place later (Ok v) is e = let t = later e in (t.0, inr t.1, t.2)
+  missing_by n named at place later (Err there) is e =
+      let pair : (Grain live n.written.grain, there) ≡ (at, place) = (let both : Some (Grain live n.written.grain, there) ≡ Some (at, place) = e in cc both) in
+      (n, inl refl, is ∙ ap Err (ap (λ (p : FileId × ℕ). p.1) pair))
+
+  -- the first of these versions that isn't there is one of them
+  missing_one : (named : List Named) (at : FileId) (place : ℕ) → first_missing live One shape image named ≡ Some (at, place)
+      → (n : Named) × Member n named × (version_named live One shape image n ≡ Err place)
+  missing_one [] at place e = absurd cc
+  missing_one (n ∷ named) at place e = missing_by n named at place (λ later. missing_one named at place later) (version_named live One shape image n) refl e
+
+  -- and so is that whose file has the fault
+  stopped_one : (named : List Named) (at : FileId) → StopsAt live One shape image named at → (n : Named) × Member n named × (at ≡ Grain live n.written.grain)
+  stopped_one named at s = (s.here, subst (λ (l : List Named). Member s.here l) (sym s.are) (in_append s.here s.front (s.here ∷ s.back) (inr (inl refl))), s.is)
+
+  -- a fault of reading versions one after another
+  pub versions_fault : {A : Type 0} (named : List Named) (e : FolderFault)
+      → ((at : FileId) (place : ℕ) → failed {A = A} e ≡ failed (FolderFault.Damaged at place) → first_missing live One shape image named ≡ Some (at, place))
+      → ((at : FileId) → failed {A = A} e ≡ failed (FolderFault.Failed at) → StopsAt live One shape image named at) → IsVersionFault live shape image named e
+  versions_fault named (FolderFault.Damaged at place) damaged fails = missing_one named at place (damaged at place refl)
+  versions_fault named (FolderFault.Failed at) damaged fails = stopped_one named at (fails at refl)
+  versions_fault named FolderFault.Memory damaged fails = tt

@@ -1,5 +1,5 @@
 -- What playing records over a store gives.
-use Rattle.std.specs.Prelude.{◌≡◌, ◌≢◌, ℕ, ◌++◌, ◌∷◌, Bool, true, false, ◌==◌, ◌&&◌, List, map, slice_get, Option, Some, None}
+use Rattle.std.specs.Prelude.{◌≡◌, ◌≢◌, ℕ, ◌++◌, ◌∷◌, Bool, true, false, ◌==◌, ◌&&◌, List, map, fold, slice_get, Option, Some, None}
 use Rattle.base_types.specs.declared.calls.GrainId.{GrainId}
 use Rattle.base_types.specs.declared.calls.Value.{Value}
 use Rattle.base_types.specs.declared.calls.Outcome.{Outcome}
@@ -10,10 +10,11 @@ use Rattle.commit_log.specs.declared.records.CommitRecord.{CommitRecord}
 use Rattle.core_model.specs.Equality.{same_state, same_outcome}
 use Rattle.script_tree.specs.Programs.{ProgramTree}
 use Rattle.script_meaning.specs.Play.{initial_of}
-use Rattle.promise_spec.specs.Records.{Commit, States, written, after_writes}
+use Rattle.log_reading.specs.Blocks.{LogBase}
+use Rattle.promise_spec.specs.Records.{Commit, States, written, put_state, after_writes}
 use Rattle.promise_spec.specs.SerialExecution.{IsSerial, Replays, played}
 use Rattle.promise_spec.specs.Family.{states_after}
-use Rattle.promise_spec.specs.Openings.{commit_of}
+use Rattle.promise_spec.specs.Openings.{commit_of, states_read}
 use Rattle.log_audit.specs.declared.replay.Bad.{Bad}
 
 -- one grain with one state
@@ -25,9 +26,13 @@ same_write a b = same_grain a.0 b.0 && same_state a.1 b.1
 abbrev pub agree : Bool → Outcome → Outcome → ℕ → ℕ → Bool
 agree same gives kept asked answers = same && (same_outcome gives kept && (asked == answers))
 
--- the initial fields of each grain, where a log begins
+-- the initial fields of each grain
 abbrev pub first_states : ProgramTree → States
 first_states types grain = initial_of (slice_get types grain.kind)
+
+-- the states that a log begins with: those that stand at its checkpoint's places, over these
+abbrev pub base_states : ℕ → ProgramTree → Shape → Image → LogBase → States
+base_states live types shape image base = fold put_state (first_states types) (states_read live shape image base)
 
 -- the records with the states that stand at their places
 abbrev pub as_commits : ℕ → Shape → Image → List CommitRecord → List Commit

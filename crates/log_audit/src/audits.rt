@@ -1,4 +1,4 @@
-ghost use Rattle.std.specs.Prelude.{◌≡◌, ℕ, List, IsTrue, OnOk, IfOk, IfErr, is_ok};
+ghost use Rattle.std.specs.Prelude.{◌≡◌, ℕ, List, IsTrue, OnOk, IfOk, IfErr, IsErrOf, is_ok};
 ghost use Rattle.host_trait.specs.Disk.{settled};
 ghost use Rattle.host_trait.specs.Files.{StaysReady};
 ghost use Rattle.host_trait.specs.Faults.{NoneFailed};
@@ -6,6 +6,7 @@ ghost use Rattle.host_trait.specs.declared.channels.FileId.TheVariants.{Manager}
 ghost use Rattle.log_reading.specs.Steps.{seen_in};
 ghost use Rattle.silo_spec.specs.Slots.{IsLive};
 ghost use Rattle.silo_spec.specs.OpenedDisks.{OnlyOpens};
+ghost use Rattle.silo_opening.specs.declared.faults.OpenFault.{OpenFault};
 ghost use Rattle.silo_opening.specs.Counts.{OpenFaulted};
 ghost use Rattle.silo_opening.specs.OpenedSilo.{ending_of, in_folder};
 ghost use Rattle.promise_spec.specs.Logs.{magic};
@@ -69,6 +70,7 @@ pub fn audit<H: Host>(alloc: Global, host: &mut H) -> Result<AuditReport, OpenFa
     // The counts of faults, over any host.
     ensures calm { OnOk result (NoneFailed (H.faults host.old) (H.faults host.new)) }
     ensures fault { IfErr result (λ e. OpenFaulted e (H.faults host.old) (H.faults host.new)) }
+    ensures not_last { IsErrOf result OpenFault.LastGeneration → ⊥ }
 
     // Nothing was written or emitted, and no input was taken: the folder was opened, and beside that there was nothing but asking.
     ensures only { IsTrue H.tells → OnlyOpens (H.world host.old) (H.world host.new) }

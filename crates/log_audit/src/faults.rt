@@ -1,4 +1,5 @@
 ghost use Rattle.std.specs.Prelude.{◌≡◌};
+ghost use Rattle.silo_opening.specs.declared.faults.OpenFault.{OpenFault};
 ghost use Rattle.silo_opening.specs.OpenedSilo.{ending_of};
 ghost use Rattle.log_audit.specs.Endings.{fault_ending, from_folder};
 
@@ -11,7 +12,7 @@ use thiserror::Error;
 /// Why a report wasn't written whole.
 #[derive(Debug, Clone, Copy, PartialEq, Eq, Error)]
 pub enum ReportFault {
-    /// The manager file is shorter than 16 bytes, or its first byte isn't 1, or the next eight aren't the magic.
+    /// No slot's manager file has 16 bytes or more, a first byte of 1 and the magic behind it.
     #[error("the folder is no silo")]
     NotASilo,
     /// The file is damaged at this offset.
@@ -39,8 +40,9 @@ impl From<AllocError> for ReportFault {
     }
 }
 
-/// The fault of a folder that wasn't opened.
+/// The fault of a folder that wasn't opened. No opening is refused for its generation.
 pub(crate) fn unopened(fault: OpenFault) -> ReportFault
+    requires { fault ≡ OpenFault.LastGeneration → ⊥ }
     ensures { fault_ending result ≡ ending_of fault }
 {
     match fault {
@@ -48,6 +50,7 @@ pub(crate) fn unopened(fault: OpenFault) -> ReportFault
         OpenFault::Damaged { file, place } => ReportFault::Damaged { file, place },
         OpenFault::DiskFault { file } => ReportFault::DiskFault { file },
         OpenFault::Memory => ReportFault::Memory,
+        OpenFault::LastGeneration => ReportFault::NotASilo,
     }
 }
 

@@ -6,17 +6,16 @@ ghost use Rattle.host_trait.specs.Faults.{NoneFailed};
 ghost use Rattle.host_trait.specs.Runs.{OnlyAsked};
 ghost use Rattle.host_trait.specs.declared.channels.FileId.TheVariants.{Manager};
 ghost use Rattle.field_codec.specs.declared.formats.Format.TheVariants.{One};
-ghost use Rattle.commit_log.specs.declared.records.CommitRecord.{CommitRecord as ARecord};
-ghost use Rattle.log_reading.specs.Blocks.{records_in_file};
+ghost use Rattle.log_reading.specs.Blocks.{LogRead as ALog, log_in_file};
 ghost use Rattle.log_reading.specs.Counts.{ReadFaulted};
 ghost use Rattle.log_audit.specs.RereadFaults.{IsLogFault};
-ghost use Rattle.log_audit.specs.WrittenGrains.{grains_recorded, grains_added};
+ghost use Rattle.log_audit.specs.WrittenGrains.{grains_recorded, grains_of_log, grains_added};
 
 use base_types::{GrainId, Shape};
 use commit_log::{CommitRecord, Written};
 use field_codec::Format;
 use host_trait::Host;
-use log_reading::{FolderFault, next_block};
+use log_reading::{FolderFault, next_block, read_base};
 use std::alloc::{AllocError, Global};
 use std::collections::BTreeSet;
 
@@ -40,7 +39,8 @@ fn add_grains(grains: &mut BTreeSet<GrainId>, records: &[CommitRecord]) -> Resul
     Ok(())
 }
 
-/// The grains that the records of a slot's log wrote, ascending. It reads the log block by block, and keeps them alone.
+/// The grains that a slot's log names, in a checkpoint that it begins with or in its records, ascending. It reads the log block by
+/// block, and keeps them and the checkpoint's places alone.
 pub(crate) fn read_grains<H: Host>(
     alloc: Global,
     host: &mut H,
@@ -48,17 +48,19 @@ pub(crate) fn read_grains<H: Host>(
     shape: &Shape,
 ) -> Result<BTreeSet<GrainId>, FolderFault>
     requires slot { slot ≤ 1 }
-    ensures found { IfOk result (λ grains. IsTrue H.tells → (records : List ARecord) → records_in_file One shape.now ((H.world host.old).disk (Manager slot)).seen ≡ Ok records
-        → grains.keys ≡ grains_added [] (grains_recorded records)) }
-    ensures unread { IfErr result (λ e. IsTrue H.tells → (records : List ARecord) → records_in_file One shape.now ((H.world host.old).disk (Manager slot)).seen ≡ Ok records
+    ensures found { IfOk result (λ grains. IsTrue H.tells → (log : ALog) → log_in_file One shape.now ((H.world host.old).disk (Manager slot)).seen ≡ Ok log
+        → grains.keys ≡ grains_added [] (grains_of_log log)) }
+    ensures unread { IfErr result (λ e. IsTrue H.tells → (log : ALog) → log_in_file One shape.now ((H.world host.old).disk (Manager slot)).seen ≡ Ok log
         → IsLogFault slot shape.now ((H.world host.old).disk (Manager slot)).seen e) }
     ensures asked { IsTrue H.tells → OnlyAsked (H.world host.old) (H.world host.new) }
     ensures calm { OnOk result (NoneFailed (H.faults host.old) (H.faults host.new)) }
     ensures fault { IfErr result (λ e. ReadFaulted e (H.faults host.old) (H.faults host.new)) }
     ensures ready { StaysReady (H.is_ready host.old) (H.is_ready host.new) }
 {
+    let base = read_base(alloc, host, slot, shape)?;
     let mut grains = BTreeSet::new(alloc);
-    let mut gate_at = 15;
+    add_written(&mut grains, base.saved.as_slice())?;
+    let mut gate_at = base.gate_at;
     while let Some((records, behind)) = next_block(
         alloc,
         host,

@@ -3,8 +3,7 @@ ghost use Rattle.host_trait.specs.Files.{StaysReady};
 ghost use Rattle.host_trait.specs.Runs.{OnlyAsked};
 ghost use Rattle.host_trait.specs.declared.channels.FileId.TheVariants.{Manager};
 ghost use Rattle.field_codec.specs.declared.formats.Format.TheVariants.{One};
-ghost use Rattle.commit_log.specs.declared.records.CommitRecord.{CommitRecord as ARecord};
-ghost use Rattle.log_reading.specs.Blocks.{records_in_file};
+ghost use Rattle.log_reading.specs.Blocks.{LogRead as ALog, log_in_file};
 ghost use Rattle.log_reading.specs.Steps.{next_in, seen_in};
 ghost use Rattle.script_tree.specs.Programs.{program_tree};
 ghost use Rattle.silo_opening.specs.OpenedSilo.{IsOpenedFrom};
@@ -24,7 +23,7 @@ use base_types::{List, Shape};
 use commit_log::CommitRecord;
 use field_codec::Format;
 use host_trait::Host;
-use log_reading::next_block;
+use log_reading::{next_block, read_base};
 use script_check::Checked;
 use silo_opening::{Opened, open_silo};
 use std::alloc::Global;
@@ -74,7 +73,8 @@ fn write_records<H: Host>(
     Ok(())
 }
 
-// Writes a line for each record of a slot's log. It reads the log block by block, and keeps one block at a time.
+// Writes a line for each record of a slot's log, behind the checkpoint where it begins with one. It reads the log block by block, and
+// keeps one block at a time.
 fn write_log<H: Host>(
     alloc: Global,
     host: &mut H,
@@ -83,14 +83,18 @@ fn write_log<H: Host>(
     shape: &Shape,
 ) -> Result<(), ReportFault>
     requires slot { slot ≤ 1 }
-    ensures puts { IsTrue H.tells → (records : List ARecord) → records_in_file One shape.now ((H.world host.old).disk (Manager slot)).seen ≡ Ok records
-        → PutsPart (record_lines shape.now (program_tree checked.now) records) (is_ok result) (H.world host.old) (H.world host.new) }
-    ensures ended { IsTrue H.tells → (records : List ARecord) → records_in_file One shape.now ((H.world host.old).disk (Manager slot)).seen ≡ Ok records
+    ensures puts { IsTrue H.tells → (log : ALog) → log_in_file One shape.now ((H.world host.old).disk (Manager slot)).seen ≡ Ok log
+        → PutsPart (record_lines shape.now (program_tree checked.now) log.records) (is_ok result) (H.world host.old) (H.world host.new) }
+    ensures ended { IsTrue H.tells → (log : ALog) → log_in_file One shape.now ((H.world host.old).disk (Manager slot)).seen ≡ Ok log
         → MayEnd (report_ending result) }
     ensures exact { HasFailedAs (report_ending result) (H.faults host.old) (H.faults host.new) }
     ensures ready { StaysReady (H.is_ready host.old) (H.is_ready host.new) }
 {
-    let mut gate_at = 15;
+    let base = match read_base(alloc, host, slot, shape) {
+        Ok(base) => base,
+        Err(fault) => return Err(unread(fault)),
+    };
+    let mut gate_at = base.gate_at;
     while let Some((records, behind)) = next_records(alloc, host, slot, shape, gate_at)? {
         write_records(alloc, host, checked, shape, records.as_slice())?;
         gate_at = behind;

@@ -1,28 +1,31 @@
-ghost use Rattle.std.specs.Prelude.{◌≡◌, ◌≤◌, [], ◌∷◌, List as Lists, IsTrue, Ok, OnOk, IfOk, IfErr, length};
+ghost use Rattle.std.specs.Prelude.{◌≡◌, ◌≤◌, [], ◌∷◌, List as Lists, IsTrue, Ok, None, map, OnOk, IfOk, IfErr, length};
 ghost use Rattle.std.specs.List.{fold};
 ghost use Rattle.host_trait.specs.Files.{StaysReady};
 ghost use Rattle.host_trait.specs.Faults.{NoneFailed};
 ghost use Rattle.host_trait.specs.Runs.{OnlyAsked};
 ghost use Rattle.host_trait.specs.declared.channels.FileId.TheVariants.{Manager};
 ghost use Rattle.field_codec.specs.declared.formats.Format.TheVariants.{One};
-ghost use Rattle.commit_log.specs.declared.records.CommitRecord.{CommitRecord as ARecord};
 ghost use Rattle.core_model.specs.Equality.{same_list};
-ghost use Rattle.log_reading.specs.Blocks.{records_in_file};
+ghost use Rattle.log_reading.specs.Blocks.{LogRead as ALog, log_in_file};
 ghost use Rattle.log_reading.specs.Counts.{ReadFaulted};
 ghost use Rattle.log_reading.specs.Steps.{seen_in};
+ghost use Rattle.log_reading.specs.Versions.{named_by};
+ghost use Rattle.log_reading.specs.Sums.{state_after};
+ghost use Rattle.base_types.specs.Stores.{state_in};
+ghost use Rattle.base_types.specs.declared.calls.GrainId.{GrainId as AGrain};
 ghost use Rattle.script_tree.specs.Programs.{ProgramTree, program_tree};
 ghost use Rattle.script_meaning.specs.Play.{found_in};
 ghost use Rattle.promise_spec.specs.Records.{written, put_state};
 ghost use Rattle.promise_spec.specs.Openings.{commit_of};
 ghost use Rattle.log_audit.specs.RereadFaults.{IsVersionFault, IsRereadFault};
-ghost use Rattle.log_audit.specs.Replays.{same_write, agree, first_states, as_commits, ReplaysTo, AllReplayTo, IsFirstFailure};
+ghost use Rattle.log_audit.specs.Replays.{same_write, agree, base_states, as_commits, ReplaysTo, AllReplayTo, IsFirstFailure};
 
-use base_types::{GrainId, Origin, Outcome, Shape, State, Store, UnitNo};
-use commit_log::{CommitRecord, Named};
+use base_types::{Ends, GrainId, List, Outcome, Shape, State, Store, UnitNo};
+use commit_log::{CommitRecord, Named, Written};
 use core_parts::Same;
 use field_codec::Format;
 use host_trait::Host;
-use log_reading::{FolderFault, named_version, next_block};
+use log_reading::{FolderFault, named_version, next_block, read_base, read_versions};
 use script_check::Checked;
 use script_player::{Played, play};
 use std::alloc::{AllocError, Global};
@@ -69,7 +72,7 @@ fn read_writes<H: Host>(
 ) -> Result<Vec<(GrainId, State)>, FolderFault>
     requires slot { slot ≤ 1 }
     ensures writes { IfOk result (λ kept. IsTrue H.tells → kept.items ≡ written (commit_of slot shape.now (seen_in (H.world host.old).disk) entry.now)) }
-    ensures unread { IfErr result (λ e. IsTrue H.tells → IsVersionFault slot shape.now (seen_in (H.world host.old).disk) (entry.now ∷ []) e) }
+    ensures unread { IfErr result (λ e. IsTrue H.tells → IsVersionFault slot shape.now (seen_in (H.world host.old).disk) (named_by (entry.now ∷ [])) e) }
     ensures asked { IsTrue H.tells → OnlyAsked (H.world host.old) (H.world host.new) }
     ensures calm { OnOk result (NoneFailed (H.faults host.old) (H.faults host.new)) }
     ensures fault { IfErr result (λ e. ReadFaulted e (H.faults host.old) (H.faults host.new)) }
@@ -79,7 +82,7 @@ fn read_writes<H: Host>(
     let mut kept = Vec::new(alloc);
     for one in writes {
         let named = Named {
-            unit: entry.unit,
+            unit: Some(entry.unit),
             written: *one,
         };
         let version = named_version(alloc, host, slot, shape, Format::One, named)?;
@@ -118,7 +121,7 @@ fn replay<H: Host>(
     requires slot { slot ≤ 1 }
     ensures replays { IfOk result (λ found. IsTrue H.tells → let types = program_tree checked.now in
         ReplaysTo types (found_in types store.old) (commit_of slot shape.now (seen_in (H.world host.old).disk) entry.now) (found_in types store.new) found) }
-    ensures unread { IfErr result (λ e. IsTrue H.tells → IsVersionFault slot shape.now (seen_in (H.world host.old).disk) (entry.now ∷ []) e) }
+    ensures unread { IfErr result (λ e. IsTrue H.tells → IsVersionFault slot shape.now (seen_in (H.world host.old).disk) (named_by (entry.now ∷ [])) e) }
     ensures asked { IsTrue H.tells → OnlyAsked (H.world host.old) (H.world host.new) }
     ensures calm { OnOk result (NoneFailed (H.faults host.old) (H.faults host.new)) }
     ensures fault { IfErr result (λ e. ReadFaulted e (H.faults host.old) (H.faults host.new)) }
@@ -155,7 +158,7 @@ fn replay_block<H: Host>(
     requires slot { slot ≤ 1 }
     ensures replays { IfOk result (λ found. IsTrue H.tells → let types = program_tree checked.now in
         AllReplayTo types (found_in types store.old) (as_commits slot shape.now (seen_in (H.world host.old).disk) records.now) (found_in types store.new) found) }
-    ensures unread { IfErr result (λ e. IsTrue H.tells → IsVersionFault slot shape.now (seen_in (H.world host.old).disk) records.now e) }
+    ensures unread { IfErr result (λ e. IsTrue H.tells → IsVersionFault slot shape.now (seen_in (H.world host.old).disk) (named_by records.now) e) }
     ensures asked { IsTrue H.tells → OnlyAsked (H.world host.old) (H.world host.new) }
     ensures calm { OnOk result (NoneFailed (H.faults host.old) (H.faults host.new)) }
     ensures fault { IfErr result (λ e. ReadFaulted e (H.faults host.old) (H.faults host.new)) }
@@ -170,8 +173,56 @@ fn replay_block<H: Host>(
     Ok(None)
 }
 
-/// Plays the records of a slot's log, each over the store that those before it left, up to the first that doesn't replay. It reads
-/// the log block by block, and keeps the store and one block.
+// The versions that a checkpoint names, whichever unit's they are.
+fn saved_names(alloc: Global, saved: &[Written]) -> Result<List<Named>, AllocError>
+    ensures { IfOk result (λ named. named ≡ map (λ w. record { unit = None; written = w }) saved.now) }
+{
+    let mut named = List::new(alloc);
+    for written in saved {
+        named.push(Named {
+            unit: None,
+            written: *written,
+        })?;
+    }
+    Ok(named)
+}
+
+// The states of the versions that a checkpoint names in a slot's files.
+fn saved_store<H: Host>(
+    alloc: Global,
+    host: &mut H,
+    slot: u8,
+    shape: &Shape,
+    saved: &[Written],
+) -> Result<Store, FolderFault>
+    requires slot { slot ≤ 1 }
+    ensures states { IfOk result (λ store. IsTrue H.tells → (grain : AGrain)
+        → state_in store grain ≡ state_after slot One shape.now (seen_in (H.world host.old).disk) None (map (λ w. record { unit = None; written = w }) saved.now) grain) }
+    ensures unread { IfErr result (λ e. IsTrue H.tells → IsVersionFault slot shape.now (seen_in (H.world host.old).disk) (map (λ w. record { unit = None; written = w }) saved.now) e) }
+    ensures asked { IsTrue H.tells → OnlyAsked (H.world host.old) (H.world host.new) }
+    ensures calm { OnOk result (NoneFailed (H.faults host.old) (H.faults host.new)) }
+    ensures fault { IfErr result (λ e. ReadFaulted e (H.faults host.old) (H.faults host.new)) }
+    ensures ready { StaysReady (H.is_ready host.old) (H.is_ready host.new) }
+{
+    let named = saved_names(alloc, saved)?;
+    let mut store = Store::new(alloc);
+    let mut ends = Ends::new(alloc);
+    read_versions(
+        alloc,
+        host,
+        slot,
+        shape,
+        Format::One,
+        named.as_slice(),
+        &mut store,
+        &mut ends,
+    )?;
+    Ok(store)
+}
+
+/// Plays the records of a slot's log, each over the store that those before it left, the first over a checkpoint's states
+/// where the log begins with one, up to the first that doesn't replay. It reads the log block by block, and keeps the store, the
+/// checkpoint's places and one block.
 pub(crate) fn replay_log<H: Host>(
     alloc: Global,
     host: &mut H,
@@ -180,18 +231,19 @@ pub(crate) fn replay_log<H: Host>(
     shape: &Shape,
 ) -> Result<Option<Bad>, FolderFault>
     requires slot { slot ≤ 1 }
-    ensures replays { IfOk result (λ found. IsTrue H.tells → (records : Lists ARecord) → records_in_file One shape.now ((H.world host.old).disk (Manager slot)).seen ≡ Ok records
+    ensures replays { IfOk result (λ found. IsTrue H.tells → (log : ALog) → log_in_file One shape.now ((H.world host.old).disk (Manager slot)).seen ≡ Ok log
         → let types = program_tree checked.now in
-        IsFirstFailure types (first_states types) (as_commits slot shape.now (seen_in (H.world host.old).disk) records) found) }
-    ensures unread { IfErr result (λ e. IsTrue H.tells → (records : Lists ARecord) → records_in_file One shape.now ((H.world host.old).disk (Manager slot)).seen ≡ Ok records
-        → IsRereadFault slot shape.now (seen_in (H.world host.old).disk) records e) }
+        IsFirstFailure types (base_states slot types shape.now (seen_in (H.world host.old).disk) log.base) (as_commits slot shape.now (seen_in (H.world host.old).disk) log.records) found) }
+    ensures unread { IfErr result (λ e. IsTrue H.tells → (log : ALog) → log_in_file One shape.now ((H.world host.old).disk (Manager slot)).seen ≡ Ok log
+        → IsRereadFault slot shape.now (seen_in (H.world host.old).disk) log e) }
     ensures asked { IsTrue H.tells → OnlyAsked (H.world host.old) (H.world host.new) }
     ensures calm { OnOk result (NoneFailed (H.faults host.old) (H.faults host.new)) }
     ensures fault { IfErr result (λ e. ReadFaulted e (H.faults host.old) (H.faults host.new)) }
     ensures ready { StaysReady (H.is_ready host.old) (H.is_ready host.new) }
 {
-    let mut store = Store::new(alloc);
-    let mut gate_at = 15;
+    let base = read_base(alloc, host, slot, shape)?;
+    let mut store = saved_store(alloc, host, slot, shape, base.saved.as_slice())?;
+    let mut gate_at = base.gate_at;
     while let Some((records, behind)) = next_block(
         alloc,
         host,

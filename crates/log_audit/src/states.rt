@@ -1,12 +1,14 @@
 ghost use Rattle.std.specs.Prelude.{◌≡◌, ◌≤◌, ℕ, List, IsTrue, IfOk, is_ok, string_bytes};
+ghost use Rattle.base_types.specs.declared.calls.GrainId.{GrainId as AGrain};
 ghost use Rattle.host_trait.specs.Files.{StaysReady};
 ghost use Rattle.log_reading.specs.Steps.{seen_in};
 ghost use Rattle.script_tree.specs.Programs.{program_tree};
 ghost use Rattle.script_meaning.specs.Play.{found_in};
 ghost use Rattle.silo_opening.specs.OpenedSilo.{IsOpenedFrom};
 ghost use Rattle.promise_spec.specs.Words.{Manner};
-ghost use Rattle.promise_spec.specs.Reports.{line_of, show_text};
-ghost use Rattle.promise_spec.specs.Commands.{Reports};
+ghost use Rattle.promise_spec.specs.Entries.{standing_of};
+ghost use Rattle.promise_spec.specs.Reports.{line_of, AreHeld, show_text};
+ghost use Rattle.promise_spec.specs.Commands.{ShowsStates};
 ghost use Rattle.promise_spec.specs.Endings.{HasFailedAs, BadUse};
 ghost use Rattle.log_audit.specs.Lines.{grain_data, grain_lines};
 ghost use Rattle.log_audit.specs.ReportOutput.{PutsPart};
@@ -70,7 +72,7 @@ fn write_grains<H: Host>(
 fn write_show<H: Host>(alloc: Global, host: &mut H, opened: &Opened) -> Result<(), ReportFault>
     requires slot { opened.now.slot ≤ 1 }
     ensures puts { IsTrue H.tells → (o : IsOpenedFrom (seen_in (H.world host.old).disk) opened.now)
-        → PutsPart (show_text o.log) (is_ok result) (H.world host.old) (H.world host.new) }
+        → (grains : List AGrain) × AreHeld grains (standing_of o.log) × PutsPart (show_text grains o.log) (is_ok result) (H.world host.old) (H.world host.new) }
     ensures ended { IsTrue H.tells → IsOpenedFrom (seen_in (H.world host.old).disk) opened.now → MayEnd (report_ending result) }
     ensures exact { HasFailedAs (report_ending result) (H.faults host.old) (H.faults host.new) }
     ensures ready { StaysReady (H.is_ready host.old) (H.is_ready host.new) }
@@ -85,7 +87,7 @@ fn write_show<H: Host>(alloc: Global, host: &mut H, opened: &Opened) -> Result<(
     write_line(host, line.as_bytes())
 }
 
-/// Writes a line for each grain that the log wrote, in ascending order, with its state, and at last the number of records.
+/// Writes a line for each grain that the log names, in ascending order, with its state, and at last the number of records.
 ///
 /// It opens the folder, and reads the log again for the grains; beside the states it keeps them alone. Nothing of the folder
 /// changes.
@@ -95,7 +97,7 @@ fn write_show<H: Host>(alloc: Global, host: &mut H, opened: &Opened) -> Result<(
 /// `NotASilo` and `Damaged` as the folder reads; then nothing is written. `DiskFault`, `WriteFault` and `Memory` at any place.
 pub fn show<H: Host>(alloc: Global, host: &mut H) -> Result<(), ReportFault>
     // What the command promises of any folder.
-    ensures reports { IsTrue H.tells → (manner : Manner) (asked : List (List ℕ)) → Reports show_text
+    ensures reports { IsTrue H.tells → (manner : Manner) (asked : List (List ℕ)) → ShowsStates
         (reported_as manner asked (H.world host.old) (H.world host.new) (H.faults host.old) (H.faults host.new) result) }
     // Exactly the call that the answer names has failed, over any host.
     ensures exact { HasFailedAs (report_ending result) (H.faults host.old) (H.faults host.new) }

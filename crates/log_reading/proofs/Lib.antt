@@ -1,9 +1,11 @@
 pub mod LogBlocks
+pub mod CheckpointLoop
 pub mod RecordSums
 pub mod Orders
 pub mod BlockLoop
 pub mod Errors
 pub mod NamedVersions
 pub mod GrainVersions
+pub mod LatestVersions
 pub mod StepFaults
 pub mod FilePieces

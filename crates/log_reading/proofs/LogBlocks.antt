@@ -1,23 +1,23 @@
 -- A log is read block by block: what was read, and what is left from a gate on.
-use Rattle.std.proofs.Common.{◌≡◌, ℕ, zero, suc, ◌+◌, ◌<◌, ◌≤◌, List, [], ◌++◌, length, slice_index, Option, Some, None, Result, Ok, Err, refl, sym, ◌∙◌, ap, arith, append_assoc, append-nil}
+use Rattle.std.proofs.Common.{◌≡◌, ℕ, zero, suc, ◌+◌, ◌<◌, ◌≤◌, Bool, false, eqb, List, [], ◌++◌, length, slice_index, Option, Some, None, Result, Ok, Err, refl, sym, ◌∙◌, ap, arith, append_assoc, append-nil}
 use Rattle.std.proofs.lemmas.List.{get_or_past}
 use Rattle.base_types.specs.declared.shapes.Shape.{Shape}
 use Rattle.field_codec.specs.declared.formats.Format.{Format}
 use Rattle.field_codec.specs.declared.faults.CodecFault.{CodecFault}
 use Rattle.field_codec.specs.declared.units.Numbers.TheVariants.{Logged}
 use Rattle.gate_block.specs.Blocks.{BehindGate, shut, bad, whole, found_at}
-use Rattle.gate_block.specs.Log.{then_bodies, then_gate, bodies_from, gate_from, gate_of, first_gate}
+use Rattle.gate_block.specs.Log.{then_bodies, then_gate, bodies_from, bodies_of, gate_from, gate_of, first_gate}
 use Rattle.gate_block.proofs.Logs.{closed_shut}
 use Rattle.commit_log.specs.declared.records.CommitRecord.{CommitRecord}
 use Rattle.commit_log.specs.Fields.{body_in}
-use Rattle.log_reading.specs.Blocks.{header_damage, behind_header, and_records, no_more, records_behind, records_in_file}
-use Rattle.log_reading.specs.Steps.{and_gate, next_of, next_in, records_from, with_records}
+use Rattle.log_reading.specs.Blocks.{LogBase, LogRead, fresh_base, header_damage, behind_header, and_records, no_more, records_behind, behind_base, log_as, log_in_file}
+use Rattle.log_reading.specs.Steps.{and_gate, next_of, next_in, records_from, with_records, Follows}
 
 abbrev Records : Type 0
 Records = List CommitRecord
 
 -- a file's end is a closed gate
-past_shut : (file : List ℕ) (gate : ℕ) → length file ≤ gate → found_at gate file ≡ shut
+pub past_shut : (file : List ℕ) (gate : ℕ) → length file ≤ gate → found_at gate file ≡ shut
 past_shut file gate past = closed_shut gate file (λ is. let none : slice_index file gate ≡ 0 = get_or_past file gate 0 past in let no : 0 ≡ 1 = sym none ∙ is in absurd cc)
 
 module _ (format : Format) (shape : Shape) (file : List ℕ) where
@@ -102,13 +102,6 @@ module _ (format : Format) (shape : Shape) (file : List ℕ) where
 
 -- ---- the loop
 
--- The records that were read, and those from the gate on, are the file's; and the log ends where it does from that gate on.
-pub record Follows (format : Format) (shape : Shape) (file : List ℕ) (records : List CommitRecord) (gate : ℕ) : Type 0 where
-  pub fuel : ℕ
-  pub enough : length file < gate + fuel
-  pub rest : with_records records (records_from format shape fuel gate file) ≡ records_in_file format shape file
-  pub last : gate_from fuel gate file ≡ gate_of file
-
 none_more : (r : Result Records ℕ) → with_records [] r ≡ r
 none_more (Ok records) = refl
 none_more (Err place) = refl
@@ -117,44 +110,57 @@ twice : (a b : Records) (r : Result Records ℕ) → with_records a (with_record
 twice a b (Ok records) = ap Ok (sym (append_assoc a b records))
 twice a b (Err place) = refl
 
--- behind a header that isn't damaged nothing is read yet
-pub follows_begins : (format : Format) (shape : Shape) (file : List ℕ) → header_damage file ≡ None → Follows format shape file [] first_gate
-follows_begins format shape file clean =
-    let all : Result Records ℕ = records_from format shape (length file) first_gate file in
-    record { fuel = length file; enough = omega arith; rest = none_more all ∙ sym (ap (λ (d : Option ℕ). behind_header d all) clean); last = refl }
+-- a log begins with its records at a gate, where this is what is read from there on
+pub follows_at : (format : Format) (shape : Shape) (file : List ℕ) (base : LogBase) (gate fuel : ℕ) → length file < gate + fuel → behind_base base (records_from format shape fuel gate file) ≡ log_in_file format shape file
+    → gate_from fuel gate file ≡ gate_of file → Follows format shape file base [] gate
+follows_at format shape file base gate fuel enough rest last = record { fuel = fuel; enough = enough; rest = ap (behind_base base) (none_more (records_from format shape fuel gate file)) ∙ rest; last = last }
 
-module _ (format : Format) (shape : Shape) (file : List ℕ) (records : List CommitRecord) (gate : ℕ) where
-  on_by : (fuel : ℕ) → length file < gate + fuel → with_records records (records_from format shape fuel gate file) ≡ records_in_file format shape file → gate_from fuel gate file ≡ gate_of file
-      → (more : Records) (next : ℕ) → next_in format shape gate file ≡ Ok (Some (more, next)) → Follows format shape file (records ++ more) next
+-- what is read behind a header that isn't damaged
+pub clean_log : (format : Format) (shape : Shape) (file : List ℕ) → header_damage file ≡ None → (begins : Bool) → eqb (slice_index file 13) 1 ≡ begins
+    → log_in_file format shape file ≡ log_as format shape begins (bodies_of file) (gate_of file) (found_at (gate_of file) file)
+clean_log format shape file clean begins is =
+    let read : Bool → Result LogRead ℕ = λ b. log_as format shape b (bodies_of file) (gate_of file) (found_at (gate_of file) file) in
+    ap (λ (d : Option ℕ). behind_header d (read (eqb (slice_index file 13) 1))) clean ∙ ap read is
+
+-- behind a header that isn't damaged, and says that no checkpoint follows, nothing is read yet
+pub follows_begins : (format : Format) (shape : Shape) (file : List ℕ) → header_damage file ≡ None → eqb (slice_index file 13) 1 ≡ false → Follows format shape file fresh_base [] first_gate
+follows_begins format shape file clean fresh = follows_at format shape file fresh_base first_gate (length file) (omega arith) (sym (clean_log format shape file clean false fresh)) refl
+
+module _ (format : Format) (shape : Shape) (file : List ℕ) (base : LogBase) (records : List CommitRecord) (gate : ℕ) where
+  abbrev whole_log : Result Records ℕ → Result LogRead ℕ
+  whole_log rest = behind_base base (with_records records rest)
+
+  on_by : (fuel : ℕ) → length file < gate + fuel → whole_log (records_from format shape fuel gate file) ≡ log_in_file format shape file → gate_from fuel gate file ≡ gate_of file
+      → (more : Records) (next : ℕ) → next_in format shape gate file ≡ Ok (Some (more, next)) → Follows format shape file base (records ++ more) next
   on_by zero enough rest last more next e = let none = nothing format shape file gate enough in absurd cc
   on_by (suc m) enough rest last more next e =
       let t = further_by format shape file m gate (found_at gate file) refl more next e in record {
         fuel = m;
         enough = omega (arith, enough, t.2);
-        rest = sym (twice records more (records_from format shape m next file)) ∙ ap (with_records records) (sym t.0) ∙ rest;
+        rest = ap (behind_base base) (sym (twice records more (records_from format shape m next file)) ∙ ap (with_records records) (sym t.0)) ∙ rest;
         last = sym t.1 ∙ last;
       }
 
-  pub follows_on : Follows format shape file records gate → (more : Records) (next : ℕ) → next_in format shape gate file ≡ Ok (Some (more, next)) → Follows format shape file (records ++ more) next
+  pub follows_on : Follows format shape file base records gate → (more : Records) (next : ℕ) → next_in format shape gate file ≡ Ok (Some (more, next)) → Follows format shape file base (records ++ more) next
   follows_on f more next e = on_by f.fuel f.enough f.rest f.last more next e
 
-  ends_by : (fuel : ℕ) → length file < gate + fuel → with_records records (records_from format shape fuel gate file) ≡ records_in_file format shape file → gate_from fuel gate file ≡ gate_of file
-      → next_in format shape gate file ≡ Ok None → (records_in_file format shape file ≡ Ok records) × (gate_of file ≡ gate)
+  ends_by : (fuel : ℕ) → length file < gate + fuel → whole_log (records_from format shape fuel gate file) ≡ log_in_file format shape file → gate_from fuel gate file ≡ gate_of file
+      → next_in format shape gate file ≡ Ok None → (log_in_file format shape file ≡ Ok (record { base = base; records = records })) × (gate_of file ≡ gate)
   ends_by zero enough rest last e =
       let past : found_at gate file ≡ shut = past_shut file gate (omega (arith, enough)) in
       let none : records_from format shape zero gate file ≡ Ok [] = ap (no_more gate) past in
-      (sym rest ∙ ap (with_records records) none ∙ ap Ok (append-nil records), sym last)
+      (sym rest ∙ ap whole_log none ∙ ap (λ (l : Records). behind_base base (Ok l)) (append-nil records), sym last)
   ends_by (suc m) enough rest last e =
       let t = end_by format shape file m gate (found_at gate file) refl e in
-      (sym rest ∙ ap (with_records records) t.0 ∙ ap Ok (append-nil records), sym last ∙ t.1)
+      (sym rest ∙ ap whole_log t.0 ∙ ap (λ (l : Records). behind_base base (Ok l)) (append-nil records), sym last ∙ t.1)
 
-  pub follows_ends : Follows format shape file records gate → next_in format shape gate file ≡ Ok None → (records_in_file format shape file ≡ Ok records) × (gate_of file ≡ gate)
+  pub follows_ends : Follows format shape file base records gate → next_in format shape gate file ≡ Ok None → (log_in_file format shape file ≡ Ok (record { base = base; records = records })) × (gate_of file ≡ gate)
   follows_ends f e = ends_by f.fuel f.enough f.rest f.last e
 
-  breaks_by : (fuel : ℕ) → length file < gate + fuel → with_records records (records_from format shape fuel gate file) ≡ records_in_file format shape file
-      → (place : ℕ) → next_in format shape gate file ≡ Err place → records_in_file format shape file ≡ Err place
+  breaks_by : (fuel : ℕ) → length file < gate + fuel → whole_log (records_from format shape fuel gate file) ≡ log_in_file format shape file
+      → (place : ℕ) → next_in format shape gate file ≡ Err place → log_in_file format shape file ≡ Err place
   breaks_by zero enough rest place e = let none = nothing format shape file gate enough in absurd cc
-  breaks_by (suc m) enough rest place e = sym rest ∙ ap (with_records records) (break_by format shape file m gate (found_at gate file) refl place e)
+  breaks_by (suc m) enough rest place e = sym rest ∙ ap whole_log (break_by format shape file m gate (found_at gate file) refl place e)
 
-  pub follows_breaks : Follows format shape file records gate → (place : ℕ) → next_in format shape gate file ≡ Err place → records_in_file format shape file ≡ Err place
+  pub follows_breaks : Follows format shape file base records gate → (place : ℕ) → next_in format shape gate file ≡ Err place → log_in_file format shape file ≡ Err place
   follows_breaks f place e = breaks_by f.fuel f.enough f.rest place e

@@ -1,7 +1,7 @@
 -- Named versions, sorted by their grains without changing the order of one grain's, are those of `by_grain`.
-use Rattle.std.proofs.Common.{◌≡◌, ◌⊎◌, inl, inr, ℕ, suc, ◌<◌, ◌≤◌, nat_lt, ◌==◌, Bool, true, false, ◌&&◌, ◌||◌, not, if◌then◌else◌, List, [], ◌∷◌, ◌++◌, length, map, filter, refl, sym, ◌∙◌, ap, subst, arith, append-nil}
+use Rattle.std.proofs.Common.{◌≡◌, ◌⊎◌, inl, inr, ℕ, suc, ◌<◌, ◌≤◌, nat_lt, ◌==◌, Bool, true, false, ◌&&◌, ◌||◌, not, if◌then◌else◌, None, List, [], ◌∷◌, ◌++◌, length, map, filter, refl, sym, ◌∙◌, ap, subst, arith, append-nil}
 use Rattle.std.specs.Prelude.{slice_index_or}
-use Rattle.std.specs.List.{flat_map, AllByRecursion}
+use Rattle.std.specs.List.{flat_map, list_any, AllByRecursion}
 use Rattle.std.specs.List.Sorted.{IsSortedByKey, IsStableByKey, ties}
 use Rattle.std.specs.Ordering.{is_lt, ordering_then, on}
 use Rattle.std.specs.declared.cmp.Ordering.TheVariants.{Less, Equal, Greater}
@@ -18,10 +18,10 @@ use Rattle.log_reading.specs.Versions.{is_before, ascending_with, ascending, nam
 
 -- ---- grains
 
-abbrev Before : GrainId → GrainId → Type 0
+abbrev pub Before : GrainId → GrainId → Type 0
 Before a b = (a.kind < b.kind) ⊎ ((a.kind ≡ b.kind) × (a.key < b.key))
 
-to_before : (a b : GrainId) → is_before a b ≡ true → Before a b
+pub to_before : (a b : GrainId) → is_before a b ≡ true → Before a b
 to_before a b e = elim (or_cases (nat_lt a.kind b.kind) _ e) [
   | inl low ↦ inl (ltb-true _ _ low)
   | inr also ↦ (let p = and_parts (a.kind == b.kind) (nat_lt a.key b.key) also in inr (eqb-true _ _ p.0, ltb-true _ _ p.1))
@@ -41,7 +41,7 @@ same_is a b e =
 is_same : (a b : GrainId) → a ≡ b → same_grain a b ≡ true
 is_same a b q = and_from _ _ (eq-eqb _ _ (ap (λ (g : GrainId). g.kind) q)) (eq-eqb _ _ (ap (λ (g : GrainId). g.key) q))
 
-irref : (a b : GrainId) → a ≡ b → Before a b → ⊥
+pub irref : (a b : GrainId) → a ≡ b → Before a b → ⊥
 irref a b same (inl low) = (let k : a.kind ≡ b.kind = ap (λ (g : GrainId). g.kind) same in absurd (omega (arith, k, low)))
 irref a b same (inr p) = (let k : a.key ≡ b.key = ap (λ (g : GrainId). g.key) same in absurd (omega (arith, k, p.1)))
 
@@ -51,7 +51,7 @@ never_both a b (inl low) (inr q) = absurd (omega (arith, low, q.0))
 never_both a b (inr p) (inl more) = absurd (omega (arith, p.0, more))
 never_both a b (inr p) (inr q) = absurd (omega (arith, p.1, q.1))
 
-chain : (a b c : GrainId) → Before a b → Before b c → Before a c
+pub chain : (a b c : GrainId) → Before a b → Before b c → Before a c
 chain a b c (inl low) (inl more) = inl (omega (arith, low, more))
 chain a b c (inl low) (inr q) = inl (omega (arith, low, q.0))
 chain a b c (inr p) (inl more) = inl (omega (arith, p.0, more))
@@ -295,7 +295,7 @@ module _ (xs ys : List Named) (sorted : IsSortedByKey of_named grain_cmp ys) (st
   -- the versions of one grain are the same, in the same order
   pub same_of_grain : (g : GrainId) → filter (λ (n : Named). same_grain n.written.grain g) ys ≡ filter (λ (n : Named). same_grain n.written.grain g) xs
   same_of_grain g =
-      let one : Named = record { unit = record { 0 = 0 }; written = record { grain = g; place = record { offset = 0; len = 0 } } } in
+      let one : Named = record { unit = None; written = record { grain = g; place = record { offset = 0; len = 0 } } } in
       let test : Named → Bool = ties (λ (a b : Named). is_lt (grain_cmp (of_named a) (of_named b))) one in
       let tie : test ≡ at g = λ i n. tie_bool g (of_named n) i in
       ap (λ (p : Named → Bool). filter p ys) (sym tie) ∙ stable one ∙ ap (λ (p : Named → Bool). filter p xs) tie
@@ -433,3 +433,28 @@ climbs_behind (x ∷ front) back up = climbs_behind front back up.1
 
 pub irreflexive : (g : GrainId) → is_before g g ≡ false
 irreflexive g = not_before g g (irref g g refl)
+
+-- a grain that isn't before another, and isn't that one, is behind it
+pub climbs_strictly : (g h : GrainId) → is_before h g ≡ false → same_grain g h ≡ false → is_before g h ≡ true
+climbs_strictly g h nay other = from_before g h (other_before h g nay (false_from_ne_true (same_grain h g) (λ e. false≢true (sym other ∙ is_same g h (sym (same_is h g e))))))
+
+-- before one, and so before each that isn't before that
+pub same_before : (g h k : GrainId) → is_before g h ≡ true → is_before k h ≡ false → is_before g k ≡ true
+same_before g h k low nay = from_before g k (before_chain g h k (to_before g h low) nay)
+
+-- ---- whether a grain is named
+
+some_of : List Named → Bool
+some_of [] = false
+some_of (n ∷ ns) = true
+
+any_filter : (p : Named → Bool) (xs : List Named) → list_any p xs ≡ some_of (filter p xs)
+unfolding some_of
+any_filter p [] = refl
+any_filter p (x ∷ xs) = elim (cases_Bool (p x)) [
+  | inl e ↦ ap (λ (b : Bool). b || list_any p xs) e ∙ sym (ap some_of (filter_yes p x xs e))
+  | inr e ↦ ap (λ (b : Bool). b || list_any p xs) e ∙ any_filter p xs ∙ sym (ap some_of (filter_no p x xs e))
+]
+
+pub list_any_by_grain : (g : GrainId) (xs : List Named) → list_any (λ (n : Named). same_grain n.written.grain g) (named_by_grain xs) ≡ list_any (λ (n : Named). same_grain n.written.grain g) xs
+list_any_by_grain g xs = any_filter (at g) (named_by_grain xs) ∙ ap some_of (by_grain_at g xs) ∙ sym (any_filter (at g) xs)

@@ -1,5 +1,5 @@
 -- What is kept of records, batch by batch.
-use Rattle.std.proofs.Common.{◌≡◌, ℕ, ◌+◌, ◌<◌, ◌≤◌, ◌^◌, max, List, [], ◌∷◌, ◌++◌, length, map, refl, sym, ◌∙◌, ap, arith, length-append, append_assoc, append-nil, drop, get_or, drop-cons, add-one, w32}
+use Rattle.std.proofs.Common.{◌≡◌, ℕ, ◌+◌, ◌<◌, ◌≤◌, ◌^◌, max, Some, List, [], ◌∷◌, ◌++◌, length, map, refl, sym, ◌∙◌, ap, arith, length-append, append_assoc, append-nil, drop, get_or, drop-cons, add-one, w32}
 use Rattle.std.proofs.Math.ListN.{drop_of_length-le}
 use Rattle.std.specs.List.{flat_map, AllByRecursion}
 use Rattle.std.proofs.lemmas.List.Sums.{fold-append}
@@ -19,7 +19,7 @@ use Rattle.log_reading.specs.Sums.{next_after}
 use Rattle.std.specs.Int.{w64, to_le_bytes}
 
 pub named_by-append : (xs ys : List CommitRecord) → named_by (xs ++ ys) ≡ named_by xs ++ named_by ys
-named_by-append xs ys = flat_map-append (λ (r : CommitRecord). map (λ (w : Written). let n : Named = record { unit = r.unit; written = w } in n) r.writes) xs ys
+named_by-append xs ys = flat_map-append (λ (r : CommitRecord). map (λ (w : Written). let n : Named = record { unit = Some r.unit; written = w } in n) r.writes) xs ys
 
 pub next_after-append : (next : ℕ) (xs ys : List CommitRecord) → next_after next (xs ++ ys) ≡ next_after (next_after next xs) ys
 next_after-append next xs ys = fold-append (λ (n : ℕ) (r : CommitRecord). max n (r.unit.0 + 1)) next xs ys
@@ -84,9 +84,9 @@ pushed_more f x rest items old new all are is so_far =
 pub pushed_all : {A B : Type 0} (f : A → B) (items : List A) (old all : List B) → items ≡ [] → old ++ map f items ≡ all → old ≡ all
 pushed_all f items old all are so_far = sym (append-nil old) ∙ ap (λ l. old ++ map f l) (sym are) ∙ so_far
 
-pub named_more : (x : CommitRecord) (rest items : List CommitRecord) (old new all : List Named) → items ≡ x ∷ rest → new ≡ old ++ map (λ w. record { unit = x.unit; written = w }) x.writes → old ++ named_by items ≡ all → new ++ named_by rest ≡ all
+pub named_more : (x : CommitRecord) (rest items : List CommitRecord) (old new all : List Named) → items ≡ x ∷ rest → new ≡ old ++ map (λ w. record { unit = Some x.unit; written = w }) x.writes → old ++ named_by items ≡ all → new ++ named_by rest ≡ all
 named_more x rest items old new all are is so_far =
-    let own : List Named = map (λ w. record { unit = x.unit; written = w }) x.writes in
+    let own : List Named = map (λ w. record { unit = Some x.unit; written = w }) x.writes in
     ap (λ (l : List Named). l ++ named_by rest) is ∙ append_assoc old own (named_by rest) ∙ ap (λ (l : List CommitRecord). old ++ named_by l) (sym are) ∙ so_far
 
 pub named_all : (items : List CommitRecord) (old all : List Named) → items ≡ [] → old ++ named_by items ≡ all → old ≡ all

@@ -18,22 +18,22 @@ use Rattle.commit_log.specs.Bodies.{IsRecordIn}
 use Rattle.commit_log.specs.declared.records.Named.{Named}
 use Rattle.log_reading.specs.declared.log.ReadLog.{ReadLog}
 use Rattle.host_trait.specs.Files.{same_grain}
-use Rattle.log_reading.specs.Blocks.{records_in_file}
-use Rattle.log_reading.specs.Versions.{named_by, version_named, state_of, first_missing}
+use Rattle.log_reading.specs.Blocks.{LogRead, log_in_file}
+use Rattle.log_reading.specs.Versions.{named_in, version_named, state_of, first_missing}
 
 -- the number of the next unit after these records
 abbrev pub next_after : ℕ → List CommitRecord → ℕ
 next_after next records = fold (λ n r. max n (r.unit.0 + 1)) next records
 
--- What is kept of a log is that of records within the program, and where the file is told they are the file's and end at
--- the log's gate, behind which no block counts.
+-- What is kept of a log is that of what it begins with and of records within the program, and where the file is told they are the
+-- file's and end at the log's gate, behind which no block counts.
 pub record IsReadAs (tells : Bool) (format : Format) (shape : Shape) (file : List ℕ) (l : ReadLog) : Type 0 where
-  pub records : List CommitRecord
-  pub count : l.count ≡ length records
-  pub next : l.next_unit.0 ≡ next_after 1 records
-  pub named : l.named ≡ named_by records
-  pub fit : AllByRecursion (IsRecordIn format Logged shape) records
-  pub read : IsTrue tells → records_in_file format shape file ≡ Ok records
+  pub log : LogRead
+  pub count : l.count ≡ log.base.count + length log.records
+  pub next : l.next_unit.0 ≡ next_after log.base.next log.records
+  pub named : l.named ≡ named_in log
+  pub fit : AllByRecursion (IsRecordIn format Logged shape) log.records
+  pub read : IsTrue tells → log_in_file format shape file ≡ Ok log
   pub gate : IsTrue tells → gate_of file ≡ l.gate_at
   pub closed : IsTrue tells → found_at l.gate_at file ≡ shut
 

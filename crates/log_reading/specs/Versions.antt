@@ -1,5 +1,5 @@
--- The versions that the records of a log name, and the first that isn't there.
-use Rattle.std.specs.Prelude.{ℕ, if◌then◌else◌, List, [], ◌∷◌, map, filter, slice_get, Option, Some, None, Result, Ok, Err}
+-- The versions that a log names, and the first that isn't there.
+use Rattle.std.specs.Prelude.{ℕ, Bool, false, if◌then◌else◌, List, [], ◌∷◌, ◌++◌, map, filter, slice_get, Option, Some, None, Result, Ok, Err}
 use Rattle.std.specs.List.{flat_map}
 use Rattle.base_types.specs.declared.calls.GrainId.{GrainId}
 use Rattle.base_types.specs.declared.calls.Value.{Value}
@@ -11,13 +11,22 @@ use Rattle.host_trait.specs.Files.{same_grain}
 pub use Rattle.base_types.specs.Grains.{is_before}
 use Rattle.host_trait.specs.World.{Image}
 use Rattle.field_codec.specs.declared.formats.Format.{Format}
-use Rattle.grain_log.specs.Reads.{fields_of, owned_version}
+use Rattle.grain_log.specs.Reads.{fields_of, version_by_owner}
 use Rattle.commit_log.specs.declared.records.CommitRecord.{CommitRecord}
 use Rattle.commit_log.specs.declared.records.Named.{Named}
+use Rattle.log_reading.specs.Blocks.{LogBase, LogRead}
 
 -- the versions that records name, in the log's order
 abbrev pub named_by : List CommitRecord → List Named
-named_by records = flat_map (λ r. map (λ w. record { unit = r.unit; written = w }) r.writes) records
+named_by records = flat_map (λ r. map (λ w. record { unit = Some r.unit; written = w }) r.writes) records
+
+-- the versions that a checkpoint names: it names no unit
+abbrev pub named_of_base : LogBase → List Named
+named_of_base base = map (λ w. record { unit = None; written = w }) base.writes
+
+-- the versions that a log names: those of what it begins with, and then those of its records
+abbrev pub named_in : LogRead → List Named
+named_in log = named_of_base log.base ++ named_by log.records
 
 -- one more grain in an ascending list, each once
 abbrev pub ascending_with : GrainId → List GrainId → List GrainId
@@ -34,10 +43,21 @@ abbrev pub named_by_grain : List Named → List Named
 named_by_grain named =
     flat_map (λ g. filter (λ (n : Named). same_grain n.written.grain g) named) (ascending (map (λ n. n.written.grain) named))
 
--- the version that is named, or where its file is damaged: it is the unit's, and has its type's fields
+-- the version behind this one is of its grain too
+abbrev pub goes_on : Named → List Named → Bool
+goes_on n [] = false
+goes_on n (m ∷ named) = same_grain n.written.grain m.written.grain
+
+-- of named versions by grains, the last of each grain
+abbrev pub latest_of : List Named → List Named
+latest_of [] = []
+latest_of (n ∷ named) = if goes_on n named then latest_of named else n ∷ latest_of named
+
+-- the version that is named, or where its file is damaged: it is the unit's, or any unit's of a log where none is named, and has its
+-- type's fields
 abbrev pub version_named : ℕ → Format → Shape → Image → Named → Result Version ℕ
 version_named live format shape image n =
-    owned_version format (fields_of (slice_get shape.types n.written.grain.kind)) n.unit n.written.place (image (Grain live n.written.grain))
+    version_by_owner format (fields_of (slice_get shape.types n.written.grain.kind)) n.unit n.written.place (image (Grain live n.written.grain))
 
 -- the file and the place of a version that isn't there, else of a later one
 abbrev pub missing_or : ℕ → GrainId → Result Version ℕ → Option (FileId × ℕ) → Option (FileId × ℕ)

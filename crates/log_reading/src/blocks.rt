@@ -21,8 +21,8 @@ use gate_block::{BlockFault, read_block};
 use host_trait::{FileId, Host};
 use std::alloc::Global;
 
-// The fault of reading a text that stands at an offset of a slot's manager file.
-fn in_file(slot: u8, start: u64, fault: CodecFault) -> FolderFault
+/// The fault of reading a text that stands at an offset of a slot's manager file.
+pub(crate) fn in_file(slot: u8, start: u64, fault: CodecFault) -> FolderFault
     requires { start + place_of fault < 2 ^ 64 }
     ensures { result ≡ damage_in slot start (named_place fault) }
 {

@@ -1,4 +1,4 @@
-ghost use Rattle.std.specs.Prelude.{◌≡◌, ◌≤◌, ℕ, IsTrue, slice_index, Some, None, OnOk, IfOk, IfErr, IsErrOf};
+ghost use Rattle.std.specs.Prelude.{◌≡◌, ◌≤◌, ◌==◌, nat_le, if◌then◌else◌, ℕ, IsTrue, slice_index, Some, None, OnOk, IfOk, IfErr, IsErrOf};
 ghost use Rattle.host_trait.specs.Files.{StaysReady};
 ghost use Rattle.host_trait.specs.Faults.{Counted, NoneFailed};
 ghost use Rattle.host_trait.specs.Runs.{OnlyAsked};
@@ -27,28 +27,40 @@ fn byte_at<H: Host>(host: &mut H, slot: u8, at: u64) -> Result<u8, Failed>
     Ok(byte[0])
 }
 
-// The first of the header's bytes 13 and 14 that isn't zero.
-fn first_damage<H: Host>(host: &mut H, slot: u8) -> Result<Option<u64>, Failed>
+// The header's bytes 13 and 14.
+fn header_bytes<H: Host>(host: &mut H, slot: u8) -> Result<(u8, u8), Failed>
     requires slot { slot ≤ 1 }
-    ensures told { IfOk result (λ place. IsTrue H.tells → place ≡ header_damage ((H.world host.old).disk (Manager slot)).seen) }
+    ensures told { IfOk result (λ bytes. IsTrue H.tells
+        → (bytes.0 ≡ slice_index ((H.world host.old).disk (Manager slot)).seen 13) × (bytes.1 ≡ slice_index ((H.world host.old).disk (Manager slot)).seen 14)) }
     ensures asked { IsTrue H.tells → OnlyAsked (H.world host.old) (H.world host.new) }
     ensures faults { Counted (File (Manager slot)) result (H.faults host.old) (H.faults host.new) }
     ensures ready { StaysReady (H.is_ready host.old) (H.is_ready host.new) }
 {
-    if byte_at(host, slot, 13)? != 0 {
-        return Ok(Some(13));
-    }
-    if byte_at(host, slot, 14)? != 0 {
-        return Ok(Some(14));
-    }
-    Ok(None)
+    let begins = byte_at(host, slot, 13)?;
+    let zero = byte_at(host, slot, 14)?;
+    Ok((begins, zero))
 }
 
-/// Reads what stands between the generation and the first gate of a slot's manager file. `Damaged` names the first byte that
-/// isn't zero, and `Failed` that file, a call on which failed.
-pub fn check_header<H: Host>(host: &mut H, slot: u8) -> Result<(), FolderFault>
+// The first of these bytes that is damaged.
+fn first_damage(begins: u8, zero: u8) -> Option<u64>
+    ensures { result ≡ (if nat_le begins 1 then (if zero == 0 then None else Some 14) else Some 13) }
+{
+    if begins > 1 {
+        return Some(13);
+    }
+    if zero != 0 {
+        return Some(14);
+    }
+    None
+}
+
+/// Reads what stands between the generation and the first gate of a slot's manager file, and answers whether its log begins with a
+/// checkpoint. `Damaged` names byte 13 where it is neither 0 nor 1, and else byte 14 where it isn't zero; `Failed` names that file, a
+/// call on which failed.
+pub fn check_header<H: Host>(host: &mut H, slot: u8) -> Result<bool, FolderFault>
     requires slot { slot ≤ 1 }
     ensures whole { OnOk result (IsTrue H.tells → header_damage ((H.world host.old).disk (Manager slot)).seen ≡ None) }
+    ensures begins { IfOk result (λ saved. IsTrue H.tells → saved ≡ (slice_index ((H.world host.old).disk (Manager slot)).seen 13 == 1)) }
     ensures damaged { (file : FileId) (place : ℕ) → IsErrOf result (FolderFault.Damaged file place) → IsTrue H.tells
         → header_damage ((H.world host.old).disk (Manager slot)).seen ≡ Some place }
     ensures file { (file : FileId) (place : ℕ) → IsErrOf result (FolderFault.Damaged file place) → file ≡ Manager slot }
@@ -59,9 +71,11 @@ pub fn check_header<H: Host>(host: &mut H, slot: u8) -> Result<(), FolderFault>
     ensures ready { StaysReady (H.is_ready host.old) (H.is_ready host.new) }
 {
     let file = FileId::Manager { slot };
-    match first_damage(host, slot) {
-        Ok(None) => Ok(()),
-        Ok(Some(place)) => Err(FolderFault::Damaged { file, place }),
+    match header_bytes(host, slot) {
+        Ok((begins, zero)) => match first_damage(begins, zero) {
+            None => Ok(begins == 1),
+            Some(place) => Err(FolderFault::Damaged { file, place }),
+        },
         Err(Failed) => Err(FolderFault::Failed { file }),
     }
 }

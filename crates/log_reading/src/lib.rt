@@ -4,18 +4,22 @@
 //! what the bytes stand for, and where they are damaged first.
 #![tactic(auto)]
 
+mod bases;
 mod blocks;
 mod contents;
 mod faults;
 mod header;
+mod latest;
 mod laws;
 mod log;
 mod pieces;
 mod versions;
 
+pub use bases::{Base, read_base};
 pub use blocks::next_block;
 pub use contents::{Contents, read_contents};
 pub use faults::FolderFault;
-pub use laws::faults_in_order;
+pub use latest::read_latest;
+pub use laws::{faults_in_order, latest_states_stand};
 pub use log::{ReadLog, read_log};
 pub use versions::{named_version, read_versions};

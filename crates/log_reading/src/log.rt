@@ -9,21 +9,22 @@ ghost use Rattle.field_codec.specs.declared.units.Numbers.TheVariants.{Logged};
 ghost use Rattle.commit_log.specs.Bodies.{IsRecordIn};
 ghost use Rattle.log_reading.specs.declared.faults.FolderFault.{FolderFault};
 ghost use Rattle.log_reading.specs.Counts.{ReadFaulted};
-ghost use Rattle.log_reading.specs.Blocks.{records_in_file};
-ghost use Rattle.log_reading.specs.Versions.{named_by, named_by_grain};
+ghost use Rattle.log_reading.specs.Blocks.{log_in_file};
+ghost use Rattle.log_reading.specs.Versions.{named_by, named_of_base, named_by_grain};
+ghost use Rattle.log_reading.specs.Steps.{base_of};
 ghost use Rattle.log_reading.specs.Sums.{next_after, IsReadAs};
 
+use crate::bases::{Base, read_base};
 use crate::blocks::next_block;
 use crate::faults::FolderFault;
-use crate::header::check_header;
 use base_types::{List, Shape, UnitNo};
 use commit_log::{CommitRecord, Named, Written};
 use field_codec::Format;
 use host_trait::Host;
 use std::alloc::{AllocError, Global};
 
-/// What opening keeps of a log: how many records it has, the number of the next unit, each version that a record names, in the
-/// log's order, and the gate at which it ends.
+/// What opening keeps of a log: how many records it has, those before its beginning too, the number of the next unit, each version that
+/// it names, those of its beginning first and then in the log's order, and the gate at which it ends.
 #[derive(Drop)]
 pub struct ReadLog {
     pub count: u64,
@@ -32,8 +33,8 @@ pub struct ReadLog {
     pub gate_at: u64,
 }
 
-// A version that a unit's record names.
-fn named_of(unit: UnitNo, written: &Written) -> Named
+// A version that a unit's record names, or a checkpoint, which names no unit.
+fn named_of(unit: Option<UnitNo>, written: &Written) -> Named
     ensures { result ≡ record { unit = unit; written = written.now } }
 {
     Named {
@@ -42,14 +43,27 @@ fn named_of(unit: UnitNo, written: &Written) -> Named
     }
 }
 
-// Appends the versions that a unit's record names.
-fn add_named(named: &mut List<Named>, unit: UnitNo, writes: &[Written]) -> Result<(), AllocError>
+// Appends the versions that a unit's record names, or a checkpoint, which names no unit.
+fn add_named(
+    named: &mut List<Named>,
+    unit: Option<UnitNo>,
+    writes: &[Written],
+) -> Result<(), AllocError>
     ensures { OnOk result (named.new ≡ named.old ++ map (λ w. record { unit = unit; written = w }) writes.now) }
 {
     for written in writes {
         named.push(named_of(unit, written))?;
     }
     Ok(())
+}
+
+// The versions that a checkpoint names, which a log begins with.
+fn base_named(alloc: Global, base: &Base) -> Result<List<Named>, AllocError>
+    ensures { IfOk result (λ named. named ≡ named_of_base (base_of base.now)) }
+{
+    let mut named = List::new(alloc);
+    add_named(&mut named, None, base.saved.as_slice())?;
+    Ok(named)
 }
 
 // The greater of the next unit's number and that behind a unit.
@@ -72,14 +86,15 @@ fn add_records(
 {
     let mut after = next;
     for entry in records {
-        add_named(named, entry.unit, entry.writes.as_slice())?;
+        add_named(named, Some(entry.unit), entry.writes.as_slice())?;
         after = next_behind(after, entry.unit.0);
     }
     Ok(after)
 }
 
-/// Reads the log of a slot's manager file, block by block behind the header, and keeps what opening needs of it. `Damaged` names
-/// the first place that is damaged, and `Failed` that file, a call on which failed.
+/// Reads the log of a slot's manager file, block by block behind the header, first the pieces of a checkpoint, where it begins with
+/// one, and then the records; and keeps what opening needs of it. `Damaged` names the first place that is damaged, and `Failed` that
+/// file, a call on which failed.
 pub fn read_log<H: Host>(
     alloc: Global,
     host: &mut H,
@@ -91,7 +106,7 @@ pub fn read_log<H: Host>(
     ensures log { IfOk result (λ l. IsReadAs H.tells format shape.now ((H.world host.old).disk (Manager slot)).seen l) }
     ensures bound { IfOk result (λ l. (l.gate_at < 2 ^ 63) × ((0 < l.next_unit.0) × (l.next_unit.0 ≤ 2 ^ 63))) }
     ensures damaged { (file : FileId) (place : ℕ) → IsErrOf result (FolderFault.Damaged file place) → IsTrue H.tells
-        → records_in_file format shape.now ((H.world host.old).disk (Manager slot)).seen ≡ Err place }
+        → log_in_file format shape.now ((H.world host.old).disk (Manager slot)).seen ≡ Err place }
     ensures file { (file : FileId) (place : ℕ) → IsErrOf result (FolderFault.Damaged file place) → file ≡ Manager slot }
     ensures failed { (file : FileId) → IsErrOf result (FolderFault.Failed file) → file ≡ Manager slot }
     ensures asked { IsTrue H.tells → OnlyAsked (H.world host.old) (H.world host.new) }
@@ -99,14 +114,14 @@ pub fn read_log<H: Host>(
     ensures fault { IfErr result (λ e. ReadFaulted e (H.faults host.old) (H.faults host.new)) }
     ensures ready { StaysReady (H.is_ready host.old) (H.is_ready host.new) }
 {
-    match check_header(host, slot) {
-        Ok(()) => {}
+    let base = match read_base(alloc, host, slot, shape) {
+        Ok(base) => base,
         Err(fault) => return Err(fault),
-    }
-    let mut named = List::new(alloc);
-    let mut count = 0;
-    let mut next = 1;
-    let mut gate_at = 15;
+    };
+    let mut named = base_named(alloc, &base)?;
+    let mut count = base.count;
+    let mut next = base.next_unit.0;
+    let mut gate_at = base.gate_at;
     while let Some((records, behind)) = next_block(alloc, host, slot, shape, format, gate_at)? {
         next = add_records(&mut named, next, records.as_slice())?;
         count += records.len() as u64;

@@ -16,6 +16,7 @@ fn add_open_fault(out: &mut String, fault: OpenFault) -> Result<(), AllocError> 
             out.push_str("fault of ")?;
             add_file(out, file)
         }
+        OpenFault::LastGeneration => out.push_str("last generation"),
         OpenFault::Memory => out.push_str("no memory"),
     }
 }
@@ -48,6 +49,9 @@ fn add_opened(alloc: Global, out: &mut String, opened: &Opened) -> Result<(), Al
     let count = opened.count;
     let next = opened.next_unit.0;
     let gate = opened.gate_at;
+    if opened.slot == 1 {
+        out.push_str("slot 1: ")?;
+    }
     write!(out, "{count} records, next unit {next}, gate {gate}")?;
     for name in NAMES {
         if let Some(grain) = grain_of(name) {

@@ -1,4 +1,4 @@
-ghost use Rattle.std.specs.Prelude.{IfSome};
+ghost use Rattle.std.specs.Prelude.{IfSome, ◌≤◌};
 ghost use Rattle.host_trait.specs.Files.{HasSlot};
 
 use base_types::GrainId;
@@ -7,11 +7,13 @@ use host_trait::{Channel, FileId};
 use std::alloc::{AllocError, Global};
 
 /// The files that a folder may have here.
-pub const NAMES: [&str; 9] = [
+pub const NAMES: [&str; 11] = [
     "program",
+    "program-1",
     "manager",
     "manager-1",
     "0/1",
+    "0/1-1",
     "0/2",
     "0/255",
     "0/258",
@@ -19,16 +21,26 @@ pub const NAMES: [&str; 9] = [
     "1/1",
 ];
 
-/// The file of a name.
+/// The file of a name, which ends with `-1` where it is one of slot 1.
 pub fn file_of(name: &str) -> Option<FileId>
     ensures { IfSome result HasSlot }
 {
+    match name.strip_suffix("-1") {
+        Some(name) => file_in(name, 1),
+        None => file_in(name, 0),
+    }
+}
+
+// The file of a name in a slot.
+fn file_in(name: &str, slot: u8) -> Option<FileId>
+    requires { slot ≤ 1 }
+    ensures { IfSome result HasSlot }
+{
     match name {
-        "program" => Some(FileId::Program { slot: 0 }),
-        "manager" => Some(FileId::Manager { slot: 0 }),
-        "manager-1" => Some(FileId::Manager { slot: 1 }),
+        "program" => Some(FileId::Program { slot }),
+        "manager" => Some(FileId::Manager { slot }),
         _ => match grain_of(name) {
-            Some(grain) => Some(FileId::Grain { slot: 0, grain }),
+            Some(grain) => Some(FileId::Grain { slot, grain }),
             None => None,
         },
     }
@@ -44,15 +56,25 @@ pub fn grain_of(name: &str) -> Option<GrainId> {
 
 /// Writes a file's name.
 pub fn add_file(out: &mut String, file: FileId) -> Result<(), AllocError> {
-    match file {
-        FileId::Program { .. } => out.push_str("program"),
-        FileId::Manager { slot: 0 } => out.push_str("manager"),
-        FileId::Manager { slot } => write!(out, "manager-{slot}"),
-        FileId::Grain { grain, .. } => {
-            let GrainId { kind, key } = grain;
-            write!(out, "{kind}/{key}")
+    let slot = match file {
+        FileId::Program { slot } => {
+            out.push_str("program")?;
+            slot
         }
+        FileId::Manager { slot } => {
+            out.push_str("manager")?;
+            slot
+        }
+        FileId::Grain { slot, grain } => {
+            let GrainId { kind, key } = grain;
+            write!(out, "{kind}/{key}")?;
+            slot
+        }
+    };
+    if slot == 0 {
+        return Ok(());
     }
+    write!(out, "-{slot}")
 }
 
 pub fn channel_of(name: &str) -> Channel {

@@ -11,6 +11,7 @@ ghost use Rattle.program_file.specs.Answers.{parse_named, check_named, program_f
 
 use crate::faults::{ProgramFault, ProgramFileFault};
 use crate::text::read_text;
+use base_types::List;
 use host_trait::Host;
 use script_check::{CheckFault, Checked, check};
 use script_parser::{ParseFault, parse};
@@ -95,17 +96,19 @@ fn accept_text(alloc: Global, text: &[u8]) -> Result<Checked, ProgramFileFault>
     }
 }
 
-/// Reads a slot's program file, and changes no file. `Damaged` names the first place that is damaged.
+/// Reads a slot's program file, and changes no file: the text, and the program that it is. `Damaged` names the first place that is
+/// damaged.
 pub fn read_program<H: Host>(
     alloc: Global,
     host: &mut H,
     slot: u8,
-) -> Result<Checked, ProgramFileFault>
+) -> Result<(List<u8>, Checked), ProgramFileFault>
     requires slot { slot ≤ 1 }
 
     // The program is the file's, and else the first damage is named.
-    ensures found { IfOk result (λ checked. IsTrue H.tells
-        → (text : List ℕ) × (program_in_file ((H.world host.old).disk (ProgramFile slot)).seen ≡ Ok (record { text = text; types = program_tree checked }))) }
+    ensures found { IfOk result (λ found. IsTrue H.tells
+        → program_in_file ((H.world host.old).disk (ProgramFile slot)).seen ≡ Ok (record { text = found.0; types = program_tree found.1 })) }
+    ensures small { IfOk result (λ found. length found.0 ≤ 262144) }
     ensures damaged { (place : ℕ) → IsErrOf result (Fault.Damaged place) → IsTrue H.tells
         → program_in_file ((H.world host.old).disk (ProgramFile slot)).seen ≡ Err place }
 
@@ -118,7 +121,7 @@ pub fn read_program<H: Host>(
 {
     let text = read_text(alloc, host, slot)?;
     match accept_text(alloc, &text) {
-        Ok(checked) => Ok(checked),
+        Ok(checked) => Ok((List::from_vec(text), checked)),
         Err(fault) => Err(fault),
     }
 }

@@ -15,7 +15,7 @@ use Rattle.promise_spec.specs.Programs.{Program}
 use Rattle.promise_spec.specs.Logs.{IsLog}
 use Rattle.promise_spec.specs.Moments.{IsImageOf}
 use Rattle.promise_spec.specs.Causes.{RoseBy, NoneRose}
-use Rattle.promise_spec.specs.Endings.{Ending, Done, BadUse, Memory, ReadFault, WriteFault, DiskFault, NotASilo, AlreadyASilo, Damaged, BadProgram, InputTooLong, HasRisen, IsCarried, IsAllWritten, IsCalm}
+use Rattle.promise_spec.specs.Endings.{Ending, Done, BadUse, Memory, ReadFault, WriteFault, DiskFault, NotASilo, AlreadyASilo, Damaged, BadProgram, InputTooLong, LastGeneration, HasRisen, IsCarried, IsAllWritten, IsCalm}
 use Rattle.promise_spec.specs.Crashes.{LeavesAlone}
 use Rattle.promise_spec.specs.Batches.{EndsABatch}
 use Rattle.promise_spec.specs.Courses.{Observed, moments, lines, core_end}
@@ -70,6 +70,7 @@ module _ (p : Program) (r : Observed) (opening : Log) (run : IsEmptyRun p r open
   carried (Damaged file place) all = absurd all
   carried (BadProgram fault) all = absurd all
   carried (InputTooLong line) all = tt
+  carried LastGeneration all = absurd all
 
   -- and where no count rose, no fault ended it
   calm : (e : Ending) → IsAllWritten e → HasRisen e r.faults_before r.faults_after → NoneRose r.faults_before r.faults_after → IsCalm e
@@ -84,6 +85,7 @@ module _ (p : Program) (r : Observed) (opening : Log) (run : IsEmptyRun p r open
   calm (Damaged file place) all risen none = absurd all
   calm (BadProgram fault) all risen none = absurd all
   calm (InputTooLong line) all risen none = tt
+  calm LastGeneration all risen none = absurd all
 
   pub kept : Keeps p r (empty_course r opening)
   kept = record {

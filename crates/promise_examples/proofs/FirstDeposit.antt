@@ -40,7 +40,8 @@ five = fits_signed_from_abs w64 (pos 5) (lit< tt)
 -- the image's log is that one record
 pub logged_batch : IsBatched 0 (shape_in account_program) (folder 1 grain_bytes) (first_commit ∷ [])
 logged_batch = record {
-  header = refl;
+  kind = refl;
+  zero = refl;
   batches = (first_commit ∷ []) ∷ [];
   gate = 88;
   blocks = record { blocks = record { small = (omega arith, tt); at = refl; within = omega arith; blocks = refl }; closed = λ e. cc e };
@@ -71,7 +72,7 @@ logged_batch = record {
 }
 
 pub logged : IsLog 0 (folder 1 grain_bytes) (account_log (first_commit ∷ []))
-logged = account_logged (folder 1 grain_bytes) (first_commit ∷ []) (record { long = omega arith; gate = refl; named = refl }) refl logged_batch
+logged = account_logged (folder 1 grain_bytes) (first_commit ∷ []) refl (record { long = omega arith; gate = refl; named = refl }) refl logged_batch
 
 -- it ends at the file's last byte
 pub ends_last : LogsUpTo (map body_of (Records (first_commit ∷ []) ∷ [])) 88 (manager_bytes 1)
@@ -80,7 +81,8 @@ ends_last = record { blocks = record { small = (omega arith, tt); at = refl; wit
 -- where the block's gate is closed, the log is empty
 closed_batch : IsBatched 0 (shape_in account_program) (folder 0 grain_bytes) []
 closed_batch = record {
-  header = refl;
+  kind = refl;
+  zero = refl;
   batches = [];
   gate = 15;
   blocks = record { blocks = record { small = tt; at = refl; within = omega arith; blocks = refl }; closed = λ e. cc e };
@@ -90,7 +92,7 @@ closed_batch = record {
 }
 
 pub closed_gate : IsLog 0 (folder 0 grain_bytes) (account_log [])
-closed_gate = account_logged (folder 0 grain_bytes) [] (record { long = omega arith; gate = refl; named = refl }) refl closed_batch
+closed_gate = account_logged (folder 0 grain_bytes) [] refl (record { long = omega arith; gate = refl; named = refl }) refl closed_batch
 
 -- the deposit stands in the store
 pub stands : (standing_of (account_log (first_commit ∷ []))).states account_1 ≡ Int (pos 5) ∷ []
@@ -125,7 +127,7 @@ cut (state ∷ states) kept =
     let size : 10 ≡ 19 = ap (λ (l : List ℕ). length l) v.here ∙ v.version_is.len in
     omega (arith, size)
 
-pub shown : show_text (account_log (first_commit ∷ [])) ≡ codes "{\"fields\":{\"balance\":5},\"grain\":\"account/1\"}\n{\"count\":1}\n"
+pub shown : show_text (account_1 ∷ []) (account_log (first_commit ∷ [])) ≡ codes "{\"fields\":{\"balance\":5},\"grain\":\"account/1\"}\n{\"count\":1}\n"
 unfolding serde_json_on_literals digits
 shown = refl
 

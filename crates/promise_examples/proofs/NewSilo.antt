@@ -1,5 +1,5 @@
 -- The disks of a new silo of the accounts, and of one whose first deposit is sealed or being sealed: what their images have.
-use Rattle.std.proofs.Common.{◌≡◌, ◌≢◌, ◌⊎◌, inl, inr, ℕ, zero, suc, ◌+◌, ◌^◌, ◌<◌, ◌≤◌, Bool, true, false, if◌then◌else◌, List, [], ◌∷◌, ◌++◌, length, map, drop, slice_index, Option, Some, None, Result, Ok, refl, sym, ◌∙◌, ap, subst, arith, length-append}
+use Rattle.std.proofs.Common.{◌≡◌, ◌≢◌, ◌⊎◌, inl, inr, ℕ, zero, suc, ◌+◌, ◌^◌, ◌<◌, ◌≤◌, Bool, true, false, if◌then◌else◌, List, [], ◌∷◌, ◌++◌, length, map, drop, slice_index, Option, Some, Result, Ok, refl, sym, ◌∙◌, ap, subst, arith, length-append, lit≤}
 use Rattle.std.specs.Prelude.{codes, nat_lt}
 use Rattle.std.specs.Option.{ok_or}
 use Rattle.std.proofs.lemmas.Bool.{cases_eq, cases_lt}
@@ -22,7 +22,7 @@ use Rattle.gate_block.specs.Log.{LogsUpTo, gate_of}
 use Rattle.gate_block.proofs.Logs as blocks
 use Rattle.grain_log.specs.Places.{IsVersionAt}
 use Rattle.cell_model.specs.Units.{same_grain}
-use Rattle.log_reading.specs.Blocks.{header_damage}
+use Rattle.silo_spec.specs.Slots.{ShowsSilos}
 use Rattle.silo_spec.specs.Silos.{manager, program_file, IsSilo, HasProgram}
 use Rattle.request_wire.specs.Names.{TypeNames, names_in}
 use Rattle.request_wire.specs.Request.{shape_of, grain_of, method_of, args_of, passed, call_of}
@@ -40,10 +40,11 @@ use Rattle.promise_examples.specs.WrittenRun.{new_manager, disk_of, new_disk, pe
 use Rattle.promise_examples.proofs.FirstDeposit.{logged_batch, logged}
 use Rattle.promise_examples.proofs.AccountText.{account_is_checked}
 use Rattle.promise_spec.specs.Images.{IsSound}
-use Rattle.promise_examples.proofs.AccountLogs.{account_logged}
+use Rattle.promise_examples.proofs.AccountLogs.{no_bytes, account_logged}
 use Rattle.promise_spec.proofs.Batched.{batch_body}
 use Rattle.promise_spec.proofs.OneLog.{one_log}
 use Rattle.promise_spec.proofs.Prefixes.{of_itself}
+use Rattle.promise_spec.proofs.Slots.{one_slot}
 use Rattle.promise_spec.specs.Prefixes.{IsPrefixOf}
 use Rattle.promise_spec.specs.Entries.{Log}
 
@@ -56,11 +57,13 @@ module _ (image : Image) (program_is : image program_file ≡ program_bytes) whe
   pub has_program : HasProgram account_program.text (image program_file)
   has_program = subst (λ (file : List ℕ). HasProgram account_text file) (sym program_is) program_spelled
 
+module _ (image : Image) (program_is : image program_file ≡ program_bytes) (alone : image (Manager 1) ≡ []) where
   -- a manager file whose first gate is closed
-  pub has_none : (file : List ℕ) → IsSilo magic file → header_damage file ≡ None → LogsUpTo [] 15 file → image manager ≡ file → HasNone image
-  has_none file silo header blocks is = (
-    account_logged image [] (subst (λ (f : List ℕ). IsSilo magic f) (sym is) silo) has_program (record {
-      header = ap header_damage is ∙ header;
+  pub has_none : (file : List ℕ) → IsSilo magic file → slice_index file 13 ≡ 0 → slice_index file 14 ≡ 0 → LogsUpTo [] 15 file → image manager ≡ file → HasNone image
+  has_none file silo kind nought blocks is = (
+    account_logged image [] alone (subst (λ (f : List ℕ). IsSilo magic f) (sym is) silo) (has_program image program_is) (record {
+      kind = ap (λ (f : List ℕ). slice_index f 13) is ∙ kind;
+      zero = ap (λ (f : List ℕ). slice_index f 14) is ∙ nought;
       batches = [];
       gate = 15;
       blocks = subst (λ (f : List ℕ). LogsUpTo [] 15 f) (sym is) blocks;
@@ -68,15 +71,16 @@ module _ (image : Image) (program_is : image program_file ≡ program_bytes) whe
       are = refl;
       kept = tt;
     }),
-    has_program,
+    has_program image program_is,
   )
 
   -- the first deposit's files
   pub has_deposit : image manager ≡ manager_bytes 1 → image (Grain 0 account_1) ≡ grain_bytes → HasDeposit image
   has_deposit is grain_is =
       let stands = logged_batch.kept.0.whole.0 in (
-        account_logged image (first_commit ∷ []) (subst (λ (f : List ℕ). IsSilo magic f) (sym is) logged.is_live.silo) has_program (record {
-          header = ap header_damage is ∙ logged_batch.header;
+        account_logged image (first_commit ∷ []) alone (subst (λ (f : List ℕ). IsSilo magic f) (sym is) logged.is_live.silo) (has_program image program_is) (record {
+          kind = ap (λ (f : List ℕ). slice_index f 13) is ∙ logged_batch.kind;
+          zero = ap (λ (f : List ℕ). slice_index f 14) is ∙ logged_batch.zero;
           batches = logged_batch.batches;
           gate = logged_batch.gate;
           blocks = subst (λ (f : List ℕ). LogsUpTo (map batch_body logged_batch.batches) logged_batch.gate f) (sym is) logged_batch.blocks;
@@ -97,7 +101,7 @@ module _ (image : Image) (program_is : image program_file ≡ program_bytes) whe
             tt,
           );
         }),
-        has_program,
+        has_program image program_is,
       )
 
 new_is_silo : IsSilo magic new_manager
@@ -158,7 +162,7 @@ gate_only block c left = ext_get_or 0 c (manager_of block (slice_index c 15)) (s
 module _ (image : Image) where
   -- a new silo's manager file has an empty log, whatever the file of `account/1` is
   pub empty_images : (grain : FileState) → IsImage (disk_of (settled new_manager) grain) image → HasNone image
-  empty_images grain left = has_none image (settled_only program_bytes (image program_file) (left program_file)) new_manager new_is_silo refl new_has_none (settled_only new_manager (image manager) (left manager))
+  empty_images grain left = has_none image (settled_only program_bytes (image program_file) (left program_file)) (settled_only [] (image (Manager 1)) (left (Manager 1))) new_manager new_is_silo refl refl new_has_none (settled_only new_manager (image manager) (left manager))
 
   pub new_images : IsImage new_disk image → HasNone image
   new_images left = empty_images (settled []) left
@@ -166,17 +170,18 @@ module _ (image : Image) where
   pub sealing_images : IsImage sealing_disk image → HasNone image ⊎ HasDeposit image
   sealing_images left =
       let program_is : image program_file ≡ program_bytes = settled_only program_bytes (image program_file) (left program_file) in
+      let alone : image (Manager 1) ≡ [] = settled_only [] (image (Manager 1)) (left (Manager 1)) in
       let grain_is : image (Grain 0 account_1) ≡ grain_bytes = settled_only grain_bytes (image (Grain 0 account_1)) (left (Grain 0 account_1)) in
       let gate = slice_index (image manager) 15 in
       let is : image manager ≡ manager_bytes gate = gate_only block_bytes (image manager) (left manager) in
       elim (cases_eq gate 1) [
-        | inl open_gate ↦ inr (has_deposit image program_is (is ∙ ap manager_bytes open_gate) grain_is)
-        | inr shut ↦ inl (has_none image program_is (manager_bytes gate) (gate_is_silo block_bytes gate) refl (shut_has_none block_bytes gate shut) is)
+        | inl open_gate ↦ inr (has_deposit image program_is alone (is ∙ ap manager_bytes open_gate) grain_is)
+        | inr shut ↦ inl (has_none image program_is alone (manager_bytes gate) (gate_is_silo block_bytes gate) refl refl (shut_has_none block_bytes gate shut) is)
       ]
 
   pub sealed_images : IsImage sealed_disk image → HasDeposit image
   sealed_images left =
-      has_deposit image (settled_only program_bytes (image program_file) (left program_file)) (settled_only (manager_bytes 1) (image manager) (left manager))
+      has_deposit image (settled_only program_bytes (image program_file) (left program_file)) (settled_only [] (image (Manager 1)) (left (Manager 1))) (settled_only (manager_bytes 1) (image manager) (left manager))
       (settled_only grain_bytes (image (Grain 0 account_1)) (left (Grain 0 account_1)))
 
 -- a manager file whose log ends at its last byte has nothing behind it, as a shorter one has nothing there
@@ -222,14 +227,23 @@ seen_possible log grain (Grain (suc slot) g) = settled_stays []
 abbrev pub new_folder : Image
 new_folder file = (new_disk file).seen
 
+-- its manager file is as long as a header and a gate, and slot 1 has none
+pub new_shows : ShowsSilos magic new_disk
+new_shows image left zero low short silo = absurd (let long : 16 ≤ length new_manager = lit≤ tt in omega (arith, long, short))
+new_shows image left (suc zero) low short silo = no_bytes (image (Manager 1)) (settled_only [] (image (Manager 1)) (left (Manager 1))) silo
+new_shows image left (suc (suc slot)) low short silo = absurd (omega (arith, low))
+
 -- each image has the empty log
-pub sound_world : (w : World) → ((image : Image) → IsImage w.disk image → IsImage new_disk image) → IsSoundFolder w
-sound_world w same = record {
+pub sound_world : (w : World) → ((image : Image) → IsImage w.disk image → IsImage new_disk image) → ShowsSilos magic w.disk → IsSoundFolder w
+sound_world w same shows = record {
   chain = λ one other is_one is_other a b has_a has_b.
       (let a_is : a ≡ account_log [] = log_is one is_one a has_a in
       let b_is : b ≡ account_log [] = log_is other is_other b has_b in
       inl (subst (λ (l : Log). IsPrefixOf l b) (sym a_is) (subst (λ (l : Log). IsPrefixOf (account_log []) l) (sym b_is) (of_itself (account_log [])))));
-  sound = λ image left live is. subst (λ (slot : ℕ). IsSound slot image) (sym is.slot) (record { log = account_log []; is = (new_images image (same image left)).0; serial = tt; numbered = tt });
+  sound = λ image left live is.
+      (let new = (new_images image (same image left)).0 in
+      subst (λ (slot : ℕ). IsSound slot image) (one_slot 0 live image new.is_live is) (record { log = account_log []; is = new; serial = tt; numbered = tt }));
+  shows = shows;
 }
   where
     log_is : (image : Image) → IsImage w.disk image → (log : Log) → HasLog image log → log ≡ account_log []

@@ -1,8 +1,9 @@
 -- What the folders like that of the first deposit read as.
-use Rattle.std.proofs.Common.{◌≡◌, ◌≢◌, ℕ, Bool, true, false, if◌then◌else◌, Option, Some, None, List, [], ◌∷◌, ◌++◌, length, take, drop, Result, refl, sym, ◌∙◌, ap}
-use Rattle.std.proofs.lemmas.Bool.{ne_eqb}
+use Rattle.std.proofs.Common.{◌≡◌, ◌≢◌, ℕ, zero, suc, ◌<◌, Bool, true, false, Option, Some, List, [], ◌∷◌, ◌++◌, length, take, drop, slice_index, nat_lt, Result, refl, sym, ◌∙◌, ap, arith}
+use Rattle.std.specs.Prelude.{◌==◌}
+use Rattle.std.proofs.lemmas.Bool.{ne_eqb, lt-leb}
 use Rattle.std.proofs.lemmas.List.{take_at}
-use Rattle.host_trait.specs.declared.channels.FileId.TheVariants.{Grain}
+use Rattle.host_trait.specs.declared.channels.FileId.TheVariants.{Manager, Grain}
 use Rattle.host_trait.specs.World.{Image}
 use Rattle.field_codec.specs.declared.formats.Format.TheVariants.{One}
 use Rattle.field_codec.specs.Readers.{whole, refused, field, choice, when_known, chain, count_at, list_at}
@@ -14,12 +15,14 @@ use Rattle.grain_log.specs.Reads.{version_in}
 use Rattle.silo_spec.specs.Silos.{manager, program_file}
 use Rattle.promise_spec.specs.Programs.{Program, shape_in}
 use Rattle.promise_spec.specs.Logs.{magic}
-use Rattle.promise_spec.specs.Openings.{NoSilo, DamagedAt, Reads, is_silo, header_damage, behind_header, records_behind, no_more, with_program, with_slot, with_log, opened_as}
+use Rattle.promise_spec.specs.Openings.{NoSilo, DamagedAt, Reads, is_silo, header_damage, behind_header, log_as, with_program, live_of, with_slot, with_log, opened_as}
 use Rattle.promise_spec.proofs.Openings.{no_silo_is_read}
 use Rattle.promise_examples.specs.Examples.{account_log, account_program, account_1, account_2, first_commit, program_bytes, grain_bytes, manager_bytes, folder, torn_folder}
 use Rattle.promise_examples.specs.Readings.{changed, folder_of, program_folder, log_folder, log_changed, grain_folder, two_writes, same_account, version_by, two_folder}
 use Rattle.promise_examples.proofs.NewSilo.{file_is_read}
-use Rattle.promise_spec.proofs.Slots.{first_silo}
+use Rattle.silo_spec.specs.Silos.{IsSilo}
+use Rattle.silo_spec.specs.Slots.{generation, IsLive}
+use Rattle.promise_examples.proofs.AccountLogs.{no_bytes}
 
 -- ---- folders whose program file is the accounts'
 
@@ -103,35 +106,41 @@ versions_read = record {
 
 -- ---- folders that are no silo
 
--- where the manager file isn't a silo's
-no_silo : (image : Image) → is_silo (image manager) ≡ false → opened_as image ≡ NoSilo
-no_silo image is = rw is refl
+-- where no manager file is a silo's
+no_silo : (image : Image) → is_silo (image manager) ≡ false → is_silo (image (Manager 1)) ≡ false → opened_as image ≡ NoSilo
+no_silo image is other = rw (is, other) refl
 
 pub short : opened_as (log_folder (take 15 (manager_bytes 1))) ≡ NoSilo
-short = no_silo (log_folder (take 15 (manager_bytes 1))) refl
+short = no_silo (log_folder (take 15 (manager_bytes 1))) refl refl
 
 pub header_gate : (byte : ℕ) → byte ≢ 1 → opened_as (log_changed 0 byte) ≡ NoSilo
-header_gate byte other = no_silo (log_changed 0 byte) (rw (ne_eqb byte 1 other) refl)
+header_gate byte other = no_silo (log_changed 0 byte) (rw (ne_eqb byte 1 other) refl) refl
+
+-- such a folder has a silo in slot 0 alone
+first_of : (live : ℕ) (file : List ℕ) → IsLive magic live (log_folder file) → IsSilo magic file
+first_of zero file is = is.silo
+first_of (suc zero) file is = absurd (no_bytes [] refl is.silo)
+first_of (suc (suc slot)) file is = absurd (omega (arith, is.slot))
 
 pub other_magic : (name : List ℕ) → length name ≡ 8 → name ≢ magic → opened_as (log_folder (1 ∷ (name ++ drop 9 (manager_bytes 1)))) ≡ NoSilo
 other_magic name long other = (no_silo_is_read (log_folder (1 ∷ (name ++ drop 9 (manager_bytes 1))))).1 (λ live is.
-    let silo = first_silo live (log_folder (1 ∷ (name ++ drop 9 (manager_bytes 1)))) is in
+    let silo = first_of live (1 ∷ (name ++ drop 9 (manager_bytes 1))) is in
     other (sym (take_at name (drop 9 (manager_bytes 1)) 8 long) ∙ silo.named))
 
 pub silo_first : opened_as (folder_of (take 3 program_bytes) (take 15 (manager_bytes 1)) grain_bytes) ≡ NoSilo
-silo_first = no_silo (folder_of (take 3 program_bytes) (take 15 (manager_bytes 1)) grain_bytes) refl
+silo_first = no_silo (folder_of (take 3 program_bytes) (take 15 (manager_bytes 1)) grain_bytes) refl refl
 
 -- ---- folders whose manager file's header is damaged
 
 -- where a silo's header is damaged, that is what the folder reads as
 header_damaged : (file : List ℕ) (place : ℕ) → is_silo file ≡ true → header_damage file ≡ Some place → opened_as (log_folder file) ≡ DamagedAt manager place
 header_damaged file place silo damage =
-    ap (λ (b : Bool). with_slot (log_folder file) (if b then Some 0 else None)) silo
+    ap (λ (b : Bool). with_slot (log_folder file) (live_of b false (nat_lt (generation file) (generation [])))) silo
     ∙ ap (λ (r : Result Program ℕ). with_program 0 (log_folder file) r) file_is_read
-    ∙ ap (λ (d : Option ℕ). with_log 0 account_program (log_folder file) (behind_header d (records_behind One (shape_in account_program) 15 (bodies_of file) (no_more (gate_of file) (found_at (gate_of file) file))))) damage
+    ∙ ap (λ (d : Option ℕ). with_log 0 account_program (log_folder file) (behind_header d (log_as One (shape_in account_program) (slice_index file 13 == 1) (bodies_of file) (gate_of file) (found_at (gate_of file) file)))) damage
 
-pub header_byte : (byte : ℕ) → byte ≢ 0 → opened_as (log_changed 13 byte) ≡ DamagedAt manager 13
-header_byte byte other = header_damaged (changed 13 byte (manager_bytes 1)) 13 refl (rw (ne_eqb byte 0 other) refl)
+pub header_byte : (byte : ℕ) → 1 < byte → opened_as (log_changed 13 byte) ≡ DamagedAt manager 13
+header_byte byte above = header_damaged (changed 13 byte (manager_bytes 1)) 13 refl (rw (lt-leb byte 1 above) refl)
 
 pub next_header_byte : (byte : ℕ) → byte ≢ 0 → opened_as (log_changed 14 byte) ≡ DamagedAt manager 14
 next_header_byte byte other = header_damaged (changed 14 byte (manager_bytes 1)) 14 refl (rw (ne_eqb byte 0 other) refl)

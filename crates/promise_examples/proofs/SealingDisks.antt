@@ -4,7 +4,7 @@ use Rattle.std.proofs.lemmas.List.{ext_get_or, take-append-drop}
 use Rattle.std.proofs.Common.{get_or-take}
 use Rattle.base_types.specs.declared.calls.GrainId.{GrainId}
 use Rattle.cell_model.specs.Units.{same_grain}
-use Rattle.host_trait.specs.declared.channels.FileId.TheVariants.{Grain}
+use Rattle.host_trait.specs.declared.channels.FileId.TheVariants.{Manager, Grain}
 use Rattle.host_trait.specs.Disk.{FileState, MayLeave, settled}
 use Rattle.host_trait.specs.World.{Image, IsImage, Disk, Moment}
 use Rattle.host_trait.proofs.Crashes.{settled_only}
@@ -55,11 +55,11 @@ more_has_none more = record {
 pub block_images : (block : List ℕ) (grain : FileState) (image : Image) → IsImage (disk_of (pending_block block) grain) image → HasNone image
 block_images block grain image left =
     let more : List ℕ = drop 16 (image manager) in
-    has_none image (settled_only program_bytes (image program_file) (left program_file)) (new_manager ++ more) (more_is_silo more) refl (more_has_none more) (block_is block (image manager) (left manager))
+    has_none image (settled_only program_bytes (image program_file) (left program_file)) (settled_only [] (image (Manager 1)) (left (Manager 1))) (new_manager ++ more) (more_is_silo more) refl refl (more_has_none more) (block_is block (image manager) (left manager))
 
 pub staged_images : (block : List ℕ) (grain : FileState) (image : Image) → IsImage (disk_of (settled (manager_of block 0)) grain) image → HasNone image
 staged_images block grain image left =
-    has_none image (settled_only program_bytes (image program_file) (left program_file)) (manager_of block 0) (gate_is_silo block 0) refl (shut_has_none block 0 (λ e. cc e))
+    has_none image (settled_only program_bytes (image program_file) (left program_file)) (settled_only [] (image (Manager 1)) (left (Manager 1))) (manager_of block 0) (gate_is_silo block 0) refl refl (shut_has_none block 0 (λ e. cc e))
     (settled_only (manager_of block 0) (image manager) (left manager))
 
 -- ---- headers

@@ -11,6 +11,8 @@ use Rattle.script_meaning.specs.Play.{unit, play_over}
 use Rattle.script_meaning.specs.WorkedExamples.{bank, at, int}
 use Rattle.gate_block.specs.Log.{LogsUpTo}
 use Rattle.log_reading.specs.Blocks.{header_damage}
+use Rattle.promise_spec.proofs.Slots.{only_live}
+use Rattle.promise_examples.proofs.AccountLogs.{no_bytes}
 use Rattle.silo_spec.specs.Silos.{manager}
 use Rattle.silo_spec.specs.Slots.{IsLive}
 use Rattle.promise_spec.specs.Programs.{shape_in}
@@ -95,7 +97,7 @@ transfer_kept = record {
 
 -- the folder's manager file is a silo's, with the blocks of both records, of which each is kept
 pub live : IsLive magic 0 bank_folder
-live = record { slot = refl; silo = record { long = omega arith; gate = refl; named = refl } }
+live = only_live 0 bank_folder (omega arith) (record { long = omega arith; gate = refl; named = refl }) (no_bytes [] refl)
 
 pub header : header_damage (bank_folder manager) ≡ None
 header = refl

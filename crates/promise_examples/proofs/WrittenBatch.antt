@@ -20,11 +20,10 @@ use Rattle.commit_log.specs.Bodies.{IsRecordIn}
 use Rattle.gate_block.specs.Blocks.{block_of}
 use Rattle.gate_block.specs.Log.{LogsUpTo}
 use Rattle.grain_log.specs.Places.{IsVersionAt}
-use Rattle.host_trait.specs.declared.channels.FileId.TheVariants.{Grain}
+use Rattle.host_trait.specs.declared.channels.FileId.TheVariants.{Manager, Grain}
 use Rattle.host_trait.specs.Disk.{Overwrote, settled}
 use Rattle.host_trait.specs.World.{Disk, Image, IsImage, Moment, moment_of}
 use Rattle.host_trait.proofs.Crashes.{settled_only}
-use Rattle.log_reading.specs.Blocks.{header_damage}
 use Rattle.silo_spec.specs.Silos.{manager, program_file, IsSilo, HasProgram}
 use Rattle.promise_spec.specs.Programs.{shape_in}
 use Rattle.promise_spec.specs.Entries.{Log}
@@ -116,9 +115,10 @@ abbrev MayHaveBoth : Image → Type 0
 MayHaveBoth image = HasNone image ⊎ HasBoth image
 
 module _ (image : Image) where
-  has_both : image manager ≡ manager_of both_block 1 → image (Grain 0 account_1) ≡ both_versions → HasProgram account_text (image program_file) → HasBoth image
-  has_both is grain_is file = account_logged image both_commits (subst (λ (f : List ℕ). IsSilo magic f) (sym is) (gate_is_silo both_block 1)) file (record {
-    header = ap header_damage is;
+  has_both : image (Manager 1) ≡ [] → image manager ≡ manager_of both_block 1 → image (Grain 0 account_1) ≡ both_versions → HasProgram account_text (image program_file) → HasBoth image
+  has_both alone is grain_is file = account_logged image both_commits alone (subst (λ (f : List ℕ). IsSilo magic f) (sym is) (gate_is_silo both_block 1)) file (record {
+    kind = ap (λ (f : List ℕ). slice_index f 13) is;
+    zero = ap (λ (f : List ℕ). slice_index f 14) is;
     batches = both_commits ∷ [];
     gate = 152;
     blocks = subst (λ (f : List ℕ). LogsUpTo (map body_of (Records both_commits ∷ [])) 152 f) (sym is) both_blocks;
@@ -159,13 +159,13 @@ module _ (image : Image) where
       let gate = slice_index (image manager) 15 in
       let is : image manager ≡ manager_of both_block gate = gate_only both_block (image manager) (left manager) in
       elim (cases_eq gate 1) [
-        | inl open_gate ↦ inr (has_both (is ∙ ap (manager_of both_block) open_gate) (settled_only both_versions (image (Grain 0 account_1)) (left (Grain 0 account_1))) (has_program image (settled_only program_bytes (image program_file) (left program_file))))
-        | inr shut ↦ inl (has_none image (settled_only program_bytes (image program_file) (left program_file)) (manager_of both_block gate) (gate_is_silo both_block gate) refl (shut_has_none both_block gate shut) is)
+        | inl open_gate ↦ inr (has_both (settled_only [] (image (Manager 1)) (left (Manager 1))) (is ∙ ap (manager_of both_block) open_gate) (settled_only both_versions (image (Grain 0 account_1)) (left (Grain 0 account_1))) (has_program image (settled_only program_bytes (image program_file) (left program_file))))
+        | inr shut ↦ inl (has_none image (settled_only program_bytes (image program_file) (left program_file)) (settled_only [] (image (Manager 1)) (left (Manager 1))) (manager_of both_block gate) (gate_is_silo both_block gate) refl refl (shut_has_none both_block gate shut) is)
       ]
 
   -- and once it's synced
   both_images : IsImage (both_disk (settled (manager_of both_block 1))) image → HasBoth image
-  both_images left = has_both (settled_only (manager_of both_block 1) (image manager) (left manager)) (settled_only both_versions (image (Grain 0 account_1)) (left (Grain 0 account_1))) (has_program image (settled_only program_bytes (image program_file) (left program_file)))
+  both_images left = has_both (settled_only [] (image (Manager 1)) (left (Manager 1))) (settled_only (manager_of both_block 1) (image manager) (left manager)) (settled_only both_versions (image (Grain 0 account_1)) (left (Grain 0 account_1))) (has_program image (settled_only program_bytes (image program_file) (left program_file)))
 
 -- ---- the moments
 

@@ -1,6 +1,5 @@
 -- The run that is written out, of two deposits of which one is left in doubt, meets all that is asked of such a run.
 use Rattle.host_trait.proofs.Crashes.{settled_only}
-use Rattle.log_reading.specs.Blocks.{header_damage}
 use Rattle.silo_spec.specs.OpenedDisks.{opening_syncs}
 use Rattle.promise_spec.specs.Logs.{magic, StandsUpTo}
 use Rattle.promise_examples.proofs.AccountLogs.{account_begins}
@@ -31,7 +30,7 @@ use Rattle.promise_examples.specs.DoubtRuns.{IsDoubtRun, doubt_course, first_tol
 use Rattle.promise_examples.specs.HostCalls.{IsHosted}
 use Rattle.promise_examples.specs.WrittenRun.{new_manager, new_disk, version_pending, block_pending, gate_pending, sealing_disk, request_line, opened}
 use Rattle.promise_examples.specs.WrittenDoubt.{pair_manner, second_line, locked_text, doubt_text, told, doubting, pair_before, one_fault, doubted, doubted_steps}
-use Rattle.promise_examples.proofs.NewSilo.{gate_is_silo, has_deposit, other_bytes, gate_only, new_images, sealing_images, settled_stays, grain_stays, seen_possible, new_folder, sound_world, line_asks, has_program}
+use Rattle.promise_examples.proofs.NewSilo.{gate_is_silo, has_deposit, other_bytes, gate_only, new_images, sealing_images, settled_stays, grain_stays, seen_possible, new_folder, sound_world, new_shows, line_asks, has_program}
 use Rattle.promise_examples.proofs.SealingDisks.{at_new, at_block, at_staged, at_sealing}
 use Rattle.promise_examples.proofs.HostSteps.{pulled, ended, wrote_grain, wrote_log, synced_grain, synced_log, unsynced_log, emitted}
 use Rattle.promise_examples.proofs.WrittenRun.{version_wrote, block_wrote, gate_wrote}
@@ -65,7 +64,7 @@ module _ (image : Image) (left : IsImage sealing_disk image) where
   file_is = gate_only block_bytes (image manager) (left manager)
 
   front : StandsUpTo 0 image (account_log []) [] 15
-  front = account_begins image (subst (IsSilo magic) (sym file_is) (gate_is_silo block_bytes gate)) (ap header_damage file_is) (has_program image (settled_only program_bytes (image program_file) (left program_file)))
+  front = account_begins image (subst (IsSilo magic) (sym file_is) (gate_is_silo block_bytes gate)) (ap (λ (f : List ℕ). slice_index f 13) file_is) (ap (λ (f : List ℕ). slice_index f 14) file_is) (has_program image (settled_only program_bytes (image program_file) (left program_file)))
       (subst (λ (f : List ℕ). HasBlocks [] 15 f) (sym file_is) (record { small = tt; at = refl; within = omega arith; blocks = refl }))
 
   block : HasBlock 0 15 (first_commit ∷ []) image
@@ -101,7 +100,7 @@ exit_possible (Grain (suc slot) g) = settled_stays []
 
 exit_has : HasDeposit seen_at_exit
 unfolding seen_at_exit
-exit_has = has_deposit seen_at_exit refl refl refl
+exit_has = has_deposit seen_at_exit refl refl refl refl
 
 -- ---- the run
 
@@ -152,7 +151,7 @@ is_doubt_run = record {
 }
 
 pub sound_at_entry : IsSoundFolder pair_before
-sound_at_entry = sound_world pair_before (λ image left. left)
+sound_at_entry = sound_world pair_before (λ image left. left) new_shows
 
 pub doubted_keeps : Keeps account_program doubted (doubt_course opened told doubting doubted)
 doubted_keeps = kept doubted opened told doubting is_doubt_run

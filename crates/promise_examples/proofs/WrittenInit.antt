@@ -1,7 +1,7 @@
 -- The calls of `init` that are written out keep what `init` promises, by a host's calls.
 use Rattle.std.proofs.Common.{◌≡◌, ◌≢◌, inl, inr, ℕ, zero, suc, ◌+◌, ◌<◌, ◌≤◌, Bool, true, false, if◌then◌else◌, List, [], ◌∷◌, ◌++◌, length, take, slice_index, get_or, refl, sym, ◌∙◌, ap, subst, arith, lit≤}
 use Rattle.std.specs.List.{AllByRecursion}
-use Rattle.std.proofs.lemmas.List.{ext_get_or, drop_all}
+use Rattle.std.proofs.lemmas.List.{ext_get_or}
 use Rattle.host_trait.proofs.Runs.{settled_image}
 use Rattle.host_trait.specs.declared.channels.FileId.{FileId}
 use Rattle.host_trait.specs.declared.channels.FileId.TheVariants.{Manager, Program as ProgramFile, Grain}
@@ -12,13 +12,16 @@ use Rattle.cell_model.specs.Units.{same_grain}
 use Rattle.gate_block.specs.Log.{bodies_of, IsWhole}
 use Rattle.silo_spec.specs.Silos.{manager, program_file, IsSilo, IsNewSilo, HasProgram}
 use Rattle.silo_spec.specs.Moments.{IsUntouched}
-use Rattle.silo_spec.specs.Creation.{IsBeside, IsEarly, IsNewAt}
+use Rattle.silo_spec.specs.Slots.{IsLive, ShowsSilos}
+use Rattle.silo_spec.specs.Creation.{IsBeside, IsNewAt, IsNewIfSilo}
+use Rattle.promise_spec.proofs.Slots.{only_live}
+use Rattle.promise_examples.proofs.AccountLogs.{no_bytes}
 use Rattle.promise_spec.specs.Programs.{text_limit, program_in}
 use Rattle.promise_spec.specs.Logs.{magic}
-use Rattle.promise_spec.specs.Words.{Command, Init, Run, Show, History, Audit, Load, Check, Say}
+use Rattle.promise_spec.specs.Words.{Command, Init, Run, Show, History, Audit, Load, Check, Compact, Say}
 use Rattle.promise_spec.specs.Courses.{Observed}
 use Rattle.promise_spec.specs.Promise.{IsSoundFolder}
-use Rattle.promise_spec.specs.Commands.{IsProgramText, WasSilo, MakesSilo, ManagerLasts}
+use Rattle.promise_spec.specs.Commands.{IsProgramText, WasSilo, MakesSilo, ManagersLast}
 use Rattle.promise_spec.specs.Calls.{Obeys, Serves}
 use Rattle.promise_spec.proofs.Words.{one_command}
 use Rattle.promise_examples.specs.Examples.{account_text, accounts, program_bytes, account_1}
@@ -48,9 +51,25 @@ new_silo image log_is program_is = record {
   whole = subst (λ (f : List ℕ). IsWhole f) (sym log_is) refl;
 }
 
+-- where slot 1 has no manager file, an image is a silo by slot 0 alone
+first_of : (image : Image) → image (Manager 1) ≡ [] → (live : ℕ) → IsLive magic live image → (live ≡ 0) × IsSilo magic (image manager)
+first_of image alone zero is = (refl, is.silo)
+first_of image alone (suc zero) is = absurd (no_bytes (image (Manager 1)) alone is.silo)
+first_of image alone (suc (suc slot)) is = absurd (omega (arith, is.slot))
+
+-- and is the new one where it is one by slot 0
+new_if : (program log : FileState) (image : Image) → IsImage (head_disk program log) image → (IsSilo magic (image manager) → IsNewSilo magic account_text image) → IsNewIfSilo magic account_text image
+new_if program log image left new live is =
+    let first = first_of image (settled_only [] (image (Manager 1)) (left (Manager 1))) live is in
+    (first.0, new first.1)
+
 -- while the gate is shut in each image, none is a silo
 shut_at : (program log : FileState) → ((c : List ℕ) → MayLeave log c → slice_index c 0 ≡ 0) → IsNewAt magic account_text (moment [] (head_disk program log))
-shut_at program log shut image left silo = absurd (shut_none (image manager) (shut (image manager) (left manager)) silo)
+shut_at program log shut image left = new_if program log image left (λ silo. absurd (shut_none (image manager) (shut (image manager) (left manager)) silo))
+
+-- nor while the manager file is too short
+short_at : (program log : FileState) → log.longest < 16 → IsNewAt magic account_text (moment [] (head_disk program log))
+short_at program log short image left = new_if program log image left (λ silo. absurd (omega (arith, silo.long, (left manager).no_longer, short)))
 
 settled_shut : (bytes c : List ℕ) → slice_index bytes 0 ≡ 0 → MayLeave (settled bytes) c → slice_index c 0 ≡ 0
 settled_shut bytes c shut left = ap (λ (l : List ℕ). slice_index l 0) (settled_only bytes c left) ∙ shut
@@ -73,12 +92,22 @@ opening_is c left = ext_get_or 0 c (slice_index c 0 ∷ header_bytes) size byte 
 
 -- an image of the disk while the gate is pending is the new silo, or none
 pub opening_at : IsNewAt magic account_text (moment [] opening_disk)
-opening_at image left silo =
-    new_silo image (opening_is (image manager) (left manager) ∙ ap (λ (g : ℕ). g ∷ header_bytes) silo.gate) (settled_only program_bytes (image program_file) (left program_file))
+opening_at image left = new_if (settled program_bytes) opening_gate image left (λ silo.
+    new_silo image (opening_is (image manager) (left manager) ∙ ap (λ (g : ℕ). g ∷ header_bytes) silo.gate) (settled_only program_bytes (image program_file) (left program_file)))
 
 -- each image of the disk that was made is the new silo
 made_images : (image : Image) → IsImage made_disk image → IsNewSilo magic account_text image
 made_images image left = new_silo image (settled_only new_manager (image manager) (left manager)) (settled_only program_bytes (image program_file) (left program_file))
+
+-- and its slot is the live one
+made_live : (image : Image) → IsImage made_disk image → IsLive magic 0 image
+made_live image left = only_live 0 image (omega arith) (made_images image left).silo (no_bytes (image (Manager 1)) (settled_only [] (image (Manager 1)) (left (Manager 1))))
+
+-- slot 1 has no manager file, and that of slot 0 reads as long as a header and a gate, or no image is longer than it reads
+shows_long : (program log : FileState) → 16 ≤ length log.seen → ShowsSilos magic (head_disk program log)
+shows_long program log long image left zero low short silo = absurd (omega (arith, long, short))
+shows_long program log long image left (suc zero) low short silo = no_bytes (image (Manager 1)) (settled_only [] (image (Manager 1)) (left (Manager 1))) silo
+shows_long program log long image left (suc (suc slot)) low short silo = absurd (omega (arith, low))
 
 -- ---- the other files
 
@@ -109,33 +138,18 @@ empty_is (Grain slot grain) = refl
 beside_empty : (program log : FileState) → IsBeside init_before (moment [] (head_disk program log))
 beside_empty program log = record {
   output = refl;
-  others = λ f no_log no_program. beside_program (settled []) program log f no_program ∙ beside_log (settled []) (settled []) log f no_log;
+  other = inl refl;
+  others = λ f no_log no_other no_program. beside_program (settled []) program log f no_program ∙ beside_log (settled []) (settled []) log f no_log;
 }
 
--- ---- before the first sync
-
-early : IsEarly init_before unsynced
-early = record {
-  pending = λ same. let e : [] ≡ 0 ∷ [] = ap (λ (file : FileState). file.base) same in absurd (cc e);
-  near = λ image left. record {
-    from = λ f. [];
-    possible = λ f. subst (λ (file : FileState). MayLeave file []) (sym (empty_is f)) (settled_stays []);
-    others = λ f other. settled_only [] (image f) (subst (λ (file : FileState). MayLeave file (image f)) (beside_log (settled []) (settled []) closing_gate f other ∙ empty_is f) (left f));
-    changed =
-        let short : length (image manager) ≤ 1 = (left manager).no_longer in
-        record { before = refl; after = drop_all 1 (image manager) short; no_shorter = omega arith; no_longer = omega (arith, short) };
-  };
-  unwritten = λ some. absurd (some refl);
-}
-
--- ---- from then on
+-- ---- the moments
 
 made_at : IsNewAt magic account_text (moment [] made_disk)
-made_at image left silo = made_images image left
+made_at image left = new_if (settled program_bytes) (settled new_manager) image left (λ silo. made_images image left)
 
--- all but the first moment, up to that at which the gate is opened
-filled_by : (disk : Disk) → IsNewAt magic account_text (moment [] disk) → AllByRecursion (IsNewAt magic account_text) (filling ++ moment [] disk ∷ [])
-filled_by disk last = (
+-- those up to that at which the gate is opened
+filled_later : (disk : Disk) → IsNewAt magic account_text (moment [] disk) → AllByRecursion (IsNewAt magic account_text) (filling ++ moment [] disk ∷ [])
+filled_later disk last = (
   shut_at (settled []) (settled (0 ∷ [])) (λ c left. settled_shut (0 ∷ []) c refl left),
   (
     shut_at length_pending (settled (0 ∷ [])) (λ c left. settled_shut (0 ∷ []) c refl left),
@@ -151,6 +165,10 @@ filled_by disk last = (
     ),
   ),
 )
+
+-- and the first, at which the file is too short
+filled_by : (disk : Disk) → IsNewAt magic account_text (moment [] disk) → AllByRecursion (IsNewAt magic account_text) (unsynced ∷ (filling ++ moment [] disk ∷ []))
+filled_by disk last = (short_at (settled []) closing_gate (omega arith), filled_later disk last)
 
 -- no file but the two changes
 beside_all : (program log : FileState) → AllByRecursion (IsBeside init_before) (unsynced ∷ (filling ++ moment [] (head_disk program log) ∷ []))
@@ -185,21 +203,22 @@ account_is_text r given left = record {
 }
 
 none_before : (WasSilo made) → ⊥
-none_before silo = let long : 16 ≤ 0 = silo.long in omega (arith, long)
+none_before silo = no_bytes [] refl (first_of (λ file. (empty_disk file).seen) refl silo.0 silo.1).1
 
 pub init_makes : MakesSilo made
 init_makes = record {
   beside = record { more = unsynced ∷ (filling ++ moment [] made_disk ∷ []); past = refl; each = beside_all (settled program_bytes) (settled new_manager) };
   beside_now = beside_empty (settled program_bytes) (settled new_manager);
-  makes = inr (inr (record {
+  makes = λ shown. inr (record {
     moments = record {
-      turn = unsynced ∷ [];
-      early = record { more = unsynced ∷ []; past = refl; each = (early, tt) };
-      late = record { more = filling ++ moment [] made_disk ∷ []; past = refl; each = filled_by made_disk made_at };
+      turn = [];
+      early = record { more = []; past = refl; each = tt };
+      late = record { more = unsynced ∷ (filling ++ moment [] made_disk ∷ []); past = refl; each = filled_by made_disk made_at };
     };
     now = made_at;
-  }));
-  ends_as = (account_is_text made refl refl, none_before, made_images);
+  });
+  shows = λ shown. shows_long (settled program_bytes) (settled new_manager) (lit≤ tt);
+  ends_as = (account_is_text made refl refl, none_before, λ image left. (made_images image left, λ shown. made_live image left));
   risen = tt;
 }
 
@@ -216,7 +235,7 @@ as_written (Grain zero grain) = either_way (same_grain grain account_1) where
 as_written (Grain (suc slot) grain) = refl
 
 pub sound_after : IsSoundFolder init_after
-sound_after = sound_world init_after (λ image left f. subst (λ (file : FileState). MayLeave file (image f)) (as_written f) (left f))
+sound_after = sound_world init_after (λ image left f. subst (λ (file : FileState). MayLeave file (image f)) (as_written f) (left f)) (shows_long (settled program_bytes) (settled new_manager) (lit≤ tt))
 
 -- ---- the host's calls
 
@@ -329,18 +348,25 @@ again_untouched = record {
 }
 
 again_beside : IsBeside again_before (moment [] made_disk)
-again_beside = record { output = refl; others = λ f no_log no_program. refl }
+again_beside = record { output = refl; other = inl refl; others = λ f no_log no_other no_program. refl }
 
--- nothing is pending in the manager file
-again_lasts : ManagerLasts made_again
-again_lasts image left = settled_image made_disk manager new_manager (image manager) refl (left manager)
+-- nothing is pending in the manager files
+again_lasts : ManagersLast made_again
+again_lasts image left zero low some = settled_image made_disk manager new_manager (image manager) refl (left manager)
+again_lasts image left (suc zero) low some = absurd (some refl)
+again_lasts image left (suc (suc slot)) low some = absurd (omega (arith, low))
+
+-- the folder is a silo
+again_silo : WasSilo made_again
+again_silo = (0, only_live 0 (λ file. (made_disk file).seen) (omega arith) (record { long = lit≤ tt; gate = refl; named = refl }) (no_bytes [] refl))
 
 pub again_makes : MakesSilo made_again
 again_makes = record {
   beside = record { more = moment [] made_disk ∷ []; past = refl; each = (again_beside, tt) };
   beside_now = again_beside;
-  makes = inl again_untouched;
-  ends_as = (account_is_text made_again refl refl, record { long = lit≤ tt; gate = refl; named = refl }, again_untouched, again_lasts);
+  makes = λ shown. inl again_untouched;
+  shows = λ shown. shown;
+  ends_as = (account_is_text made_again refl refl, again_silo, again_untouched, again_lasts);
   risen = tt;
 }
 
@@ -365,8 +391,9 @@ cut_untouched = record {
 pub unmade_makes : MakesSilo unmade
 unmade_makes = record {
   beside = record { more = []; past = refl; each = tt };
-  beside_now = record { output = refl; others = λ f no_log no_program. refl };
-  makes = inl cut_untouched;
+  beside_now = record { output = refl; other = inl refl; others = λ f no_log no_other no_program. refl };
+  makes = λ shown. inl cut_untouched;
+  shows = λ shown. shown;
   ends_as = ((refl, lit≤ tt, cut_is_no_program), cut_untouched);
   risen = tt;
 }
@@ -383,15 +410,16 @@ pub halted_makes : MakesSilo halted
 halted_makes = record {
   beside = record { more = unsynced ∷ (filling ++ moment [] opening_disk ∷ []); past = refl; each = beside_all (settled program_bytes) opening_gate };
   beside_now = beside_empty (settled program_bytes) opening_gate;
-  makes = inr (inr (record {
+  makes = λ shown. inr (record {
     moments = record {
-      turn = unsynced ∷ [];
-      early = record { more = unsynced ∷ []; past = refl; each = (early, tt) };
-      late = record { more = filling ++ moment [] opening_disk ∷ []; past = refl; each = filled_by opening_disk opening_at };
+      turn = [];
+      early = record { more = []; past = refl; each = tt };
+      late = record { more = unsynced ∷ (filling ++ moment [] opening_disk ∷ []); past = refl; each = filled_by opening_disk opening_at };
     };
     now = opening_at;
-  }));
-  ends_as = (account_is_text halted refl refl, inl refl, λ silo. absurd (none_before silo));
+  });
+  shows = λ shown. shows_long (settled program_bytes) opening_gate (lit≤ tt);
+  ends_as = (account_is_text halted refl refl, inl (inl refl), λ silo. absurd (none_before silo));
   risen = manager_fails.rose;
 }
 
@@ -443,6 +471,7 @@ other_say History says = absurd (cc says)
 other_say Audit says = absurd (cc says)
 other_say (Load n seed m) says = let letter : ◌≡◌ {A = ℕ} 105 108 = ap (λ (l : List (List ℕ)). get_or (get_or l 0 []) 0 0) says.words_are in absurd (omega (arith, letter))
 other_say (Check n seed) says = let letter : ◌≡◌ {A = ℕ} 105 99 = ap (λ (l : List (List ℕ)). get_or (get_or l 0 []) 0 0) says.words_are in absurd (omega (arith, letter))
+other_say Compact says = let letter : ◌≡◌ {A = ℕ} 105 99 = ap (λ (l : List (List ℕ)). get_or (get_or l 0 []) 0 0) says in absurd (omega (arith, letter))
 
 pub serves_none : (words : List (List ℕ)) → ((c : Command) → Say (λ g. true) words c → ⊥) → Serves words (λ c. unused)
 serves_none words none = record {

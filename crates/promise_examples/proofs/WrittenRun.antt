@@ -20,7 +20,7 @@ use Rattle.promise_examples.specs.DepositRuns.{IsDepositRun, deposit_course}
 use Rattle.promise_examples.specs.HostCalls.{IsHosted}
 use Rattle.promise_examples.specs.WrittenRun.{new_manager, new_disk, version_pending, block_pending, gate_pending, version_disk, voted_disk, block_disk, staged_disk, sealed_disk, request_line, reply_text, moment, opened, sealing, world_before, written_run, written_steps}
 use Rattle.promise_examples.proofs.FirstDeposit.{reply, ends_last}
-use Rattle.promise_examples.proofs.NewSilo.{new_images, ends_there, sealed_images, seen_possible, new_folder, sound_world, line_asks}
+use Rattle.promise_examples.proofs.NewSilo.{new_images, ends_there, sealed_images, seen_possible, new_folder, sound_world, new_shows, line_asks}
 use Rattle.promise_examples.proofs.SealingDisks.{at_new, at_block, at_staged, at_sealing, at_sealed, if_none, if_has}
 use Rattle.promise_examples.proofs.HostSteps.{pulled, ended, wrote_grain, wrote_log, synced_grain, synced_log, emitted}
 use Rattle.promise_examples.proofs.DepositRun.{kept, shown}
@@ -68,7 +68,7 @@ is_deposit_run = record {
 }
 
 pub sound_at_entry : IsSoundFolder world_before
-sound_at_entry = sound_world world_before (λ image left. left)
+sound_at_entry = sound_world world_before (λ image left. left) new_shows
 
 pub written_keeps : Keeps account_program written_run (deposit_course opened sealing written_run)
 written_keeps = kept written_run opened sealing is_deposit_run

@@ -1,5 +1,4 @@
 -- The run that is written out, of a doubt whose gate's write never began, shows what has to be shown, and keeps the promise.
-use Rattle.log_reading.specs.Blocks.{header_damage}
 use Rattle.promise_examples.proofs.WholeInputs.{whole_read}
 use Rattle.promise_examples.proofs.AccountLogs.{account_begins}
 use Rattle.std.proofs.Common.{◌≡◌, ◌≢◌, inl, ℕ, ◌≤◌, List, [], ◌∷◌, ◌++◌, length, take, drop, slice_index, refl, sym, ◌∙◌, ap, subst, arith}
@@ -254,7 +253,7 @@ module _ (image : Image) (left : IsImage staged_disk image) where
 
   -- the empty log stands up to its gate
   front : StandsUpTo 0 image (account_log []) [] 15
-  front = account_begins image (subst (IsSilo magic) (sym staged_is) (gate_is_silo block_bytes 0)) (ap header_damage staged_is) (has_program image (settled_only program_bytes (image program_file) (left program_file)))
+  front = account_begins image (subst (IsSilo magic) (sym staged_is) (gate_is_silo block_bytes 0)) (ap (λ (f : List ℕ). slice_index f 13) staged_is) (ap (λ (f : List ℕ). slice_index f 14) staged_is) (has_program image (settled_only program_bytes (image program_file) (left program_file)))
       (subst (λ (f : List ℕ). HasBlocks [] 15 f) (sym staged_is) (record { small = tt; at = refl; within = omega arith; blocks = refl }))
 
   -- it is the batch's

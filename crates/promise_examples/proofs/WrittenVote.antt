@@ -28,7 +28,7 @@ use Rattle.promise_examples.specs.VoteRuns.{IsVoteRun, vote_course}
 use Rattle.promise_examples.specs.HostCalls.{IsHosted}
 use Rattle.promise_examples.specs.WrittenRun.{new_manager, new_disk, request_line, opened}
 use Rattle.promise_examples.specs.WrittenVote.{reading_manner, read_line, voted_text, dependent_text, version_cut, cut_disk, failing, vote_told, reading_before, grain_fault, voted, voted_steps}
-use Rattle.promise_examples.proofs.NewSilo.{empty_images, new_images, settled_stays, seen_possible, new_folder, sound_world, line_asks, read_asks}
+use Rattle.promise_examples.proofs.NewSilo.{empty_images, new_images, settled_stays, seen_possible, new_folder, sound_world, new_shows, line_asks, read_asks}
 use Rattle.promise_examples.proofs.SealingDisks.{at_new}
 use Rattle.promise_examples.proofs.HostSteps.{account_same, pulled, ended, cut_grain, synced_log, emitted}
 use Rattle.promise_examples.proofs.VoteRun.{kept, shown}
@@ -113,7 +113,7 @@ is_vote_run = record {
 }
 
 pub sound_at_entry : IsSoundFolder reading_before
-sound_at_entry = sound_world reading_before (λ image left. left)
+sound_at_entry = sound_world reading_before (λ image left. left) new_shows
 
 pub voted_keeps : Keeps account_program voted (vote_course opened failing vote_told voted)
 voted_keeps = kept voted opened failing vote_told is_vote_run

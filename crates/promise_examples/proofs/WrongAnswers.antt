@@ -18,23 +18,25 @@ use Rattle.serde_json.specs.Written.{compact_text}
 use Rattle.request_wire.specs.Lines.{lines_of}
 use Rattle.request_wire.specs.Reply.{reply_data, reply_line}
 use Rattle.script_tree.specs.Programs.{ProgramTree}
-use Rattle.silo_spec.specs.Silos.{manager, program_file, IsSilo, HasProgram}
+use Rattle.silo_spec.specs.Silos.{program_file, IsSilo, HasProgram}
 use Rattle.promise_spec.specs.Programs.{Program, ProgramFault, IsChecked, shape_in, unless_fault, checked_in, program_in}
 use Rattle.promise_spec.specs.Logs.{magic, IsLog}
 use Rattle.promise_spec.specs.Images.{IsSound}
 use Rattle.promise_spec.specs.Openings.{Reading, NoSilo, DamagedAt, Reads, opened_as}
 use Rattle.promise_spec.specs.Outputs.{reply_lines}
-use Rattle.promise_spec.specs.Words.{Command, Init, Run, Show, History, Audit, Load, Check, Manner}
+use Rattle.promise_spec.specs.Words.{Command, Init, Run, Show, History, Audit, Load, Check, Compact, Manner}
 use Rattle.promise_spec.specs.Endings as ending
 use Rattle.promise_spec.specs.Windows.{first_bad, told_number, before_bad, whole_windows}
 use Rattle.promise_spec.specs.Courses.{Observed, lines, seen_at_entry}
 use Rattle.promise_spec.specs.Refusals.{IsHead, IsNamedIn, IsReadFor, IsRefusedBy, MustBeRead, IsUnopened, IsEitherManager}
-use Rattle.promise_spec.specs.Reports.{show_text, history_text}
+use Rattle.promise_spec.specs.Reports.{history_text}
 use Rattle.promise_spec.specs.Promise.{AllowsBefore, AllowedBy, Promises}
 use Rattle.promise_laws.specs.AnsweredRuns.{HasAnswered, HasOpened}
 use Rattle.promise_laws.proofs.OpenedRuns.{anywhere_opened}
-use Rattle.promise_spec.specs.Commands.{MakesAs, MakesSilo, MayCut, IsReported, Reports, Audits}
-use Rattle.promise_spec.specs.Loads.{IsUnmadeBy, from_there, Loads}
+use Rattle.promise_spec.specs.Commands.{MakesAs, MakesSilo, MayCut, IsReported, Reports, ShowsStates, Audits}
+use Rattle.promise_spec.specs.Rewriting.{IsRewritten, Compacts}
+use Rattle.promise_spec.proofs.Slots.{some_live}
+use Rattle.promise_spec.specs.Loads.{IsUnmadeBy, Loads}
 use Rattle.promise_spec.specs.Checks.{Checks}
 use Rattle.promise_spec.specs.Calls.{Understands, Obeys, Serves, AnswersAs, GoesOn}
 use Rattle.promise_spec.proofs.Lists.{some_is, in_append}
@@ -344,13 +346,13 @@ module _ (r : Observed) (makes : MakesSilo r) where
   ended_as e is = subst (λ (f : ending.Ending). MakesAs f r) is makes.ends_as
 
   pub another_program : (image : Image) → r.ending ≡ ending.Done → IsImage r.new.disk image → (HasProgram r.old.input (image program_file) → ⊥) → ⊥
-  another_program image done left other = other ((ended_as ending.Done done).2 image left).program
+  another_program image done left other = other ((ended_as ending.Done done).2 image left).0.program
 
   pub no_program : (fault : ProgramFault) → r.ending ≡ ending.Done → program_in r.old.input ≡ Err fault → ⊥
   no_program fault done bad = fault_again r.old.input (ended_as ending.Done done).0.types fault (ended_as ending.Done done).0.reads bad
 
-  pub made_again : r.ending ≡ ending.Done → IsSilo magic (seen_at_entry r manager) → ⊥
-  made_again done silo = (ended_as ending.Done done).1 silo
+  pub made_again : (slot : ℕ) → r.ending ≡ ending.Done → slot ≤ 1 → IsSilo magic (seen_at_entry r (file.Manager slot)) → ⊥
+  made_again slot done low silo = (ended_as ending.Done done).1 (some_live (seen_at_entry r) slot low silo)
 
   pub checked_refused : (p : Program) (fault : ProgramFault) → IsChecked p → r.old.input ≡ p.text → r.ending ≡ ending.BadProgram fault → ⊥
   checked_refused p fault checked given is =
@@ -360,11 +362,12 @@ module _ (r : Observed) (makes : MakesSilo r) where
   pub another_fault : (fault other : ProgramFault) → program_in r.old.input ≡ Err fault → r.ending ≡ ending.BadProgram other → fault ≢ other → ⊥
   another_fault fault other bad is differ = differ (one_fault r.old.input fault other bad (ended_as (ending.BadProgram other) is).0.2)
 
-  pub no_silo_already : r.ending ≡ ending.AlreadyASilo → (IsSilo magic (seen_at_entry r manager) → ⊥) → ⊥
-  no_silo_already is none = none (ended_as ending.AlreadyASilo is).1
+  pub no_silo_already : r.ending ≡ ending.AlreadyASilo → ((live : ℕ) → IsLive magic live (seen_at_entry r) → ⊥) → ⊥
+  no_silo_already is none = (let silo = (ended_as ending.AlreadyASilo is).1 in none silo.0 silo.1)
 
-  pub taken_back : (image : Image) → r.ending ≡ ending.AlreadyASilo → IsImage r.new.disk image → image manager ≢ seen_at_entry r manager → ⊥
-  taken_back image is left other = other ((ended_as ending.AlreadyASilo is).3 image left)
+  pub taken_back : (image : Image) (slot : ℕ) → r.ending ≡ ending.AlreadyASilo → IsImage r.new.disk image → slot ≤ 1 → seen_at_entry r (file.Manager slot) ≢ []
+      → image (file.Manager slot) ≢ seen_at_entry r (file.Manager slot) → ⊥
+  taken_back image slot is left low some other = other ((ended_as ending.AlreadyASilo is).3 image left slot low some)
 
 -- ---- words
 
@@ -381,6 +384,21 @@ unreported : (text : Log → List ℕ) (r : Observed) → Reports text r → r.e
 unreported text r (inl unopened) is = unopened_bad r unopened is
 unreported text r (inr reported) is = reported_bad text r reported is
 
+unshown : (r : Observed) → ShowsStates r → r.ending ≡ ending.BadUse → ⊥
+unshown r (inl unopened) is = unopened_bad r unopened is
+unshown r (inr shown) is = reported_bad _ r shown.report is
+
+-- a compaction ends otherwise
+rewritten_bad : (e : ending.Ending) → IsRewritten e → e ≡ ending.BadUse → ⊥
+rewritten_bad e (inl done) is = (let f : ending.Done ≡ ending.BadUse = sym done ∙ is in absurd (cc f))
+rewritten_bad e (inr (inl want)) is = (let f : ending.Memory ≡ ending.BadUse = sym want ∙ is in absurd (cc f))
+rewritten_bad e (inr (inr fault)) is = subst ending.IsDiskFault is fault
+
+uncompacted : (r : Observed) → Compacts r → r.ending ≡ ending.BadUse → ⊥
+uncompacted r (inl unopened) is = unopened_bad r unopened is
+uncompacted r (inr (inl last)) is = (let e : ending.LastGeneration ≡ ending.BadUse = sym last.ending ∙ is in absurd (cc e))
+uncompacted r (inr (inr compacted)) is = rewritten_bad r.ending compacted.ending is
+
 unaudited : (r : Observed) → Audits r → r.ending ≡ ending.BadUse → ⊥
 unaudited r (inl unopened) is = unopened_bad r unopened is
 unaudited r (inr audited) is = reported_bad _ r audited.report is
@@ -388,10 +406,7 @@ unaudited r (inr audited) is = reported_bad _ r audited.report is
 unloaded : (n seed : ℕ) (m : Manner) (r : Observed) → Loads n seed m r → r.ending ≡ ending.BadUse → ⊥
 unloaded n seed m r loads is = elim loads.answers [
   | inl unmade ↦ subst (λ (e : ending.Ending). IsUnmadeBy e r) is unmade.ends_as
-  | inr from ↦ elim from.carried [
-    | inl unopened ↦ unopened_bad (from_there r from.made) unopened is
-    | inr course ↦ subst ending.IsLoadCarried is course.2.ended.carried
-  ]
+  | inr from ↦ absurd (from.good is)
 ]
 
 unchecked : (n seed : ℕ) (r : Observed) → Checks n seed r → r.ending ≡ ending.BadUse → ⊥
@@ -407,11 +422,12 @@ unchecked n seed r checks is = elim checks.ending [
 never_bad_use : (c : Command) (r : Observed) → Obeys c r → r.ending ≡ ending.BadUse → ⊥
 never_bad_use Init r makes is = subst (λ (e : ending.Ending). MakesAs e r) is makes.ends_as
 never_bad_use (Run m) r keeps is = no_bad_use m r keeps is
-never_bad_use Show r reports is = unreported show_text r reports is
+never_bad_use Show r shows is = unshown r shows is
 never_bad_use History r reports is = unreported history_text r reports is
 never_bad_use Audit r audits is = unaudited r audits is
 never_bad_use (Load n seed m) r loads is = unloaded n seed m r loads is
 never_bad_use (Check n seed) r checks is = unchecked n seed r checks is
+never_bad_use Compact r compacts is = uncompacted r compacts is
 
 module _ (words : List (List ℕ)) (shown : Command → Observed) (c : Command) (serves : Serves words shown) where
   pub other_answer : ((d : Command) → Understands words d → ⊥) → (shown c).ending ≢ ending.BadUse → (shown c).ending ≢ ending.Memory → ⊥

@@ -3,8 +3,8 @@ use Rattle.silo_spec.specs.OpenedDisks.{opening_syncs, opened_disk}
 use Rattle.promise_spec.specs.Prefixes.{IsPrefixOf}
 use Rattle.promise_spec.proofs.Prefixes.{grown_front}
 use Rattle.promise_spec.proofs.Standings.{grown_none, grown_records}
-use Rattle.std.proofs.Common.{◌≡◌, ◌≢◌, inl, inr, ℕ, ◌+◌, ◌<◌, ◌≤◌, ◌^◌, Bool, true, false, true≢false, List, [], ◌∷◌, ◌++◌, length, map, take, drop, Some, Ok, eq-eqb, Result, refl, sym, ap, subst, ◌∙◌, arith, length-drop}
-use Rattle.std.specs.Prelude.{◌%◌, ◌&&◌, ◌||◌, not, nat_lt, is_none, slice_get}
+use Rattle.std.proofs.Common.{◌≡◌, ◌≢◌, inl, inr, ℕ, ◌+◌, ◌<◌, ◌≤◌, ◌^◌, Bool, true, false, true≢false, List, [], ◌∷◌, ◌++◌, length, map, take, drop, Some, Ok, eq-eqb, Result, refl, sym, ap, subst, ◌∙◌, arith, length-drop, slice_index}
+use Rattle.std.specs.Prelude.{◌%◌, ◌||◌, not, nat_lt, is_none, slice_get}
 use Rattle.std.proofs.lemmas.Bool.{and_parts, eqb-true}
 use Rattle.std.specs.Int.{w32, to_le_bytes, from_le_bytes}
 use Rattle.std.specs.List.{flat_map, AllByRecursion}
@@ -76,7 +76,7 @@ use Rattle.promise_examples.proofs.WholeBatches.{not_between}
 use Rattle.promise_examples.proofs.EmittedReplies.{emitted_before, nothing_unwritten}
 use Rattle.promise_spec.proofs.OneLog.{one_log}
 use Rattle.silo_spec.specs.Slots.{IsLive}
-use Rattle.promise_spec.specs.Blocks.{body_of, Block, Records, BlockFits}
+use Rattle.promise_spec.specs.Blocks.{body_of, Block, Records, BlockFits, Saved, Checkpoint, spelled_piece, Beginning, Fresh, From, bodies_before}
 
 ok_is : (x y : Result Call BadRequest) (a b : Call) → x ≡ Ok a → y ≡ Ok b → x ≡ y → a ≡ b
 ok_is x y a b is_a is_b same = cc
@@ -128,10 +128,28 @@ many (Records batch ∷ blocks) records sizes long same =
     let same_count : length (map (λ (c : Commit). c.logged) batch) ≡ length records = sym one ∙ ap (λ (l : List ℕ). from_le_bytes w32 (take 4 l)) body ∙ other in
     omega (arith, same_count, size, few, long)
 
+-- a piece of a checkpoint begins with 0 or 1, and so many records with another byte
+no_piece : (ck : Checkpoint) (front : List (List Saved)) (last : List Saved) (more : List (List ℕ)) (records : List CommitRecord) → length records ≡ 65
+    → (map (spelled_piece ck 1) front ++ spelled_piece ck 0 last ∷ []) ++ more ≡ spelling_of_body records ∷ [] → ⊥
+no_piece ck [] last more records long same =
+    let body : spelled_piece ck 0 last ≡ spelling_of_body records = head_of (spelled_piece ck 0 last) (spelling_of_body records) more [] same in
+    let byte : 0 ≡ 65 = ap (λ (l : List ℕ). slice_index l 0) body ∙ ap (λ (n : ℕ). slice_index (to_le_bytes w32 n ++ flat_map spelling_of_record records) 0) long in
+    absurd (omega (arith, byte))
+no_piece ck (piece ∷ front) last more records long same =
+    let body : spelled_piece ck 1 piece ≡ spelling_of_body records = head_of (spelled_piece ck 1 piece) (spelling_of_body records) ((map (spelled_piece ck 1) front ++ spelled_piece ck 0 last ∷ []) ++ more) [] same in
+    let byte : 1 ≡ 65 = ap (λ (l : List ℕ). slice_index l 0) body ∙ ap (λ (n : ℕ). slice_index (to_le_bytes w32 n ++ flat_map spelling_of_record records) 0) long in
+    absurd (omega (arith, byte))
+
+-- whatever the log begins with
+many_behind : (begins : Beginning) (blocks : List Block) (records : List CommitRecord) → AllByRecursion BlockFits blocks → length records ≡ 65
+    → bodies_before begins ++ map body_of blocks ≡ spelling_of_body records ∷ [] → ⊥
+many_behind Fresh blocks records sizes long same = many blocks records sizes long same
+many_behind (From ck) blocks records sizes long same = no_piece ck ck.front ck.last (map body_of blocks) records long same
+
 pub too_many : (live : ℕ) (image : Image) (records : List CommitRecord) (gate : ℕ) (log : Log) → length records ≡ 65 → LogsUpTo (spelling_of_body records ∷ []) gate (image (file.Manager live)) → IsLog live image log → ⊥
 too_many live image records gate log long blocks_are is =
     let stands = is.is.stands in
-    many stands.blocks records stands.fit long
+    many_behind stands.begins stands.blocks records stands.fit long
     (sym stands.spelled ∙ (blocks.one_log is.is.bodies (spelling_of_body records ∷ []) is.is.gate gate (image (file.Manager live)) (record { blocks = stands.stand; closed = is.is.closed }) blocks_are).0)
 
 -- without events no record is added

@@ -1,5 +1,5 @@
 -- Examples: a silo of accounts, in which one deposit of 5 was logged.
-use Rattle.std.specs.Prelude.{ℕ, ◌+◌, true, false, List, [], ◌∷◌, ◌++◌, take, pos, codes}
+use Rattle.std.specs.Prelude.{ℕ, zero, suc, ◌+◌, true, false, List, [], ◌∷◌, ◌++◌, take, pos, codes}
 use Rattle.base_types.specs.declared.calls.Call.{Call}
 use Rattle.base_types.specs.declared.calls.GrainId.{GrainId}
 use Rattle.base_types.specs.declared.calls.Mode.TheVariants as mode
@@ -151,16 +151,18 @@ manager_of block gate = 1 ∷ (magic ++ 0 ∷ 0 ∷ 0 ∷ 0 ∷ 0 ∷ 0 ∷ gate
 abbrev pub manager_bytes : ℕ → List ℕ
 manager_bytes = manager_of block_bytes
 
--- the folder: every grain's file is that one
+-- the folder: slot 0 has the manager file, and every grain's file is that one
 abbrev pub folder : ℕ → List ℕ → Image
 folder gate grain_file (ProgramFile slot) = program_bytes
-folder gate grain_file (Manager slot) = manager_bytes gate
+folder gate grain_file (Manager zero) = manager_bytes gate
+folder gate grain_file (Manager (suc slot)) = []
 folder gate grain_file (Grain slot grain) = grain_file
 
 -- the same, where the manager file has only its first bytes
 abbrev pub torn_folder : ℕ → Image
 torn_folder size (ProgramFile slot) = program_bytes
-torn_folder size (Manager slot) = take size (manager_bytes 1)
+torn_folder size (Manager zero) = take size (manager_bytes 1)
+torn_folder size (Manager (suc slot)) = []
 torn_folder size (Grain slot grain) = grain_bytes
 
 -- the reply to line 1

@@ -1,5 +1,5 @@
 -- Folders like that of the first deposit, each with a small change.
-use Rattle.std.specs.Prelude.{ℕ, ◌+◌, List, [], ◌∷◌, ◌++◌, length, take, drop, ◌==◌, if◌then◌else◌}
+use Rattle.std.specs.Prelude.{ℕ, zero, suc, ◌+◌, List, [], ◌∷◌, ◌++◌, length, take, drop, ◌==◌, if◌then◌else◌}
 use Rattle.host_trait.specs.declared.channels.FileId.TheVariants.{Manager, Program as ProgramFile, Grain}
 use Rattle.host_trait.specs.World.{Image}
 use Rattle.promise_spec.specs.Logs.{magic}
@@ -9,10 +9,11 @@ use Rattle.promise_examples.specs.Examples.{program_bytes, grain_bytes, manager_
 abbrev pub changed : ℕ → ℕ → List ℕ → List ℕ
 changed at byte bytes = take at bytes ++ (byte ∷ drop (at + 1) bytes)
 
--- a folder of this program file and this manager file, where every grain's file is that one
+-- a folder of this program file and, in slot 0, this manager file, where every grain's file is that one
 abbrev pub folder_of : List ℕ → List ℕ → List ℕ → Image
 folder_of program log grain_file (ProgramFile slot) = program
-folder_of program log grain_file (Manager slot) = log
+folder_of program log grain_file (Manager zero) = log
+folder_of program log grain_file (Manager (suc slot)) = []
 folder_of program log grain_file (Grain slot grain) = grain_file
 
 -- the first deposit's folder, with another program file
@@ -72,5 +73,6 @@ version_by u = u ∷ 0 ∷ 0 ∷ 0 ∷ 0 ∷ 0 ∷ 0 ∷ 0 ∷ 1 ∷ 0 ∷ 0 ∷
 -- the folder of the second log, where `account/1` has this file and `account/2` that one
 abbrev pub two_folder : List ℕ → List ℕ → Image
 two_folder one other (ProgramFile slot) = program_bytes
-two_folder one other (Manager slot) = other_account
+two_folder one other (Manager zero) = other_account
+two_folder one other (Manager (suc slot)) = []
 two_folder one other (Grain slot grain) = if grain.key == 1 then one else other

@@ -1,5 +1,5 @@
 -- Examples: a silo of a bank, in which account 1 got 100, and 30 of that went to account 2.
-use Rattle.std.specs.Prelude.{ℕ, ◌==◌, if◌then◌else◌, List, [], ◌∷◌, ◌++◌}
+use Rattle.std.specs.Prelude.{ℕ, zero, suc, ◌==◌, if◌then◌else◌, List, [], ◌∷◌, ◌++◌}
 use Rattle.base_types.specs.declared.calls.Origin.TheVariants.{Line}
 use Rattle.base_types.specs.declared.calls.Outcome.TheVariants as outcome
 use Rattle.base_types.specs.declared.stores.Version.{Version}
@@ -99,5 +99,6 @@ bank_manager =
 -- the folder
 abbrev pub bank_folder : Image
 bank_folder (ProgramFile slot) = []
-bank_folder (Manager slot) = bank_manager
+bank_folder (Manager zero) = bank_manager
+bank_folder (Manager (suc slot)) = []
 bank_folder (Grain slot grain) = if grain.key == 1 then version_of_deposit ++ version_of_source else version_of_target

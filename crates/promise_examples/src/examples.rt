@@ -1,4 +1,4 @@
-ghost use Rattle.std.specs.Prelude.{◌≡◌, ◌≢◌, ℕ, true, List, [], ◌∷◌, ◌++◌, codes, length, None, pos, take, drop, map, slice_get, Some, Err};
+ghost use Rattle.std.specs.Prelude.{◌≡◌, ◌≢◌, ◌<◌, ℕ, true, List, [], ◌∷◌, ◌++◌, codes, length, None, pos, take, drop, map, slice_get, Some, Err};
 ghost use Rattle.base_types.specs.declared.calls.Value.{Value};
 ghost use Rattle.base_types.specs.declared.calls.Value.TheVariants.{Int};
 ghost use Rattle.core_model.specs.CoreState.{Member};
@@ -45,8 +45,9 @@ ghost use Rattle.host_trait.specs.declared.channels.FileId.{FileId};
 ghost use Rattle.host_trait.specs.declared.channels.FileId.TheVariants.{Grain};
 ghost use Rattle.gate_block.specs.Log.{LogsUpTo};
 ghost use Rattle.log_reading.specs.Blocks.{header_damage};
+ghost use Rattle.silo_spec.specs.Creation.{IsNewIfSilo};
 ghost use Rattle.silo_spec.specs.Slots.{IsLive};
-ghost use Rattle.silo_spec.specs.Silos.{manager, program_file, IsSilo, IsNewSilo, IsNewIfSilo};
+ghost use Rattle.silo_spec.specs.Silos.{manager, program_file, IsSilo, IsNewSilo};
 ghost use Rattle.promise_examples.specs.Readings.{changed, folder_of, program_folder, log_folder, log_changed, grain_folder, program_with, two_writes, same_account, version_by, two_folder};
 ghost use Rattle.promise_spec.specs.Reports.{show_text, history_text, audit_text};
 ghost use Rattle.field_codec.specs.Examples.{first_version};
@@ -72,7 +73,7 @@ pub fn first_deposit_reads()
 
 /// What the reports print of the first deposit.
 pub fn reports_tell_the_first_deposit()
-    ensures show { show_text (account_log (first_commit ∷ [])) ≡ codes "{\"fields\":{\"balance\":5},\"grain\":\"account/1\"}\n{\"count\":1}\n" }
+    ensures show { show_text (account_1 ∷ []) (account_log (first_commit ∷ [])) ≡ codes "{\"fields\":{\"balance\":5},\"grain\":\"account/1\"}\n{\"count\":1}\n" }
     ensures history { history_text (account_log (first_commit ∷ [])) ≡ codes "{\"args\":[5],\"call\":\"account/1.deposit\",\"n\":1,\"reply\":5,\"unit\":1}\n" }
     ensures audit { audit_text (account_log (first_commit ∷ [])) None ≡ codes "{\"count\":1,\"first_bad\":null}\n" }
 {}
@@ -229,8 +230,8 @@ pub fn folders_read_so()
     ensures other_magic { (name : List ℕ) → length name ≡ 8 → name ≢ magic
         → opened_as (log_folder (1 ∷ (name ++ drop 9 (manager_bytes 1)))) ≡ NoSilo }
 
-    // a header that has another byte than 0 in front of the first gate, which comes before any block
-    ensures header_byte { (byte : ℕ) → byte ≢ 0 → opened_as (log_changed 13 byte) ≡ DamagedAt manager 13 }
+    // a header that has another byte than 0 in front of the first gate, or another than 0 and 1 before it, which comes before any block
+    ensures header_byte { (byte : ℕ) → 1 < byte → opened_as (log_changed 13 byte) ≡ DamagedAt manager 13 }
     ensures next_header_byte { (byte : ℕ) → byte ≢ 0 → opened_as (log_changed 14 byte) ≡ DamagedAt manager 14 }
     ensures header_first { opened_as (log_folder (changed 14 1 (take 80 (manager_bytes 1)))) ≡ DamagedAt manager 14 }
 

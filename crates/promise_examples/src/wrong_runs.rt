@@ -358,20 +358,20 @@ pub fn reports_tell_the_folder()
 {}
 
 /// No `init` makes a silo of another program than its input, or of a text that is no program, or in place of a silo; refuses a
-/// checked program, or names another fault than the first; or calls a folder a silo already that reads as none, or that a crash may
-/// yet take back.
+/// checked program, or names another fault than the first; or calls a folder a silo already that reads as none, or of which a crash
+/// may yet take back what a manager file reads.
 pub fn inits_make_their_input()
     ensures program { (r : Observed) (image : Image) → MakesSilo r → r.ending ≡ ending.Done → IsImage r.new.disk image
         → (HasProgram r.old.input (image program_file) → ⊥) → ⊥ }
     ensures text { (r : Observed) (fault : ProgramFault) → MakesSilo r → r.ending ≡ ending.Done → program_in r.old.input ≡ Err fault → ⊥ }
-    ensures again { (r : Observed) → MakesSilo r → r.ending ≡ ending.Done → IsSilo magic (seen_at_entry r manager) → ⊥ }
+    ensures again { (r : Observed) (slot : ℕ) → MakesSilo r → r.ending ≡ ending.Done → slot ≤ 1 → IsSilo magic (seen_at_entry r (file.Manager slot)) → ⊥ }
     ensures refused { (r : Observed) (p : Program) (fault : ProgramFault) → MakesSilo r → IsChecked p → r.old.input ≡ p.text
         → r.ending ≡ ending.BadProgram fault → ⊥ }
     ensures fault { (r : Observed) (fault other : ProgramFault) → MakesSilo r → program_in r.old.input ≡ Err fault
         → r.ending ≡ ending.BadProgram other → fault ≢ other → ⊥ }
-    ensures empty { (r : Observed) → MakesSilo r → r.ending ≡ ending.AlreadyASilo → (IsSilo magic (seen_at_entry r manager) → ⊥) → ⊥ }
-    ensures taken { (r : Observed) (image : Image) → MakesSilo r → r.ending ≡ ending.AlreadyASilo → IsImage r.new.disk image
-        → image manager ≢ seen_at_entry r manager → ⊥ }
+    ensures empty { (r : Observed) → MakesSilo r → r.ending ≡ ending.AlreadyASilo → ((live : ℕ) → IsLive magic live (seen_at_entry r) → ⊥) → ⊥ }
+    ensures taken { (r : Observed) (image : Image) (slot : ℕ) → MakesSilo r → r.ending ≡ ending.AlreadyASilo → IsImage r.new.disk image → slot ≤ 1
+        → seen_at_entry r (file.Manager slot) ≢ [] → image (file.Manager slot) ≢ seen_at_entry r (file.Manager slot) → ⊥ }
 {}
 
 /// No load keeps what is promised of it that is done and prints anything but its summary, that prints where memory was

@@ -20,7 +20,7 @@ use Rattle.core_model.specs.LegalRuns.{Run, begins}
 use Rattle.core_model.specs.Lines.{DifferInLine}
 use Rattle.script_tree.specs.Programs.{ProgramTree}
 use Rattle.script_meaning.proofs.Plays.{plays_are_orderly_lem}
-use Rattle.promise_spec.specs.Programs.{Program, shape_in}
+use Rattle.promise_spec.specs.Programs.{Program}
 use Rattle.promise_spec.specs.Records.{Commit, States, after_writes}
 use Rattle.promise_spec.specs.Entries.{Log, new_silo, records_of, standing_of}
 use Rattle.base_types.specs.Origins.{depth_of}

@@ -1,9 +1,11 @@
 -- From what a run's loop carries to what lasts.
-use Rattle.std.proofs.Common.{◌≡◌, ◌≢◌, take, inl, inr, ℕ, true, Some, List, [], ◌∷◌, ◌++◌, refl, sym, ap, subst, ◌∙◌, append_assoc, append-nil}
+use Rattle.std.proofs.Common.{◌≡◌, ◌≢◌, ◌⊎◌, take, inl, inr, ℕ, ◌≤◌, nat_le, Bool, true, if◌then◌else◌, length, Some, List, [], ◌∷◌, ◌++◌, refl, sym, ap, subst, ◌∙◌, append_assoc, append-nil}
 use Rattle.std.specs.List.{AllByRecursion}
+use Rattle.std.proofs.lemmas.Bool.{cases_eq, and_from, le-leb}
 use Rattle.std.proofs.lemmas.List.{append_cancel_left}
 use Rattle.base_types.specs.declared.entries.Entry.{Entry}
-use Rattle.host_trait.specs.Disk.{FileState, MayLeave}
+use Rattle.host_trait.specs.Disk.{FileState, MayLeave, settled}
+use Rattle.host_trait.specs.Files.{slot_of}
 use Rattle.host_trait.specs.declared.channels.FileId.{FileId}
 use Rattle.host_trait.specs.declared.channels.FileId.TheVariants.{Program as ProgramFile, Manager, Grain}
 use Rattle.host_trait.specs.World.{World, Moment, Image, IsImage, Passes, moment_of}
@@ -11,7 +13,8 @@ use Rattle.host_trait.proofs.Crashes.{settled_only}
 use Rattle.core_model.specs.CoreState as core
 use Rattle.core_model.specs.CoreState.{Member}
 use Rattle.silo_spec.specs.Moments.{IsAsAtEntry}
-use Rattle.promise_spec.specs.Programs.{Program, IsChecked, shape_in}
+use Rattle.silo_spec.specs.OpenedDisks.{is_synced}
+use Rattle.promise_spec.specs.Programs.{Program, shape_in}
 use Rattle.promise_spec.specs.Records.{Commit}
 use Rattle.promise_spec.specs.Entries.{Log, records_of, grown}
 use Rattle.promise_spec.specs.Logs.{IsLog}
@@ -53,9 +56,31 @@ module _ (p : Program) (r : Observed) (c : Course) (mid : World) (b : IsBehind r
   as_entry : (m : Moment) → Member m c.early → IsAsAtEntry r.old m
   as_entry m there = each_of (IsAsAtEntry r.old) b.untouched.moments.more m b.untouched.moments.each (subst (λ (l : List Moment). Member m l) (sym early_is) there)
 
-  -- each image behind the opening is one of entry, with the manager file as it read
-  stays_sound : (image : Image) → IsImage mid.disk image → IsImage r.old.disk image × (image (Manager c.live) ≡ (r.old.disk (Manager c.live)).seen)
-  stays_sound image left = (b.untouched.now.images image left, settled_only (seen_at_entry r (Manager c.live)) (image (Manager c.live)) (subst (λ (f : FileState). MayLeave f (image (Manager c.live))) b.settled (left (Manager c.live))))
+  -- the live manager file has nothing pending behind the opening
+  live_settled : (image : Image) → IsImage mid.disk image → image (Manager c.live) ≡ (r.old.disk (Manager c.live)).seen
+  live_settled image left = settled_only (seen_at_entry r (Manager c.live)) (image (Manager c.live)) (subst (λ (f : FileState). MayLeave f (image (Manager c.live))) b.settled (left (Manager c.live)))
+
+  -- nor has another that was long enough
+  long_settled : (image : Image) → IsImage mid.disk image → (slot : ℕ) → slot ≤ 1 → slot ≢ c.live → 16 ≤ length (r.old.disk (Manager slot)).seen → image (Manager slot) ≡ (r.old.disk (Manager slot)).seen
+  long_settled image left slot low other long =
+      let apart : Manager slot ≢ Manager c.live = λ same. other (ap slot_of same) in
+      let synced : is_synced (Manager slot) (r.old.disk (Manager slot)).seen ≡ true = and_from (nat_le 16 (length (r.old.disk (Manager slot)).seen)) (nat_le slot 1) (le-leb 16 (length (r.old.disk (Manager slot)).seen) long) (le-leb slot 1 low) in
+      let there : mid.disk (Manager slot) ≡ settled (r.old.disk (Manager slot)).seen =
+      b.others (Manager slot) apart ∙ ap (λ (t : Bool). if t then settled (r.old.disk (Manager slot)).seen else r.old.disk (Manager slot)) synced in
+      settled_only (r.old.disk (Manager slot)).seen (image (Manager slot)) (subst (λ (f : FileState). MayLeave f (image (Manager slot))) there (left (Manager slot)))
+
+  -- each image behind the opening is one of entry, with the manager files as they read
+  stays_sound : (image : Image) → IsImage mid.disk image → IsImage r.old.disk image
+      × ((slot : ℕ) → slot ≤ 1 → (slot ≡ c.live) ⊎ (16 ≤ length (r.old.disk (Manager slot)).seen) → image (Manager slot) ≡ (r.old.disk (Manager slot)).seen)
+  stays_sound image left = (b.untouched.now.images image left, λ slot low which. by slot low (cases_eq slot c.live) which)
+    where
+      mine : (slot : ℕ) → slot ≡ c.live → image (Manager slot) ≡ (r.old.disk (Manager slot)).seen
+      mine slot same = subst (λ (s : ℕ). image (Manager s) ≡ (r.old.disk (Manager s)).seen) (sym same) (live_settled image left)
+
+      by : (slot : ℕ) → slot ≤ 1 → (slot ≡ c.live) ⊎ (slot ≢ c.live) → (slot ≡ c.live) ⊎ (16 ≤ length (r.old.disk (Manager slot)).seen) → image (Manager slot) ≡ (r.old.disk (Manager slot)).seen
+      by slot low (inl same) which = mine slot same
+      by slot low (inr other) (inl same) = mine slot same
+      by slot low (inr other) (inr long) = long_settled image left slot low other long
 
   -- over a whole folder whose files have the log
   pub opens : IsWholeFolder r.old → ReadsMayStay r.old → ReadsMayStay mid → IsLog c.live (seen_at_entry r) c.opening → Opens r c
@@ -109,7 +134,7 @@ module _ (p : Program) (r : Observed) (c : Course) (mid : World) (b : IsBehind r
   first_alone : LeavesAlone c.live r (moment_of mid)
   first_alone = record {
     aside = λ file is. b.others file (apart file is);
-    header = λ image left. ap (take 15) (stays_sound image left).1;
+    header = λ image left. ap (λ (l : List ℕ). take 15 l) (live_settled image left);
   }
     where
       apart : (file : FileId) → IsAside c.live file → file ≢ Manager c.live

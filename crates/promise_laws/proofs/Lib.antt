@@ -5,7 +5,12 @@ pub mod SettledLogs
 pub mod JournalGrowth
 pub mod DoubtImages
 pub mod LoadRuns
+pub mod GateBytes
+pub mod MovedLogs
+pub mod OtherSlots
+pub mod RewrittenFolders
 pub mod SoundFolders
+pub mod CallMoments
 pub mod SamePrograms
 pub mod LegalRuns
 pub mod SerialRecords

@@ -3,8 +3,7 @@ use Rattle.std.proofs.Common.{◌≡◌, ◌≢◌, ◌⊎◌, inl, inr, ℕ, �
 use Rattle.std.proofs.lemmas.List.{append-nil}
 use Rattle.core_model.specs.CoreState.{Member, CoreState}
 use Rattle.host_trait.specs.World.{Disk, Moment, Image, IsImage, moment_of, last_of}
-use Rattle.promise_spec.specs.Programs.{Program, shape_in}
-use Rattle.promise_spec.specs.Records.{Commit}
+use Rattle.promise_spec.specs.Programs.{Program}
 use Rattle.promise_spec.specs.Entries.{Log}
 use Rattle.promise_spec.specs.Logs.{IsLog}
 use Rattle.promise_spec.specs.Causes.{syncs_of}
@@ -167,7 +166,7 @@ module _ (p : Program) (r s : Observed) (c : Course) (told : List Moment) (told_
   }
 
   sound : (IsSoundFolder r.old → StaySound r c) → IsSoundFolder (alike r s).old → StaySound (alike r s) (quiet_course r c told)
-  sound k folder image is = k (record { chain = folder.chain; sound = folder.sound }) image (of_run image is)
+  sound k folder image is = k (record { chain = folder.chain; sound = folder.sound; shows = folder.shows }) image (of_run image is)
 
   records : ComeOfEvents p r c → ComeOfEvents p (alike r s) (quiet_course r c told)
   records k = record {

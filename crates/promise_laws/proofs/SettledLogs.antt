@@ -1,90 +1,94 @@
--- Over a whole folder, what has the manager file as it reads has the log that was read.
-use Rattle.std.proofs.Common.{◌≡◌, inl, inr, ℕ, ◌+◌, ◌≤◌, List, [], ◌∷◌, ◌++◌, length, map, refl, sym, ap, subst, ◌∙◌, arith, length-append, append-nil}
-use Rattle.std.specs.List.{flat_map, AllByRecursion}
-use Rattle.std.proofs.lemmas.List.{length-map}
-use Rattle.base_types.specs.declared.shapes.Shape.{Shape}
+-- Over a whole folder, what has the manager files as they read has the log that was read.
+use Rattle.std.proofs.Common.{◌≡◌, ◌⊎◌, inl, inr, ℕ, ◌+◌, ◌-◌, ◌≤◌, List, [], ◌∷◌, ◌++◌, length, map, take, drop, slice_index, Result, Ok, refl, sym, ap, subst, ◌∙◌, arith, length-append, append-nil}
+use Rattle.std.specs.Int.{w32, w64, to_le_bytes, from_le_bytes}
+use Rattle.std.specs.List.{flat_map}
+use Rattle.std.proofs.lemmas.Bool.{cases_lt}
+use Rattle.std.proofs.lemmas.List.{length-map, take_at}
 use Rattle.host_trait.specs.Disk.{MayLeave}
 use Rattle.host_trait.specs.declared.channels.FileId.{FileId}
 use Rattle.host_trait.specs.declared.channels.FileId.TheVariants.{Manager}
 use Rattle.host_trait.specs.World.{World, Disk, Image, IsImage}
 use Rattle.field_codec.specs.declared.formats.Format.TheVariants.{One}
-use Rattle.field_codec.proofs.Readers.{apart}
-use Rattle.field_codec.specs.declared.units.Numbers.TheVariants.{Logged}
+use Rattle.field_codec.proofs.Counts.{wide64}
 use Rattle.gate_block.specs.Log.{LogsUpTo}
 use Rattle.gate_block.proofs.Logs as blocks
-use Rattle.commit_log.specs.Spelling.{spelling_of_body}
-use Rattle.commit_log.specs.Bodies.{IsRecordIn}
-use Rattle.commit_log.specs.Fields.{records_in}
-use Rattle.commit_log.proofs.Fields.{records_reads}
+use Rattle.commit_log.specs.Spelling.{spelling_of_write}
 use Rattle.silo_spec.specs.Silos.{IsSilo}
 use Rattle.silo_spec.specs.Slots.{IsLive}
 use Rattle.promise_spec.specs.Programs.{Program, shape_in}
 use Rattle.promise_spec.specs.Records.{Commit}
-use Rattle.promise_spec.specs.Entries.{records_among, Standing, Log, records_of, new_log, grown}
-use Rattle.promise_spec.specs.Versions.{IsKept}
-use Rattle.promise_spec.specs.Logs.{magic, IsLog, IsPrefix}
+use Rattle.promise_spec.specs.Entries.{LogEntry, Recorded, records_among, Standing, Log, records_of}
+use Rattle.promise_spec.specs.Blocks.{body_of, Saved, spelled_piece, Checkpoint, Beginning, Fresh, From, begin_byte, base_of, bodies_before, BeginsWhole}
+use Rattle.promise_spec.specs.Logs.{magic, IsLogIn, IsLog, IsPrefix}
+use Rattle.promise_spec.specs.Openings.{LogRead, log_in_file}
 use Rattle.promise_spec.specs.Prefixes.{IsPrefixOf}
 use Rattle.promise_spec.specs.Images.{AreChained, IsWholeSilo, IsWholeIfSilo, IsWholeFolder}
 use Rattle.promise_spec.specs.Journals.{AllLog}
-use Rattle.promise_spec.proofs.Lists.{head_of, tail_of, none_is, parts_of}
-use Rattle.promise_spec.proofs.Standings.{records_append}
-use Rattle.promise_spec.proofs.Prefixes.{of_no_entry}
-use Rattle.promise_spec.proofs.Batched.{batch_body, IsBatched, batched, log_is}
+use Rattle.promise_spec.proofs.Growing.{program_begins}
+use Rattle.promise_spec.proofs.Prefixes.{of_one_position}
+use Rattle.promise_spec.proofs.ReadLogs.{IsReadIn, read_in}
+use Rattle.promise_spec.proofs.Slots.{live_moves}
 
--- a record is within the format's limits
-abbrev pub Fits : Shape → Commit → Type 0
-Fits shape c = IsRecordIn One Logged shape c.logged
+-- ---- where the logs of one manager file begin
 
--- the records of a log fit, whatever image keeps them
-pub fits_of : (live : ℕ) (shape : Shape) (image : Image) (cs : List Commit) → AllByRecursion (IsKept live shape image) cs → AllByRecursion (Fits shape) cs
-fits_of live shape image [] all = tt
-fits_of live shape image (c ∷ cs) all = (all.0.fits, fits_of live shape image cs all.1)
+-- the count that the first piece of a checkpoint says
+said : List (List ℕ) → List ℕ
+said [] = []
+said (body ∷ bodies) = take 8 (drop 1 body)
 
--- so do they without their states
-logged_fit : (shape : Shape) (cs : List Commit) → AllByRecursion (Fits shape) cs → AllByRecursion (IsRecordIn One Logged shape) (map (λ (c : Commit). c.logged) cs)
-logged_fit shape [] all = tt
-logged_fit shape (c ∷ cs) all = (all.0, logged_fit shape cs all.1)
+-- what stands behind it
+behind_count : Checkpoint → List Saved → List ℕ
+behind_count ck piece = to_le_bytes w64 ck.next ++ (to_le_bytes w32 (length (map (λ (s : Saved). s.write) piece)) ++ flat_map spelling_of_write (map (λ (s : Saved). s.write) piece))
 
--- and are as many
-few_of : (cs : List Commit) → length cs ≤ 64 → length (map (λ (c : Commit). c.logged) cs) ≤ 64
-few_of cs few = subst (λ n. n ≤ 64) (sym (length-map cs (λ c. c.logged))) few
+says_by : (ck : Checkpoint) (front : List (List Saved)) (last : List Saved) (rest : List (List ℕ)) → said ((map (spelled_piece ck 1) front ++ spelled_piece ck 0 last ∷ []) ++ rest) ≡ to_le_bytes w64 ck.count
+unfolding said behind_count
+says_by ck [] last rest = take_at (to_le_bytes w64 ck.count) (behind_count ck last) 8 (wide64.len ck.count)
+says_by ck (piece ∷ front) last rest = take_at (to_le_bytes w64 ck.count) (behind_count ck piece) 8 (wide64.len ck.count)
 
--- equal bodies have equally many records
-size_same : (shape : Shape) (cs ds : List Commit) → length cs ≤ 64 → length ds ≤ 64 → AllByRecursion (Fits shape) cs → AllByRecursion (Fits shape) ds → batch_body cs ≡ batch_body ds → length cs ≡ length ds
-size_same shape cs ds few few_too a b e =
-    let logged : map (λ (c : Commit). c.logged) cs ≡ map (λ (c : Commit). c.logged) ds =
-    (apart spelling_of_body (λ rs. (length rs ≤ 64) × AllByRecursion (IsRecordIn One Logged shape) rs) (records_in One Logged shape) (records_reads One Logged shape 0) (map (λ (c : Commit). c.logged) cs) (map (λ (c : Commit). c.logged) ds) [] []
-    (few_of cs few, logged_fit shape cs a) (few_of ds few_too, logged_fit shape ds b) (ap (λ l. l ++ []) e)).0 in
-    sym (length-map cs (λ c. c.logged)) ∙ ap length logged ∙ length-map ds (λ c. c.logged)
+pub begin_counts : (live : ℕ) (p q : Program) (x y : Image) (a b : Beginning) → BeginsWhole live p x a → BeginsWhole live q y b → begin_byte a ≡ begin_byte b → (rest more : List (List ℕ))
+    → bodies_before a ++ rest ≡ bodies_before b ++ more → (base_of p a).count ≡ (base_of q b).count
+begin_counts live p q x y Fresh Fresh whole whole_too kind rest more same = refl
+begin_counts live p q x y Fresh (From dk) whole whole_too kind rest more same = absurd (omega (arith, kind))
+begin_counts live p q x y (From ck) Fresh whole whole_too kind rest more same = absurd (omega (arith, kind))
+begin_counts live p q x y (From ck) (From dk) whole whole_too kind rest more same =
+    let bytes : to_le_bytes w64 ck.count ≡ to_le_bytes w64 dk.count = sym (says_by ck ck.front ck.last rest) ∙ ap said same ∙ says_by dk dk.front dk.last more in
+    sym (wide64.again ck.count (omega (arith, whole.count))) ∙ ap (from_le_bytes w64) bytes ∙ wide64.again dk.count (omega (arith, whole_too.count))
 
--- and so have equal lists of bodies
-pub sizes_same : (shape : Shape) (xs ys : List (List Commit)) → AllByRecursion (λ (batch : List Commit). length batch ≤ 64) xs → AllByRecursion (λ (batch : List Commit). length batch ≤ 64) ys
-    → AllByRecursion (Fits shape) (flat_map (λ batch. batch) xs) → AllByRecursion (Fits shape) (flat_map (λ batch. batch) ys) → map batch_body xs ≡ map batch_body ys
-    → length (flat_map (λ (batch : List Commit). batch) xs) ≡ length (flat_map (λ (batch : List Commit). batch) ys)
-sizes_same shape [] [] few few_too a b e = refl
-sizes_same shape [] (y ∷ ys) few few_too a b e = absurd (none_is (batch_body y) (map batch_body ys) (sym e))
-sizes_same shape (x ∷ xs) [] few few_too a b e = absurd (none_is (batch_body x) (map batch_body xs) e)
-sizes_same shape (x ∷ xs) (y ∷ ys) few few_too a b e =
-    let p = parts_of (Fits shape) x (flat_map (λ batch. batch) xs) a in
-    let q = parts_of (Fits shape) y (flat_map (λ batch. batch) ys) b in
-    let here : length x ≡ length y = size_same shape x y few.0 few_too.0 p.0 q.0 (head_of (batch_body x) (batch_body y) (map batch_body xs) (map batch_body ys) e) in
-    let more : length (flat_map (λ (batch : List Commit). batch) xs) ≡ length (flat_map (λ (batch : List Commit). batch) ys) = sizes_same shape xs ys few.1 few_too.1 p.1 q.1 (tail_of (batch_body x) (batch_body y) (map batch_body xs) (map batch_body ys) e) in
-    length-append x (flat_map (λ batch. batch) xs) ∙ (λ i. here i + more i) ∙ sym (length-append y (flat_map (λ batch. batch) ys))
+-- logs of images with one live manager file begin at one position
+pub counts_same : (live : ℕ) (one other : Image) (a b : Log) → one (Manager live) ≡ other (Manager live) → IsLogIn live one a → IsLogIn live other b → a.base.count ≡ b.base.count
+counts_same live one other a b same is too =
+    let x = is.stands in
+    let y = too.stands in
+    let here : LogsUpTo is.bodies is.gate (one (Manager live)) = record { blocks = x.stand; closed = is.closed } in
+    let there : LogsUpTo too.bodies too.gate (one (Manager live)) = subst (LogsUpTo too.bodies too.gate) (sym same) (record { blocks = y.stand; closed = too.closed }) in
+    let bodies : is.bodies ≡ too.bodies = (blocks.one_log is.bodies too.bodies is.gate too.gate (one (Manager live)) here there).0 in
+    let kind : begin_byte x.begins ≡ begin_byte y.begins = sym x.kind ∙ ap (λ (l : List ℕ). slice_index l 13) same ∙ y.kind in
+    ap (λ (s : Standing). s.count) x.base
+    ∙ begin_counts live x.program y.program one other x.begins y.begins x.whole y.whole kind (map body_of x.blocks) (map body_of y.blocks) (sym x.spelled ∙ bodies ∙ y.spelled)
+    ∙ sym (ap (λ (s : Standing). s.count) y.base)
 
--- images with one live manager file have as many records, under one program's shape
-pub length_same : (live : ℕ) (shape : Shape) (one other : Image) (a b : List Commit) → one (Manager live) ≡ other (Manager live) → IsBatched live shape one a → IsBatched live shape other b → length a ≡ length b
-length_same live shape one other a b same x y =
-    let moved : LogsUpTo (map batch_body y.batches) y.gate (one (Manager live)) = subst (λ (f : List ℕ). LogsUpTo (map batch_body y.batches) y.gate f) (sym same) y.blocks in
-    let bodies : map batch_body x.batches ≡ map batch_body y.batches = (blocks.one_log (map batch_body x.batches) (map batch_body y.batches) x.gate y.gate (one (Manager live)) x.blocks moved).0 in
-    let all = subst (λ (l : List Commit). AllByRecursion (Fits shape) l) x.are (fits_of live shape one a x.kept) in
-    let all_too = subst (λ (l : List Commit). AllByRecursion (Fits shape) l) y.are (fits_of live shape other b y.kept) in
-    ap length x.are ∙ sizes_same shape x.batches y.batches x.sizes y.sizes all all_too bodies ∙ sym (ap length y.are)
+-- ---- how many entries they have
+
+-- as many entries as records
+pub entries_count : (entries : List LogEntry) → length (records_among entries) ≡ length entries
+entries_count [] = refl
+entries_count (Recorded c ∷ entries) = omega (arith, entries_count entries)
+
+read_same : (a b : LogRead) (r : Result LogRead ℕ) → r ≡ Ok a → r ≡ Ok b → a ≡ b
+read_same a b r e f = let is : Ok a ≡ Ok b = sym e ∙ f in cc
+
+-- under one program they have equally many
+lengths_same : (live : ℕ) (p : Program) (one other : Image) (a b : Log) → one (Manager live) ≡ other (Manager live) → IsReadIn live p one a → IsReadIn live p other b → length a.entries ≡ length b.entries
+lengths_same live p one other a b same x y =
+    let read : x.l ≡ y.l = read_same x.l y.l (log_in_file One (shape_in p) (one (Manager live))) x.read (ap (log_in_file One (shape_in p)) same ∙ y.read) in
+    let records : map (λ (c : Commit). c.logged) (records_of a) ≡ map (λ (c : Commit). c.logged) (records_of b) = sym x.records ∙ ap (λ (l : LogRead). l.records) read ∙ y.records in
+    sym (entries_count a.entries) ∙ sym (length-map (records_of a) (λ (c : Commit). c.logged)) ∙ ap length records ∙ length-map (records_of b) (λ (c : Commit). c.logged) ∙ entries_count b.entries
 
 -- a first part that is no shorter is all
-front_is : (a b : List Commit) → IsPrefix a b → length a ≡ length b → a ≡ b
+front_is : (a b : List LogEntry) → IsPrefix a b → length a ≡ length b → a ≡ b
 front_is a b front same = go front.0 front.1
   where
-    go : (rest : List Commit) → b ≡ a ++ rest → a ≡ b
+    go : (rest : List LogEntry) → b ≡ a ++ rest → a ≡ b
     go [] e = sym (append-nil a) ∙ sym e
     go (c ∷ rest) e =
         let long : length b ≡ length a + length (c ∷ rest) = ap length e ∙ length-append a (c ∷ rest) in
@@ -93,21 +97,20 @@ front_is a b front same = go front.0 front.1
 -- logs of two images with one live manager file, of which one is a prefix of the other, are one
 one_of : (live : ℕ) (one other : Image) (a b : Log) → one (Manager live) ≡ other (Manager live) → IsLog live one a → IsLog live other b → IsPrefixOf a b → a ≡ b
 one_of live one other a b same x y front =
-    let none : a.base.count ≡ 0 = ap (λ (s : Standing). s.count) x.is.stands.base in
-    let none_too : b.base.count ≡ 0 = ap (λ (s : Standing). s.count) y.is.stands.base in
-    let t = of_no_entry a b none none_too front in
-    let program : x.is.stands.program ≡ y.is.stands.program = ap (λ (s : Standing). s.program) (sym x.is.stands.base ∙ t.0 ∙ y.is.stands.base) in
-    let first : IsBatched live (shape_in y.is.stands.program) one (records_of a) = subst (λ (p : Program). IsBatched live (shape_in p) one (records_of a)) program (batched live one a x.is) in
-    let sizes : length (records_of a) ≡ length (records_of b) = length_same live (shape_in y.is.stands.program) one other (records_of a) (records_of b) same first (batched live other b y.is) in
-    let part : IsPrefix (records_of a) (records_of b) = (records_among t.1.0, ap records_among t.1.1 ∙ records_append a.entries t.1.0) in
-    let records : records_of a ≡ records_of b = front_is (records_of a) (records_of b) part sizes in
-    log_is live one a x.is ∙ (λ i. grown (new_log (program i)) (records i)) ∙ sym (log_is live other b y.is)
+    let t = of_one_position a b (counts_same live one other a b same x.is y.is) front in
+    let p : Program = x.is.stands.program in
+    let q : Program = y.is.stands.program in
+    let program : p ≡ q =
+    sym (ap (λ (s : Standing). s.program) x.is.stands.base ∙ program_begins p x.is.stands.begins)
+    ∙ ap (λ (s : Standing). s.program) t.0
+    ∙ (ap (λ (s : Standing). s.program) y.is.stands.base ∙ program_begins q y.is.stands.begins) in
+    let first : IsReadIn live q one a = subst (λ (r : Program). IsReadIn live r one a) program (read_in live one a x.is) in
+    let entries : a.entries ≡ b.entries = front_is a.entries b.entries t.1 (lengths_same live q one other a b same first (read_in live other b y.is)) in
+    λ i. record { base = t.0 i; entries = entries i }
 
 -- chained images with one live manager file, of which the other is whole, have one log
-pub chained_same : (live : ℕ) (one other : Image) (log : Log) → AreChained one other → IsWholeIfSilo other → one (Manager live) ≡ other (Manager live) → IsLog live one log → IsLog live other log
-chained_same live one other log chain whole same is =
-    let silo : IsSilo magic (other (Manager live)) = subst (IsSilo magic) same is.is_live.silo in
-    let too : IsLive magic live other = record { slot = is.is_live.slot; silo = silo } in
+pub chained_same : (live : ℕ) (one other : Image) (log : Log) → AreChained one other → IsWholeIfSilo other → one (Manager live) ≡ other (Manager live) → IsLive magic live other → IsLog live one log → IsLog live other log
+chained_same live one other log chain whole same too is =
     let w : IsWholeSilo live other = whole live too in
     let alike : log ≡ w.log = elim (chain log w.log (live, is) (live, w.is)) [
       | inl f ↦ one_of live one other log w.log same is w.is f
@@ -115,9 +118,22 @@ chained_same live one other log chain whole same is =
     ] in
     subst (IsLog live other) (sym alike) w.is
 
--- The files as they read have this log; each image of the disk is one of the folder's, with the live manager file as it reads.
+-- The files as they read have this log; each image of the disk is one of the folder's, with the live manager file as it reads, and
+-- the other one too where it reads 16 bytes or more.
 pub settled_logs : (live : ℕ) (w : World) (disk : Disk) (log : Log) → IsWholeFolder w → ((file : FileId) → MayLeave (w.disk file) (w.disk file).seen)
-    → ((image : Image) → IsImage disk image → IsImage w.disk image × (image (Manager live) ≡ (w.disk (Manager live)).seen)) → IsLog live (λ file. (w.disk file).seen) log → AllLog live log disk
+    → ((image : Image) → IsImage disk image → IsImage w.disk image
+    × ((slot : ℕ) → slot ≤ 1 → (slot ≡ live) ⊎ (16 ≤ length (w.disk (Manager slot)).seen) → image (Manager slot) ≡ (w.disk (Manager slot)).seen))
+    → IsLog live (λ file. (w.disk file).seen) log → AllLog live log disk
 settled_logs live w disk log whole seen stays is image left =
     let t = stays image left in
-    chained_same live (λ file. (w.disk file).seen) image log (whole.chain (λ file. (w.disk file).seen) image seen t.0) (whole.whole image t.0) (sym t.1) is
+    let read : Image = λ file. (w.disk file).seen in
+    let low : live ≤ 1 = is.is_live.slot in
+    let low_too : 1 - live ≤ 1 = omega arith in
+    let mine : image (Manager live) ≡ read (Manager live) = t.1 live low (inl refl) in
+    let long : 16 ≤ length (image (Manager live)) = subst (λ (l : List ℕ). 16 ≤ length l) (sym mine) is.is_live.silo.long in
+    let other : (image (Manager (1 - live)) ≡ read (Manager (1 - live))) ⊎ (IsSilo magic (image (Manager (1 - live))) → ⊥) = elim (cases_lt (length (read (Manager (1 - live)))) 16) [
+      | inl short ↦ inr (λ silo. whole.shows image t.0 (1 - live) low_too short silo)
+      | inr enough ↦ inl (t.1 (1 - live) low_too (inr enough))
+    ] in
+    let is_live : IsLive magic live image = live_moves live read image is.is_live (ap (take 15) mine) long other in
+    chained_same live read image log (whole.chain read image seen t.0) (whole.whole image t.0) (sym mine) is_live is

@@ -3,10 +3,9 @@ use Rattle.std.proofs.Common.{◌≡◌, ◌≢◌, ℕ, ◌<◌, ◌∙◌, Som
 use Rattle.core_model.specs.CoreState.{Member}
 use Rattle.host_trait.specs.declared.channels.Channel.{Channel}
 use Rattle.host_trait.specs.declared.channels.Channel.TheVariants.{Input, Output, File}
-use Rattle.host_trait.specs.declared.channels.FileId.TheVariants.{Program as ProgramFile, Manager, Grain}
 use Rattle.host_trait.specs.Faults.{Rose}
 use Rattle.host_trait.specs.World.{Moment, Image, IsImage, moment_of, last_of}
-use Rattle.promise_spec.specs.Programs.{Program, shape_in}
+use Rattle.promise_spec.specs.Programs.{Program}
 use Rattle.promise_spec.specs.Records.{Commit}
 use Rattle.promise_spec.specs.Entries.{Log, records_of, standing_of, grown}
 use Rattle.promise_spec.specs.SerialExecution.{IsSerialFrom}
@@ -103,6 +102,7 @@ module _ (p : Program) (r : Observed) (c : Course) (based : 0 < c.opening.base.n
       go (ending.Damaged file place) carried risen = absurd carried
       go (ending.BadProgram fault) carried risen = absurd carried
       go (ending.InputTooLong line) carried risen = tt
+      go ending.LastGeneration carried risen = absurd carried
 
   -- and no line was aborted for one; at width 1 none for a lock
   pub ended_anywhere : HasEnded p r c

@@ -1,5 +1,5 @@
 -- A run of which whole windows were carried, with the next window's lines: it keeps the rules over these too.
-use Rattle.std.proofs.Common.{◌≡◌, ◌⊎◌, inl, inr, ℕ, zero, suc, ◌+◌, ◌<◌, ◌≤◌, Bool, true, false, true≢false, List, [], ◌∷◌, ◌++◌, length, length-append, Some, refl, sym, ap, subst, ◌∙◌, arith}
+use Rattle.std.proofs.Common.{◌≡◌, ◌⊎◌, inl, inr, ℕ, zero, suc, ◌<◌, ◌≤◌, Bool, true, false, true≢false, List, [], ◌∷◌, ◌++◌, length, length-append, Some, refl, sym, ap, subst, ◌∙◌, arith}
 use Rattle.std.specs.Prelude.{◌&&◌, ◌||◌, not, slice_get, nat_lt, take, is_none, get_or, Result}
 use Rattle.std.proofs.lemmas.Bool.{ltb-true, lt-ltb, cases_lt}
 use Rattle.base_types.specs.declared.calls.Call.{Call}
@@ -11,7 +11,7 @@ use Rattle.core_model.specs.declared.events.CoreEvent.TheVariants.{Bad, Begin, G
 use Rattle.core_model.specs.Events.{applies, run}
 use Rattle.core_model.specs.LegalRuns.{Run, begins, ends}
 use Rattle.script_tree.specs.Programs.{ProgramTree}
-use Rattle.promise_spec.specs.Cores.{AppliesAt, state_before}
+use Rattle.promise_spec.specs.Cores.{state_before}
 use Rattle.promise_spec.specs.UnitAnswers.{Got, got_from}
 use Rattle.promise_spec.specs.Lines.{ReadsLineAs}
 use Rattle.promise_spec.specs.UnitRule.{Basis, IsDue, KeepsUnitRule}

@@ -16,6 +16,7 @@ mod answered_runs;
 mod batches;
 mod calm_runs;
 mod causes;
+mod compacting;
 mod families;
 mod folders;
 mod loads;
@@ -32,6 +33,7 @@ pub use answered_runs::{answered_runs_open, answered_runs_promise, shown_runs_an
 pub use batches::{batches_stay_whole, moments_end_batches, records_are_whole_batches};
 pub use calm_runs::{calm_runs_are_undisturbed, single_runs_meet_no_lock};
 pub use causes::explained_aborts_have_causes;
+pub use compacting::{compacting_keeps_the_log, rewritten_folders_are_sound};
 pub use families::explained_runs_are_families;
 pub use folders::{
     crashes_leave_sound_folders, folders_keep_their_program, folders_stay_sound,

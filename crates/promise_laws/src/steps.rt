@@ -89,11 +89,12 @@ pub fn whole_journals_are_cut()
         → DoubtAt live p opening old said unsaid batch now → CutAt live p opening old said unsaid (batch ∷ []) [] now }
 {}
 
-/// Over a whole folder whose files read as this log, each image that has the live manager file as it reads has this log too: so after
-/// a sync of that file every image has it.
+/// Over a whole folder whose files read as this log, each image that has the live manager file as it reads has this log too, and the
+/// other one where it reads 16 bytes or more: so after a sync of these every image has it.
 pub fn settled_folders_have_one_log()
     ensures { (live : ℕ) (w : World) (disk : Disk) (log : Log) → IsWholeFolder w → ((file : FileId) → MayLeave (w.disk file) (w.disk file).seen)
-        → ((image : Image) → IsImage disk image → IsImage w.disk image × (image (Manager live) ≡ (w.disk (Manager live)).seen))
+        → ((image : Image) → IsImage disk image → IsImage w.disk image × ((slot : ℕ) → slot ≤ 1
+        → (slot ≡ live) ⊎ (16 ≤ length (w.disk (Manager slot)).seen) → image (Manager slot) ≡ (w.disk (Manager slot)).seen))
         → IsLog live (λ file. (w.disk file).seen) log → AllLog live log disk }
 {}
 

@@ -1,18 +1,17 @@
--- A log behind a new silo, as batches of records.
-use Rattle.std.proofs.Common.{◌≡◌, ℕ, ◌≤◌, List, [], ◌∷◌, ◌++◌, length, map, None, refl, sym, ap, subst, ◌∙◌}
+-- Blocks of records, as batches.
+use Rattle.std.proofs.Common.{◌≡◌, ℕ, ◌≤◌, List, [], ◌∷◌, ◌++◌, length, map, slice_index, refl, ap, ◌∙◌}
 use Rattle.std.specs.List.{flat_map, AllByRecursion}
 use Rattle.std.proofs.lemmas.List.{map-append}
 use Rattle.base_types.specs.declared.shapes.Shape.{Shape}
 use Rattle.host_trait.specs.declared.channels.FileId.TheVariants.{Manager, Program as ProgramFile}
 use Rattle.host_trait.specs.World.{Image}
-use Rattle.gate_block.specs.Log.{HasBlocks, LogsUpTo}
-use Rattle.log_reading.specs.Blocks.{header_damage}
+use Rattle.gate_block.specs.Log.{LogsUpTo}
 use Rattle.silo_spec.specs.Silos.{IsSilo, HasProgram}
 use Rattle.promise_spec.specs.Programs.{Program, IsChecked, shape_in}
 use Rattle.promise_spec.specs.Records.{Commit}
-use Rattle.promise_spec.specs.Entries.{LogEntry, Recorded, records_among, records_of, Log, new_log, grown}
+use Rattle.promise_spec.specs.Entries.{LogEntry, Recorded, records_among, new_log, grown}
 use Rattle.promise_spec.specs.Versions.{IsKept}
-use Rattle.promise_spec.specs.Blocks.{Block, Records, entries_in, body_of, BlockFits, AreKept}
+use Rattle.promise_spec.specs.Blocks.{Block, Records, entries_in, body_of, BlockFits, AreKept, Fresh}
 use Rattle.promise_spec.specs.Logs.{magic, IsLogIn}
 use Rattle.promise_spec.proofs.Standings.{records_append, records_back}
 
@@ -35,7 +34,7 @@ unfolding batch_in
 bodies_are [] = refl
 bodies_are (Records batch ∷ blocks) = ap (λ (l : List (List ℕ)). batch_body batch ∷ l) (bodies_are blocks)
 
-bodies_again : (batches : List (List Commit)) → map batch_body batches ≡ map body_of (map Records batches)
+pub bodies_again : (batches : List (List Commit)) → map batch_body batches ≡ map body_of (map Records batches)
 bodies_again [] = refl
 bodies_again (batch ∷ batches) = ap (λ (l : List (List ℕ)). batch_body batch ∷ l) (bodies_again batches)
 
@@ -44,7 +43,7 @@ unfolding batch_in
 sizes_are [] all = tt
 sizes_are (Records batch ∷ blocks) all = (all.0, sizes_are blocks all.1)
 
-sizes_again : (batches : List (List Commit)) → AllByRecursion (λ (batch : List Commit). length batch ≤ 64) batches → AllByRecursion BlockFits (map Records batches)
+pub sizes_again : (batches : List (List Commit)) → AllByRecursion (λ (batch : List Commit). length batch ≤ 64) batches → AllByRecursion BlockFits (map Records batches)
 sizes_again [] all = tt
 sizes_again (batch ∷ batches) all = (all.0, sizes_again batches all.1)
 
@@ -56,7 +55,7 @@ entries_are (Records batch ∷ blocks) =
     ∙ ap (λ (l : List Commit). l ++ records_among (flat_map entries_in blocks)) (records_back batch)
     ∙ ap (λ (l : List Commit). batch ++ l) (entries_are blocks)
 
-entries_again : (batches : List (List Commit)) → map Recorded (flat_map (λ (batch : List Commit). batch) batches) ≡ flat_map entries_in (map Records batches)
+pub entries_again : (batches : List (List Commit)) → map Recorded (flat_map (λ (batch : List Commit). batch) batches) ≡ flat_map entries_in (map Records batches)
 entries_again [] = refl
 entries_again (batch ∷ batches) = map-append Recorded batch (flat_map (λ (b : List Commit). b) batches) ∙ ap (λ (l : List LogEntry). map Recorded batch ++ l) (entries_again batches)
 
@@ -65,41 +64,22 @@ module _ (live : ℕ) (p : Program) (image : Image) where
   kept_are [] all = tt
   kept_are (Recorded c ∷ entries) all = (all.0, kept_are entries all.1)
 
-  kept_again : (commits : List Commit) → AllByRecursion (IsKept live (shape_in p) image) commits → AreKept live image p (map Recorded commits)
+  pub kept_again : (commits : List Commit) → AllByRecursion (IsKept live (shape_in p) image) commits → AreKept live image p (map Recorded commits)
   kept_again [] all = tt
   kept_again (c ∷ commits) all = (all.0, kept_again commits all.1)
 
--- ---- the log
+-- ---- a log behind a new silo
 
--- A slot's manager file has these records, in batches up to a closed gate, and each is kept whole.
+-- A slot's manager file has these records from the beginning on, in batches up to a closed gate, and each is kept whole.
 pub record IsBatched (live : ℕ) (shape : Shape) (image : Image) (commits : List Commit) : Type 0 where
-  pub header : header_damage (image (Manager live)) ≡ None
+  pub kind : slice_index (image (Manager live)) 13 ≡ 0
+  pub zero : slice_index (image (Manager live)) 14 ≡ 0
   pub batches : List (List Commit)
   pub gate : ℕ
   pub blocks : LogsUpTo (map batch_body batches) gate (image (Manager live))
   pub sizes : AllByRecursion (λ (batch : List Commit). length batch ≤ 64) batches
   pub are : commits ≡ flat_map (λ (batch : List Commit). batch) batches
   pub kept : AllByRecursion (IsKept live shape image) commits
-
--- the log of a slot's files has its records so
-pub batched : (live : ℕ) (image : Image) (log : Log) → (is : IsLogIn live image log) → IsBatched live (shape_in is.stands.program) image (records_of log)
-batched live image log is =
-    let s = is.stands in
-    record {
-      header = s.header;
-      batches = map batch_in s.blocks;
-      gate = is.gate;
-      blocks = record { blocks = subst (λ (l : List (List ℕ)). HasBlocks l is.gate (image (Manager live))) (s.spelled ∙ bodies_are s.blocks) s.stand; closed = is.closed };
-      sizes = sizes_are s.blocks s.fit;
-      are = ap records_among s.entries ∙ entries_are s.blocks;
-      kept = kept_are live s.program image log.entries s.kept;
-    }
-
--- and is a new silo grown by them
-pub log_is : (live : ℕ) (image : Image) (log : Log) → (is : IsLogIn live image log) → log ≡ grown (new_log is.stands.program) (records_of log)
-log_is live image log is =
-    let entries : log.entries ≡ map Recorded (records_of log) = sym (recorded_back log.entries) in
-    λ i. record { base = is.stands.base i; entries = entries i }
 
 -- records that stand so behind a checked program are its log
 pub logged_in : (live : ℕ) (image : Image) (p : Program) (commits : List Commit) → IsSilo magic (image (Manager live)) → IsChecked p → HasProgram p.text (image (ProgramFile live)) → IsBatched live (shape_in p) image commits → IsLogIn live image (grown (new_log p) commits)
@@ -108,11 +88,14 @@ logged_in live image p commits silo checked text b = record {
   gate = b.gate;
   stands = record {
     silo = silo;
-    header = b.header;
     program = p;
     checked = checked;
     text = text;
+    begins = Fresh;
+    kind = b.kind;
+    zero = b.zero;
     base = refl;
+    whole = tt;
     blocks = map Records b.batches;
     fit = sizes_again b.batches b.sizes;
     spelled = bodies_again b.batches;

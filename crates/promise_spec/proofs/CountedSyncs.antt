@@ -1,5 +1,5 @@
 -- How many syncs a run asked for, where nothing failed.
-use Rattle.std.proofs.Common.{◌≡◌, ℕ, ◌+◌, List, [], sym, ap, subst, arith}
+use Rattle.std.proofs.Common.{◌≡◌, ℕ, ◌+◌, List, sym, ap, subst, arith}
 use Rattle.core_model.specs.declared.events.CoreEvent.{CoreEvent}
 use Rattle.silo_spec.specs.OpenedDisks.{opening_syncs}
 use Rattle.promise_spec.specs.Programs.{Program}

@@ -13,14 +13,14 @@ use Rattle.promise_spec.specs.Programs.{Program, shape_in}
 use Rattle.promise_spec.specs.Records.{Commit, States, written, put_state}
 use Rattle.promise_spec.specs.Entries.{LogEntry, Recorded, records_among, Standing, initial_states, is_among, new_silo, after_entry, after_entries, Log, standing_of, grown}
 use Rattle.promise_spec.specs.Versions.{IsKept}
-use Rattle.promise_spec.specs.Blocks.{Block, Records, entries_in, body_of, BlockFits, AreKept}
+use Rattle.promise_spec.specs.Blocks.{Block, Records, entries_in, body_of, BlockFits, AreKept, states_saved, Beginning, Fresh, From, base_of, bodies_before}
 use Rattle.promise_spec.specs.Logs.{StandsUpTo}
 use Rattle.promise_spec.proofs.Lists.{both_parts}
 use Rattle.promise_spec.proofs.Standings.{in_force}
 
 -- ---- a sealed batch
 
-entries_more : (blocks : List Block) (b : Block) → flat_map entries_in (blocks ++ b ∷ []) ≡ flat_map entries_in blocks ++ entries_in b
+pub entries_more : (blocks : List Block) (b : Block) → flat_map entries_in (blocks ++ b ∷ []) ≡ flat_map entries_in blocks ++ entries_in b
 entries_more [] b = append-nil (entries_in b)
 entries_more (x ∷ blocks) b = ap (λ (l : List LogEntry). entries_in x ++ l) (entries_more blocks b) ∙ sym (append_assoc (entries_in x) (flat_map entries_in blocks) (entries_in b))
 
@@ -33,6 +33,10 @@ module _ (slot : ℕ) (image : Image) (p : Program) where
   kept_more [] batch kept all = records_kept batch all
   kept_more (Recorded c ∷ entries) batch kept all = (kept.0, kept_more entries batch kept.1 all)
 
+pub program_begins : (p : Program) (b : Beginning) → (base_of p b).program ≡ p
+program_begins p Fresh = refl
+program_begins p (From ck) = refl
+
 -- the block of a batch stands behind the log, and its records are kept under the program in force
 pub sealed : (slot : ℕ) (image : Image) (log : Log) (bodies : List (List ℕ)) (gate : ℕ) → StandsUpTo slot image log bodies gate
     → (batch : List Commit) (next : ℕ) → length batch ≤ 64 → AllByRecursion (IsKept slot (shape_in (standing_of log).program) image) batch
@@ -40,25 +44,39 @@ pub sealed : (slot : ℕ) (image : Image) (log : Log) (bodies : List (List ℕ))
     → StandsUpTo slot image (grown log batch) (bodies ++ body_of (Records batch) ∷ []) next
 sealed slot image log bodies gate is batch next few kept there =
     let block : Block = Records batch in
-    let program : (standing_of log).program ≡ is.program = in_force log.base log.entries ∙ ap (λ (s : Standing). s.program) is.base in
+    let program : (standing_of log).program ≡ is.program = in_force log.base log.entries ∙ ap (λ (s : Standing). s.program) is.base ∙ program_begins is.program is.begins in
     record {
       silo = is.silo;
-      header = is.header;
       program = is.program;
       checked = is.checked;
       text = is.text;
+      begins = is.begins;
+      kind = is.kind;
+      zero = is.zero;
       base = is.base;
+      whole = is.whole;
       blocks = is.blocks ++ block ∷ [];
       fit = both_parts BlockFits is.blocks (block ∷ []) is.fit (few, tt);
-      spelled = ap (λ (l : List (List ℕ)). l ++ body_of block ∷ []) is.spelled ∙ sym (map-append body_of is.blocks (block ∷ []));
+      spelled =
+          ap (λ (l : List (List ℕ)). l ++ body_of block ∷ []) is.spelled
+          ∙ append_assoc (bodies_before is.begins) (map body_of is.blocks) (body_of block ∷ [])
+          ∙ ap (λ (l : List (List ℕ)). bodies_before is.begins ++ l) (sym (map-append body_of is.blocks (block ∷ [])));
       stand = there;
       entries = ap (λ (l : List LogEntry). l ++ map Recorded batch) is.entries ∙ sym (entries_more is.blocks block);
       kept = kept_more slot image is.program log.entries batch is.kept (subst (λ (p : Program). AllByRecursion (IsKept slot (shape_in p) image) batch) program kept);
     }
 
+-- it begins as before
+pub sealed_begins : (slot : ℕ) (image : Image) (log : Log) (bodies : List (List ℕ)) (gate : ℕ) → (is : StandsUpTo slot image log bodies gate)
+    → (batch : List Commit) (next : ℕ) → (few : length batch ≤ 64) → (kept : AllByRecursion (IsKept slot (shape_in (standing_of log).program) image) batch)
+    → (there : HasBlocks (bodies ++ body_of (Records batch) ∷ []) next (image (Manager slot)))
+    → (sealed slot image log bodies gate is batch next few kept there).begins ≡ is.begins
+unfolding sealed
+sealed_begins slot image log bodies gate is batch next few kept there = refl
+
 -- ---- grains without a state in the store
 
-abbrev IsPlain : Standing → Type 0
+abbrev pub IsPlain : Standing → Type 0
 IsPlain s = (grain : GrainId) → s.held grain ≡ false → s.states grain ≡ initial_states s.program grain
 
 -- of two tests, neither
@@ -67,7 +85,7 @@ neither true b e = absurd (false≢true (sym e))
 neither false b e = (refl, e)
 
 -- writes leave each grain that isn't among them
-others_stay : (ws : List (GrainId × List Value)) (states : States) (grain : GrainId) → is_among ws grain ≡ false → fold put_state states ws grain ≡ states grain
+pub others_stay : (ws : List (GrainId × List Value)) (states : States) (grain : GrainId) → is_among ws grain ≡ false → fold put_state states ws grain ≡ states grain
 others_stay [] states grain none = refl
 others_stay (w ∷ ws) states grain none =
     let parts = neither (same_grain w.0 grain) (is_among ws grain) none in
@@ -106,6 +124,11 @@ plain_entry before (Recorded c) plain grain none =
 pub plain_entries : (before : Standing) (entries : List LogEntry) → IsPlain before → IsPlain (after_entries before entries)
 plain_entries before [] plain = plain
 plain_entries before (e ∷ entries) plain = plain_entries (after_entry before e) entries (plain_entry before e plain)
+
+-- from any beginning
+pub plain_base : (p : Program) (b : Beginning) → IsPlain (base_of p b)
+plain_base p Fresh grain none = refl
+plain_base p (From ck) grain none = others_stay (states_saved ck) (initial_states p) grain none
 
 pub unheld : (p : Program) (entries : List LogEntry) (grain : GrainId) → (after_entries (new_silo p) entries).held grain ≡ false → (after_entries (new_silo p) entries).states grain ≡ initial_states p grain
 unheld p entries grain none =

@@ -197,13 +197,13 @@ back_over_one_base a b same (inr on) =
     let two : from_position at b ≡ b = from_base at b (omega (arith, count)) in
     subst (λ (l : Log). IsPrefix a.entries l.entries) two (subst (λ (l : Log). IsPrefix l.entries (from_position at b).entries) one on.entries)
 
--- over bases of no entry a prefix has the same base and a first part of the entries
-pub of_no_entry : (a b : Log) → a.base.count ≡ 0 → b.base.count ≡ 0 → IsPrefixOf a b → (a.base ≡ b.base) × IsPrefix a.entries b.entries
-of_no_entry a b none none_too (inl gap) = absurd (omega (arith, gap, none_too))
-of_no_entry a b none none_too (inr on) =
+-- over bases at one position a prefix has the same base and a first part of the entries
+pub of_one_position : (a b : Log) → a.base.count ≡ b.base.count → IsPrefixOf a b → (a.base ≡ b.base) × IsPrefix a.entries b.entries
+of_one_position a b same (inl gap) = absurd (omega (arith, gap, same))
+of_one_position a b same (inr on) =
     let at : ℕ = max a.base.count b.base.count in
-    let one : from_position at a ≡ a = from_base at a (omega (arith, none, none_too)) in
-    let two : from_position at b ≡ b = from_base at b (omega (arith, none, none_too)) in (
+    let one : from_position at a ≡ a = from_base at a (omega (arith, same)) in
+    let two : from_position at b ≡ b = from_base at b (omega (arith, same)) in (
       sym (ap (λ (l : Log). l.base) one) ∙ on.base ∙ ap (λ (l : Log). l.base) two,
       subst (λ (l : Log). IsPrefix a.entries l.entries) two (subst (λ (l : Log). IsPrefix l.entries (from_position at b).entries) one on.entries),
     )

@@ -1,6 +1,6 @@
 -- The versions that the records of a log name, from what is read and back.
 use Rattle.std.proofs.Common.{◌≡◌, inl, inr, ℕ, ◌^◌, ◌<◌, ◌≤◌, nat_lt, Bool, true, false, if◌then◌else◌, Option, Some, None, List, [], ◌∷◌, length, map, filter, take, drop, Result, Ok, Err, refl, sym, ◌∙◌, ap, subst, arith, length-append, slice_get}
-use Rattle.std.proofs.lemmas.Bool.{cond_both, ltb-false, or_parts}
+use Rattle.std.proofs.lemmas.Bool.{cond_both, ltb-false, ltb-true, lt-ltb, or_parts, and_parts, and_from}
 use Rattle.std.proofs.lemmas.List.{take-take, take_at}
 use Rattle.std.proofs.lemmas.Slice.Eq.{bytes_eq-Decides}
 use Rattle.std.specs.Int.{w64, to_le_bytes, from_le_bytes}
@@ -17,13 +17,14 @@ use Rattle.field_codec.specs.declared.formats.Format.TheVariants.{One}
 use Rattle.field_codec.specs.Formats.{version_limit}
 use Rattle.field_codec.specs.Spelling.{spelling_of_values, spelling_of_version}
 use Rattle.field_codec.specs.Readers.{AreBytes}
+use Rattle.field_codec.specs.Units.{may_be_unit}
 use Rattle.field_codec.specs.declared.units.Numbers.TheVariants.{Logged}
 use Rattle.field_codec.proofs.Counts.{wide64, AreBytes-cut}
 use Rattle.field_codec.proofs.Readers.{past}
 use Rattle.grain_log.specs.declared.faults.VersionFault.{VersionFault}
 use Rattle.grain_log.specs.declared.faults.VersionFault.TheVariants.{Damaged}
 use Rattle.grain_log.specs.Places.{IsVersionAt}
-use Rattle.grain_log.specs.Reads.{fields_of, is_beyond, text_in, version_at_place, GivesVersion}
+use Rattle.grain_log.specs.Reads.{fields_of, is_beyond, is_logged, text_in, version_at_place, GivesVersion}
 use Rattle.grain_log.proofs.Versions.{found_when, only_at}
 use Rattle.commit_log.specs.declared.records.CommitRecord.{CommitRecord}
 use Rattle.commit_log.specs.declared.records.Written.{Written}
@@ -122,10 +123,7 @@ module _ (live : ℕ) (shape : Shape) (image : Image) where
   abbrev pub IsThere : Named → Type 0
   IsThere n = (v : Version) × (version_named live One shape image n ≡ Ok v)
 
-  module _ (unit : UnitNo) (w : Written) where
-    abbrev pub named_as : Named
-    named_as = record { unit = unit; written = w }
-
+  module _ (w : Written) where
     near_by : (o : Option ℕ) (v : Version) → version_at_place One o w.place (image (Grain live w.grain)) ≡ Ok v → w.place.offset < 2 ^ 63
     near_by None v e = absurd cc
     near_by (Some count) v e =
@@ -133,59 +131,110 @@ module _ (live : ℕ) (shape : Shape) (image : Image) where
         let low : w.place.offset ≤ 9223372036854775807 = ltb-false 9223372036854775807 w.place.offset (or_parts (nat_lt 9223372036854775807 w.place.offset) (nat_lt (version_limit One) w.place.len) one.0).0 in
         omega (arith, low)
 
+    -- a version that is read at its place stands there, with its own unit
+    place_stands : AreBytes (image (Grain live w.grain)) → (v : Version) → version_at_place One (fields_of (slice_get shape.types w.grain.kind)) w.place (image (Grain live w.grain)) ≡ Ok v
+        → WriteStands live shape image v.unit w v.state × (take 8 (drop w.place.offset (image (Grain live w.grain))) ≡ to_le_bytes w64 v.unit.0) × (v.unit.0 < 2 ^ 64)
+    place_stands are v e =
+        let is = found_when (Unit {0}) One (fields_of (slice_get shape.types w.grain.kind)) w.place (image (Grain live w.grain)) (Ok v) (λ told. e) (λ told. AreBytes-cut w.place.len w.place.offset (image (Grain live w.grain)) are) tt in
+        let first : take 8 (drop w.place.offset (image (Grain live w.grain))) ≡ to_le_bytes w64 v.unit.0 = first_eight w.place.len (drop w.place.offset (image (Grain live w.grain))) v is.2.here (sym is.2.version_is.len) in
+        let count : is.0 ≡ length v.state = sym is.2.version_is.count in
+        let there : IsVersionAt One (length v.state) w.place (image (Grain live w.grain)) v = subst (λ (n : ℕ). IsVersionAt One n w.place (image (Grain live w.grain)) v) count is.2 in (
+          record {
+            near = near_by (fields_of (slice_get shape.types w.grain.kind)) v e;
+            fields = is.1 ∙ ap (λ (n : ℕ). Some n) count;
+            version = there;
+          },
+          first,
+          is.2.version_is.fits.unit,
+        )
+
+    -- a version that stands there is read at its place
+    place_stood : (unit : UnitNo) (state : List Value) → WriteStands live shape image unit w state
+        → version_at_place One (fields_of (slice_get shape.types w.grain.kind)) w.place (image (Grain live w.grain)) ≡ Ok (record { unit = unit; state = state })
+    place_stood unit state s =
+        let v : Version = record { unit = unit; state = state } in
+        let o : Option ℕ = fields_of (slice_get shape.types w.grain.kind) in
+        let found : Result Version ℕ = version_at_place One o w.place (image (Grain live w.grain)) in
+        gives_answer found v (only_at One o w.place (image (Grain live w.grain)) (as_answer found) (answer_gives found) (length state) v s.fields s.near s.version)
+
+    -- and begins with its unit's number
+    unit_stood : (unit : UnitNo) (state : List Value) → WriteStands live shape image unit w state → take 8 (drop w.place.offset (image (Grain live w.grain))) ≡ to_le_bytes w64 unit.0
+    unit_stood unit state s =
+        first_eight w.place.len (drop w.place.offset (image (Grain live w.grain))) (record { unit = unit; state = state }) s.version.here (sym s.version.version_is.len)
+
+  module _ (unit : UnitNo) (w : Written) where
+    abbrev pub named_as : Named
+    named_as = record { unit = Some unit; written = w }
+
     -- a version that is read stands there
     pub stands : AreBytes (image (Grain live w.grain)) → unit.0 < 2 ^ 64 → (v : Version) → version_named live One shape image named_as ≡ Ok v → WriteStands live shape image unit w v.state
     stands are low v e =
         let t = passed (is_owned unit w.place (image (Grain live w.grain))) w.place.offset (version_at_place One (fields_of (slice_get shape.types w.grain.kind)) w.place (image (Grain live w.grain))) v e in
-        let is = found_when (Unit {0}) One (fields_of (slice_get shape.types w.grain.kind)) w.place (image (Grain live w.grain)) (Ok v) (λ told. t.1) (λ told. AreBytes-cut w.place.len w.place.offset (image (Grain live w.grain)) are) tt in
+        let is = place_stands w are v t.1 in
         let own : take 8 (drop w.place.offset (image (Grain live w.grain))) ≡ to_le_bytes w64 unit.0 =
         (bytes_eq-Decides (take 8 (drop w.place.offset (image (Grain live w.grain)))) (to_le_bytes w64 unit.0)).0 t.0 in
-        let first : take 8 (drop w.place.offset (image (Grain live w.grain))) ≡ to_le_bytes w64 v.unit.0 = first_eight w.place.len (drop w.place.offset (image (Grain live w.grain))) v is.2.here (sym is.2.version_is.len) in
-        let number : v.unit.0 ≡ unit.0 = units_same v.unit.0 unit.0 is.2.version_is.fits.unit low (sym first ∙ own) in
-        let same : v ≡ record { unit = unit; state = v.state } = (λ i. record { unit = record { 0 = number i }; state = v.state }) in
-        let count : is.0 ≡ length v.state = sym is.2.version_is.count in
-        let there : IsVersionAt One (length v.state) w.place (image (Grain live w.grain)) v = subst (λ (n : ℕ). IsVersionAt One n w.place (image (Grain live w.grain)) v) count is.2 in
-        record {
-          near = near_by (fields_of (slice_get shape.types w.grain.kind)) v t.1;
-          fields = is.1 ∙ ap (λ (n : ℕ). Some n) count;
-          version = subst (λ (x : Version). IsVersionAt One (length v.state) w.place (image (Grain live w.grain)) x) same there;
-        }
+        let number : v.unit.0 ≡ unit.0 = units_same v.unit.0 unit.0 is.2 low (sym is.1 ∙ own) in
+        subst (λ (n : ℕ). WriteStands live shape image (record { 0 = n }) w v.state) number is.0
 
     -- a version that stands there is read
     pub stood : (state : List Value) → WriteStands live shape image unit w state → version_named live One shape image named_as ≡ Ok (record { unit = unit; state = state })
     stood state s =
-        let v : Version = record { unit = unit; state = state } in
-        let o : Option ℕ = fields_of (slice_get shape.types w.grain.kind) in
-        let found : Result Version ℕ = version_at_place One o w.place (image (Grain live w.grain)) in
-        let is : found ≡ Ok v = gives_answer found v (only_at One o w.place (image (Grain live w.grain)) (as_answer found) (answer_gives found) (length state) v s.fields s.near s.version) in
+        let found : Result Version ℕ = version_at_place One (fields_of (slice_get shape.types w.grain.kind)) w.place (image (Grain live w.grain)) in
         let own : is_owned unit w.place (image (Grain live w.grain)) ≡ true =
-        (bytes_eq-Decides (take 8 (drop w.place.offset (image (Grain live w.grain)))) (to_le_bytes w64 unit.0)).1
-        (first_eight w.place.len (drop w.place.offset (image (Grain live w.grain))) v s.version.here (sym s.version.version_is.len)) in
-        ap (λ (b : Bool). if b then found else Err w.place.offset) own ∙ is
+        (bytes_eq-Decides (take 8 (drop w.place.offset (image (Grain live w.grain)))) (to_le_bytes w64 unit.0)).1 (unit_stood w unit state s) in
+        ap (λ (b : Bool). if b then found else Err w.place.offset) own ∙ place_stood w unit state s
+
+  -- ---- the versions of a checkpoint
+
+  module _ (w : Written) where
+    abbrev pub saved_as : Named
+    saved_as = record { unit = None; written = w }
+
+    -- a version that is read there is a unit's that may be logged, and stands
+    pub saved_stands : AreBytes (image (Grain live w.grain)) → (v : Version) → version_named live One shape image saved_as ≡ Ok v
+        → ((0 < v.unit.0) × (v.unit.0 < 2 ^ 63)) × WriteStands live shape image v.unit w v.state
+    saved_stands are v e =
+        let t = passed (is_logged w.place (image (Grain live w.grain))) w.place.offset (version_at_place One (fields_of (slice_get shape.types w.grain.kind)) w.place (image (Grain live w.grain))) v e in
+        let is = place_stands w are v t.1 in
+        let number : from_le_bytes w64 (take 8 (drop w.place.offset (image (Grain live w.grain)))) ≡ v.unit.0 = ap (from_le_bytes w64) is.1 ∙ wide64.again v.unit.0 is.2 in
+        let may : may_be_unit Logged v.unit.0 ≡ true = sym (ap (may_be_unit Logged) number) ∙ t.0 in
+        let both = and_parts (nat_lt 0 v.unit.0) (nat_lt v.unit.0 9223372036854775808) may in
+        let above : 0 < v.unit.0 = ltb-true 0 v.unit.0 both.0 in
+        let below : v.unit.0 < 9223372036854775808 = ltb-true v.unit.0 9223372036854775808 both.1 in
+        ((above, omega (arith, below)), is.0)
+
+    -- a version that stands there is read
+    pub saved_stood : (unit : UnitNo) (state : List Value) → 0 < unit.0 → unit.0 < 2 ^ 63 → WriteStands live shape image unit w state → version_named live One shape image saved_as ≡ Ok (record { unit = unit; state = state })
+    saved_stood unit state above below s =
+        let found : Result Version ℕ = version_at_place One (fields_of (slice_get shape.types w.grain.kind)) w.place (image (Grain live w.grain)) in
+        let number : from_le_bytes w64 (take 8 (drop w.place.offset (image (Grain live w.grain)))) ≡ unit.0 = ap (from_le_bytes w64) (unit_stood w unit state s) ∙ wide64.again unit.0 (omega (arith, below)) in
+        let may : may_be_unit Logged unit.0 ≡ true = and_from (nat_lt 0 unit.0) (nat_lt unit.0 9223372036854775808) (lt-ltb 0 unit.0 above) (lt-ltb unit.0 9223372036854775808 (omega (arith, below))) in
+        let own : is_logged w.place (image (Grain live w.grain)) ≡ true = ap (may_be_unit Logged) number ∙ may in
+        ap (λ (b : Bool). if b then found else Err w.place.offset) own ∙ place_stood w unit state s
 
   -- ---- the versions of a record
 
   -- versions that are there stand, with the states that are read
-  all_stand : (unit : UnitNo) (ws : List Written) → ((file : FileId) → AreBytes (image file)) → unit.0 < 2 ^ 64 → AllByRecursion IsThere (map (λ w. record { unit = unit; written = w }) ws)
-      → WritesStand live shape image unit ws (map (λ w. state_of (version_named live One shape image (record { unit = unit; written = w }))) ws)
+  all_stand : (unit : UnitNo) (ws : List Written) → ((file : FileId) → AreBytes (image file)) → unit.0 < 2 ^ 64 → AllByRecursion IsThere (map (λ w. record { unit = Some unit; written = w }) ws)
+      → WritesStand live shape image unit ws (map (λ w. state_of (version_named live One shape image (record { unit = Some unit; written = w }))) ws)
   all_stand unit [] are low all = tt
   all_stand unit (w ∷ ws) are low all =
-      let state : all.0.0.state ≡ state_of (version_named live One shape image (record { unit = unit; written = w })) = ap state_of (sym all.0.1) in
+      let state : all.0.0.state ≡ state_of (version_named live One shape image (record { unit = Some unit; written = w })) = ap state_of (sym all.0.1) in
       (subst (WriteStands live shape image unit w) state (stands unit w (are (Grain live w.grain)) low all.0.0 all.0.1), all_stand unit ws are low all.1)
 
   -- versions that stand are there
-  all_there : (unit : UnitNo) (ws : List Written) (states : List (List Value)) → WritesStand live shape image unit ws states → AllByRecursion IsThere (map (λ w. record { unit = unit; written = w }) ws)
+  all_there : (unit : UnitNo) (ws : List Written) (states : List (List Value)) → WritesStand live shape image unit ws states → AllByRecursion IsThere (map (λ w. record { unit = Some unit; written = w }) ws)
   all_there unit [] states all = tt
   all_there unit (w ∷ ws) [] all = absurd all
   all_there unit (w ∷ ws) (state ∷ states) all = ((record { unit = unit; state = state }, stood unit w state all.0), all_there unit ws states all.1)
 
   -- and their states are read
-  all_states : (unit : UnitNo) (ws : List Written) (states : List (List Value)) → WritesStand live shape image unit ws states → map (λ w. state_of (version_named live One shape image (record { unit = unit; written = w }))) ws ≡ states
+  all_states : (unit : UnitNo) (ws : List Written) (states : List (List Value)) → WritesStand live shape image unit ws states → map (λ w. state_of (version_named live One shape image (record { unit = Some unit; written = w }))) ws ≡ states
   all_states unit [] [] all = refl
   all_states unit [] (state ∷ states) all = absurd all
   all_states unit (w ∷ ws) [] all = absurd all
   all_states unit (w ∷ ws) (state ∷ states) all =
-      let one : state_of (version_named live One shape image (record { unit = unit; written = w })) ≡ state = ap state_of (stood unit w state all.0) in
+      let one : state_of (version_named live One shape image (record { unit = Some unit; written = w })) ≡ state = ap state_of (stood unit w state all.0) in
       let more = all_states unit ws states all.1 in
       λ i. one i ∷ more i
 
@@ -196,14 +245,14 @@ module _ (live : ℕ) (shape : Shape) (image : Image) where
       → AllByRecursion (IsKept live shape image) (map (commit_of live shape image) records)
   all_are_kept are [] fit there = tt
   all_are_kept are (r ∷ records) fit there =
-      let t = parts_of IsThere (map (λ w. record { unit = r.unit; written = w }) r.writes) (named_by records) there in
+      let t = parts_of IsThere (map (λ w. record { unit = Some r.unit; written = w }) r.writes) (named_by records) there in
       (record { fits = fit.0; whole = all_stand r.unit r.writes are fit.0.fits.unit t.0 }, all_are_kept are records fit.1 t.1)
 
   -- the versions of records that are kept are there
   pub all_are_there : (log : List Commit) → AllByRecursion (IsKept live shape image) log → AllByRecursion IsThere (named_by (map (λ c. c.logged) log))
   all_are_there [] kept = tt
   all_are_there (c ∷ log) kept =
-      both_parts IsThere (map (λ w. record { unit = c.logged.unit; written = w }) c.logged.writes) (named_by (map (λ (d : Commit). d.logged) log)) (all_there c.logged.unit c.logged.writes c.states kept.0.whole) (all_are_there log kept.1)
+      both_parts IsThere (map (λ w. record { unit = Some c.logged.unit; written = w }) c.logged.writes) (named_by (map (λ (d : Commit). d.logged) log)) (all_there c.logged.unit c.logged.writes c.states kept.0.whole) (all_are_there log kept.1)
 
   -- and they are the states of these records
   pub same_commits : (log : List Commit) → AllByRecursion (IsKept live shape image) log → map (commit_of live shape image) (map (λ c. c.logged) log) ≡ log

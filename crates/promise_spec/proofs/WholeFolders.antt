@@ -14,4 +14,4 @@ pub whole_if : (image : Image) → IsSoundIfSilo image → IsWholeIfSilo image
 whole_if image sound live is = whole_image live image (sound live is)
 
 pub whole_folder : (w : World) → IsSoundFolder w → IsWholeFolder w
-whole_folder w sound = record { chain = sound.chain; whole = λ image left. whole_if image (sound.sound image left) }
+whole_folder w sound = record { chain = sound.chain; whole = λ image left. whole_if image (sound.sound image left); shows = sound.shows }

@@ -1,22 +1,24 @@
 -- What the commands promise that carry no lines.
 use Rattle.std.specs.Prelude.{◌≡◌, ◌≢◌, ◌⊎◌, ℕ, ◌<◌, ◌≤◌, List, [], ◌∷◌, ◌++◌, length, Option, Some, None, Ok, Err, ⊤}
+use Rattle.base_types.specs.declared.calls.GrainId.{GrainId}
 use Rattle.host_trait.specs.declared.channels.FileId.{FileId}
 use Rattle.host_trait.specs.declared.channels.FileId.TheVariants.{Manager}
 use Rattle.host_trait.specs.World.{World, Moment, Image, IsImage, Passes, moment_of}
-use Rattle.silo_spec.specs.Silos.{manager, IsMadeFile, IsSilo, IsNewSilo}
+use Rattle.silo_spec.specs.Silos.{IsEitherManager, IsMadeFile, IsNewSilo}
+use Rattle.silo_spec.specs.Slots.{IsLive, IsSiloImage, ShowsSilos}
 use Rattle.silo_spec.specs.Moments.{IsUntouched}
 use Rattle.silo_spec.specs.Creation.{CameThisFar, IsBeside}
 use Rattle.script_tree.specs.Programs.{ProgramTree}
 use Rattle.promise_spec.specs.Programs.{ProgramFault, text_limit, program_in}
 use Rattle.promise_spec.specs.Records.{Commit}
-use Rattle.promise_spec.specs.Entries.{LogEntry, Recorded, Log, after_entries}
+use Rattle.promise_spec.specs.Entries.{LogEntry, Recorded, Log, standing_of, after_entries}
 use Rattle.promise_spec.specs.SerialExecution.{IsSerialFrom, Replays}
 use Rattle.promise_spec.specs.Logs.{magic, IsPrefix}
 use Rattle.promise_spec.specs.Openings.{Reads, opened_as}
 use Rattle.promise_spec.specs.Endings.{Ending, Done, Memory, ReadFault, WriteFault, DiskFault, AlreadyASilo, BadProgram, InputTooLong, HasRisen}
 use Rattle.promise_spec.specs.Courses.{Observed, seen_at_entry}
 use Rattle.promise_spec.specs.Refusals.{IsUnopened}
-use Rattle.promise_spec.specs.Reports.{audit_text}
+use Rattle.promise_spec.specs.Reports.{AreHeld, show_text, audit_text}
 
 -- ---- init
 
@@ -27,41 +29,50 @@ pub record IsProgramText (r : Observed) : Type 0 where
   pub types : ProgramTree
   pub reads : program_in r.old.input ≡ Ok types
 
--- the folder reads as a silo at entry
+-- the folder reads as a silo at entry, by either slot
 abbrev pub WasSilo : Observed → Type 0
-WasSilo r = IsSilo magic (seen_at_entry r manager)
+WasSilo r = IsSiloImage magic (seen_at_entry r)
 
--- where it did, the manager file alone may be at fault, and all stays as it was
+-- where it did, a manager file alone may be at fault, and all stays as it was
 abbrev pub StaysSilo : Observed → FileId → Type 0
-StaysSilo r file = WasSilo r → (file ≡ manager) × IsUntouched r.old r.new
+StaysSilo r file = WasSilo r → IsEitherManager file × IsUntouched r.old r.new
 
 -- the input was read whole, is short enough, and has this fault
 abbrev pub HasFault : Observed → ProgramFault → Type 0
 HasFault r fault = (r.new.input ≡ []) × (length r.old.input ≤ text_limit) × (program_in r.old.input ≡ Err fault)
 
--- what the manager file reads lasts
-abbrev pub ManagerLasts : Observed → Type 0
-ManagerLasts r = (image : Image) → IsImage r.new.disk image → image manager ≡ seen_at_entry r manager
+-- what each manager file reads lasts, where it reads anything
+abbrev pub ManagersLast : Observed → Type 0
+ManagersLast r = (image : Image) → IsImage r.new.disk image → (slot : ℕ) → slot ≤ 1 →
+    seen_at_entry r (Manager slot) ≢ [] → image (Manager slot) ≡ seen_at_entry r (Manager slot)
+
+-- Each image is a new silo of this program. Its slot is the live one, unless the other one's manager file reads too short and may be a
+-- silo's.
+abbrev pub AreNewSilos : List ℕ → Observed → World → Type 0
+AreNewSilos text r made = (image : Image) → IsImage made.disk image →
+    IsNewSilo magic text image × (ShowsSilos magic r.old.disk → IsLive magic 0 image)
 
 -- How `init` ends. The input comes before the program in it, and that before the folder; want of memory is free, and
 -- comes before the folder.
 abbrev pub MakesAs : Ending → Observed → Type 0
-MakesAs Done r = IsProgramText r × (WasSilo r → ⊥) × ((image : Image) → IsImage r.new.disk image → IsNewSilo magic r.old.input image)
+MakesAs Done r = IsProgramText r × (WasSilo r → ⊥) × AreNewSilos r.old.input r r.new
 MakesAs Memory r = IsUntouched r.old r.new
 MakesAs ReadFault r = IsUntouched r.old r.new
 MakesAs (DiskFault file) r = IsProgramText r × IsMadeFile file × StaysSilo r file
-MakesAs AlreadyASilo r = IsProgramText r × WasSilo r × IsUntouched r.old r.new × ManagerLasts r
+MakesAs AlreadyASilo r = IsProgramText r × WasSilo r × IsUntouched r.old r.new × ManagersLast r
 MakesAs (BadProgram fault) r = HasFault r fault × IsUntouched r.old r.new
 MakesAs (InputTooLong line) r = (line ≡ 0) × (text_limit < length r.old.input) × IsUntouched r.old r.new
 MakesAs _ r = ⊥
 
--- What `init` promises. It emits nothing, and no file but the program's and the manager file changes. Either nothing was
--- written; or no sync of the manager file has succeeded yet, and each image is one of those at entry but for the header
--- gate; or one has, and from then on each image is no silo, or one of the program that is the input, with an empty log.
+-- What `init` promises. It emits nothing, and no file but the program's and the manager files of both slots changes, of which the
+-- second is at most synced. Where no manager file that reads too short is a silo's: either nothing was written; or the manager files
+-- that read with bytes were synced first, and from then on each image is no silo, or one of the program that is the input, with an
+-- empty log; and no manager file that reads too short is a silo's afterwards.
 pub record MakesSilo (r : Observed) : Type 0 where
   pub beside : Passes (IsBeside r.old) r.old.past r.new.past
   pub beside_now : IsBeside r.old (moment_of r.new)
-  pub makes : CameThisFar magic r.old.input r.old r.new
+  pub makes : ShowsSilos magic r.old.disk → CameThisFar magic r.old.input r.old r.new
+  pub shows : ShowsSilos magic r.old.disk → ShowsSilos magic r.new.disk
   pub ends_as : MakesAs r.ending r
   pub risen : HasRisen r.ending r.faults_before r.faults_after
 
@@ -104,10 +115,19 @@ pub record IsReported (text : Log → List ℕ) (r : Observed) : Type 0 where
   pub ending : (r.ending ≡ Done) ⊎ MayCut r.ending
   pub risen : HasRisen r.ending r.faults_before r.faults_after
 
--- What `show` and `history` promise of any folder, each of its text: they don't open it and leave all as it was, or they
--- report its log.
+-- What `history` promises of any folder, of its text: it doesn't open it and leaves all as it was, or it reports its log.
 abbrev pub Reports : (Log → List ℕ) → Observed → Type 0
 Reports text r = IsUnopened r ⊎ IsReported text r
+
+-- a report of the grains that have a state in the store
+pub record IsShown (r : Observed) : Type 0 where
+  pub grains : List GrainId
+  pub report : IsReported (show_text grains) r
+  pub held : AreHeld grains (standing_of report.log)
+
+-- What `show` promises of any folder: it doesn't open it and leaves all as it was, or shows its grains.
+abbrev pub ShowsStates : Observed → Type 0
+ShowsStates r = IsUnopened r ⊎ IsShown r
 
 -- the first record that doesn't replay is this unit's; there is none exactly where the log is serial
 abbrev pub IsFirstBad : Log → Option ℕ → Type 0

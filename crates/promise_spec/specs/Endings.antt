@@ -7,7 +7,8 @@ use Rattle.host_trait.specs.Faults.{Rose, NoneFailed, FailedOn}
 use Rattle.promise_spec.specs.Programs.{ProgramFault}
 
 -- All is done; the words aren't a command; there was no memory; the input, the output or a file failed; the folder is
--- no silo, or is one already, or is damaged in a file at a place; the input is no program, or is too long at a line.
+-- no silo, or is one already, or is damaged in a file at a place; the input is no program, or is too long at a line; no generation
+-- follows that of the silo.
 pub data Ending : Type 0 where
   Done : Ending
   BadUse : Ending
@@ -20,6 +21,7 @@ pub data Ending : Type 0 where
   Damaged : FileId → ℕ → Ending
   BadProgram : ProgramFault → Ending
   InputTooLong : ℕ → Ending
+  LastGeneration : Ending
 
 -- ---- what each ending says
 

@@ -4,7 +4,7 @@ use Rattle.std.specs.List.{AllByRecursion}
 use Rattle.base_types.specs.declared.calls.Origin.{Origin}
 use Rattle.base_types.specs.declared.calls.Origin.TheVariants.{Line, Child}
 use Rattle.host_trait.specs.World.{World, Image, IsImage}
-use Rattle.silo_spec.specs.Slots.{IsLive}
+use Rattle.silo_spec.specs.Slots.{IsLive, ShowsSilos}
 use Rattle.promise_spec.specs.Records.{Commit}
 use Rattle.promise_spec.specs.Entries.{Log, records_of}
 use Rattle.promise_spec.specs.SerialExecution.{IsSerialFrom}
@@ -48,12 +48,14 @@ IsSoundIfSilo image = (live : ℕ) → IsLive magic live image → IsSound live 
 abbrev pub AreChained : Image → Image → Type 0
 AreChained one other = (a b : Log) → HasLog one a → HasLog other b → IsPrefixOf a b ⊎ IsPrefixOf b a
 
--- the images of a crash are a chain, and each that is a silo is whole
+-- the images of a crash are a chain, each that is a silo is whole, and none is one by a slot whose manager file reads too short
 pub record IsWholeFolder (w : World) : Type 0 where
   pub chain : (one other : Image) → IsImage w.disk one → IsImage w.disk other → AreChained one other
   pub whole : (image : Image) → IsImage w.disk image → IsWholeIfSilo image
+  pub shows : ShowsSilos magic w.disk
 
--- they are a chain, and each that is a silo is sound
+-- they are a chain, each that is a silo is sound, and none is one by such a slot
 pub record IsSoundFolder (w : World) : Type 0 where
   pub chain : (one other : Image) → IsImage w.disk one → IsImage w.disk other → AreChained one other
   pub sound : (image : Image) → IsImage w.disk image → IsSoundIfSilo image
+  pub shows : ShowsSilos magic w.disk

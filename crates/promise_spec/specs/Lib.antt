@@ -35,5 +35,7 @@ pub mod Reports
 pub mod Commands
 pub mod Loads
 pub mod Checks
-pub mod Calls
 pub mod Journals
+pub mod Compacting
+pub mod Rewriting
+pub mod Calls

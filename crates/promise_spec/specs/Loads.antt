@@ -7,10 +7,13 @@ use Rattle.base_types.specs.declared.calls.Value.TheVariants.{Int}
 use Rattle.base_types.specs.declared.entries.Entry.{Entry}
 use Rattle.base_types.specs.declared.entries.Settled.{Settled}
 use Rattle.core_model.specs.CoreState.{Member}
+use Rattle.host_trait.specs.declared.channels.FileId.{FileId}
+use Rattle.host_trait.specs.Disk.{MayLeave}
 use Rattle.host_trait.specs.World.{World, Moment, Image, IsImage}
 use Rattle.request_wire.specs.Reply.{value_data, counted}
 use Rattle.serde_json.specs.Data.{object, member, no_members}
-use Rattle.silo_spec.specs.Silos.{IsMadeFile, IsNewSilo}
+use Rattle.silo_spec.specs.Silos.{IsMadeFile}
+use Rattle.silo_spec.specs.Slots.{ShowsSilos}
 use Rattle.silo_spec.specs.Moments.{IsUntouched}
 use Rattle.silo_spec.specs.Creation.{StaysBeside, IsNewAt, FromFirstSync, CameThisFar}
 use Rattle.script_tree.specs.Programs.{ProgramTree}
@@ -32,7 +35,7 @@ use Rattle.promise_spec.specs.Promise.{IsAnswered, GoesThrough, HasNoChild, IsNo
 use Rattle.promise_spec.specs.Reports.{line_of}
 use Rattle.promise_spec.specs.Words.{Manner}
 use Rattle.promise_spec.specs.Refusals.{IsUnopened}
-use Rattle.promise_spec.specs.Commands.{Prints, WasSilo, StaysSilo, ManagerLasts}
+use Rattle.promise_spec.specs.Commands.{Prints, WasSilo, StaysSilo, ManagersLast, AreNewSilos}
 
 -- ---- what is asked
 
@@ -164,39 +167,45 @@ abbrev pub bank_text : List ℕ
 bank_text = codes "type account {\n  field balance = 0;\n  method deposit(n) createorjoin update { set balance = balance + n; return balance; }\n  method withdraw(n) createorjoin update {\n    if balance < n { fail \"funds\"; }\n    set balance = balance - n;\n    return balance;\n  }\n  method read() createorjoin read { return balance; }\n}\ntype atm {\n  method transfer(a, b, n) create plain {\n    call account/a.withdraw(n);\n    call account/b.deposit(n);\n    return n;\n  }\n}\ntype probe {\n  field total = 0;\n  method spin(n) create plain { let i = 0; while i < n { i = i + 1; } return i; }\n  method needs() join plain { return 1; }\n  method lone() notallowed plain { return 1; }\n  method calls_lone() create plain { let x = call probe/0.lone(); return x; }\n  method inner() create update { set total = total + 100; return total; }\n  method outer() create update {\n    set total = total + 1;\n    attempt r = call probe/key.inner() { return r; } else { set total = total + 10; }\n    return total;\n  }\n  method aside(a, n) suppress plain { call account/a.deposit(n); return 0; }\n  method split(a, n) create plain { call probe/0.aside(a, n); fail \"after\"; }\n}\n"
 
 -- A load may end so without having made a silo: where there was no memory or the folder is a silo, which is then
--- untouched; or where a call on one of the two files failed.
+-- untouched; or where a call on one of the files that making a silo calls failed.
 abbrev pub IsUnmadeBy : ending.Ending → Observed → Type 0
 IsUnmadeBy ending.Memory r = IsUntouched r.old r.new
 IsUnmadeBy (ending.DiskFault file) r = IsMadeFile file × StaysSilo r file
-IsUnmadeBy ending.AlreadyASilo r = WasSilo r × IsUntouched r.old r.new × ManagerLasts r
+IsUnmadeBy ending.AlreadyASilo r = WasSilo r × IsUntouched r.old r.new × ManagersLast r
 IsUnmadeBy _ r = ⊥
 
 -- The load made no silo: it read no input and emitted nothing, and how far it came is said as of `init`. Where a call failed it
 -- ended for that call, and for no other.
 pub record IsUnmade (r : Observed) : Type 0 where
   pub beside : StaysBeside r.old r.new
-  pub makes : CameThisFar magic bank_text r.old r.new
+  pub makes : ShowsSilos magic r.old.disk → CameThisFar magic bank_text r.old r.new
+  pub shows : ShowsSilos magic r.old.disk → ShowsSilos magic r.new.disk
   pub ends_as : IsUnmadeBy r.ending r
   pub failed : ending.HasFailedAs r.ending r.faults_before r.faults_after
 
 -- The load made a silo of the bank program with an empty log, where there was none: the host was then so. Making one asks for
--- four syncs, and for one more where the header of a file with bytes is closed first.
+-- four syncs, for one more where the header of a file with bytes is closed first, and for one where slot 1's manager file has bytes.
 pub record HasMade (r : Observed) (made : World) : Type 0 where
   pub absent : WasSilo r → ⊥
   pub beside : StaysBeside r.old made
-  pub makes : FromFirstSync (IsNewAt magic bank_text) r.old made
-  pub new : (image : Image) → IsImage made.disk image → IsNewSilo magic bank_text image
-  pub syncs : (r.old.syncs + 4 ≤ made.syncs) × (made.syncs ≤ r.old.syncs + 5)
+  pub makes : ShowsSilos magic r.old.disk → FromFirstSync (IsNewAt magic bank_text) r.old made
+  pub shows : ShowsSilos magic r.old.disk → ShowsSilos magic made.disk
+  pub stays : (file : FileId) → MayLeave (made.disk file) (made.disk file).seen
+  pub new : AreNewSilos bank_text r made
+  pub syncs : (r.old.syncs + 4 ≤ made.syncs) × (made.syncs ≤ r.old.syncs + 6)
 
 -- what is left of a load from where its silo is made
 abbrev pub from_there : Observed → World → Observed
 from_there r made = record r { old = made }
 
--- It made one, and from then on didn't open it, or took a course that keeps all this of the bank program.
+-- It made one. It doesn't end for its words, and a fault is shown by its count; and where no short manager file was a silo's, from then
+-- on it didn't open it, or took a course that keeps all this of the bank program.
 pub record LoadsFrom (n seed : ℕ) (r : Observed) : Type 0 where
   pub made : World
   pub has : HasMade r made
-  pub carried : IsUnopened (from_there r made) ⊎ ((c : Course) × ((program_in_force c).text ≡ bank_text) × KeepsLoad (program_in_force c) n seed (from_there r made) c)
+  pub good : r.ending ≢ ending.BadUse
+  pub risen : ending.HasRisen r.ending r.faults_before r.faults_after
+  pub carried : ShowsSilos magic r.old.disk → IsUnopened (from_there r made) ⊎ ((c : Course) × ((program_in_force c).text ≡ bank_text) × KeepsLoad (program_in_force c) n seed (from_there r made) c)
 
 -- What `load` promises, carried in the manner of its words, without windows: it makes no silo, or makes one and carries its lines in it.
 pub record Loads (n seed : ℕ) (m : Manner) (r : Observed) : Type 0 where

@@ -1,23 +1,27 @@
 -- What a folder reads as when it is opened: no silo, damaged at a first place, or a slot and a log.
-use Rattle.std.specs.Prelude.{ℕ, Bool, ◌&&◌, ◌==◌, nat_le, if◌then◌else◌, List, length, map, take, drop, slice_index, bytes_eq, Option, Some, None, Result, Ok, Err}
+use Rattle.std.specs.Prelude.{ℕ, Bool, true, false, ◌&&◌, ◌==◌, nat_lt, nat_le, if◌then◌else◌, List, length, map, take, drop, slice_index, bytes_eq, Option, Some, None, Result, Ok, Err}
+use Rattle.base_types.specs.declared.calls.GrainId.{GrainId}
+use Rattle.base_types.specs.declared.calls.Value.{Value}
 use Rattle.base_types.specs.declared.shapes.Shape.{Shape}
 use Rattle.host_trait.specs.declared.channels.FileId.{FileId}
 use Rattle.host_trait.specs.World.{Image}
 use Rattle.field_codec.specs.declared.formats.Format.TheVariants.{One}
 use Rattle.commit_log.specs.declared.records.CommitRecord.{CommitRecord}
 use Rattle.host_trait.specs.declared.channels.FileId.TheVariants.{Manager, Program as ProgramFile}
+use Rattle.silo_spec.specs.Slots.{generation}
 use Rattle.promise_spec.specs.Programs.{Program, shape_in}
 use Rattle.promise_spec.specs.Records.{Commit}
-use Rattle.promise_spec.specs.Entries.{Log, new_log, grown}
+use Rattle.promise_spec.specs.Entries.{Recorded, Log}
+use Rattle.promise_spec.specs.Blocks.{standing_with}
 use Rattle.promise_spec.specs.Logs.{magic}
 -- the program of a program file
 pub use Rattle.program_file.specs.Files.{text_in_file, with_types, program_in_file}
--- the records of a manager file
-pub use Rattle.log_reading.specs.Blocks.{header_damage, behind_header, and_records, no_more, records_behind, records_in_file}
--- the versions that they name
+-- the log of a manager file
+pub use Rattle.log_reading.specs.Blocks.{LogBase, LogRead, fresh_base, header_damage, behind_header, behind_base, and_piece, no_piece, saved_behind, and_records, no_more, records_behind, log_as, log_in_file, records_in_file}
+-- the versions that it names
 pub use Rattle.commit_log.specs.declared.records.Named.{Named}
 pub use Rattle.grain_log.specs.Reads.{is_owned}
-pub use Rattle.log_reading.specs.Versions.{named_by, named_by_grain, version_named, missing_or, first_missing, state_of}
+pub use Rattle.log_reading.specs.Versions.{named_by, named_of_base, named_in, named_by_grain, version_named, missing_or, first_missing, state_of}
 
 -- what a folder reads as; a silo with the slot that is live
 pub data Reading : Type 0 where
@@ -31,33 +35,53 @@ pub data Reading : Type 0 where
 abbrev pub is_silo : List ℕ → Bool
 is_silo file = nat_le 16 (length file) && ((slice_index file 0 == 1) && bytes_eq (take 8 (drop 1 file)) magic)
 
+-- ---- the log
+
 -- a record with the states at its places
 abbrev pub commit_of : ℕ → Shape → Image → CommitRecord → Commit
 commit_of live shape image r = record {
   logged = r;
-  states = map (λ w. state_of (version_named live One shape image (record { unit = r.unit; written = w }))) r.writes;
+  states = map (λ w. state_of (version_named live One shape image (record { unit = Some r.unit; written = w }))) r.writes;
+}
+
+-- the grains that a checkpoint names, each with the state at its place, whichever unit's it is
+abbrev pub states_read : ℕ → Shape → Image → LogBase → List (GrainId × List Value)
+states_read live shape image base = map (λ w. (w.grain, state_of (version_named live One shape image (record { unit = None; written = w })))) base.writes
+
+-- the log of a slot's files, as they are read
+abbrev pub log_of : ℕ → Program → Image → LogRead → Log
+log_of live p image l = record {
+  base = standing_with p l.base.count l.base.next (states_read live (shape_in p) image l.base);
+  entries = map Recorded (map (commit_of live (shape_in p) image) l.records);
 }
 
 -- ---- the folder
 
--- all records with the states that they left, unless a version that they name isn't there
-abbrev pub with_versions : ℕ → Program → Image → List CommitRecord → Option (FileId × ℕ) → Reading
-with_versions live p image records None = Reads live (grown (new_log p) (map (commit_of live (shape_in p) image) records))
-with_versions live p image records (Some missing) = DamagedAt missing.0 missing.1
+-- the log, unless a version that it names isn't there
+abbrev pub with_versions : ℕ → Program → Image → LogRead → Option (FileId × ℕ) → Reading
+with_versions live p image l None = Reads live (log_of live p image l)
+with_versions live p image l (Some missing) = DamagedAt missing.0 missing.1
 
--- what a folder with this program reads as, by the records of its log or the place at which it is damaged
-abbrev pub with_log : ℕ → Program → Image → Result (List CommitRecord) ℕ → Reading
-with_log live p image (Ok records) = with_versions live p image records (first_missing live One (shape_in p) image (named_by_grain (named_by records)))
+-- what a folder with this program reads as, by the log of its manager file or the place at which it is damaged
+abbrev pub with_log : ℕ → Program → Image → Result LogRead ℕ → Reading
+with_log live p image (Ok l) = with_versions live p image l (first_missing live One (shape_in p) image (named_by_grain (named_in l)))
 with_log live p image (Err place) = DamagedAt (Manager live) place
 
 -- what a folder reads as, by its program or the place at which that is damaged
 abbrev pub with_program : ℕ → Image → Result Program ℕ → Reading
-with_program live image (Ok p) = with_log live p image (records_in_file One (shape_in p) (image (Manager live)))
+with_program live image (Ok p) = with_log live p image (log_in_file One (shape_in p) (image (Manager live)))
 with_program live image (Err place) = DamagedAt (ProgramFile live) place
+
+-- The live slot, by whether each manager file is a silo's and whether slot 1's has the greater generation.
+abbrev pub live_of : Bool → Bool → Bool → Option ℕ
+live_of false false later = None
+live_of true false later = Some 0
+live_of false true later = Some 1
+live_of true true later = if later then Some 1 else Some 0
 
 -- the live slot, by the manager files
 abbrev pub live_in : Image → Option ℕ
-live_in image = if is_silo (image (Manager 0)) then Some 0 else None
+live_in image = live_of (is_silo (image (Manager 0))) (is_silo (image (Manager 1))) (nat_lt (generation (image (Manager 0))) (generation (image (Manager 1))))
 
 -- what a folder reads as by the files of its live slot
 abbrev pub with_slot : Image → Option ℕ → Reading

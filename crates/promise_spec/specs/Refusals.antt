@@ -1,37 +1,33 @@
 -- What a command answers that doesn't open the folder.
-use Rattle.std.specs.Prelude.{◌≡◌, ◌⊎◌, ℕ, ◌+◌, ◌≤◌, false, List, map, Ok, ⊤}
+use Rattle.std.specs.Prelude.{◌≡◌, ◌⊎◌, ℕ, ◌+◌, ◌≤◌, false, map, Ok, ⊤}
 use Rattle.base_types.specs.declared.calls.GrainId.{GrainId}
 use Rattle.host_trait.specs.declared.channels.FileId.{FileId}
 use Rattle.host_trait.specs.declared.channels.FileId.TheVariants.{Manager, Program as ProgramFile, Grain}
 use Rattle.host_trait.specs.World.{Image}
 use Rattle.field_codec.specs.declared.formats.Format.TheVariants.{One}
-use Rattle.commit_log.specs.declared.records.CommitRecord.{CommitRecord}
 use Rattle.core_model.specs.CoreState.{Member}
 use Rattle.core_model.specs.Tests.{is_before}
+pub use Rattle.silo_spec.specs.Silos.{IsEitherManager}
 use Rattle.silo_spec.specs.Moments.{IsUntouched}
 use Rattle.silo_spec.specs.OpenedDisks.{opening_syncs}
 use Rattle.promise_spec.specs.Programs.{Program, shape_in}
-use Rattle.promise_spec.specs.Openings.{Reading, NoSilo, DamagedAt, Reads, program_in_file, records_in_file, named_by, opened_as}
+use Rattle.promise_spec.specs.Openings.{Reading, NoSilo, DamagedAt, Reads, LogRead, program_in_file, log_in_file, named_in, opened_as}
 use Rattle.promise_spec.specs.Endings.{Ending, Memory, DiskFault, NotASilo, Damaged, HasFailedAs}
 use Rattle.promise_spec.specs.Courses.{Observed, seen_at_entry}
-
--- the file is a manager file: both are looked at before it is known which slot is live
-abbrev pub IsEitherManager : FileId → Type 0
-IsEitherManager file = (file ≡ Manager 0) ⊎ (file ≡ Manager 1)
 
 -- the file is a manager file, or the program's of this slot
 abbrev pub IsHead : ℕ → FileId → Type 0
 IsHead live file = IsEitherManager file ⊎ (file ≡ ProgramFile live)
 
--- a record of this slot's manager file names the grain
+-- a checkpoint or a record of this slot's manager file names the grain
 pub record IsNamedIn (live : ℕ) (image : Image) (grain : GrainId) : Type 0 where
   pub program : Program
-  pub records : List CommitRecord
+  pub log : LogRead
   pub first : program_in_file (image (ProgramFile live)) ≡ Ok program
-  pub then_log : records_in_file One (shape_in program) (image (Manager live)) ≡ Ok records
-  pub named : Member grain (map (λ n. n.written.grain) (named_by records))
+  pub then_log : log_in_file One (shape_in program) (image (Manager live)) ≡ Ok log
+  pub named : Member grain (map (λ n. n.written.grain) (named_in log))
 
--- the file is a manager file, the program's of this slot, or that of a grain of this slot that a record names
+-- the file is a manager file, the program's of this slot, or that of a grain of this slot that it names
 abbrev pub IsReadFor : ℕ → Image → FileId → Type 0
 IsReadFor live image file = IsHead live file ⊎ ((grain : GrainId) × (file ≡ Grain live grain) × IsNamedIn live image grain)
 

@@ -1,6 +1,6 @@
 -- What the commands print that only read.
-use Rattle.std.specs.Prelude.{ℕ, List, [], ◌∷◌, ◌++◌, codes, map, option_map, unwrap_or, slice_get, Option, Some, None}
-use Rattle.std.specs.List.{flat_map}
+use Rattle.std.specs.Prelude.{◌≡◌, ℕ, List, [], ◌∷◌, ◌++◌, codes, option_map, unwrap_or, slice_get, Option, Some, None}
+use Rattle.std.specs.List.{flat_map, list_any}
 use Rattle.base_types.specs.declared.calls.Call.{Call}
 use Rattle.base_types.specs.declared.calls.GrainId.{GrainId}
 use Rattle.base_types.specs.declared.calls.Origin.{Origin}
@@ -13,9 +13,10 @@ use Rattle.script_tree.specs.declared.programs.FieldDecl.{FieldDecl}
 use Rattle.script_meaning.specs.Calls.{Target, numbered}
 use Rattle.serde_json.specs.Data.{Data, null, number, unsigned, string, array, object, Items, no_items, item, Members, no_members, member, put}
 use Rattle.serde_json.specs.Written.{compact_text}
+use Rattle.script_holding.specs.Holding.{same_grain}
 use Rattle.promise_spec.specs.Programs.{Program, shape_in}
 use Rattle.promise_spec.specs.Records.{Commit, ascending}
-use Rattle.promise_spec.specs.Entries.{LogEntry, Recorded, Standing, Log, records_of, standing_of, after_entry}
+use Rattle.promise_spec.specs.Entries.{LogEntry, Recorded, Standing, Log, standing_of, after_entry}
 
 -- compact JSON, and a line feed
 abbrev pub line_of : Data → List ℕ
@@ -23,9 +24,10 @@ line_of data_of_line = compact_text data_of_line ++ 10 ∷ []
 
 -- ---- show
 
--- the grains with a logged write, ascending
-abbrev pub grains_in : List Commit → List GrainId
-grains_in log = ascending (flat_map (λ c. map (λ w. w.grain) c.logged.writes) log)
+-- These grains are those that have a state in the store, ascending, each once.
+pub record AreHeld (grains : List GrainId) (now : Standing) : Type 0 where
+  pub order : ascending grains ≡ grains
+  pub held : (grain : GrainId) → list_any (λ g. same_grain g grain) grains ≡ now.held grain
 
 -- the fields by name, in byte order of their names
 abbrev pub fields_data : List FieldDecl → List Value → Members
@@ -44,10 +46,10 @@ grain_line now g =
     let fields = object (fields_data (fields_at p g) (now.states g)) in
     line_of (object (member (codes "fields") fields (member (codes "grain") (string (grain_text (shape_in p) g)) no_members)))
 
--- each grain with a logged write, and at last the number of entries
-abbrev pub show_text : Log → List ℕ
-show_text log =
-    flat_map (grain_line (standing_of log)) (grains_in (records_of log)) ++ line_of (object (counted (codes "count") (standing_of log).count no_members))
+-- each of these grains, and at last the number of entries
+abbrev pub show_text : List GrainId → Log → List ℕ
+show_text grains log =
+    flat_map (grain_line (standing_of log)) grains ++ line_of (object (counted (codes "count") (standing_of log).count no_members))
 
 -- ---- history
 

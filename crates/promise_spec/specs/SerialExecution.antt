@@ -1,5 +1,5 @@
 -- Serial execution: the logged units, played whole, one after another.
-use Rattle.std.specs.Prelude.{◌≡◌, ℕ, List, [], ◌∷◌, length, ⊤}
+use Rattle.std.specs.Prelude.{◌≡◌, List, [], ◌∷◌, length, ⊤}
 use Rattle.base_types.specs.Origins.{depth_of}
 use Rattle.commit_log.specs.declared.records.CommitRecord.{CommitRecord}
 use Rattle.script_tree.specs.Programs.{ProgramTree}

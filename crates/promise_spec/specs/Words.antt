@@ -141,8 +141,9 @@ pub data Command : Type 0 where
   Audit : Command
   Load : ℕ → ℕ → Manner → Command
   Check : ℕ → ℕ → Command
+  Compact : Command
 
--- The words say this command. Those that only read, and `init`, are one word.
+-- The words say this command. Those that only read, `init` and `compact` are one word.
 abbrev pub Say : (GivenOption → Bool) → List (List ℕ) → Command → Type 0
 Say takes words Init = words ≡ codes "init" ∷ []
 Say takes words (Run m) = SpellsRun takes words m
@@ -151,3 +152,4 @@ Say takes words History = words ≡ codes "history" ∷ []
 Say takes words Audit = words ≡ codes "audit" ∷ []
 Say takes words (Load n seed m) = SpellsLoad takes words n seed m
 Say takes words (Check n seed) = SpellsCheck words n seed
+Say takes words Compact = words ≡ codes "compact" ∷ []

@@ -15,13 +15,13 @@ ghost use Rattle.promise_spec.specs.Programs.{Program, IsChecked, text_limit, sh
 ghost use Rattle.promise_spec.specs.Records.{Commit, written, after_writes};
 ghost use Rattle.promise_spec.specs.Entries.{LogEntry, Recorded, records_among, Standing, after_entries, initial_states, new_silo, is_among, Log, records_of, standing_of, grown, checkpointed};
 ghost use Rattle.promise_spec.specs.Versions.{IsKept};
-ghost use Rattle.promise_spec.specs.Blocks.{Records, body_of};
+ghost use Rattle.promise_spec.specs.Blocks.{Records, body_of, Beginning, base_of};
 ghost use Rattle.promise_spec.specs.SerialExecution.{IsSerial, IsSerialFrom};
 ghost use Rattle.promise_spec.specs.Prefixes.{last_position, from_position, IsPrefixOf};
 ghost use Rattle.promise_spec.specs.Logs.{magic, StandsUpTo, IsLogIn, IsLog, IsPrefix};
 ghost use Rattle.promise_spec.specs.Images.{IsSound, AreChained, IsWholeFolder};
 ghost use Rattle.promise_spec.specs.Openings.{NoSilo, Reads, live_in, opened_as};
-ghost use Rattle.promise_spec.specs.Words.{GivenOption, Manner, plain_manner, Command, Run, Load, Check, Say};
+ghost use Rattle.promise_spec.specs.Words.{GivenOption, Manner, plain_manner, Command, Run, Load, Check, Compact, Say};
 ghost use Rattle.request_wire.specs.Reply.{reply_line};
 ghost use Rattle.promise_spec.specs.Outputs.{HavePlainNames, IsProper, Grew};
 ghost use Rattle.promise_spec.specs.Endings.{Done, InputTooLong, CountsSyncs};
@@ -46,9 +46,10 @@ pub fn one_log()
     ensures begins { (live : ℕ) (image : Image) (log : Log) → IsLog live image log → 0 < log.base.next }
 {}
 
-/// Of two images that are a chain the logs have one base, and the entries of one are a first part of the other's.
+/// Of two images that are a chain, whose logs begin at one position, the logs have one base, and the entries of one are a first part
+/// of the other's.
 pub fn chains_compare()
-    ensures { (one other : ℕ) (x y : Image) (a b : Log) → AreChained x y → IsLog one x a → IsLog other y b
+    ensures { (one other : ℕ) (x y : Image) (a b : Log) → AreChained x y → IsLog one x a → IsLog other y b → a.base.count ≡ b.base.count
         → (a.base ≡ b.base) × (IsPrefix a.entries b.entries ⊎ IsPrefix b.entries a.entries) }
 {}
 
@@ -105,7 +106,7 @@ pub fn sealed_batches_grow_a_log()
 {}
 
 /// Where a grain has no state in the store it has its type's initial fields, behind any entries: from any base of which this is so,
-/// as of a new silo's.
+/// as of a new silo's, and of a checkpoint's.
 pub fn unheld_grains_are_initial()
     ensures any { (before : Standing) (entries : List LogEntry)
         → ((grain : GrainId) → before.held grain ≡ false → before.states grain ≡ initial_states before.program grain)
@@ -113,17 +114,17 @@ pub fn unheld_grains_are_initial()
         → (after_entries before entries).states grain ≡ initial_states (after_entries before entries).program grain }
     ensures new { (p : Program) (entries : List LogEntry) (grain : GrainId) → (after_entries (new_silo p) entries).held grain ≡ false
         → (after_entries (new_silo p) entries).states grain ≡ initial_states p grain }
+    ensures begins { (p : Program) (b : Beginning) (entries : List LogEntry) (grain : GrainId) → (after_entries (base_of p b) entries).held grain ≡ false
+        → (after_entries (base_of p b) entries).states grain ≡ initial_states (after_entries (base_of p b) entries).program grain }
 {}
 
-/// Prefixes over positions: each log is one of itself; over one base they are first parts, and where no base has an entry the two have
-/// one; a log and what stands for it alone are
-/// prefixes of each other; two that are so end at one position and stand for the same; and they go on from one to the next, unless
-/// the one between forgot what both ends have.
+/// Prefixes over positions: each log is one of itself; over one base they are first parts, and where both begin at one position the
+/// two have one; a log and what stands for it alone are prefixes of each other; two that are so end at one position and stand for the
+/// same; and they go on from one to the next, unless the one between forgot what both ends have.
 pub fn prefixes_are_an_order()
     ensures same { (a : Log) → IsPrefixOf a a }
     ensures one_base { (a b : Log) → a.base ≡ b.base → (IsPrefixOf a b ↔ IsPrefix a.entries b.entries) }
-    ensures no_base { (a b : Log) → a.base.count ≡ 0 → b.base.count ≡ 0 → IsPrefixOf a b
-        → (a.base ≡ b.base) × IsPrefix a.entries b.entries }
+    ensures one_position { (a b : Log) → a.base.count ≡ b.base.count → IsPrefixOf a b → (a.base ≡ b.base) × IsPrefix a.entries b.entries }
     ensures saved { (a : Log) → IsPrefixOf a (checkpointed a) × IsPrefixOf (checkpointed a) a }
     ensures shorter { (a b : Log) → IsPrefixOf a b → last_position a ≤ last_position b }
     ensures stands { (a b : Log) → IsPrefixOf a b → b.base.count ≤ last_position a → (from_position (last_position a) b).base ≡ standing_of a }
@@ -191,6 +192,8 @@ pub fn words_are_read()
     ensures not_taken { (c : Command) → Say (λ g. false) (codes "run" ∷ codes "--width" ∷ codes "2" ∷ []) c → ⊥ }
     ensures load_of_none { (takes : GivenOption → Bool) (c : Command) → Say takes (codes "load" ∷ codes "0" ∷ codes "7" ∷ []) c → ⊥ }
     ensures load_of_many { (takes : GivenOption → Bool) (c : Command) → Say takes (codes "load" ∷ codes "100001" ∷ codes "7" ∷ []) c → ⊥ }
+    ensures compact { Say (λ g. true) (codes "compact" ∷ []) Compact }
+    ensures compact_alone { (takes : GivenOption → Bool) (c : Command) → Say takes (codes "compact" ∷ codes "now" ∷ []) c → ⊥ }
     ensures large_seed { (takes : GivenOption → Bool) (c : Command)
         → Say takes (codes "load" ∷ codes "4" ∷ codes "18446744073709551616" ∷ []) c → ⊥ }
     ensures third_number { (takes : GivenOption → Bool) (c : Command) → Say takes (codes "load" ∷ codes "4" ∷ codes "7" ∷ codes "9" ∷ []) c → ⊥ }

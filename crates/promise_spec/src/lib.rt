@@ -5,17 +5,20 @@
 //! look like after a crash), `Lines`, `Windows`, `Outputs`, `Kinds` (what is asked, how it is cut, and what is answered), `Cores`, `UnitAnswers`, `UnitRule`,
 //! `TurnRule`, `Causes`, `Family` (what the core's events are, and where records come from), `Openings` (what a folder
 //! reads as), `Words`, `Endings`, `Courses`, `Refusals`; the clauses `Orders`, `Replies` and `Crashes`, which `Headline`
-//! says alone; and the others, `Batches`, `Explanation`, `Exits` and `Promise`. `Reports`, `Commands`, `Loads` and `Checks`
-//! have the other commands, and `Calls` the whole program.
+//! says alone; and the others, `Batches`, `Explanation`, `Exits` and `Promise`. `Reports`, `Commands`, `Loads`, `Checks`,
+//! `Compacting` and `Rewriting` have the other commands, and `Calls` the whole program.
 //!
-//! `laws` has what follows from the definitions alone, and `folders` that a sound folder is whole. `promise_laws` has what
+//! `laws` has what follows from the definitions alone, `checkpoints` what of a log's beginning, and `folders` that a sound folder is
+//! whole. `promise_laws` has what
 //! follows from the clauses, and what a run's loop carries; `promise_examples` shows runs that keep the promise, and runs
 //! that don't.
 #![tactic(auto)]
 
+mod checkpoints;
 mod folders;
 mod laws;
 
+pub use checkpoints::{checkpoints_stand_for_logs, one_slot_is_live, written_checkpoints_are_logs};
 pub use folders::sound_folders_are_whole;
 pub use laws::{
     chains_compare, checked_programs_have_plain_names, done_runs_count_syncs, folders_are_read,

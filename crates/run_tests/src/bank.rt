@@ -30,6 +30,9 @@ const DEPOSITS: &str = r#"{"args":[100],"call":"account/1.deposit"}
 /// The manager file of a new silo.
 pub const NEW_LOG: &[u8] = b"\x01OTXLOG01\0\0\0\0\0\0\0";
 
+/// The manager file of a silo of the last generation with an empty log, whose header gate is closed.
+pub const LAST_LOG: &[u8] = b"\0OTXLOG01\xff\xff\xff\xff\0\0\0";
+
 /// The text of the bank program, with a type `books`.
 pub fn program_text(alloc: Global) -> Result<String, AllocError> {
     format!(in alloc; "{BANK}{BOOKS}")

@@ -2,15 +2,17 @@ use crate::answers::{
     add_any_end, add_end, add_images, add_left, add_money, add_output, add_said, add_size,
     add_whether_has, add_whether_new,
 };
-use crate::bank::{NEW_LOG, new_books, new_silo, program_text};
+use crate::bank::{LAST_LOG, NEW_LOG, new_books, new_silo, program_text};
 use crate::commands::{carry, carry_alone, copied};
 use crate::faults::add_fault;
 use crate::gates::add_held;
 use crate::names::{MANAGER, fault_of};
 use crate::noise::{add_noisy, add_noisy_faults, add_noisy_stops};
+use crate::rewrites::add_rewrites;
 use crate::stops::add_stops;
 use crate::transfers::{add_transfers, hot_rounds, mixed_rounds, rounds};
 use host_memory::MemoryHost;
+use host_trait::FileId;
 use silo_top::Status;
 use std::alloc::{AllocError, Global};
 use std::sync::Wait;
@@ -143,6 +145,8 @@ impl Bench {
         match word {
             "" | "#" => Ok(true),
             "log" => self.cut_log(rest),
+            "other" => self.cut_other(rest),
+            "last" => self.give_last(),
             "fail" => self.fail(rest),
             "pulls" | "blanks" | "reads" | "feeds" => self.add_many(word, rest),
             "<" => {
@@ -159,6 +163,30 @@ impl Bench {
         };
         let length = length.min(NEW_LOG.len() as u64) as usize;
         self.host.set_file(MANAGER, &NEW_LOG[..length])?;
+        Ok(true)
+    }
+
+    fn cut_other(&mut self, length: &str) -> Result<bool, AllocError> {
+        let Some(length) = number_of(length) else {
+            return Ok(false);
+        };
+        let length = length.min(LAST_LOG.len() as u64) as usize;
+        self.host
+            .set_file(FileId::Manager { slot: 1 }, &LAST_LOG[..length])?;
+        Ok(true)
+    }
+
+    fn give_last(&mut self) -> Result<bool, AllocError> {
+        let Some(log) = self.host.file(MANAGER) else {
+            return Ok(false);
+        };
+        let mut log = Vec::from_slice(self.alloc, log)?;
+        for (place, byte) in log.iter_mut().enumerate() {
+            if place >= 9 && place < 13 {
+                *byte = 255;
+            }
+        }
+        self.host.set_file(MANAGER, log.as_slice())?;
         Ok(true)
     }
 
@@ -266,6 +294,7 @@ impl Bench {
             "held" => self.hold(rt, out, rest),
             "money" => add_money(rt, self.alloc, out, &self.host),
             "transfers" => add_transfers(rt, self.alloc, out, &self.host),
+            "rewrites" => add_rewrites(rt, self.alloc, out, &self.host),
             "stops" => add_stops(rt, self.alloc, out, &self.host),
             "fails" => self.add_fails(rt, out, rest),
             "noise" => self.add_noise(rt, out, rest),

@@ -6,6 +6,8 @@
 //! | `# ..` | says what the cases behind it show |
 //! | `empty`, `new`, `books` | takes a folder without files; a new silo of the bank program; one that has 100 in each of three accounts |
 //! | `log N` | gives the manager file the first N bytes of a new silo's |
+//! | `other N` | gives that of slot 1 the first N bytes of one of the last generation whose header gate is closed |
+//! | `last` | gives the manager file the last generation |
 //! | `fail CALL CHANNEL N` | has the N-th call of this kind on this channel fail, counted from here on |
 //! | `crash` | takes what a crash leaves that loses all that is pending |
 //! | `< ..`, `reads N`, `blanks N`, `feeds N` | gives the next command a line more, N lines that ask for a balance, a line of N blanks, N line feeds |
@@ -23,9 +25,10 @@
 //! | `size FILE`, `has LINE`, `is-new` | tells how long a file is; whether this line was put out; whether this is a new silo of the bank program |
 //! | `money` | tells the sum of the three accounts |
 //! | `transfers` | tells how a copy of the host carries six transfers, and by how many calls |
+//! | `rewrites` | tells how a copy of the host is compacted that stops after each of its calls: see [`rewrites`] |
 //! | `stops`, `fails CALL CHANNEL N` | stops a copy after each of those calls; has one of them fail: see [`stops`] and [`faults`] |
 //!
-//! A channel is `input`, `output` or a file, which is `manager`, `program` or an account as `account/1`, all of slot 0, or `manager-1`.
+//! A channel is `input`, `output` or a file, which is `manager`, `program` or an account as `account/1`, all of slot 0, or with `-1` behind the first word of slot 1, as `account-1/1`.
 #![tactic(auto)]
 
 mod answers;
@@ -36,6 +39,7 @@ mod faults;
 mod gates;
 mod names;
 mod noise;
+mod rewrites;
 mod stops;
 mod transfers;
 

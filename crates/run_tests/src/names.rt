@@ -15,19 +15,30 @@ pub struct Fault {
     pub nth: u64,
 }
 
-/// The file of a name: `manager`, `program` or the account with the key that stands behind `account/`, all of slot 0, or `manager-1`.
+// The file of an account, by the slot's and the account's number.
+fn account_of(name: &str) -> Option<FileId> {
+    let (word, key) = name.split_once('/')?;
+    let key = key.parse::<u32>().ok()?;
+    let slot = match word {
+        "account" => 0,
+        "account-1" => 1,
+        _ => return None,
+    };
+    Some(FileId::Grain {
+        slot,
+        grain: GrainId { kind: 0, key },
+    })
+}
+
+/// The file of a name: `manager`, `program` or the account with the key that stands behind `account/`, all of slot 0; or with `-1`
+/// behind the first word of slot 1.
 pub fn file_of(name: &str) -> Option<FileId> {
     match name {
         "manager" => Some(MANAGER),
         "manager-1" => Some(FileId::Manager { slot: 1 }),
         "program" => Some(PROGRAM),
-        _ => {
-            let key = name.strip_prefix("account/")?.parse::<u32>().ok()?;
-            Some(FileId::Grain {
-                slot: 0,
-                grain: GrainId { kind: 0, key },
-            })
-        }
+        "program-1" => Some(FileId::Program { slot: 1 }),
+        _ => account_of(name),
     }
 }
 

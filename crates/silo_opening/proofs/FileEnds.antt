@@ -1,10 +1,11 @@
 -- The ends that are kept lie in their files.
-use Rattle.std.proofs.Common.{◌≡◌, ℕ, ◌+◌, ◌-◌, ◌≤◌, Bool, true, false, ltb, if◌then◌else◌, Option, Some, None, List, [], ◌∷◌, length, drop, take, Result, Ok, Err, refl, sym, ◌∙◌, ap, subst, arith, slice_get}
-use Rattle.std.proofs.lemmas.Bool.{ltb-false}
+use Rattle.std.proofs.Common.{◌≡◌, inl, inr, ℕ, ◌+◌, ◌-◌, ◌<◌, ◌≤◌, Bool, true, false, ltb, if◌then◌else◌, Option, Some, None, List, [], ◌∷◌, length, drop, take, Result, Ok, Err, refl, sym, ◌∙◌, ap, subst, arith, slice_get}
+use Rattle.std.proofs.lemmas.Bool.{ltb-false, cases_lt}
 use Rattle.std.proofs.lemmas.List.{length-take, length-drop}
 use Rattle.std.proofs.lemmas.Slice.Eq.{bytes_eq-Decides}
 use Rattle.std.specs.Int.{w64, to_le_bytes}
 use Rattle.base_types.specs.declared.calls.GrainId.{GrainId}
+use Rattle.base_types.specs.declared.calls.UnitNo.{UnitNo}
 use Rattle.base_types.specs.declared.shapes.Shape.{Shape}
 use Rattle.base_types.specs.declared.stores.Place.{Place}
 use Rattle.base_types.specs.declared.stores.Version.{Version}
@@ -15,7 +16,8 @@ use Rattle.host_trait.specs.World.{Image}
 use Rattle.field_codec.specs.declared.formats.Format.TheVariants.{One}
 use Rattle.field_codec.proofs.Counts.{wide64}
 use Rattle.field_codec.proofs.Readers.{past}
-use Rattle.grain_log.specs.Reads.{fields_of, is_beyond, is_owned, in_file, text_in, version_of, version_at_place}
+use Rattle.grain_log.specs.Reads.{fields_of, is_beyond, is_owned, is_logged, in_file, text_in, version_of, version_at_place, version_by_owner}
+use Rattle.grain_log.proofs.VersionUnits.{short_version}
 use Rattle.commit_log.specs.declared.records.Named.{Named}
 use Rattle.cell_model.proofs.Units.{same_grain-true}
 use Rattle.log_reading.specs.Versions.{version_named, missing_or, first_missing}
@@ -37,17 +39,41 @@ within_by (Some fields) place file v e =
     let two = past (ltb (length file - place.offset) place.len) place.offset (in_file place.offset (version_of One fields (take place.len (drop place.offset file)))) v one.1 in
     ltb-false _ _ two.0
 
+-- a version that is there has a number's bytes
+long_at : (fields : Option ℕ) (place : Place) (file : List ℕ) (v : Version) → version_at_place One fields place file ≡ Ok v → 8 ≤ length (drop place.offset file)
+long_at None place file v e = absurd cc
+long_at (Some fields) place file v e =
+    let one = past (is_beyond One place) place.offset (text_in One fields place file) v e in
+    let two = past (ltb (length file - place.offset) place.len) place.offset (in_file place.offset (version_of One fields (take place.len (drop place.offset file)))) v one.1 in
+    elim (cases_lt (length (drop place.offset file)) 8) [
+      | inr long ↦ long
+      | inl short ↦
+          let text : List ℕ = take place.len (drop place.offset file) in
+          let low : length text < 8 = omega (arith, short, length-take place.len (drop place.offset file)) in
+          let none : in_file place.offset (version_of One fields text) ≡ Err (place.offset + 0) = ap (in_file place.offset) (short_version One fields text low) in
+          let clash : Err (place.offset + 0) ≡ Ok v = sym none ∙ two.1 in
+          absurd cc
+    ]
+
 module _ (live : ℕ) (shape : Shape) (image : Image) where
+  -- the first eight bytes of a version that is there stand in its file
+  long_by : (owner : Option UnitNo) (fields : Option ℕ) (place : Place) (file : List ℕ) (v : Version) → version_by_owner One fields owner place file ≡ Ok v → (place.len ≤ length file - place.offset) × (8 ≤ length (drop place.offset file))
+  long_by (Some unit) fields place file v e =
+      let found = own_place (is_owned unit place file) place.offset (version_at_place One fields place file) v e in
+      let own = (bytes_eq-Decides (take 8 (drop place.offset file)) (to_le_bytes w64 unit.0)).0 found.0 in
+      let eight : length (take 8 (drop place.offset file)) ≡ length (to_le_bytes w64 unit.0) = ap length own in
+      (within_by fields place file v found.1, omega (arith, eight, wide64.len unit.0, length-take 8 (drop place.offset file)))
+  long_by None fields place file v e =
+      let found = own_place (is_logged place file) place.offset (version_at_place One fields place file) v e in
+      (within_by fields place file v found.1, long_at fields place file v found.1)
+
   -- the version that is named ends in its file
   named_lies : (n : Named) (v : Version) → version_named live One shape image n ≡ Ok v → n.written.place.offset + n.written.place.len ≤ length (image (Grain live n.written.grain))
   named_lies n v e =
       let file = image (Grain live n.written.grain) in
       let place = n.written.place in
-      let found = own_place (is_owned n.unit place file) place.offset (version_at_place One (fields_of (slice_get shape.types n.written.grain.kind)) place file) v e in
-      let own = (bytes_eq-Decides (take 8 (drop place.offset file)) (to_le_bytes w64 n.unit.0)).0 found.0 in
-      let eight : length (take 8 (drop place.offset file)) ≡ length (to_le_bytes w64 n.unit.0) = ap length own in
-      let short = within_by (fields_of (slice_get shape.types n.written.grain.kind)) place file v found.1 in
-      omega (arith, eight, short, wide64.len n.unit.0, length-take 8 (drop place.offset file), length-drop place.offset file)
+      let fits = long_by n.unit (fields_of (slice_get shape.types n.written.grain.kind)) place file v e in
+      omega (arith, fits.0, fits.1, length-drop place.offset file)
 
   there_by : (g : GrainId) (r : Result Version ℕ) (later : Option (FileId × ℕ)) → missing_or live g r later ≡ None → ((v : Version) × (r ≡ Ok v)) × (later ≡ None)
   there_by g (Ok v) later e = ((v, refl), e)

@@ -1,18 +1,20 @@
 -- The images while the program file is written, then what stands behind the header gate, and then the gate.
-use Rattle.std.proofs.Common.{◌≡◌, ◌≢◌, inl, inr, ℕ, ◌+◌, ◌<◌, ◌≤◌, List, [], ◌∷◌, ◌++◌, length, take, drop, slice_index, refl, sym, ◌∙◌, ap, subst, arith, length-append}
+use Rattle.std.proofs.Common.{◌≡◌, ◌≢◌, inl, inr, ℕ, zero, suc, ◌+◌, ◌<◌, ◌≤◌, List, [], ◌∷◌, ◌++◌, length, take, drop, slice_index, refl, sym, ◌∙◌, ap, subst, arith, length-append}
 use Rattle.std.proofs.lemmas.List.{take_at}
 use Rattle.std.specs.Int.{w32, to_le_bytes}
+use Rattle.host_trait.specs.declared.channels.FileId.TheVariants.{Program as ProgramFile}
 use Rattle.host_trait.specs.Disk.{FileState, MayLeave, Tears, Overwrote, settled, overlaid}
-use Rattle.host_trait.specs.World.{World, Moment, Image, Written, moment_of}
+use Rattle.host_trait.specs.World.{World, Moment, Image, IsImage, Written, moment_of}
 use Rattle.host_trait.specs.Runs.{ChangesFile, RunsOnFile}
 use Rattle.host_trait.proofs.Crashes.{Tears-at, Tears-trans, Tears-wider}
-use Rattle.host_trait.proofs.Runs.{settled_image, run_one_write, run_wrote, run_weaker}
+use Rattle.host_trait.proofs.Runs.{Change, settled_image, run_one_write, run_wrote, run_weaker}
 use Rattle.gate_block.specs.Log.{LogsUpTo, first_gate}
 use Rattle.gate_block.proofs.Logs.{no_blocks, logged}
 use Rattle.silo_spec.specs.Silos.{manager, program_file, IsSilo, HasProgram, IsNewSilo, new_header}
 use Rattle.promise_spec.specs.Logs.{magic}
 use Rattle.silo_spec.specs.Creation.{IsNewAt, IsMade}
-use Rattle.silo_opening.specs.Steps.{IsShut}
+use Rattle.silo_opening.specs.Steps.{LacksSilo, HasNoSilo, IsShut}
+use Rattle.silo_opening.proofs.GateClosing.{changes_lacks}
 
 log_apart : manager ≢ program_file
 log_apart e = cc
@@ -39,6 +41,10 @@ header_after : (file : List ℕ) → 0 < length file → take 16 (overlaid (over
 header_after [] some = absurd (omega arith)
 header_after (x ∷ file) some = refl
 
+header_long : (file : List ℕ) → 0 < length file → 16 ≤ length (overlaid file 1 header)
+header_long [] some = absurd (omega arith)
+header_long (x ∷ file) some = omega arith
+
 has_program : (text file : List ℕ) → HasProgram text (overlaid file 0 (program_bytes text))
 has_program text file = take_at (program_bytes text) (drop (0 + length (program_bytes text)) file) (4 + length text) (length-append (to_le_bytes w32 (length text)) text)
 
@@ -64,26 +70,51 @@ header_behind : (file : List ℕ) → 0 < length file → take 15 (drop 1 (overl
 header_behind [] some = absurd (omega arith)
 header_behind (x ∷ file) some = refl
 
+-- a moment at which no image is a silo
+pub no_silo_at : (text : List ℕ) (m : Moment) → HasNoSilo magic m → IsNewAt magic text m
+no_silo_at text m none image is zero live = absurd (none.0 image is live.silo)
+no_silo_at text m none image is (suc zero) live = absurd (none.1 image is live.silo)
+no_silo_at text m none image is (suc (suc n)) live = absurd (omega (arith, live.slot))
+
+-- A moment at which slot 1's manager file is a silo's in no image, and each image in which slot 0's is one is a new silo.
+pub new_at : (text : List ℕ) (m : Moment) → LacksSilo magic 1 m → ((image : Image) → IsImage m.disk image → IsSilo magic (image manager) → IsNewSilo magic text image) → IsNewAt magic text m
+new_at text m lacks first image is zero live = (refl, first image is live.silo)
+new_at text m lacks first image is (suc zero) live = absurd (lacks image is live.silo)
+new_at text m lacks first image is (suc (suc n)) live = absurd (omega (arith, live.slot))
+
+-- slot 1's manager file is a silo's in no image still, while the program file is written, and while slot 0's manager file is
+pub lacks_program : (text : List ℕ) (w : World) → LacksSilo magic 1 (moment_of w) → (m : Moment) → ChangesFile program_file (Tears 0 (4 + length text)) w m → LacksSilo magic 1 m
+lacks_program text w lacks m changes = changes_lacks magic program_file (Tears 0 (4 + length text)) 1 (λ e. absurd cc) w lacks m changes
+
+pub lacks_log : (R : Change) (w : World) → LacksSilo magic 1 (moment_of w) → (m : Moment) → ChangesFile manager R w m → LacksSilo magic 1 m
+lacks_log R w lacks m changes = changes_lacks magic manager R 1 (λ e. absurd cc) w lacks m changes
+
 module _ (text : List ℕ) (w0 : World) (shut : IsShut (w0.disk manager)) where
-  -- while the program file is written
-  pub while_program : (m : Moment) → ChangesFile program_file (Tears 0 (4 + length text)) w0 m → IsNewAt magic text m
-  while_program m changes image is silo =
+  -- while the program file is written the gate is closed in each image
+  pub program_shut : (m : Moment) → ChangesFile program_file (Tears 0 (4 + length text)) w0 m → LacksSilo magic 0 m
+  program_shut m changes image is silo =
       let c : List ℕ = image manager in
       let was : c ≡ (w0.disk manager).seen = settled_image m.disk manager (w0.disk manager).seen c (changes.others manager log_apart ∙ shut.lasts) (is manager) in
       closed_silo (w0.disk manager).seen c shut.closed (ap (λ (l : List ℕ). slice_index l 0) was) silo
+
+  pub while_program : LacksSilo magic 1 (moment_of w0) → (m : Moment) → ChangesFile program_file (Tears 0 (4 + length text)) w0 m → IsNewAt magic text m
+  while_program lacks m changes = no_silo_at text m (program_shut m changes, lacks_program text w0 lacks m changes)
 
   module _ (w1 : World) (program : ChangesFile program_file (Tears 0 (4 + length text)) w0 (moment_of w1)) where
     lasts1 : w1.disk manager ≡ settled (w0.disk manager).seen
     lasts1 = program.others manager log_apart ∙ shut.lasts
 
-    -- while the bytes behind the gate are written
-    pub while_header : (m : Moment) → ChangesFile manager (Tears 1 15) w1 m → IsNewAt magic text m
-    while_header m changes image is silo =
+    -- and while the bytes behind the gate are written
+    pub header_shut : (m : Moment) → ChangesFile manager (Tears 1 15) w1 m → LacksSilo magic 0 m
+    header_shut m changes image is silo =
         let c : List ℕ = image manager in
         let from = changes.crash c (is manager) in
         let was : from.0 ≡ (w0.disk manager).seen = settled_image w1.disk manager (w0.disk manager).seen from.0 lasts1 from.1 in
         let low : 0 < 1 = omega arith in
         closed_silo (w0.disk manager).seen c shut.closed (Tears-at 1 15 from.0 c from.2 0 (inl low) ∙ ap (λ (l : List ℕ). slice_index l 0) was) silo
+
+    pub while_header : LacksSilo magic 1 (moment_of w1) → (m : Moment) → ChangesFile manager (Tears 1 15) w1 m → IsNewAt magic text m
+    while_header lacks m changes = no_silo_at text m (header_shut m changes, lacks_log (Tears 1 15) w1 lacks m changes)
 
     module _ (written : w1.disk program_file ≡ settled (overlaid (w0.disk program_file).seen 0 (program_bytes text))) (w2 : World) (head : ChangesFile manager (Tears 1 15) w1 (moment_of w2))
         (headed : w2.disk manager ≡ settled (overlaid (w1.disk manager).seen 1 header)) where
@@ -97,10 +128,18 @@ module _ (text : List ℕ) (w0 : World) (shut : IsShut (w0.disk manager)) where
       program2 : w2.disk program_file ≡ settled (overlaid (w0.disk program_file).seen 0 (program_bytes text))
       program2 = head.others program_file program_apart ∙ written
 
-      -- while the gate is opened
-      pub while_opened : (m : Moment) → ChangesFile manager (Tears 0 1) w2 m → IsNewAt magic text m
+      long2 : 16 ≤ length file2
       unfolding file2
-      while_opened m changes image is silo =
+      long2 = header_long (w0.disk manager).seen shut.some
+
+      -- the file is long enough then
+      pub seen_long : (w3 : World) → Tears 0 1 (w2.disk manager).seen (w3.disk manager).seen → 16 ≤ length (w3.disk manager).seen
+      seen_long w3 tears = let size : length (w2.disk manager).seen ≡ length file2 = ap (λ (s : FileState). length s.seen) lasts2 in omega (arith, tears.no_shorter, size, long2)
+
+      -- while the gate is opened
+      pub while_opened : LacksSilo magic 1 (moment_of w2) → (m : Moment) → ChangesFile manager (Tears 0 1) w2 m → IsNewAt magic text m
+      unfolding file2
+      while_opened lacks m changes = new_at text m (lacks_log (Tears 0 1) w2 lacks m changes) (λ image is silo.
           let c : List ℕ = image manager in
           let p : List ℕ = image program_file in
           let from = changes.crash c (is manager) in
@@ -109,7 +148,7 @@ module _ (text : List ℕ) (w0 : World) (shut : IsShut (w0.disk manager)) where
           let closed : slice_index c 15 ≡ 0 = Tears-at 0 1 from.0 c from.2 15 (inr high) ∙ ap (λ (l : List ℕ). slice_index l 15) was ∙ gate_after (w0.disk manager).seen shut.some in
           let text_is : p ≡ overlaid (w0.disk program_file).seen 0 (program_bytes text) = settled_image m.disk program_file _ p (changes.others program_file program_apart ∙ program2) (is program_file) in
           let behind : take 15 (drop 1 c) ≡ header = ap (λ (l : List ℕ). take 15 l) from.2.after ∙ ap (λ (l : List ℕ). take 15 (drop 1 l)) was ∙ header_behind (w0.disk manager).seen shut.some in
-          new_silo text image silo (first_and_rest c 1 header silo.long silo.gate behind) (subst (λ (l : List ℕ). HasProgram text l) (sym text_is) (has_program text (w0.disk program_file).seen)) closed
+          new_silo text image silo (first_and_rest c 1 header silo.long silo.gate behind) (subst (λ (l : List ℕ). HasProgram text l) (sym text_is) (has_program text (w0.disk program_file).seen)) closed)
 
       -- and once it is open
       pub filled : (w3 : World) → ChangesFile manager (Tears 0 1) w2 (moment_of w3) → w3.disk manager ≡ settled (overlaid (w2.disk manager).seen 0 (1 ∷ [])) → IsMade magic text w3.disk
@@ -125,17 +164,17 @@ module _ (text : List ℕ) (w0 : World) (shut : IsShut (w0.disk manager)) where
           }
 
 -- the length was written, four bytes
-pub length_written : (head : List ℕ) (n : ℕ) (w0 w1 : World) → length head ≡ 4 → Written program_file 0 (length head) w0 w1 → MayLeave (w0.disk program_file) (w0.disk program_file).seen → RunsOnFile program_file (Tears 0 (4 + n)) 0 w0 w1
-length_written head n w0 w1 size written here =
-    run_weaker program_file (Tears 0 (length head)) (Tears 0 (4 + n)) 0 w0 w1 (λ d c tears. Tears-wider 0 (length head) 0 (4 + n) d c (omega arith) (omega (arith, size)) tears)
-    (run_one_write program_file 0 (length head) w0 w1 written here (omega arith))
+pub length_written : (slot : ℕ) (head : List ℕ) (n : ℕ) (w0 w1 : World) → length head ≡ 4 → Written (ProgramFile slot) 0 (length head) w0 w1 → MayLeave (w0.disk (ProgramFile slot)) (w0.disk (ProgramFile slot)).seen → RunsOnFile (ProgramFile slot) (Tears 0 (4 + n)) 0 w0 w1
+length_written slot head n w0 w1 size written here =
+    run_weaker (ProgramFile slot) (Tears 0 (length head)) (Tears 0 (4 + n)) 0 w0 w1 (λ d c tears. Tears-wider 0 (length head) 0 (4 + n) d c (omega arith) (omega (arith, size)) tears)
+    (run_one_write (ProgramFile slot) 0 (length head) w0 w1 written here (omega arith))
 
 long_enough : (head : List ℕ) (old new : FileState) → length head ≡ 4 → Overwrote 0 head old new → 4 ≤ length new.seen
 long_enough head old new size overwrote = omega (arith, ap length overwrote.seen, length-append head (drop (0 + length head) old.seen), size)
 
 -- and then the text behind it
-pub text_written : (head : List ℕ) (n : ℕ) (w0 w1 w2 : World) → length head ≡ 4 → Written program_file 0 (length head) w0 w1 → MayLeave (w0.disk program_file) (w0.disk program_file).seen → Overwrote 0 head (w0.disk program_file) (w1.disk program_file)
-    → Written program_file 4 n w1 w2 → MayLeave (w1.disk program_file) (w1.disk program_file).seen → RunsOnFile program_file (Tears 0 (4 + n)) 0 w0 w2
-text_written head n w0 w1 w2 size written here overwrote behind there =
-    run_wrote program_file (Tears 0 (4 + n)) 0 w0 w1 w2 (length_written head n w0 w1 size written here) 4 n behind there (long_enough head (w0.disk program_file) (w1.disk program_file) size overwrote)
+pub text_written : (slot : ℕ) (head : List ℕ) (n : ℕ) (w0 w1 w2 : World) → length head ≡ 4 → Written (ProgramFile slot) 0 (length head) w0 w1 → MayLeave (w0.disk (ProgramFile slot)) (w0.disk (ProgramFile slot)).seen → Overwrote 0 head (w0.disk (ProgramFile slot)) (w1.disk (ProgramFile slot))
+    → Written (ProgramFile slot) 4 n w1 w2 → MayLeave (w1.disk (ProgramFile slot)) (w1.disk (ProgramFile slot)).seen → RunsOnFile (ProgramFile slot) (Tears 0 (4 + n)) 0 w0 w2
+text_written slot head n w0 w1 w2 size written here overwrote behind there =
+    run_wrote (ProgramFile slot) (Tears 0 (4 + n)) 0 w0 w1 w2 (length_written slot head n w0 w1 size written here) 4 n behind there (long_enough head (w0.disk (ProgramFile slot)) (w1.disk (ProgramFile slot)) size overwrote)
     (λ e d c first second. Tears-trans 0 (4 + n) e d c first (Tears-wider 4 n 0 (4 + n) d c (omega arith) (omega arith) second))

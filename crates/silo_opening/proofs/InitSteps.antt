@@ -1,17 +1,21 @@
 -- What making a silo comes to behind calls that changed no file and emitted nothing.
-use Rattle.std.proofs.Common.{◌≡◌, ◌≢◌, ◌⊎◌, inl, inr, ℕ, List, [], ◌∷◌, length, take, drop, slice_index, refl, sym, ◌∙◌, ap, subst, arith}
+use Rattle.std.proofs.Common.{◌≡◌, ◌≢◌, ◌⊎◌, inl, inr, ℕ, ◌≤◌, List, [], length, take, drop, slice_index, refl, sym, ◌∙◌, ap, subst, arith}
 use Rattle.std.proofs.lemmas.Bool.{cases_Bool, cases_lt, cases_eq, false≢true}
 use Rattle.std.proofs.lemmas.Slice.Eq.{bytes_eq-Decides}
 use Rattle.std.specs.Str.{bytes_eq}
-use Rattle.host_trait.specs.Disk.{Tears, settled}
+use Rattle.host_trait.specs.declared.channels.FileId.TheVariants.{Manager}
+use Rattle.host_trait.specs.Disk.{settled}
 use Rattle.host_trait.specs.World.{World, Moment, Disk, Image, IsImage, Passes, moment_of}
-use Rattle.host_trait.specs.Runs.{ComesFrom}
 use Rattle.host_trait.proofs.Moments.{both, weaker, all_late, weaker_twice, joined, same_moment}
-use Rattle.host_trait.proofs.Runs.{settled_image}
-use Rattle.silo_spec.specs.Silos.{manager, IsSilo}
+use Rattle.silo_spec.specs.Silos.{IsSilo}
+use Rattle.silo_spec.specs.Slots.{ShowsSilos}
 use Rattle.silo_spec.specs.Moments.{IsAsAtEntry, IsUntouched}
-use Rattle.silo_spec.specs.Creation.{IsBeside, StaysBeside, IsEarly, IsNewAt, CameThisFar}
-use Rattle.silo_opening.proofs.GateClosing.{cases_settled, own_early, settled_no_silo}
+use Rattle.silo_spec.specs.Creation.{IsLookedAt, IsBeside, StaysBeside, IsEarly, IsNewAt, FromFirstSync, CameThisFar}
+use Rattle.promise_spec.specs.Logs.{magic}
+use Rattle.silo_opening.specs.Steps.{HasNoSilo, ReadsSilo}
+use Rattle.silo_opening.proofs.ManagerLook.{SeenMayStay}
+use Rattle.silo_opening.proofs.GateClosing.{Rests, rests_lacks, cases_rest}
+use Rattle.silo_opening.proofs.FolderFilling.{no_silo_at}
 
 -- a file is a silo's or isn't
 pub cases_silo : (magic file : List ℕ) → IsSilo magic file ⊎ (IsSilo magic file → ⊥)
@@ -27,11 +31,6 @@ cases_silo magic file = elim (cases_lt (length file) 16) [
             ]
       ]
 ]
-
--- a file has bytes or has none
-cases_empty : (file : List ℕ) → (file ≡ []) ⊎ (file ≢ [])
-cases_empty [] = inl refl
-cases_empty (byte ∷ file) = inr (λ e. cc)
 
 module _ (old mid : World) (disk : mid.disk ≡ old.disk) (output : mid.output ≡ old.output) (still : Passes (λ m. m ≡ moment_of old) old.past mid.past) where
   -- each moment so far showed what the first one did
@@ -60,11 +59,15 @@ module _ (old mid : World) (disk : mid.disk ≡ old.disk) (output : mid.output �
 
   -- what no moment of the later call changes is as it was at first
   beside_from : (m : Moment) → IsBeside mid m → IsBeside old m
-  beside_from m at = record { output = at.output ∙ output; others = λ file a b. at.others file a b ∙ ap (λ (d : Disk). d file) disk }
+  beside_from m at = record {
+    output = at.output ∙ output;
+    other = subst (λ (d : Disk). IsLookedAt (d (Manager 1)) (m.disk (Manager 1))) disk at.other;
+    others = λ file a b apart. at.others file a b apart ∙ ap (λ (d : Disk). d file) disk;
+  }
 
   -- the first moment has all as it was
   own_beside : IsBeside old (moment_of old)
-  own_beside = record { output = refl; others = λ file a b. refl }
+  own_beside = record { output = refl; other = inl refl; others = λ file a b apart. refl }
 
   -- each moment of both calls has the other files and the output as they were
   pub beside_all : (new : World) → StaysBeside mid new → Passes (IsBeside old) old.past new.past
@@ -85,61 +88,51 @@ module _ (old mid : World) (disk : mid.disk ≡ old.disk) (output : mid.output �
   -- an early moment of the later call is an early one of both
   early_from : (m : Moment) → IsEarly mid m → IsEarly old m
   early_from m e = record {
+    slot = e.slot;
+    low = e.low;
+    bytes = λ none. e.bytes (ap (λ (d : Disk). (d (Manager e.slot)).seen) disk ∙ none);
     pending = e.pending;
-    near = subst (λ (d : Disk). (image : Image) → IsImage m.disk image → ComesFrom manager (Tears 0 1) d image) disk e.near;
-    unwritten = λ some. entry_from m (e.unwritten (λ none. some (sym (ap (λ (d : Disk). (d manager).seen) disk) ∙ none)));
+    unwritten = entry_from m e.unwritten;
   }
 
-  module _ (magic text : List ℕ) where
-    -- an image of an early moment is no silo, where nothing was pending at first in a file that is no silo's
-    early_new : old.disk manager ≡ settled (old.disk manager).seen → (IsSilo magic (old.disk manager).seen → ⊥) → (m : Moment) → IsEarly old m → IsNewAt magic text m
-    early_new lasts lacks m e image is silo =
-        elim (cases_empty (old.disk manager).seen) [
-          | inr some ↦ absurd (settled_no_silo magic (old.disk manager).seen (moment_of old) lasts lacks image ((e.unwritten some).images image is) silo)
-          | inl none ↦
-              let from = e.near image is in
-              let was : from.from manager ≡ (old.disk manager).seen = settled_image old.disk manager (old.disk manager).seen (from.from manager) lasts (from.possible manager) in
-              let size : length (from.from manager) ≡ 0 = ap length (was ∙ none) in
-              absurd (omega (arith, size, from.changed.no_longer, silo.long))
-        ]
+  module _ (text : List ℕ) (here : SeenMayStay old) (shows : ShowsSilos magic old.disk) where
+    -- where neither manager file reads as a silo's
+    module _ (lacks-0 : IsSilo magic (old.disk (Manager 0)).seen → ⊥) (lacks-1 : IsSilo magic (old.disk (Manager 1)).seen → ⊥) (new : World) (first : FromFirstSync (IsNewAt magic text) mid new) where
+      -- something is pending in one at first
+      pending_from : (slot : ℕ) → slot ≤ 1 → ((old.disk (Manager slot)).seen ≢ []) → (old.disk (Manager slot) ≢ settled (old.disk (Manager slot)).seen) → FromFirstSync (IsNewAt magic text) old new
+      pending_from slot low some pending =
+          let own : IsEarly old (moment_of old) = record { slot = slot; low = low; bytes = some; pending = pending; unwritten = own_entry } in
+          record {
+            moments = record {
+              turn = first.moments.turn;
+              early = both (IsEarly old) (while (IsEarly old) own) (weaker _ _ early_from first.moments.early);
+              late = first.moments.late;
+            };
+            now = first.now;
+          }
 
-    -- so far each image was one of those at first
-    new_so_far : old.disk manager ≡ settled (old.disk manager).seen → (IsSilo magic (old.disk manager).seen → ⊥) → Passes (IsNewAt magic text) old.past mid.past
-    new_so_far lasts lacks = while (IsNewAt magic text) (λ image is silo. absurd (settled_no_silo magic (old.disk manager).seen (moment_of old) lasts lacks image is silo))
+      -- nothing is
+      settled_from : Rests magic old here shows 0 (moment_of old) → Rests magic old here shows 1 (moment_of old) → FromFirstSync (IsNewAt magic text) old new
+      settled_from rest-0 rest-1 =
+          let none : HasNoSilo magic (moment_of old) = (rests_lacks magic old here shows 0 (omega arith) lacks-0 (moment_of old) own_entry rest-0, rests_lacks magic old here shows 1 (omega arith) lacks-1 (moment_of old) own_entry rest-1) in
+          let own : IsNewAt magic text (moment_of old) = no_silo_at text (moment_of old) none in
+          let as_new : (m : Moment) → IsEarly mid m → IsNewAt magic text m = λ m e image is. own image ((early_from m e).unwritten.images image is) in
+          record {
+            moments = all_late (IsEarly old) (IsNewAt magic text) (both (IsNewAt magic text) (while (IsNewAt magic text) own)
+                (joined (IsNewAt magic text) (weaker_twice (IsEarly mid) (IsNewAt magic text) (IsNewAt magic text) (IsNewAt magic text) as_new (λ m new_at. new_at) first.moments)));
+            now = first.now;
+          }
+
+      first_from : FromFirstSync (IsNewAt magic text) old new
+      first_from = elim (cases_rest magic old here shows 0) [
+        | inr pending ↦ pending_from 0 (omega arith) pending.0 pending.1
+        | inl rest-0 ↦ elim (cases_rest magic old here shows 1) [ inr pending ↦ pending_from 1 (omega arith) pending.0 pending.1 | inl rest-1 ↦ settled_from rest-0 rest-1 ]
+      ]
 
     -- how far the call came, seen from the first
-    pub makes_from : (new : World) → (IsSilo magic (old.disk manager).seen → IsUntouched mid new) → CameThisFar magic text mid new → CameThisFar magic text old new
-    makes_from new kept makes = elim (cases_silo magic (old.disk manager).seen) [
-      | inl silo ↦ inl (untouched_from new (kept silo))
-      | inr lacks ↦
-          elim (cases_settled (old.disk manager)) [
-            | inl lasts ↦ settled_from lasts lacks makes
-            | inr pending ↦ pending_from pending makes
-          ]
-    ] where
-      settled_from : old.disk manager ≡ settled (old.disk manager).seen → (IsSilo magic (old.disk manager).seen → ⊥) → CameThisFar magic text mid new → CameThisFar magic text old new
-      settled_from lasts lacks (inl u) = inl (untouched_from new u)
-      settled_from lasts lacks (inr (inl u)) = inr (inr (record {
-        moments = all_late (IsEarly old) (IsNewAt magic text) (both (IsNewAt magic text) (new_so_far lasts lacks) (weaker _ _ (λ m e. early_new lasts lacks m (early_from m e)) u.moments));
-        now = early_new lasts lacks (moment_of new) (early_from (moment_of new) u.now);
-      }))
-      settled_from lasts lacks (inr (inr f)) = inr (inr (record {
-        moments = all_late (IsEarly old) (IsNewAt magic text) (both (IsNewAt magic text) (new_so_far lasts lacks)
-            (joined (IsNewAt magic text) (weaker_twice (IsEarly mid) (IsNewAt magic text) (IsNewAt magic text) (IsNewAt magic text) (λ m e. early_new lasts lacks m (early_from m e)) (λ m new_at. new_at) f.moments)));
-        now = f.now;
-      }))
-
-      pending_from : old.disk manager ≢ settled (old.disk manager).seen → CameThisFar magic text mid new → CameThisFar magic text old new
-      pending_from pending (inl u) = inl (untouched_from new u)
-      pending_from pending (inr (inl u)) = inr (inl (record {
-        moments = both (IsEarly old) (while (IsEarly old) (own_early old pending)) (weaker _ _ early_from u.moments);
-        now = early_from (moment_of new) u.now;
-      }))
-      pending_from pending (inr (inr f)) = inr (inr (record {
-        moments = record {
-          turn = f.moments.turn;
-          early = both (IsEarly old) (while (IsEarly old) (own_early old pending)) (weaker _ _ early_from f.moments.early);
-          late = f.moments.late;
-        };
-        now = f.now;
-      }))
+    pub makes_from : (new : World) → (ReadsSilo magic old.disk → IsUntouched mid new) → CameThisFar magic text mid new → CameThisFar magic text old new
+    makes_from new kept (inl untouched) = inl (untouched_from new untouched)
+    makes_from new kept (inr first) = elim (cases_silo magic (old.disk (Manager 0)).seen) [
+      | inl silo ↦ inl (untouched_from new (kept (inl silo)))
+      | inr lacks-0 ↦ elim (cases_silo magic (old.disk (Manager 1)).seen) [ inl silo ↦ inl (untouched_from new (kept (inr silo))) | inr lacks-1 ↦ inr (first_from lacks-0 lacks-1 new first) ]
+    ]

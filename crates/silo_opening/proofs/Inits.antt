@@ -1,6 +1,8 @@
 -- A call of `init`: what it comes to before the folder is touched, and what `create` makes of it.
-use Rattle.std.proofs.Common.{◌≡◌, ◌⊎◌, inl, inr, ℕ, ◌<◌, ◌≤◌, List, [], length, Option, Some, None, Result, Ok, Err, refl, sym, ◌∙◌, ap, subst}
+use Rattle.std.proofs.Common.{◌≡◌, ◌≢◌, ◌⊎◌, inl, inr, ℕ, zero, suc, ◌<◌, ◌≤◌, List, [], length, Option, Some, None, Result, Ok, Err, refl, sym, ◌∙◌, ap, subst, arith}
 use Rattle.host_trait.specs.declared.channels.Channel.{Channel}
+use Rattle.host_trait.specs.declared.channels.FileId.{FileId}
+use Rattle.host_trait.specs.declared.channels.FileId.TheVariants.{Manager}
 use Rattle.host_trait.specs.Faults.{NoneFailed}
 use Rattle.host_trait.specs.Disk.{settled}
 use Rattle.host_trait.specs.World.{World, Image, IsImage, Disk, Passes, moment_of}
@@ -8,13 +10,18 @@ use Rattle.host_trait.proofs.Runs.{settled_image}
 use Rattle.program_file.specs.declared.faults.ProgramFault.{ProgramFault}
 use Rattle.program_file.specs.Programs.{text_limit}
 use Rattle.program_file.specs.Answers.{program_fault_place, IsFaultOf}
-use Rattle.silo_spec.specs.Silos.{manager, IsSilo, IsNewSilo}
+use Rattle.silo_spec.specs.Silos.{IsEitherManager, IsNewSilo}
+use Rattle.silo_spec.specs.Slots.{IsLive, IsSiloImage, ShowsSilos}
 use Rattle.silo_spec.specs.Moments.{IsUntouched}
 use Rattle.silo_spec.specs.Creation.{StaysBeside, CameThisFar}
 use Rattle.promise_spec.specs.Logs.{magic}
 use Rattle.promise_spec.specs.Words.{Manner}
 use Rattle.promise_spec.specs.Commands.{MakesSilo, MakesAs, IsProgramText}
 use Rattle.promise_spec.specs.Endings.{HasRisen}
+use Rattle.promise_spec.proofs.Slots.{some_live}
+use Rattle.log_reading.specs.Steps.{seen_in}
+use Rattle.silo_opening.specs.Steps.{ReadsSilo}
+use Rattle.silo_opening.proofs.ManagerLook.{SeenMayStay}
 use Rattle.silo_opening.specs.declared.faults.CreateFault.{CreateFault}
 use Rattle.silo_opening.specs.declared.input.InputFault.{InputFault}
 use Rattle.silo_opening.specs.declared.silo_init.InitFault.{InitFault}
@@ -27,8 +34,23 @@ abbrev pub failed : {A E : Type 0} → E → Result A E
 failed e = Err e
 
 -- no answer is both a silo and a fault
-pub made_no_fault : {A E : Type 0} (made : A) (one other : E) → (Ok made ≡ failed one) ⊎ (Ok made ≡ failed other) → ⊥
-made_no_fault made one other is = elim is [ inl one_fault ↦ (let t : ⊥ = cc in t) | inr other_fault ↦ (let t : ⊥ = cc in t) ]
+pub made_no_fault : {A E : Type 0} (made : A) (one : E) (P : FileId → Type 0) (other : FileId → E) → (Ok made ≡ failed one) ⊎ ((file : FileId) × P file × (Ok made ≡ failed (other file))) → ⊥
+made_no_fault made one P other (inl is) = absurd cc
+made_no_fault made one P other (inr is) = absurd (let e = is.2 in cc)
+
+-- the file that a fault names
+same_file_of : {A : Type 0} (a b : FileId) → failed {A = A} (CreateFault.DiskFault a) ≡ failed (CreateFault.DiskFault b) → a ≡ b
+same_file_of a b e = cc
+
+-- a folder that reads as a silo, by its manager files and by its live slot
+reads_silo : (old : World) → IsSiloImage magic (seen_in old.disk) → ReadsSilo magic old.disk
+reads_silo old (zero, live) = inl live.silo
+reads_silo old (suc zero, live) = inr live.silo
+reads_silo old (suc (suc n), live) = absurd (omega (arith, live.slot))
+
+was_silo : (old : World) → ReadsSilo magic old.disk → IsSiloImage magic (seen_in old.disk)
+was_silo old (inl silo) = some_live (seen_in old.disk) 0 (omega arith) silo
+was_silo old (inr silo) = some_live (seen_in old.disk) 1 (omega arith) silo
 
 -- where no count has changed, the counts are the same
 pub same_counts : (old new : Channel → ℕ) → NoneFailed old new → new ≡ old
@@ -58,7 +80,8 @@ module _ (A : Type 0) (manner : Manner) (asked : List (List ℕ)) (old mid : Wor
   refused_early e ended risen = record {
     beside = beside_so_far old mid disk output still;
     beside_now = beside_here old mid disk output still;
-    makes = inl (untouched_so_far old mid disk output still);
+    makes = λ shows. inl (untouched_so_far old mid disk output still);
+    shows = λ shows. subst (ShowsSilos magic) (sym disk) shows;
     ends_as = ended;
     risen = risen;
   }
@@ -81,14 +104,15 @@ module _ (A : Type 0) (manner : Manner) (asked : List (List ℕ)) (old mid : Wor
       → MakesSilo (ended_with manner asked old mid before after (failed {A = A} (in_program fault (program_fault_place fault))))
   program_refused fault end small is = program_by fault (program_fault_place fault) end small is
 
-  module _ (new : World) (beside : StaysBeside mid new) (makes : CameThisFar magic old.input mid new) (kept : IsSilo magic (mid.disk manager).seen → IsUntouched mid new) (text : IsProgramText (ended_with {A = A} manner asked old new before after (Err InitFault.Memory))) where
-    -- the manager file is as it was at first
-    same_log : (mid.disk manager).seen ≡ (old.disk manager).seen
-    same_log = ap (λ (d : Disk). (d manager).seen) disk
+  module _ (new : World) (beside : StaysBeside mid new) (makes : ShowsSilos magic mid.disk → CameThisFar magic old.input mid new) (kept : ReadsSilo magic mid.disk → IsUntouched mid new)
+      (text : IsProgramText (ended_with {A = A} manner asked old new before after (Err InitFault.Memory))) (here : SeenMayStay old)
+      (shown : ShowsSilos magic mid.disk → ShowsSilos magic new.disk) where
+    -- the manager files are as they were at first
+    same_log : (slot : ℕ) → (mid.disk (Manager slot)).seen ≡ (old.disk (Manager slot)).seen
+    same_log slot = ap (λ (d : Disk). (d (Manager slot)).seen) disk
 
-    -- a folder that was a silo at first is left as it was
-    kept_here : IsSilo magic (old.disk manager).seen → IsUntouched mid new
-    kept_here silo = kept (subst (λ (f : List ℕ). IsSilo magic f) (sym same_log) silo)
+    there : ReadsSilo magic old.disk → ReadsSilo magic mid.disk
+    there silo = subst (ReadsSilo magic) (sym disk) silo
 
     -- the folder was touched, or left as it was
     pub made_so : (result : Result A InitFault) → MakesAs (ending_of result) (ended_with manner asked old new before after result) → HasRisen (ending_of result) before after
@@ -96,15 +120,20 @@ module _ (A : Type 0) (manner : Manner) (asked : List (List ℕ)) (old mid : Wor
     made_so result ended risen = record {
       beside = beside_all old mid disk output still new beside;
       beside_now = beside_last old mid disk output still new beside;
-      makes = makes_from old mid disk output still magic old.input new kept_here makes;
+      makes = λ shows. makes_from old mid disk output still old.input here shows new (λ silo. kept (there silo)) (makes (subst (ShowsSilos magic) (sym disk) shows));
+      shows = λ shows. shown (subst (ShowsSilos magic) (sym disk) shows);
       ends_as = ended;
       risen = risen;
     }
 
     -- a silo was made
-    pub is_made : (made : A) → ((image : Image) → IsImage new.disk image → IsNewSilo magic old.input image) → (IsSilo magic (mid.disk manager).seen → ⊥)
+    pub is_made : (made : A) → ((image : Image) → IsImage new.disk image → IsNewSilo magic old.input image) → (ShowsSilos magic mid.disk → (image : Image) → IsImage new.disk image → IsLive magic 0 image) → (ReadsSilo magic mid.disk → ⊥)
         → MakesSilo (ended_with manner asked old new before after (Ok made))
-    is_made made new_one lacks = made_so (Ok made) (text_is, (λ silo. lacks (subst (λ (f : List ℕ). IsSilo magic f) (sym same_log) silo)), new_one) tt
+    is_made made new_one live lacks = made_so (Ok made) (
+      text_is,
+      (λ was. lacks (there (reads_silo old was))),
+      λ image is. (new_one image is, λ shows. live (subst (ShowsSilos magic) (sym disk) shows) image is),
+    ) tt
       where
         text_is : IsProgramText (ended_with {A = A} manner asked old new before after (Ok made))
         text_is = record { input = text.input; small = text.small; types = text.types; reads = text.reads }
@@ -115,17 +144,25 @@ module _ (A : Type 0) (manner : Manner) (asked : List (List ℕ)) (old mid : Wor
 
     -- none was
     pub creation_refused : (e : CreateFault) → CreateFaulted e before after
-        → (failed {A = A} e ≡ failed CreateFault.AlreadyASilo → IsSilo magic (mid.disk manager).seen × (new.disk manager ≡ settled (mid.disk manager).seen))
-        → (IsSilo magic (mid.disk manager).seen → (failed {A = A} e ≡ failed CreateFault.AlreadyASilo) ⊎ (failed {A = A} e ≡ failed (CreateFault.DiskFault manager)))
+        → (failed {A = A} e ≡ failed CreateFault.AlreadyASilo → ReadsSilo magic mid.disk)
+        → (failed {A = A} e ≡ failed CreateFault.AlreadyASilo → (slot : ℕ) → slot ≤ 1 → (mid.disk (Manager slot)).seen ≢ [] → new.disk (Manager slot) ≡ settled (mid.disk (Manager slot)).seen)
+        → (ReadsSilo magic mid.disk → (failed {A = A} e ≡ failed CreateFault.AlreadyASilo) ⊎ ((file : FileId) × IsEitherManager file × (failed {A = A} e ≡ failed (CreateFault.DiskFault file))))
         → MakesSilo (ended_with manner asked old new before after (failed {A = A} (in_creation e)))
-    creation_refused CreateFault.AlreadyASilo faulted already silo =
-        let t = already refl in
-        made_so (Err InitFault.AlreadyASilo) (text_of InitFault.AlreadyASilo, subst (λ (f : List ℕ). IsSilo magic f) same_log t.0, untouched_from old mid disk output still new (kept t.0), λ image is. settled_image new.disk manager (mid.disk manager).seen (image manager) t.1 (is manager) ∙ same_log) tt
-    creation_refused (CreateFault.DiskFault file) faulted already silo =
+    creation_refused CreateFault.AlreadyASilo faulted already lasts silo =
+        let reads = already refl in
+        made_so (Err InitFault.AlreadyASilo) (
+          text_of InitFault.AlreadyASilo,
+          was_silo old (subst (ReadsSilo magic) disk reads),
+          untouched_from old mid disk output still new (kept reads),
+          λ image is slot low some.
+              let last = lasts refl slot low (λ none. some (sym (same_log slot) ∙ none)) in
+              settled_image new.disk (Manager slot) (mid.disk (Manager slot)).seen (image (Manager slot)) last (is (Manager slot)) ∙ same_log slot,
+        ) tt
+    creation_refused (CreateFault.DiskFault file) faulted already lasts silo =
         made_so (Err (InitFault.DiskFault file)) (
           text_of (InitFault.DiskFault file),
           faulted.0,
           λ was.
-              let there = subst (λ (f : List ℕ). IsSilo magic f) (sym same_log) was in
-              (elim (silo there) [ inl other ↦ absurd cc | inr at ↦ (let same : file ≡ manager = cc in same) ], untouched_from old mid disk output still new (kept there)),
+              let reads = there (reads_silo old was) in
+              (elim (silo reads) [ inl other ↦ absurd cc | inr at ↦ (let same : file ≡ at.0 = same_file_of file at.0 at.2 in subst IsEitherManager (sym same) at.1) ], untouched_from old mid disk output still new (kept reads)),
         ) faulted.1.rose

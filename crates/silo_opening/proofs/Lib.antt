@@ -3,12 +3,14 @@ pub mod ManagerLook
 pub mod GateClosing
 pub mod FolderFilling
 pub mod Outcomes
+pub mod Preparing
 pub mod OpeningCalls
 pub mod LogStates
 pub mod WholeReadings
 pub mod FileEnds
 pub mod Gates
 pub mod OpeningSteps
+pub mod LatestStates
 pub mod ProgramRefusals
 pub mod InitSteps
 pub mod InputPieces

@@ -12,12 +12,13 @@ use Rattle.field_codec.specs.declared.formats.Format.TheVariants.{One}
 use Rattle.commit_log.specs.declared.records.CommitRecord.{CommitRecord}
 use Rattle.commit_log.specs.declared.records.Written.{Written}
 use Rattle.commit_log.specs.declared.records.Named.{Named}
-use Rattle.log_reading.specs.Versions.{named_by, named_by_grain, version_named, state_of}
+use Rattle.log_reading.specs.Blocks.{LogRead}
+use Rattle.log_reading.specs.Versions.{named_by, named_in, named_by_grain, version_named, state_of}
 use Rattle.log_reading.specs.Sums.{next_after, state_after}
 use Rattle.log_reading.proofs.GrainVersions.{in_any_order}
 use Rattle.promise_spec.specs.Records.{Commit, States, put_state, after_writes}
 use Rattle.promise_spec.specs.Entries.{Recorded, Standing, after_entry, after_entries}
-use Rattle.promise_spec.specs.Openings.{commit_of}
+use Rattle.promise_spec.specs.Openings.{commit_of, states_read}
 
 module _ (live : ℕ) (shape : Shape) (image : Image) where
   abbrev State : Type 0
@@ -30,10 +31,10 @@ module _ (live : ℕ) (shape : Shape) (image : Image) where
   abbrev after_log : States → List CommitRecord → States
   after_log states records = fold after_writes states (map (commit_of live shape image) records)
 
-  abbrev named_of : UnitNo → Written → Named
+  abbrev named_of : Option UnitNo → Written → Named
   named_of unit w = record { unit = unit; written = w }
 
-  abbrev state_at : UnitNo → Written → List Value
+  abbrev state_at : Option UnitNo → Written → List Value
   state_at unit w = state_of (version_named live One shape image (named_of unit w))
 
   put_same : (b : Bool) (s : State) (old new d : List Value) → unwrap_or s d ≡ old → unwrap_or (if b then Some new else s) d ≡ (if b then new else old)
@@ -41,7 +42,7 @@ module _ (live : ℕ) (shape : Shape) (image : Image) where
   put_same false s old new d e = e
 
   -- the writes of one record
-  over_writes : (unit : UnitNo) (ws : List Written) (more : List Named) (s : State) (states : States) (g : GrainId) (d : List Value) → unwrap_or s d ≡ states g
+  over_writes : (unit : Option UnitNo) (ws : List Written) (more : List Named) (s : State) (states : States) (g : GrainId) (d : List Value) → unwrap_or s d ≡ states g
       → (t : State) × (state_after live One shape image s (map (named_of unit) ws ++ more) g ≡ state_after live One shape image t more g) × (unwrap_or t d ≡ fold put_state states (zip (map (λ (w : Written). w.grain) ws) (map (state_at unit) ws)) g)
   over_writes unit [] more s states g d e = (s, refl, e)
   over_writes unit (w ∷ ws) more s states g d e =
@@ -51,11 +52,21 @@ module _ (live : ℕ) (shape : Shape) (image : Image) where
       → unwrap_or (state_after live One shape image s (named_by rs) g) d ≡ after_log states rs g
   over_records [] s states g d e = e
   over_records (r ∷ rs) s states g d e =
-      let t = over_writes r.unit r.writes (named_by rs) s states g d e in
+      let t = over_writes (Some r.unit) r.writes (named_by rs) s states g d e in
       ap (λ (x : State). unwrap_or x d) t.1 ∙ over_records rs t.0 (after_writes states (commit_of live shape image r)) g d t.2
 
-  pub counts : (states : States) (records : List CommitRecord) (g : GrainId) → unwrap_or (state_after live One shape image None (named_by_grain (named_by records)) g) (states g) ≡ after_log states records g
-  counts states records g = ap (λ (x : State). unwrap_or x (states g)) (in_any_order live One shape image None (named_by records) g) ∙ over_records records None states g (states g) refl
+  -- what the checkpoint names
+  over_base : (ws : List Written) (more : List Named) (s : State) (states : States) (g : GrainId) (d : List Value) → unwrap_or s d ≡ states g
+      → (t : State) × (state_after live One shape image s (map (named_of None) ws ++ more) g ≡ state_after live One shape image t more g) × (unwrap_or t d ≡ fold put_state states (map (λ (w : Written). (w.grain, state_at None w)) ws) g)
+  over_base [] more s states g d e = (s, refl, e)
+  over_base (w ∷ ws) more s states g d e =
+      over_base ws more (step s (named_of None w) g) (put_state states (w.grain, state_at None w)) g d (put_same (same_grain w.grain g) s (states g) (state_at None w) d e)
+
+  pub counts : (states : States) (l : LogRead) (g : GrainId) → unwrap_or (state_after live One shape image None (named_by_grain (named_in l)) g) (states g) ≡ after_log (fold put_state states (states_read live shape image l.base)) l.records g
+  counts states l g =
+      let t = over_base l.base.writes (named_by l.records) None states g (states g) refl in
+      ap (λ (x : State). unwrap_or x (states g)) (in_any_order live One shape image None (named_in l) g ∙ t.1)
+      ∙ over_records l.records t.0 (fold put_state states (states_read live shape image l.base)) g (states g) t.2
 
   -- ---- a standing is three folds
 

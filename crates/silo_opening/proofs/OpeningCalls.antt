@@ -1,10 +1,10 @@
 -- What each call of an opening leaves: every moment is one of an opening, and at the end both manager files are settled.
-use Rattle.std.proofs.Common.{◌≡◌, ◌≢◌, ◌⊎◌, inl, inr, ℕ, zero, suc, ◌+◌, ◌<◌, ◌≤◌, nat_le, Bool, true, false, ◌&&◌, if◌then◌else◌, List, length, refl, sym, ◌∙◌, ap, subst, arith}
+use Rattle.std.proofs.Common.{◌≡◌, ◌≢◌, ◌⊎◌, inl, inr, ℕ, zero, suc, ◌+◌, ◌<◌, ◌≤◌, nat_le, Bool, true, false, if◌then◌else◌, List, length, refl, sym, ◌∙◌, ap, subst, arith}
 use Rattle.std.proofs.lemmas.Bool.{cases_Bool, and_from, and_parts, le-leb, leb-true}
 use Rattle.host_trait.specs.declared.channels.FileId.{FileId}
 use Rattle.host_trait.specs.declared.channels.FileId.TheVariants.{Manager, Program as ProgramFile, Grain}
-use Rattle.host_trait.specs.Disk.{FileState, MayLeave, settled, after_sync}
-use Rattle.host_trait.specs.World.{World, Moment, Disk, Image, IsImage, Asked, Synced, moment_of}
+use Rattle.host_trait.specs.Disk.{FileState, MayLeave, settled}
+use Rattle.host_trait.specs.World.{World, Moment, Disk, Image, Asked, Synced, moment_of}
 use Rattle.host_trait.specs.Runs.{OnlyAsked}
 use Rattle.host_trait.proofs.Crashes.{settled_only}
 use Rattle.host_trait.proofs.Moments.{started, one, both, weaker, same_moment, arrived, arrives_once, arrives_then}
@@ -13,7 +13,7 @@ use Rattle.host_trait.proofs.Runs.{none_asked, once_asked, asked_then, asked_kee
 use Rattle.log_reading.specs.Steps.{seen_in}
 use Rattle.silo_spec.specs.Moments.{IsAsAtEntry, IsUntouched}
 use Rattle.silo_spec.specs.OpenedDisks.{is_synced, slot_syncs, opened_file, opened_disk, IsInOpening, OpensBy, OnlyOpens}
-use Rattle.silo_opening.specs.Steps.{SyncsOnce, Settles, SettlesBoth}
+use Rattle.silo_opening.specs.Steps.{Settles, SettlesBoth}
 
 -- ---- files as an opening leaves them
 

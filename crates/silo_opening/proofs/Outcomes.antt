@@ -5,10 +5,11 @@ use Rattle.host_trait.specs.World.{World, Moment, Image, Disk, IsImage, Passes, 
 use Rattle.silo_spec.specs.Silos.{manager, program_file, IsSilo, HasProgram, IsNewSilo, new_header}
 use Rattle.promise_spec.specs.Logs.{magic}
 use Rattle.silo_spec.specs.Moments.{IsUntouched}
-use Rattle.silo_spec.specs.Creation.{IsMade, IsNewAt, IsUnsynced, FromFirstSync, CameThisFar}
-use Rattle.silo_opening.specs.Steps.{HasNoSilo}
+use Rattle.silo_spec.specs.Slots.{IsLive}
+use Rattle.silo_spec.specs.Creation.{IsMade, IsNewAt, FromFirstSync, CameThisFar}
+use Rattle.silo_opening.specs.Steps.{LacksSilo, HasNoSilo}
 use Rattle.silo_opening.proofs.GateClosing.{first_then, first_weaker}
-use Rattle.silo_opening.proofs.FolderFilling.{new_silo}
+use Rattle.silo_opening.proofs.FolderFilling.{new_silo, no_silo_at}
 use Rattle.silo_opening.proofs.Fronts.{first_in, name_in}
 
 module _ (text : List ℕ) (disk : Disk) (made : IsMade magic text disk) (image : Image) (is : IsImage disk image) where
@@ -38,16 +39,20 @@ module _ (text : List ℕ) (disk : Disk) (made : IsMade magic text disk) (image 
   pub made_silo : IsNewSilo magic text image
   made_silo = new_silo text image silo (sym header_is) text_is closed
 
-no_silo_new : (text : List ℕ) (m : Moment) → HasNoSilo magic m → IsNewAt magic text m
-no_silo_new text m none image is silo = absurd (none image is silo)
+-- and where slot 1's manager file is a silo's in none of them, slot 0 is live in each
+pub made_live : (text : List ℕ) (disk : Disk) → IsMade magic text disk → (m : Moment) → m.disk ≡ disk → LacksSilo magic 1 m → (image : Image) → IsImage disk image → IsLive magic 0 image
+made_live text disk made m same lacks image is = record {
+  slot = omega arith;
+  silo = (made_silo text disk made image is).silo;
+  over = λ other. absurd (lacks image (subst (λ (d : Disk). IsImage d image) (sym same) is) other);
+}
 
 -- the first two steps came so far
-pub so_far : (text : List ℕ) (old new : World) → IsUntouched old new ⊎ (IsUnsynced old new ⊎ FromFirstSync (HasNoSilo magic) old new) → CameThisFar magic text old new
+pub so_far : (text : List ℕ) (old new : World) → IsUntouched old new ⊎ FromFirstSync (HasNoSilo magic) old new → CameThisFar magic text old new
 so_far text old new (inl untouched) = inl untouched
-so_far text old new (inr (inl unsynced)) = inr (inl unsynced)
-so_far text old new (inr (inr first)) = inr (inr (first_weaker (HasNoSilo magic) (IsNewAt magic text) old new (no_silo_new text) first))
+so_far text old new (inr first) = inr (first_weaker (HasNoSilo magic) (IsNewAt magic text) old new (no_silo_at text) first)
 
 -- and the later ones behind them
 pub came_on : (text : List ℕ) (old mid new : World) → FromFirstSync (HasNoSilo magic) old mid → Passes (IsNewAt magic text) mid.past new.past → IsNewAt magic text (moment_of new) → CameThisFar magic text old new
 came_on text old mid new first moments now =
-    inr (inr (first_then (IsNewAt magic text) old mid new (first_weaker (HasNoSilo magic) (IsNewAt magic text) old mid (no_silo_new text) first) moments now))
+    inr (first_then (IsNewAt magic text) old mid new (first_weaker (HasNoSilo magic) (IsNewAt magic text) old mid (no_silo_at text) first) moments now)

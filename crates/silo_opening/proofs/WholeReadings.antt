@@ -1,31 +1,35 @@
 -- What a folder reads as, put together from its parts, and what may be refused.
-use Rattle.std.proofs.Common.{◌≡◌, ◌⊎◌, inl, inr, ℕ, zero, suc, ◌≤◌, Bool, true, false, if◌then◌else◌, Option, Some, None, List, [], ◌∷◌, ◌++◌, map, filter, Result, Ok, Err, refl, sym, ◌∙◌, ap, subst, arith}
+use Rattle.std.proofs.Common.{◌≡◌, ◌⊎◌, inl, inr, ℕ, zero, suc, ◌≤◌, ◌==◌, nat_lt, nat_le, ◌&&◌, length, Bool, true, false, if◌then◌else◌, Option, Some, None, List, [], ◌∷◌, ◌++◌, map, filter, Result, Ok, Err, refl, sym, ◌∙◌, ap, subst, arith}
+use Rattle.std.specs.Prelude.{option_map}
 use Rattle.std.specs.List.{flat_map}
-use Rattle.std.proofs.lemmas.Bool.{cond_both}
+use Rattle.std.proofs.lemmas.Bool.{cond_both, cond-true, and_from, le-leb}
 use Rattle.base_types.specs.declared.calls.GrainId.{GrainId}
 use Rattle.base_types.specs.declared.shapes.Shape.{Shape}
 use Rattle.base_types.specs.declared.stores.Version.{Version}
 use Rattle.host_trait.specs.declared.channels.FileId.{FileId}
 use Rattle.host_trait.specs.declared.channels.FileId.TheVariants.{Program as ProgramFile, Manager, Grain}
 use Rattle.host_trait.specs.Files.{same_grain}
-use Rattle.host_trait.specs.World.{Image}
+use Rattle.host_trait.specs.Disk.{settled}
+use Rattle.host_trait.specs.World.{Disk, Image}
 use Rattle.field_codec.specs.declared.formats.Format.TheVariants.{One}
-use Rattle.commit_log.specs.declared.records.CommitRecord.{CommitRecord}
 use Rattle.commit_log.specs.declared.records.Named.{Named}
 use Rattle.core_model.specs.CoreState.{Member}
-use Rattle.log_reading.specs.Blocks.{records_in_file}
-use Rattle.log_reading.specs.Versions.{is_before, ascending, named_by, named_by_grain, version_named, missing_or, first_missing}
+use Rattle.log_reading.specs.Blocks.{LogRead, log_in_file}
+use Rattle.log_reading.specs.Versions.{is_before, ascending, named_in, named_by_grain, version_named, missing_or, first_missing}
+use Rattle.log_reading.specs.Steps.{seen_in}
 use Rattle.log_reading.specs.Sums.{StopsAt}
 use Rattle.log_reading.specs.Contents.{IsUnread}
 use Rattle.log_reading.specs.declared.faults.FolderFault.{FolderFault}
 use Rattle.log_reading.proofs.GrainVersions.{in_order}
+use Rattle.silo_spec.specs.OpenedDisks.{opened_disk}
+use Rattle.silo_spec.specs.Slots.{generation}
 use Rattle.promise_spec.specs.Programs.{Program, shape_in}
-use Rattle.promise_spec.specs.Entries.{new_log, grown}
-use Rattle.promise_spec.specs.Openings.{Reading, NoSilo, DamagedAt, Reads, is_silo, program_in_file, commit_of, with_versions, with_log, with_program, live_in, with_slot, opened_as}
+use Rattle.promise_spec.specs.Openings.{Reading, NoSilo, DamagedAt, Reads, is_silo, program_in_file, log_of, with_versions, with_log, with_program, live_of, live_in, with_slot, opened_as}
 use Rattle.promise_spec.specs.Refusals.{IsEitherManager, IsNamedIn, IsReadBefore, MustBeRead, IsRefusedBy}
 use Rattle.promise_spec.proofs.Openings.{live_read}
+use Rattle.promise_spec.proofs.Slots.{silo_is}
 use Rattle.silo_opening.specs.declared.faults.OpenFault.{OpenFault}
-use Rattle.silo_opening.specs.OpenedSilo.{in_folder, ending_of}
+use Rattle.silo_opening.specs.OpenedSilo.{header_in, live_header, in_folder, ending_of}
 
 -- ---- members
 
@@ -73,13 +77,67 @@ module _ (live : ℕ) (shape : Shape) (image : Image) where
 
 -- its manager file is a silo's
 pub live_silo : (image : Image) (live : ℕ) → live_in image ≡ Some live → is_silo (image (Manager live)) ≡ true
-live_silo image live found = by (is_silo (image (Manager 0))) refl found
-  where
-    by : (b : Bool) → is_silo (image (Manager 0)) ≡ b → (if b then Some 0 else None) ≡ Some live → is_silo (image (Manager live)) ≡ true
-    by true is one =
-        let same : live ≡ 0 = cc one in
-        subst (λ (slot : ℕ). is_silo (image (Manager slot)) ≡ true) (sym same) is
-    by false is one = absurd (cc one)
+live_silo image live found = silo_is (image (Manager live)) (live_read live image found).silo
+
+-- and an opening syncs it
+pub live_settled : (disk : Disk) (live : ℕ) → live_in (seen_in disk) ≡ Some live → opened_disk disk (Manager live) ≡ settled (disk (Manager live)).seen
+live_settled disk live found =
+    let is = live_read live (seen_in disk) found in
+    let seen : List ℕ = (disk (Manager live)).seen in
+    let long : 16 ≤ length seen = is.silo.long in
+    let synced : (nat_le 16 (length seen) && nat_le live 1) ≡ true = and_from (nat_le 16 (length seen)) (nat_le live 1) (le-leb 16 (length seen) long) (le-leb live 1 is.slot) in
+    cond-true (nat_le 16 (length seen) && nat_le live 1) (settled seen) (disk (Manager live)) synced
+
+-- a slot with its generation, of the two
+abbrev with_header : ℕ → ℕ → ℕ → ℕ × ℕ
+with_header first other slot = (slot, if slot == 0 then first else other)
+
+either_header : (c : Bool) (first other : ℕ) → (if c then Some (1, other) else Some (0, first)) ≡ option_map (with_header first other) (if c then Some 1 else Some 0)
+either_header true first other = refl
+either_header false first other = refl
+
+headers_live : (a b : Bool) (first other : ℕ) → live_header (if a then Some first else None) (if b then Some other else None) ≡ option_map (with_header first other) (live_of a b (nat_lt first other))
+headers_live false false first other = refl
+headers_live true false first other = refl
+headers_live false true first other = refl
+headers_live true true first other = either_header (nat_lt first other) first other
+
+header_or : ℕ × ℕ → Option (ℕ × ℕ) → ℕ × ℕ
+header_or d None = d
+header_or d (Some x) = x
+
+of_header : (first other : ℕ) (o : Option ℕ) (slot gen : ℕ) → option_map (with_header first other) o ≡ Some (slot, gen) → (o ≡ Some slot) × ((if slot == 0 then first else other) ≡ gen)
+unfolding header_or
+of_header first other None slot gen e = absurd cc
+of_header first other (Some s) slot gen e =
+    let same : s ≡ slot = ap (λ x. (header_or (slot, gen) x).0) e in
+    let its : (if s == 0 then first else other) ≡ gen = ap (λ x. (header_or (slot, gen) x).1) e in
+    (ap Some same, ap (λ (n : ℕ). if n == 0 then first else other) (sym same) ∙ its)
+
+no_header : (first other : ℕ) (o : Option ℕ) → option_map (with_header first other) o ≡ None → o ≡ None
+no_header first other None e = refl
+no_header first other (Some s) e = absurd cc
+
+module _ (image : Image) where
+  abbrev gen_of : ℕ → ℕ
+  gen_of slot = generation (image (Manager slot))
+
+  -- what both headers say is which slot is live
+  headers_say : live_header (header_in (image (Manager 0))) (header_in (image (Manager 1))) ≡ option_map (with_header (gen_of 0) (gen_of 1)) (live_in image)
+  headers_say = headers_live (is_silo (image (Manager 0))) (is_silo (image (Manager 1))) (gen_of 0) (gen_of 1)
+
+  by_slot : (slot gen : ℕ) → slot ≤ 1 → (if slot == 0 then gen_of 0 else gen_of 1) ≡ gen → gen_of slot ≡ gen
+  by_slot zero gen low is = is
+  by_slot (suc zero) gen low is = is
+  by_slot (suc (suc n)) gen low is = absurd (omega (arith, low))
+
+  pub live_found : (slot gen : ℕ) → live_header (header_in (image (Manager 0))) (header_in (image (Manager 1))) ≡ Some (slot, gen) → (live_in image ≡ Some slot) × (gen_of slot ≡ gen)
+  live_found slot gen e =
+      let t = of_header (gen_of 0) (gen_of 1) (live_in image) slot gen (sym headers_say ∙ e) in
+      (t.0, by_slot slot gen (live_read slot image t.0).slot t.1)
+
+  pub none_live : live_header (header_in (image (Manager 0))) (header_in (image (Manager 1))) ≡ None → live_in image ≡ None
+  none_live e = no_header (gen_of 0) (gen_of 1) (live_in image) (sym headers_say ∙ e)
 
 -- ---- the folder
 
@@ -115,20 +173,20 @@ module _ (image : Image) where
     opened_then = ap (with_slot image) found
 
     -- the live slot's program file is read of each silo
-    versions_by : (p : Program) (records : List CommitRecord) (m : Option (FileId × ℕ)) → first_missing live One (shape_in p) image (named_by_grain (named_by records)) ≡ m
-        → MustBeRead image (with_versions live p image records m) (ProgramFile live)
-    versions_by p records None e = inl (inr refl)
-    versions_by p records (Some x) e =
-        let t = missing_grain live (shape_in p) image (named_by_grain (named_by records)) x.0 x.1 e in
+    versions_by : (p : Program) (l : LogRead) (m : Option (FileId × ℕ)) → first_missing live One (shape_in p) image (named_by_grain (named_in l)) ≡ m
+        → MustBeRead image (with_versions live p image l m) (ProgramFile live)
+    versions_by p l None e = inl (inr refl)
+    versions_by p l (Some x) e =
+        let t = missing_grain live (shape_in p) image (named_by_grain (named_in l)) x.0 x.1 e in
         subst (λ (f : FileId). IsReadBefore image f (ProgramFile live)) (sym t.1) (inl (inr refl))
 
-    log_by : (p : Program) (r : Result (List CommitRecord) ℕ) → MustBeRead image (with_log live p image r) (ProgramFile live)
+    log_by : (p : Program) (r : Result LogRead ℕ) → MustBeRead image (with_log live p image r) (ProgramFile live)
     log_by p (Err place) = inr refl
-    log_by p (Ok records) = versions_by p records (first_missing live One (shape_in p) image (named_by_grain (named_by records))) refl
+    log_by p (Ok l) = versions_by p l (first_missing live One (shape_in p) image (named_by_grain (named_in l))) refl
 
     program_by : (r : Result Program ℕ) → MustBeRead image (with_program live image r) (ProgramFile live)
     program_by (Err place) = inr refl
-    program_by (Ok p) = log_by p (records_in_file One (shape_in p) (image (Manager live)))
+    program_by (Ok p) = log_by p (log_in_file One (shape_in p) (image (Manager live)))
 
     pub program_read : Refuses (OpenFault.DiskFault (ProgramFile live))
     program_read = subst (λ (r : Reading). MustBeRead image r (ProgramFile live)) (sym opened_then) (program_by (program_in_file (image (ProgramFile live))))
@@ -137,32 +195,32 @@ module _ (image : Image) where
     program_damaged place e = opened_then ∙ ap (with_program live image) e
 
     module _ (p : Program) (program : program_in_file (image (ProgramFile live)) ≡ Ok p) where
-      then_log : reading ≡ with_log live p image (records_in_file One (shape_in p) (image (Manager live)))
+      then_log : reading ≡ with_log live p image (log_in_file One (shape_in p) (image (Manager live)))
       then_log = opened_then ∙ ap (with_program live image) program
 
-      named_in : (records : List CommitRecord) → records_in_file One (shape_in p) (image (Manager live)) ≡ Ok records → (file : FileId) → (s : StopsAt live One (shape_in p) image (named_by_grain (named_by records)) file)
+      is_named : (l : LogRead) → log_in_file One (shape_in p) (image (Manager live)) ≡ Ok l → (file : FileId) → (s : StopsAt live One (shape_in p) image (named_by_grain (named_in l)) file)
           → IsNamedIn live image s.here.written.grain
-      named_in records read file s = record { program = p; records = records; first = program; then_log = read; named = in_map s.here (named_by records) (in_groups s.here (named_by records) (ascending (map (λ n. n.written.grain) (named_by records))) (subst (Member s.here) (sym s.are) (in_seam s.front s.here s.back))) }
+      is_named l read file s = record { program = p; log = l; first = program; then_log = read; named = in_map s.here (named_in l) (in_groups s.here (named_in l) (ascending (map (λ n. n.written.grain) (named_in l))) (subst (Member s.here) (sym s.are) (in_seam s.front s.here s.back))) }
 
-      grain_by : (records : List CommitRecord) → records_in_file One (shape_in p) (image (Manager live)) ≡ Ok records → (file : FileId) → (s : StopsAt live One (shape_in p) image (named_by_grain (named_by records)) file)
-          → (m : Option (FileId × ℕ)) → first_missing live One (shape_in p) image (named_by_grain (named_by records)) ≡ m → MustBeRead image (with_versions live p image records m) file
-      grain_by records read file s None e = inr (s.here.written.grain, s.is, named_in records read file s)
-      grain_by records read file s (Some x) e =
-          let t = missing_grain live (shape_in p) image (named_by_grain (named_by records)) x.0 x.1 e in
-          let at : first_missing live One (shape_in p) image (named_by_grain (named_by records)) ≡ Some (Grain live t.0, x.1) = e ∙ ap (λ (f : FileId). Some (f, x.1)) t.1 in
-          let order : is_before t.0 s.here.written.grain ≡ false = in_order live One (shape_in p) image (named_by records) file s t.0 x.1 at in
-          subst (λ (f : FileId). IsReadBefore image f file) (sym t.1) (inr (s.here.written.grain, s.is, named_in records read file s, order))
+      grain_by : (l : LogRead) → log_in_file One (shape_in p) (image (Manager live)) ≡ Ok l → (file : FileId) → (s : StopsAt live One (shape_in p) image (named_by_grain (named_in l)) file)
+          → (m : Option (FileId × ℕ)) → first_missing live One (shape_in p) image (named_by_grain (named_in l)) ≡ m → MustBeRead image (with_versions live p image l m) file
+      grain_by l read file s None e = inr (s.here.written.grain, s.is, is_named l read file s)
+      grain_by l read file s (Some x) e =
+          let t = missing_grain live (shape_in p) image (named_by_grain (named_in l)) x.0 x.1 e in
+          let at : first_missing live One (shape_in p) image (named_by_grain (named_in l)) ≡ Some (Grain live t.0, x.1) = e ∙ ap (λ (f : FileId). Some (f, x.1)) t.1 in
+          let order : is_before t.0 s.here.written.grain ≡ false = in_order live One (shape_in p) image (named_in l) file s t.0 x.1 at in
+          subst (λ (f : FileId). IsReadBefore image f file) (sym t.1) (inr (s.here.written.grain, s.is, is_named l read file s, order))
 
       pub log_refused : (e : FolderFault) → IsUnread live One (shape_in p) image e → Refuses (in_folder e)
       log_refused (FolderFault.Damaged file place) (inl at) = then_log ∙ ap (with_log live p image) at.1 ∙ ap (λ (f : FileId). DamagedAt f place) (sym at.0)
       log_refused (FolderFault.Damaged file place) (inr t) = then_log ∙ ap (with_log live p image) t.1 ∙ ap (with_versions live p image t.0) t.2
       log_refused (FolderFault.Failed file) (inl at) =
-          let slot = (live_read live image found).slot in
-          subst (λ (f : FileId). MustBeRead image reading f) (sym at) (manager_read live (omega (arith, slot)))
+          let low = (live_read live image found).slot in
+          subst (λ (f : FileId). MustBeRead image reading f) (sym at) (manager_read live low)
       log_refused (FolderFault.Failed file) (inr t) =
-          subst (λ (r : Reading). MustBeRead image r file) (sym (then_log ∙ ap (with_log live p image) t.1)) (grain_by t.0 t.1 file t.2 (first_missing live One (shape_in p) image (named_by_grain (named_by t.0))) refl)
+          subst (λ (r : Reading). MustBeRead image r file) (sym (then_log ∙ ap (with_log live p image) t.1)) (grain_by t.0 t.1 file t.2 (first_missing live One (shape_in p) image (named_by_grain (named_in t.0))) refl)
       log_refused FolderFault.Memory any = tt
 
-      pub reads_log : (records : List CommitRecord) → records_in_file One (shape_in p) (image (Manager live)) ≡ Ok records → first_missing live One (shape_in p) image (named_by_grain (named_by records)) ≡ None
-          → opened_as image ≡ Reads live (grown (new_log p) (map (commit_of live (shape_in p) image) records))
-      reads_log records read whole = then_log ∙ ap (with_log live p image) read ∙ ap (with_versions live p image records) whole
+      pub reads_log : (l : LogRead) → log_in_file One (shape_in p) (image (Manager live)) ≡ Ok l → first_missing live One (shape_in p) image (named_by_grain (named_in l)) ≡ None
+          → opened_as image ≡ Reads live (log_of live p image l)
+      reads_log l read whole = then_log ∙ ap (with_log live p image) read ∙ ap (with_versions live p image l) whole

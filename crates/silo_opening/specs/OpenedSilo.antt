@@ -1,43 +1,94 @@
 -- What an opened silo is, and what its refusals say.
-use Rattle.std.specs.Prelude.{◌≡◌, ℕ, ◌≤◌, Bool, ◌&&◌, ◌==◌, List, length, map, take, drop, slice_index, bytes_eq, unwrap_or, Some, None}
+use Rattle.std.specs.Prelude.{◌≡◌, ℕ, ◌≤◌, Bool, ◌&&◌, ◌==◌, nat_lt, if◌then◌else◌, List, length, map, take, drop, slice_index, bytes_eq, unwrap_or, Option, Some, None, Ok}
+use Rattle.std.specs.List.{list_any, AllByRecursion}
 use Rattle.base_types.specs.declared.calls.GrainId.{GrainId}
+use Rattle.base_types.specs.declared.stores.Version.{Version}
 use Rattle.base_types.specs.Stores.{state_in, end_in}
 use Rattle.host_trait.specs.declared.channels.FileId.TheVariants.{Manager, Program as ProgramFile, Grain}
+use Rattle.host_trait.specs.Files.{same_grain}
 use Rattle.host_trait.specs.World.{Image}
+use Rattle.field_codec.specs.declared.formats.Format.TheVariants.{One}
 use Rattle.gate_block.specs.Gates.{IsClosedAt}
 use Rattle.gate_block.specs.Log.{gate_of}
+use Rattle.commit_log.specs.declared.records.Named.{Named}
+use Rattle.commit_log.specs.Orders.{IsAscending}
 use Rattle.log_reading.specs.declared.faults.FolderFault.{FolderFault}
-use Rattle.log_reading.specs.Versions.{named_by, named_by_grain}
+use Rattle.log_reading.specs.Blocks.{LogRead, log_in_file}
+use Rattle.log_reading.specs.Versions.{named_in, named_by_grain, version_named, first_missing, latest_of}
 use Rattle.log_reading.specs.Sums.{end_after}
 use Rattle.program_file.specs.declared.faults.ProgramFileFault.{ProgramFileFault}
 use Rattle.script_tree.specs.Programs.{program_tree}
-use Rattle.promise_spec.specs.Entries.{Log, initial_states, records_of, standing_of}
+use Rattle.silo_spec.specs.Slots.{generation}
+use Rattle.promise_spec.specs.Programs.{Program, shape_in}
+use Rattle.promise_spec.specs.Entries.{Log, initial_states, standing_of}
 use Rattle.promise_spec.specs.Logs.{magic}
-use Rattle.promise_spec.specs.Openings.{Reads, opened_as}
+use Rattle.promise_spec.specs.Openings.{is_silo, log_of, Reads, opened_as}
 use Rattle.promise_spec.specs.Endings as ending
 use Rattle.silo_opening.specs.declared.faults.OpenFault.{OpenFault}
 use Rattle.silo_opening.specs.declared.opened_silo.Opened.{Opened}
+
+-- ---- the live slot
 
 -- the first byte is 1, and the next eight are the magic
 abbrev pub is_header : List ℕ → Bool
 is_header file = (slice_index file 0 == 1) && bytes_eq (take 8 (drop 1 file)) magic
 
--- The folder reads as a silo with this live slot and a log, whose program is this. The log's standing is kept: how many entries
--- there are, the number of the next unit, and each grain's state, which is its type's initial fields where it isn't kept. The ends
--- are the greatest of the places that the log names in each grain's file, and lie in the file. The gate is that at which the log
--- ends, and closed.
+-- the generation of a manager file, none where it isn't a silo's
+abbrev pub header_in : List ℕ → Option ℕ
+header_in file = if is_silo file then Some (generation file) else None
+
+-- the live slot and its generation, by those of both slots
+abbrev pub live_header : Option ℕ → Option ℕ → Option (ℕ × ℕ)
+live_header None None = None
+live_header (Some first) None = Some (0, first)
+live_header None (Some other) = Some (1, other)
+live_header (Some first) (Some other) = if nat_lt first other then Some (1, other) else Some (0, first)
+
+-- ---- an opened silo
+
+-- the program in force
+abbrev pub program_in : Opened → Program
+program_in o = record { text = o.text; types = program_tree o.checked }
+
+-- The folder reads as a silo with this live slot, of this generation, and a log, whose program is this. The log's standing is kept:
+-- how many entries there are, the number of the next unit, and each grain's state, which is its type's initial fields where it isn't
+-- kept. The ends are the greatest of the places that the log names in each grain's file, those that it begins with too, and lie in the
+-- file. The gate is that at which the log ends, and closed.
 pub record IsOpenedFrom (image : Image) (o : Opened) : Type 0 where
-  pub text : List ℕ
   pub log : Log
   pub reads : opened_as image ≡ Reads o.slot log
-  pub program : (standing_of log).program ≡ record { text = text; types = program_tree o.checked }
+  pub generation_is : generation (image (Manager o.slot)) ≡ o.generation
+  pub program : (standing_of log).program ≡ program_in o
   pub count : o.count ≡ (standing_of log).count
   pub next : o.next_unit.0 ≡ (standing_of log).next
-  pub states : (grain : GrainId) → unwrap_or (state_in o.store grain) (initial_states (record { text = text; types = program_tree o.checked }) grain) ≡ (standing_of log).states grain
-  pub ends : (grain : GrainId) → end_in o.ends grain ≡ end_after None (named_by_grain (named_by (map (λ c. c.logged) (records_of log)))) grain
+  pub states : (grain : GrainId) → unwrap_or (state_in o.store grain) (initial_states (program_in o) grain) ≡ (standing_of log).states grain
+  pub read : LogRead
+  pub read_as : log_in_file One (shape_in (program_in o)) (image (Manager o.slot)) ≡ Ok read
+  pub log_is : log ≡ log_of o.slot (program_in o) image read
+  pub whole : first_missing o.slot One (shape_in (program_in o)) image (named_by_grain (named_in read)) ≡ None
+  pub ends : (grain : GrainId) → end_in o.ends grain ≡ end_after None (named_by_grain (named_in read)) grain
   pub within : (grain : GrainId) (end : ℕ) → end_in o.ends grain ≡ Some end → end ≤ length (image (Grain o.slot grain))
   pub gate : gate_of (image (Manager o.slot)) ≡ o.gate_at
   pub closed : IsClosedAt o.gate_at (image (Manager o.slot))
+
+-- these names are of this grain too
+abbrev pub names_grain : List Named → GrainId → Bool
+names_grain named grain = list_any (λ n. same_grain n.written.grain grain) named
+
+-- a named version is there, with the state of its grain
+pub record IsLatest (image : Image) (o : Opened) (log : Log) (n : Named) : Type 0 where
+  pub version : Version
+  pub there : version_named o.slot One (shape_in (program_in o)) image n ≡ Ok version
+  pub state : version.state ≡ (standing_of log).states n.written.grain
+
+-- One version of each grain that has a state in the store, with that state, by ascending grains: the last of each that the log names.
+pub record AreLatest (image : Image) (o : Opened) (log : Log) (named : List Named) : Type 0 where
+  pub latest : (read : LogRead) → log_in_file One (shape_in (program_in o)) (image (Manager o.slot)) ≡ Ok read → named ≡ latest_of (named_by_grain (named_in read))
+  pub order : IsAscending None (map (λ n. n.written) named)
+  pub held : (grain : GrainId) → names_grain named grain ≡ (standing_of log).held grain
+  pub each : AllByRecursion (IsLatest image o log) named
+
+-- ---- refusals
 
 -- the fault of a slot's program file that gave no program
 abbrev pub in_program_file : ℕ → ProgramFileFault → OpenFault
@@ -56,4 +107,5 @@ abbrev pub ending_of : OpenFault → ending.Ending
 ending_of OpenFault.NotASilo = ending.NotASilo
 ending_of (OpenFault.Damaged file place) = ending.Damaged file place
 ending_of (OpenFault.DiskFault file) = ending.DiskFault file
+ending_of OpenFault.LastGeneration = ending.LastGeneration
 ending_of OpenFault.Memory = ending.Memory

@@ -1,11 +1,12 @@
 -- The steps of `create` and of `open_silo`.
-use Rattle.std.specs.Prelude.{◌≡◌, ◌≢◌, ◌⊎◌, ℕ, ◌<◌, ◌≤◌, Bool, true, List, [], length, take, drop, slice_index}
+use Rattle.std.specs.Prelude.{◌≡◌, ◌≢◌, ◌⊎◌, ℕ, ◌<◌, ◌≤◌, true, List, [], length, take, drop, slice_index}
 use Rattle.host_trait.specs.declared.channels.FileId.{FileId}
 use Rattle.host_trait.specs.declared.channels.FileId.TheVariants.{Manager}
-use Rattle.host_trait.specs.Disk.{FileState, Tears, settled}
-use Rattle.host_trait.specs.World.{World, Moment, Image, IsImage, Passes, Written, Synced, moment_of}
-use Rattle.host_trait.specs.Runs.{RunsOnFile, OnlyAsked}
-use Rattle.silo_spec.specs.Silos.{manager, IsSilo}
+use Rattle.host_trait.specs.Disk.{FileState, settled}
+use Rattle.host_trait.specs.World.{World, Moment, Disk, Image, IsImage, Passes, Synced, moment_of}
+use Rattle.host_trait.specs.Runs.{OnlyAsked}
+use Rattle.silo_spec.specs.Silos.{IsSilo}
+use Rattle.silo_spec.specs.Creation.{IsLookedAt}
 use Rattle.silo_opening.specs.declared.creation.Front.{Front}
 use Rattle.silo_opening.specs.declared.creation.Front.TheVariants.{Empty, Silo, Open, Closed}
 
@@ -20,21 +21,17 @@ ShowsFront magic Silo file = IsSilo magic file
 ShowsFront magic Open file = (0 < length file) × IsNamedOtherwise magic file
 ShowsFront magic Closed file = (0 < length file) × (slice_index file 0 ≢ 1)
 
--- the manager file is as it was, or what was read of it lasts now
-abbrev pub IsLookedAt : FileState → FileState → Type 0
-IsLookedAt old new = (new ≡ old) ⊎ (new ≡ settled old.seen)
-
--- and all else is as it was
-pub record IsLooking (old : World) (m : Moment) : Type 0 where
+-- a slot's manager file is as it was, or what was read of it lasts now; and all else is as it was
+pub record IsLooking (slot : ℕ) (old : World) (m : Moment) : Type 0 where
   pub output : m.output ≡ old.output
-  pub others : (file : FileId) → file ≢ manager → m.disk file ≡ old.disk file
-  pub log : IsLookedAt (old.disk manager) (m.disk manager)
+  pub others : (file : FileId) → file ≢ Manager slot → m.disk file ≡ old.disk file
+  pub log : IsLookedAt (old.disk (Manager slot)) (m.disk (Manager slot))
 
 -- at each moment
-pub record OnlyLooks (old new : World) : Type 0 where
+pub record OnlyLooks (slot : ℕ) (old new : World) : Type 0 where
   pub input : new.input ≡ old.input
-  pub moments : Passes (IsLooking old) old.past new.past
-  pub now : IsLooking old (moment_of new)
+  pub moments : Passes (IsLooking slot old) old.past new.past
+  pub now : IsLooking slot old (moment_of new)
 
 -- a slot's manager file was synced once, and beside that there was nothing but asking
 pub record SyncsOnce (slot : ℕ) (old new : World) : Type 0 where
@@ -55,27 +52,29 @@ pub record SettlesBoth (old new : World) : Type 0 where
   pub first : Settles 0 old between
   pub second : Settles 1 between new
 
--- whether slot 0's file had to be synced before it was read
-abbrev pub SyncsFor : Front → World → World → Type 0
-SyncsFor Empty old new = OnlyAsked old new
-SyncsFor Silo old new = SyncsOnce 0 old new
-SyncsFor Open old new = SyncsOnce 0 old new
-SyncsFor Closed old new = SyncsOnce 0 old new
+-- a slot's manager file was synced once where it reads with bytes, and beside that there was nothing but asking
+abbrev pub SyncsFor : ℕ → World → World → Type 0
+SyncsFor slot old new =
+    (((old.disk (Manager slot)).seen ≢ []) × SyncsOnce slot old new) ⊎ (((old.disk (Manager slot)).seen ≡ []) × OnlyAsked old new)
 
--- byte 0 of the manager file was written, and then the file was synced, which succeeded or not
-pub record ClosesBy (ok : Bool) (old new : World) : Type 0 where
-  pub before : World
-  pub written : Written manager 0 1 old before
-  pub run : RunsOnFile manager (Tears 0 1) 0 old before
-  pub sync : Synced manager ok before new
+-- how many syncs that is, by what its first bytes say
+abbrev pub syncs_for : Front → ℕ
+syncs_for Empty = 0
+syncs_for Silo = 1
+syncs_for Open = 1
+syncs_for Closed = 1
 
--- it was written, and the file was synced or wasn't
-abbrev pub MayClose : World → World → Type 0
-MayClose old new = Written manager 0 1 old new ⊎ ((ok : Bool) × ClosesBy ok old new)
+-- in no image is this slot's manager file a silo's
+abbrev pub LacksSilo : List ℕ → ℕ → Moment → Type 0
+LacksSilo magic slot m = (image : Image) → IsImage m.disk image → IsSilo magic (image (Manager slot)) → ⊥
 
--- in no image is the manager file a silo's
+-- in no image is a manager file a silo's
 abbrev pub HasNoSilo : List ℕ → Moment → Type 0
-HasNoSilo magic m = (image : Image) → IsImage m.disk image → IsSilo magic (image manager) → ⊥
+HasNoSilo magic m = LacksSilo magic 0 m × LacksSilo magic 1 m
+
+-- a manager file reads as a silo's
+abbrev pub ReadsSilo : List ℕ → Disk → Type 0
+ReadsSilo magic disk = IsSilo magic (disk (Manager 0)).seen ⊎ IsSilo magic (disk (Manager 1)).seen
 
 -- the manager file has a header gate, which isn't open, and nothing is pending in it
 pub record IsShut (file : FileState) : Type 0 where

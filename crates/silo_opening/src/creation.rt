@@ -1,4 +1,4 @@
-ghost use Rattle.std.specs.Prelude.{◌≡◌, ◌≢◌, ◌⊎◌, ◌+◌, ◌^◌, ◌<◌, ◌≤◌, ◌∷◌, ◌++◌, [], List, IsTrue, IsErr, true, false, length, take, drop, slice_index, IfOk, OnOk, IfErr, OnErr, IsErrOf};
+ghost use Rattle.std.specs.Prelude.{◌≡◌, ◌≢◌, ◌⊎◌, ◌+◌, ◌^◌, ◌<◌, ◌≤◌, ◌∷◌, ◌++◌, [], ℕ, List, IsTrue, true, false, length, IfOk, OnOk, IfErr, IsErrOf};
 ghost use Rattle.std.specs.Int.{w32, to_le_bytes};
 ghost use Rattle.host_trait.specs.Disk.{Tears, overlaid, settled};
 ghost use Rattle.host_trait.specs.World.{Image, IsImage, Passes, moment_of};
@@ -6,23 +6,23 @@ ghost use Rattle.host_trait.specs.Runs.{RunsOnFile, OnlyAsked};
 ghost use Rattle.host_trait.specs.Files.{StaysReady};
 ghost use Rattle.host_trait.specs.Faults.{Counted, NoneFailed};
 ghost use Rattle.host_trait.specs.declared.channels.FileId.{FileId};
+ghost use Rattle.host_trait.specs.declared.channels.FileId.TheVariants.{Manager, Program as ProgramFile};
 ghost use Rattle.host_trait.specs.declared.channels.Channel.TheVariants.{File};
-ghost use Rattle.silo_spec.specs.Silos.{manager, program_file, IsSilo, IsNewSilo, new_header};
+ghost use Rattle.silo_spec.specs.Silos.{manager, IsEitherManager, IsNewSilo};
+ghost use Rattle.silo_spec.specs.Slots.{IsLive, ShowsSilos};
 ghost use Rattle.promise_spec.specs.Logs.{magic};
 ghost use Rattle.silo_spec.specs.Moments.{IsUntouched};
 ghost use Rattle.silo_opening.specs.declared.faults.CreateFault.{CreateFault};
 ghost use Rattle.silo_opening.specs.declared.creation.Front.{Front};
 ghost use Rattle.silo_opening.specs.Counts.{CreateFaulted};
-ghost use Rattle.silo_spec.specs.Creation.{IsMade, StaysBeside, IsUnsynced, FromFirstSync, IsNewAt, CameThisFar};
-ghost use Rattle.silo_opening.specs.Steps.{ShowsFront, OnlyLooks, SyncsFor, ClosesBy, MayClose, HasNoSilo, IsShut};
+ghost use Rattle.silo_spec.specs.Creation.{IsMade, StaysBeside, FromFirstSync, IsNewAt, CameThisFar};
+ghost use Rattle.silo_opening.specs.Steps.{ShowsFront, OnlyLooks, SyncsFor, syncs_for, LacksSilo, HasNoSilo, ReadsSilo, IsShut};
 
 use crate::faults::CreateFault;
 use host_trait::{Failed, FileId, Host, read_full, write_synced};
 
-// The two files of a new silo, which is made in slot 0.
+// The manager file of a new silo, which is made in slot 0.
 const MANAGER: FileId = FileId::Manager { slot: 0 };
-
-const PROGRAM: FileId = FileId::Program { slot: 0 };
 
 // The eight bytes behind the header gate that name a silo.
 const MAGIC: [u8; 8] = *b"OTXLOG01";
@@ -31,7 +31,7 @@ const MAGIC: [u8; 8] = *b"OTXLOG01";
 // the first block.
 const HEADER: [u8; 15] = *b"OTXLOG01\0\0\0\0\0\0\0";
 
-// What the first 16 bytes of the manager file say.
+// What the first 16 bytes of a manager file say.
 #[derive(Clone, Copy)]
 enum Front {
     // The file has no bytes.
@@ -46,43 +46,51 @@ enum Front {
 
 /// Makes the folder a silo of this program with an empty log, or leaves it as it was where it is a silo.
 ///
-/// The program is checked text of at most 262,144 bytes. No memory is taken. A crash at any moment leaves no silo or a
-/// new one, once the first sync of the manager file has succeeded; until then nothing but its first byte was written.
+/// The program is checked text of at most 262,144 bytes. The manager files of both slots are looked at first, slot 0's before
+/// slot 1's, and each that has bytes is synced; the silo is made in slot 0. No memory is taken. A crash at any moment leaves no silo
+/// or a new one, once these syncs have succeeded, where no manager file that reads shorter than 16 bytes is a silo's in any image at
+/// entry; until then nothing was written.
 ///
 /// # Errors
 ///
-/// `AlreadyASilo` where the manager file reads as a silo; what it reads lasts then. `DiskFault` where a call on one of the two
-/// files failed; another call may follow.
+/// `AlreadyASilo` where one of the manager files reads as a silo; what they read lasts then. `DiskFault` where a call on one of the
+/// manager files or on slot 0's program file failed; another call may follow.
 pub fn create<H: Host>(host: &mut H, program: &[u8]) -> Result<(), CreateFault>
     requires { length program.now ≤ 262144 }
 
-    // Once it is made, each image is a silo of this program with an empty log, and nothing is pending in its files.
+    // Once it is made, each image is a silo of this program with an empty log, in slot 0, and nothing is pending in its files.
     ensures made { OnOk result (IsTrue H.tells
         → (image : Image) → IsImage (H.world host.new).disk image → IsNewSilo magic program.now image) }
+    ensures live { OnOk result (IsTrue H.tells → ShowsSilos magic (H.world host.old).disk
+        → (image : Image) → IsImage (H.world host.new).disk image → IsLive magic 0 image) }
     ensures files { OnOk result (IsTrue H.tells → IsMade magic program.now (H.world host.new).disk) }
 
     // A folder that reads as a silo is left as it was, and only such a one is called a silo.
-    ensures silo { IsTrue H.tells → IsSilo magic ((H.world host.old).disk manager).seen
-        → (IsErrOf result CreateFault.AlreadyASilo) ⊎ (IsErrOf result (CreateFault.DiskFault manager)) }
-    ensures untouched { IsTrue H.tells → IsSilo magic ((H.world host.old).disk manager).seen
+    ensures silo { IsTrue H.tells → ReadsSilo magic (H.world host.old).disk
+        → (IsErrOf result CreateFault.AlreadyASilo) ⊎ ((file : FileId) × IsEitherManager file × IsErrOf result (CreateFault.DiskFault file)) }
+    ensures untouched { IsTrue H.tells → ReadsSilo magic (H.world host.old).disk
         → IsUntouched (H.world host.old) (H.world host.new) }
     ensures already { IsErrOf result CreateFault.AlreadyASilo → IsTrue H.tells
-        → IsSilo magic ((H.world host.old).disk manager).seen }
-    ensures lasts { IsErrOf result CreateFault.AlreadyASilo → IsTrue H.tells
-        → (H.world host.new).disk manager ≡ settled ((H.world host.old).disk manager).seen }
+        → ReadsSilo magic (H.world host.old).disk }
+    ensures lasts { IsErrOf result CreateFault.AlreadyASilo → IsTrue H.tells → (slot : ℕ) → slot ≤ 1 → ((H.world host.old).disk (Manager slot)).seen ≢ []
+        → (H.world host.new).disk (Manager slot) ≡ settled ((H.world host.old).disk (Manager slot)).seen }
 
-    // A crash at any moment leaves a folder of before but for the header gate, until the first sync has succeeded, and
-    // from then on no silo or a new one.
-    ensures moments { IsTrue H.tells → CameThisFar magic program.now (H.world host.old) (H.world host.new) }
+    // A crash at any moment leaves a folder of before, until the manager files that have bytes are synced, and from then on no silo
+    // or a new one.
+    ensures moments { IsTrue H.tells → ShowsSilos magic (H.world host.old).disk → CameThisFar magic program.now (H.world host.old) (H.world host.new) }
 
-    // No other file changes, and no output or input.
+    // So it stays that no manager file that reads shorter than 16 bytes is a silo's in any image.
+    ensures shows { IsTrue H.tells → ShowsSilos magic (H.world host.old).disk → ShowsSilos magic (H.world host.new).disk }
+
+    // No other file changes, slot 1's manager file is at most synced, and no output or input changes.
     ensures beside { IsTrue H.tells → StaysBeside (H.world host.old) (H.world host.new) }
 
-    // Four syncs were asked, and one more where the header of a file with bytes was closed first.
+    // Four syncs were asked, one more where slot 1's manager file has bytes, and one more where the header of slot 0's was closed first
+    // and has bytes.
     ensures least { OnOk result (IsTrue H.tells → (H.world host.old).syncs + 4 ≤ (H.world host.new).syncs) }
-    ensures most { OnOk result (IsTrue H.tells → (H.world host.new).syncs ≤ (H.world host.old).syncs + 5) }
+    ensures most { OnOk result (IsTrue H.tells → (H.world host.new).syncs ≤ (H.world host.old).syncs + 6) }
 
-    // `DiskFault` is answered exactly where a call on the file, one of the two, failed: its count rose then, and no other
+    // `DiskFault` is answered exactly where a call on the file, one of these, failed: its count rose then, and no other
     // changed. With another answer no count has changed.
     ensures calm { OnOk result (NoneFailed (H.faults host.old) (H.faults host.new)) }
     ensures fault { IfErr result (λ e. CreateFaulted e (H.faults host.old) (H.faults host.new)) }
@@ -93,73 +101,147 @@ pub fn create<H: Host>(host: &mut H, program: &[u8]) -> Result<(), CreateFault>
     Ok(())
 }
 
-// Steps one and two: looks whether the folder is a silo, and closes the header gate where it has to be closed. After Ok no
+// Steps one and two: looks whether the folder is a silo, and closes slot 0's header gate where it has to be closed. After Ok no
 // image is a silo.
 fn prepare<H: Host>(host: &mut H) -> Result<(), CreateFault>
-    ensures first { OnOk result (IsTrue H.tells → FromFirstSync (HasNoSilo magic) (H.world host.old) (H.world host.new)) }
+    ensures first { OnOk result (IsTrue H.tells → ShowsSilos magic (H.world host.old).disk → FromFirstSync (HasNoSilo magic) (H.world host.old) (H.world host.new)) }
     ensures shut { OnOk result (IsTrue H.tells → IsShut ((H.world host.new).disk manager)) }
     ensures least { OnOk result (IsTrue H.tells → (H.world host.old).syncs + 1 ≤ (H.world host.new).syncs) }
-    ensures most { OnOk result (IsTrue H.tells → (H.world host.new).syncs ≤ (H.world host.old).syncs + 2) }
-    ensures silo { IsTrue H.tells → IsSilo magic ((H.world host.old).disk manager).seen
-        → (IsErrOf result CreateFault.AlreadyASilo) ⊎ (IsErrOf result (CreateFault.DiskFault manager)) }
-    ensures untouched { IsTrue H.tells → IsSilo magic ((H.world host.old).disk manager).seen
+    ensures most { OnOk result (IsTrue H.tells → (H.world host.new).syncs ≤ (H.world host.old).syncs + 3) }
+    ensures silo { IsTrue H.tells → ReadsSilo magic (H.world host.old).disk
+        → (IsErrOf result CreateFault.AlreadyASilo) ⊎ ((file : FileId) × IsEitherManager file × IsErrOf result (CreateFault.DiskFault file)) }
+    ensures untouched { IsTrue H.tells → ReadsSilo magic (H.world host.old).disk
         → IsUntouched (H.world host.old) (H.world host.new) }
     ensures already { IsErrOf result CreateFault.AlreadyASilo → IsTrue H.tells
-        → IsSilo magic ((H.world host.old).disk manager).seen }
-    ensures lasts { IsErrOf result CreateFault.AlreadyASilo → IsTrue H.tells
-        → (H.world host.new).disk manager ≡ settled ((H.world host.old).disk manager).seen }
-    ensures moments { IsTrue H.tells → IsUntouched (H.world host.old) (H.world host.new)
-        ⊎ (IsUnsynced (H.world host.old) (H.world host.new)
-        ⊎ FromFirstSync (HasNoSilo magic) (H.world host.old) (H.world host.new)) }
+        → ReadsSilo magic (H.world host.old).disk }
+    ensures lasts { IsErrOf result CreateFault.AlreadyASilo → IsTrue H.tells → (slot : ℕ) → slot ≤ 1 → ((H.world host.old).disk (Manager slot)).seen ≢ []
+        → (H.world host.new).disk (Manager slot) ≡ settled ((H.world host.old).disk (Manager slot)).seen }
+    ensures moments { IsTrue H.tells → ShowsSilos magic (H.world host.old).disk → IsUntouched (H.world host.old) (H.world host.new)
+        ⊎ FromFirstSync (HasNoSilo magic) (H.world host.old) (H.world host.new) }
+    ensures shows { IsTrue H.tells → ShowsSilos magic (H.world host.old).disk → ShowsSilos magic (H.world host.new).disk }
     ensures beside { IsTrue H.tells → StaysBeside (H.world host.old) (H.world host.new) }
     ensures calm { OnOk result (NoneFailed (H.faults host.old) (H.faults host.new)) }
     ensures fault { IfErr result (λ e. CreateFaulted e (H.faults host.old) (H.faults host.new)) }
     ensures ready { StaysReady (H.is_ready host.old) (H.is_ready host.new) }
 {
-    match look(host) {
-        Err(Failed) => Err(CreateFault::DiskFault { file: MANAGER }),
-        Ok(Front::Silo) => Err(CreateFault::AlreadyASilo),
-        Ok(Front::Empty) => {
-            close_header(host).map_err(|_| CreateFault::DiskFault { file: MANAGER })?;
-            Ok(())
-        }
-        Ok(Front::Open) => {
-            close_header(host).map_err(|_| CreateFault::DiskFault { file: MANAGER })?;
-            Ok(())
-        }
-        Ok(Front::Closed) => Ok(()),
+    let (front, other) = match look_both(host) {
+        Ok(fronts) => fronts,
+        Err(fault) => return Err(fault),
+    };
+    if is_either_silo(front, other) {
+        return Err(CreateFault::AlreadyASilo);
+    }
+    if is_closed(front) {
+        return Ok(());
+    }
+    close_header(host).map_err(|_| CreateFault::DiskFault { file: MANAGER })?;
+    Ok(())
+}
+
+// Whether one of the two fronts is a silo's.
+fn is_either_silo(front: Front, other: Front) -> bool
+    ensures yes { result ≡ true → (front ≡ Front.Silo) ⊎ (other ≡ Front.Silo) }
+    ensures no { result ≡ false → (front ≢ Front.Silo) × (other ≢ Front.Silo) }
+{
+    match front {
+        Front::Silo => true,
+        Front::Empty => is_silo(other),
+        Front::Open => is_silo(other),
+        Front::Closed => is_silo(other),
     }
 }
 
-// Step one: looks at the manager file, and makes what it reads last.
-fn look<H: Host>(host: &mut H) -> Result<Front, Failed>
-    ensures looks { IsTrue H.tells → OnlyLooks (H.world host.old) (H.world host.new) }
-    ensures shows { IfOk result (λ front. IsTrue H.tells → ShowsFront magic front ((H.world host.old).disk manager).seen) }
-    ensures syncs { IfOk result (λ front. IsTrue H.tells → SyncsFor front (H.world host.old) (H.world host.new)) }
-    ensures unsynced { IfOk result (λ front. IsTrue H.tells → front ≡ Front.Empty → (H.world host.new).syncs ≡ (H.world host.old).syncs) }
-    ensures synced { IfOk result (λ front. IsTrue H.tells → front ≢ Front.Empty → (H.world host.new).syncs ≡ (H.world host.old).syncs + 1) }
-    ensures faults { Counted (File manager) result (H.faults host.old) (H.faults host.new) }
+// Whether a front is a silo's.
+fn is_silo(front: Front) -> bool
+    ensures yes { result ≡ true → front ≡ Front.Silo }
+    ensures no { result ≡ false → front ≢ Front.Silo }
+{
+    match front {
+        Front::Silo => true,
+        Front::Empty => false,
+        Front::Open => false,
+        Front::Closed => false,
+    }
+}
+
+// Whether a front's gate is closed.
+fn is_closed(front: Front) -> bool
+    ensures yes { result ≡ true → front ≡ Front.Closed }
+    ensures no { result ≡ false → front ≢ Front.Closed }
+{
+    match front {
+        Front::Closed => true,
+        Front::Empty => false,
+        Front::Silo => false,
+        Front::Open => false,
+    }
+}
+
+// Step one: looks at both manager files, slot 0's first, and makes what they read last. Nothing is written.
+fn look_both<H: Host>(host: &mut H) -> Result<(Front, Front), CreateFault>
+    ensures front { IfOk result (λ fronts. IsTrue H.tells → ShowsFront magic fronts.0 ((H.world host.old).disk (Manager 0)).seen) }
+    ensures other { IfOk result (λ fronts. IsTrue H.tells → ShowsFront magic fronts.1 ((H.world host.old).disk (Manager 1)).seen) }
+    ensures lasts { OnOk result (IsTrue H.tells → (slot : ℕ) → slot ≤ 1 → ((H.world host.old).disk (Manager slot)).seen ≢ []
+        → (H.world host.new).disk (Manager slot) ≡ settled ((H.world host.old).disk (Manager slot)).seen) }
+    ensures first { IfOk result (λ fronts. IsTrue H.tells → ShowsSilos magic (H.world host.old).disk → fronts.0 ≢ Front.Silo → fronts.1 ≢ Front.Silo
+        → FromFirstSync (HasNoSilo magic) (H.world host.old) (H.world host.new)) }
+    ensures count { IfOk result (λ fronts. IsTrue H.tells → (H.world host.new).syncs ≡ (H.world host.old).syncs + (syncs_for fronts.0 + syncs_for fronts.1)) }
+    ensures untouched { IsTrue H.tells → IsUntouched (H.world host.old) (H.world host.new) }
+    ensures beside { IsTrue H.tells → StaysBeside (H.world host.old) (H.world host.new) }
+    ensures refused { IfErr result (λ e. (file : FileId) × IsEitherManager file × (e ≡ CreateFault.DiskFault file)) }
+    ensures calm { OnOk result (NoneFailed (H.faults host.old) (H.faults host.new)) }
+    ensures fault { IfErr result (λ e. CreateFaulted e (H.faults host.old) (H.faults host.new)) }
     ensures ready { StaysReady (H.is_ready host.old) (H.is_ready host.new) }
 {
-    if host.length(MANAGER)? == 0 {
+    let Ok(front) = look(host, 0) else {
+        return Err(manager_fault(0));
+    };
+    let Ok(other) = look(host, 1) else {
+        return Err(manager_fault(1));
+    };
+    Ok((front, other))
+}
+
+// The fault of a call on a slot's manager file.
+fn manager_fault(slot: u8) -> CreateFault
+    ensures { result ≡ CreateFault.DiskFault (Manager slot) }
+{
+    CreateFault::DiskFault {
+        file: FileId::Manager { slot },
+    }
+}
+
+// Looks at a slot's manager file, and makes what it reads last.
+fn look<H: Host>(host: &mut H, slot: u8) -> Result<Front, Failed>
+    requires slot { slot ≤ 1 }
+    ensures looks { IsTrue H.tells → OnlyLooks slot (H.world host.old) (H.world host.new) }
+    ensures shows { IfOk result (λ front. IsTrue H.tells → ShowsFront magic front ((H.world host.old).disk (Manager slot)).seen) }
+    ensures syncs { OnOk result (IsTrue H.tells → SyncsFor slot (H.world host.old) (H.world host.new)) }
+    ensures count { IfOk result (λ front. IsTrue H.tells → (H.world host.new).syncs ≡ (H.world host.old).syncs + syncs_for front) }
+    ensures faults { Counted (File (Manager slot)) result (H.faults host.old) (H.faults host.new) }
+    ensures ready { StaysReady (H.is_ready host.old) (H.is_ready host.new) }
+{
+    let manager = FileId::Manager { slot };
+    if host.length(manager)? == 0 {
         return Ok(Front::Empty);
     }
-    host.sync(MANAGER)?;
-    let front = read_front(host)?;
+    host.sync(manager)?;
+    let front = read_front(host, slot)?;
     Ok(front)
 }
 
-// What the first bytes of a manager file that has bytes say.
-fn read_front<H: Host>(host: &mut H) -> Result<Front, Failed>
-    requires { IsTrue H.tells → 0 < length ((H.world host.old).disk manager).seen }
-    ensures shows { IfOk result (λ front. IsTrue H.tells → ShowsFront magic front ((H.world host.old).disk manager).seen) }
-    ensures some { IfOk result (λ front. front ≢ Front.Empty) }
+// What the first bytes of a slot's manager file that has bytes say.
+fn read_front<H: Host>(host: &mut H, slot: u8) -> Result<Front, Failed>
+    requires slot { slot ≤ 1 }
+    requires some { IsTrue H.tells → 0 < length ((H.world host.old).disk (Manager slot)).seen }
+    ensures shows { IfOk result (λ front. IsTrue H.tells → ShowsFront magic front ((H.world host.old).disk (Manager slot)).seen) }
+    ensures some { IfOk result (λ front. syncs_for front ≡ 1) }
     ensures asked { IsTrue H.tells → OnlyAsked (H.world host.old) (H.world host.new) }
-    ensures faults { Counted (File manager) result (H.faults host.old) (H.faults host.new) }
+    ensures faults { Counted (File (Manager slot)) result (H.faults host.old) (H.faults host.new) }
     ensures ready { StaysReady (H.is_ready host.old) (H.is_ready host.new) }
 {
     let mut bytes = [0; 16];
-    if !read_full(host, MANAGER, 0, &mut bytes)? {
+    if !read_full(host, FileId::Manager { slot }, 0, &mut bytes)? {
         return Ok(Front::Open);
     }
     if bytes[0] != 1 {
@@ -171,19 +253,16 @@ fn read_front<H: Host>(host: &mut H) -> Result<Front, Failed>
     Ok(Front::Open)
 }
 
-// Step two: closes the header gate, by one write of that byte alone and one sync.
+// Step two: closes slot 0's header gate, by one write of that byte alone and one sync.
 fn close_header<H: Host>(host: &mut H) -> Result<(), Failed>
     ensures run { IsTrue H.tells → RunsOnFile manager (Tears 0 1) 1 (H.world host.old) (H.world host.new) }
     ensures ok { OnOk result (IsTrue H.tells
         → (H.world host.new).disk manager ≡ settled (overlaid ((H.world host.old).disk manager).seen 0 (0 ∷ []))) }
-    ensures synced { OnOk result (IsTrue H.tells → ClosesBy true (H.world host.old) (H.world host.new)) }
     ensures count { OnOk result (IsTrue H.tells → (H.world host.new).syncs ≡ (H.world host.old).syncs + 1) }
-    ensures tried { IsTrue H.tells → MayClose (H.world host.old) (H.world host.new) }
     ensures faults { Counted (File manager) result (H.faults host.old) (H.faults host.new) }
     ensures ready { StaysReady (H.is_ready host.old) (H.is_ready host.new) }
 {
-    host.write_at(MANAGER, 0, &[0])?;
-    host.sync(MANAGER)?;
+    write_synced(host, MANAGER, 0, &[0])?;
     Ok(())
 }
 
@@ -192,9 +271,11 @@ fn fill<H: Host>(host: &mut H, program: &[u8]) -> Result<(), CreateFault>
     requires small { length program.now ≤ 262144 }
     requires shut { IsTrue H.tells → IsShut ((H.world host.old).disk manager) }
     ensures files { OnOk result (IsTrue H.tells → IsMade magic program.now (H.world host.new).disk) }
-    ensures moments { IsTrue H.tells
+    ensures moments { IsTrue H.tells → LacksSilo magic 1 (moment_of (H.world host.old))
         → Passes (IsNewAt magic program.now) (H.world host.old).past (H.world host.new).past }
-    ensures now { IsTrue H.tells → IsNewAt magic program.now (moment_of (H.world host.new)) }
+    ensures now { IsTrue H.tells → LacksSilo magic 1 (moment_of (H.world host.old)) → IsNewAt magic program.now (moment_of (H.world host.new)) }
+    ensures lacks { IsTrue H.tells → LacksSilo magic 1 (moment_of (H.world host.old)) → LacksSilo magic 1 (moment_of (H.world host.new)) }
+    ensures shows { IsTrue H.tells → LacksSilo magic 1 (moment_of (H.world host.old)) → ShowsSilos magic (H.world host.new).disk }
     ensures beside { IsTrue H.tells → StaysBeside (H.world host.old) (H.world host.new) }
     ensures count { OnOk result (IsTrue H.tells → (H.world host.new).syncs ≡ (H.world host.old).syncs + 3) }
     ensures already { IsErrOf result CreateFault.AlreadyASilo → ⊥ }
@@ -202,25 +283,32 @@ fn fill<H: Host>(host: &mut H, program: &[u8]) -> Result<(), CreateFault>
     ensures fault { IfErr result (λ e. CreateFaulted e (H.faults host.old) (H.faults host.new)) }
     ensures ready { StaysReady (H.is_ready host.old) (H.is_ready host.new) }
 {
-    write_program(host, program).map_err(|_| CreateFault::DiskFault { file: PROGRAM })?;
+    let file = FileId::Program { slot: 0 };
+    write_program(host, 0, program).map_err(|_| CreateFault::DiskFault { file })?;
     write_synced(host, MANAGER, 1, &HEADER).map_err(|_| CreateFault::DiskFault { file: MANAGER })?;
     write_synced(host, MANAGER, 0, &[1]).map_err(|_| CreateFault::DiskFault { file: MANAGER })?;
     Ok(())
 }
 
-// Step three: writes the text's length and the text, and syncs the program file.
-fn write_program<H: Host>(host: &mut H, program: &[u8]) -> Result<(), Failed>
+/// Writes a program's text into a slot's program file, its length before it, and syncs that file.
+pub fn write_program<H: Host>(host: &mut H, slot: u8, program: &[u8]) -> Result<(), Failed>
+    requires slot { slot ≤ 1 }
     requires small { length program.now ≤ 262144 }
-    ensures run { IsTrue H.tells → RunsOnFile program_file (Tears 0 (4 + length program.now)) 1 (H.world host.old) (H.world host.new) }
-    ensures ok { OnOk result (IsTrue H.tells → (H.world host.new).disk program_file
-        ≡ settled (overlaid ((H.world host.old).disk program_file).seen 0 (to_le_bytes w32 (length program.now) ++ program.now))) }
+
+    // No other file changes, and images and reads differ from those of before in the text's bytes and its length alone.
+    ensures run { IsTrue H.tells → RunsOnFile (ProgramFile slot) (Tears 0 (4 + length program.now)) 1 (H.world host.old) (H.world host.new) }
+
+    // Once it is done every image has them.
+    ensures ok { OnOk result (IsTrue H.tells → (H.world host.new).disk (ProgramFile slot)
+        ≡ settled (overlaid ((H.world host.old).disk (ProgramFile slot)).seen 0 (to_le_bytes w32 (length program.now) ++ program.now))) }
     ensures count { OnOk result (IsTrue H.tells → (H.world host.new).syncs ≡ (H.world host.old).syncs + 1) }
-    ensures faults { Counted (File program_file) result (H.faults host.old) (H.faults host.new) }
+    ensures faults { Counted (File (ProgramFile slot)) result (H.faults host.old) (H.faults host.new) }
     ensures ready { StaysReady (H.is_ready host.old) (H.is_ready host.new) }
 {
+    let file = FileId::Program { slot };
     let length = (program.len() as u32).to_le_bytes();
-    host.write_at(PROGRAM, 0, &length)?;
-    host.write_at(PROGRAM, 4, program)?;
-    host.sync(PROGRAM)?;
+    host.write_at(file, 0, &length)?;
+    host.write_at(file, 4, program)?;
+    host.sync(file)?;
     Ok(())
 }

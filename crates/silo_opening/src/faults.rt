@@ -16,7 +16,8 @@ pub enum CreateFault {
 /// Why a silo wasn't opened.
 #[derive(Debug, Clone, Copy, PartialEq, Eq, Error)]
 pub enum OpenFault {
-    /// The manager file is shorter than 16 bytes, or its first byte isn't 1, or the next eight aren't the magic.
+    /// Neither slot's manager file is a silo's: each is shorter than 16 bytes, or its first byte isn't 1, or the next eight aren't the
+    /// magic.
     #[error("the folder is no silo")]
     NotASilo,
     /// The file is damaged at this offset.
@@ -25,6 +26,9 @@ pub enum OpenFault {
     /// A call on this file failed.
     #[error("a call on {file:?} failed")]
     DiskFault { file: FileId },
+    /// The live slot has the greatest generation that there is, and no other can follow. Opening a silo never answers it.
+    #[error("the silo has its last generation")]
+    LastGeneration,
     /// There was no memory.
     #[error("no memory")]
     Memory,

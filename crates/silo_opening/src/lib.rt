@@ -4,10 +4,12 @@
 mod creation;
 mod faults;
 mod input;
+mod latest;
 mod opened_silo;
 mod silo_init;
 
-pub use creation::create;
+pub use creation::{create, write_program};
 pub use faults::{CreateFault, OpenFault};
+pub use latest::latest_versions;
 pub use opened_silo::{Opened, open_silo};
 pub use silo_init::{InitFault, init};

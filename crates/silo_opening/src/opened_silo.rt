@@ -1,4 +1,4 @@
-ghost use Rattle.std.specs.Prelude.{◌≡◌, ◌+◌, ◌^◌, ◌<◌, ◌≤◌, ℕ, nat_le, IsTrue, length, OnOk, IfOk, IfErr, IfSome};
+ghost use Rattle.std.specs.Prelude.{◌≡◌, ◌+◌, ◌^◌, ◌<◌, ◌≤◌, ℕ, nat_le, IsTrue, length, OnOk, IfOk, IfErr, IfSome, IsErrOf};
 ghost use Rattle.host_trait.specs.Disk.{settled};
 ghost use Rattle.host_trait.specs.Files.{StaysReady};
 ghost use Rattle.host_trait.specs.Faults.{Counted, NoneFailed};
@@ -8,15 +8,16 @@ ghost use Rattle.host_trait.specs.declared.channels.FileId.TheVariants.{Manager}
 ghost use Rattle.silo_spec.specs.OpenedDisks.{slot_syncs, opening_syncs, opened_disk, OpensBy, OnlyOpens};
 ghost use Rattle.log_reading.specs.Steps.{seen_in};
 ghost use Rattle.log_reading.specs.Sums.{AreNear};
-ghost use Rattle.promise_spec.specs.Openings.{is_silo, live_in, opened_as};
+ghost use Rattle.silo_spec.specs.Slots.{generation};
+ghost use Rattle.promise_spec.specs.Openings.{opened_as};
 ghost use Rattle.promise_spec.specs.Refusals.{IsRefusedBy};
 ghost use Rattle.silo_opening.specs.Steps.{Settles, SettlesBoth};
 ghost use Rattle.silo_opening.specs.declared.faults.OpenFault.{OpenFault};
 ghost use Rattle.silo_opening.specs.Counts.{OpenFaulted};
-ghost use Rattle.silo_opening.specs.OpenedSilo.{is_header, in_program_file, in_folder, ending_of, IsOpenedFrom};
+ghost use Rattle.silo_opening.specs.OpenedSilo.{is_header, header_in, live_header, in_program_file, in_folder, ending_of, IsOpenedFrom};
 
 use crate::faults::OpenFault;
-use base_types::{Ends, Store, UnitNo};
+use base_types::{Ends, List, Store, UnitNo};
 use field_codec::Format;
 use host_trait::{Failed, FileId, Host, read_full};
 use log_reading::{FolderFault, read_contents};
@@ -24,12 +25,14 @@ use program_file::{ProgramFileFault, read_program};
 use script_check::Checked;
 use std::alloc::{AllocError, Global};
 
-/// An opened silo: the slot that is live, its program, how many records its log has, the state of each grain that they wrote, the
-/// greatest end among the places that they name in each grain's file, the number of the next unit, and the place of the gate at
-/// which the log ends.
+/// An opened silo: the slot that is live and its generation, its program with the text, how many records its log has, those before the
+/// log's beginning too, the state of each grain that has a version, the greatest end among the places that are named in each grain's
+/// file, the number of the next unit, and the place of the gate at which the log ends.
 #[derive(Drop)]
 pub struct Opened {
     pub slot: u8,
+    pub generation: u32,
+    pub text: List<u8>,
     pub checked: Checked,
     pub count: u64,
     pub store: Store,
@@ -65,19 +68,55 @@ fn is_header(head: &[u8; 16]) -> bool
     head[0] == 1 && &head[1..9] == b"OTXLOG01".as_slice()
 }
 
-// Whether a slot's manager file, which has a header's length, begins with the header of a silo.
-fn read_header<H: Host>(host: &mut H, slot: u8) -> Result<bool, Failed>
+// The generation of a silo's header.
+fn generation_of(head: &[u8; 16]) -> u32
+    ensures { result ≡ generation head.now }
+{
+    u32::from_le_bytes([head[9], head[10], head[11], head[12]])
+}
+
+// The generation of a slot's manager file, none where it isn't a silo's. Nothing is read of one that is said to be too short.
+fn read_header<H: Host>(host: &mut H, slot: u8, long: bool) -> Result<Option<u32>, Failed>
     requires slot { slot ≤ 1 }
-    ensures told { IfOk result (λ is. IsTrue H.tells → is ≡ is_silo ((H.world host.old).disk (Manager slot)).seen) }
+    requires long { IsTrue H.tells → long ≡ nat_le 16 (length ((H.world host.old).disk (Manager slot)).seen) }
+    ensures told { IfOk result (λ found. IsTrue H.tells → found ≡ header_in ((H.world host.old).disk (Manager slot)).seen) }
     ensures asked { IsTrue H.tells → OnlyAsked (H.world host.old) (H.world host.new) }
     ensures faults { Counted (File (Manager slot)) result (H.faults host.old) (H.faults host.new) }
     ensures ready { StaysReady (H.is_ready host.old) (H.is_ready host.new) }
 {
+    if !long {
+        return Ok(None);
+    }
     let mut head = [0; 16];
     if !read_full(host, FileId::Manager { slot }, 0, &mut head)? {
-        return Ok(false);
+        return Ok(None);
     }
-    Ok(is_header(&head))
+    if !is_header(&head) {
+        return Ok(None);
+    }
+    Ok(Some(generation_of(&head)))
+}
+
+// The live slot and its generation, by the generations of both slots: that of the greater one, and slot 0 where both are equal.
+fn live_header(first: Option<u32>, other: Option<u32>) -> Option<(u8, u32)>
+    ensures { result ≡ live_header first other }
+{
+    match first {
+        None => match other {
+            None => None,
+            Some(other) => Some((1, other)),
+        },
+        Some(first) => match other {
+            None => Some((0, first)),
+            Some(other) => {
+                if first < other {
+                    Some((1, other))
+                } else {
+                    Some((0, first))
+                }
+            }
+        },
+    }
 }
 
 // The fault of a call on a slot's manager file.
@@ -90,9 +129,10 @@ fn manager_fault(slot: u8) -> OpenFault
 }
 
 // Syncs each manager file that is as long as a header and a gate, slot 0's first: nothing of these is pending afterwards. Answers
-// whether slot 0's is one.
-fn settle_both<H: Host>(host: &mut H) -> Result<bool, OpenFault>
-    ensures long { IfOk result (λ long. IsTrue H.tells → long ≡ nat_le 16 (length ((H.world host.old).disk (Manager 0)).seen)) }
+// whether slot 0's is one, and whether slot 1's is.
+fn settle_both<H: Host>(host: &mut H) -> Result<(bool, bool), OpenFault>
+    ensures first { IfOk result (λ long. IsTrue H.tells → long.0 ≡ nat_le 16 (length ((H.world host.old).disk (Manager 0)).seen)) }
+    ensures other { IfOk result (λ long. IsTrue H.tells → long.1 ≡ nat_le 16 (length ((H.world host.old).disk (Manager 1)).seen)) }
     ensures settles { OnOk result (IsTrue H.tells → SettlesBoth (H.world host.old) (H.world host.new)) }
     ensures count { OnOk result (IsTrue H.tells
         → (H.world host.new).syncs ≡ (H.world host.old).syncs + opening_syncs (seen_in (H.world host.old).disk)) }
@@ -102,19 +142,20 @@ fn settle_both<H: Host>(host: &mut H) -> Result<bool, OpenFault>
     ensures fault { IfErr result (λ e. OpenFaulted e (H.faults host.old) (H.faults host.new)) }
     ensures ready { StaysReady (H.is_ready host.old) (H.is_ready host.new) }
 {
-    let Ok(long) = settle(host, 0) else {
+    let Ok(first) = settle(host, 0) else {
         return Err(manager_fault(0));
     };
-    let Ok(_) = settle(host, 1) else {
+    let Ok(other) = settle(host, 1) else {
         return Err(manager_fault(1));
     };
-    Ok(long)
+    Ok((first, other))
 }
 
-// The slot that is live, by the manager files, each of which is synced where it is as long as a header and a gate.
-fn find_live<H: Host>(host: &mut H) -> Result<Option<u8>, OpenFault>
-    ensures told { IfOk result (λ live. IsTrue H.tells → live ≡ live_in (seen_in (H.world host.old).disk)) }
-    ensures slot { IfOk result (λ live. IfSome live (λ slot. slot ≤ 1)) }
+// The live slot and its generation, by the manager files, each of which is synced where it is as long as a header and a gate.
+fn find_live<H: Host>(host: &mut H) -> Result<Option<(u8, u32)>, OpenFault>
+    ensures told { IfOk result (λ found. IsTrue H.tells
+        → found ≡ live_header (header_in ((H.world host.old).disk (Manager 0)).seen) (header_in ((H.world host.old).disk (Manager 1)).seen)) }
+    ensures slot { IfOk result (λ found. IfSome found (λ live. live.0 ≤ 1)) }
     ensures settles { OnOk result (IsTrue H.tells → SettlesBoth (H.world host.old) (H.world host.new)) }
     ensures count { OnOk result (IsTrue H.tells
         → (H.world host.new).syncs ≡ (H.world host.old).syncs + opening_syncs (seen_in (H.world host.old).disk)) }
@@ -125,14 +166,14 @@ fn find_live<H: Host>(host: &mut H) -> Result<Option<u8>, OpenFault>
     ensures fault { IfErr result (λ e. OpenFaulted e (H.faults host.old) (H.faults host.new)) }
     ensures ready { StaysReady (H.is_ready host.old) (H.is_ready host.new) }
 {
-    let long = settle_both(host)?;
-    if !long {
-        return Ok(None);
-    }
-    let Ok(is) = read_header(host, 0) else {
+    let (long, also) = settle_both(host)?;
+    let Ok(first) = read_header(host, 0, long) else {
         return Err(manager_fault(0));
     };
-    if is { Ok(Some(0)) } else { Ok(None) }
+    let Ok(other) = read_header(host, 1, also) else {
+        return Err(manager_fault(1));
+    };
+    Ok(live_header(first, other))
 }
 
 // The fault of a slot's program file that gave no program.
@@ -151,8 +192,8 @@ fn program_fault(slot: u8, fault: ProgramFileFault) -> OpenFault
     }
 }
 
-// The fault of a log, or of a version that it names.
-fn folder_fault(fault: FolderFault) -> OpenFault
+/// The fault of a log, or of a version that it names.
+pub(crate) fn folder_fault(fault: FolderFault) -> OpenFault
     ensures { result ≡ in_folder fault }
 {
     match fault {
@@ -165,21 +206,21 @@ fn folder_fault(fault: FolderFault) -> OpenFault
 /// Opens the silo of the host's folder, and writes nothing.
 ///
 /// It asks for the length of both manager files and syncs each that has 16 bytes or more, slot 0's first, so that nothing of these
-/// is pending afterwards. Then it reads of the live slot the header, the program file, the blocks up to the first closed gate, and
-/// each version that a record names, by grains. Each is read once. Beside what it answers it keeps 32 bytes for each named version
-/// while it reads. `docs/FORMATS.md` has the bytes.
+/// is pending afterwards. Then it reads the headers of these; and of the live slot, which is the silo's of the greater generation, the
+/// program file, the blocks up to the first closed gate, and each version that they name, by grains. Each is read once. Beside what it
+/// answers it keeps 40 bytes for each named version while it reads. `docs/FORMATS.md` has the bytes.
 ///
 /// # Errors
 ///
-/// `NotASilo` exactly where slot 0's manager file is shorter than 16 bytes or doesn't begin with the header of a silo: no other slot
-/// is made. `Damaged` names the first damage in the order of reading. `DiskFault` where a call on that file failed, and `Memory` at
-/// any place.
+/// `NotASilo` exactly where neither slot's manager file has 16 bytes or more and begins with the header of a silo. `Damaged` names the
+/// first damage in the order of reading. `DiskFault` where a call on that file failed, and `Memory` at any place.
 pub fn open_silo<H: Host>(alloc: Global, host: &mut H) -> Result<Opened, OpenFault>
     // The folder reads as a silo with a program and a log, and this is what they stand for.
     ensures opened { IfOk result (λ o. IsTrue H.tells → IsOpenedFrom (seen_in (H.world host.old).disk) o) }
     ensures slot { IfOk result (λ o. o.slot ≤ 1) }
     ensures bound { IfOk result (λ o. (o.gate_at < 2 ^ 63) × ((0 < o.next_unit.0) × (o.next_unit.0 ≤ 2 ^ 63))) }
     ensures near { IfOk result (λ o. AreNear o.ends) }
+    ensures text { IfOk result (λ o. length o.text ≤ 262144) }
 
     // Each manager file of 16 bytes or more was synced once, the live one among them, and beside that there was nothing but asking.
     // So nothing is pending in these files, and all others are as they were.
@@ -198,17 +239,18 @@ pub fn open_silo<H: Host>(alloc: Global, host: &mut H) -> Result<Opened, OpenFau
     // no count has changed.
     ensures calm { OnOk result (NoneFailed (H.faults host.old) (H.faults host.new)) }
     ensures fault { IfErr result (λ e. OpenFaulted e (H.faults host.old) (H.faults host.new)) }
+    ensures not_last { IsErrOf result OpenFault.LastGeneration → ⊥ }
 
     // Whatever is answered, nothing was written or emitted, and no input was taken: each image of each moment is one of those at
     // entry, and each file is as it was, or as this call leaves it.
     ensures only { IsTrue H.tells → OnlyOpens (H.world host.old) (H.world host.new) }
     ensures ready { StaysReady (H.is_ready host.old) (H.is_ready host.new) }
 {
-    let Some(slot) = find_live(host)? else {
+    let Some((slot, generation)) = find_live(host)? else {
         return Err(OpenFault::NotASilo);
     };
-    let checked = match read_program(alloc, host, slot) {
-        Ok(checked) => checked,
+    let (text, checked) = match read_program(alloc, host, slot) {
+        Ok(found) => found,
         Err(fault) => return Err(program_fault(slot, fault)),
     };
     let shape = match checked.shape() {
@@ -218,6 +260,8 @@ pub fn open_silo<H: Host>(alloc: Global, host: &mut H) -> Result<Opened, OpenFau
     match read_contents(alloc, host, slot, &shape, Format::One) {
         Ok(contents) => Ok(Opened {
             slot,
+            generation,
+            text,
             checked,
             count: contents.count,
             store: contents.store,

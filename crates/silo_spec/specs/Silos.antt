@@ -3,12 +3,17 @@ use Rattle.std.specs.Prelude.{◌≡◌, ◌⊎◌, ℕ, ◌+◌, ◌≤◌, Lis
 use Rattle.std.specs.Int.{w32, to_le_bytes}
 pub use Rattle.host_trait.specs.Files.{manager, program_file}
 use Rattle.host_trait.specs.declared.channels.FileId.{FileId}
+use Rattle.host_trait.specs.declared.channels.FileId.TheVariants.{Manager}
 use Rattle.host_trait.specs.World.{Image}
 use Rattle.gate_block.specs.Log.{bodies_of, IsWhole}
 
--- one of the two files that making a silo writes
+-- the file is a manager file: both are looked at before it is known which slot is live
+abbrev pub IsEitherManager : FileId → Type 0
+IsEitherManager file = (file ≡ Manager 0) ⊎ (file ≡ Manager 1)
+
+-- one of the files that making a silo calls: it looks at both manager files, and writes those of slot 0
 abbrev pub IsMadeFile : FileId → Type 0
-IsMadeFile file = (file ≡ manager) ⊎ (file ≡ program_file)
+IsMadeFile file = IsEitherManager file ⊎ (file ≡ program_file)
 
 -- a manager file of at least 16 bytes, whose first byte, the header gate, is 1 and is followed by the magic
 pub record IsSilo (magic file : List ℕ) : Type 0 where
@@ -32,7 +37,3 @@ pub record IsNewSilo (magic text : List ℕ) (image : Image) : Type 0 where
   pub program : HasProgram text (image program_file)
   pub empty : bodies_of (image manager) ≡ []
   pub whole : IsWhole (image manager)
-
--- an image that is a silo is such a silo
-abbrev pub IsNewIfSilo : List ℕ → List ℕ → Image → Type 0
-IsNewIfSilo magic text image = IsSilo magic (image manager) → IsNewSilo magic text image

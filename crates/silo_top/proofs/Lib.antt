@@ -2,6 +2,7 @@ pub mod ShownCalls
 pub mod InputPieces
 pub mod InitCalls
 pub mod ReportCalls
+pub mod CompactCalls
 pub mod ReadLines
 pub mod TurnStart
 pub mod AskedWords

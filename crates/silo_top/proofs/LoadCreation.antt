@@ -1,17 +1,20 @@
 -- The making of a load's silo, and its opening.
-use Rattle.std.proofs.Common.{◌≡◌, ◌⊎◌, inl, inr, ℕ, ◌+◌, ◌≤◌, List, Result, Ok, Err, refl, sym, subst, false}
+use Rattle.std.proofs.Common.{◌≡◌, ◌≢◌, ◌⊎◌, inl, inr, ℕ, zero, suc, ◌+◌, ◌≤◌, List, [], Result, Ok, Err, refl, sym, subst, false, arith}
 use Rattle.host_trait.specs.declared.channels.Channel.{Channel}
+use Rattle.host_trait.specs.declared.channels.FileId.{FileId}
+use Rattle.host_trait.specs.declared.channels.FileId.TheVariants.{Manager}
 use Rattle.host_trait.specs.Faults.{NoneFailed}
 use Rattle.host_trait.specs.Disk.{FileState, MayLeave, settled}
-use Rattle.host_trait.specs.World.{World, Image}
+use Rattle.host_trait.specs.World.{World, Disk, Image, IsImage}
 use Rattle.host_trait.proofs.Crashes.{settled_only}
 use Rattle.log_reading.specs.Steps.{seen_in}
 use Rattle.script_tree.specs.Programs.{program_tree}
 use Rattle.script_tree.specs.declared.programs.Program.{Program as Tree}
 use Rattle.program_file.specs.Programs.{program_in}
-use Rattle.silo_spec.specs.Silos.{manager, IsSilo}
+use Rattle.silo_spec.specs.Silos.{manager, IsSilo, IsNewSilo, IsEitherManager}
+use Rattle.silo_spec.specs.Slots.{IsLive, IsSiloImage, ShowsSilos}
 use Rattle.silo_spec.specs.Moments.{IsUntouched}
-use Rattle.silo_spec.specs.Creation.{IsMade, StaysBeside, CameThisFar, FromFirstSync, IsNewAt}
+use Rattle.silo_spec.specs.Creation.{StaysBeside, CameThisFar, FromFirstSync, IsNewAt}
 use Rattle.silo_spec.specs.OpenedDisks.{OnlyOpens}
 use Rattle.promise_spec.specs.Logs.{magic}
 use Rattle.promise_spec.specs.Openings.{opened_as}
@@ -22,15 +25,17 @@ use Rattle.promise_spec.specs.Endings.{Ending, HasFailedAs, HasRisen, IsLoadCarr
 use Rattle.promise_spec.specs.Courses.{Observed}
 use Rattle.promise_spec.specs.Loads.{bank_text, IsUnmade, Loads}
 use Rattle.promise_laws.specs.Closings.{ReadsMayStay}
+use Rattle.promise_spec.proofs.Slots.{some_live}
 use Rattle.silo_opening.specs.Counts.{CreateFaulted, OpenFaulted}
 use Rattle.silo_opening.specs.OpenedSilo.{ending_of}
+use Rattle.silo_opening.specs.Steps.{ReadsSilo}
 use Rattle.silo_opening.specs.declared.faults.CreateFault.{CreateFault}
 use Rattle.silo_opening.specs.declared.faults.OpenFault.{OpenFault}
 use Rattle.silo_opening.specs.declared.opened_silo.Opened.{Opened}
 use Rattle.silo_top.specs.declared.status.Status.{Status}
 use Rattle.silo_top.specs.Statuses.{status_ending}
 use Rattle.silo_top.specs.CallAnswers.{AnswersRun}
-use Rattle.silo_top.specs.LoadSteps.{IsNewBank, IsMadeFrom, CarriesLoad, LiesWithin, creation_ending}
+use Rattle.silo_top.specs.LoadSteps.{IsMadeFrom, CarriesLoad, LiesWithin, creation_ending}
 use Rattle.silo_top.specs.RunBehindOpening.{IsBehindOpening}
 use Rattle.silo_top.proofs.ShownCalls.{observed_call}
 use Rattle.silo_top.proofs.FaultCounts.{exactly_answers, open_failed, open_good}
@@ -45,32 +50,60 @@ fault_of A e = Err e
 abbrev done_of : (A : Type 0) → A → Result A CreateFault
 done_of A done = Ok done
 
+-- ---- a folder that reads as a silo, by its manager files and by its live slot
+
+reads_silo : (disk : Disk) → IsSiloImage magic (seen_in disk) → ReadsSilo magic disk
+reads_silo disk (zero, live) = inl live.silo
+reads_silo disk (suc zero, live) = inr live.silo
+reads_silo disk (suc (suc n), live) = absurd (omega (arith, live.slot))
+
+was_silo : (disk : Disk) → ReadsSilo magic disk → IsSiloImage magic (seen_in disk)
+was_silo disk (inl silo) = some_live (seen_in disk) 0 (omega arith) silo
+was_silo disk (inr silo) = some_live (seen_in disk) 1 (omega arith) silo
+
 -- ---- it wasn't made
+
+-- the file that a fault names
+same_file : (A : Type 0) (a b : FileId) → fault_of A (CreateFault.DiskFault a) ≡ fault_of A (CreateFault.DiskFault b) → b ≡ a
+same_file A a b e = cc
+
+-- a call on a silo was refused, for a manager file where a fault was
+abbrev IsRefusedOn : Type 0 → CreateFault → Type 0
+IsRefusedOn A e = (fault_of A e ≡ fault_of A CreateFault.AlreadyASilo) ⊎ ((file : FileId) × IsEitherManager file × (fault_of A e ≡ fault_of A (CreateFault.DiskFault file)))
+
+-- the manager files that have bytes last as they read
+abbrev ManagersStay : World → World → Type 0
+ManagersStay old new = (slot : ℕ) → slot ≤ 1 → (old.disk (Manager slot)).seen ≢ [] → new.disk (Manager slot) ≡ settled (old.disk (Manager slot)).seen
 
 module _ (m : Manner) (asked : List (List ℕ)) (old new : World) (before after : Channel → ℕ) where
   abbrev ended_so : Ending → Observed
   ended_so e = record { manner = m; asked = asked; windowed = false; old = old; new = new; faults_before = before; faults_after = after; ending = e }
 
-  pub uncreated : (A : Type 0) (e : CreateFault) (status : Status) → status_ending status ≡ creation_ending e → StaysBeside old new → CameThisFar magic bank_text old new → CreateFaulted e before after
-      → (fault_of A e ≡ fault_of A CreateFault.AlreadyASilo → IsSilo magic (old.disk manager).seen × (new.disk manager ≡ settled (old.disk manager).seen))
-      → (IsSilo magic (old.disk manager).seen → (fault_of A e ≡ fault_of A CreateFault.AlreadyASilo) ⊎ (fault_of A e ≡ fault_of A (CreateFault.DiskFault manager)))
-      → (IsSilo magic (old.disk manager).seen → IsUntouched old new) → IsUnmade (observed_call m asked old new before after status)
-  uncreated A e status is beside makes faulted already silo kept = subst (λ (y : Ending). IsUnmade (ended_so y)) (sym is) (by e faulted already silo)
+  pub uncreated : (A : Type 0) (e : CreateFault) (status : Status) → status_ending status ≡ creation_ending e → StaysBeside old new → (ShowsSilos magic old.disk → CameThisFar magic bank_text old new)
+      → (ShowsSilos magic old.disk → ShowsSilos magic new.disk) → CreateFaulted e before after → (fault_of A e ≡ fault_of A CreateFault.AlreadyASilo → ReadsSilo magic old.disk)
+      → (fault_of A e ≡ fault_of A CreateFault.AlreadyASilo → ManagersStay old new) → (ReadsSilo magic old.disk → IsRefusedOn A e) → (ReadsSilo magic old.disk → IsUntouched old new)
+      → IsUnmade (observed_call m asked old new before after status)
+  uncreated A e status is beside makes shows faulted already lasts silo kept = subst (λ (y : Ending). IsUnmade (ended_so y)) (sym is) (by e faulted already lasts silo)
     where
-      by : (x : CreateFault) → CreateFaulted x before after
-          → (fault_of A x ≡ fault_of A CreateFault.AlreadyASilo → IsSilo magic (old.disk manager).seen × (new.disk manager ≡ settled (old.disk manager).seen))
-          → (IsSilo magic (old.disk manager).seen → (fault_of A x ≡ fault_of A CreateFault.AlreadyASilo) ⊎ (fault_of A x ≡ fault_of A (CreateFault.DiskFault manager)))
-          → IsUnmade (ended_so (creation_ending x))
-      by CreateFault.AlreadyASilo f a s = record {
+      by : (x : CreateFault) → CreateFaulted x before after → (fault_of A x ≡ fault_of A CreateFault.AlreadyASilo → ReadsSilo magic old.disk)
+          → (fault_of A x ≡ fault_of A CreateFault.AlreadyASilo → ManagersStay old new) → (ReadsSilo magic old.disk → IsRefusedOn A x) → IsUnmade (ended_so (creation_ending x))
+      by CreateFault.AlreadyASilo f a l s = record {
         beside = beside;
         makes = makes;
-        ends_as = ((a refl).0, kept (a refl).0, λ image is_image. settled_only (old.disk manager).seen (image manager) (subst (λ (y : FileState). MayLeave y (image manager)) (a refl).1 (is_image manager)));
+        shows = shows;
+        ends_as = (was_silo old.disk (a refl), kept (a refl), λ image is_image slot low some. settled_only (old.disk (Manager slot)).seen (image (Manager slot)) (subst (λ (y : FileState). MayLeave y (image (Manager slot))) (l refl slot low some) (is_image (Manager slot))));
         failed = f;
       }
-      by (CreateFault.DiskFault file) f a s = record {
+      by (CreateFault.DiskFault file) f a l s = record {
         beside = beside;
         makes = makes;
-        ends_as = (f.0, λ was. (elim (s was) [ inl other ↦ absurd cc | inr at ↦ (let same : file ≡ manager = cc in same) ], kept was));
+        shows = shows;
+        ends_as = (
+          f.0,
+          λ was.
+              let reads : ReadsSilo magic old.disk = reads_silo old.disk was in
+              (elim (s reads) [ inl other ↦ absurd cc | inr at ↦ subst IsEitherManager (same_file A file at.0 at.2) at.1 ], kept reads),
+        );
         failed = f.1;
       }
 
@@ -83,37 +116,52 @@ uncreated_answers e status before after is faulted = subst (λ (y : Ending). Ans
 
 -- ---- it was made
 
-pub made_from : (A : Type 0) (old new : World) (done : A) → (IsSilo magic (old.disk manager).seen → (done_of A done ≡ fault_of A CreateFault.AlreadyASilo) ⊎ (done_of A done ≡ fault_of A (CreateFault.DiskFault manager)))
-    → StaysBeside old new → CameThisFar magic bank_text old new → IsNewBank new → IsMade magic bank_text new.disk → ReadsMayStay new → old.syncs + 4 ≤ new.syncs → new.syncs ≤ old.syncs + 5 → IsMadeFrom old new
-made_from A old new done silo beside makes images files stay least most = record {
+pub made_from : (A : Type 0) (old new : World) (done : A)
+    → (ReadsSilo magic old.disk → (done_of A done ≡ fault_of A CreateFault.AlreadyASilo) ⊎ ((file : FileId) × IsEitherManager file × (done_of A done ≡ fault_of A (CreateFault.DiskFault file))))
+    → StaysBeside old new → (ShowsSilos magic old.disk → CameThisFar magic bank_text old new) → (ShowsSilos magic old.disk → ShowsSilos magic new.disk)
+    → ((image : Image) → IsImage new.disk image → IsNewSilo magic bank_text image) → (ShowsSilos magic old.disk → (image : Image) → IsImage new.disk image → IsLive magic 0 image)
+    → ReadsMayStay new → old.syncs + 4 ≤ new.syncs → new.syncs ≤ old.syncs + 6 → IsMadeFrom old new
+made_from A old new done silo beside makes shows images live stay least most = record {
   absent = absent;
   beside = beside;
-  makes = by makes;
-  new = images;
+  makes = λ short. by (makes short);
+  each = images;
+  bank = λ short. record { each = images; live = live short; shows = shows short };
+  stays = stay;
   syncs = (least, most);
 }
   where
-    absent : IsSilo magic (old.disk manager).seen → ⊥
-    absent was = elim (silo was) [ inl q ↦ (let t : ⊥ = cc in t) | inr q ↦ (let t : ⊥ = cc in t) ]
+    absent : IsSiloImage magic (seen_in old.disk) → ⊥
+    absent was = elim (silo (reads_silo old.disk was)) [ inl q ↦ (let t : ⊥ = cc in t) | inr q ↦ (let e = q.2 in let t : ⊥ = cc in t) ]
 
     by : CameThisFar magic bank_text old new → FromFirstSync (IsNewAt magic bank_text) old new
-    by (inl untouched) = absurd (absent (subst (IsSilo magic) (untouched.seen manager) (images (seen_in new.disk) stay).silo))
-    by (inr (inl unsynced)) = absurd (unsynced.now.pending files.log_lasts)
-    by (inr (inr first)) = first
+    by (inl untouched) = absurd (absent (was_silo old.disk (inl (subst (IsSilo magic) (untouched.seen manager) (images (seen_in new.disk) stay).silo))))
+    by (inr first) = first
 
 pub made_loads : (n seed : ℕ) (m : Manner) (asked : List (List ℕ)) (old made new : World) (before between after : Channel → ℕ) (status : Status) → IsMadeFrom old made → NoneFailed before between
-    → CarriesLoad n seed (observed_call m asked made new between after status) → Loads n seed m (observed_call m asked old new before after status)
-made_loads n seed m asked old made new before between after status is none carries =
-    let k : CarriesLoad n seed (observed_call m asked made new before after status) = subst (λ (f : Channel → ℕ). CarriesLoad n seed (observed_call m asked made new f after status)) (λ i c. none c i) carries in
-    record {
-      manner = refl;
-      windowed = refl;
-      answers = inr (record {
-        made = made;
-        has = record { absent = is.absent; beside = is.beside; makes = is.makes; new = is.new; syncs = is.syncs };
-        carried = k.carried;
-      });
-    }
+    → AnswersRun IsLoadCarried (status_ending status) before after → (ShowsSilos magic old.disk → CarriesLoad n seed (observed_call m asked made new between after status)) → Loads n seed m (observed_call m asked old new before after status)
+made_loads n seed m asked old made new before between after status is none answers carries = record {
+  manner = refl;
+  windowed = refl;
+  answers = inr (record {
+    made = made;
+    has = record {
+      absent = is.absent;
+      beside = is.beside;
+      makes = is.makes;
+      shows = λ short. (is.bank short).shows;
+      stays = is.stays;
+      new = λ image left. (is.each image left, λ short. (is.bank short).live image left);
+      syncs = is.syncs;
+    };
+    good = answers.good;
+    risen = answers.risen;
+    carried = λ short. (so short).carried;
+  });
+}
+  where
+    so : ShowsSilos magic old.disk → CarriesLoad n seed (observed_call m asked made new before after status)
+    so short = subst (λ (f : Channel → ℕ). CarriesLoad n seed (observed_call m asked made new f after status)) (λ i c. none c i) (carries short)
 
 -- ---- it wasn't opened
 

@@ -1,6 +1,6 @@
 -- An opened folder as the settler's writer keeps it: where each image has the log that was opened, each has it up to the writer's
 -- gate, and the writer's ends are those of the places that it names.
-use Rattle.std.proofs.Common.{◌≡◌, ◌≢◌, slice_index, ℕ, ◌+◌, ◌≤◌, max, Bool, true, false, if◌then◌else◌, List, [], ◌∷◌, Option, Some, None, length, unwrap_or, refl, sym, ◌∙◌, ap, subst, arith, append-nil}
+use Rattle.std.proofs.Common.{Ok, ◌≡◌, ◌≢◌, slice_index, ℕ, ◌+◌, ◌≤◌, max, Bool, true, false, if◌then◌else◌, List, [], ◌∷◌, Option, Some, None, length, unwrap_or, refl, sym, ◌∙◌, ap, subst, arith}
 use Rattle.std.specs.Prelude.{map, take, drop}
 use Rattle.std.specs.List.{AllByRecursion}
 use Rattle.base_types.specs.declared.calls.GrainId.{GrainId}
@@ -11,29 +11,35 @@ use Rattle.host_trait.specs.World.{Disk, Image, IsImage}
 use Rattle.host_trait.proofs.Crashes.{settled_only}
 use Rattle.gate_block.specs.Log.{LogsUpTo, gate_of}
 use Rattle.gate_block.proofs.Logs.{logged, one_log}
+use Rattle.field_codec.specs.declared.formats.Format.TheVariants.{One}
+use Rattle.commit_log.specs.declared.records.CommitRecord.{CommitRecord}
 use Rattle.commit_log.specs.declared.records.Named.{Named}
 use Rattle.commit_log.specs.declared.records.Written.{Written}
-use Rattle.log_reading.specs.Versions.{named_by, named_by_grain}
+use Rattle.log_reading.specs.Blocks.{LogBase, LogRead, log_in_file}
+use Rattle.log_reading.specs.Versions.{named_by, named_of_base, named_in, named_by_grain}
 use Rattle.log_reading.specs.Sums.{end_after, greater_end}
 use Rattle.core_model.specs.CoreState.{Member}
 use Rattle.core_model.specs.LegalRuns.{Run}
-use Rattle.promise_spec.specs.Programs.{shape_in}
+use Rattle.promise_spec.specs.Programs.{Program, shape_in}
 use Rattle.promise_spec.specs.Records.{Commit}
-use Rattle.promise_spec.specs.Entries.{Log, records_of, standing_of}
-use Rattle.promise_spec.specs.Logs.{StandsUpTo, IsLog}
+use Rattle.promise_spec.specs.Entries.{Standing, Log, records_of, standing_of}
+use Rattle.promise_spec.specs.Blocks.{Saved, saved_by, IsSaved, Beginning, Fresh, From, BeginsWhole}
+use Rattle.promise_spec.specs.Logs.{StandsUpTo, IsLog, IsLogIn}
 use Rattle.promise_spec.proofs.Batched.{kept_are}
-use Rattle.promise_spec.proofs.Standings.{grown_none}
+use Rattle.promise_spec.proofs.Growing.{program_begins}
+use Rattle.promise_spec.proofs.ReadLogs.{IsReadIn, read_base, read_in}
+use Rattle.checkpoint.proofs.NamedVersions.{read_is}
+use Rattle.promise_spec.proofs.Standings.{grown_none, in_force as program_in_force}
 use Rattle.promise_spec.specs.Journals.{AllLog}
 use Rattle.promise_spec.proofs.ReadVersions.{all_in_order, all_of_order}
-use Rattle.batch_disk.specs.ImagesAtRest.{IsAtRest, StandsIn, IsBelow, AreBelow, write_end, raised_end, raised_ends, all_writes}
+use Rattle.batch_disk.specs.ImagesAtRest.{IsAtRest, StandsIn, IsBelow, AreBelow, AreNamedBy, write_end, raised_end, raised_ends, all_writes}
 use Rattle.batch_disk.specs.Writers.{file_end, kept_of}
 use Rattle.batch_disk.specs.declared.writer.BatchWriter.{BatchWriter}
-use Rattle.batch_disk.proofs.Ends.{raised_each, raised_long, kept_within}
-use Rattle.batch_disk.proofs.ImagePlaces.{silo_begins}
+use Rattle.batch_disk.proofs.Ends.{raised_each, raised_long, stands_within, kept_within}
 use Rattle.batch_disk.proofs.Lists.{both_parts, split_parts, each_list}
 use Rattle.run_books.specs.Beginnings.{Outset}
 use Rattle.run_books.specs.Images.{KeepsFolder}
-use Rattle.silo_opening.specs.OpenedSilo.{IsOpenedFrom}
+use Rattle.silo_opening.specs.OpenedSilo.{program_in, IsOpenedFrom}
 use Rattle.silo_opening.specs.declared.opened_silo.Opened.{Opened}
 use Rattle.silo_top.specs.RunStart.{IsStartOf}
 use Rattle.silo_top.specs.declared.run_start.Started.{Started}
@@ -54,32 +60,66 @@ map_all P f (x ∷ xs) all = (all.0, map_all P f xs all.1)
 abbrev place_named : Named → Written
 place_named n = n.written
 
--- the places that a log names, by grains
-abbrev places_read : List Commit → List Written
-places_read log = map place_named (named_by_grain (named_by (map (λ c. c.logged) log)))
+-- the places that a log names as it is read, by grains
+abbrev places_read : LogRead → List Written
+places_read l = map place_named (named_by_grain (named_in l))
 
 module _ (P : Written → Type 0) where
-  from_named : (log : List Commit) → AllByRecursion (λ n. P n.written) (named_by (map (λ c. c.logged) log)) → AllByRecursion (λ c. AllByRecursion P c.logged.writes) log
+  abbrev IsNamed : Named → Type 0
+  IsNamed n = P n.written
+
+  from_named : (log : List Commit) → AllByRecursion IsNamed (named_by (map (λ c. c.logged) log)) → AllByRecursion (λ c. AllByRecursion P c.logged.writes) log
   from_named [] all = tt
   from_named (c ∷ log) all =
-      let parts = split_parts (λ (n : Named). P n.written) (map (λ w. record { unit = c.logged.unit; written = w }) c.logged.writes) (named_by (map (λ c. c.logged) log)) all in
-      (all_map (λ (n : Named). P n.written) (λ w. record { unit = c.logged.unit; written = w }) c.logged.writes parts.0, from_named log parts.1)
+      let parts = split_parts IsNamed (map (λ w. record { unit = Some c.logged.unit; written = w }) c.logged.writes) (named_by (map (λ c. c.logged) log)) all in
+      (all_map IsNamed (λ w. record { unit = Some c.logged.unit; written = w }) c.logged.writes parts.0, from_named log parts.1)
 
-  to_named : (log : List Commit) → AllByRecursion (λ c. AllByRecursion P c.logged.writes) log → AllByRecursion (λ n. P n.written) (named_by (map (λ c. c.logged) log))
+  to_named : (log : List Commit) → AllByRecursion (λ c. AllByRecursion P c.logged.writes) log → AllByRecursion IsNamed (named_by (map (λ c. c.logged) log))
   to_named [] all = tt
   to_named (c ∷ log) all =
-      both_parts (λ (n : Named). P n.written) (map (λ w. record { unit = c.logged.unit; written = w }) c.logged.writes) (named_by (map (λ c. c.logged) log))
-      (map_all (λ (n : Named). P n.written) (λ w. record { unit = c.logged.unit; written = w }) c.logged.writes all.0) (to_named log all.1)
+      both_parts IsNamed (map (λ w. record { unit = Some c.logged.unit; written = w }) c.logged.writes) (named_by (map (λ c. c.logged) log))
+      (map_all IsNamed (λ w. record { unit = Some c.logged.unit; written = w }) c.logged.writes all.0) (to_named log all.1)
 
-  -- what holds of all that are read holds of each record's
-  all_named : (log : List Commit) → AllByRecursion P (places_read log) → AllByRecursion (λ c. AllByRecursion P c.logged.writes) log
-  all_named log all = let named = named_by (map (λ c. c.logged) log) in
-      from_named log (all_of_order (λ (n : Named). P n.written) named (all_map P place_named (named_by_grain named) all))
+  from_saved : (b : Beginning) → AllByRecursion P (read_base b).writes → AreNamedBy P b
+  from_saved Fresh all = tt
+  from_saved (From ck) all = all_map P (λ (s : Saved). s.write) (saved_by ck) all
+
+  -- what holds of all that are read holds of each that is named
+  all_named : (l : LogRead) → AllByRecursion P (places_read l) → AllByRecursion IsNamed (named_in l)
+  all_named l all = all_of_order IsNamed (named_in l) (all_map P place_named (named_by_grain (named_in l)) all)
+
+  -- and so of each record's, and of each of the log's beginning
+  of_records : (l : LogRead) (log : List Commit) → l.records ≡ map (λ (c : Commit). c.logged) log → AllByRecursion IsNamed (named_in l) → AllByRecursion (λ c. AllByRecursion P c.logged.writes) log
+  of_records l log records all =
+      from_named log (subst (λ (rs : List CommitRecord). AllByRecursion IsNamed (named_by rs)) records (split_parts IsNamed (named_of_base l.base) (named_by l.records) all).1)
+
+  of_base : (l : LogRead) (b : Beginning) → l.base ≡ read_base b → AllByRecursion IsNamed (named_in l) → AreNamedBy P b
+  of_base l b base all =
+      let first : AllByRecursion IsNamed (named_of_base l.base) = (split_parts IsNamed (named_of_base l.base) (named_by l.records) all).0 in
+      from_saved b (subst (λ (o : LogBase). AllByRecursion P o.writes) base (all_map IsNamed (λ w. record { unit = None; written = w }) l.base.writes first))
 
   -- and the other way round
-  all_read : (log : List Commit) → AllByRecursion P (all_writes log) → AllByRecursion P (places_read log)
-  all_read log all = let named = named_by (map (λ c. c.logged) log) in
-      map_all P place_named (named_by_grain named) (all_in_order (λ (n : Named). P n.written) named (to_named log (each_list P (λ (c : Commit). c.logged.writes) log all)))
+  all_read : (l : LogRead) (b : Beginning) (log : List Commit) → l.base ≡ read_base b → l.records ≡ map (λ (c : Commit). c.logged) log
+      → AllByRecursion P (read_base b).writes → AllByRecursion P (all_writes log) → AllByRecursion P (places_read l)
+  all_read l b log base records first all =
+      let saved : AllByRecursion IsNamed (named_of_base l.base) =
+      map_all IsNamed (λ w. record { unit = None; written = w }) l.base.writes (subst (λ (o : LogBase). AllByRecursion P o.writes) (sym base) first) in
+      let later : AllByRecursion IsNamed (named_by l.records) =
+      subst (λ (rs : List CommitRecord). AllByRecursion IsNamed (named_by rs)) (sym records) (to_named log (each_list P (λ (c : Commit). c.logged.writes) log all)) in
+      map_all P place_named (named_by_grain (named_in l)) (all_in_order IsNamed (named_in l) (both_parts IsNamed (named_of_base l.base) (named_by l.records) saved later))
+
+-- what a log begins with lies in the grains' files
+saved_within : (live : ℕ) (p : Program) (image : Image) (ss : List Saved) → AllByRecursion (IsSaved live p image) ss → AllByRecursion (λ w. write_end w ≤ length (image (Grain live w.grain))) (map (λ (s : Saved). s.write) ss)
+saved_within live p image [] all = tt
+saved_within live p image (s ∷ ss) all = (stands_within live (shape_in p) image s.unit s.write s.state all.0.stands, saved_within live p image ss all.1)
+
+base_within : (live : ℕ) (p : Program) (image : Image) (b : Beginning) → BeginsWhole live p image b → AllByRecursion (λ w. write_end w ≤ length (image (Grain live w.grain))) (read_base b).writes
+base_within live p image Fresh whole = tt
+base_within live p image (From ck) whole = saved_within live p image (saved_by ck) whole.each
+
+-- what is read of a log begins with what it begins with
+base_read : (live : ℕ) (image : Image) (log : Log) (is : IsLogIn live image log) → (read_in live image log is).l.base ≡ read_base is.stands.begins
+base_read live image log is = (let r = read_in live image log is in ap (λ (l : LogRead). l.base) (read_is live image log is r.l r.read))
 
 -- ---- the ends
 
@@ -105,20 +145,54 @@ module _ (o : Outset) (x : Opened) (st : Started) (seen : Image) (is : IsOpenedF
   abbrev writer : BatchWriter
   writer = st.settler.writer
 
-  ends_are : file_end writer ≡ raised_ends from_zero (places_read (records_of o.opening))
-  ends_are = λ i grain. (start.ends grain ∙ ap (λ (e : Option ℕ). unwrap_or e 0) (is.ends grain)
-      ∙ end_is (named_by_grain (named_by (map (λ c. c.logged) (records_of is.log)))) grain None from_zero refl
-      ∙ ap (λ (l : Log). raised_ends from_zero (places_read (records_of l)) grain) (sym opening)) i
+  abbrev places : List Written
+  places = places_read is.read
 
-  below : AreBelow (file_end writer) (records_of o.opening)
-  below = subst (λ (e : GrainId → ℕ). AreBelow e (records_of o.opening)) (sym ends_are)
-      (all_named (IsBelow (raised_ends from_zero (places_read (records_of o.opening)))) (records_of o.opening) (raised_each from_zero (places_read (records_of o.opening))))
+  ends_are : file_end writer ≡ raised_ends from_zero places
+  ends_are = λ i grain. (start.ends grain ∙ ap (λ (e : Option ℕ). unwrap_or e 0) (is.ends grain) ∙ end_is (named_by_grain (named_in is.read)) grain None from_zero refl) i
 
-  long : (image : Image) → IsLog o.live image o.opening → (grain : GrainId) → file_end writer grain ≤ length (image (Grain o.live grain))
-  long image has grain = subst (λ (e : GrainId → ℕ). e grain ≤ length (image (Grain o.live grain))) (sym ends_are)
-      (raised_long o.live image from_zero (places_read (records_of o.opening)) (λ g. omega arith)
-      (all_read (λ (w : Written). write_end w ≤ length (image (Grain o.live w.grain))) (records_of o.opening)
-      (kept_within o.live (shape_in has.is.stands.program) image (records_of o.opening) (kept_are o.live has.is.stands.program image o.opening.entries has.is.stands.kept))) grain)
+  all_below : AllByRecursion (λ n. IsBelow (file_end writer) n.written) (named_in is.read)
+  all_below = subst (λ (e : GrainId → ℕ). AllByRecursion (λ n. IsBelow e n.written) (named_in is.read)) (sym ends_are)
+      (all_named (IsBelow (raised_ends from_zero places)) is.read (raised_each from_zero places))
+
+  -- an image with the log and the manager file that was read
+  module _ (image : Image) (has : IsLog o.live image o.opening) (same : image (Manager o.live) ≡ seen (Manager o.live)) where
+    abbrev r : IsReadIn o.live has.is.stands.program image o.opening
+    r = read_in o.live image o.opening has.is
+
+    program_is : has.is.stands.program ≡ program_in x
+    program_is = sym (program_in_force o.opening.base o.opening.entries ∙ ap (λ (s : Standing). s.program) has.is.stands.base ∙ program_begins has.is.stands.program has.is.stands.begins)
+        ∙ ap (λ (l : Log). (standing_of l).program) opening ∙ is.program
+
+    file_is : image (Manager o.live) ≡ seen (Manager x.slot)
+    file_is = same ∙ ap (λ (n : ℕ). seen (Manager n)) slot
+
+    -- reads as the log that was read
+    log_is : r.l ≡ is.read
+    log_is = let read : Ok r.l ≡ Ok is.read = sym r.read ∙ (λ i. log_in_file One (shape_in (program_is i)) (file_is i)) ∙ is.read_as in cc
+
+    named_below : AllByRecursion (λ n. IsBelow (file_end writer) n.written) (named_in r.l)
+    named_below = subst (λ (l : LogRead). AllByRecursion (λ n. IsBelow (file_end writer) n.written) (named_in l)) (sym log_is) all_below
+
+    below : AreBelow (file_end writer) (records_of o.opening)
+    below = of_records (IsBelow (file_end writer)) r.l (records_of o.opening) r.records named_below
+
+    base_below : AreNamedBy (IsBelow (file_end writer)) has.is.stands.begins
+    base_below = of_base (IsBelow (file_end writer)) r.l has.is.stands.begins (base_read o.live image o.opening has.is) named_below
+
+    within : AllByRecursion (λ w. write_end w ≤ length (image (Grain o.live w.grain))) places
+    within = subst (λ (l : LogRead). AllByRecursion (λ w. write_end w ≤ length (image (Grain o.live w.grain))) (places_read l)) log_is
+        (all_read (λ (w : Written). write_end w ≤ length (image (Grain o.live w.grain))) r.l has.is.stands.begins (records_of o.opening) (base_read o.live image o.opening has.is) r.records
+        (base_within o.live has.is.stands.program image has.is.stands.begins has.is.stands.whole)
+        (kept_within o.live (shape_in has.is.stands.program) image (records_of o.opening) (kept_are o.live has.is.stands.program image o.opening.entries has.is.stands.kept)))
+
+    long : (grain : GrainId) → file_end writer grain ≤ length (image (Grain o.live grain))
+    long grain = subst (λ (e : GrainId → ℕ). e grain ≤ length (image (Grain o.live grain))) (sym ends_are) (raised_long o.live image from_zero places (λ g. omega arith) within grain)
+
+  -- the log stands in an image up to this closed gate, and all that it begins with ends at most where the writer's ends are
+  abbrev RestsUpTo : Image → List (List ℕ) → ℕ → Type 0
+  RestsUpTo image bodies gate =
+      (s : StandsUpTo o.live image o.opening bodies gate) × (slice_index (image (Manager o.live)) gate ≢ 1) × AreNamedBy (IsBelow (file_end writer)) s.begins
 
   -- Where nothing is pending in the manager file and each image has the log, the writer keeps the folder so.
   pub starts_resting : (r : Run) (disk : Disk) → disk (Manager o.live) ≡ settled (seen (Manager o.live)) → (o.world.disk (Manager o.live)).seen ≡ seen (Manager o.live) → IsImage disk seen → AllLog o.live o.opening disk → KeepsFolder o (take 15 (seen (Manager o.live))) no_books r writer disk
@@ -128,10 +202,8 @@ module _ (o : Outset) (x : Opened) (st : Started) (seen : Image) (is : IsOpenedF
     log = sym (grown_none o.opening);
     keeps = record {
       named = record {
-        is_live = λ image silo. record { slot = own.is_live.slot; silo = silo };
-        silo = silo_begins (seen (Manager o.live)) own.is_live.silo own.is.stands.header;
         shape_is = ap shape_in (sym in_force);
-        below = below;
+        below = below seen own refl;
       };
       images = each;
     };
@@ -156,10 +228,15 @@ module _ (o : Outset) (x : Opened) (st : Started) (seen : Image) (is : IsOpenedF
           let has : IsLog o.live image o.opening = all image image_is in
           let logs : LogsUpTo has.is.bodies has.is.gate (image (Manager o.live)) = record { blocks = has.is.stands.stand; closed = has.is.closed } in
           let one = one_log has.is.bodies own.is.bodies has.is.gate own.is.gate (seen (Manager o.live)) (subst (LogsUpTo has.is.bodies has.is.gate) (same image image_is) logs) own_logs in
+          let at : RestsUpTo image own.is.bodies writer.gate_at =
+          subst (λ (n : ℕ). RestsUpTo image own.is.bodies n) (one.1 ∙ gate)
+          (subst (λ (bodies : List (List ℕ)). RestsUpTo image bodies has.is.gate) one.0 (has.is.stands, has.is.closed, base_below image has (same image image_is))) in
           record {
+            is_live = has.is_live;
             header = ap (take 15) (same image image_is);
-            stands = subst (λ (n : ℕ). StandsUpTo o.live image o.opening own.is.bodies n) (one.1 ∙ gate) (subst (λ (bodies : List (List ℕ)). StandsUpTo o.live image o.opening bodies has.is.gate) one.0 has.is.stands);
-            closed = subst (λ (n : ℕ). slice_index (image (Manager o.live)) n ≢ 1) (one.1 ∙ gate) has.is.closed;
-            long = long image has;
+            stands = at.0;
+            closed = at.1;
+            begun = at.2;
+            long = long image has (same image image_is);
             stand = subst (AllByRecursion (StandsIn o.live (shape_in o.program) image)) (sym start.kept) tt;
           }

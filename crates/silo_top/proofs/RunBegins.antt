@@ -1,5 +1,5 @@
 -- A run that has just opened its folder is under way: no line was asked yet.
-use Rattle.std.proofs.Common.{◌≡◌, ℕ, ◌<◌, ◌≤◌, Bool, true, false, IsTrue, true≢false, List, [], length, refl, sym, ◌∙◌, ap, subst, arith, append-nil}
+use Rattle.std.proofs.Common.{◌≡◌, ℕ, ◌<◌, Bool, true, false, IsTrue, true≢false, List, [], length, refl, sym, ◌∙◌, ap, subst, arith, append-nil}
 use Rattle.std.specs.Prelude.{take}
 use Rattle.host_trait.specs.declared.channels.Channel.{Channel}
 use Rattle.host_trait.specs.declared.channels.Channel.TheVariants.{Input, Output}
@@ -46,7 +46,7 @@ is_true = cc
 -- what the opening tells, where the host tells: the program text and the log
 was_opened : (tells : Bool) (old mid : World) (x : Opened) → (IsTrue tells → IsBehindOpening old mid x) → (IsTrue tells → ReadsMayStay mid) → (text : List ℕ) × (log : Log) × (IsTrue tells → WasOpened old mid x text log)
 was_opened true old mid x behind stays = (
-  (behind is_true).opened.text,
+  x.text,
   (behind is_true).opened.log,
   λ told. record { behind = behind is_true; text_is = refl; log_is = refl; stays = stays is_true },
 )
@@ -110,7 +110,7 @@ module _ (tells : Bool) (m : Manner) (x : Opened) (st : Started) (old mid : Worl
         (λ image image_is. ap (take 15) (settled_only (old.disk (Manager x.slot)).seen (image (Manager x.slot)) (subst (λ (f : FileState). MayLeave f (image (Manager x.slot))) is.settled (image_is (Manager x.slot)))))
         (λ sure. starts_resting o x st (seen_in old.disk) is.opened start (sym w.log_is) (in_force w.log_is w.text_is) refl r0 mid.disk is.settled (ap (λ (f : FileState). f.seen) is.settled) (seen_left x old mid is w.stays) all)
       where
-        in_force : is.opened.log ≡ log → is.opened.text ≡ text → (standing_of log).program ≡ o.program
+        in_force : is.opened.log ≡ log → x.text ≡ text → (standing_of log).program ≡ o.program
         in_force a b = ap (λ (l : Log). (standing_of l).program) (sym a) ∙ is.opened.program ∙ ap (λ (t : List ℕ). record { text = t; types = types }) b
 
     pub begins_images : KeepsImages old o no_books (stage_by (run_of st.core) st.settler counts mid)

@@ -92,7 +92,7 @@ told : IsTrue true
 told = cc
 
 module _ (m : Manner) (x : Opened) (asked : List (List ℕ)) (old mid new : World) (before after : Channel → ℕ) (status : Status) (b : Books) (r' : Run) (s' : Settler) (is : IsBehindOpening old mid x) (stay_mid : ReadsMayStay mid) (stay_new : ReadsMayStay new)
-    (leaves : RunLeaves m (outset_of m x is.opened.text is.opened.log asked before mid) b r' s' (observed_run m old new before after status)) where
+    (leaves : RunLeaves m (outset_of m x x.text is.opened.log asked before mid) b r' s' (observed_run m old new before after status)) where
   abbrev p : Program
   p = program_of is.opened
 
@@ -100,7 +100,7 @@ module _ (m : Manner) (x : Opened) (asked : List (List ℕ)) (old mid new : Worl
   log = is.opened.log
 
   abbrev so_far : Outset
-  so_far = outset_of m x is.opened.text log asked before mid
+  so_far = outset_of m x x.text log asked before mid
 
   -- the lines of the input behind those so far
   abbrev rest : List (List ℕ)

@@ -1,5 +1,5 @@
 -- A run goes on with the next window of its input, or to its end.
-use Rattle.std.proofs.Common.{◌≡◌, ◌≢◌, inl, inr, ◌⊎◌, ℕ, ◌+◌, ◌%◌, ◌<◌, ◌≤◌, ◌==◌, Bool, true, false, IsTrue, List, [], ◌++◌, length, Option, Result, Ok, Err, refl, sym, ◌∙◌, ap, subst, arith, append-nil, append_assoc, length-append}
+use Rattle.std.proofs.Common.{◌≡◌, ◌≢◌, inl, inr, ◌⊎◌, ℕ, ◌%◌, ◌<◌, ◌≤◌, ◌==◌, Bool, true, false, IsTrue, List, [], ◌++◌, length, Option, Result, Ok, Err, refl, sym, ◌∙◌, ap, subst, arith, append-nil, append_assoc, length-append}
 use Rattle.std.specs.Prelude.{take, not, IfOk}
 use Rattle.host_trait.specs.declared.channels.Channel.{Channel}
 use Rattle.host_trait.specs.declared.channels.Channel.TheVariants.{Input, Output, File}
@@ -97,6 +97,7 @@ module _ (tells : Bool) (pulled : List ℕ) (asked : List (List ℕ)) (now : Wor
   carried_by ending.AlreadyASilo a = absurd a
   carried_by (ending.Damaged file place) a = absurd a
   carried_by (ending.BadProgram fault) a = absurd a
+  carried_by ending.LastGeneration a = absurd a
   carried_by (ending.InputTooLong line) a = tt
 
   no_file : (e : Ending) → EndsAs e tells pulled asked now → IsDiskFault e → ⊥
@@ -110,6 +111,7 @@ module _ (tells : Bool) (pulled : List ℕ) (asked : List (List ℕ)) (now : Wor
   no_file ending.AlreadyASilo a d = absurd a
   no_file (ending.Damaged file place) a d = absurd a
   no_file (ending.BadProgram fault) a d = absurd a
+  no_file ending.LastGeneration a d = absurd a
   no_file (ending.InputTooLong line) a d = absurd d
 
   good_by : (e : Ending) → EndsAs e tells pulled asked now → e ≢ ending.BadUse
@@ -123,6 +125,7 @@ module _ (tells : Bool) (pulled : List ℕ) (asked : List (List ℕ)) (now : Wor
   good_by ending.AlreadyASilo a q = absurd a
   good_by (ending.Damaged file place) a q = absurd a
   good_by (ending.BadProgram fault) a q = absurd a
+  good_by ending.LastGeneration a q = absurd a
   good_by (ending.InputTooLong line) a q = cc q
 
   -- no other channel's count has changed, and the input's hasn't fallen
@@ -143,6 +146,7 @@ module _ (tells : Bool) (pulled : List ℕ) (asked : List (List ℕ)) (now : Wor
       by ending.AlreadyASilo a n = absurd a
       by (ending.Damaged file place) a n = absurd a
       by (ending.BadProgram fault) a n = absurd a
+      by ending.LastGeneration a n = absurd a
       by (ending.InputTooLong line) a n = calm n
 
   -- a failed pull is shown by its count, and no other fault of the input is passed over
@@ -157,6 +161,7 @@ module _ (tells : Bool) (pulled : List ℕ) (asked : List (List ℕ)) (now : Wor
   risen_by old f f' same ending.AlreadyASilo a n = absurd a
   risen_by old f f' same (ending.Damaged file place) a n = absurd a
   risen_by old f f' same (ending.BadProgram fault) a n = absurd a
+  risen_by old f f' same ending.LastGeneration a n = absurd a
   risen_by old f f' same (ending.InputTooLong line) a n = tt
 
   named_by : (old f f' : Counts) → f Input ≡ old Input → (e : Ending) → EndsAs e tells pulled asked now → HasFailedAs e f f' → f' Input ≢ old Input → e ≡ ending.ReadFault
@@ -170,6 +175,7 @@ module _ (tells : Bool) (pulled : List ℕ) (asked : List (List ℕ)) (now : Wor
   named_by old f f' same ending.AlreadyASilo a n other = absurd a
   named_by old f f' same (ending.Damaged file place) a n other = absurd a
   named_by old f f' same (ending.BadProgram fault) a n other = absurd a
+  named_by old f f' same ending.LastGeneration a n other = absurd a
   named_by old f f' same (ending.InputTooLong line) a n other = absurd (other (n Input ∙ same))
 
   -- the lines of the windows that stand whole are some windows'
@@ -202,6 +208,7 @@ module _ (m : Manner) (old now : World) (before after : Counts) (status : Status
   allowed_by ending.AlreadyASilo a = absurd a
   allowed_by (ending.Damaged file place) a = absurd a
   allowed_by (ending.BadProgram fault) a = absurd a
+  allowed_by ending.LastGeneration a = absurd a
   allowed_by (ending.InputTooLong line) a = record {
     number = a.number;
     first = ap (λ (l : List ℕ). first_bad 0 (lines_of l)) (i.whole is_told) ∙ a.bad now.input;
@@ -224,13 +231,13 @@ module _ (m : Manner) (old now : World) (before after : Counts) (status : Status
 -- the program text and the log that an opening tells of are these
 module _ (tells : Bool) (m : Manner) (x : Opened) (asked : List (List ℕ)) (before : Counts) (old mid : World) (b : Books) (used : ℕ) (s : Stage) where
   between_opened : (text : List ℕ) (log : Log) (w : WasOpened old mid x text log) → IsBetween tells (outset_of m x text log asked before mid) b used s
-      → IsBetween tells (outset_of m x w.behind.opened.text w.behind.opened.log asked before mid) b used s
+      → IsBetween tells (outset_of m x x.text w.behind.opened.log asked before mid) b used s
   between_opened text log w between =
       subst (λ (t : List ℕ). IsBetween tells (outset_of m x t w.behind.opened.log asked before mid) b used s) (sym w.text_is)
       (subst (λ (l : Log). IsBetween tells (outset_of m x text l asked before mid) b used s) (sym w.log_is) between)
 
   images_opened : (text : List ℕ) (log : Log) (w : WasOpened old mid x text log) → KeepsImages old (outset_of m x text log asked before mid) b s
-      → KeepsImages old (outset_of m x w.behind.opened.text w.behind.opened.log asked before mid) b s
+      → KeepsImages old (outset_of m x x.text w.behind.opened.log asked before mid) b s
   images_opened text log w images =
       subst (λ (t : List ℕ). KeepsImages old (outset_of m x t w.behind.opened.log asked before mid) b s) (sym w.text_is)
       (subst (λ (l : Log). KeepsImages old (outset_of m x text l asked before mid) b s) (sym w.log_is) images)
@@ -239,7 +246,7 @@ module _ (tells : Bool) (m : Manner) (x : Opened) (asked : List (List ℕ)) (bef
 
 module _ (m : Manner) (x : Opened) (asked : List (List ℕ)) (before f f' : Counts) (old mid now now' : World) (b : Books) (used : ℕ) (r : Run) (s : Settler) (status : Status) (is : IsBehindOpening old mid x) where
   abbrev o : Outset
-  o = outset_of m x is.opened.text is.opened.log asked before mid
+  o = outset_of m x x.text is.opened.log asked before mid
 
   -- what the run leaves then
   ends_leaves : IsBetween true o b used (stage_by r s f now) → KeepsImages old o b (stage_by r s f now) → PulledOnly now now' → InputEnds true old.input asked (status_ending status) now' → HasFailedAs (status_ending status) f f'

@@ -72,16 +72,18 @@ starved_promised m w counts = unopened_promised m (observed_run m w w counts cou
 pub starved_made : (m : Manner) (asked : List (List ℕ)) (w : World) (counts : Channel → ℕ) → MakesSilo (observed_call m asked w w counts counts Status.Memory)
 starved_made m asked w counts = record {
   beside = started (IsBeside w) w.past;
-  beside_now = record { output = refl; others = λ file one two. refl };
-  makes = inl (nothing_touched w);
+  beside_now = record { output = refl; other = inl refl; others = λ file one two three. refl };
+  makes = λ shows. inl (nothing_touched w);
+  shows = λ shows. shows;
   ends_as = nothing_touched w;
   risen = tt;
 }
 
 pub starved_unmade : (m : Manner) (asked : List (List ℕ)) (w : World) (counts : Channel → ℕ) → IsUnmade (observed_call m asked w w counts counts Status.Memory)
 starved_unmade m asked w counts = record {
-  beside = record { input = refl; moments = started (IsBeside w) w.past; now = record { output = refl; others = λ file one two. refl } };
-  makes = inl (nothing_touched w);
+  beside = record { input = refl; moments = started (IsBeside w) w.past; now = record { output = refl; other = inl refl; others = λ file one two three. refl } };
+  makes = λ shows. inl (nothing_touched w);
+  shows = λ shows. shows;
   ends_as = nothing_touched w;
   failed = λ channel. refl;
 }

@@ -169,7 +169,7 @@ module _ {T : Type 0} (n seed : ℕ) (m : Manner) (x : Opened) (st : Started) (o
 
   -- it opened the bank program, with an empty log
   pub same : (p ≡ bank_of (program_tree x.checked)) × (log ≡ new_log (bank_of (program_tree x.checked)))
-  same = opened_same (program_tree x.checked) reads x (seen_in old.disk) (bank (seen_in old.disk) is.stays) is.opened
+  same = opened_same (program_tree x.checked) reads x old bank is.stays is.opened
 
   pub checked : IsChecked p
   checked = subst IsChecked (sym same.0) (bank_checked (program_tree x.checked) reads)

@@ -3,12 +3,16 @@ use Rattle.std.specs.Prelude.{◌≡◌, ◌⊎◌, ◌+◌, ◌≤◌, ℕ, Lis
 use Rattle.base_types.specs.Stores.{end_in}
 use Rattle.base_types.specs.declared.calls.GrainId.{GrainId}
 use Rattle.core_model.specs.CoreState.{Member}
+use Rattle.host_trait.specs.declared.channels.FileId.{FileId}
 use Rattle.host_trait.specs.declared.channels.FileId.TheVariants.{Manager, Grain}
+use Rattle.host_trait.specs.Disk.{MayLeave}
 use Rattle.gate_block.specs.Gates.{IsClosedAt}
+use Rattle.log_reading.specs.Steps.{seen_in}
 use Rattle.silo_opening.specs.declared.faults.CreateFault.{CreateFault}
 use Rattle.silo_opening.specs.declared.opened_silo.Opened.{Opened}
 use Rattle.host_trait.specs.World.{World, Moment, Image, IsImage}
-use Rattle.silo_spec.specs.Silos.{manager, IsSilo, IsNewSilo}
+use Rattle.silo_spec.specs.Silos.{IsNewSilo}
+use Rattle.silo_spec.specs.Slots.{IsLive, IsSiloImage, ShowsSilos}
 use Rattle.silo_spec.specs.Creation.{StaysBeside, IsNewAt, FromFirstSync}
 use Rattle.promise_spec.specs.Logs.{magic, IsPrefix}
 use Rattle.promise_spec.specs.Endings as ending
@@ -18,17 +22,22 @@ use Rattle.run_books.specs.declared.faults.RunFault.TheVariants.{InDoubt, WriteF
 use Rattle.promise_spec.specs.Refusals.{IsUnopened}
 use Rattle.promise_spec.specs.Loads.{bank_text, KeepsLoad}
 
--- each image is a silo of the bank program with an empty log
-abbrev pub IsNewBank : World → Type 0
-IsNewBank w = (image : Image) → IsImage w.disk image → IsNewSilo magic bank_text image
+-- Each image is a silo of the bank program with an empty log, in slot 0, and no manager file that reads too short is a silo's.
+pub record IsNewBank (w : World) : Type 0 where
+  pub each : (image : Image) → IsImage w.disk image → IsNewSilo magic bank_text image
+  pub live : (image : Image) → IsImage w.disk image → IsLive magic 0 image
+  pub shows : ShowsSilos magic w.disk
 
--- a silo of the bank program was made, where there was none
+-- A silo of the bank program was made, where the folder read as none. It is the live one, where no manager file that read too short
+-- was a silo's.
 pub record IsMadeFrom (old made : World) : Type 0 where
-  pub absent : IsSilo magic (old.disk manager).seen → ⊥
+  pub absent : IsSiloImage magic (seen_in old.disk) → ⊥
   pub beside : StaysBeside old made
-  pub makes : FromFirstSync (IsNewAt magic bank_text) old made
-  pub new : IsNewBank made
-  pub syncs : (old.syncs + 4 ≤ made.syncs) × (made.syncs ≤ old.syncs + 5)
+  pub makes : ShowsSilos magic old.disk → FromFirstSync (IsNewAt magic bank_text) old made
+  pub each : (image : Image) → IsImage made.disk image → IsNewSilo magic bank_text image
+  pub bank : ShowsSilos magic old.disk → IsNewBank made
+  pub stays : (file : FileId) → MayLeave (made.disk file) (made.disk file).seen
+  pub syncs : (old.syncs + 4 ≤ made.syncs) × (made.syncs ≤ old.syncs + 6)
 
 -- What a load does behind the making of its silo: it doesn't open it, or takes a course that keeps the promise of a load, of the
 -- bank program.

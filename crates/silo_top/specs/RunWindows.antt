@@ -32,7 +32,7 @@ use Rattle.silo_top.specs.declared.status.Status.{Status}
 -- over a host that tells, the silo that was opened has this program text and this log, and reads may stay
 pub record WasOpened (old mid : World) (x : Opened) (text : List ℕ) (log : Log) : Type 0 where
   pub behind : IsBehindOpening old mid x
-  pub text_is : behind.opened.text ≡ text
+  pub text_is : x.text ≡ text
   pub log_is : behind.opened.log ≡ log
   pub stays : ReadsMayStay mid
 

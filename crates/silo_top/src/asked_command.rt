@@ -42,6 +42,8 @@ pub(crate) enum Asked {
         starts: u32,
         seed: u64,
     },
+    /// To write the next generation of the silo.
+    Compact,
 }
 
 /// The picks of an option, none where it isn't given.
@@ -66,11 +68,11 @@ fn run_carriage(alloc: Global, options: RunOptions) -> Carriage
     ensures { result ≡ carriage_of (run_chosen options) }
 {
     match options.workers {
-        Some(workers) => return Carriage::Workers(workers),
+        Some(workers) => Carriage::Workers(workers),
         None => {
             let width = width_of(options.width);
             let picks = picks_of(alloc, options.turns);
-            return Carriage::Turns { width, picks };
+            Carriage::Turns { width, picks }
         }
     }
 }
@@ -80,11 +82,11 @@ fn load_carriage(alloc: Global, options: LoadOptions) -> Carriage
     ensures { result ≡ carriage_of (load_chosen options) }
 {
     match options.workers {
-        Some(workers) => return Carriage::Workers(workers),
+        Some(workers) => Carriage::Workers(workers),
         None => {
             let width = width_of(options.width);
             let picks = List::new(alloc);
-            return Carriage::Turns { width, picks };
+            Carriage::Turns { width, picks }
         }
     }
 }
@@ -118,5 +120,6 @@ pub(crate) fn read_asked(alloc: Global, words: &[String]) -> Result<Asked, Words
             starts: numbers.starts,
             seed: numbers.seed,
         }),
+        Words::Compact => Ok(Asked::Compact),
     }
 }

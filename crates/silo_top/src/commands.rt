@@ -11,6 +11,7 @@ ghost use Rattle.silo_top.specs.Statuses.{status_ending};
 
 use crate::asked_command::{Asked, Carriage, read_asked};
 use crate::check_command::check;
+use crate::compact_command::compact;
 use crate::load_command::{load_by_workers, load_in_turns};
 use crate::report_commands::{audit, history, show};
 use crate::run_command::{run_by_workers, run_in_turns};
@@ -113,6 +114,7 @@ pub fn run_alone<H: Host, G: Gate>(
             workers,
         }),
         Ok(Asked::Check { starts, seed }) => Ok(check(alloc, host, starts, seed)),
+        Ok(Asked::Compact) => Ok(compact(alloc, host)),
         Err(WordsFault::BadUse) => Ok(Status::BadUse),
         Err(WordsFault::Memory) => Ok(Status::Memory),
     }
@@ -121,8 +123,8 @@ pub fn run_alone<H: Host, G: Gate>(
 /// Does all that the program does, and answers how it ended.
 ///
 /// `words` are those of the command line after the folder: `init`, `run` with a width and picks or with workers, `show`,
-/// `history`, `audit`, `load` with two numbers and a width or workers, or `check` with two numbers. All else is `BadUse`, and nothing
-/// is done then.
+/// `history`, `audit`, `load` with two numbers and a width or workers, `check` with two numbers, or `compact`. All else is `BadUse`,
+/// and nothing is done then.
 ///
 /// `init` reads a program's text from the input, and makes the folder a silo of it with an empty log.
 ///

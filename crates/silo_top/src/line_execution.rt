@@ -44,8 +44,8 @@ pub(crate) fn carry_in_turns<H: Host, G: Gate, L: Lines + Copy>(
     match run_turns(
         alloc, checked, &mut core, settler, &mut lines, host, gate, width, picks, used,
     ) {
-        Ok(()) => return Ok(core),
-        Err(fault) => return Err(fault),
+        Ok(()) => Ok(core),
+        Err(fault) => Err(fault),
     }
 }
 
@@ -90,7 +90,7 @@ pub(crate) fn carry_by_workers<
         Ok(()) => {}
     }
     match back {
-        Some(core) => return Ok(core),
+        Some(core) => Ok(core),
         None => unreachable!(),
     }
 }

@@ -130,6 +130,8 @@ fn begin_load<H: Host>(
     let opened = match open_silo(alloc, host) {
         Ok(opened) => Opened {
             slot: opened.slot,
+            generation: opened.generation,
+            text: opened.text,
             checked: bank,
             count: opened.count,
             store: opened.store,

@@ -1,8 +1,8 @@
 ghost use Rattle.std.specs.Prelude.{◌≡◌, IsTrue};
 ghost use Rattle.host_trait.specs.Files.{StaysReady};
 ghost use Rattle.promise_spec.specs.Words as command;
-ghost use Rattle.promise_spec.specs.Reports.{show_text, history_text};
-ghost use Rattle.promise_spec.specs.Commands.{Reports, Audits};
+ghost use Rattle.promise_spec.specs.Reports.{history_text};
+ghost use Rattle.promise_spec.specs.Commands.{Reports, ShowsStates, Audits};
 ghost use Rattle.promise_spec.specs.Endings.{HasFailedAs, BadUse};
 ghost use Rattle.log_audit.specs.Endings.{report_ending};
 ghost use Rattle.silo_top.specs.CallAnswers.{shown};
@@ -27,9 +27,9 @@ fn report_status(ended: Result<(), ReportFault>) -> Status
     }
 }
 
-/// Writes the state of each grain that the log wrote.
+/// Writes the state of each grain that the log names.
 pub(crate) fn show<H: Host>(alloc: Global, host: &mut H) -> Status
-    ensures reports { IsTrue H.tells → Reports show_text
+    ensures reports { IsTrue H.tells → ShowsStates
         (shown (H.world host.old) (H.world host.new) (H.faults host.old) (H.faults host.new) result command.Show) }
     ensures exact { HasFailedAs (status_ending result) (H.faults host.old) (H.faults host.new) }
     ensures good { status_ending result ≡ BadUse → ⊥ }

@@ -31,6 +31,7 @@ pub(crate) fn open_status(fault: OpenFault) -> Status
         OpenFault::Damaged { file, place } => Status::Damaged { file, place },
         OpenFault::DiskFault { file } => Status::DiskFault { file },
         OpenFault::Memory => Status::Memory,
+        OpenFault::LastGeneration => Status::LastGeneration,
     }
 }
 

@@ -31,6 +31,8 @@ pub enum Status {
     BadProgram { fault: ProgramFault },
     /// The input is longer than the command takes. `line` is 0 where the limit is one on the whole input.
     InputTooLong { line: u32 },
+    /// No generation follows that of the silo, so that it isn't compacted.
+    LastGeneration,
 }
 
 impl Status {
@@ -50,6 +52,7 @@ impl Status {
             Status::Damaged { .. } => 9,
             Status::BadProgram { .. } => 10,
             Status::InputTooLong { .. } => 11,
+            Status::LastGeneration => 12,
         }
     }
 
@@ -76,6 +79,7 @@ impl Status {
             Status::Damaged { file, place } => damaged_text(alloc, *file, *place),
             Status::BadProgram { fault } => bad_program_text(alloc, *fault),
             Status::InputTooLong { .. } => String::from_str(alloc, "input too long"),
+            Status::LastGeneration => String::from_str(alloc, "last generation"),
         }
     }
 }

@@ -36,3 +36,6 @@ returns-then-first_is-6-clause-said c = only_word (codes "history") c.args.words
 
 pub returns-then-first_is-7-clause-said : goal.returns-then-first_is-7-clause-said
 returns-then-first_is-7-clause-said c = only_word (codes "audit") c.args.words.now c.if-words-ne1.false (sym c.first_is-7.ensures ∙ c.if-first_is-7.true)
+
+pub returns-then-first_is-8-clause-said : goal.returns-then-first_is-8-clause-said
+returns-then-first_is-8-clause-said c = only_word (codes "compact") c.args.words.now c.if-words-ne1.false (sym c.first_is-8.ensures ∙ c.if-first_is-8.true)

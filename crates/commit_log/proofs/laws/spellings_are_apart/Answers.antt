@@ -1,4 +1,4 @@
-use Rattle.commit_log.proofs.SpellingsApart.{writes_apart, records_apart, bodies_apart, blocks_apart}
+use Rattle.commit_log.proofs.SpellingsApart.{writes_apart, records_apart, bodies_apart, blocks_apart, pieces_apart}
 use Rattle.commit_log.proofs.laws.spellings_are_apart.Goals as goal
 
 pub returns-clause-writes : goal.returns-clause-writes
@@ -12,3 +12,6 @@ returns-clause-bodies c = bodies_apart
 
 pub returns-clause-blocks : goal.returns-clause-blocks
 returns-clause-blocks c = blocks_apart
+
+pub returns-clause-pieces : goal.returns-clause-pieces
+returns-clause-pieces c = pieces_apart

@@ -6,13 +6,13 @@ use Rattle.script_tree.specs.Programs.{program_tree}
 use Rattle.log_audit.proofs.RecordLines.{HasCopied}
 use Rattle.log_audit.proofs.records.write_log.Given as goal
 
-abbrev pub invariant-loop-records : goal.invariant-loop-records
-invariant-loop-records g l = record {
+abbrev pub invariant-loop-base : goal.invariant-loop-base
+invariant-loop-base g l = record {
   bound : l.gate_at < 2 ^ 63;
   puts : IsTrue g.H.Host.tells → HasCopied l.shape (program_tree l.checked) ((g.H.Host.world l.fn.host).disk (Manager l.slot)).seen l.gate_at (g.H.Host.world l.fn.host) (g.H.Host.world l.host);
   calm : NoneFailed (g.H.Host.faults l.fn.host) (g.H.Host.faults l.host);
   ready : StaysReady (g.H.Host.is_ready l.fn.host) (g.H.Host.is_ready l.host);
 }
 
-abbrev pub decreases-loop-records : goal.decreases-loop-records
-decreases-loop-records g l = 2 ^ 63 - l.gate_at
+abbrev pub decreases-loop-base : goal.decreases-loop-base
+decreases-loop-base g l = 2 ^ 63 - l.gate_at

@@ -11,6 +11,7 @@ use Rattle.script_tree.specs.Programs.{program_tree}
 use Rattle.script_meaning.specs.Play.{found_in}
 use Rattle.promise_spec.specs.Openings.{commit_of}
 use Rattle.log_audit.specs.Replays.{ReplaysTo}
+use Rattle.log_reading.specs.Versions.{named_by}
 use Rattle.log_audit.specs.RereadFaults.{IsVersionFault}
 use Rattle.log_audit.proofs.Replays.{replayed_none, replayed_found, replayed_next, replayed_all}
 use Rattle.log_audit.proofs.RereadRefusals.{fault_among}
@@ -36,9 +37,9 @@ returns-in_err-found-clause-unread g c =
     let e = c.in_err-found.field-0.0 in
     rw (p.1, p.2) λ told.
     let h = inv.replays told in
-    let here = subst (λ (d : Disk). IsVersionFault c.args.slot shape (seen_in d) (x ∷ []) e) (inv.asked told).disk (c.in_err-found.ensures.unread told) in
+    let here = subst (λ (d : Disk). IsVersionFault c.args.slot shape (seen_in d) (named_by (x ∷ [])) e) (inv.asked told).disk (c.in_err-found.ensures.unread told) in
     let split : xs ≡ h.front ++ ((x ∷ []) ++ drop (i + 1) xs) = h.split ∙ ap (λ (l : List CommitRecord). h.front ++ l) (next_item i xs x c.loop-entry-test.true c.entry-item.is) in
-    subst (λ (l : List CommitRecord). IsVersionFault c.args.slot shape image l e) (sym split) (fault_among c.args.slot shape image h.front (x ∷ []) (drop (i + 1) xs) e here)
+    subst (λ (l : List CommitRecord). IsVersionFault c.args.slot shape image (named_by l) e) (sym split) (fault_among c.args.slot shape image h.front (x ∷ []) (drop (i + 1) xs) e here)
 
 pub returns-in_err-found-clause-asked : goal.returns-in_err-found-clause-asked
 returns-in_err-found-clause-asked g c told = asked_then _ _ _ (c.loop-entry.invariant.asked told) (c.replay.ensures.asked told)

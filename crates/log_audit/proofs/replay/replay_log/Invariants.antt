@@ -6,14 +6,13 @@ use Rattle.host_trait.specs.declared.channels.FileId.TheVariants.{Manager}
 use Rattle.log_reading.specs.Steps.{seen_in}
 use Rattle.script_tree.specs.Programs.{program_tree}
 use Rattle.script_meaning.specs.Play.{found_in}
-use Rattle.log_audit.specs.Replays.{first_states}
 use Rattle.log_audit.proofs.Replays.{HasAudited}
 use Rattle.log_audit.proofs.replay.replay_log.Given as goal
 
 abbrev pub invariant-loop-store : goal.invariant-loop-store
 invariant-loop-store g l = record {
   bound : l.gate_at < 2 ^ 63;
-  audited : IsTrue g.H.Host.tells → HasAudited (program_tree l.checked) l.slot l.shape (seen_in (g.H.Host.world l.fn.host).disk) ((g.H.Host.world l.fn.host).disk (Manager l.slot)).seen (first_states (program_tree l.checked)) l.gate_at (found_in (program_tree l.checked) l.store);
+  audited : IsTrue g.H.Host.tells → HasAudited (program_tree l.checked) l.slot l.shape (seen_in (g.H.Host.world l.fn.host).disk) ((g.H.Host.world l.fn.host).disk (Manager l.slot)).seen l.gate_at (found_in (program_tree l.checked) l.store);
   asked : IsTrue g.H.Host.tells → OnlyAsked (g.H.Host.world l.fn.host) (g.H.Host.world l.host);
   calm : NoneFailed (g.H.Host.faults l.fn.host) (g.H.Host.faults l.host);
   ready : StaysReady (g.H.Host.is_ready l.fn.host) (g.H.Host.is_ready l.host);

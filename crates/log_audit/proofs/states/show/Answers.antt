@@ -5,8 +5,7 @@ use Rattle.silo_opening.specs.OpenedSilo.{IsOpenedFrom}
 use Rattle.silo_opening.proofs.OpeningCalls.{opens_same}
 use Rattle.promise_spec.specs.Openings.{opened_as}
 use Rattle.promise_spec.specs.Endings.{Ending, HasFailedAs}
-use Rattle.promise_spec.specs.Reports.{show_text}
-use Rattle.log_audit.proofs.ShownReports.{failed_then, open_failed, never_bad_use, not_opened, is_reported}
+use Rattle.log_audit.proofs.ShownReports.{failed_then, open_failed, never_bad_use, not_opened, is_shown}
 use Rattle.log_audit.proofs.states.show.Goals as goal
 
 pub returns-in-Ok-clause-reports : goal.returns-in-Ok-clause-reports
@@ -17,8 +16,9 @@ returns-in-Ok-clause-reports g c told manner asked =
     let run = c.in-Ok.ensures.only told in
     let same : seen_in mid.disk ≡ seen_in old.disk = opens_same _ old mid run in
     let o : IsOpenedFrom (seen_in mid.disk) opened = subst (λ (image : Image). IsOpenedFrom image opened) (sym same) (c.in-Ok.ensures.opened told) in
-    inr (is_reported opened.slot old mid (c.in-Ok.ensures.settled told) run show_text o.log manner asked (g.H.Host.world c.write_show.new.host) (g.H.Host.faults c.args.host.now) (g.H.Host.faults c.write_show.new.host) c.write_show.result
-    (ap (λ (image : Image). opened_as image) (sym same) ∙ o.reads) (c.write_show.ensures.puts told o) (c.write_show.ensures.ended told o)
+    let shown = c.write_show.ensures.puts told o in
+    inr (is_shown opened.slot old mid (c.in-Ok.ensures.settled told) run shown.0 o.log manner asked (g.H.Host.world c.write_show.new.host) (g.H.Host.faults c.args.host.now) (g.H.Host.faults c.write_show.new.host) c.write_show.result
+    (ap (λ (image : Image). opened_as image) (sym same) ∙ o.reads) shown.1 shown.2 (c.write_show.ensures.ended told o)
     (failed_then _ _ _ _ c.in-Ok.ensures.calm c.write_show.ensures.exact))
 
 pub returns-in-Ok-clause-exact : goal.returns-in-Ok-clause-exact

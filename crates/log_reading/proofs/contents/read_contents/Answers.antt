@@ -4,7 +4,7 @@ use Rattle.host_trait.specs.World.{Image}
 use Rattle.host_trait.proofs.Runs.{asked_then}
 use Rattle.commit_log.specs.declared.records.Named.{Named}
 use Rattle.log_reading.specs.Steps.{seen_in}
-use Rattle.log_reading.specs.Versions.{named_by, named_by_grain, first_missing}
+use Rattle.log_reading.specs.Versions.{named_in, named_by_grain, first_missing}
 use Rattle.log_reading.specs.Sums.{state_after, end_after, StopsAt}
 use Rattle.log_reading.proofs.StepFaults.{read_refused, versions_refused}
 use Rattle.log_reading.proofs.contents.read_contents.Goals as goal
@@ -16,10 +16,10 @@ returns-in-Ok-read_versions-clause-opened g c told =
     let image = seen_in (g.H.Host.world c.args.host.now).disk in
     let l = c.in-Ok.ensures.log in
     let same : seen_in (g.H.Host.world c.read_log.new.host).disk ≡ image = ap seen_in (c.read_log.ensures.asked told).disk in
-    let order : c.as_slice.result.now ≡ named_by_grain (named_by l.records) = c.as_slice.ensures.value ∙ c.in-Ok-sort_by_grain.ensures ∙ ap named_by_grain (c.into_vec-named.ensures ∙ l.named) in
+    let order : c.as_slice.result.now ≡ named_by_grain (named_in l.log) = c.as_slice.ensures.value ∙ c.in-Ok-sort_by_grain.ensures ∙ ap named_by_grain (c.into_vec-named.ensures ∙ l.named) in
     let v = c.in-Ok-read_versions.ensures in
     record {
-      records = l.records;
+      log = l.log;
       read = l.read told;
       whole = sym (λ i. first_missing c.args.slot format shape (same i) (order i)) ∙ v.found told;
       count = l.count;
@@ -53,8 +53,8 @@ returns-clause-refused g c told =
     let image = seen_in (g.H.Host.world c.args.host.now).disk in
     let l = c.in-Ok.ensures.log in
     let same : seen_in (g.H.Host.world c.read_log.new.host).disk ≡ image = ap seen_in (c.read_log.ensures.asked told).disk in
-    let order : c.as_slice.result.now ≡ named_by_grain (named_by l.records) = c.as_slice.ensures.value ∙ c.in-Ok-sort_by_grain.ensures ∙ ap named_by_grain (c.into_vec-named.ensures ∙ l.named) in
+    let order : c.as_slice.result.now ≡ named_by_grain (named_in l.log) = c.as_slice.ensures.value ∙ c.in-Ok-sort_by_grain.ensures ∙ ap named_by_grain (c.into_vec-named.ensures ∙ l.named) in
     let v = c.in-Err-read_versions.ensures in
-    versions_refused c.args.slot format shape image l.records (l.read told) c.in-Err-read_versions.fault
+    versions_refused c.args.slot format shape image l.log (l.read told) c.in-Err-read_versions.fault
     (λ file place is. sym (λ i. first_missing c.args.slot format shape (same i) (order i)) ∙ v.damaged file place is told)
-    (λ file is. subst (λ (im : Image). StopsAt c.args.slot format shape im (named_by_grain (named_by l.records)) file) same (subst (λ (ns : List Named). StopsAt c.args.slot format shape (seen_in (g.H.Host.world c.read_log.new.host).disk) ns file) order (v.failed file is told)))
+    (λ file is. subst (λ (im : Image). StopsAt c.args.slot format shape im (named_by_grain (named_in l.log)) file) same (subst (λ (ns : List Named). StopsAt c.args.slot format shape (seen_in (g.H.Host.world c.read_log.new.host).disk) ns file) order (v.failed file is told)))

@@ -1,4 +1,4 @@
-use Rattle.std.proofs.Common.{◌+◌, ◌^◌, ◌<◌, ◌++◌, map, List, drop, subst, sym, ap, ◌∙◌}
+use Rattle.std.proofs.Common.{◌+◌, ◌^◌, ◌<◌, ◌++◌, Some, map, List, drop, subst, sym, ap, ◌∙◌}
 use Rattle.std.specs.List.{AllByRecursion}
 use Rattle.commit_log.specs.declared.records.Written.{Written}
 use Rattle.commit_log.specs.declared.records.Named.{Named}
@@ -21,7 +21,7 @@ loop-entry-preserved c =
     let x = c.entry-item.result in
     let next = next_item i xs x c.loop-entry-test.true c.entry-item.is in
     record {
-      named = named_more x (drop (i + 1) xs) (drop i xs) _ _ _ next (c.in_ok-add_named.ensures ∙ ap (λ (l : List Written). c.loop-entry.named ++ map (λ w. let n : Named = record { unit = x.unit; written = w } in n) l) c.as_slice.ensures) c.loop-entry.invariant.named;
+      named = named_more x (drop (i + 1) xs) (drop i xs) _ _ _ next (c.in_ok-add_named.ensures ∙ ap (λ (l : List Written). c.loop-entry.named ++ map (λ w. let n : Named = record { unit = Some x.unit; written = w } in n) l) c.as_slice.ensures) c.loop-entry.invariant.named;
       next = next_more x (drop (i + 1) xs) (drop i xs) _ _ _ next c.next_behind-after.ensures c.loop-entry.invariant.next;
       low = (subst (λ (l : List CommitRecord). AllByRecursion (λ r. r.unit.0 < 2 ^ 63) l) next c.loop-entry.invariant.low).1;
     }

@@ -10,7 +10,7 @@ use Rattle.commit_log.specs.declared.records.CommitRecord.{CommitRecord}
 use Rattle.commit_log.specs.Bodies.{IsRecordIn}
 use Rattle.log_reading.specs.declared.faults.FolderFault.{FolderFault}
 use Rattle.log_reading.specs.Versions.{named_by}
-use Rattle.log_reading.specs.Steps.{next_in}
+use Rattle.log_reading.specs.Steps.{next_in, base_of}
 use Rattle.log_reading.specs.Sums.{next_after}
 use Rattle.log_reading.proofs.Errors.{other_value}
 use Rattle.log_reading.proofs.RecordSums.{weaker_all, low_unit, low_next, high_next}
@@ -18,20 +18,25 @@ use Rattle.log_reading.proofs.BlockLoop.{has_begun, has_more, has_ended, has_bro
 use Rattle.log_reading.proofs.log.read_log.Goals as goal
 
 pub loop-named-init : goal.loop-named-init
-loop-named-init g c = record {
-  bound = omega arith;
-  few = omega arith;
-  high = omega arith;
-  low = omega arith;
-  read = has_begun g.H.Host.tells c.args.format c.args.shape.now ((g.H.Host.world c.args.host.now).disk (Manager c.args.slot)).seen c.new-named.result c.new-named.ensures c.in-Ok.ensures.whole;
-  asked = c.check_header.ensures.asked;
-  calm = c.in-Ok.ensures.calm;
-  ready = c.check_header.ensures.ready;
-}
+loop-named-init g c =
+    let seen = ((g.H.Host.world c.args.host.now).disk (Manager c.args.slot)).seen in
+    let base = c.in-Ok.base in
+    let bound = c.in-Ok.ensures.bound in
+    let count = bound.1.0 in
+    record {
+      bound = bound.0;
+      few = omega (arith, count);
+      high = bound.1.1.0;
+      low = bound.1.1.1;
+      read = has_begun g.H.Host.tells c.args.format c.args.shape.now seen (base_of base) base.gate_at c.in_ok-named.named c.in_ok-named.ensures (λ told. c.in-Ok.ensures.begins told c.args.format);
+      asked = c.read_base.ensures.asked;
+      calm = c.in-Ok.ensures.calm;
+      ready = c.read_base.ensures.ready;
+    }
 
 pub returns-in_err-records-clause-damaged : goal.returns-in_err-records-clause-damaged
 returns-in_err-records-clause-damaged g c =
-    let p = err_from_is_err_and c.from_residual.result c.from_residual.ensures.1 in
+    let p = err_from_is_err_and c.from_residual-in_err-records.result c.from_residual-in_err-records.ensures.1 in
     let inv = c.loop-named.invariant in
     let format = c.args.format in
     let shape = c.args.shape.now in

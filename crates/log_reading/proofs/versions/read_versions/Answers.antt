@@ -1,4 +1,4 @@
-use Rattle.std.proofs.Common.{rules, ◌≡◌, ◌+◌, ℕ, IsTrue, drop, get_or, Some, Ok, Err, refl, sym, ◌∙◌, ap, subst}
+use Rattle.std.proofs.Common.{rules, ◌≡◌, ◌+◌, ℕ, IsTrue, drop, get_or, Some, None, Ok, Err, refl, sym, ◌∙◌, ap, subst}
 use Rattle.std.proofs.lemmas.Result.{err_from_is_err_and}
 use Rattle.host_trait.specs.declared.channels.FileId.{FileId}
 use Rattle.host_trait.specs.declared.channels.FileId.TheVariants.{Grain}
@@ -16,7 +16,7 @@ use Rattle.log_reading.proofs.NamedVersions.{passed_none, passed_more, passed_al
 use Rattle.log_reading.proofs.versions.read_versions.Goals as goal
 
 abbrev no_name : Named
-no_name = record { unit = record { 0 = 0 }; written = record { grain = record { kind = 0; key = 0 }; place = record { offset = 0; len = 0 } } }
+no_name = record { unit = None; written = record { grain = record { kind = 0; key = 0 }; place = record { offset = 0; len = 0 } } }
 
 pub loop-one-init : goal.loop-one-init
 loop-one-init g c = record {

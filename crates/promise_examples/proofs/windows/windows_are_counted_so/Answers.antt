@@ -1,4 +1,4 @@
-use Rattle.std.proofs.Common.{None, refl}
+use Rattle.std.proofs.Common.{refl}
 use Rattle.promise_examples.proofs.CountedWindows.{longest_line, longer_line, ended_lines, bad_line, long_line, read_lines}
 use Rattle.promise_examples.proofs.windows.windows_are_counted_so.Goals as goal
 

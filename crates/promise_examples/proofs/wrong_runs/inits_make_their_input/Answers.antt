@@ -8,7 +8,7 @@ pub returns-clause-text : goal.returns-clause-text
 returns-clause-text c = λ r fault makes. no_program r makes fault
 
 pub returns-clause-again : goal.returns-clause-again
-returns-clause-again c = made_again
+returns-clause-again c = λ r slot makes done low silo. made_again r makes slot done low silo
 
 pub returns-clause-refused : goal.returns-clause-refused
 returns-clause-refused c = λ r p fault makes. checked_refused r makes p fault
@@ -20,4 +20,4 @@ pub returns-clause-empty : goal.returns-clause-empty
 returns-clause-empty c = no_silo_already
 
 pub returns-clause-taken : goal.returns-clause-taken
-returns-clause-taken c = λ r image makes. taken_back r makes image
+returns-clause-taken c = λ r image slot makes is left low some other. taken_back r makes image slot is left low some other

@@ -1,4 +1,5 @@
-use Rattle.promise_laws.proofs.SoundFolders.{obeying_moments, restarts}
+use Rattle.promise_laws.proofs.CallMoments.{obeying_moments}
+use Rattle.promise_laws.proofs.SoundFolders.{restarts, restarts_at}
 use Rattle.promise_laws.proofs.folders.crashes_leave_sound_folders.Goals as goal
 
 pub returns-clause-moments : goal.returns-clause-moments
@@ -6,3 +7,6 @@ returns-clause-moments c = obeying_moments
 
 pub returns-clause-restart : goal.returns-clause-restart
 returns-clause-restart c = restarts
+
+pub returns-clause-restart_at : goal.returns-clause-restart_at
+returns-clause-restart_at c = restarts_at

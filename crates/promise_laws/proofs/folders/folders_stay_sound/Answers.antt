@@ -1,4 +1,5 @@
-use Rattle.promise_laws.proofs.SoundFolders.{run_keeps, reports_keep, audits_keep, bad_use_keeps, init_keeps, init_makes, load_keeps, checks_keep, obeying_keeps}
+use Rattle.promise_laws.proofs.SoundFolders.{run_keeps, shows_keep, reports_keep, audits_keep, bad_use_keeps, init_keeps, init_makes, load_keeps, checks_keep, obeying_keeps}
+use Rattle.promise_laws.proofs.RewrittenFolders.{compact_keeps}
 use Rattle.promise_laws.proofs.folders.folders_stay_sound.Goals as goal
 
 pub returns-clause-run : goal.returns-clause-run
@@ -27,3 +28,9 @@ returns-clause-check c = checks_keep
 
 pub returns-clause-any : goal.returns-clause-any
 returns-clause-any c = obeying_keeps
+
+pub returns-clause-show : goal.returns-clause-show
+returns-clause-show c = shows_keep
+
+pub returns-clause-compact : goal.returns-clause-compact
+returns-clause-compact c = compact_keeps

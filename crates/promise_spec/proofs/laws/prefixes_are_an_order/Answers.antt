@@ -1,4 +1,4 @@
-use Rattle.promise_spec.proofs.Prefixes.{of_itself, over_one_base, back_over_one_base, of_no_entry, saved, shorter, stands, both, then_on}
+use Rattle.promise_spec.proofs.Prefixes.{of_itself, over_one_base, back_over_one_base, of_one_position, saved, shorter, stands, both, then_on}
 use Rattle.promise_spec.proofs.laws.prefixes_are_an_order.Goals as goal
 
 pub returns-clause-same : goal.returns-clause-same
@@ -7,8 +7,8 @@ returns-clause-same c = of_itself
 pub returns-clause-one_base : goal.returns-clause-one_base
 returns-clause-one_base c = λ a b same. (back_over_one_base a b same, over_one_base a b same)
 
-pub returns-clause-no_base : goal.returns-clause-no_base
-returns-clause-no_base c = of_no_entry
+pub returns-clause-one_position : goal.returns-clause-one_position
+returns-clause-one_position c = of_one_position
 
 pub returns-clause-saved : goal.returns-clause-saved
 returns-clause-saved c = saved

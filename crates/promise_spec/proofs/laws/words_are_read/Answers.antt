@@ -1,7 +1,7 @@
 use Rattle.std.proofs.Common.{◌≡◌, ℕ, false, get_or, length, ap, List, [], ◌∷◌, refl, arith, lit<, lit≤}
 use Rattle.std.specs.Fmt.{digits}
-use Rattle.promise_spec.specs.Words.{Width, Turns, Workers, Apart, Joined, Init, Run, Show, History, Audit, Load, Check}
-use Rattle.promise_spec.proofs.Words.{no_run, no_load, no_check}
+use Rattle.promise_spec.specs.Words.{Width, Turns, Workers, Apart, Joined, Init, Run, Show, History, Audit, Load, Check, Compact}
+use Rattle.promise_spec.proofs.Words.{no_run, no_load, no_check, no_compact}
 use Rattle.promise_spec.proofs.laws.words_are_read.Goals as goal
 
 pub returns-clause-run : goal.returns-clause-run
@@ -155,3 +155,10 @@ returns-clause-no_words c takes History said = absurd (cc said)
 returns-clause-no_words c takes Audit said = absurd (cc said)
 returns-clause-no_words c takes (Load n seed m) said = absurd (cc said.words_are)
 returns-clause-no_words c takes (Check n seed) said = absurd (cc said.words_are)
+returns-clause-no_words c takes Compact said = absurd (cc said)
+
+pub returns-clause-compact : goal.returns-clause-compact
+returns-clause-compact c = refl
+
+pub returns-clause-compact_alone : goal.returns-clause-compact_alone
+returns-clause-compact_alone c takes = no_compact _ [] takes

@@ -1,34 +1,34 @@
 use Rattle.std.proofs.Common.{◌+◌, ℕ, length, is_ok, arith, rules}
 use Rattle.host_trait.specs.Disk.{Tears}
 use Rattle.host_trait.proofs.Runs.{run_synced, run_more_syncs}
-use Rattle.silo_spec.specs.Silos.{program_file}
+use Rattle.host_trait.specs.declared.channels.FileId.TheVariants.{Program as ProgramFile}
 use Rattle.silo_opening.proofs.FolderFilling.{length_written, text_written}
 use Rattle.silo_opening.proofs.creation.write_program.Goals as goal
 
 pub returns-in_err-write_at-clause-run : goal.returns-in_err-write_at-clause-run
 returns-in_err-write_at-clause-run g c told =
     let n : ℕ = length c.args.program.now in
-    run_more_syncs program_file (Tears 0 (4 + n)) 0 1 _ _ (omega arith) (length_written c.to_le_bytes-length.result n _ _ (search rules) (c.write_at.ensures.told told) (g.met.H.Host.seen_may_stay c.args.host.now program_file told))
+    run_more_syncs (ProgramFile c.args.slot) (Tears 0 (4 + n)) 0 1 _ _ (omega arith) (length_written c.args.slot c.to_le_bytes-length.result n _ _ (search rules) (c.write_at.ensures.told told) (g.met.H.Host.seen_may_stay c.args.host.now (ProgramFile c.args.slot) told))
 
 pub returns-in_err-write_at-2-clause-run : goal.returns-in_err-write_at-2-clause-run
 returns-in_err-write_at-2-clause-run g c told =
     let n : ℕ = length c.args.program.now in
-    run_more_syncs program_file (Tears 0 (4 + n)) 0 1 _ _ (omega arith)
-    (text_written c.to_le_bytes-length.result n _ _ _ (search rules) (c.write_at.ensures.told told) (g.met.H.Host.seen_may_stay c.args.host.now program_file told) (c.in_ok-write_at.ensures.ok told) (c.write_at-2.ensures.told told)
-    (g.met.H.Host.seen_may_stay c.write_at.new.self program_file told))
+    run_more_syncs (ProgramFile c.args.slot) (Tears 0 (4 + n)) 0 1 _ _ (omega arith)
+    (text_written c.args.slot c.to_le_bytes-length.result n _ _ _ (search rules) (c.write_at.ensures.told told) (g.met.H.Host.seen_may_stay c.args.host.now (ProgramFile c.args.slot) told) (c.in_ok-write_at.ensures.ok told) (c.write_at-2.ensures.told told)
+    (g.met.H.Host.seen_may_stay c.write_at.new.self (ProgramFile c.args.slot) told))
 
 pub returns-in_err-sync-clause-run : goal.returns-in_err-sync-clause-run
 returns-in_err-sync-clause-run g c told =
     let n : ℕ = length c.args.program.now in
-    run_synced program_file (Tears 0 (4 + n)) 0 _ _ _
-    (text_written c.to_le_bytes-length.result n _ _ _ (search rules) (c.write_at.ensures.told told) (g.met.H.Host.seen_may_stay c.args.host.now program_file told) (c.in_ok-write_at.ensures.ok told) (c.write_at-2.ensures.told told)
-    (g.met.H.Host.seen_may_stay c.write_at.new.self program_file told))
-    (is_ok c.sync.result) (c.sync.ensures.told told) (g.met.H.Host.seen_may_stay c.write_at-2.new.self program_file told)
+    run_synced (ProgramFile c.args.slot) (Tears 0 (4 + n)) 0 _ _ _
+    (text_written c.args.slot c.to_le_bytes-length.result n _ _ _ (search rules) (c.write_at.ensures.told told) (g.met.H.Host.seen_may_stay c.args.host.now (ProgramFile c.args.slot) told) (c.in_ok-write_at.ensures.ok told) (c.write_at-2.ensures.told told)
+    (g.met.H.Host.seen_may_stay c.write_at.new.self (ProgramFile c.args.slot) told))
+    (is_ok c.sync.result) (c.sync.ensures.told told) (g.met.H.Host.seen_may_stay c.write_at-2.new.self (ProgramFile c.args.slot) told)
 
 pub returns-clause-run : goal.returns-clause-run
 returns-clause-run g c told =
     let n : ℕ = length c.args.program.now in
-    run_synced program_file (Tears 0 (4 + n)) 0 _ _ _
-    (text_written c.to_le_bytes-length.result n _ _ _ (search rules) (c.write_at.ensures.told told) (g.met.H.Host.seen_may_stay c.args.host.now program_file told) (c.in_ok-write_at.ensures.ok told) (c.write_at-2.ensures.told told)
-    (g.met.H.Host.seen_may_stay c.write_at.new.self program_file told))
-    (is_ok c.sync.result) (c.sync.ensures.told told) (g.met.H.Host.seen_may_stay c.write_at-2.new.self program_file told)
+    run_synced (ProgramFile c.args.slot) (Tears 0 (4 + n)) 0 _ _ _
+    (text_written c.args.slot c.to_le_bytes-length.result n _ _ _ (search rules) (c.write_at.ensures.told told) (g.met.H.Host.seen_may_stay c.args.host.now (ProgramFile c.args.slot) told) (c.in_ok-write_at.ensures.ok told) (c.write_at-2.ensures.told told)
+    (g.met.H.Host.seen_may_stay c.write_at.new.self (ProgramFile c.args.slot) told))
+    (is_ok c.sync.result) (c.sync.ensures.told told) (g.met.H.Host.seen_may_stay c.write_at-2.new.self (ProgramFile c.args.slot) told)

@@ -1,4 +1,4 @@
-use Rattle.std.proofs.Common.{ℕ, ◌≤◌, length, is_ok, arith}
+use Rattle.std.proofs.Common.{◌≤◌, length, is_ok, arith}
 use Rattle.host_trait.specs.declared.channels.FileId.TheVariants.{Manager}
 use Rattle.silo_opening.proofs.OpeningCalls.{opens_settled}
 use Rattle.silo_opening.proofs.opened_silo.settle.Goals as goal

@@ -7,6 +7,7 @@ use Rattle.program_file.specs.Answers.{program_fault_place, IsFaultOf}
 use Rattle.promise_spec.specs.Logs.{magic}
 use Rattle.promise_spec.specs.Commands.{MakesSilo, IsProgramText}
 use Rattle.silo_spec.specs.Silos.{IsNewSilo}
+use Rattle.silo_spec.specs.Slots.{ShowsSilos}
 use Rattle.silo_spec.specs.Creation.{CameThisFar}
 use Rattle.silo_opening.specs.declared.silo_init.InitFault.{InitFault}
 use Rattle.silo_opening.specs.Counts.{CreateFaulted, InitFaulted}
@@ -68,9 +69,10 @@ returns-in-Ok-create-clause-makes g c told manner asked =
       reads = ap program_in same ∙ c.in-Ok-accept.ensures;
     } in
     is_made (Unit {0}) manner asked old mid before after (c.read_input.ensures.disk told) (c.read_input.ensures.output told) (c.read_input.ensures.moments told)
-    new (c.create.ensures.beside told) (subst (λ (t : List ℕ). CameThisFar magic t mid new) (sym again) (c.create.ensures.moments told)) (c.create.ensures.untouched told) reads
-    tt (λ image is. subst (λ (t : List ℕ). IsNewSilo magic t image) (sym again) (c.in-Ok-create.ensures.made told image is))
-    (λ silo. made_no_fault tt _ _ (c.in-Ok-create.ensures.silo told silo))
+    new (c.create.ensures.beside told) (subst (λ (t : List ℕ). ShowsSilos magic mid.disk → CameThisFar magic t mid new) (sym again) (c.create.ensures.moments told)) (c.create.ensures.untouched told) reads
+    (λ file. g.met.H.Host.seen_may_stay c.args.host.now file told) (c.create.ensures.shows told)
+    tt (λ image is. subst (λ (t : List ℕ). IsNewSilo magic t image) (sym again) (c.in-Ok-create.ensures.made told image is)) (c.in-Ok-create.ensures.live told)
+    (λ silo. made_no_fault tt _ _ _ (c.in-Ok-create.ensures.silo told silo))
 
 pub returns-in-Ok-create-clause-calm : goal.returns-in-Ok-create-clause-calm
 returns-in-Ok-create-clause-calm g c = λ channel. c.in-Ok-create.ensures.calm channel ∙ c.in-Ok.ensures.calm channel
@@ -96,9 +98,10 @@ returns-clause-makes g c told manner asked =
     } in
     subst (λ (e : InitFault). MakesSilo (ended_with {A = Unit {0}} manner asked old new before after (failed e))) (sym c.creation_fault.ensures)
     (creation_refused (Unit {0}) manner asked old mid before after (c.read_input.ensures.disk told) (c.read_input.ensures.output told) (c.read_input.ensures.moments told)
-    new (c.create.ensures.beside told) (subst (λ (t : List ℕ). CameThisFar magic t mid new) (sym again) (c.create.ensures.moments told)) (c.create.ensures.untouched told) reads
+    new (c.create.ensures.beside told) (subst (λ (t : List ℕ). ShowsSilos magic mid.disk → CameThisFar magic t mid new) (sym again) (c.create.ensures.moments told)) (c.create.ensures.untouched told) reads
+    (λ file. g.met.H.Host.seen_may_stay c.args.host.now file told) (c.create.ensures.shows told)
     fault (subst (λ (f : Channel → ℕ). CreateFaulted fault f after) (same_counts before between c.in-Ok.ensures.calm) c.in-Err-create.ensures.fault)
-    (λ is. (c.in-Err-create.ensures.already is told, c.in-Err-create.ensures.lasts is told))
+    (λ is. c.in-Err-create.ensures.already is told) (λ is. c.in-Err-create.ensures.lasts is told)
     (c.in-Err-create.ensures.silo told))
 
 pub returns-clause-fault : goal.returns-clause-fault

@@ -1,5 +1,5 @@
 use Rattle.std.proofs.Common.{◌≡◌, ◌∙◌, inr, ℕ, List, Result, Err, false, refl, ap, subst}
-use Rattle.promise_spec.specs.Words.{Command, Init, Run, Show, History, Audit, Load, Check}
+use Rattle.promise_spec.specs.Words.{Command, Init, Run, Show, History, Audit, Load, Check, Compact}
 use Rattle.promise_spec.specs.Calls.{any_option, Understands}
 use Rattle.promise_spec.specs.Endings.{IsCarried, IsLoadCarried}
 use Rattle.promise_spec.proofs.Words.{one_command}
@@ -137,3 +137,13 @@ returns-in-Ok-Load-default-default-Turns-clause-alone g c = inr (without (texts_
 
 pub returns-in-Err-BadUse-clause-alone : goal.returns-in-Err-BadUse-clause-alone
 returns-in-Err-BadUse-clause-alone g c = inr (λ d u. absurd (c.in-Err-BadUse.ensures.bad_use (ap unread c.in-Err-BadUse.field-0-is) d u))
+
+pub returns-in-Ok-Compact-clause-serves : goal.returns-in-Ok-Compact-clause-serves
+returns-in-Ok-Compact-clause-serves g c = λ told. obeyed_serves (texts_of c.args.words.now) Compact (understood (texts_of c.args.words.now) c.in-Ok-Compact.field-0 Asked.Compact c.in-Ok-Compact.field-0-is c.in-Ok-Compact.ensures.asked)
+    (shown (g.H.Host.world c.args.host.now) (g.H.Host.world c.compact.new.host) (g.H.Host.faults c.args.host.now) (g.H.Host.faults c.compact.new.host) c.compact.result) (c.compact.ensures.compacts told)
+
+pub returns-in-Ok-Compact-clause-answers : goal.returns-in-Ok-Compact-clause-answers
+returns-in-Ok-Compact-clause-answers g c = exact_answers (texts_of c.args.words.now) Compact (understood (texts_of c.args.words.now) c.in-Ok-Compact.field-0 Asked.Compact c.in-Ok-Compact.field-0-is c.in-Ok-Compact.ensures.asked) (g.H.Host.faults c.args.host.now) (g.H.Host.faults c.compact.new.host) (status_ending c.compact.result) (λ q. c.compact.ensures.good q) c.compact.ensures.exact
+
+pub returns-in-Ok-Compact-clause-alone : goal.returns-in-Ok-Compact-clause-alone
+returns-in-Ok-Compact-clause-alone g c = inr (without (texts_of c.args.words.now) Compact (understood (texts_of c.args.words.now) c.in-Ok-Compact.field-0 Asked.Compact c.in-Ok-Compact.field-0-is c.in-Ok-Compact.ensures.asked) refl)

@@ -1,7 +1,7 @@
-use Rattle.std.proofs.Common.{rules, ◌≡◌, ◌∙◌, List, refl, ap, length}
+use Rattle.std.proofs.Common.{rules, ◌≡◌, ◌∙◌, refl, ap, length}
 use Rattle.std.specs.Prelude.{is_ok}
 use Rattle.std.proofs.lemmas.Int.{to_z-of_z}
-use mir.Val.{to_z, of_z, SFits}
+use mir.Val.{SFits}
 use mir.Syntax.{w128}
 use Rattle.core_model.specs.LegalRuns.{ends}
 use Rattle.history_core.specs.Cores.{run_of}

@@ -1,5 +1,5 @@
 use denote.Param.Send.{sendable}
-use Rattle.std.proofs.Common.{◌+◌, ◌<◌, ℕ, List, ap, subst, ◌∙◌}
+use Rattle.std.proofs.Common.{ℕ, List, ap, subst, ◌∙◌}
 use Rattle.history_core.specs.Cores.{run_of}
 use Rattle.input_windows.specs.Windows.{before_in}
 use Rattle.request_wire.specs.Lines.{lines_of}

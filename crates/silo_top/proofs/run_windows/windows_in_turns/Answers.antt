@@ -1,4 +1,4 @@
-use Rattle.std.proofs.Common.{◌+◌, ◌-◌, ◌^◌, arith}
+use Rattle.std.proofs.Common.{arith}
 use Rattle.silo_top.proofs.run_windows.windows_in_turns.Goals as goal
 
 pub loop-further-init : goal.loop-further-init

@@ -1,0 +1,214 @@
+-- What `compact` shows of the folder that it opened.
+use Rattle.std.proofs.Common.{◌≡◌, ◌⊎◌, inl, inr, ℕ, ◌+◌, ◌-◌, ◌<◌, ◌≤◌, false, List, [], ◌∷◌, ◌++◌, length, Ok, refl, sym, ◌∙◌, ap, subst, append_assoc}
+use Rattle.std.specs.List.{AllByRecursion}
+use Rattle.std.proofs.lemmas.List.{append_cancel_left}
+use Rattle.base_types.specs.declared.shapes.Shape.{Shape}
+use Rattle.base_types.specs.declared.stores.Version.{Version}
+use Rattle.host_trait.specs.declared.channels.Channel.{Channel}
+use Rattle.host_trait.specs.declared.channels.FileId.{FileId}
+use Rattle.host_trait.specs.declared.channels.FileId.TheVariants.{Manager}
+use Rattle.host_trait.specs.Disk.{FileState, MayLeave, settled}
+use Rattle.host_trait.specs.Runs.{OnlyAsked}
+use Rattle.host_trait.specs.World.{World, Moment, Disk, Image, IsImage, Passes, Arrives, last_of, moment_of}
+use Rattle.host_trait.proofs.Moments.{arrives_then}
+use Rattle.host_trait.proofs.Runs.{settled_image, arrives_asked}
+use Rattle.field_codec.specs.declared.formats.Format.TheVariants.{One}
+use Rattle.cell_model.specs.Units.{Member}
+use Rattle.commit_log.specs.declared.records.Named.{Named}
+use Rattle.log_reading.specs.Blocks.{log_in_file}
+use Rattle.log_reading.specs.Steps.{seen_in}
+use Rattle.log_reading.specs.Versions.{named_in, named_by_grain, version_named, latest_of}
+use Rattle.silo_spec.specs.Moments.{IsAsAtEntry, IsUntouched}
+use Rattle.silo_spec.specs.OpenedDisks.{opened_disk, opening_syncs, OnlyOpens}
+use Rattle.silo_spec.specs.Slots.{generation, ShowsSilos}
+use Rattle.promise_spec.specs.Programs.{Program, IsChecked, shape_in}
+use Rattle.promise_spec.specs.Entries.{Log, Standing, checkpointed}
+use Rattle.promise_spec.specs.Logs.{magic, IsLog}
+use Rattle.promise_spec.specs.Images.{IsWholeSilo, IsWholeFolder}
+use Rattle.promise_spec.specs.Moments.{counted_moments}
+use Rattle.promise_spec.specs.Openings.{Reads, opened_as}
+use Rattle.promise_spec.specs.Words.{Manner}
+use Rattle.promise_spec.specs.Endings.{Ending, Done}
+use Rattle.promise_spec.specs.Courses.{Observed}
+use Rattle.promise_spec.specs.Compacting.{IsCompactable}
+use Rattle.promise_spec.specs.Rewriting.{IsRewriting, Rewrites}
+use Rattle.promise_spec.proofs.Growing.{program_begins}
+use Rattle.promise_spec.proofs.Lists.{each_of, either_in}
+use Rattle.promise_spec.proofs.Openings.{reads_is, reads_is_live, log_is_read}
+use Rattle.promise_spec.proofs.Standings.{in_force}
+use Rattle.promise_laws.proofs.SettledLogs.{settled_logs}
+use Rattle.silo_opening.specs.declared.opened_silo.Opened.{Opened}
+use Rattle.silo_opening.specs.OpenedSilo.{program_in, IsOpenedFrom, IsLatest, AreLatest}
+use Rattle.silo_opening.proofs.OpeningCalls.{long_opened, opens_same, opens_and_asked, opens_untouched}
+use Rattle.checkpoint.specs.declared.compaction.Next.{Next}
+use Rattle.checkpoint.specs.Rewriting.{IsOnTheWay, IsLastOf, IsMadeOf}
+use Rattle.checkpoint.proofs.NamedVersions.{IsNamedIn, latest_named_in}
+
+-- what the next generation of an opened silo is made of
+abbrev pub next_of : Opened → List Named → Next
+next_of o latest = record {
+  live = o.slot;
+  generation = o.generation + 1;
+  text = o.text;
+  head = record { count = o.count; next_unit = o.next_unit };
+  latest = latest;
+}
+
+-- the last versions, with what the log says of each
+one_named : (o : Opened) (image : Image) (log : Log) (n : Named) → IsLatest image o log n → IsNamedIn o.slot (program_in o) image n → IsLastOf o.slot (program_in o) image log n
+one_named o image log n l m =
+    let same : m.version ≡ l.version = (let both : Ok m.version ≡ Ok l.version = sym m.there ∙ l.there in cc both) in
+    record { version = m.version; there = m.there; unit = m.unit; stands = m.stands; state = ap (λ (v : Version). v.state) same ∙ l.state }
+
+both_named : (o : Opened) (image : Image) (log : Log) (named : List Named) → AllByRecursion (IsLatest image o log) named → AllByRecursion (IsNamedIn o.slot (program_in o) image) named → AllByRecursion (IsLastOf o.slot (program_in o) image log) named
+both_named o image log [] latest named = tt
+both_named o image log (n ∷ more) latest named = (one_named o image log n latest.0 named.0, both_named o image log more latest.1 named.1)
+
+-- they are there
+pub latest_there : (o : Opened) (image : Image) (log : Log) (shape : Shape) → shape ≡ shape_in (program_in o) → (named : List Named) → AllByRecursion (IsLatest image o log) named
+    → AllByRecursion (λ n. (version : Version) × (version_named o.slot One shape image n ≡ Ok version)) named
+latest_there o image log shape is [] all = tt
+latest_there o image log shape is (n ∷ named) all =
+    ((all.0.version, subst (λ (s : Shape). version_named o.slot One s image n ≡ Ok all.0.version) (sym is) all.0.there), latest_there o image log shape is named all.1)
+
+module _ (o : Opened) (w0 w1 w2 : World) (from : IsOpenedFrom (seen_in w1.disk) o) (slot : o.slot ≤ 1) (opens : OnlyOpens w0 w1) (left : w1.disk ≡ opened_disk w0.disk) (asked : OnlyAsked w1 w2) where
+  -- what was read at entry
+  same : seen_in w1.disk ≡ seen_in w0.disk
+  same = opens_same (opening_syncs (seen_in w0.disk)) w0 w1 opens
+
+  same_too : seen_in w2.disk ≡ seen_in w0.disk
+  same_too = ap seen_in asked.disk ∙ same
+
+  disk_is : w2.disk ≡ opened_disk w0.disk
+  disk_is = asked.disk ∙ left
+
+  pub read_so : opened_as (seen_in w0.disk) ≡ Reads o.slot from.log
+  read_so = subst (λ (i : Image). opened_as i ≡ Reads o.slot from.log) same from.reads
+
+  pub generation_so : generation (w0.disk (Manager o.slot)).seen ≡ o.generation
+  generation_so = subst (λ (i : Image). generation (i (Manager o.slot)) ≡ o.generation) same from.generation_is
+
+  pub opens_too : OnlyOpens w0 w2
+  opens_too = opens_and_asked (opening_syncs (seen_in w0.disk)) w0 w1 w2 opens asked
+
+  pub untouched : IsUntouched w0 w2
+  untouched = opens_untouched (opening_syncs (seen_in w0.disk)) w0 w2 opens_too
+
+  module _ (stay : (file : FileId) → MayLeave (w0.disk file) (w0.disk file).seen) (stay_too : (file : FileId) → MayLeave (w2.disk file) (w2.disk file).seen) (whole : IsWholeFolder w0) where
+    -- the log that was read
+    pub log_there : IsLog o.slot (seen_in w0.disk) from.log
+    log_there =
+        let s : IsWholeSilo o.slot (seen_in w0.disk) = whole.whole (seen_in w0.disk) stay o.slot (reads_is_live (seen_in w0.disk) o.slot from.log read_so) in
+        let both = reads_is o.slot o.slot s.log from.log (sym (log_is_read (seen_in w0.disk) o.slot s.log s.is) ∙ read_so) in
+        subst (IsLog o.slot (seen_in w0.disk)) both.1 s.is
+
+    manager_long : 16 ≤ length (w0.disk (Manager o.slot)).seen
+    manager_long = log_there.is_live.silo.long
+
+    settled_so : (n : ℕ) → n ≤ 1 → 16 ≤ length (w0.disk (Manager n)).seen → w2.disk (Manager n) ≡ settled (w0.disk (Manager n)).seen
+    settled_so n low long = ap (λ (d : Disk). d (Manager n)) disk_is ∙ long_opened n (w0.disk (Manager n)) low long
+
+    image_so : (image : Image) → IsImage w2.disk image → IsImage w0.disk image
+        × ((n : ℕ) → n ≤ 1 → (n ≡ o.slot) ⊎ (16 ≤ length (w0.disk (Manager n)).seen) → image (Manager n) ≡ (w0.disk (Manager n)).seen)
+    image_so image is = (untouched.now.images image is, λ n low which. by n low which)
+      where
+        by : (n : ℕ) → n ≤ 1 → (n ≡ o.slot) ⊎ (16 ≤ length (w0.disk (Manager n)).seen) → image (Manager n) ≡ (w0.disk (Manager n)).seen
+        by n low (inr long) = settled_image w2.disk (Manager n) (w0.disk (Manager n)).seen (image (Manager n)) (settled_so n low long) (is (Manager n))
+        by n low (inl this) =
+            let long : 16 ≤ length (w0.disk (Manager n)).seen = subst (λ (k : ℕ). 16 ≤ length (w0.disk (Manager k)).seen) (sym this) manager_long in
+            settled_image w2.disk (Manager n) (w0.disk (Manager n)).seen (image (Manager n)) (settled_so n low long) (is (Manager n))
+
+    pub can : IsCompactable o.slot from.log w2
+    can = record {
+      slot = slot;
+      seen = stay_too;
+      lasts = (let there : w2.disk (Manager o.slot) ≡ settled (w0.disk (Manager o.slot)).seen = settled_so o.slot slot manager_long in there ∙ ap (λ (s : FileState). settled s.seen) (sym there));
+      logged = settled_logs o.slot w0 w2.disk from.log whole stay image_so log_there;
+    }
+
+    pub shown : ShowsSilos magic w2.disk
+    shown image is n low short silo =
+        whole.shows image (image_so image is).0 n low (subst (λ (i : Image). length (i (Manager n)) < 16) same_too short) silo
+
+    program_so : log_there.is.stands.program ≡ program_in o
+    program_so =
+        let s = log_there.is.stands in
+        sym (in_force from.log.base from.log.entries ∙ ap (λ (b : Standing). b.program) s.base ∙ program_begins s.program s.begins) ∙ from.program
+
+    pub made : (latest : List Named) → AreLatest (seen_in w1.disk) o from.log latest → IsMadeOf (next_of o latest) (program_in o) (seen_in w2.disk) from.log
+    made latest are = record {
+      program = from.program;
+      text = refl;
+      checked = subst IsChecked program_so log_there.is.stands.checked;
+      count = from.count;
+      next_unit = from.next;
+      generation_is = ap (λ (n : ℕ). n + 1) (sym (subst (λ (i : Image). generation (i (Manager o.slot)) ≡ o.generation) (sym same_too) generation_so));
+      held = are.held;
+      each = subst (λ (i : Image). AllByRecursion (IsLastOf o.slot (program_in o) i from.log) latest) (sym (ap seen_in asked.disk)) there;
+    }
+      where
+        is_there : IsLog o.slot (seen_in w1.disk) from.log
+        is_there = subst (λ (i : Image). IsLog o.slot i from.log) (sym same) log_there
+
+        program_there : is_there.is.stands.program ≡ program_in o
+        program_there =
+            let s = is_there.is.stands in
+            sym (in_force from.log.base from.log.entries ∙ ap (λ (b : Standing). b.program) s.base ∙ program_begins s.program s.begins) ∙ from.program
+
+        named : AllByRecursion (IsNamedIn o.slot (program_in o) (seen_in w1.disk)) latest
+        named =
+            let read : log_in_file One (shape_in is_there.is.stands.program) ((seen_in w1.disk) (Manager o.slot)) ≡ Ok from.read =
+            subst (λ (p : Program). log_in_file One (shape_in p) ((seen_in w1.disk) (Manager o.slot)) ≡ Ok from.read) (sym program_there) from.read_as in
+            let all : AllByRecursion (IsNamedIn o.slot is_there.is.stands.program (seen_in w1.disk)) (latest_of (named_by_grain (named_in from.read))) =
+            latest_named_in o.slot (seen_in w1.disk) from.log is_there.is from.read read in
+            subst (λ (p : Program). AllByRecursion (IsNamedIn o.slot p (seen_in w1.disk)) latest) program_there
+            (subst (AllByRecursion (IsNamedIn o.slot is_there.is.stands.program (seen_in w1.disk))) (sym (are.latest from.read from.read_as)) all)
+
+        there : AllByRecursion (IsLastOf o.slot (program_in o) (seen_in w1.disk) from.log) latest
+        there = both_named o (seen_in w1.disk) from.log latest are.each named
+
+    -- ---- what was written
+
+    module _ (manner : Manner) (lines : List (List ℕ)) (before after : Channel → ℕ) (ending : Ending) (w3 : World)
+        (moments : Passes (IsOnTheWay o.slot from.log (checkpointed from.log) w2) w2.past w3.past) (now : IsOnTheWay o.slot from.log (checkpointed from.log) w2 (moment_of w3)) (shows : ShowsSilos magic w3.disk)
+        (done : ending ≡ Done → (image : Image) → IsImage w3.disk image → IsLog (1 - o.slot) image (checkpointed from.log) × (generation (image (Manager (1 - o.slot))) ≡ o.generation + 1)) where
+      abbrev r : Observed
+      r = record { manner = manner; asked = lines; windowed = false; old = w0; new = w3; faults_before = before; faults_after = after; ending = ending }
+
+      rewriting : (m : Moment) → IsOnTheWay o.slot from.log (checkpointed from.log) w2 m → IsRewriting o.slot from.log (checkpointed from.log) r m
+      rewriting m way = record {
+        quiet = way.quiet ∙ opens_too.now.output;
+        kept = λ file here. way.kept file here ∙ ap (λ (d : Disk). d file) disk_is;
+        either = way.either;
+      }
+
+      first : IsOnTheWay o.slot from.log (checkpointed from.log) w2 (moment_of w2)
+      first = record { quiet = refl; kept = λ file here. refl; either = λ image is. inl (can.logged image is) }
+
+      clock : Arrives w0 w2
+      clock = arrives_then w0 w1 w2 opens.clock (arrives_asked w1 w2 asked)
+
+      last_is : last_of (moment_of w0) untouched.moments.more ≡ moment_of w2
+      last_is = ap (last_of (moment_of w0)) (append_cancel_left w0.past untouched.moments.more clock.more (sym untouched.moments.past ∙ clock.past)) ∙ clock.last
+
+      counted : (m : Moment) → Member m (counted_moments w0 untouched.moments.more moments.more w3) → IsRewriting o.slot from.log (checkpointed from.log) r m
+      counted m (inl this) = subst (IsRewriting o.slot from.log (checkpointed from.log) r) (sym (this ∙ last_is)) (rewriting (moment_of w2) first)
+      counted m (inr there) = elim (either_in m moments.more (moment_of w3 ∷ []) there) [
+        | inl late ↦ rewriting m (each_of (IsOnTheWay o.slot from.log (checkpointed from.log) w2) moments.more m moments.each late)
+        | inr end ↦ elim end [
+          | inl this ↦ subst (IsRewriting o.slot from.log (checkpointed from.log) r) (sym this) (rewriting (moment_of w3) now)
+          | inr none ↦ absurd none
+        ]
+      ]
+
+      pub rewrites : Rewrites o.slot from.log (checkpointed from.log) r
+      rewrites = record {
+        read = log_there;
+        early = untouched.moments.more;
+        late = moments.more;
+        past = moments.past ∙ ap (λ (l : List Moment). l ++ moments.more) untouched.moments.past ∙ append_assoc w0.past untouched.moments.more moments.more;
+        before = λ m there. each_of (IsAsAtEntry w0) untouched.moments.more m untouched.moments.each there;
+        moments = counted;
+        shows = shows;
+        done = λ ends image is. (let t = done ends image is in (t.0, t.1 ∙ ap (λ (n : ℕ). n + 1) (sym generation_so)));
+      }

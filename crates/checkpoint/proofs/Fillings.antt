@@ -1,0 +1,141 @@
+-- All steps by which a silo is written anew, one behind the other.
+use Rattle.std.proofs.Common.{◌≡◌, ◌≢◌, inl, inr, ℕ, ◌-◌, ◌<◌, ◌≤◌, true, List, [], ◌∷◌, ◌++◌, map, length, take, None, Result, Ok, Err, is_ok, sym, ◌∙◌, ap, subst, arith}
+use Rattle.std.specs.Prelude.{OnOk, slice_get}
+use Rattle.std.specs.Int.{w32, to_le_bytes}
+use Rattle.std.specs.List.{AllByRecursion}
+use Rattle.std.proofs.lemmas.Bool.{false≢true}
+use Rattle.base_types.specs.declared.calls.GrainId.{GrainId}
+use Rattle.base_types.specs.declared.shapes.Shape.{Shape}
+use Rattle.base_types.specs.declared.stores.Version.{Version}
+use Rattle.host_trait.specs.declared.channels.FileId.{FileId}
+use Rattle.host_trait.specs.declared.channels.FileId.TheVariants.{Manager, Program as ProgramFile, Grain}
+use Rattle.host_trait.specs.Disk.{FileState, Tears, overlaid, settled}
+use Rattle.host_trait.specs.World.{World, Disk, Image, IsImage}
+use Rattle.host_trait.specs.Runs.{RunsOnFile}
+use Rattle.host_trait.proofs.Runs.{Change}
+use Rattle.field_codec.specs.declared.formats.Format.TheVariants.{One}
+use Rattle.field_codec.specs.Spelling.{spelling_of_version}
+use Rattle.grain_log.specs.Reads.{fields_of, version_by_owner}
+use Rattle.commit_log.specs.declared.records.Named.{Named}
+use Rattle.commit_log.specs.Orders.{IsAscending}
+use Rattle.log_reading.specs.Steps.{seen_in}
+use Rattle.log_reading.specs.Versions.{version_named}
+use Rattle.silo_spec.specs.Slots.{generation, ShowsSilos}
+use Rattle.promise_spec.specs.Programs.{Program, shape_in}
+use Rattle.promise_spec.specs.Entries.{Log, checkpointed}
+use Rattle.promise_spec.specs.Logs.{magic, IsLog, IsLogIn}
+use Rattle.promise_spec.specs.Compacting.{IsShutFile, IsCompactable, IsReadyToOpen}
+use Rattle.checkpoint.specs.declared.compaction.Next.{Next}
+use Rattle.checkpoint.specs.Steps.{KeepsGate, ClosesGate, OnlyCopies}
+use Rattle.checkpoint.specs.Copies.{copy_of, IsCopied}
+use Rattle.checkpoint.specs.Pieces.{HasPieces}
+use Rattle.checkpoint.specs.Rewriting.{IsMadeOf, MayBeWritten}
+use Rattle.checkpoint.proofs.Filled.{ready}
+use Rattle.checkpoint.proofs.Moments.{HasGone, IsFilled, gone_closed, begin_filling, gone_program, gone_copies, gone_pieces, gone_opened, opened_done, long_pieces}
+
+-- what a result says that is Ok
+pub when_ok : {T E : Type 0} (P : Type 0) (r : Result T E) → OnOk r P → is_ok r ≡ true → P
+when_ok P (Ok value) is ok = is
+when_ok P (Err error) is ok = absurd (false≢true ok)
+
+-- ---- what the first steps leave, whatever the folder
+
+-- closing a gate emits nothing
+pub closes_output : (slot : ℕ) (old new : World) → ClosesGate slot old new → new.output ≡ old.output
+closes_output slot old new closes = elim closes.closed [
+  | inl asked ↦ asked.output ∙ closes.looked.now.output
+  | inr p ↦ p.1.now.output ∙ closes.looked.now.output
+]
+
+-- and leaves all other files
+pub closes_others : (slot : ℕ) (old new : World) → ClosesGate slot old new → (file : FileId) → file ≢ Manager slot → new.disk file ≡ old.disk file
+closes_others slot old new closes file other = elim closes.closed [
+  | inl asked ↦ ap (λ (d : Disk). d file) asked.disk ∙ closes.looked.now.others file other
+  | inr p ↦ p.1.now.others file other ∙ closes.looked.now.others file other
+]
+
+-- so the grains' files are as they were, behind the program's too
+pub grains_kept : (live : ℕ) (R : Change) (most : ℕ) (old mid new : World) → ClosesGate (1 - live) old mid → RunsOnFile (ProgramFile (1 - live)) R most mid new → (slot : ℕ) (grain : GrainId) → new.disk (Grain slot grain) ≡ old.disk (Grain slot grain)
+grains_kept live R most old mid new closes run slot grain = run.now.others (Grain slot grain) (λ e. absurd cc) ∙ closes_others (1 - live) old mid closes (Grain slot grain) (λ e. absurd cc)
+
+-- and the closed header gate of the manager file is there still
+pub some_left : (slot : ℕ) (R : Change) (most : ℕ) (old mid new : World) → IsShutFile (old.disk (Manager slot)) → RunsOnFile (ProgramFile slot) R most old mid → OnlyCopies slot mid new → 1 ≤ length (new.disk (Manager slot)).seen
+some_left slot R most old mid new shut program copies =
+    let same : new.disk (Manager slot) ≡ old.disk (Manager slot) = copies.now.others (Manager slot) (λ grain e. absurd cc) ∙ program.now.others (Manager slot) (λ e. absurd cc) in
+    subst (λ (s : FileState). 1 ≤ length s.seen) (sym same) (omega (arith, shut.some))
+
+named_same : (live : ℕ) (shape : Shape) (old new : Disk) (n : Named) → new (Grain live n.written.grain) ≡ old (Grain live n.written.grain) → version_named live One shape (seen_in new) n ≡ version_named live One shape (seen_in old) n
+named_same live shape old new n same = ap (λ (s : FileState). version_by_owner One (fields_of (slice_get shape.types n.written.grain.kind)) n.unit n.written.place s.seen) same
+
+-- and what is named there is there still
+pub there_still : (live : ℕ) (shape : Shape) (old new : Disk) → ((slot : ℕ) (grain : GrainId) → new (Grain slot grain) ≡ old (Grain slot grain)) → (named : List Named)
+    → AllByRecursion (λ n. (version : Version) × (version_named live One shape (seen_in old) n ≡ Ok version)) named → AllByRecursion (λ n. (version : Version) × (version_named live One shape (seen_in new) n ≡ Ok version)) named
+there_still live shape old new same [] all = tt
+there_still live shape old new same (n ∷ named) all =
+    ((all.0.0, named_same live shape old new n (same live n.written.grain) ∙ all.0.1), there_still live shape old new same named all.1)
+
+-- the copies of what was named before, in files that stay
+copied_still : (live : ℕ) (shape : Shape) (old mid disk new : Disk) → ((slot : ℕ) (grain : GrainId) → mid (Grain slot grain) ≡ old (Grain slot grain)) → ((slot : ℕ) (grain : GrainId) → new (Grain slot grain) ≡ disk (Grain slot grain))
+    → (named : List Named) → AllByRecursion (IsCopied live shape (seen_in mid) disk) named → AllByRecursion (IsCopied live shape (seen_in old) new) named
+copied_still live shape old mid disk new before behind [] all = tt
+copied_still live shape old mid disk new before behind (n ∷ named) all =
+    let is = all.0 in (
+      record {
+        version = is.version;
+        found = sym (named_same live shape old mid n (before live n.written.grain)) ∙ is.found;
+        fits = is.fits;
+        lasts = subst (λ (s : FileState). s ≡ settled s.seen) (sym (behind (1 - live) n.written.grain)) is.lasts;
+        there = subst (λ (s : FileState). take (length (spelling_of_version is.version)) s.seen ≡ spelling_of_version is.version) (sym (behind (1 - live) n.written.grain)) is.there;
+      },
+      copied_still live shape old mid disk new before behind named all.1,
+    )
+
+-- ---- over a folder that may be compacted
+
+module _ (next : Next) (log : Log) (w0 w1 w2 : World) (can : IsCompactable next.live log w0) (shown : ShowsSilos magic w0.disk) (closes : ClosesGate (1 - next.live) w0 w1) where
+  pub first_gone : HasGone next.live log w0 w1
+  first_gone = gone_closed next.live log w0 can shown w1 closes
+
+  module _ (shut : IsShutFile (w1.disk (Manager (1 - next.live)))) (R : Change) (most : ℕ) (program : RunsOnFile (ProgramFile (1 - next.live)) R most w1 w2) where
+    pub second_filled : IsFilled next.live log w0 can shown w2
+    second_filled = gone_program next.live log w0 can shown R most w1 w2 (begin_filling next.live log w0 can shown w1 (gone_closed next.live log w0 can shown w1 closes) shut) program
+
+    module _ (w3 : World) (copies : OnlyCopies (1 - next.live) w2 w3) where
+      pub third_filled : IsFilled next.live log w0 can shown w3
+      third_filled = gone_copies next.live log w0 can shown w2 w3 second_filled copies
+
+      module _ (w4 : World) (most_pieces : ℕ) (run : RunsOnFile (Manager (1 - next.live)) KeepsGate most_pieces w3 w4) where
+        pub fourth_filled : IsFilled next.live log w0 can shown w4
+        fourth_filled = gone_pieces next.live log w0 can shown most_pieces w3 w4 third_filled run
+
+        module _ (p : Program) (may : MayBeWritten next) (order : IsAscending None (map (λ n. n.written) next.latest)) (made : IsMadeOf next p (seen_in w0.disk) log) (shape : Shape) (shape_is : shape ≡ shape_in p)
+            (text : w2.disk (ProgramFile (1 - next.live)) ≡ settled (overlaid (w1.disk (ProgramFile (1 - next.live))).seen 0 (to_le_bytes w32 (length next.text) ++ next.text)))
+            (copied : AllByRecursion (IsCopied next.live shape (seen_in w2.disk) w3.disk) next.latest)
+            (pieces : HasPieces next.generation next.head (map copy_of next.latest) (w3.disk (Manager (1 - next.live))) (w4.disk (Manager (1 - next.live)))) where
+          some_there : 0 < length (w3.disk (Manager (1 - next.live))).seen
+          some_there =
+              let same : w3.disk (Manager (1 - next.live)) ≡ w1.disk (Manager (1 - next.live)) =
+              copies.now.others (Manager (1 - next.live)) (λ grain e. absurd cc) ∙ program.now.others (Manager (1 - next.live)) (λ e. absurd cc) in
+              subst (λ (s : FileState). 0 < length s.seen) (sym same) shut.some
+
+          all_ready : IsReadyToOpen next.live (checkpointed log) w0 w4
+          all_ready =
+              let is : IsLogIn next.live (seen_in w0.disk) log = (can.logged (seen_in w0.disk) can.seen).is in
+              let written : w4.disk (ProgramFile (1 - next.live)) ≡ settled (overlaid (w1.disk (ProgramFile (1 - next.live))).seen 0 (to_le_bytes w32 (length next.text) ++ next.text)) =
+              run.now.others (ProgramFile (1 - next.live)) (λ e. absurd cc) ∙ copies.now.others (ProgramFile (1 - next.live)) (λ grain e. absurd cc) ∙ text in
+              let under : AllByRecursion (IsCopied next.live (shape_in p) (seen_in w2.disk) w3.disk) next.latest =
+              subst (λ (s : Shape). AllByRecursion (IsCopied next.live s (seen_in w2.disk) w3.disk) next.latest) shape_is copied in
+              ready next p log w0 w4 may order made is (w1.disk (ProgramFile (1 - next.live))).seen written
+              (copied_still next.live (shape_in p) w0.disk w2.disk w3.disk w4.disk (grains_kept next.live R most w0 w1 w2 closes program) (λ slot grain. run.now.others (Grain slot grain) (λ e. absurd cc)) next.latest under)
+              (w3.disk (Manager (1 - next.live))) some_there pieces fourth_filled.fills
+
+          module _ (w5 : World) (opening : RunsOnFile (Manager (1 - next.live)) (Tears 0 1) 1 w4 w5) where
+            pub last_gone : HasGone next.live log w0 w5
+            last_gone = gone_opened next.live log w0 can shown w4 w5 fourth_filled all_ready opening
+                (long_pieces next.generation next.head (map copy_of next.latest) (w3.disk (Manager (1 - next.live))) (w4.disk (Manager (1 - next.live))) some_there pieces)
+
+            pub last_done : w5.disk (Manager (1 - next.live)) ≡ settled (overlaid (w4.disk (Manager (1 - next.live))).seen 0 (1 ∷ [])) → (image : Image) → IsImage w5.disk image
+                → IsLog (1 - next.live) image (checkpointed log) × (generation (image (Manager (1 - next.live))) ≡ next.generation)
+            last_done done image is =
+                let t = opened_done next.live log w0 can shown w4 w5 fourth_filled all_ready opening done image is in
+                (t.0, t.1 ∙ sym made.generation_is)

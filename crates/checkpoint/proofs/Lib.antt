@@ -1,0 +1,12 @@
+pub mod Runs
+pub mod Gates
+pub mod Writing
+pub mod Copying
+pub mod Rewriting
+pub mod Checkpoints
+pub mod Filled
+pub mod Moments
+pub mod NamedVersions
+pub mod Fillings
+pub mod Compacted
+pub mod Endings

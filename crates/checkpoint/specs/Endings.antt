@@ -1,0 +1,19 @@
+-- How `compact` ends, and what a call of it shows.
+use Rattle.std.specs.Prelude.{ℕ, List, Result, Ok, Err, false}
+use Rattle.host_trait.specs.declared.channels.Channel.{Channel}
+use Rattle.host_trait.specs.World.{World}
+use Rattle.promise_spec.specs.Words.{Manner}
+use Rattle.promise_spec.specs.Courses.{Observed}
+use Rattle.promise_spec.specs.Endings as ending
+use Rattle.silo_opening.specs.declared.faults.OpenFault.{OpenFault}
+use Rattle.silo_opening.specs.OpenedSilo.{ending_of}
+
+-- with this answer
+abbrev pub compact_ending : {A : Type 0} → Result A OpenFault → ending.Ending
+compact_ending (Ok made) = ending.Done
+compact_ending (Err fault) = ending_of fault
+
+-- what a call shows that ended with this answer
+abbrev pub compacted_as : {A : Type 0} → Manner → List (List ℕ) → World → World → (Channel → ℕ) → (Channel → ℕ) → Result A OpenFault → Observed
+compacted_as manner asked old new before after result =
+    record { manner = manner; asked = asked; windowed = false; old = old; new = new; faults_before = before; faults_after = after; ending = compact_ending result }

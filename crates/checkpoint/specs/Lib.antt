@@ -1,0 +1,5 @@
+pub mod Steps
+pub mod Copies
+pub mod Pieces
+pub mod Endings
+pub mod Rewriting

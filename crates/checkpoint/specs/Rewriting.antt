@@ -1,0 +1,51 @@
+-- What a silo that is written anew shows on the way, and what its next generation is made of.
+use Rattle.std.specs.Prelude.{◌≡◌, ℕ, ◌+◌, ◌<◌, ◌≤◌, ◌^◌, length, Ok}
+use Rattle.std.specs.List.{list_any, AllByRecursion}
+use Rattle.base_types.specs.declared.calls.GrainId.{GrainId}
+use Rattle.base_types.specs.declared.stores.Version.{Version}
+use Rattle.base_types.specs.Grains.{same_grain}
+use Rattle.host_trait.specs.declared.channels.FileId.TheVariants.{Manager}
+use Rattle.host_trait.specs.World.{World, Moment, Image}
+use Rattle.field_codec.specs.declared.formats.Format.TheVariants.{One}
+use Rattle.commit_log.specs.declared.records.Named.{Named}
+use Rattle.log_reading.specs.Versions.{version_named}
+use Rattle.silo_spec.specs.Slots.{generation}
+use Rattle.promise_spec.specs.Programs.{Program, IsChecked, shape_in}
+use Rattle.promise_spec.specs.Entries.{Log, standing_of}
+use Rattle.promise_spec.specs.Versions.{WriteStands}
+use Rattle.promise_spec.specs.Compacting.{AllEither, KeepsSlot}
+use Rattle.checkpoint.specs.declared.compaction.Next.{Next}
+
+-- A moment on the way: nothing was emitted, the live slot's files are as they were, and each image has one of the two logs.
+pub record IsOnTheWay (live : ℕ) (log new : Log) (w : World) (m : Moment) : Type 0 where
+  pub quiet : m.output ≡ w.output
+  pub kept : KeepsSlot live w.disk m.disk
+  pub either : AllEither live log new m
+
+-- A named version is there and stands whole, of a unit that may be logged, with the state of its grain.
+pub record IsLastOf (live : ℕ) (p : Program) (image : Image) (log : Log) (n : Named) : Type 0 where
+  pub version : Version
+  pub there : version_named live One (shape_in p) image n ≡ Ok version
+  pub unit : (0 < version.unit.0) × (version.unit.0 < 2 ^ 63)
+  pub stands : WriteStands live (shape_in p) image version.unit n.written version.state
+  pub state : version.state ≡ (standing_of log).states n.written.grain
+
+-- The next generation is made of what the log stands for: its program, its count and next unit, and the last version of each grain that
+-- has a state in the store.
+pub record IsMadeOf (next : Next) (p : Program) (image : Image) (log : Log) : Type 0 where
+  pub program : (standing_of log).program ≡ p
+  pub text : next.text ≡ p.text
+  pub checked : IsChecked p
+  pub count : next.head.count ≡ (standing_of log).count
+  pub next_unit : next.head.next_unit.0 ≡ (standing_of log).next
+  pub generation_is : next.generation ≡ generation (image (Manager next.live)) + 1
+  pub held : (grain : GrainId) → list_any (λ n. same_grain n.written.grain grain) next.latest ≡ (standing_of log).held grain
+  pub each : AllByRecursion (IsLastOf next.live p image log) next.latest
+
+-- A slot, a text and numbers that a checkpoint may have.
+pub record MayBeWritten (next : Next) : Type 0 where
+  pub slot : next.live ≤ 1
+  pub text : length next.text ≤ 262144
+  pub count : next.head.count < 2 ^ 63
+  pub next_unit : (1 ≤ next.head.next_unit.0) × (next.head.next_unit.0 ≤ 2 ^ 63)
+  pub generation : next.generation < 2 ^ 32

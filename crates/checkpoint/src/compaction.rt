@@ -1,0 +1,175 @@
+ghost use Rattle.std.specs.Prelude.{◌≡◌, ◌-◌, ◌≤◌, ℕ, List as AList, length, IsTrue, IfErr, OnOk, IsErrOf, None, Ok, map};
+ghost use Rattle.std.specs.List.{AllByRecursion};
+ghost use Rattle.base_types.specs.declared.stores.Version.{Version as AVersion};
+ghost use Rattle.host_trait.specs.Files.{StaysReady};
+ghost use Rattle.host_trait.specs.Faults.{NoneFailed};
+ghost use Rattle.host_trait.specs.Disk.{settled};
+ghost use Rattle.host_trait.specs.World.{Image, IsImage, Passes, Arrives, moment_of};
+ghost use Rattle.host_trait.specs.declared.channels.FileId.{FileId as AFile};
+ghost use Rattle.host_trait.specs.declared.channels.FileId.TheVariants.{Manager};
+ghost use Rattle.field_codec.specs.declared.formats.Format.TheVariants.{One};
+ghost use Rattle.log_reading.specs.declared.faults.FolderFault.{FolderFault as AFault};
+ghost use Rattle.log_reading.specs.Versions.{version_named};
+ghost use Rattle.commit_log.specs.Orders.{IsAscending};
+ghost use Rattle.silo_spec.specs.Slots.{generation, ShowsSilos};
+ghost use Rattle.promise_spec.specs.Programs.{Program, shape_in};
+ghost use Rattle.promise_spec.specs.Entries.{Log, checkpointed};
+ghost use Rattle.promise_spec.specs.Logs.{magic, IsLog};
+ghost use Rattle.promise_spec.specs.Compacting.{IsCompactable};
+ghost use Rattle.log_reading.specs.Steps.{seen_in};
+ghost use Rattle.checkpoint.specs.Rewriting.{IsOnTheWay, IsMadeOf, MayBeWritten};
+ghost use Rattle.promise_spec.specs.Words.{Manner};
+ghost use Rattle.promise_spec.specs.Endings.{HasFailedAs, BadUse};
+ghost use Rattle.promise_spec.specs.Rewriting.{Compacts};
+ghost use Rattle.log_reading.specs.Counts.{ReadFaulted};
+ghost use Rattle.silo_opening.specs.OpenedSilo.{in_folder};
+ghost use Rattle.checkpoint.specs.Endings.{compact_ending, compacted_as};
+
+use crate::copies::copy_versions;
+use crate::other_slot::{close_gate, open_gate};
+use crate::pieces::write_pieces;
+use base_types::{List, Shape};
+use commit_log::{CheckpointHead, Named};
+use host_trait::{Failed, FileId, Host};
+use log_reading::FolderFault;
+use silo_opening::{OpenFault, Opened, latest_versions, open_silo, write_program};
+use std::alloc::{AllocError, Global};
+
+// The counts of logs are below it.
+const COUNT_LIMIT: u64 = 1 << 63;
+
+// What the next generation is made of: the slot that is live, the generation, the program's text, the checkpoint's head, and the
+// last version of each grain.
+#[derive(Drop)]
+struct Next {
+    live: u8,
+    generation: u32,
+    text: List<u8>,
+    head: CheckpointHead,
+    latest: List<Named>,
+}
+
+// The fault of a call on a slot's manager file.
+fn manager_fault(slot: u8) -> FolderFault
+    ensures { result ≡ AFault.Failed (Manager slot) }
+{
+    FolderFault::Failed {
+        file: FileId::Manager { slot },
+    }
+}
+
+// The fault of a log, or of a version that it names.
+fn folder_fault(fault: FolderFault) -> OpenFault
+    ensures { result ≡ in_folder fault }
+{
+    match fault {
+        FolderFault::Damaged { file, place } => OpenFault::Damaged { file, place },
+        FolderFault::Failed { file } => OpenFault::DiskFault { file },
+        FolderFault::Memory => OpenFault::Memory,
+    }
+}
+
+// Writes the files of the slot that isn't live, behind a closed header gate that is opened at the end.
+fn fill<H: Host>(alloc: Global, host: &mut H, shape: &Shape, next: &Next) -> Result<(), FolderFault>
+    requires may { MayBeWritten next.now }
+    requires order { IsTrue H.tells → IsAscending None (map (λ n. n.written) next.now.latest) }
+    requires lasts { IsTrue H.tells → 16 ≤ length ((H.world host.old).disk (Manager (1 - next.now.live))).seen
+        → (H.world host.old).disk (Manager (1 - next.now.live)) ≡ settled ((H.world host.old).disk (Manager (1 - next.now.live))).seen }
+
+    // At each moment each image has the log, in the slot that was live or as a checkpoint in the other one.
+    ensures moments { IsTrue H.tells → (p : Program) (log : Log) → shape.now ≡ shape_in p → IsMadeOf next.now p (seen_in (H.world host.old).disk) log
+        → IsCompactable next.now.live log (H.world host.old) → ShowsSilos magic (H.world host.old).disk
+        → Passes (IsOnTheWay next.now.live log (checkpointed log) (H.world host.old)) (H.world host.old).past (H.world host.new).past }
+    ensures now { IsTrue H.tells → (p : Program) (log : Log) → shape.now ≡ shape_in p → IsMadeOf next.now p (seen_in (H.world host.old).disk) log
+        → IsCompactable next.now.live log (H.world host.old) → ShowsSilos magic (H.world host.old).disk
+        → IsOnTheWay next.now.live log (checkpointed log) (H.world host.old) (moment_of (H.world host.new)) }
+    ensures shows { IsTrue H.tells → (p : Program) (log : Log) → shape.now ≡ shape_in p → IsMadeOf next.now p (seen_in (H.world host.old).disk) log
+        → IsCompactable next.now.live log (H.world host.old) → ShowsSilos magic (H.world host.old).disk → ShowsSilos magic (H.world host.new).disk }
+
+    // Once it is done the other slot is live in each image, with the next generation.
+    ensures done { OnOk result (IsTrue H.tells → (p : Program) (log : Log) → shape.now ≡ shape_in p → IsMadeOf next.now p (seen_in (H.world host.old).disk) log
+        → IsCompactable next.now.live log (H.world host.old) → ShowsSilos magic (H.world host.old).disk
+        → (image : Image) → IsImage (H.world host.new).disk image
+        → IsLog (1 - next.now.live) image (checkpointed log) × (generation (image (Manager (1 - next.now.live))) ≡ next.now.generation)) }
+
+    // Nothing is emitted, no input is taken, and the clock goes on; a fault of a file is answered exactly where a call on it failed.
+    ensures quiet { IsTrue H.tells → (H.world host.new).output ≡ (H.world host.old).output }
+    ensures unread { IsTrue H.tells → (H.world host.new).input ≡ (H.world host.old).input }
+    ensures clock { IsTrue H.tells → Arrives (H.world host.old) (H.world host.new) }
+    // None of the versions that are there is found damaged.
+    ensures damaged { (file : AFile) (place : ℕ) → IsErrOf result (AFault.Damaged file place) → IsTrue H.tells
+        → AllByRecursion (λ n. (version : AVersion) × (version_named next.now.live One shape.now (seen_in (H.world host.old).disk) n ≡ Ok version)) next.now.latest → ⊥ }
+
+    ensures calm { OnOk result (NoneFailed (H.faults host.old) (H.faults host.new)) }
+    ensures fault { IfErr result (λ e. ReadFaulted e (H.faults host.old) (H.faults host.new)) }
+    ensures ready { StaysReady (H.is_ready host.old) (H.is_ready host.new) }
+{
+    let slot = 1 - next.live;
+    let latest = next.latest.as_slice();
+    if close_gate(host, slot).is_err() {
+        return Err(manager_fault(slot));
+    }
+    if write_program(host, slot, next.text.as_slice()).is_err() {
+        return Err(FolderFault::Failed {
+            file: FileId::Program { slot },
+        });
+    }
+    copy_versions(alloc, host, next.live, shape, latest)?;
+    write_pieces(alloc, host, slot, next.generation, next.head, latest)?;
+    if open_gate(host, slot).is_err() {
+        return Err(manager_fault(slot));
+    }
+    Ok(())
+}
+
+/// Writes the next generation of the host's silo into the slot that isn't live: its program, the last version of each grain, and a
+/// checkpoint that names these in place of the records. Then that slot is live, and stands for what the log stood for.
+///
+/// It opens the silo, and reads its log a second time. Until the new slot's header gate is opened, by one byte and one sync as the
+/// last step, each crash leaves the silo as it was; from then on either slot may be live, with the same contents. Versions are copied
+/// one by one, with a sync of each, and the checkpoint is written in pieces of 65,536 versions: beside what an opening takes it takes
+/// 40 bytes for each named version, and 4 MB. No file is removed or gets shorter.
+///
+/// # Errors
+///
+/// Those of an opening; `LastGeneration` exactly where the silo's generation is the last one, 4,294,967,295, and all is left as it
+/// was; `DiskFault` where a call on that file failed, and `Memory`, also where the log's count isn't below 2 to the 63. Another call may
+/// follow each.
+pub fn compact<H: Host>(alloc: Global, host: &mut H) -> Result<(), OpenFault>
+    // What the command `compact` promises, however it ends.
+    ensures compacts { IsTrue H.tells → (manner : Manner) (asked : AList (AList ℕ))
+        → Compacts (compacted_as manner asked (H.world host.old) (H.world host.new) (H.faults host.old) (H.faults host.new) result) }
+
+    // A fault of a file is answered exactly where a call on it failed: its count rose, and no other changed. With another answer no
+    // count has changed.
+    ensures exact { HasFailedAs (compact_ending result) (H.faults host.old) (H.faults host.new) }
+    ensures good { compact_ending result ≡ BadUse → ⊥ }
+    ensures ready { StaysReady (H.is_ready host.old) (H.is_ready host.new) }
+{
+    let opened = open_silo(alloc, host)?;
+    if opened.generation == u32::MAX {
+        return Err(OpenFault::LastGeneration);
+    }
+    if opened.count >= COUNT_LIMIT {
+        return Err(OpenFault::Memory);
+    }
+    let shape = match opened.checked.shape() {
+        Ok(shape) => shape,
+        Err(AllocError) => return Err(OpenFault::Memory),
+    };
+    let latest = latest_versions(alloc, host, &shape, &opened)?;
+    let next = Next {
+        live: opened.slot,
+        generation: opened.generation + 1,
+        text: opened.text,
+        head: CheckpointHead {
+            count: opened.count,
+            next_unit: opened.next_unit,
+        },
+        latest,
+    };
+    match fill(alloc, host, &shape, &next) {
+        Ok(()) => Ok(()),
+        Err(fault) => Err(folder_fault(fault)),
+    }
+}

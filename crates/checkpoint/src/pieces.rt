@@ -1,0 +1,205 @@
+// The checkpoint that names the copied versions, in pieces of a block each.
+ghost use Rattle.std.specs.Prelude.{◌≡◌, ◌+◌, ◌^◌, ◌<◌, ◌≤◌, ◌∷◌, ◌++◌, [], ℕ, map, length, IsTrue, IfOk, IfErr, OnOk, IsErrOf};
+ghost use Rattle.std.specs.Prelude as std;
+ghost use Rattle.std.specs.List.{flat_map, AllByRecursion};
+ghost use Rattle.host_trait.specs.Files.{StaysReady};
+ghost use Rattle.host_trait.specs.Faults.{NoneFailed};
+ghost use Rattle.host_trait.specs.Runs.{RunsOnFile};
+ghost use Rattle.host_trait.specs.declared.channels.FileId.{FileId as AFile};
+ghost use Rattle.host_trait.specs.declared.channels.FileId.TheVariants.{Manager};
+ghost use Rattle.log_reading.specs.declared.faults.FolderFault.{FolderFault as AFault};
+ghost use Rattle.gate_block.specs.Blocks.{block_at};
+ghost use Rattle.gate_block.specs.Log.{open_blocks};
+ghost use Rattle.commit_log.specs.declared.records.Written.{Written as AWrite};
+ghost use Rattle.commit_log.specs.Checkpoints.{flag_of, spelling_of_piece};
+ghost use Rattle.commit_log.specs.Spelling.{WriteFits};
+ghost use Rattle.log_reading.specs.Counts.{ReadFaulted};
+ghost use Rattle.checkpoint.specs.Steps.{KeepsGate};
+ghost use Rattle.checkpoint.specs.Copies.{copy_of};
+ghost use Rattle.checkpoint.specs.Pieces.{behind_gate, HasWritten, HasFront, HasPieces};
+
+use base_types::{List, Place};
+use commit_log::{CheckpointHead, Named, Written, encode_piece};
+use host_trait::{Failed, FileId, Host};
+use log_reading::FolderFault;
+use std::alloc::{AllocError, Global};
+
+// The most versions that a piece names.
+const PIECE: usize = 65_536;
+
+// Where the copy of a named version stands.
+fn copy_of(named: &Named) -> Written
+    ensures { result ≡ copy_of named.now }
+{
+    Written {
+        grain: named.written.grain,
+        place: Place {
+            offset: 0,
+            len: named.written.place.len,
+        },
+    }
+}
+
+// Where the copies of these versions stand.
+fn copies_of(alloc: Global, latest: &[Named]) -> Result<Vec<Written>, AllocError>
+    ensures { IfOk result (λ copies. copies.items ≡ map copy_of latest.now) }
+{
+    latest.iter().map(|named| copy_of(named)).collect(alloc)
+}
+
+// The block of a piece of the checkpoint, behind its open gate.
+fn piece_block(
+    alloc: Global,
+    more: bool,
+    head: CheckpointHead,
+    latest: &[Named],
+) -> Result<List<u8>, AllocError>
+    requires { length latest.now ≤ 65536 }
+    ensures block { IfOk result (λ block. block ≡ block_at (spelling_of_piece (flag_of more) head.count head.next_unit.0 (map copy_of latest.now))) }
+    ensures fits { OnOk result (AllByRecursion WriteFits (map copy_of latest.now)) }
+{
+    let copies = copies_of(alloc, latest)?;
+    let block = encode_piece(alloc, more, head, copies.as_slice())?;
+    Ok(block)
+}
+
+// Writes bytes into a slot's manager file from an offset on, which isn't byte 0, without a sync, and answers where they end.
+fn put<H: Host>(host: &mut H, slot: u8, at: u64, bytes: &[u8]) -> Result<u64, FolderFault>
+    requires slot { slot ≤ 1 }
+    requires behind { 1 ≤ at }
+    requires place { IsTrue H.tells → at ≤ length ((H.world host.old).disk (Manager slot)).seen }
+    ensures run { IsTrue H.tells → RunsOnFile (Manager slot) KeepsGate 0 (H.world host.old) (H.world host.new) }
+    ensures written { OnOk result (IsTrue H.tells → HasWritten slot at bytes.now (H.world host.old) (H.world host.new)) }
+    ensures end { IfOk result (λ end. (end ≡ at + length bytes.now) × (end < 2 ^ 63)) }
+    ensures within { IfOk result (λ end. IsTrue H.tells → end ≤ length ((H.world host.new).disk (Manager slot)).seen) }
+    ensures whole { (other : AFile) (place : ℕ) → IsErrOf result (AFault.Damaged other place) → ⊥ }
+    ensures calm { OnOk result (NoneFailed (H.faults host.old) (H.faults host.new)) }
+    ensures fault { IfErr result (λ e. ReadFaulted e (H.faults host.old) (H.faults host.new)) }
+    ensures ready { StaysReady (H.is_ready host.old) (H.is_ready host.new) }
+{
+    let file = FileId::Manager { slot };
+    match host.write_at(file, at, bytes) {
+        Ok(()) => Ok(at + bytes.len() as u64),
+        Err(Failed) => Err(FolderFault::Failed { file }),
+    }
+}
+
+// Writes what stands behind the header gate up to the first block's, of a log that begins with a checkpoint.
+fn put_header<H: Host>(host: &mut H, slot: u8, generation: u32) -> Result<u64, FolderFault>
+    requires slot { slot ≤ 1 }
+    requires place { IsTrue H.tells → 1 ≤ length ((H.world host.old).disk (Manager slot)).seen }
+    ensures run { IsTrue H.tells → RunsOnFile (Manager slot) KeepsGate 0 (H.world host.old) (H.world host.new) }
+    ensures written { OnOk result (IsTrue H.tells → HasWritten slot 1 (behind_gate generation) (H.world host.old) (H.world host.new)) }
+    ensures end { IfOk result (λ end. end ≡ 15) }
+    ensures within { OnOk result (IsTrue H.tells → 15 ≤ length ((H.world host.new).disk (Manager slot)).seen) }
+    ensures whole { (other : AFile) (place : ℕ) → IsErrOf result (AFault.Damaged other place) → ⊥ }
+    ensures calm { OnOk result (NoneFailed (H.faults host.old) (H.faults host.new)) }
+    ensures fault { IfErr result (λ e. ReadFaulted e (H.faults host.old) (H.faults host.new)) }
+    ensures ready { StaysReady (H.is_ready host.old) (H.is_ready host.new) }
+{
+    let mut header = *b"OTXLOG01\0\0\0\0\x01\0";
+    let (_, number) = header.split_at_mut(8);
+    let (number, _) = number.split_at_mut(4);
+    number.copy_from_slice(&generation.to_le_bytes());
+    put(host, slot, 1, &header)
+}
+
+// Writes the block of a piece at an offset, and answers where it ends.
+fn put_piece<H: Host>(
+    alloc: Global,
+    host: &mut H,
+    slot: u8,
+    at: u64,
+    more: bool,
+    head: CheckpointHead,
+    latest: &[Named],
+) -> Result<u64, FolderFault>
+    requires slot { slot ≤ 1 }
+    requires behind { 1 ≤ at }
+    requires place { IsTrue H.tells → at ≤ length ((H.world host.old).disk (Manager slot)).seen }
+    requires size { length latest.now ≤ 65536 }
+    ensures run { IsTrue H.tells → RunsOnFile (Manager slot) KeepsGate 0 (H.world host.old) (H.world host.new) }
+    ensures written { OnOk result (IsTrue H.tells
+        → HasWritten slot at (block_at (spelling_of_piece (flag_of more) head.count head.next_unit.0 (map copy_of latest.now))) (H.world host.old) (H.world host.new)) }
+    ensures end { IfOk result (λ end. (end ≡ at + length (block_at (spelling_of_piece (flag_of more) head.count head.next_unit.0 (map copy_of latest.now)))) × (end < 2 ^ 63)) }
+    ensures within { IfOk result (λ end. IsTrue H.tells → end ≤ length ((H.world host.new).disk (Manager slot)).seen) }
+    ensures fits { OnOk result (AllByRecursion WriteFits (map copy_of latest.now)) }
+    ensures whole { (other : AFile) (place : ℕ) → IsErrOf result (AFault.Damaged other place) → ⊥ }
+    ensures calm { OnOk result (NoneFailed (H.faults host.old) (H.faults host.new)) }
+    ensures fault { IfErr result (λ e. ReadFaulted e (H.faults host.old) (H.faults host.new)) }
+    ensures ready { StaysReady (H.is_ready host.old) (H.is_ready host.new) }
+{
+    let block = piece_block(alloc, more, head, latest)?;
+    put(host, slot, at, block.as_slice())
+}
+
+// The pieces that others follow were written at an offset, and what is left of the versions is one piece at most.
+#[derive(Clone, Copy)]
+struct Front<'a> {
+    end: u64,
+    rest: &'a [Named],
+}
+
+// Writes the blocks of the pieces that others follow, from an offset on.
+fn put_front<'a, H: Host>(
+    alloc: Global,
+    host: &mut H,
+    slot: u8,
+    at: u64,
+    head: CheckpointHead,
+    latest: &'a [Named],
+) -> Result<Front<'a>, FolderFault>
+    requires slot { slot ≤ 1 }
+    requires behind { (1 ≤ at) × (at < 2 ^ 63) }
+    requires place { IsTrue H.tells → at ≤ length ((H.world host.old).disk (Manager slot)).seen }
+    ensures run { IsTrue H.tells → RunsOnFile (Manager slot) KeepsGate 0 (H.world host.old) (H.world host.new) }
+    ensures written { IfOk result (λ made. HasFront H.tells slot at head latest.now made.rest.now made.end (H.world host.old) (H.world host.new)) }
+    ensures size { IfOk result (λ made. length made.rest.now ≤ 65536) }
+    ensures within { IfOk result (λ made. IsTrue H.tells → made.end ≤ length ((H.world host.new).disk (Manager slot)).seen) }
+    ensures bound { IfOk result (λ made. (1 ≤ made.end) × (made.end < 2 ^ 63)) }
+    ensures whole { (other : AFile) (place : ℕ) → IsErrOf result (AFault.Damaged other place) → ⊥ }
+    ensures calm { OnOk result (NoneFailed (H.faults host.old) (H.faults host.new)) }
+    ensures fault { IfErr result (λ e. ReadFaulted e (H.faults host.old) (H.faults host.new)) }
+    ensures ready { StaysReady (H.is_ready host.old) (H.is_ready host.new) }
+{
+    let mut end = at;
+    let mut rest = latest;
+    while rest.len() > PIECE {
+        let (piece, behind) = rest.split_at(PIECE);
+        end = put_piece(alloc, host, slot, end, true, head, piece)?;
+        rest = behind;
+    }
+    Ok(Front { end, rest })
+}
+
+/// Writes the manager file of a slot behind its closed header gate: the rest of a header of this generation, and a checkpoint with
+/// this head that names the copies of these versions, in pieces of at most 65,536, up to a closed gate; and syncs it. `Failed` names
+/// that file.
+pub fn write_pieces<H: Host>(
+    alloc: Global,
+    host: &mut H,
+    slot: u8,
+    generation: u32,
+    head: CheckpointHead,
+    latest: &[Named],
+) -> Result<(), FolderFault>
+    requires slot { slot ≤ 1 }
+    requires gate { IsTrue H.tells → 1 ≤ length ((H.world host.old).disk (Manager slot)).seen }
+    ensures run { IsTrue H.tells → RunsOnFile (Manager slot) KeepsGate 1 (H.world host.old) (H.world host.new) }
+    ensures written { OnOk result (IsTrue H.tells
+        → HasPieces generation head (map copy_of latest.now) ((H.world host.old).disk (Manager slot)) ((H.world host.new).disk (Manager slot))) }
+    ensures whole { (other : AFile) (place : ℕ) → IsErrOf result (AFault.Damaged other place) → ⊥ }
+    ensures calm { OnOk result (NoneFailed (H.faults host.old) (H.faults host.new)) }
+    ensures fault { IfErr result (λ e. ReadFaulted e (H.faults host.old) (H.faults host.new)) }
+    ensures ready { StaysReady (H.is_ready host.old) (H.is_ready host.new) }
+{
+    let at = put_header(host, slot, generation)?;
+    let front = put_front(alloc, host, slot, at, head, latest)?;
+    let end = put_piece(alloc, host, slot, front.end, false, head, front.rest)?;
+    put(host, slot, end, &[0])?;
+    let file = FileId::Manager { slot };
+    match host.sync(file) {
+        Ok(()) => Ok(()),
+        Err(Failed) => Err(FolderFault::Failed { file }),
+    }
+}

@@ -1,0 +1,24 @@
+use Rattle.promise_laws.proofs.GateBytes.{open_below, short_below, empty_below}
+use Rattle.promise_laws.proofs.OtherSlots.{closing, filling, either, opened}
+use Rattle.promise_laws.proofs.compacting.compacting_keeps_the_log.Goals as goal
+
+pub returns-clause-opening_closed : goal.returns-clause-opening_closed
+returns-clause-opening_closed c = open_below
+
+pub returns-clause-opening_short : goal.returns-clause-opening_short
+returns-clause-opening_short c = short_below
+
+pub returns-clause-opening_empty : goal.returns-clause-opening_empty
+returns-clause-opening_empty c = empty_below
+
+pub returns-clause-closing : goal.returns-clause-closing
+returns-clause-closing c = closing
+
+pub returns-clause-filling : goal.returns-clause-filling
+returns-clause-filling c = filling
+
+pub returns-clause-turning : goal.returns-clause-turning
+returns-clause-turning c live log w can new mid ready m changes image is = either live log w can new mid ready m changes image is
+
+pub returns-clause-turned : goal.returns-clause-turned
+returns-clause-turned c = opened

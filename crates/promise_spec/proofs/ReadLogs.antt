@@ -1,0 +1,438 @@
+-- The log of a slot's files, from what is read and back.
+use Rattle.std.proofs.Common.{◌≡◌, ℕ, zero, suc, ◌^◌, ◌<◌, ◌≤◌, nat_le, Bool, true, false, if◌then◌else◌, Option, None, Some, List, [], ◌∷◌, ◌++◌, length, map, slice_index, Result, Ok, Err, refl, sym, ◌∙◌, ap, subst, arith, append_assoc, append-nil, slice_get}
+use Rattle.std.specs.Prelude.{◌==◌}
+use Rattle.std.proofs.lemmas.Bool.{eqb-true, eq-eqb, leb-true, le-leb, false≢true}
+use Rattle.std.proofs.lemmas.List.{length-map, map-append}
+use Rattle.std.proofs.lemmas.Option.{slice_get_within}
+use Rattle.std.specs.List.{flat_map, AllByRecursion}
+use Rattle.base_types.specs.declared.calls.GrainId.{GrainId}
+use Rattle.base_types.specs.declared.calls.UnitNo.{UnitNo}
+use Rattle.base_types.specs.declared.calls.Value.{Value}
+use Rattle.base_types.specs.declared.shapes.Shape.{Shape}
+use Rattle.base_types.specs.declared.shapes.TypeShape.{TypeShape}
+use Rattle.base_types.specs.declared.stores.Version.{Version}
+use Rattle.host_trait.specs.declared.channels.FileId.{FileId}
+use Rattle.host_trait.specs.declared.channels.FileId.TheVariants.{Manager, Program as ProgramFile, Grain}
+use Rattle.host_trait.specs.World.{Image}
+use Rattle.field_codec.specs.declared.formats.Format.TheVariants.{One}
+use Rattle.field_codec.specs.declared.units.Numbers.TheVariants.{Logged}
+use Rattle.field_codec.specs.Chains.{Chained}
+use Rattle.field_codec.specs.Readers.{AreBytes}
+use Rattle.gate_block.specs.Blocks.{BehindGate, shut, found_at}
+use Rattle.gate_block.specs.Log.{first_gate, bodies_of, gate_of, LogsUpTo}
+use Rattle.gate_block.proofs.Logs.{logged}
+use Rattle.grain_log.specs.Reads.{fields_of}
+use Rattle.commit_log.specs.declared.records.CheckpointHead.{CheckpointHead}
+use Rattle.commit_log.specs.declared.records.CommitRecord.{CommitRecord}
+use Rattle.commit_log.specs.declared.records.Written.{Written}
+use Rattle.commit_log.specs.Orders.{grain_after, IsAscending}
+use Rattle.commit_log.specs.Spelling.{spelling_of_body, WriteFits}
+use Rattle.commit_log.specs.Bodies.{IsShapeType, IsRecordIn}
+use Rattle.commit_log.specs.Checkpoints.{spelling_of_piece, IsSavedIn}
+use Rattle.silo_spec.specs.Silos.{IsSilo, HasProgram}
+use Rattle.promise_spec.specs.Programs.{Program, IsChecked, shape_in}
+use Rattle.promise_spec.specs.Records.{Commit}
+use Rattle.promise_spec.specs.Entries.{Recorded, records_among, Standing, Log, records_of}
+use Rattle.promise_spec.specs.Versions.{WriteStands, IsKept}
+use Rattle.promise_spec.specs.Blocks.{Block, Records, entries_in, body_of, BlockFits, Saved, Checkpoint, saved_by, spelled_piece, pieces_of, IsSaved, IsCheckpoint, standing_with, Beginning, Fresh, From, begin_byte, base_of, bodies_before, BeginsWhole}
+use Rattle.promise_spec.specs.Logs.{magic, IsLogIn}
+use Rattle.promise_spec.specs.Openings.{LogBase, LogRead, fresh_base, header_damage, behind_header, behind_base, saved_behind, no_more, no_piece, records_behind, log_as, log_in_file, named_by, named_of_base, named_in, named_by_grain, version_named, first_missing, state_of, commit_of, states_read, log_of}
+use Rattle.promise_spec.proofs.Lists.{parts_of, both_parts}
+use Rattle.promise_spec.proofs.Batched.{batch_in, batch_body, bodies_are, bodies_again, sizes_are, sizes_again, entries_are, entries_again, recorded_back, kept_are, kept_again}
+use Rattle.promise_spec.proofs.ReadBlocks.{AreBatches, bodies_bytes, is_logged, no_whole, ended, batches_of, batches_read}
+use Rattle.promise_spec.proofs.ReadCheckpoints.{joined, pieces_read, AreSavedPieces, base_by, pieces_of_read, saved_next}
+use Rattle.promise_spec.proofs.ReadVersions.{IsThere, saved_as, saved_stands, saved_stood, all_in_order, all_of_order, all_are_kept, all_are_there, same_commits, none_missing, missing_none}
+
+-- ---- lists of lists
+
+flat_mapped : {A B : Type 0} (f : A → B) (xs : List (List A)) → flat_map (λ batch. batch) (map (map f) xs) ≡ map f (flat_map (λ batch. batch) xs)
+flat_mapped f [] = refl
+flat_mapped {A} {B} f (x ∷ xs) = ap (λ (l : List B). map f x ++ l) (flat_mapped f xs) ∙ sym (map-append f x (flat_map (λ batch. batch) xs))
+
+sizes_map : {A B : Type 0} (most : ℕ) (f : A → B) (xs : List (List A)) → AllByRecursion (λ batch. length batch ≤ most) xs → AllByRecursion (λ batch. length batch ≤ most) (map (map f) xs)
+sizes_map most f [] all = tt
+sizes_map most f (x ∷ xs) all = (subst (λ (n : ℕ). n ≤ most) (sym (length-map x f)) all.0, sizes_map most f xs all.1)
+
+-- ---- records and the bodies of their batches
+
+bodies_as : (batches : List (List Commit)) → map batch_body batches ≡ map spelling_of_body (map (map (λ (c : Commit). c.logged)) batches)
+bodies_as [] = refl
+bodies_as (batch ∷ batches) = ap (λ (l : List (List ℕ)). batch_body batch ∷ l) (bodies_as batches)
+
+-- ---- the header
+
+-- a header's damage, by the tests of its two bytes
+abbrev whole_by : Bool → Bool → Option ℕ
+whole_by b c = if b then (if c then None else Some 14) else Some 13
+
+-- of two tests, both
+both_pass : (b c : Bool) → whole_by b c ≡ None → (b ≡ true) × (c ≡ true)
+both_pass true true e = (refl, refl)
+both_pass true false e = absurd cc
+both_pass false c e = absurd cc
+
+header_none : (file : List ℕ) → header_damage file ≡ None → (slice_index file 13 ≤ 1) × (slice_index file 14 ≡ 0)
+header_none file e =
+    let t = both_pass (nat_le (slice_index file 13) 1) (slice_index file 14 == 0) e in
+    (leb-true (slice_index file 13) 1 t.0, eqb-true (slice_index file 14) 0 t.1)
+
+pub none_header : (file : List ℕ) → slice_index file 13 ≤ 1 → slice_index file 14 ≡ 0 → header_damage file ≡ None
+none_header file low none =
+    ap (λ (b : Bool). whole_by b (slice_index file 14 == 0)) (le-leb (slice_index file 13) 1 low)
+    ∙ ap (λ (b : Bool). whole_by true b) (eq-eqb (slice_index file 14) 0 none)
+
+-- a log that is read of a file is that behind its header, which isn't damaged
+header_whole : (damage : Option ℕ) (read : Result LogRead ℕ) (l : LogRead) → behind_header damage read ≡ Ok l → (damage ≡ None) × (read ≡ Ok l)
+header_whole None read l e = (refl, e)
+header_whole (Some place) read l e = absurd cc
+
+pub begin_low : (b : Beginning) → begin_byte b ≤ 1
+begin_low Fresh = omega arith
+begin_low (From ck) = omega arith
+
+-- ---- checkpoints
+
+-- the writes of its pieces
+abbrev writes_of : List Saved → List Written
+writes_of ss = map (λ (s : Saved). s.write) ss
+
+-- what a beginning is as it is read
+abbrev pub read_base : Beginning → LogBase
+read_base Fresh = fresh_base
+read_base (From ck) = record { count = ck.count; next = ck.next; writes = writes_of (saved_by ck) }
+
+fronts_are : (ck : Checkpoint) (front : List (List Saved)) → map (spelled_piece ck 1) front ≡ map (spelling_of_piece 1 ck.count ck.next) (map writes_of front)
+fronts_are ck [] = refl
+fronts_are ck (piece ∷ front) = ap (λ (l : List (List ℕ)). spelled_piece ck 1 piece ∷ l) (fronts_are ck front)
+
+joined_are : (front : List (List Saved)) (last : List Saved) → joined (map writes_of front) (writes_of last) ≡ writes_of (flat_map (λ piece. piece) front ++ last)
+joined_are front last =
+    ap (λ (l : List Written). l ++ writes_of last) (flat_mapped (λ (s : Saved). s.write) front) ∙ sym (map-append (λ (s : Saved). s.write) (flat_map (λ piece. piece) front) last)
+
+pieces_are : (ck : Checkpoint) (rest : List (List ℕ))
+    → pieces_of ck ++ rest ≡ map (spelling_of_piece 1 ck.count ck.next) (map writes_of ck.front) ++ spelling_of_piece 0 ck.count ck.next (writes_of ck.last) ∷ rest
+pieces_are ck rest =
+    append_assoc (map (spelled_piece ck 1) ck.front) (spelled_piece ck 0 ck.last ∷ []) rest
+    ∙ ap (λ (l : List (List ℕ)). l ++ spelled_piece ck 0 ck.last ∷ rest) (fronts_are ck ck.front)
+
+module _ (live : ℕ) (p : Program) (image : Image) where
+  kind_by : (w : Written) (count : ℕ) (o : Option TypeShape) → slice_get (shape_in p).types w.grain.kind ≡ o → fields_of o ≡ Some count → IsShapeType (shape_in p) w.grain.kind
+  kind_by w count None is e = absurd cc
+  kind_by w count (Some type) is e = slice_get_within (shape_in p).types w.grain.kind type is
+
+  is_type : (s : Saved) → IsSaved live p image s → IsShapeType (shape_in p) s.write.grain.kind
+  is_type s is = kind_by s.write (length s.state) (slice_get (shape_in p).types s.write.grain.kind) refl is.stands.fields
+
+  -- versions that are saved and ascend hang together
+  hang : (last : Option GrainId) (ss : List Saved) → IsAscending last (writes_of ss) → AllByRecursion (IsSaved live p image) ss → Chained (IsSavedIn (shape_in p)) grain_after last (writes_of ss)
+  hang last [] up all = tt
+  hang last (s ∷ ss) up all = ((all.0.fits, (is_type s all.0, up.0)), hang (grain_after last s.write) ss up.1 all.1)
+
+  -- they are there
+  saved_there : (ss : List Saved) → AllByRecursion (IsSaved live p image) ss → AllByRecursion (IsThere live (shape_in p) image) (map (saved_as live (shape_in p) image) (writes_of ss))
+  saved_there [] all = tt
+  saved_there (s ∷ ss) all =
+      ((record { unit = s.unit; state = s.state }, saved_stood live (shape_in p) image s.write s.unit s.state all.0.unit.0 all.0.unit.1 all.0.stands), saved_there ss all.1)
+
+  -- with the states that are read
+  state_read : Written → GrainId × List Value
+  state_read w = (w.grain, state_of (version_named live One (shape_in p) image (saved_as live (shape_in p) image w)))
+
+  saved_states : (ss : List Saved) → AllByRecursion (IsSaved live p image) ss → map state_read (writes_of ss) ≡ map (λ (s : Saved). (s.write.grain, s.state)) ss
+  unfolding state_read
+  saved_states [] all = refl
+  saved_states (s ∷ ss) all =
+      let one : state_of (version_named live One (shape_in p) image (saved_as live (shape_in p) image s.write)) ≡ s.state =
+      ap state_of (saved_stood live (shape_in p) image s.write s.unit s.state all.0.unit.0 all.0.unit.1 all.0.stands) in
+      let more = saved_states ss all.1 in
+      λ i. (s.write.grain, one i) ∷ more i
+
+  states_again : (base : LogBase) → states_read live (shape_in p) image base ≡ map state_read base.writes
+  unfolding state_read
+  states_again base = refl
+
+  -- ---- what stands is read
+
+  -- What is read of a slot's files is this log.
+  pub record IsReadIn (log : Log) : Type 0 where
+    pub l : LogRead
+    pub read : log_in_file One (shape_in p) (image (Manager live)) ≡ Ok l
+    pub whole : first_missing live One (shape_in p) image (named_by_grain (named_in l)) ≡ None
+    pub is : log_of live p image l ≡ log
+    pub records : l.records ≡ map (λ (c : Commit). c.logged) (records_of log)
+    pub count : l.base.count ≡ log.base.count
+
+  -- a beginning, and the records behind it
+  pub begins_read : (b : Beginning) → BeginsWhole live p image b → (bodies : List (List ℕ)) (records : List CommitRecord) → ((gate : ℕ) → records_behind One (shape_in p) gate bodies (Ok []) ≡ Ok records)
+      → (gate : ℕ) → log_as One (shape_in p) (begin_byte b == 1) (bodies_before b ++ bodies) gate shut ≡ Ok (record { base = read_base b; records = records })
+  begins_read Fresh whole bodies records reads gate = ap (behind_base fresh_base) (reads first_gate)
+  begins_read (From ck) whole bodies records reads gate =
+      let head : CheckpointHead = record { count = ck.count; next_unit = record { 0 = ck.next } } in
+      let front : List (List Written) = map writes_of ck.front in
+      let last : List Written = writes_of ck.last in
+      let sizes = parts_of (λ (piece : List Saved). length piece ≤ 65536) ck.front (ck.last ∷ []) whole.sizes in
+      let all : joined front last ≡ writes_of (saved_by ck) = joined_are ck.front ck.last in
+      let goes = subst (λ (ws : List Written). Chained (IsSavedIn (shape_in p)) grain_after None ws) (sym all) (hang None (saved_by ck) whole.order whole.each) in
+      let t = pieces_read (shape_in p) head whole.count (omega (arith, whole.next.0), whole.next.1) bodies (Ok []) gate first_gate None tt [] front last (sizes_map 65536 (λ (s : Saved). s.write) ck.front sizes.0)
+      (subst (λ (n : ℕ). n ≤ 65536) (sym (length-map ck.last (λ (s : Saved). s.write))) sizes.1.0) goes in
+      ap (λ (bs : List (List ℕ)). saved_behind One (shape_in p) first_gate None [] bs (Ok []) gate) (pieces_are ck bodies)
+      ∙ t.1
+      ∙ ap (behind_base (record { count = ck.count; next = ck.next; writes = joined front last })) (reads t.0)
+      ∙ (λ i. Ok (record { base = record { count = ck.count; next = ck.next; writes = all i }; records = records }))
+
+  pub begins_there : (b : Beginning) → BeginsWhole live p image b → AllByRecursion (IsThere live (shape_in p) image) (named_of_base (read_base b))
+  begins_there Fresh whole = tt
+  begins_there (From ck) whole = saved_there (saved_by ck) whole.each
+
+  pub begins_stand : (b : Beginning) → BeginsWhole live p image b
+      → standing_with p (read_base b).count (read_base b).next (states_read live (shape_in p) image (read_base b)) ≡ base_of p b
+  begins_stand Fresh whole = refl
+  begins_stand (From ck) whole =
+      ap (standing_with p ck.count ck.next) (states_again (read_base (From ck)) ∙ saved_states (saved_by ck) whole.each)
+
+  pub base_count : (b : Beginning) → (read_base b).count ≡ (base_of p b).count
+  base_count Fresh = refl
+  base_count (From ck) = refl
+
+  pub fit_of : (cs : List Commit) → AllByRecursion (IsKept live (shape_in p) image) cs → AllByRecursion (IsRecordIn One Logged (shape_in p)) (map (λ c. c.logged) cs)
+  fit_of [] all = tt
+  fit_of (c ∷ cs) all = (all.0.fits, fit_of cs all.1)
+
+  -- the records of these blocks
+  pub blocks_read : (blocks : List Block) (log : Log) → AllByRecursion BlockFits blocks → log.entries ≡ flat_map entries_in blocks
+      → AllByRecursion (IsRecordIn One Logged (shape_in p)) (map (λ (c : Commit). c.logged) (records_of log)) → (gate : ℕ)
+      → records_behind One (shape_in p) gate (map body_of blocks) (Ok []) ≡ Ok (map (λ (c : Commit). c.logged) (records_of log))
+  blocks_read blocks log sizes are fits gate =
+      let batches : List (List CommitRecord) = map (map (λ (c : Commit). c.logged)) (map batch_in blocks) in
+      let records : records_of log ≡ flat_map (λ (batch : List Commit). batch) (map batch_in blocks) = ap records_among are ∙ entries_are blocks in
+      let flat : flat_map (λ batch. batch) batches ≡ map (λ (c : Commit). c.logged) (records_of log) = flat_mapped (λ (c : Commit). c.logged) (map batch_in blocks) ∙ ap (map (λ (c : Commit). c.logged)) (sym records) in
+      let fit : AllByRecursion (IsRecordIn One Logged (shape_in p)) (flat_map (λ batch. batch) batches) = subst (λ (l : List CommitRecord). AllByRecursion (IsRecordIn One Logged (shape_in p)) l) (sym flat) fits in
+      ap (λ (l : List (List ℕ)). records_behind One (shape_in p) gate l (Ok [])) (bodies_are blocks ∙ bodies_as (map batch_in blocks))
+      ∙ batches_read (shape_in p) gate batches (sizes_map 64 (λ (c : Commit). c.logged) (map batch_in blocks) (sizes_are blocks sizes)) fit
+      ∙ ap (λ (l : List CommitRecord). Ok l) flat
+
+-- the log of a slot's files is read of them
+unfoldable pub read_in : (live : ℕ) (image : Image) (log : Log) → (is : IsLogIn live image log) → IsReadIn live is.stands.program image log
+read_in live image log is =
+    let s = is.stands in
+    let p : Program = s.program in
+    let file : List ℕ = image (Manager live) in
+    let bodies : List (List ℕ) = is.bodies in
+    let t = logged bodies is.gate file (record { blocks = s.stand; closed = is.closed }) in
+    let kept : AllByRecursion (IsKept live (shape_in p) image) (records_of log) = kept_are live p image log.entries s.kept in
+    let logged_records : List CommitRecord = map (λ (c : Commit). c.logged) (records_of log) in
+    let reads : (gate : ℕ) → records_behind One (shape_in p) gate (map body_of s.blocks) (Ok []) ≡ Ok logged_records =
+    λ gate. blocks_read live p image s.blocks log s.fit s.entries (fit_of live p image (records_of log) kept) gate in
+    let l : LogRead = record { base = read_base s.begins; records = logged_records } in
+    let named : AllByRecursion (IsThere live (shape_in p) image) (named_in l) =
+    both_parts (IsThere live (shape_in p) image) (named_of_base (read_base s.begins)) (named_by logged_records) (begins_there live p image s.begins s.whole) (all_are_there live (shape_in p) image (records_of log) kept) in
+    let entries : map Recorded (map (commit_of live (shape_in p) image) logged_records) ≡ log.entries =
+    ap (map Recorded) (same_commits live (shape_in p) image (records_of log) kept) ∙ recorded_back log.entries in
+    let base : standing_with p l.base.count l.base.next (states_read live (shape_in p) image l.base) ≡ log.base = begins_stand live p image s.begins s.whole ∙ sym s.base in
+    record {
+      l = l;
+      read =
+          ap (λ (damage : Option ℕ). behind_header damage (log_as One (shape_in p) (slice_index file 13 == 1) (bodies_of file) (gate_of file) (found_at (gate_of file) file)))
+          (none_header file (subst (λ (n : ℕ). n ≤ 1) (sym s.kind) (begin_low s.begins)) s.zero)
+          ∙ ap (λ (n : ℕ). log_as One (shape_in p) (n == 1) (bodies_of file) (gate_of file) (found_at (gate_of file) file)) s.kind
+          ∙ ap (λ (f : BehindGate). log_as One (shape_in p) (begin_byte s.begins == 1) (bodies_of file) (gate_of file) f) t.2
+          ∙ ap (λ (bs : List (List ℕ)). log_as One (shape_in p) (begin_byte s.begins == 1) bs (gate_of file) shut) (t.0 ∙ s.spelled)
+          ∙ begins_read live p image s.begins s.whole (map body_of s.blocks) logged_records reads (gate_of file);
+      whole = missing_none live (shape_in p) image (named_by_grain (named_in l)) (all_in_order (IsThere live (shape_in p) image) (named_in l) named);
+      is = λ i. record { base = base i; entries = entries i };
+      records = refl;
+      count = base_count live p image s.begins ∙ sym (ap (λ (b : Standing). b.count) s.base);
+    }
+
+-- ---- what is read stands
+
+logged_back : (live : ℕ) (shape : Shape) (image : Image) (records : List CommitRecord) → map (λ (c : Commit). c.logged) (map (commit_of live shape image) records) ≡ records
+logged_back live shape image [] = refl
+logged_back live shape image (r ∷ records) = ap (λ (l : List CommitRecord). r ∷ l) (logged_back live shape image records)
+
+bodies_back : (live : ℕ) (shape : Shape) (image : Image) (batches : List (List CommitRecord)) → map batch_body (map (map (commit_of live shape image)) batches) ≡ map spelling_of_body batches
+bodies_back live shape image [] = refl
+bodies_back live shape image (batch ∷ batches) =
+    let one : batch_body (map (commit_of live shape image) batch) ≡ spelling_of_body batch = ap spelling_of_body (logged_back live shape image batch) in
+    let more = bodies_back live shape image batches in
+    λ i. one i ∷ more i
+
+module _ (live : ℕ) (p : Program) (image : Image) (are : (file : FileId) → AreBytes (image file)) (silo : IsSilo magic (image (Manager live))) (checked : IsChecked p) (text : HasProgram p.text (image (ProgramFile live)))
+    (l : LogRead) (whole : first_missing live One (shape_in p) image (named_by_grain (named_in l)) ≡ None) where
+  abbrev manager_file : List ℕ
+  manager_file = image (Manager live)
+
+  -- each version that it names is there
+  named_there : AllByRecursion (IsThere live (shape_in p) image) (named_in l)
+  named_there = all_of_order (IsThere live (shape_in p) image) (named_in l) (none_missing live (shape_in p) image (named_by_grain (named_in l)) whole)
+
+  -- behind a beginning that stands, records that were read are blocks
+  finish : (b : Beginning) → slice_index manager_file 13 ≡ begin_byte b → slice_index manager_file 14 ≡ 0 → standing_with p l.base.count l.base.next (states_read live (shape_in p) image l.base) ≡ base_of p b
+      → BeginsWhole live p image b → (rest : List (List ℕ)) → bodies_of manager_file ≡ bodies_before b ++ rest → AllByRecursion AreBytes rest
+      → (gate : ℕ) → records_behind One (shape_in p) gate rest (no_more (gate_of manager_file) (found_at (gate_of manager_file) manager_file)) ≡ Ok l.records → IsLogIn live image (log_of live p image l)
+  finish b kind nought base begins rest split bytes gate read =
+      let t = batches_of (shape_in p) gate rest (no_more (gate_of manager_file) (found_at (gate_of manager_file) manager_file)) l.records bytes read in
+      let r : AreBatches (shape_in p) rest l.records t.0 = t.2 in
+      let end = ended (gate_of manager_file) (found_at (gate_of manager_file) manager_file) t.0 (no_whole manager_file) t.1 in
+      let all : List CommitRecord = flat_map (λ batch. batch) r.batches in
+      let same : l.records ≡ all = r.all_are ∙ ap (λ (x : List CommitRecord). all ++ x) end.1 ∙ append-nil all in
+      let fit : AllByRecursion (IsRecordIn One Logged (shape_in p)) l.records = subst (λ (x : List CommitRecord). AllByRecursion (IsRecordIn One Logged (shape_in p)) x) (sym same) r.fit in
+      let there = parts_of (IsThere live (shape_in p) image) (named_of_base l.base) (named_by l.records) named_there in
+      let logs : LogsUpTo (bodies_of manager_file) (gate_of manager_file) manager_file = is_logged manager_file (are (Manager live)) (omega (arith, silo.long)) end.0 in
+      let batches : List (List Commit) = map (map (commit_of live (shape_in p) image)) r.batches in
+      let commits : List Commit = map (commit_of live (shape_in p) image) l.records in
+      let commits_are : commits ≡ flat_map (λ (batch : List Commit). batch) batches = ap (map (commit_of live (shape_in p) image)) same ∙ sym (flat_mapped (commit_of live (shape_in p) image) r.batches) in
+      record {
+        bodies = bodies_of manager_file;
+        gate = gate_of manager_file;
+        stands = record {
+          silo = silo;
+          program = p;
+          checked = checked;
+          text = text;
+          begins = b;
+          kind = kind;
+          zero = nought;
+          base = base;
+          whole = begins;
+          blocks = map Records batches;
+          fit = sizes_again batches (sizes_map 64 (commit_of live (shape_in p) image) r.batches r.sizes);
+          spelled = split ∙ ap (λ (bs : List (List ℕ)). bodies_before b ++ bs) (r.spelled ∙ sym (bodies_back live (shape_in p) image r.batches) ∙ bodies_again batches);
+          stand = logs.blocks;
+          entries = ap (map Recorded) commits_are ∙ entries_again batches;
+          kept = kept_again live p image commits (all_are_kept live (shape_in p) image are l.records fit there.1);
+        };
+        closed = logs.closed;
+      }
+
+  -- the version that is read of a write, as it is saved
+  unit_of : Result Version ℕ → UnitNo
+  unit_of (Ok v) = v.unit
+  unit_of (Err place) = record { 0 = 0 }
+
+  saved_read : Written → Saved
+  saved_read w = record {
+    unit = unit_of (version_named live One (shape_in p) image (saved_as live (shape_in p) image w));
+    write = w;
+    state = state_of (version_named live One (shape_in p) image (saved_as live (shape_in p) image w));
+  }
+
+  writes_back : (ws : List Written) → writes_of (map saved_read ws) ≡ ws
+  unfolding saved_read
+  writes_back [] = refl
+  writes_back (w ∷ ws) = ap (λ (x : List Written). w ∷ x) (writes_back ws)
+
+  states_back : (ws : List Written) → map (λ (s : Saved). (s.write.grain, s.state)) (map saved_read ws) ≡ map (state_read live p image) ws
+  unfolding saved_read state_read
+  states_back [] = refl
+  states_back (w ∷ ws) = ap (λ (x : List (GrainId × List Value)). state_read live p image w ∷ x) (states_back ws)
+
+  all_ascend : (last : Option GrainId) (ws : List Written) → Chained (IsSavedIn (shape_in p)) grain_after last ws → IsAscending last ws
+  all_ascend last [] all = tt
+  all_ascend last (w ∷ ws) all = (all.0.1.1, all_ascend (grain_after last w) ws all.1)
+
+  one_saved : (w : Written) → WriteFits w → IsThere live (shape_in p) image (saved_as live (shape_in p) image w) → IsSaved live p image (saved_read w)
+  unfolding saved_read unit_of
+  one_saved w fits there =
+      let is = saved_stands live (shape_in p) image w (are (Grain live w.grain)) there.0 there.1 in
+      let unit : unit_of (version_named live One (shape_in p) image (saved_as live (shape_in p) image w)) ≡ there.0.unit = ap unit_of there.1 in
+      let state : state_of (version_named live One (shape_in p) image (saved_as live (shape_in p) image w)) ≡ there.0.state = ap state_of there.1 in
+      record {
+        fits = fits;
+        unit = subst (λ (u : UnitNo). (0 < u.0) × (u.0 < 2 ^ 63)) (sym unit) is.0;
+        stands = subst (λ (u : UnitNo). WriteStands live (shape_in p) image u w (state_of (version_named live One (shape_in p) image (saved_as live (shape_in p) image w)))) (sym unit)
+            (subst (WriteStands live (shape_in p) image there.0.unit w) (sym state) is.1);
+      }
+
+  each_saved : (last : Option GrainId) (ws : List Written) → Chained (IsSavedIn (shape_in p)) grain_after last ws → AllByRecursion (IsThere live (shape_in p) image) (map (saved_as live (shape_in p) image) ws)
+      → AllByRecursion (IsSaved live p image) (map saved_read ws)
+  each_saved last [] all there = tt
+  each_saved last (w ∷ ws) all there = (one_saved w all.0.0 there.0, each_saved (grain_after last w) ws all.1 there.1)
+
+  -- the checkpoint that was read
+  module _ (bodies : List (List ℕ)) (end : Result (List CommitRecord) ℕ) (r : AreSavedPieces (shape_in p) None [] bodies end l) where
+    ck : Checkpoint
+    ck = record { count = r.head.count; next = r.head.next_unit.0; front = map (map saved_read) r.front; last = map saved_read r.last }
+
+    saved_are : saved_by ck ≡ map saved_read (joined r.front r.last)
+    unfolding ck
+    saved_are =
+        ap (λ (x : List Saved). x ++ map saved_read r.last) (flat_mapped saved_read r.front) ∙ sym (map-append saved_read (flat_map (λ piece. piece) r.front) r.last)
+
+    base_writes : l.base.writes ≡ joined r.front r.last
+    base_writes = ap (λ (b : LogBase). b.writes) r.base
+
+    fronts_back : (count next : ℕ) (front : List (List Written)) (other : Checkpoint) → other.count ≡ count → other.next ≡ next → map (spelled_piece other 1) (map (map saved_read) front) ≡ map (spelling_of_piece 1 count next) front
+    fronts_back count next [] other e f = refl
+    fronts_back count next (ws ∷ front) other e f =
+        let one : spelled_piece other 1 (map saved_read ws) ≡ spelling_of_piece 1 count next ws = λ i. spelling_of_piece 1 (e i) (f i) (writes_back ws i) in
+        let more = fronts_back count next front other e f in
+        λ i. one i ∷ more i
+
+    bodies_split : bodies ≡ pieces_of ck ++ r.rest
+    unfolding ck
+    bodies_split =
+        r.spelled
+        ∙ (λ i. sym (fronts_back r.head.count r.head.next_unit.0 r.front ck refl refl) i ++ spelling_of_piece 0 r.head.count r.head.next_unit.0 (sym (writes_back r.last) i) ∷ r.rest)
+        ∙ sym (append_assoc (map (spelled_piece ck 1) ck.front) (spelled_piece ck 0 ck.last ∷ []) r.rest)
+
+    is_checkpoint : IsCheckpoint live p image ck
+    unfolding ck
+    is_checkpoint = record {
+      count = r.low;
+      next = (omega (arith, r.next.0), r.next.1);
+      sizes = both_parts (λ (piece : List Saved). length piece ≤ 65536) ck.front (ck.last ∷ []) (sizes_map 65536 saved_read r.front r.sizes)
+          (subst (λ (n : ℕ). n ≤ 65536) (sym (length-map r.last saved_read)) r.size, tt);
+      order = subst (IsAscending None) (sym (ap writes_of saved_are ∙ writes_back (joined r.front r.last))) (all_ascend None (joined r.front r.last) r.goes);
+      each = subst (AllByRecursion (IsSaved live p image)) (sym saved_are)
+          (each_saved None (joined r.front r.last) r.goes
+          (subst (λ (ws : List Written). AllByRecursion (IsThere live (shape_in p) image) (map (saved_as live (shape_in p) image) ws)) base_writes
+          (parts_of (IsThere live (shape_in p) image) (named_of_base l.base) (named_by l.records) named_there).0));
+    }
+
+    base_is : standing_with p l.base.count l.base.next (states_read live (shape_in p) image l.base) ≡ base_of p (From ck)
+    unfolding ck
+    base_is =
+        (λ i. standing_with p (r.base i).count (r.base i).next (states_read live (shape_in p) image (r.base i)))
+        ∙ ap (standing_with p r.head.count r.head.next_unit.0)
+        (states_again live p image (record { count = r.head.count; next = r.head.next_unit.0; writes = joined r.front r.last })
+        ∙ sym (states_back (joined r.front r.last)) ∙ sym (ap (map (λ (s : Saved). (s.write.grain, s.state))) saved_are))
+
+  by_kind : (flag : Bool) → (slice_index manager_file 13 == 1) ≡ flag → slice_index manager_file 13 ≤ 1 → slice_index manager_file 14 ≡ 0
+      → log_as One (shape_in p) flag (bodies_of manager_file) (gate_of manager_file) (found_at (gate_of manager_file) manager_file) ≡ Ok l → IsLogIn live image (log_of live p image l)
+  by_kind false kind low nought e =
+      let none : slice_index manager_file 13 ≡ 0 = small (slice_index manager_file 13) low kind in
+      let t = base_by (shape_in p) fresh_base (records_behind One (shape_in p) first_gate (bodies_of manager_file) (no_more (gate_of manager_file) (found_at (gate_of manager_file) manager_file))) l e in
+      finish Fresh none nought (λ i. standing_with p (t.0 i).count (t.0 i).next (states_read live (shape_in p) image (t.0 i))) tt (bodies_of manager_file) refl
+      (bodies_bytes manager_file (are (Manager live)) (length manager_file) first_gate) first_gate t.1
+    where
+      small : (n : ℕ) → n ≤ 1 → (n == 1) ≡ false → n ≡ 0
+      small zero le none = refl
+      small (suc zero) le none = absurd (false≢true (sym none))
+      small (suc (suc n)) le none = absurd (omega (arith, le))
+  by_kind true kind low nought e =
+      let one : slice_index manager_file 13 ≡ 1 = eqb-true (slice_index manager_file 13) 1 kind in
+      let end = no_more (gate_of manager_file) (found_at (gate_of manager_file) manager_file) in
+      let r = pieces_of_read (shape_in p) first_gate None [] (bodies_of manager_file) end (no_piece (gate_of manager_file) (found_at (gate_of manager_file) manager_file)) l
+      (bodies_bytes manager_file (are (Manager live)) (length manager_file) first_gate) e in
+      finish (From (ck (bodies_of manager_file) end r)) one nought (base_is (bodies_of manager_file) end r) (is_checkpoint (bodies_of manager_file) end r) r.rest (bodies_split (bodies_of manager_file) end r) r.bytes r.gate r.records
+
+  -- a log that is read of a slot's files is theirs
+  pub stands_in : log_in_file One (shape_in p) manager_file ≡ Ok l → IsLogIn live image (log_of live p image l)
+  stands_in e =
+      let h = header_whole (header_damage manager_file) (log_as One (shape_in p) (slice_index manager_file 13 == 1) (bodies_of manager_file) (gate_of manager_file) (found_at (gate_of manager_file) manager_file)) l e in
+      let parts = header_none manager_file h.0 in
+      by_kind (slice_index manager_file 13 == 1) refl parts.0 parts.1 h.1
+
+-- The number of the unit that is next where a log begins that is read is above 0.
+pub next_read : (shape : Shape) (file : List ℕ) (l : LogRead) → log_in_file One shape file ≡ Ok l → 0 < l.base.next
+next_read shape file l e =
+    by (slice_index file 13 == 1) (header_whole (header_damage file) (log_as One shape (slice_index file 13 == 1) (bodies_of file) (gate_of file) (found_at (gate_of file) file)) l e).1
+  where
+    by : (flag : Bool) → log_as One shape flag (bodies_of file) (gate_of file) (found_at (gate_of file) file) ≡ Ok l → 0 < l.base.next
+    by false e =
+        let t = base_by shape fresh_base (records_behind One shape first_gate (bodies_of file) (no_more (gate_of file) (found_at (gate_of file) file))) l e in
+        let one : 0 < 1 = omega arith in
+        subst (λ (b : LogBase). 0 < b.next) (sym t.0) one
+    by true e =
+        saved_next shape first_gate None [] (bodies_of file) (no_more (gate_of file) (found_at (gate_of file) file)) (no_piece (gate_of file) (found_at (gate_of file) file)) l e

@@ -1,0 +1,48 @@
+ghost use Rattle.std.specs.Prelude.{◌≡◌, ◌⊎◌, ◌≤◌, List, IsTrue, OnOk, IfOk, IfErr};
+ghost use Rattle.host_trait.specs.Files.{StaysReady};
+ghost use Rattle.host_trait.specs.Faults.{NoneFailed};
+ghost use Rattle.host_trait.specs.Runs.{OnlyAsked};
+ghost use Rattle.host_trait.specs.declared.channels.FileId.TheVariants.{Manager};
+ghost use Rattle.log_reading.specs.Steps.{seen_in};
+ghost use Rattle.promise_spec.specs.Programs.{shape_in};
+ghost use Rattle.silo_opening.specs.declared.faults.OpenFault.{OpenFault};
+ghost use Rattle.silo_opening.specs.Counts.{OpenFaulted};
+ghost use Rattle.silo_opening.specs.OpenedSilo.{program_in, IsOpenedFrom, AreLatest};
+
+use crate::faults::OpenFault;
+use crate::opened_silo::{Opened, folder_fault};
+use base_types::{List, Shape};
+use commit_log::Named;
+use field_codec::Format;
+use host_trait::Host;
+use log_reading::read_latest;
+use std::alloc::Global;
+
+/// The versions of an opened silo by which its grains' states stand: one of each grain that has a state, by ascending grains. Reads the
+/// blocks of the log once more, and no version. The folder must read as it did when it was opened.
+///
+/// # Errors
+///
+/// `DiskFault` where a call on the live slot's manager file failed, and `Memory`.
+pub fn latest_versions<H: Host>(
+    alloc: Global,
+    host: &mut H,
+    shape: &Shape,
+    opened: &Opened,
+) -> Result<List<Named>, OpenFault>
+    requires slot { opened.now.slot ≤ 1 }
+    requires shape { shape.now ≡ shape_in (program_in opened.now) }
+    ensures latest { IfOk result (λ named. IsTrue H.tells → (o : IsOpenedFrom (seen_in (H.world host.old).disk) opened.now)
+        → AreLatest (seen_in (H.world host.old).disk) opened.now o.log named) }
+    ensures refused { IfErr result (λ e. IsTrue H.tells → IsOpenedFrom (seen_in (H.world host.old).disk) opened.now
+        → (e ≡ OpenFault.Memory) ⊎ (e ≡ OpenFault.DiskFault (Manager opened.now.slot))) }
+    ensures asked { IsTrue H.tells → OnlyAsked (H.world host.old) (H.world host.new) }
+    ensures calm { OnOk result (NoneFailed (H.faults host.old) (H.faults host.new)) }
+    ensures fault { IfErr result (λ e. OpenFaulted e (H.faults host.old) (H.faults host.new)) }
+    ensures ready { StaysReady (H.is_ready host.old) (H.is_ready host.new) }
+{
+    match read_latest(alloc, host, opened.slot, shape, Format::One) {
+        Ok(named) => Ok(named),
+        Err(fault) => Err(folder_fault(fault)),
+    }
+}

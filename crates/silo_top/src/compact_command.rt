@@ -1,0 +1,38 @@
+ghost use Rattle.std.specs.Prelude.{◌≡◌, IsTrue};
+ghost use Rattle.host_trait.specs.Files.{StaysReady};
+ghost use Rattle.promise_spec.specs.Words as command;
+ghost use Rattle.promise_spec.specs.Rewriting.{Compacts};
+ghost use Rattle.promise_spec.specs.Endings.{HasFailedAs, BadUse};
+ghost use Rattle.checkpoint.specs.Endings.{compact_ending};
+ghost use Rattle.silo_top.specs.CallAnswers.{shown};
+ghost use Rattle.silo_top.specs.Statuses.{status_ending};
+
+use crate::status::Status;
+use host_trait::Host;
+use silo_opening::OpenFault;
+use std::alloc::Global;
+
+/// The status of a call that ended so.
+fn compact_status(ended: Result<(), OpenFault>) -> Status
+    ensures { status_ending result ≡ compact_ending ended }
+{
+    match ended {
+        Ok(()) => Status::Done,
+        Err(OpenFault::NotASilo) => Status::NotASilo,
+        Err(OpenFault::Damaged { file, place }) => Status::Damaged { file, place },
+        Err(OpenFault::DiskFault { file }) => Status::DiskFault { file },
+        Err(OpenFault::Memory) => Status::Memory,
+        Err(OpenFault::LastGeneration) => Status::LastGeneration,
+    }
+}
+
+/// Writes the next generation of the silo into its other slot.
+pub(crate) fn compact<H: Host>(alloc: Global, host: &mut H) -> Status
+    ensures compacts { IsTrue H.tells → Compacts
+        (shown (H.world host.old) (H.world host.new) (H.faults host.old) (H.faults host.new) result command.Compact) }
+    ensures exact { HasFailedAs (status_ending result) (H.faults host.old) (H.faults host.new) }
+    ensures good { status_ending result ≡ BadUse → ⊥ }
+    ensures ready { StaysReady (H.is_ready host.old) (H.is_ready host.new) }
+{
+    compact_status(checkpoint::compact(alloc, host))
+}
