@@ -7,7 +7,6 @@ and opens it again. Told are the seconds and the most memory of each, and the by
 program, that one is timed.
 """
 import os
-import resource
 import struct
 import subprocess
 import sys
@@ -48,13 +47,27 @@ def make(folder, grains, records):
             file.write(b"".join(here))
 
 
+def peak(process):
+    """The most memory that the process itself has had so far, in bytes, while it runs."""
+    try:
+        with open(f"/proc/{process.pid}/status") as told:
+            return next((int(line.split()[1]) * 1024 for line in told if line.startswith("VmHWM")), 0)
+    except OSError:
+        return 0
+
+
 def timed(what, folder, *words):
-    """Runs the program, and tells how long it took and how much memory it had at most."""
-    began = time.time()
+    """Runs the program, and tells how long it took and how much memory it had at most. What the system tells of a child's memory counts
+    the process that it came from, so it is asked for while the child runs."""
+    began, most = time.time(), 0
     process = subprocess.Popen([PROGRAM, folder, *words], stdin=subprocess.DEVNULL, stdout=subprocess.DEVNULL)
+    while os.waitid(os.P_PID, process.pid, os.WEXITED | os.WNOWAIT | os.WNOHANG) is None:
+        most = max(most, peak(process))
+        time.sleep(0.005)
+    took = time.time() - began
     _, status, used = os.wait4(process.pid, 0)
     process.returncode = os.waitstatus_to_exitcode(status)
-    print(f"  {what}: {time.time() - began:.2f} s, of them {used.ru_utime + used.ru_stime:.2f} s of a processor; {used.ru_maxrss} kB at most; {process.returncode}", flush=True)
+    print(f"  {what}: {took:.2f} s, of them {used.ru_utime + used.ru_stime:.2f} s of a processor; {most / 1e6:.0f} MB at most; {process.returncode}", flush=True)
 
 
 words = sys.argv[1:]
