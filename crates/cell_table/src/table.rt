@@ -129,7 +129,8 @@ impl CellTable {
             return Ok(());
         }
         let state = opening_state(self.alloc, &self.shape, &self.store, grain)?;
-        let cell = Cell::new(self.alloc, state)?;
+        let unit = UnitNo(0);
+        let cell = Cell::new(self.alloc, Version { unit, state })?;
         self.cells.insert(grain, cell)?;
         Ok(())
     }

@@ -1,10 +1,10 @@
-ghost use Rattle.std.specs.Prelude.{◌≡◌, ◌<◌, ◌≤◌, ◌+◌, ◌-◌, Bool, true, reverse, IsSome, IfOk, OnOk, OnErr, vec_len, vec_capacity};
+ghost use Rattle.std.specs.Prelude.{◌≡◌, ◌<◌, ◌≤◌, ◌==◌, ◌+◌, ◌-◌, ◌&&◌, Bool, true, [], ◌∷◌, length, reverse, IsSome, IfOk, OnOk, OnErr, vec_len, vec_capacity};
 ghost use Rattle.std.specs.List.{list_any};
 ghost use Rattle.cell_model.specs.declared.locks.Ask.TheVariants.{Free};
 ghost use Rattle.base_types.specs.declared.calls.Mode.TheVariants.{Update};
 ghost use Rattle.cell_model.specs.Stacks.{top};
 ghost use Rattle.cell_model.specs.Locks.{ask, covers, holds_lock};
-ghost use Rattle.cell_model.specs.Cells.{opened, cell_granted, cell_released, cell_learned, learnt, stacked, is_reading_of, with_reading, without_reading};
+ghost use Rattle.cell_model.specs.Cells.{cell_granted, cell_released, cell_learned, learnt, stacked, is_reading_of, with_reading, without_reading};
 ghost use Rattle.rw_locks.specs.LockView.{holds_alone};
 ghost use Rattle.grain_cell.specs.Room.{needs, was_read, without_aborted};
 
@@ -44,11 +44,12 @@ pub struct Granted {
 }
 
 impl Cell {
-    /// The cell of a grain that nobody has written.
-    pub fn new(alloc: Global, opening: State) -> Result<Cell, AllocError>
-        ensures { IfOk result (λ made. made.cell ≡ opened opening) }
+    /// The cell of a grain that comes into memory with this version, its last committed one: unit 0's with the opening state
+    /// where nobody has written the grain. Nobody has a lock of it.
+    pub fn new(alloc: Global, version: Version) -> Result<Cell, AllocError>
+        ensures { IfOk result (λ made. made.cell ≡ record { stack = version ∷ []; holds = []; readings = [] }) }
     {
-        let stack = Stack::new(alloc, opening)?;
+        let stack = Stack::new(alloc, version)?;
         let locks = LockTable::new(alloc)?;
         Ok(Cell {
             stack,
@@ -76,6 +77,13 @@ impl Cell {
         ensures { result ≡ holds_alone unit self.now.cell.holds }
     {
         self.locks.is_held_alone_by(unit)
+    }
+
+    /// Whether nobody has a lock of the grain, and it has one version alone.
+    pub fn is_idle(&self) -> bool
+        ensures { result ≡ ((length self.now.cell.holds == 0) && (length self.now.cell.stack == 1)) }
+    {
+        self.locks.is_empty() && self.stack.is_single()
     }
 
     /// The unit that wrote the newest version, 0 where that is the opening state.

@@ -9,22 +9,29 @@
 //! | `write UNIT NUMBER` | the unit gives this number and its lock back |
 //! | `commit UNIT`, `abort UNIT` | the cell learns the unit's decision |
 //! | `versions` | tells the versions, oldest first |
+//! | `idle` | tells whether nobody has a lock and there is one version alone |
 
 ghost use Rattle.std.specs.Prelude.{◌≡◌};
 ghost use Rattle.cell_model.specs.declared.locks.Ask.TheVariants.{Free};
 ghost use Rattle.cell_model.specs.Locks.{ask};
 
 use crate::cases::{Part, carry, no_step};
-use crate::printer::{add_found, add_versions};
+use crate::printer::{add_flag, add_found, add_versions};
 use crate::steps::{Step, state_of};
-use base_types::{Mode, UnitNo};
+use base_types::{Mode, UnitNo, Version};
 use cell_model::Ask;
 use grain_cell::Cell;
 use std::alloc::{AllocError, Global};
 
 /// Puts a cell through the steps.
 pub fn play(alloc: Global, out: &mut String, steps: &str) -> Result<(), AllocError> {
-    let mut cell = Cell::new(alloc, state_of(alloc, 100)?)?;
+    let mut cell = Cell::new(
+        alloc,
+        Version {
+            unit: UnitNo(0),
+            state: state_of(alloc, 100)?,
+        },
+    )?;
     carry(&mut cell, alloc, out, steps)
 }
 
@@ -113,6 +120,7 @@ impl Part for Cell {
             "commit" => learn(self, step, true),
             "abort" => learn(self, step, false),
             "versions" => add_versions(out, self.versions()),
+            "idle" => add_flag(out, self.is_idle()),
             _ => no_step(out),
         }
     }

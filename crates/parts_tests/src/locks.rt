@@ -6,8 +6,10 @@
 //! | `ask UNIT MODE` | tells what the unit is answered |
 //! | `look UNIT` | tells whether the unit has a lock, and whether it has the grain alone |
 //! | `drop UNIT` | takes the unit's lock back |
+//! | `empty` | tells whether nobody has a lock |
 
 use crate::cases::{Part, carry, no_step};
+use crate::printer::add_flag;
 use crate::steps::Step;
 use rw_locks::{Ask, LockTable};
 use std::alloc::{AllocError, Global};
@@ -53,6 +55,7 @@ impl Part for LockTable {
             "ask" => ask(self, out, step),
             "look" => look(self, out, step),
             "drop" => give_back(self, step),
+            "empty" => add_flag(out, self.is_empty()),
             _ => no_step(out),
         }
     }

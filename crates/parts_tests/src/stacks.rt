@@ -7,16 +7,24 @@
 //! | `abort UNIT` | the unit has aborted; tells whether it had a version |
 //! | `top`, `without UNIT` | tells the newest version, and what it would be without this unit's and all above it |
 //! | `versions` | tells the versions, oldest first |
+//! | `single` | tells whether there is one version alone |
 
 use crate::cases::{Part, carry, no_step};
 use crate::printer::{add_flag, add_found, add_versions};
 use crate::steps::{Step, state_of};
+use base_types::{UnitNo, Version};
 use std::alloc::{AllocError, Global};
 use version_stack::Stack;
 
 /// Puts a stack through the steps.
 pub fn play(alloc: Global, out: &mut String, steps: &str) -> Result<(), AllocError> {
-    let mut stack = Stack::new(alloc, state_of(alloc, 100)?)?;
+    let mut stack = Stack::new(
+        alloc,
+        Version {
+            unit: UnitNo(0),
+            state: state_of(alloc, 100)?,
+        },
+    )?;
     carry(&mut stack, alloc, out, steps)
 }
 
@@ -51,6 +59,7 @@ impl Part for Stack {
             "top" => add_top(out, self),
             "without" => add_without(out, self, step),
             "versions" => add_versions(out, self.versions()),
+            "single" => add_flag(out, self.is_single()),
             _ => no_step(out),
         }
     }

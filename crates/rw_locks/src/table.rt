@@ -1,4 +1,4 @@
-ghost use Rattle.std.specs.Prelude.{◌≡◌, ◌<◌, ◌≤◌, ◌+◌, [], vec_len, vec_capacity, IsOk, IfOk, OnOk};
+ghost use Rattle.std.specs.Prelude.{◌≡◌, ◌<◌, ◌≤◌, ◌==◌, ◌+◌, [], length, vec_len, vec_capacity, IsOk, IfOk, OnOk};
 ghost use Rattle.std.specs.List.{list_any};
 ghost use Rattle.cell_model.specs.Units.{joined};
 ghost use Rattle.rw_locks.specs.LockView.{holds_alone};
@@ -54,6 +54,13 @@ impl LockTable {
             Some(holder) if holder.0 < unit.0 => Ask::MustDie { holder },
             Some(holder) => Ask::MustWait { holder },
         }
+    }
+
+    /// Whether nobody has a lock.
+    pub fn is_empty(&self) -> bool
+        ensures { result ≡ (length self.now.holds == 0) }
+    {
+        self.holds.is_empty()
     }
 
     /// Whether the unit has a lock, in any mode.

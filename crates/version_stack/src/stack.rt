@@ -1,5 +1,4 @@
-ghost use Rattle.std.specs.Prelude.{◌≡◌, ◌<◌, ◌≤◌, ◌+◌, [], ◌∷◌, length, take, reverse, position, IfOk, OnOk, OnErr};
-ghost use Rattle.cell_model.specs.Units.{nobody};
+ghost use Rattle.std.specs.Prelude.{◌≡◌, ◌<◌, ◌≤◌, ◌==◌, ◌+◌, [], ◌∷◌, length, take, reverse, position, IfOk, OnOk, OnErr};
 ghost use Rattle.cell_model.specs.Stacks.{is_of, top, pushed, committed_stack, removed, has_version};
 
 use base_types::{State, UnitNo, Version};
@@ -28,15 +27,13 @@ impl Model for Stack {
 }
 
 impl Stack {
-    /// The stack of a grain that nobody has written: its opening state, as the version of unit 0.
-    pub fn new(alloc: Global, opening: State) -> Result<Stack, AllocError>
-        ensures { IfOk result (λ made. made.versions ≡ record { unit = nobody; state = opening } ∷ []) }
+    /// The stack of a grain that has this version alone: its last committed one, which is unit 0's with the opening state where
+    /// nobody has written the grain.
+    pub fn new(alloc: Global, version: Version) -> Result<Stack, AllocError>
+        ensures { IfOk result (λ made. made.versions ≡ version ∷ []) }
     {
         let mut entries = Vec::new(alloc);
-        entries.push(Version {
-            unit: UnitNo(0),
-            state: opening,
-        })?;
+        entries.push(version)?;
         Ok(Stack {
             entries,
             none: State::new(alloc),
@@ -65,6 +62,13 @@ impl Stack {
         ensures { result.now ≡ reverse self.now.versions }
     {
         self.entries.as_slice()
+    }
+
+    /// Whether there is one version alone.
+    pub fn is_single(&self) -> bool
+        ensures { result ≡ (length self.now.versions == 1) }
+    {
+        self.entries.len() == 1
     }
 
     /// Makes the spare at least 1. Without memory the stack stays as it was.
