@@ -71,19 +71,21 @@ abbrev pub is_as : Option ℕ → ℕ → Bool
 is_as None n = true
 is_as (Some m) n = n == m
 
--- the count and the next unit that the first piece says
+-- the count that the first piece says
 abbrev pub count_in : Option CheckpointHead → Option ℕ
 count_in None = None
 count_in (Some first) = Some first.count
 
+-- the next unit that it says
 abbrev pub next_in : Option CheckpointHead → Option ℕ
 next_in None = None
 next_in (Some first) = Some first.next_unit.0
 
--- which numbers are taken as a count, and as that of the next unit
+-- which numbers are taken as a count
 abbrev pub may_be_count : Option CheckpointHead → ℕ → Bool
 may_be_count first n = nat_lt n 9223372036854775808 && is_as (count_in first) n
 
+-- which are taken as the number of the next unit
 abbrev pub may_be_next : Option CheckpointHead → ℕ → Bool
 may_be_next first n = (nat_lt 0 n && nat_lt n 9223372036854775809) && is_as (next_in first) n
 

@@ -48,6 +48,19 @@ DoubtAs slot (Sealed next) bodies body gate block old new = Unit {0}
 DoubtAs slot NotSealed bodies body gate block old new = Unit {0}
 DoubtAs slot InDoubt bodies body gate block old new = StaysClosed slot bodies gate block old new ⊎ SomeLogs (bodies ++ body ∷ []) (gate + length block) (Manager slot) new.disk
 
+-- Where this block is a body's that comes next: at each moment each image has the log that it had, or it with the body more.
+abbrev pub MayLogBody : ℕ → ℕ → List ℕ → World → World → Type 0
+MayLogBody slot gate block old new =
+    (bodies : List (List ℕ)) (body : List ℕ) → IsNextBlock slot bodies body gate block old → Passes (λ m. EachLogsOrMore bodies body gate (Manager slot) m.disk) old.past new.past
+
+-- there each image has in the end the log that the answer says
+abbrev pub LogsBodyAs : ℕ → Sealing → ℕ → List ℕ → World → World → Type 0
+LogsBodyAs slot sealing gate block old new = (bodies : List (List ℕ)) (body : List ℕ) → IsNextBlock slot bodies body gate block old → LogsAs slot sealing bodies body gate old new
+
+-- and there a doubt is one of the two that it may be
+abbrev pub DoubtsBodyAs : ℕ → Sealing → ℕ → List ℕ → World → World → Type 0
+DoubtsBodyAs slot sealing gate block old new = (bodies : List (List ℕ)) (body : List ℕ) → IsNextBlock slot bodies body gate block old → DoubtAs slot sealing bodies body gate block old new
+
 -- Over every host. Sealed: the next gate is the block's last byte, and no call failed. Otherwise a call on the manager file did.
 abbrev pub SealHasCause : ℕ → Sealing → ℕ → ℕ → (Channel → ℕ) → (Channel → ℕ) → Type 0
 SealHasCause slot (Sealed next) gate size old new = (next ≡ gate + size) × ((next < 2 ^ 63) × NoneFailed old new)

@@ -1,4 +1,4 @@
-ghost use Rattle.std.specs.Prelude.{◌≡◌, ◌+◌, ◌*◌, ◌≤◌, ◌++◌, ℕ, length, OnOk, IfOk, IfErr, Ok};
+ghost use Rattle.std.specs.Prelude.{◌≡◌, ◌+◌, ◌*◌, ◌≤◌, ◌++◌, ℕ, length, take, OnOk, IfOk, IfErr, Ok};
 ghost use Rattle.std.specs.List.{AllByRecursion};
 ghost use Rattle.field_codec.specs.Results.{GivesRead, place_of};
 ghost use Rattle.gate_block.specs.Blocks.{block_at};
@@ -20,7 +20,7 @@ fn flag_of(more: bool) -> u8
 }
 
 /// Appends the body of a checkpoint's piece with these writes, at most 65,536: whether another piece follows, what each piece says,
-/// and the writes. Without memory some of its bytes may have been appended.
+/// and the writes. Without memory some of its bytes may have been appended; those that were there stay.
 pub fn put_piece(
     into: &mut Vec<u8>,
     more: bool,
@@ -30,6 +30,7 @@ pub fn put_piece(
     requires { length writes.now ≤ 65536 }
     ensures ok { OnOk result (into.new.items ≡ into.old.items ++ spelling_of_piece (flag_of more) head.count head.next_unit.0 writes.now) }
     ensures fits { OnOk result (AllByRecursion WriteFits writes.now) }
+    ensures begins { take (length into.old.items) into.new.items ≡ into.old.items }
 {
     into.push(flag_of(more))?;
     put_u64(into, head.count)?;

@@ -45,7 +45,8 @@ fn piece_at(
     requires { start + length body.now < 2 ^ 63 }
     ensures found { IfOk result (λ piece. piece_body_in shape.now first last body.now ≡ Ok piece) }
     ensures fits { IfOk result (λ piece. IsPieceIn shape.now first last piece) }
-    ensures damaged { (file : FileId) (place : ℕ) → IsErrOf result (FolderFault.Damaged file place) → (file ≡ Manager slot) × (placed start (piece_body_in shape.now first last body.now) ≡ Err place) }
+    ensures damaged { (file : FileId) (place : ℕ) → IsErrOf result (FolderFault.Damaged file place)
+        → (file ≡ Manager slot) × (placed start (piece_body_in shape.now first last body.now) ≡ Err place) }
     ensures failed { (file : FileId) → IsErrOf result (FolderFault.Failed file) → ⊥ }
 {
     match get_piece(alloc, body, shape, first, last) {
@@ -68,7 +69,8 @@ fn next_piece<H: Host>(
 ) -> Result<(CheckpointPiece, u64), FolderFault>
     requires slot { slot ≤ 1 }
     requires place { gate_at < 2 ^ 63 }
-    ensures found { IfOk result (λ found. IsTrue H.tells → next_piece_in shape.now first last gate_at ((H.world host.old).disk (Manager slot)).seen ≡ Ok found) }
+    ensures found { IfOk result (λ found. IsTrue H.tells
+        → next_piece_in shape.now first last gate_at ((H.world host.old).disk (Manager slot)).seen ≡ Ok found) }
     ensures fits { IfOk result (λ found. IsPieceIn shape.now first last found.0) }
     ensures further { IfOk result (λ found. (gate_at < found.1) × (found.1 < 2 ^ 63)) }
     ensures damaged { (file : FileId) (place : ℕ) → IsErrOf result (FolderFault.Damaged file place) → IsTrue H.tells
@@ -136,7 +138,8 @@ fn read_checkpoint<H: Host>(
     ensures begins { IfOk result (λ b. IsTrue H.tells → (format : Format) → BeginsSaved ((H.world host.old).disk (Manager slot)).seen
         → Follows format shape.now ((H.world host.old).disk (Manager slot)).seen (base_of b) [] b.gate_at) }
     ensures bound { IfOk result (λ b. (b.gate_at < 2 ^ 63) × ((b.count < 2 ^ 63) × ((0 < b.next_unit.0) × (b.next_unit.0 ≤ 2 ^ 63)))) }
-    ensures damaged { (file : FileId) (place : ℕ) → IsErrOf result (FolderFault.Damaged file place) → IsTrue H.tells → BeginsSaved ((H.world host.old).disk (Manager slot)).seen
+    ensures damaged { (file : FileId) (place : ℕ) → IsErrOf result (FolderFault.Damaged file place) → IsTrue H.tells
+        → BeginsSaved ((H.world host.old).disk (Manager slot)).seen
         → (format : Format) → log_in_file format shape.now ((H.world host.old).disk (Manager slot)).seen ≡ Err place }
     ensures file { (file : FileId) (place : ℕ) → IsErrOf result (FolderFault.Damaged file place) → file ≡ Manager slot }
     ensures failed { (file : FileId) → IsErrOf result (FolderFault.Failed file) → file ≡ Manager slot }
@@ -175,7 +178,8 @@ pub fn read_base<H: Host>(
     shape: &Shape,
 ) -> Result<Base, FolderFault>
     requires slot { slot ≤ 1 }
-    ensures begins { IfOk result (λ b. IsTrue H.tells → (format : Format) → Follows format shape.now ((H.world host.old).disk (Manager slot)).seen (base_of b) [] b.gate_at) }
+    ensures begins { IfOk result (λ b. IsTrue H.tells → (format : Format)
+        → Follows format shape.now ((H.world host.old).disk (Manager slot)).seen (base_of b) [] b.gate_at) }
     ensures bound { IfOk result (λ b. (b.gate_at < 2 ^ 63) × ((b.count < 2 ^ 63) × ((0 < b.next_unit.0) × (b.next_unit.0 ≤ 2 ^ 63)))) }
     ensures damaged { (file : FileId) (place : ℕ) → IsErrOf result (FolderFault.Damaged file place) → IsTrue H.tells
         → (format : Format) → log_in_file format shape.now ((H.world host.old).disk (Manager slot)).seen ≡ Err place }

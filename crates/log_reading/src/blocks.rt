@@ -47,7 +47,8 @@ fn records_at(
     requires { start + length body.now < 2 ^ 63 }
     ensures found { IfOk result (λ records. body_in format Logged shape.now body.now ≡ Ok records) }
     ensures body { IfOk result (λ records. IsBlockBody format Logged shape.now records body.now) }
-    ensures damaged { (file : FileId) (place : ℕ) → IsErrOf result (FolderFault.Damaged file place) → (file ≡ Manager slot) × (placed start (body_in format Logged shape.now body.now) ≡ Err place) }
+    ensures damaged { (file : FileId) (place : ℕ) → IsErrOf result (FolderFault.Damaged file place)
+        → (file ≡ Manager slot) × (placed start (body_in format Logged shape.now body.now) ≡ Err place) }
     ensures failed { (file : FileId) → IsErrOf result (FolderFault.Failed file) → ⊥ }
 {
     match read_records(alloc, body, shape, format) {

@@ -52,7 +52,9 @@ pub fn read_latest<H: Host>(
     format: Format,
 ) -> Result<List<Named>, FolderFault>
     requires slot { slot ≤ 1 }
-    ensures latest { IfOk result (λ named. IsTrue H.tells → (log : LogRead) × (log_in_file format shape.now ((H.world host.old).disk (Manager slot)).seen ≡ Ok log) × (named ≡ latest_of (named_by_grain (named_in log)))) }
+    ensures latest { IfOk result (λ named. IsTrue H.tells
+        → (log : LogRead) × (log_in_file format shape.now ((H.world host.old).disk (Manager slot)).seen ≡ Ok log)
+        × (named ≡ latest_of (named_by_grain (named_in log)))) }
     ensures damaged { (file : FileId) (place : ℕ) → IsErrOf result (FolderFault.Damaged file place) → IsTrue H.tells
         → log_in_file format shape.now ((H.world host.old).disk (Manager slot)).seen ≡ Err place }
     ensures file { (file : FileId) (place : ℕ) → IsErrOf result (FolderFault.Damaged file place) → file ≡ Manager slot }

@@ -16,8 +16,10 @@ ghost use Rattle.log_reading.specs.Sums.{state_after, StopsAt};
 
 /// Where reading stopped for a fault of a grain's file, the first version that is missing is of no grain before it.
 pub fn faults_in_order()
-    ensures { (live : ℕ) (format : AFormat) (shape : Shape) (image : Image) (named : List Named) (file : FileId) → (s : StopsAt live format shape image (named_by_grain named) file)
-        → (last : GrainId) (place : ℕ) → first_missing live format shape image (named_by_grain named) ≡ Some (Grain live last, place) → is_before last s.here.written.grain ≡ false }
+    ensures { (live : ℕ) (format : AFormat) (shape : Shape) (image : Image) (named : List Named) (file : FileId)
+        → (s : StopsAt live format shape image (named_by_grain named) file)
+        → (last : GrainId) (place : ℕ) → first_missing live format shape image (named_by_grain named) ≡ Some (Grain live last, place)
+        → is_before last s.here.written.grain ≡ false }
 {}
 
 /// The last versions of the grains of a log are those by which the states stand, by strictly ascending grains, one for each grain that
@@ -25,7 +27,8 @@ pub fn faults_in_order()
 pub fn latest_states_stand()
     ensures order { (named : List Named) → IsAscending None (map (λ n. n.written) (latest_of (named_by_grain named))) }
     ensures states { (live : ℕ) (format : AFormat) (shape : Shape) (image : Image) (state : Option (List Value)) (named : List Named)
-        → AllByRecursion (λ n. state_after live format shape image state (named_by_grain named) n.written.grain ≡ Some (state_of (version_named live format shape image n))) (latest_of (named_by_grain named)) }
+        → AllByRecursion (λ n. state_after live format shape image state (named_by_grain named) n.written.grain ≡ Some
+        (state_of (version_named live format shape image n))) (latest_of (named_by_grain named)) }
     ensures held { (named : List Named) (grain : GrainId)
         → list_any (λ n. same_grain n.written.grain grain) (latest_of (named_by_grain named)) ≡ list_any (λ n. same_grain n.written.grain grain) named }
     ensures among { (named : List Named) (n : Named) → Member n (latest_of (named_by_grain named)) → Member n (named_by_grain named) }

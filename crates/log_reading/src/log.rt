@@ -1,4 +1,4 @@
-ghost use Rattle.std.specs.Prelude.{◌≡◌, ◌+◌, ◌^◌, ◌<◌, ◌≤◌, max, ℕ, List, ◌++◌, map, IsTrue, length, OnOk, IfOk, IfErr, IsErrOf, Err};
+ghost use Rattle.std.specs.Prelude.{◌≡◌, ◌+◌, ◌^◌, ◌<◌, ◌≤◌, max, ℕ, List, ◌++◌, map, IsTrue, length, is_ok, if◌then◌else◌, OnOk, IfOk, IfErr, IsErrOf, Err};
 ghost use Rattle.std.specs.List.{AllByRecursion};
 ghost use Rattle.host_trait.specs.Files.{StaysReady};
 ghost use Rattle.host_trait.specs.Faults.{NoneFailed};
@@ -135,9 +135,9 @@ pub fn read_log<H: Host>(
     })
 }
 
-/// Sorts named versions by their grains, those of one grain in the order that they had.
+/// Sorts named versions by their grains, those of one grain in the order that they had. Without memory they stay in their places.
 pub fn sort_by_grain(named: &mut Vec<Named>) -> Result<(), AllocError>
-    ensures { OnOk result (named.new.items ≡ named_by_grain named.old.items) }
+    ensures { named.new.items ≡ (if is_ok result then named_by_grain named.old.items else named.old.items) }
 {
     named.sort_by_key(|n| n.written.grain)?;
     Ok(())

@@ -75,9 +75,11 @@ pub fn version_of(
     text: &[u8],
 ) -> Result<Version, FolderFault>
     requires size { length text.now ≡ named.written.place.len }
-    ensures found { IfOk result (λ version. (image : Image) → IsTextAt named.written.place (image (Grain slot named.written.grain)) text.now → version_named slot format shape.now image named ≡ Ok version) }
+    ensures found { IfOk result (λ version. (image : Image) → IsTextAt named.written.place (image (Grain slot named.written.grain)) text.now
+        → version_named slot format shape.now image named ≡ Ok version) }
     ensures damaged { (file : FileId) (place : ℕ) → IsErrOf result (FolderFault.Damaged file place)
-        → (image : Image) → IsTextAt named.written.place (image (Grain slot named.written.grain)) text.now → version_named slot format shape.now image named ≡ Err place }
+        → (image : Image) → IsTextAt named.written.place (image (Grain slot named.written.grain)) text.now
+        → version_named slot format shape.now image named ≡ Err place }
     ensures file { (file : FileId) (place : ℕ) → IsErrOf result (FolderFault.Damaged file place) → file ≡ Grain slot named.written.grain }
     ensures quiet { (file : FileId) → IsErrOf result (FolderFault.Failed file) → ⊥ }
 {

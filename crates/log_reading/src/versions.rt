@@ -113,8 +113,11 @@ fn keep(
     version: Version,
 ) -> Result<(), FolderFault>
     requires { named.written.place.offset + named.written.place.len < 2 ^ 63 }
-    ensures states { OnOk result ((grain : GrainId) → state_in store.new grain ≡ (if same_grain named.written.grain grain then Some version.state else state_in store.old grain)) }
-    ensures ends { OnOk result ((grain : GrainId) → end_in ends.new grain ≡ (if same_grain named.written.grain grain then greater_end (end_in ends.old grain) (named.written.place.offset + named.written.place.len) else end_in ends.old grain)) }
+    ensures states { OnOk result ((grain : GrainId)
+        → state_in store.new grain ≡ (if same_grain named.written.grain grain then Some version.state else state_in store.old grain)) }
+    ensures ends { OnOk result ((grain : GrainId)
+        → end_in ends.new grain ≡ (if same_grain named.written.grain grain then greater_end (end_in ends.old grain)
+        (named.written.place.offset + named.written.place.len) else end_in ends.old grain)) }
     ensures memory { IfErr result (λ e. e ≡ FolderFault.Memory) }
 {
     let grain = named.written.grain;
@@ -139,7 +142,8 @@ pub fn read_versions<H: Host>(
 ) -> Result<(), FolderFault>
     requires slot { slot ≤ 1 }
     ensures found { OnOk result (IsTrue H.tells → first_missing slot format shape.now (seen_in (H.world host.old).disk) named.now ≡ None) }
-    ensures states { OnOk result (IsTrue H.tells → (grain : GrainId) → state_in store.new grain ≡ state_after slot format shape.now (seen_in (H.world host.old).disk) (state_in store.old grain) named.now grain) }
+    ensures states { OnOk result (IsTrue H.tells → (grain : GrainId)
+        → state_in store.new grain ≡ state_after slot format shape.now (seen_in (H.world host.old).disk) (state_in store.old grain) named.now grain) }
     ensures ends { OnOk result ((grain : GrainId) → end_in ends.new grain ≡ end_after (end_in ends.old grain) named.now grain) }
     ensures near { OnOk result (AreNear ends.old → AreNear ends.new) }
     ensures damaged { (file : FileId) (place : ℕ) → IsErrOf result (FolderFault.Damaged file place) → IsTrue H.tells

@@ -12,6 +12,7 @@ ghost use Rattle.prepare_batch.specs.CoreWork.{PlaysWriteOnce, core_work};
 /// write each grain once.
 pub fn work_is_the_plan()
     ensures ascending { (at : GrainId → ℕ) (effects : List Effect) → AreAscending (map (λ x. x.grain) (work_of at effects)) }
-    ensures planned { (plays : Effect → Bool) (r : Run) → IsLegal plays r → PlaysWriteOnce plays → (b : Batch) → (ends r).manager.batch ≡ Some b → b.decisions ≡ None
+    ensures planned { (plays : Effect → Bool) (r : Run) → IsLegal plays r → PlaysWriteOnce plays → (b : Batch) → (ends r).manager.batch ≡ Some b
+        → b.decisions ≡ None
         → (at : GrainId → ℕ) → work_of at (untouched (view (ends r) b).aborted (view (ends r) b).effects) ≡ core_work at (ends r) b }
 {}

@@ -1,4 +1,4 @@
-ghost use Rattle.std.specs.Prelude.{◌≡◌, ◌++◌, IfOk, OnOk};
+ghost use Rattle.std.specs.Prelude.{◌≡◌, ◌++◌, is_ok, if◌then◌else◌, IfOk, OnOk};
 ghost use Rattle.cell_model.specs.Sources.{is_among};
 ghost use Rattle.prepare_batch.specs.Work.{reads_from};
 ghost use Rattle.prepare_batch.specs.Pieces.{pieces_in, pieces_by, pieces_of, pieces_by_grain};
@@ -75,9 +75,9 @@ fn is_among(units: &[UnitNo], unit: UnitNo) -> bool
     units.iter().any(|other| *other == unit)
 }
 
-/// Sorts the pieces by their grains, those of one grain in the order that they had.
+/// Sorts the pieces by their grains, those of one grain in the order that they had. Without memory they stay in their places.
 pub fn sort_by_grain(pieces: &mut Vec<Piece>) -> Result<(), AllocError>
-    ensures { OnOk result (pieces.new.items ≡ pieces_by_grain pieces.old.items) }
+    ensures { pieces.new.items ≡ (if is_ok result then pieces_by_grain pieces.old.items else pieces.old.items) }
 {
     pieces.sort_by_key(|piece| piece.grain)?;
     Ok(())

@@ -56,10 +56,11 @@ module _ (types : ProgramTree) (post : Post) (back : Back) where
   abbrev pub from_at : List OpenBlock → ℕ → Next
   from_at path i = runs types (runner_of types post) (site_of types post) back (from i (block_in path)) (after path)
 
-  -- what a frame that waits at this statement does with its call's value, and with the fault of a unit of its own
+  -- what a frame that waits at this statement does with its call's value
   abbrev pub receives : List OpenBlock → ℕ → Value → Next
   receives path i value = received types (runner_of types post) (site_of types post) back (statement_at i (block_in path)) (from_at path (i + 1)) value
 
+  -- what it does with the text of a fault of a unit of its own
   abbrev pub catches : List OpenBlock → ℕ → List ℕ → Next
   catches path i text = caught types (runner_of types post) (site_of types post) back (statement_at i (block_in path)) (from_at path (i + 1)) text
 

@@ -1,5 +1,5 @@
 -- What a machine still has before it, what it is given, and what it leaves.
-use Rattle.std.specs.Prelude.{◌≡◌, ◌≤◌, ℕ, zero, suc, Bool, true, false, not, List, [], ◌∷◌, length, slice_get, vec_capacity}
+use Rattle.std.specs.Prelude.{◌≡◌, ◌≤◌, ◌⊎◌, ◌++◌, ℕ, zero, suc, Bool, true, false, not, List, [], ◌∷◌, length, slice_get, vec_capacity}
 use Rattle.base_types.specs.declared.calls.Call.{Call}
 use Rattle.base_types.specs.declared.calls.Mode.TheVariants.{Update}
 use Rattle.base_types.specs.declared.calls.Outcome.{Outcome}
@@ -169,6 +169,11 @@ pub record FollowsTrail (types : ProgramTree) (call : Call) (at : ℕ) (machine 
   pub left : rest_of (unit types call at) (locks_of trail) (answers_of trail) ≡ rest types machine
   pub reads : reads_in machine ≡ reads_of trail
   pub answers : answers_in machine ≡ answers_of trail
+
+-- What was given is kept: the reads and the answers are as they were, or have what this input gives behind them.
+pub record KeepsGiven (types : ProgramTree) (old new : Machine) (one : Input) : Type 0 where
+  pub reads : (reads_in new ≡ reads_in old) ⊎ (reads_in new ≡ reads_in old ++ read_by (rest types old) one)
+  pub answers : (answers_in new ≡ answers_in old) ⊎ (answers_in new ≡ answers_in old ++ answered_by (rest types old) one)
 
 -- these parts are those of this play, and answer what it asks for
 pub record IsPartsOf (parts : Parts) (trail : List Given) (played : Played) : Type 0 where

@@ -1,3 +1,4 @@
+// How a frame enters and leaves the blocks of its statements.
 ghost use Rattle.std.specs.Prelude.{◌≡◌, ◌<◌, ◌+◌, ◌^◌, Some, IfOk, OnOk};
 ghost use Rattle.script_tree.specs.Exprs.{expr_tree};
 ghost use Rattle.script_tree.specs.Stmts.{NoMore, block_tree, stmt_tree, stmt_trees};
@@ -57,7 +58,9 @@ impl Run {
         test: &Expr,
     ) -> Result<Onward, Stop>
         requires here { StandsAt (program_tree checked.now) self.old (stmt_tree stmt.now) }
-        ensures tree { GoesTo (chosen_by (value_here (program_tree checked.now) self.old (expr_tree test.now)) self.old.has (part_here (program_tree checked.now) self.old Part.First (stmt_tree stmt.now)) (part_here (program_tree checked.now) self.old Part.Second (stmt_tree stmt.now))) (program_tree checked.now) self.new result }
+        ensures tree { GoesTo (chosen_by (value_here (program_tree checked.now) self.old (expr_tree test.now)) self.old.has
+            (part_here (program_tree checked.now) self.old Part.First (stmt_tree stmt.now))
+            (part_here (program_tree checked.now) self.old Part.Second (stmt_tree stmt.now))) (program_tree checked.now) self.new result }
         ensures moves { IfOk result (Moves self.old.top.post self.old.top.path.items self.new) }
         ensures less { IfOk result (ShrinksOn (size self.old + 4) self.new) }
     {
@@ -79,7 +82,9 @@ impl Run {
         test: &Expr,
     ) -> Result<Onward, Stop>
         requires here { StandsAt (program_tree checked.now) self.old (stmt_tree stmt.now) }
-        ensures tree { GoesTo (chosen_by (value_here (program_tree checked.now) self.old (expr_tree test.now)) self.old.has (part_here (program_tree checked.now) self.old Part.First (stmt_tree stmt.now)) (next_here (program_tree checked.now) self.old self.old.top.locals.items self.old.has)) (program_tree checked.now) self.new result }
+        ensures tree { GoesTo (chosen_by (value_here (program_tree checked.now) self.old (expr_tree test.now)) self.old.has
+            (part_here (program_tree checked.now) self.old Part.First (stmt_tree stmt.now))
+            (next_here (program_tree checked.now) self.old self.old.top.locals.items self.old.has)) (program_tree checked.now) self.new result }
         ensures moves { IfOk result (Moves self.old.top.post self.old.top.path.items self.new) }
         ensures less { IfOk result (ShrinksOn (size self.old + 4) self.new) }
     {
@@ -95,7 +100,8 @@ impl Run {
     /// A loop begins, or a block of this statement has ended.
     pub fn again(&mut self, alloc: Global, checked: &Checked, stmt: &Stmt) -> Result<Onward, Stop>
         requires here { StandsAt (program_tree checked.now) self.old (stmt_tree stmt.now) }
-        ensures tree { GoesTo (outer_here (program_tree checked.now) self.old (Some (stmt_tree stmt.now)) (next_here (program_tree checked.now) self.old) self.old.top.locals.items self.old.has) (program_tree checked.now) self.new result }
+        ensures tree { GoesTo (outer_here (program_tree checked.now) self.old (Some (stmt_tree stmt.now))
+            (next_here (program_tree checked.now) self.old) self.old.top.locals.items self.old.has) (program_tree checked.now) self.new result }
         ensures moves { IfOk result (Moves self.old.top.post self.old.top.path.items self.new) }
         ensures less { IfOk result (ShrinksOn (size self.old + 1) self.new) }
     {
@@ -159,7 +165,10 @@ impl Run {
         opened: OpenBlock,
     ) -> Result<Onward, Stop>
         requires block { block_tree (stmt_trees block.now) ≡ block_of (program_tree checked.now) self.old.top }
-        ensures tree { GoesTo (outer_here (program_tree checked.now) self.old (statement_at opened.at (block_of (program_tree checked.now) self.old.top)) (from_at (program_tree checked.now) self.old.top.post (back_of (program_tree checked.now) self.old) self.old.top.path.items (opened.at + 1)) self.old.top.locals.items self.old.has) (program_tree checked.now) self.new result }
+        ensures tree { GoesTo (outer_here (program_tree checked.now) self.old
+            (statement_at opened.at (block_of (program_tree checked.now) self.old.top))
+            (from_at (program_tree checked.now) self.old.top.post (back_of (program_tree checked.now) self.old) self.old.top.path.items
+            (opened.at + 1)) self.old.top.locals.items self.old.has) (program_tree checked.now) self.new result }
         ensures moves { IfOk result (Moves self.old.top.post self.old.top.path.items self.new) }
         ensures less { IfOk result (ShrinksOn (size self.old + 1) self.new) }
     {

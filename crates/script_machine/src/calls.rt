@@ -1,3 +1,4 @@
+// How a frame calls, by the rules of its own kind and of the method that is called.
 ghost use Rattle.std.specs.Prelude.{◌≡◌, ◌<◌, ◌≤◌, ◌+◌, IfOk, OnOk, Some, map};
 ghost use Rattle.script_tree.specs.Exprs.{call_tree, expr_tree};
 ghost use Rattle.script_tree.specs.Stmts.{stmt_tree};
@@ -62,7 +63,8 @@ impl Run {
 
     /// A call from the topmost frame.
     fn call_out(&mut self, alloc: Global, checked: &Checked, call: &CallExpr) -> Result<Flow, Stop>
-        ensures tree { Goes (calls_here (program_tree checked.now) self.old (call_tree call.now) (back_here (program_tree checked.now) self.old) (caught_here (program_tree checked.now) self.old)) (program_tree checked.now) self.new result }
+        ensures tree { Goes (calls_here (program_tree checked.now) self.old (call_tree call.now) (back_here (program_tree checked.now) self.old)
+            (caught_here (program_tree checked.now) self.old)) (program_tree checked.now) self.new result }
         ensures less { IfOk result (Shrinks (size self.old + 4) self.new) }
     {
         let place = self.value(alloc, checked, &call.place)?;
@@ -80,7 +82,10 @@ impl Run {
         key: u32,
         args: List<Value>,
     ) -> Result<Flow, Stop>
-        ensures tree { Goes (to_type (program_tree checked.now) (runner_of (program_tree checked.now) self.old.top.post) (site_of (program_tree checked.now) self.old.top.post) (type_from 0 call.now.target.text (program_tree checked.now)) key call.now.method.text args (back_here (program_tree checked.now) self.old) (caught_here (program_tree checked.now) self.old) self.old.has) (program_tree checked.now) self.new result }
+        ensures tree { Goes (to_type (program_tree checked.now) (runner_of (program_tree checked.now) self.old.top.post)
+            (site_of (program_tree checked.now) self.old.top.post) (type_from 0 call.now.target.text (program_tree checked.now)) key
+            call.now.method.text args (back_here (program_tree checked.now) self.old) (caught_here (program_tree checked.now) self.old) self.old.has)
+            (program_tree checked.now) self.new result }
         ensures less { IfOk result (Shrinks (size self.old + 4) self.new) }
     {
         let Some(kind) = type_named(checked, &call.target.text) else {
@@ -101,7 +106,9 @@ impl Run {
         args: List<Value>,
     ) -> Result<Flow, Stop>
         requires there { IsThere (program_tree checked.now) callee.now }
-        ensures tree { Goes (to_target (runner_of (program_tree checked.now) self.old.top.post) (site_of (program_tree checked.now) self.old.top.post) callee.now.grain (Some (target_of callee.now)) args (back_here (program_tree checked.now) self.old) (caught_here (program_tree checked.now) self.old) self.old.has) (program_tree checked.now) self.new result }
+        ensures tree { Goes (to_target (runner_of (program_tree checked.now) self.old.top.post) (site_of (program_tree checked.now) self.old.top.post)
+            callee.now.grain (Some (target_of callee.now)) args (back_here (program_tree checked.now) self.old)
+            (caught_here (program_tree checked.now) self.old) self.old.has) (program_tree checked.now) self.new result }
         ensures less { IfOk result (Shrinks (size self.old + 4) self.new) }
     {
         match enter(callee.method.option, self.top.post.context) {
@@ -144,7 +151,9 @@ impl Run {
         args: List<Value>,
     ) -> Result<(), AllocError>
         requires depth { self.old.top.post.depth < 32 }
-        ensures goes { OnOk result ((types : ProgramTree) → IsThere types callee.now → (has : Has) → begins types (post_of callee.now kind context (self.old.top.post.depth + 1)) (target_of callee.now) args (back_here types self.old) has ≡ goes_on types self.new.top (back_of types self.new) has) }
+        ensures goes { OnOk result ((types : ProgramTree) → IsThere types callee.now → (has : Has)
+            → begins types (post_of callee.now kind context (self.old.top.post.depth + 1)) (target_of callee.now) args (back_here types self.old)
+            has ≡ goes_on types self.new.top (back_of types self.new) has) }
         ensures has { OnOk result (self.new.has ≡ self.old.has) }
         ensures less { OnOk result (size self.new ≡ size self.old + 2) }
     {
@@ -169,7 +178,9 @@ impl Run {
     /// Asks for a unit of its own.
     fn ask(&mut self, alloc: Global, callee: &Callee, args: List<Value>) -> Result<Flow, Stop>
         requires depth { self.old.top.post.depth < 32 }
-        ensures tree { (types : ProgramTree) → Goes (in_own_unit (record { grain = callee.now.grain; method = callee.now.number; args = args }) (self.old.top.post.depth + 1) (back_here types self.old) (caught_here types self.old) self.old.has) types self.new result }
+        ensures tree { (types : ProgramTree)
+            → Goes (in_own_unit (record { grain = callee.now.grain; method = callee.now.number; args = args }) (self.old.top.post.depth + 1)
+            (back_here types self.old) (caught_here types self.old) self.old.has) types self.new result }
         ensures less { IfOk result (Shrinks (size self.old + 4) self.new) }
     {
         if !self.has.ask_unit() {

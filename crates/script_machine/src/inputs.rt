@@ -1,3 +1,4 @@
+// How a machine that waits goes on with what it is given.
 ghost use Rattle.std.specs.Prelude.{◌≡◌, false, IfOk, OnOk};
 ghost use Rattle.script_tree.specs.Programs.{ProgramTree, program_tree};
 ghost use Rattle.script_meaning.specs.Calls.{answered};
@@ -52,7 +53,8 @@ impl Run {
         checked: &Checked,
         outcome: Outcome,
     ) -> Result<(), AllocError>
-        ensures { OnOk result (answered outcome (back_here (program_tree checked.now) self.old) (caught_here (program_tree checked.now) self.old) self.old.has ≡ rest_of_run (program_tree checked.now) self.new) }
+        ensures { OnOk result (answered outcome (back_here (program_tree checked.now) self.old) (caught_here (program_tree checked.now) self.old)
+            self.old.has ≡ rest_of_run (program_tree checked.now) self.new) }
     {
         match outcome {
             Outcome::Value(value) => self.feed_value(alloc, checked, value),

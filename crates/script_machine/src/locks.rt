@@ -1,3 +1,4 @@
+// The lock that a statement needs, where the unit hasn't got it.
 ghost use Rattle.std.specs.Prelude.{◌+◌, IfOk, slice_get};
 ghost use Rattle.script_tree.specs.Programs.{ProgramTree};
 ghost use Rattle.script_holding.specs.Holding.{mode_at};
@@ -14,7 +15,9 @@ use std::alloc::Global;
 impl Run {
     /// Asks for the lock that a joined frame of this kind needs, unless it is held already.
     pub fn lock(&mut self, alloc: Global, grain: GrainId, kind: MethodKind) -> Result<Flow, Stop>
-        ensures tree { (types : ProgramTree) → Goes (joined kind grain (fields_of (slice_get types grain.kind)) (goes_on types self.old.top (back_of types self.old)) self.old.has) types self.new result }
+        ensures tree { (types : ProgramTree)
+            → Goes (joined kind grain (fields_of (slice_get types grain.kind)) (goes_on types self.old.top (back_of types self.old)) self.old.has)
+            types self.new result }
         ensures less { IfOk result (Shrinks (size self.old + 1) self.new) }
     {
         match kind {
@@ -26,7 +29,9 @@ impl Run {
 
     /// The same in this mode.
     fn lock_in(&mut self, alloc: Global, grain: GrainId, mode: Mode) -> Result<Flow, Stop>
-        ensures tree { (types : ProgramTree) → Goes (locked (mode_at grain self.old.has.held) mode grain (fields_of (slice_get types grain.kind)) (goes_on types self.old.top (back_of types self.old)) self.old.has) types self.new result }
+        ensures tree { (types : ProgramTree)
+            → Goes (locked (mode_at grain self.old.has.held) mode grain (fields_of (slice_get types grain.kind))
+            (goes_on types self.old.top (back_of types self.old)) self.old.has) types self.new result }
         ensures less { IfOk result (Shrinks (size self.old + 1) self.new) }
     {
         match self.has.mode_of(grain) {

@@ -1,4 +1,4 @@
-ghost use Rattle.std.specs.Prelude.{◌≡◌, ◌++◌, [], false, true, List, ℕ, IfOk, OnOk};
+ghost use Rattle.std.specs.Prelude.{◌≡◌, ◌++◌, [], false, true, List, ℕ, IfOk, OnOk, OnErr};
 ghost use Rattle.base_types.specs.declared.calls.Call.{Call as Called};
 ghost use Rattle.base_types.specs.declared.calls.GrainId.{GrainId as Grain};
 ghost use Rattle.base_types.specs.declared.calls.Value.{Value as GrainValue};
@@ -6,7 +6,7 @@ ghost use Rattle.script_tree.specs.Programs.{ProgramTree, program_tree};
 ghost use Rattle.script_meaning.specs.Requests.{End};
 ghost use Rattle.script_meaning.specs.Play.{asks, play_over, unit, writes_of};
 ghost use Rattle.script_meaning.specs.Trails.{Given, Has, answers_of, reads_of};
-ghost use Rattle.script_machine.specs.Machines.{Fits, FollowsTrail, HasRoomForParts, IsPartsOf, answered_by, answers_in, fed, given_by, has_begun, holding_of, is_done, is_over, read_by, reads_in, rest, asks_raise, pause_for};
+ghost use Rattle.script_machine.specs.Machines.{Fits, FollowsTrail, HasRoomForParts, IsPartsOf, KeepsGiven, answered_by, answers_in, fed, given_by, has_begun, holding_of, is_done, is_over, read_by, reads_in, rest, asks_raise, pause_for};
 
 use crate::runs::{Run, Wait};
 use crate::starts::Start;
@@ -47,7 +47,8 @@ pub struct Parts {
 
 /// A unit that runs. Contracts see the run that it still has before it as `rest`.
 ///
-/// The same program is handed to each call. After want of memory a machine is only dropped.
+/// The same program is handed to each call. After want of memory a machine has what it was given, but the run before it is lost: it is
+/// only dropped.
 #[derive(Drop)]
 pub struct Machine {
     run: Run,
@@ -99,10 +100,15 @@ impl Machine {
         // A state found is one more read, and an outcome one more answer.
         ensures reads { IfOk result (λ pause. reads_in self.new ≡ reads_in self.old ++ read_by (rest (program_tree checked.now) self.old) input) }
         ensures answers { IfOk result (λ pause. answers_in self.new ≡ answers_in self.old ++ answered_by (rest (program_tree checked.now) self.old) input) }
-        ensures follows { IfOk result (λ pause. (call : Called) (depth : ℕ) (trail : List Given) → FollowsTrail (program_tree checked.now) call depth self.old trail → FollowsTrail (program_tree checked.now) call depth self.new (trail ++ given_by (rest (program_tree checked.now) self.old) input)) }
+        ensures follows { IfOk result (λ pause. (call : Called) (depth : ℕ) (trail : List Given)
+            → FollowsTrail (program_tree checked.now) call depth self.old trail
+            → FollowsTrail (program_tree checked.now) call depth self.new (trail ++ given_by (rest (program_tree checked.now) self.old) input)) }
+
+        // Without memory the reads and the answers are as they were, or have what the input gives behind them.
+        ensures starved { OnErr result (KeepsGiven (program_tree checked.now) self.old self.new input) }
 
         // It has begun, it is over exactly where the pause says so, and its parts need no more memory.
-        ensures begun { IfOk result (λ pause. has_begun self.new ≡ true) }
+        ensures begun { has_begun self.new ≡ true }
         ensures over { IfOk result (λ pause. is_over self.new ≡ is_done pause) }
         ensures room { IfOk result (λ pause. HasRoomForParts self.new) }
     {
@@ -127,7 +133,8 @@ impl Machine {
         ensures fed { OnOk result (rest (program_tree checked.now) self.new ≡ fed (rest (program_tree checked.now) self.old) input) }
         ensures reads { OnOk result (self.new.reads ≡ self.old.reads ++ read_by (rest (program_tree checked.now) self.old) input) }
         ensures answers { OnOk result (self.new.answers ≡ self.old.answers ++ answered_by (rest (program_tree checked.now) self.old) input) }
-        ensures begun { OnOk result (self.new.ready ≡ false) }
+        ensures starved { OnErr result (KeepsGiven (program_tree checked.now) self.old self.new input) }
+        ensures begun { self.new.ready ≡ false }
     {
         match input {
             Input::First => self.begin(alloc, checked),
@@ -142,7 +149,8 @@ impl Machine {
         ensures rest { OnOk result (rest (program_tree checked.now) self.new ≡ rest (program_tree checked.now) self.old) }
         ensures reads { OnOk result (self.new.reads ≡ self.old.reads) }
         ensures answers { OnOk result (self.new.answers ≡ self.old.answers) }
-        ensures begun { OnOk result (self.new.ready ≡ false) }
+        ensures starved { OnErr result (KeepsGiven (program_tree checked.now) self.old self.new Input.First) }
+        ensures begun { self.new.ready ≡ false }
     {
         if !self.ready {
             return Ok(());
@@ -163,7 +171,8 @@ impl Machine {
         ensures fed { OnOk result (rest (program_tree checked.now) self.new ≡ fed (rest (program_tree checked.now) self.old) (Input.Grain state)) }
         ensures reads { OnOk result (self.new.reads ≡ self.old.reads ++ read_by (rest (program_tree checked.now) self.old) (Input.Grain state)) }
         ensures answers { OnOk result (self.new.answers ≡ self.old.answers) }
-        ensures begun { OnOk result (self.new.ready ≡ false) }
+        ensures starved { OnErr result (KeepsGiven (program_tree checked.now) self.old self.new (Input.Grain state)) }
+        ensures begun { self.new.ready ≡ false }
     {
         match self.run.wait {
             Wait::Lock { grain, mode } => {
@@ -184,7 +193,8 @@ impl Machine {
         ensures fed { OnOk result (rest (program_tree checked.now) self.new ≡ fed (rest (program_tree checked.now) self.old) Input.Held) }
         ensures reads { OnOk result (self.new.reads ≡ self.old.reads) }
         ensures answers { OnOk result (self.new.answers ≡ self.old.answers) }
-        ensures begun { OnOk result (self.new.ready ≡ false) }
+        ensures starved { OnErr result (KeepsGiven (program_tree checked.now) self.old self.new Input.Held) }
+        ensures begun { self.new.ready ≡ false }
     {
         match self.run.wait {
             Wait::Raise { grain } => {
@@ -208,7 +218,8 @@ impl Machine {
         ensures fed { OnOk result (rest (program_tree checked.now) self.new ≡ fed (rest (program_tree checked.now) self.old) (Input.Unit outcome)) }
         ensures reads { OnOk result (self.new.reads ≡ self.old.reads) }
         ensures answers { OnOk result (self.new.answers ≡ self.old.answers ++ answered_by (rest (program_tree checked.now) self.old) (Input.Unit outcome)) }
-        ensures begun { OnOk result (self.new.ready ≡ false) }
+        ensures starved { OnErr result (KeepsGiven (program_tree checked.now) self.old self.new (Input.Unit outcome)) }
+        ensures begun { self.new.ready ≡ false }
     {
         match self.run.wait {
             Wait::Child { .. } => {
@@ -233,7 +244,8 @@ impl Machine {
         ensures answers { result.answers ≡ answers_in self }
 
         // They are those of a play of the call over the states that it was given.
-        ensures play { (types : ProgramTree) (call : Called) (depth : ℕ) (trail : List Given) → FollowsTrail types call depth self trail → (states : Grain → List GrainValue) → Has states (reads_of trail) → IsPartsOf result trail (play_over types call depth states (answers_of trail)) }
+        ensures play { (types : ProgramTree) (call : Called) (depth : ℕ) (trail : List Given) → FollowsTrail types call depth self trail
+            → (states : Grain → List GrainValue) → Has states (reads_of trail) → IsPartsOf result trail (play_over types call depth states (answers_of trail)) }
     {
         let Machine {
             run,

@@ -119,7 +119,8 @@ impl Run {
     /// A value comes to the topmost frame at this statement.
     fn receive_at(&mut self, checked: &Checked, stmt: &Stmt, value: Value) -> Result<(), AllocError>
         requires here { StandsAt (program_tree checked.now) self.old (stmt_tree stmt.now) }
-        ensures tree { OnOk result (received_here (program_tree checked.now) self.old (stmt_tree stmt.now) value self.old.has ≡ running (program_tree checked.now) self.new) }
+        ensures tree { OnOk result (received_here (program_tree checked.now) self.old (stmt_tree stmt.now) value self.old.has ≡ running
+            (program_tree checked.now) self.new) }
         ensures less { OnOk result (size self.new ≤ size self.old + 1) }
     {
         match stmt {
@@ -167,7 +168,8 @@ impl Run {
 
     /// A unit of its own, for which the topmost frame waits, ended with this fault.
     pub fn catch(&mut self, checked: &Checked, text: Text) -> Result<Flow, AllocError>
-        ensures tree { IfOk result (λ flow. caught_here (program_tree checked.now) self.old text self.old.has ≡ stays (program_tree checked.now) self.new flow) }
+        ensures tree { IfOk result (λ flow. caught_here (program_tree checked.now) self.old text self.old.has ≡ stays (program_tree checked.now)
+            self.new flow) }
     {
         let block = self.top.block(checked);
         match self.statement(checked, block) {
@@ -179,7 +181,8 @@ impl Run {
     /// A fault comes to the topmost frame at this statement.
     fn catch_at(&mut self, checked: &Checked, stmt: &Stmt, text: Text) -> Result<Flow, AllocError>
         requires here { StandsAt (program_tree checked.now) self.old (stmt_tree stmt.now) }
-        ensures tree { IfOk result (λ flow. refused_here (program_tree checked.now) self.old (stmt_tree stmt.now) text self.old.has ≡ stays (program_tree checked.now) self.new flow) }
+        ensures tree { IfOk result (λ flow. refused_here (program_tree checked.now) self.old (stmt_tree stmt.now) text self.old.has ≡ stays
+            (program_tree checked.now) self.new flow) }
     {
         match stmt {
             Stmt::Attempt { name, .. } => {

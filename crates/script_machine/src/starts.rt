@@ -38,7 +38,9 @@ impl Run {
         args: &[Value],
         depth: u16,
     ) -> Result<Run, AllocError>
-        ensures goes { IfOk result (λ run. (types : ProgramTree) → IsThere types callee.now → (has : Has) → begins types (post_of callee.now kind context depth) (target_of callee.now) args.now ends_unit has ≡ goes_on types run.top (back_of types run) has) }
+        ensures goes { IfOk result (λ run. (types : ProgramTree) → IsThere types callee.now → (has : Has)
+            → begins types (post_of callee.now kind context depth) (target_of callee.now) args.now ends_unit has ≡ goes_on types run.top
+            (back_of types run) has) }
         ensures has { IfOk result (λ run. run.has ≡ at_start) }
     {
         let post = Post {
@@ -65,7 +67,9 @@ impl Run {
         grain: GrainId,
         kind: MethodKind,
     ) -> Result<bool, AllocError>
-        ensures { IfOk result (λ ready. (types : ProgramTree) → joined kind grain (fields_of (slice_get types grain.kind)) (goes_on types self.old.top (back_of types self.old)) self.old.has ≡ rest_at types self.new ready) }
+        ensures { IfOk result (λ ready. (types : ProgramTree)
+            → joined kind grain (fields_of (slice_get types grain.kind)) (goes_on types self.old.top (back_of types self.old)) self.old.has ≡ rest_at
+            types self.new ready) }
     {
         match self.lock(alloc, grain, kind) {
             Ok(Flow::Moved) => Ok(true),
@@ -127,7 +131,8 @@ impl Start {
         depth: u16,
     ) -> Result<Start, AllocError>
         requires there { IsThere (program_tree checked.now) callee.now }
-        ensures { IfOk result (λ start. first_opened (program_tree checked.now) (33 - depth) callee.now kind context args.now depth ≡ rest_at (program_tree checked.now) start.run start.ready) }
+        ensures { IfOk result (λ start. first_opened (program_tree checked.now) (33 - depth) callee.now kind context args.now depth ≡ rest_at
+            (program_tree checked.now) start.run start.ready) }
     {
         if depth > DEPTH_LIMIT {
             return Start::over(alloc, checked, callee.grain, Reason::Depth);

@@ -1,3 +1,4 @@
+// What each statement does to the topmost frame.
 ghost use Rattle.std.specs.Prelude.{◌≡◌, ◌<◌, ◌+◌, ◌^◌, IfOk, OnOk, Some, slice_get};
 ghost use Rattle.script_tree.specs.Exprs.{call_tree, expr_tree};
 ghost use Rattle.script_tree.specs.Stmts.{stmt_tree};
@@ -40,7 +41,9 @@ impl Run {
         value: &Expr,
     ) -> Result<Onward, Stop>
         requires here { self.old.top.at < 2 ^ 63 }
-        ensures tree { GoesTo (with_value (value_here (program_tree checked.now) self.old (expr_tree value.now)) self.old.has (λ found. next_here (program_tree checked.now) self.old (put_local name.now found self.old.top.locals.items) self.old.has)) (program_tree checked.now) self.new result }
+        ensures tree { GoesTo (with_value (value_here (program_tree checked.now) self.old (expr_tree value.now)) self.old.has
+            (λ found. next_here (program_tree checked.now) self.old (put_local name.now found self.old.top.locals.items) self.old.has))
+            (program_tree checked.now) self.new result }
         ensures moves { IfOk result (Moves self.old.top.post self.old.top.path.items self.new) }
         ensures less { IfOk result (ShrinksOn (size self.old + 4) self.new) }
     {
@@ -59,7 +62,8 @@ impl Run {
         value: &Expr,
     ) -> Result<Onward, Stop>
         requires here { self.old.top.at < 2 ^ 63 }
-        ensures tree { GoesTo (with_value (value_here (program_tree checked.now) self.old (expr_tree value.now)) self.old.has (sets_here (program_tree checked.now) self.old name.now)) (program_tree checked.now) self.new result }
+        ensures tree { GoesTo (with_value (value_here (program_tree checked.now) self.old (expr_tree value.now)) self.old.has
+            (sets_here (program_tree checked.now) self.old name.now)) (program_tree checked.now) self.new result }
         ensures moves { IfOk result (Moves self.old.top.post self.old.top.path.items self.new) }
         ensures less { IfOk result (ShrinksOn (size self.old + 4) self.new) }
     {
@@ -74,7 +78,8 @@ impl Run {
 
     /// `return`, once its step is taken.
     fn answer(&mut self, alloc: Global, checked: &Checked, value: &Expr) -> Result<Onward, Stop>
-        ensures tree { GoesTo (with_value (value_here (program_tree checked.now) self.old (expr_tree value.now)) self.old.has (λ found. back_of (program_tree checked.now) self.old found self.old.has)) (program_tree checked.now) self.new result }
+        ensures tree { GoesTo (with_value (value_here (program_tree checked.now) self.old (expr_tree value.now)) self.old.has
+            (λ found. back_of (program_tree checked.now) self.old found self.old.has)) (program_tree checked.now) self.new result }
         ensures moves { IfOk result (Moves self.old.top.post self.old.top.path.items self.new) }
         ensures less { IfOk result (ShrinksOn (size self.old + 4) self.new) }
     {

@@ -1,4 +1,4 @@
-ghost use Rattle.std.specs.Prelude.{◌≡◌, ◌-◌, ◌∷◌, ◌++◌, [], IfOk, OnOk, length, map, take};
+ghost use Rattle.std.specs.Prelude.{◌≡◌, ◌-◌, ◌∷◌, ◌++◌, [], IfOk, is_ok, if◌then◌else◌, length, map, take};
 ghost use Rattle.script_scopes.specs.Names.{is_in};
 
 use crate::places::NamePlaces;
@@ -66,7 +66,7 @@ impl<'a> InScope<'a> {
 
     /// One name more. Without memory the names stay.
     pub fn push(&mut self, name: &'a Chars) -> Result<(), AllocError>
-        ensures { OnOk result (self.new.items ≡ self.old.items ++ name.entry ∷ []) }
+        ensures { self.new.items ≡ (if is_ok result then self.old.items ++ name.entry ∷ [] else self.old.items) }
     {
         let alloc = *self.list.allocator();
         let at = self.list.len();

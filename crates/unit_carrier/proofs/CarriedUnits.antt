@@ -2,6 +2,7 @@
 use Rattle.std.proofs.Common.{◌≡◌, ℕ, ◌<◌, ◌≤◌, List, [], ◌∷◌, Bool, true, false, inl, inr, ⊎_elim, refl, sym, ap, ◌∙◌, subst, arith, map, None}
 use Rattle.std.specs.Prelude.{filter, is_some}
 use Rattle.std.specs.List.{AllByRecursion}
+use Rattle.cell_model.specs.Units.{UnitsAscend}
 use Rattle.core_model.specs.CoreState.{UnitNo, Member, CoreState}
 use Rattle.core_model.specs.LockAnswers.{IsGoing}
 use Rattle.core_model.specs.Tests.{is_decided, outcome_of}
@@ -17,7 +18,6 @@ use Rattle.core_access.specs.Sights.{Sight, run_seen, told, Looks, Tells, Counts
 use Rattle.core_access.proofs.Sights.{looks-alone, run-told, tells-alone, tells-counts, told-stays}
 use Rattle.core_access.proofs.OneHolder.{own-counts, own-alone}
 use Rattle.script_tree.specs.Programs.{ProgramTree}
-use Rattle.turn_rules.specs.TurnLoop.{AreOlder}
 use Rattle.turn_rules.proofs.Growth.{ends-more}
 use Rattle.txn_agent.specs.declared.agent.Agent.{Agent}
 use Rattle.txn_agent.specs.declared.work.Doing.TheVariants.{Asks, Awaits, Frees, Stopped}
@@ -112,10 +112,10 @@ map-filter-member {A} f p (x ∷ xs) y m =
     (λ e n. ⊎_elim (λ q. inl q) (λ k. inr (map-filter-member f p xs y k)) n)
     (λ e n. inr (map-filter-member f p xs y n)) m
 
-pub older-some : (p : Agent → Bool) (agents : List Agent) → AreOlder (units_carried agents) → AreOlder (units_carried (filter p agents))
+pub older-some : (p : Agent → Bool) (agents : List Agent) → UnitsAscend (units_carried agents) → UnitsAscend (units_carried (filter p agents))
 older-some p [] o = o
 older-some p (a ∷ agents) o =
-    cond_both (p a) (a ∷ filter p agents) (filter p agents) (λ (l : List Agent). AreOlder (units_carried l))
+    cond_both (p a) (a ∷ filter p agents) (filter p agents) (λ (l : List Agent). UnitsAscend (units_carried l))
     (λ e. ((λ v m. o.0 v (map-filter-member (λ (x : Agent). x.carried.unit) p agents v m)), older-some p agents o.1))
     (λ e. older-some p agents o.1)
 

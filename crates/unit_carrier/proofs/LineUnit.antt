@@ -20,8 +20,9 @@ use Rattle.script_tree.specs.declared.options.Entered.TheVariants.{Joined, NewUn
 use Rattle.script_meaning.specs.Calls.{Target, numbered}
 use Rattle.script_meaning.specs.Play.{IsTransaction}
 use Rattle.txn_agent.specs.declared.agent.Agent.{Agent}
+use Rattle.txn_agent.specs.Replies.{began_by}
 use Rattle.unit_carrier.specs.CarriedUnits.{AreCarried, CarriesOneMore, units_carried}
-use Rattle.unit_carrier.specs.Lines.{BeginsOn, CarriesBegun, PutsLine, StartsCall, StartsLine, began_by, is_new_unit, makes_unit, with_begun}
+use Rattle.unit_carrier.specs.Lines.{BeginsOn, CarriesBegun, PutsLine, StartsCall, StartsLine, is_new_unit, makes_unit, with_begun}
 use Rattle.unit_carrier.proofs.Places.{begins-carried, carries-units, tells-carried}
 
 -- ---- which calls make a transaction

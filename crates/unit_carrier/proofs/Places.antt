@@ -8,6 +8,7 @@ use Rattle.base_types.specs.declared.calls.Call.{Call}
 use Rattle.base_types.specs.declared.calls.Origin.{Origin}
 use Rattle.base_types.specs.declared.calls.Origin.TheVariants.{Child}
 use Rattle.cell_model.proofs.Units.{Member-append}
+use Rattle.cell_model.specs.Units.{UnitsAscend}
 use Rattle.core_model.specs.CoreState.{UnitNo, Member, CoreState, nobody}
 use Rattle.core_model.specs.Changes.{new_unit}
 use Rattle.core_model.specs.Events.{applies}
@@ -22,7 +23,6 @@ use Rattle.core_access.specs.OneHolder.{none_comes}
 use Rattle.script_tree.specs.Programs.{ProgramTree}
 use Rattle.script_meaning.specs.Play.{IsTransaction}
 use Rattle.turn_rules.specs.NextEvent.{is_own}
-use Rattle.turn_rules.specs.TurnLoop.{AreOlder}
 use Rattle.turn_rules.proofs.Numbers.{older-last, next-begun}
 use Rattle.turn_rules.proofs.Growth.{ends-more}
 use Rattle.worker_rules.proofs.CallPromises.{is-harmless}
@@ -77,7 +77,7 @@ set-carried types may s agents i old new q e knows c =
       holds = c.holds;
       known = all-set (Knows types s) agents i new c.known knows;
       came = came-set s agents i old new q e c.came;
-      older = subst AreOlder (sym same) c.older;
+      older = subst UnitsAscend (sym same) c.older;
       below = λ u m. c.below u (subst (Member u) same m);
     }
 
@@ -99,7 +99,7 @@ older-apart u v less e = let n : u.0 ≡ v.0 = ap (λ (x : UnitNo). x.0) e in ab
 module _ (types : ProgramTree) (may : CoreEvent → Bool) (s t : Sight) (counts : Counts s) where
   -- each other agent knows its unit still, and the one at the index does
   pub steps-known : (agents : List Agent) (i : ℕ) (old new : Agent) → Acts may types old.carried.unit s t → slice_get agents i ≡ Some old → Knows types t new
-      → AreOlder (units_carried agents) → AllByRecursion (Knows types s) agents → AllByRecursion (Knows types t) (slice_set agents i new)
+      → UnitsAscend (units_carried agents) → AllByRecursion (Knows types s) agents → AllByRecursion (Knows types t) (slice_set agents i new)
   steps-known [] i old new acts q knows older all = absurd cc
   steps-known (a ∷ agents) zero old new acts q knows older all =
       (knows, all-each (Knows types s) (Knows types t) agents (λ b m k. knows-steps may types b.carried b.doing old.carried.unit s t acts (apart b m) counts k) all.1)
@@ -124,7 +124,7 @@ steps-carried types may s t agents i old new q e acts knows c =
       holds = acts-holds may types old.carried.unit s t acts c.holds;
       known = steps-known types may s t c.holds.counts agents i old new acts q knows c.older c.known;
       came = came-set t agents i old new q e (came-still s t agents (λ v less. acts-origin may types old.carried.unit s t v c.holds.none acts less) c.below c.came);
-      older = subst AreOlder (sym same) c.older;
+      older = subst UnitsAscend (sym same) c.older;
       below = λ u m. below-more (units_carried agents) (ends (run_seen s)).units.next (ends (run_seen t)).units.next (acts-next may types old.carried.unit s t c.holds.none acts) c.below u (subst (Member u) same m);
     }
 
@@ -172,7 +172,7 @@ begins-carried types may s t origin call plain unit agents after l plainly h bel
   holds = c.holds;
   known = subst (AllByRecursion (Knows types t)) (sym k.list) (all-last (Knows types t) agents k.agent c.known (k.knows t fresh));
   came = subst (AllByRecursion (CameAs t)) (sym k.list) (all-last (CameAs t) agents k.agent c.came (fresh (c.holds.alone _)).came);
-  older = subst AreOlder (sym units) (older-last (units_carried agents) unit older c.older);
+  older = subst UnitsAscend (sym units) (older-last (units_carried agents) unit older c.older);
   below = λ u m. within u (subst (Member u) units m);
 }
   where

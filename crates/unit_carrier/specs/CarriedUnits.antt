@@ -3,6 +3,7 @@ use Rattle.std.specs.Prelude.{◌≡◌, ◌<◌, ◌≤◌, ℕ, ⊤, Bool, Lis
 use Rattle.std.specs.List.{AllByRecursion}
 use Rattle.base_types.specs.declared.calls.Call.{Call}
 use Rattle.base_types.specs.declared.calls.Origin.{Origin}
+use Rattle.cell_model.specs.Units.{UnitsAscend}
 use Rattle.core_model.specs.CoreState.{UnitNo, Member, nobody}
 use Rattle.core_model.specs.LegalRuns.{Run, ends}
 use Rattle.core_model.specs.declared.events.CoreEvent.{CoreEvent}
@@ -11,7 +12,6 @@ use Rattle.core_access.specs.Sights.{Sight, Counts, IsAlone, run_seen}
 use Rattle.script_tree.specs.Programs.{ProgramTree}
 use Rattle.promise_spec.specs.UnitAnswers.{got_in}
 use Rattle.promise_spec.specs.TurnRule.{can_move}
-use Rattle.turn_rules.specs.TurnLoop.{AreOlder}
 use Rattle.txn_agent.specs.declared.agent.Advanced.{Advanced}
 use Rattle.txn_agent.specs.declared.agent.Advanced.TheVariants as advanced
 use Rattle.txn_agent.specs.declared.agent.Agent.{Agent}
@@ -51,7 +51,7 @@ pub record AreCarried (types : ProgramTree) (may_come : CoreEvent → Bool) (s :
   pub holds : HasCoreAlone may_come s
   pub known : AllByRecursion (Knows types s) agents
   pub came : AllByRecursion (CameAs s) agents
-  pub older : AreOlder (units_carried agents)
+  pub older : UnitsAscend (units_carried agents)
   pub below : (u : UnitNo) → Member u (units_carried agents) → u.0 < (ends (run_seen s)).units.next
 
 -- so many of the agents, from the first on, are of units that are over and have given back all their locks

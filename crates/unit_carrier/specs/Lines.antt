@@ -7,7 +7,6 @@ use Rattle.core_model.specs.CoreState.{UnitNo}
 use Rattle.core_model.specs.declared.events.CoreEvent.{CoreEvent}
 use Rattle.core_model.specs.declared.events.CoreEvent.TheVariants.{Bad, Begin}
 use Rattle.core_model.specs.declared.events.CoreReply.{CoreReply}
-use Rattle.core_model.specs.declared.events.CoreReply.TheVariants as reply
 use Rattle.core_access.specs.Sights.{Sight, Tells}
 use Rattle.script_tree.specs.Programs.{ProgramTree}
 use Rattle.script_tree.specs.Options.{entered}
@@ -16,6 +15,7 @@ use Rattle.script_tree.specs.declared.options.Entered.TheVariants.{NewUnit}
 use Rattle.script_meaning.specs.Calls.{Target}
 use Rattle.script_meaning.specs.Play.{IsTransaction}
 use Rattle.txn_agent.specs.declared.agent.Agent.{Agent}
+use Rattle.txn_agent.specs.Replies.{began_by}
 use Rattle.unit_carrier.specs.CarriedUnits.{CarriesOneMore}
 
 -- a call that enters so is a unit of its own
@@ -33,11 +33,6 @@ makes_unit (Some target) = is_new_unit (entered target.method.option false)
 abbrev pub IsEventOf : ProgramTree → ℕ → Result Call BadRequest → CoreEvent → Type 0
 IsEventOf types number (Ok call) e = (plain : Bool) × (e ≡ Begin (OfLine number) call plain) × ((plain ≡ false) ↔ IsTransaction types call)
 IsEventOf types number (Err why) e = e ≡ Bad number why
-
--- the unit that began, by the core's reply
-abbrev pub began_by : CoreReply → Option UnitNo
-began_by (reply.Began unit) = Some unit
-began_by _ = None
 
 -- the units with the one that began
 abbrev pub with_begun : List UnitNo → Option UnitNo → List UnitNo

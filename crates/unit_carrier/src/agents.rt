@@ -1,4 +1,4 @@
-ghost use Rattle.std.specs.Prelude.{◌≡◌, ◌<◌, ◌≤◌, ℕ, [], length, IfOk};
+ghost use Rattle.std.specs.Prelude.{◌≡◌, ◌<◌, ◌≤◌, ℕ, [], length, IfOk, OnErr, MatchResult};
 ghost use Rattle.core_model.specs.LockAnswers.{IsGoing};
 ghost use Rattle.core_model.specs.LegalRuns.{ends};
 ghost use Rattle.core_access.specs.FitAccess.{StaysFit};
@@ -66,7 +66,7 @@ impl Agents {
     }
 
     /// The mover of this place, counted from 0, among the units that are carried. The first `front` of them are over and have given back
-    /// all their locks: they aren't looked at.
+    /// all their locks: they aren't looked at. Whether there is memory or not, the same units are carried as before.
     pub fn find<A: Access>(
         &mut self,
         alloc: Global,
@@ -81,10 +81,11 @@ impl Agents {
         ensures kept { StaysFit (A.is_fit access.new) (A.aside access.old) (A.aside access.new) }
         ensures same { A.sight access.new ≡ A.sight access.old }
         ensures carried { IfOk result (λ _. AreCarried (program_tree checked.now) A.may_come (A.sight access.new) self.new.list.items) }
-        ensures units { IfOk result (λ _. as_carried self.new.list.items ≡ as_carried self.old.list.items) }
+        ensures units { as_carried self.new.list.items ≡ as_carried self.old.list.items }
         ensures within { IfOk result (λ found. FindsWithin found (length self.old.list.items)) }
-        ensures freed { IfOk result (λ _. AreFreed front self.new.list.items) }
-        ensures found { IsGoing (ends (run_seen (A.sight access.old))) → IfOk result (λ found. FindsMover (program_tree checked.now) (run_seen (A.sight access.old)) (units_carried self.old.list.items) place found) }
+        ensures freed { AreFreed front self.new.list.items }
+        ensures found { IsGoing (ends (run_seen (A.sight access.old)))
+            → IfOk result (λ found. FindsMover (program_tree checked.now) (run_seen (A.sight access.old)) (units_carried self.old.list.items) place found) }
     {
         let mut movers = 0usize;
         for index in front..self.list.len() {
@@ -98,7 +99,7 @@ impl Agents {
         Ok(Found::Few(movers))
     }
 
-    /// Carries a unit that has just begun, behind all others.
+    /// Carries a unit that has just begun, behind all others. Without memory the units that are carried stay as they were.
     pub fn carry(
         &mut self,
         alloc: Global,
@@ -108,14 +109,16 @@ impl Agents {
         call: Call,
         plain: bool,
     ) -> Result<(), AllocError>
-        ensures { IfOk result (λ _. CarriesOneMore (program_tree checked.now) unit origin call plain self.old.list.items self.new.list.items) }
+        ensures { MatchResult result (λ _. CarriesOneMore (program_tree checked.now) unit origin call plain self.old.list.items self.new.list.items)
+            (λ _. self.new.list.items ≡ self.old.list.items) }
     {
         let agent = Agent::new(alloc, checked, unit, origin, call, plain)?;
         self.list.push(agent)?;
         Ok(())
     }
 
-    /// The unit at this index goes on by one event. A child that it begins is carried too.
+    /// The unit at this index goes on by one event. A child that it begins is carried too. Without memory the same units are carried as
+    /// before.
     pub fn advance<A: Access>(
         &mut self,
         alloc: Global,
@@ -128,9 +131,11 @@ impl Agents {
         requires carried { AreCarried (program_tree checked.now) A.may_come (A.sight access.old) self.old.list.items }
         ensures kept { StaysFit (A.is_fit access.new) (A.aside access.old) (A.aside access.new) }
         ensures acts { Acts A.may_come (program_tree checked.now) (unit_at self.old.list.items index) (A.sight access.old) (A.sight access.new) }
-        ensures steps { IfOk result (λ went. StepsOn A.may_come (program_tree checked.now) (unit_at self.old.list.items index) (A.sight access.old) (A.sight access.new) (units_carried self.old.list.items) (units_carried self.new.list.items) went) }
+        ensures steps { IfOk result (λ went. StepsOn A.may_come (program_tree checked.now) (unit_at self.old.list.items index) (A.sight access.old)
+            (A.sight access.new) (units_carried self.old.list.items) (units_carried self.new.list.items) went) }
         ensures carried { IfOk result (λ _. AreCarried (program_tree checked.now) A.may_come (A.sight access.new) self.new.list.items) }
-        ensures freed { (front : ℕ) → front ≤ index → AreFreed front self.old.list.items → IfOk result (λ _. AreFreed front self.new.list.items) }
+        ensures units { OnErr result (as_carried self.new.list.items ≡ as_carried self.old.list.items) }
+        ensures freed { (front : ℕ) → front ≤ index → AreFreed front self.old.list.items → AreFreed front self.new.list.items }
     {
         let agent = &mut self.list[index];
         let unit = agent.unit();

@@ -1,3 +1,4 @@
+// How the next line comes to the core, and is carried from then on.
 ghost use Rattle.std.specs.Prelude.{◌≡◌, ◌⊎◌, Ok, IfOk, OnErr, option_map, slice_get};
 ghost use Rattle.std.specs.Option.{option_copied};
 ghost use Rattle.core_access.specs.FitAccess.{StaysFit};
@@ -5,8 +6,9 @@ ghost use Rattle.core_access.specs.Sights.{Looks, Tells};
 ghost use Rattle.core_model.specs.declared.events.CoreReply.{CoreReply as AReply};
 ghost use Rattle.script_tree.specs.Programs.{method_tree, program_tree, type_tree};
 ghost use Rattle.script_meaning.specs.Calls.{numbered};
+ghost use Rattle.txn_agent.specs.Replies.{began_by};
 ghost use Rattle.unit_carrier.specs.CarriedUnits.{AreCarried, units_carried};
-ghost use Rattle.unit_carrier.specs.Lines.{BeginsOn, PutsLine, StartsCall, StartsLine, began_by, is_new_unit, makes_unit};
+ghost use Rattle.unit_carrier.specs.Lines.{BeginsOn, PutsLine, StartsCall, StartsLine, is_new_unit, makes_unit};
 
 use crate::agents::Agents;
 use base_types::{Call, Origin, UnitNo};
@@ -99,8 +101,11 @@ fn start_call<A: Access>(
 ) -> Result<Option<UnitNo>, AllocError>
     requires fit { A.is_fit access.old }
     ensures kept { StaysFit (A.is_fit access.new) (A.aside access.old) (A.aside access.new) }
-    ensures put { OnErr result (Looks A.may_come (A.sight access.old) (A.sight access.new) ⊎ ((r : AReply) × PutsLine A.may_come (program_tree checked.now) line (Ok call.now) (A.sight access.old) (A.sight access.new) r)) }
-    ensures starts { IfOk result (λ began. StartsCall A.may_come (program_tree checked.now) line call.now (A.sight access.old) (A.sight access.new) agents.old.list.items agents.new.list.items began) }
+    ensures put { OnErr result (Looks A.may_come (A.sight access.old) (A.sight access.new)
+        ⊎ ((r : AReply) × PutsLine A.may_come (program_tree checked.now) line (Ok call.now) (A.sight access.old) (A.sight access.new) r)) }
+    ensures same { OnErr result (agents.new.list.items ≡ agents.old.list.items) }
+    ensures starts { IfOk result (λ began. StartsCall A.may_come (program_tree checked.now) line call.now (A.sight access.old) (A.sight access.new)
+        agents.old.list.items agents.new.list.items began) }
 {
     let plain = !makes_transaction(checked, call);
     let origin = Origin::Line(line);
@@ -124,7 +129,7 @@ fn start_call<A: Access>(
 }
 
 /// Puts the event of a line, by whatever access: its call begins as a unit, which is carried and answered, or, where it is bad,
-/// that is told.
+/// that is told. Without memory nobody more is carried.
 pub fn start_line<A: Access>(
     alloc: Global,
     checked: &Checked,
@@ -134,8 +139,11 @@ pub fn start_line<A: Access>(
 ) -> Result<Option<UnitNo>, AllocError>
     requires fit { A.is_fit access.old }
     ensures kept { StaysFit (A.is_fit access.new) (A.aside access.old) (A.aside access.new) }
-    ensures put { OnErr result (Looks A.may_come (A.sight access.old) (A.sight access.new) ⊎ ((r : AReply) × PutsLine A.may_come (program_tree checked.now) line.now.number line.now.what (A.sight access.old) (A.sight access.new) r)) }
-    ensures starts { IfOk result (λ began. StartsLine A.may_come (program_tree checked.now) line.now.number line.now.what (A.sight access.old) (A.sight access.new) agents.old.list.items agents.new.list.items began) }
+    ensures put { OnErr result (Looks A.may_come (A.sight access.old) (A.sight access.new)
+        ⊎ ((r : AReply) × PutsLine A.may_come (program_tree checked.now) line.now.number line.now.what (A.sight access.old) (A.sight access.new) r)) }
+    ensures same { OnErr result (agents.new.list.items ≡ agents.old.list.items) }
+    ensures starts { IfOk result (λ began. StartsLine A.may_come (program_tree checked.now) line.now.number line.now.what (A.sight access.old)
+        (A.sight access.new) agents.old.list.items agents.new.list.items began) }
 {
     match &line.what {
         Ok(call) => start_call(alloc, checked, access, agents, line.number, call),
@@ -153,6 +161,7 @@ pub fn start_line<A: Access>(
 }
 
 /// Begins the next line over a core that nobody else puts events into: its unit, which it answers, or, where it is bad, no unit.
+/// Without memory nobody more is carried.
 pub fn begin_line<A: Access>(
     alloc: Global,
     checked: &Checked,
@@ -163,8 +172,11 @@ pub fn begin_line<A: Access>(
     requires fit { A.is_fit access.old }
     requires carried { AreCarried (program_tree checked.now) A.may_come (A.sight access.old) agents.old.list.items }
     ensures kept { StaysFit (A.is_fit access.new) (A.aside access.old) (A.aside access.new) }
-    ensures put { OnErr result (Looks A.may_come (A.sight access.old) (A.sight access.new) ⊎ ((r : AReply) × PutsLine A.may_come (program_tree checked.now) line.now.number line.now.what (A.sight access.old) (A.sight access.new) r)) }
-    ensures begins { IfOk result (λ began. BeginsOn A.may_come (program_tree checked.now) line.now.number line.now.what (A.sight access.old) (A.sight access.new) (units_carried agents.old.list.items) (units_carried agents.new.list.items) began) }
+    ensures put { OnErr result (Looks A.may_come (A.sight access.old) (A.sight access.new)
+        ⊎ ((r : AReply) × PutsLine A.may_come (program_tree checked.now) line.now.number line.now.what (A.sight access.old) (A.sight access.new) r)) }
+    ensures same { OnErr result (agents.new.list.items ≡ agents.old.list.items) }
+    ensures begins { IfOk result (λ began. BeginsOn A.may_come (program_tree checked.now) line.now.number line.now.what (A.sight access.old)
+        (A.sight access.new) (units_carried agents.old.list.items) (units_carried agents.new.list.items) began) }
     ensures carried { IfOk result (λ _. AreCarried (program_tree checked.now) A.may_come (A.sight access.new) agents.new.list.items) }
 {
     let began = start_line(alloc, checked, access, agents, line)?;

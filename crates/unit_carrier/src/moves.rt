@@ -29,7 +29,9 @@ pub(crate) fn can_move_now<A: Access>(
     ensures same { A.sight access.new ≡ A.sight access.old }
     ensures carried { agent.new.carried ≡ agent.old.carried }
     ensures knows { IfOk result (λ _. Knows (program_tree checked.now) (A.sight access.new) agent.new) }
-    ensures moves { IsGoing (ends (run_seen (A.sight access.old))) → IfOk result (λ b. b ≡ can_move (program_tree checked.now) (ends (run_seen (A.sight access.old))) (got_in (run_seen (A.sight access.old))) agent.old.carried.unit) }
+    ensures moves { IsGoing (ends (run_seen (A.sight access.old)))
+        → IfOk result (λ b. b ≡ can_move (program_tree checked.now) (ends (run_seen (A.sight access.old))) (got_in (run_seen (A.sight access.old)))
+        agent.old.carried.unit) }
 {
     if agent.has_freed_all() {
         return Ok(false);

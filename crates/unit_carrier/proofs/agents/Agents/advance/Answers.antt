@@ -1,14 +1,21 @@
-use Rattle.std.proofs.Common.{◌≡◌, refl, Some}
-use Rattle.std.proofs.Common.{subst}
-use Rattle.std.specs.Prelude.{slice_get, slice_set}
+use Rattle.std.proofs.Common.{◌≡◌, ◌∙◌, List, Some, ap, refl, subst, sym}
+use Rattle.std.specs.Prelude.{OnErr, Result, Ok, Err, slice_get, slice_set}
 use Rattle.std.proofs.lemmas.Option.{slice_get_read}
 use Rattle.script_tree.specs.Programs.{program_tree}
 use Rattle.txn_agent.specs.declared.agent.Advanced.{Advanced}
 use Rattle.txn_agent.specs.declared.agent.Advanced.TheVariants as came
 use Rattle.txn_agent.specs.AgentStep.{AnswerSays, children_of}
+use Rattle.txn_agent.specs.declared.agent.Agent.{Agent}
+use Rattle.unit_carrier.specs.CarriedUnits.{AreFreed, as_carried}
+use Rattle.unit_carrier.proofs.MoverSearch.{map-set}
 use Rattle.unit_carrier.proofs.FreedUnits.{freed-set, freed-set-more}
 use Rattle.unit_carrier.proofs.Places.{acts-here, child-carried, child-units, steps-carried, steps-on, units-set}
 use Rattle.unit_carrier.proofs.agents.Agents.advance.Goals as goal
+
+-- what holds anyway holds where there is an error
+where_err : {A B : Type 0} (r : Result A B) (P : Type 0) → P → OnErr r P
+where_err (Ok value) P holds = tt
+where_err (Err fault) P holds = holds
 
 pub returns-in_err-child-clause-acts : goal.returns-in_err-child-clause-acts
 returns-in_err-child-clause-acts g c =
@@ -129,3 +136,23 @@ returns-in-Ended-clause-freed g c = λ front le freed. freed-set c.args.self.now
 pub returns-in_ok-carry-in-Began-clause-freed : goal.returns-in_ok-carry-in-Began-clause-freed
 returns-in_ok-carry-in-Began-clause-freed g c = λ front le freed.
     freed-set-more c.args.self.now.list.items c.carry.new.self.list.items front c.args.index c.advance.new.self c.in_ok-carry-in-Began.ensures.agent c.in_ok-carry-in-Began.ensures.list le c.requires.within freed
+
+pub returns-in_err-child-clause-units : goal.returns-in_err-child-clause-units
+returns-in_err-child-clause-units g c =
+    let q : slice_get c.args.self.now.list.items c.args.index ≡ Some c.index_mut-agent.result.now = slice_get_read c.args.self.now.list.items _ c.args.index c.index_mut-agent.result.now refl c.requires.within c.index_mut-agent.ensures.value in
+    where_err c.from_residual.result _
+    (map-set (λ (a : Agent). a.carried) c.args.self.now.list.items c.args.index c.index_mut-agent.result.now c.advance.new.self q c.advance.ensures.carried)
+
+pub returns-in_err-carry-in-Began-clause-units : goal.returns-in_err-carry-in-Began-clause-units
+returns-in_err-carry-in-Began-clause-units g c =
+    let q : slice_get c.args.self.now.list.items c.args.index ≡ Some c.index_mut-agent.result.now = slice_get_read c.args.self.now.list.items _ c.args.index c.index_mut-agent.result.now refl c.requires.within c.index_mut-agent.ensures.value in
+    where_err c.from_residual-in_err-carry-in-Began.result _
+    (ap (λ (agents : List Agent). as_carried agents) c.in_err-carry-in-Began.ensures
+    ∙ map-set (λ (a : Agent). a.carried) c.args.self.now.list.items c.args.index c.index_mut-agent.result.now c.advance.new.self q c.advance.ensures.carried)
+
+pub returns-in_err-child-clause-freed : goal.returns-in_err-child-clause-freed
+returns-in_err-child-clause-freed g c = λ front le freed. freed-set c.args.self.now.list.items front c.args.index c.advance.new.self le freed
+
+pub returns-in_err-carry-in-Began-clause-freed : goal.returns-in_err-carry-in-Began-clause-freed
+returns-in_err-carry-in-Began-clause-freed g c = λ front le freed.
+    subst (λ (agents : List Agent). AreFreed front agents) (sym c.in_err-carry-in-Began.ensures) (freed-set c.args.self.now.list.items front c.args.index c.advance.new.self le freed)

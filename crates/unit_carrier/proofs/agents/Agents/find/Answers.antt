@@ -94,3 +94,14 @@ pub returns-clause-found : goal.returns-clause-found
 returns-clause-found g c = λ going.
     all-counted (program_tree c.args.checked.now) (run_seen (g.A.Access.sight c.args.access.now)) (units_carried c.args.self.now.list.items) c.loop-index.index c.loop-index.movers c.args.place
     (units-past c.args.self.now.list.items c.len-index-end.result c.loop-index.index (search) c.loop-index-test.false) (c.loop-index.invariant.movers going) c.loop-index.invariant.place
+
+pub returns-in_err-can_move_now-clause-freed : goal.returns-in_err-can_move_now-clause-freed
+returns-in_err-can_move_now-clause-freed g c =
+    freed-set c.loop-index.self.list.items c.args.front c.loop-index.index c.can_move_now.new.agent c.loop-index.invariant.past c.loop-index.invariant.freed
+
+pub returns-in_err-can_move_now-clause-units : goal.returns-in_err-can_move_now-clause-units
+returns-in_err-can_move_now-clause-units g c =
+    let q : slice_get c.loop-index.self.list.items c.loop-index.index ≡ Some c.index_mut.result.now =
+    agent-here c.args.self.now.list.items c.loop-index.self.list.items c.len-index-end.result c.loop-index.index c.index_mut.result.now c.loop-index.invariant.units (search) c.loop-index-test.true c.index_mut.ensures.value in
+    map-set (λ (a : Agent). a.carried) c.loop-index.self.list.items c.loop-index.index c.index_mut.result.now c.can_move_now.new.agent q c.can_move_now.ensures.carried
+    ∙ c.loop-index.invariant.units
