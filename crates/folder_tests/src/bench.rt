@@ -65,6 +65,7 @@ fn asked_of(word: &str) -> Asked {
 }
 
 impl<'a> Bench<'a> {
+    /// A bench of a host over this machine, and of two over real folders.
     pub fn new(rt: &'a HostRuntime, machine: &'a Machine) -> Result<Bench<'a>, AllocError> {
         let machined = host_over(rt.alloc(), machine)?;
         let first = real_over(rt, "")?;

@@ -238,7 +238,8 @@ impl<S: SystemCalls + Drop> Folder<S> {
         ensures known { IsTrue S.tells → (S.answered self.new.system).has_lost_entries ≡ (S.answered self.old.system).has_lost_entries }
         ensures calm { OnOk result (IsTrue S.tells → WasObeyed (S.answered self.old.system) (S.answered self.new.system)) }
         ensures fine { IsTrue S.tells → WentWell (S.answered self.old.system) (S.answered self.new.system)
-            → IsInPlace asked.entry.is_lost asked.entry.had_bytes (S.is_regular asked.entry.file) ((S.state self.old.system).world.disk asked.entry.file).seen → IsOk result }
+            → IsInPlace asked.entry.is_lost asked.entry.had_bytes (S.is_regular asked.entry.file)
+            ((S.state self.old.system).world.disk asked.entry.file).seen → IsOk result }
     {
         if !self.claim.take(&mut self.system, self.path.as_str())? {
             refuse_gone(asked.had_bytes)?;
@@ -278,7 +279,8 @@ impl<S: SystemCalls + Drop> Folder<S> {
         ensures known { IsTrue S.tells → (S.answered self.new.system).has_lost_entries ≡ (S.answered self.old.system).has_lost_entries }
         ensures calm { OnOk result (IsTrue S.tells → WasObeyed (S.answered self.old.system) (S.answered self.new.system)) }
         ensures fine { IsTrue S.tells → WentWell (S.answered self.old.system) (S.answered self.new.system)
-            → IsInPlace asked.entry.is_lost asked.entry.had_bytes (S.is_regular asked.entry.file) ((S.state self.old.system).world.disk asked.entry.file).seen → IsOk result }
+            → IsInPlace asked.entry.is_lost asked.entry.had_bytes (S.is_regular asked.entry.file)
+            ((S.state self.old.system).world.disk asked.entry.file).seen → IsOk result }
     {
         let Some(opened) = self.find(asked)? else {
             return Ok(None);
@@ -303,7 +305,9 @@ impl<S: SystemCalls + Drop> Folder<S> {
         ensures lost { IsTrue asked.entry.is_lost → IsErr result }
         ensures calm { OnOk result (IsTrue S.tells → WasObeyed (S.answered self.old.system) (S.answered self.new.system)) }
         ensures fine { IsTrue S.tells → WentWell (S.answered self.old.system) (S.answered self.new.system)
-            → IsInPlace asked.entry.is_lost asked.entry.had_bytes (S.is_regular asked.entry.file) ((S.state self.old.system).world.disk asked.entry.file).seen → length ((S.state self.old.system).world.disk asked.entry.file).seen < 2 ^ 63 → IsOk result }
+            → IsInPlace asked.entry.is_lost asked.entry.had_bytes (S.is_regular asked.entry.file)
+            ((S.state self.old.system).world.disk asked.entry.file).seen
+            → length ((S.state self.old.system).world.disk asked.entry.file).seen < 2 ^ 63 → IsOk result }
     {
         refuse_lost(asked.is_lost)?;
         let opened = match take_kept(&mut self.reader, asked.file) {
@@ -339,7 +343,8 @@ impl<S: SystemCalls + Drop> Folder<S> {
         ensures regular { IfOk result (λ found. IfSome found (λ opened. IsTrue S.tells → IsTrue (S.is_regular asked.entry.file))) }
         ensures calm { OnOk result (IsTrue S.tells → WasObeyed (S.answered self.old.system) (S.answered self.new.system)) }
         ensures fine { IsTrue S.tells → WentWell (S.answered self.old.system) (S.answered self.new.system)
-            → IsInPlace asked.entry.is_lost asked.entry.had_bytes (S.is_regular asked.entry.file) ((S.state self.old.system).world.disk asked.entry.file).seen → IsOk result }
+            → IsInPlace asked.entry.is_lost asked.entry.had_bytes (S.is_regular asked.entry.file)
+            ((S.state self.old.system).world.disk asked.entry.file).seen → IsOk result }
     {
         if let Some(opened) = take_kept(&mut self.reader, asked.file) {
             return Ok(Some(opened));
@@ -361,7 +366,8 @@ impl<S: SystemCalls + Drop> Folder<S> {
         ensures lost { IsTrue asked.entry.is_lost → IsErr result }
         ensures calm { OnOk result (IsTrue S.tells → WasObeyed (S.answered self.old.system) (S.answered self.new.system)) }
         ensures fine { IsTrue S.tells → WentWell (S.answered self.old.system) (S.answered self.new.system)
-            → IsInPlace asked.entry.is_lost asked.entry.had_bytes (S.is_regular asked.entry.file) ((S.state self.old.system).world.disk asked.entry.file).seen → IsOk result }
+            → IsInPlace asked.entry.is_lost asked.entry.had_bytes (S.is_regular asked.entry.file)
+            ((S.state self.old.system).world.disk asked.entry.file).seen → IsOk result }
     {
         refuse_lost(asked.is_lost)?;
         let Some(opened) = self.take_reader(asked)? else {
@@ -414,7 +420,8 @@ impl<S: SystemCalls + Drop> Folder<S> {
         ensures known { IsTrue S.tells → (S.answered self.new.system).has_lost_entries ≡ (S.answered self.old.system).has_lost_entries }
         ensures calm { OnOk result (IsTrue S.tells → WasObeyed (S.answered self.old.system) (S.answered self.new.system)) }
         ensures fine { IsTrue S.tells → WentWell (S.answered self.old.system) (S.answered self.new.system)
-            → IsInPlace asked.entry.is_lost asked.entry.had_bytes (S.is_regular asked.entry.file) ((S.state self.old.system).world.disk asked.entry.file).seen → self.new.claim.is_missing ≡ false → IsOk result }
+            → IsInPlace asked.entry.is_lost asked.entry.had_bytes (S.is_regular asked.entry.file)
+            ((S.state self.old.system).world.disk asked.entry.file).seen → self.new.claim.is_missing ≡ false → IsOk result }
     {
         if let Some(opened) = take_kept(&mut self.writer, asked.file) {
             return Ok(opened);
@@ -442,7 +449,8 @@ impl<S: SystemCalls + Drop> Folder<S> {
         ensures entries { self.new.entries ≡ Entries.Lost → self.old.entries ≡ Entries.Lost }
         ensures calm { OnOk result (IsTrue S.tells → WasObeyed (S.answered self.old.system) (S.answered self.new.system)) }
         ensures fine { IsTrue S.tells → WentWell (S.answered self.old.system) (S.answered self.new.system)
-            → IsInPlace asked.entry.is_lost asked.entry.had_bytes (S.is_regular asked.entry.file) ((S.state self.old.system).world.disk asked.entry.file).seen → self.new.claim.is_missing ≡ false → at + length bytes.now < 2 ^ 63 → IsOk result }
+            → IsInPlace asked.entry.is_lost asked.entry.had_bytes (S.is_regular asked.entry.file)
+            ((S.state self.old.system).world.disk asked.entry.file).seen → self.new.claim.is_missing ≡ false → at + length bytes.now < 2 ^ 63 → IsOk result }
     {
         refuse_lost(asked.is_lost)?;
         let count = bytes.len() as u64;
@@ -501,7 +509,9 @@ impl<S: SystemCalls + Drop> Folder<S> {
         ensures lost { IsTrue asked.entry.is_lost → IsErr result }
         ensures calm { OnOk result (IsTrue S.tells → WasObeyed (S.answered self.old.system) (S.answered self.new.system)) }
         ensures fine { IsTrue S.tells → WentWell (S.answered self.old.system) (S.answered self.new.system)
-            → IsInPlace asked.entry.is_lost asked.entry.had_bytes (S.is_regular asked.entry.file) ((S.state self.old.system).world.disk asked.entry.file).seen → self.new.claim.is_missing ≡ false → (S.answered self.old.system).has_lost_entries ≡ false → IsOk result }
+            → IsInPlace asked.entry.is_lost asked.entry.had_bytes (S.is_regular asked.entry.file)
+            ((S.state self.old.system).world.disk asked.entry.file).seen → self.new.claim.is_missing ≡ false
+            → (S.answered self.old.system).has_lost_entries ≡ false → IsOk result }
     {
         refuse_lost(asked.is_lost)?;
         let opened = self.take_writer(asked)?;

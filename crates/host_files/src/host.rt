@@ -125,7 +125,8 @@ impl<S: SystemCalls + Drop> Host for FolderHost<S> {
     }
 
     fn emit(&mut self, bytes: &[u8]) -> Result<(), Failed>
-        ensures ok { OnOk result (IsTrue S.tells → Emitted (length bytes.now) bytes.now (S.state self.old.folder.system).world (S.state self.new.folder.system).world) }
+        ensures ok { OnOk result (IsTrue S.tells
+            → Emitted (length bytes.now) bytes.now (S.state self.old.folder.system).world (S.state self.new.folder.system).world) }
         ensures part { IsTrue S.tells → ((n : ℕ) × Emitted n bytes.now (S.state self.old.folder.system).world (S.state self.new.folder.system).world) }
         ensures faults { Counted Output result (counts_of self.old.input_faults self.old.output_faults self.old.table.files)
             (counts_of self.new.input_faults self.new.output_faults self.new.table.files) }
@@ -154,7 +155,8 @@ impl<S: SystemCalls + Drop> Host for FolderHost<S> {
         ensures believed { SameLost self.old.table.files self.new.table.files }
         ensures calm { OnOk result (IsTrue S.tells → (S.answered self.new.folder.system).refusals ≡ (S.answered self.old.folder.system).refusals) }
         ensures fine { IsTrue S.tells → WentWell (S.answered self.old.folder.system) (S.answered self.new.folder.system)
-            → IsInPlace (is_lost self.old.table.files file) (had_bytes_in self.old.table.files file) (S.is_regular file) ((S.state self.old.folder.system).world.disk file).seen
+            → IsInPlace (is_lost self.old.table.files file) (had_bytes_in self.old.table.files file) (S.is_regular file)
+            ((S.state self.old.folder.system).world.disk file).seen
             → length ((S.state self.old.folder.system).world.disk file).seen < 2 ^ 63
             → IsOk result }
         ensures lost { IsTrue (is_lost self.old.table.files file) → IsErr result }
@@ -180,7 +182,8 @@ impl<S: SystemCalls + Drop> Host for FolderHost<S> {
         ensures believed { SameLost self.old.table.files self.new.table.files }
         ensures calm { OnOk result (IsTrue S.tells → (S.answered self.new.folder.system).refusals ≡ (S.answered self.old.folder.system).refusals) }
         ensures fine { IsTrue S.tells → WentWell (S.answered self.old.folder.system) (S.answered self.new.folder.system)
-            → IsInPlace (is_lost self.old.table.files file) (had_bytes_in self.old.table.files file) (S.is_regular file) ((S.state self.old.folder.system).world.disk file).seen
+            → IsInPlace (is_lost self.old.table.files file) (had_bytes_in self.old.table.files file) (S.is_regular file)
+            ((S.state self.old.folder.system).world.disk file).seen
             → IsOk result }
         ensures lost { IsTrue (is_lost self.old.table.files file) → IsErr result }
         ensures regular { IfOk result (λ n. IsTrue S.tells → 0 < n → IsTrue (S.is_regular file)) }
@@ -200,7 +203,8 @@ impl<S: SystemCalls + Drop> Host for FolderHost<S> {
         requires file { MayAsk (is_known self.old.table.files) file }
         requires place { IsTrue S.tells → at ≤ length ((S.state self.old.folder.system).world.disk file).seen }
         ensures told { IsTrue S.tells → Written file at (length bytes.now) (S.state self.old.folder.system).world (S.state self.new.folder.system).world }
-        ensures ok { OnOk result (IsTrue S.tells → Overwrote at bytes.now ((S.state self.old.folder.system).world.disk file) ((S.state self.new.folder.system).world.disk file)) }
+        ensures ok { OnOk result (IsTrue S.tells
+            → Overwrote at bytes.now ((S.state self.old.folder.system).world.disk file) ((S.state self.new.folder.system).world.disk file)) }
         ensures bound { OnOk result (at + length bytes.now < 2 ^ 63) }
         ensures faults { Counted (File file) result (counts_of self.old.input_faults self.old.output_faults self.old.table.files)
             (counts_of self.new.input_faults self.new.output_faults self.new.table.files) }
@@ -208,7 +212,8 @@ impl<S: SystemCalls + Drop> Host for FolderHost<S> {
         ensures believed { SameLost self.old.table.files self.new.table.files }
         ensures calm { OnOk result (IsTrue S.tells → (S.answered self.new.folder.system).refusals ≡ (S.answered self.old.folder.system).refusals) }
         ensures fine { IsTrue S.tells → WentWell (S.answered self.old.folder.system) (S.answered self.new.folder.system)
-            → IsInPlace (is_lost self.old.table.files file) (had_bytes_in self.old.table.files file) (S.is_regular file) ((S.state self.old.folder.system).world.disk file).seen
+            → IsInPlace (is_lost self.old.table.files file) (had_bytes_in self.old.table.files file) (S.is_regular file)
+            ((S.state self.old.folder.system).world.disk file).seen
             → self.new.folder.claim.is_missing ≡ false → at + length bytes.now < 2 ^ 63
             → IsOk result }
         ensures lost { IsTrue (is_lost self.old.table.files file) → IsErr result }
@@ -247,7 +252,8 @@ impl<S: SystemCalls + Drop> Host for FolderHost<S> {
         ensures others { (other : FileId) → other ≢ file → is_lost self.new.table.files other ≡ is_lost self.old.table.files other }
         ensures calm { OnOk result (IsTrue S.tells → (S.answered self.new.folder.system).refusals ≡ (S.answered self.old.folder.system).refusals) }
         ensures fine { IsTrue S.tells → WentWell (S.answered self.old.folder.system) (S.answered self.new.folder.system)
-            → IsInPlace (is_lost self.old.table.files file) (had_bytes_in self.old.table.files file) (S.is_regular file) ((S.state self.old.folder.system).world.disk file).seen
+            → IsInPlace (is_lost self.old.table.files file) (had_bytes_in self.old.table.files file) (S.is_regular file)
+            ((S.state self.old.folder.system).world.disk file).seen
             → self.new.folder.claim.is_missing ≡ false → (S.answered self.old.folder.system).has_lost_entries ≡ false
             → IsOk result }
         ensures lost { IsTrue (is_lost self.old.table.files file) → IsErr result }

@@ -4,7 +4,7 @@ ghost use Rattle.host_trait.specs.Disk.{MayLeave};
 ghost use Rattle.host_trait.specs.World.{Pulled};
 ghost use Rattle.host_trait.specs.declared.channels.FileId.{FileId};
 ghost use Rattle.system_calls.specs.System.{System, MayBeFound, HasNoBytes, MakesFile, EntersAll, SyncsData, SameEntries, IsReadPart, AppendsPart, MayGoOn, WritesPart, FailsPart};
-ghost use Rattle.system_calls.specs.Answers.{AnswerCounts, DoesOrRefuses, WasRefused, interrupted_once, stood_in_once};
+ghost use Rattle.system_calls.specs.Answers.{AnswerCounts, DoesOrRefuses, TakesOrFails, GivesOrFails, WasRefused, stood_in_once};
 ghost use Rattle.system_calls.specs.declared.calls.Access.{Access};
 
 use crate::refusal::Refused;
@@ -184,10 +184,7 @@ pub trait SystemCalls {
         ensures bound { IfOk result (λ n. n ≤ length into.old - from) }
         ensures bytes { IfOk result (λ n. IsTrue tells
             → IsReadPart n from at ((state self.old).world.disk (Self.File.file opened.now)).seen into.old into.new) }
-        ensures moved { OnOk result (IsTrue tells → answered self.new ≡ answered self.old) }
-        ensures paused { IfErr result (λ error. error ≡ Refused.Interrupted → IsTrue tells → answered self.new ≡ interrupted_once (answered self.old)) }
-        ensures refused { IfErr result (λ error. error ≢ Refused.Interrupted → IsTrue tells
-            → WasRefused (answered self.old).has_lost_entries (answered self.old) (answered self.new)) }
+        ensures answers { IsTrue tells → TakesOrFails result (answered self.old) (answered self.new) }
         ensures interrupted { IfErr result (λ error. error ≡ Refused.Interrupted → IsTrue tells → into.new ≡ into.old) };
 
     /// Writes some of these bytes, which belong at `at`: those from the place `from` on, of which the ones before have been
@@ -211,12 +208,7 @@ pub trait SystemCalls {
             → WritesPart n from (Self.File.file opened.now) at bytes.now (state self.old) (state self.new)) }
         ensures err { IfErr result (λ error. error ≢ Refused.Interrupted → IsTrue tells
             → FailsPart from (Self.File.file opened.now) at (length bytes.now) (state self.old) (state self.new)) }
-        ensures moved { IfOk result (λ n. IsTrue tells → (n ≡ 0 → length bytes.now ≡ from) → answered self.new ≡ answered self.old) }
-        ensures stuck { IfOk result (λ n. IsTrue tells → n ≡ 0 → from < length bytes.now
-            → WasRefused (answered self.old).has_lost_entries (answered self.old) (answered self.new)) }
-        ensures paused { IfErr result (λ error. error ≡ Refused.Interrupted → IsTrue tells → answered self.new ≡ interrupted_once (answered self.old)) }
-        ensures refused { IfErr result (λ error. error ≢ Refused.Interrupted → IsTrue tells
-            → WasRefused (answered self.old).has_lost_entries (answered self.old) (answered self.new)) }
+        ensures answers { IsTrue tells → GivesOrFails from (length bytes.now) result (answered self.old) (answered self.new) }
         ensures interrupted { IfErr result (λ error. error ≡ Refused.Interrupted → IsTrue tells → state self.new ≡ state self.old) };
 
     /// Syncs the folder's entries: after Ok each file that is there is found after a crash. It isn't asked once one was refused:
@@ -242,10 +234,7 @@ pub trait SystemCalls {
         ensures bound { IfOk result (λ n. n ≤ length into.old) }
         ensures ok { IfOk result (λ n. IsTrue tells → Pulled n into.new (state self.old).world (state self.new).world) }
         ensures entries { IsTrue tells → SameEntries (state self.old) (state self.new) }
-        ensures moved { OnOk result (IsTrue tells → answered self.new ≡ answered self.old) }
-        ensures paused { IfErr result (λ error. error ≡ Refused.Interrupted → IsTrue tells → answered self.new ≡ interrupted_once (answered self.old)) }
-        ensures refused { IfErr result (λ error. error ≢ Refused.Interrupted → IsTrue tells
-            → WasRefused (answered self.old).has_lost_entries (answered self.old) (answered self.new)) }
+        ensures answers { IsTrue tells → TakesOrFails result (answered self.old) (answered self.new) }
         ensures err { OnErr result (IsTrue tells → state self.new ≡ state self.old) };
 
     /// Appends some of these bytes to the output: those from the place `from` on, of which the ones before have been put out;
@@ -254,12 +243,7 @@ pub trait SystemCalls {
         requires { from ≤ length bytes.now }
         ensures bound { IfOk result (λ n. n ≤ length bytes.now - from) }
         ensures ok { IfOk result (λ n. IsTrue tells → AppendsPart n from bytes.now (state self.old) (state self.new)) }
-        ensures moved { IfOk result (λ n. IsTrue tells → (n ≡ 0 → length bytes.now ≡ from) → answered self.new ≡ answered self.old) }
-        ensures stuck { IfOk result (λ n. IsTrue tells → n ≡ 0 → from < length bytes.now
-            → WasRefused (answered self.old).has_lost_entries (answered self.old) (answered self.new)) }
-        ensures paused { IfErr result (λ error. error ≡ Refused.Interrupted → IsTrue tells → answered self.new ≡ interrupted_once (answered self.old)) }
-        ensures refused { IfErr result (λ error. error ≢ Refused.Interrupted → IsTrue tells
-            → WasRefused (answered self.old).has_lost_entries (answered self.old) (answered self.new)) }
+        ensures answers { IsTrue tells → GivesOrFails from (length bytes.now) result (answered self.old) (answered self.new) }
         ensures err { OnErr result (IsTrue tells → state self.new ≡ state self.old) };
 
     /// What a read gives is among what a crash may leave.

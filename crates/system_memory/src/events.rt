@@ -65,7 +65,8 @@ pub fn note_emitted(
     requires from { from ≤ length bytes.now }
     requires some { 0 < count }
     requires within { count ≤ length bytes.now - from }
-    ensures ok { OnOk result ((input : List ℕ) → AppendsPart count from bytes.now (system_of input (held_of events.old.items)) (system_of input (held_of events.new.items))) }
+    ensures ok { OnOk result ((input : List ℕ)
+        → AppendsPart count from bytes.now (system_of input (held_of events.old.items)) (system_of input (held_of events.new.items))) }
     ensures err { OnErr result (events.new.items ≡ events.old.items) }
     ensures kept { IsKeepable (held_of events.old.items) → IsKeepable (held_of events.new.items) }
 {
@@ -89,8 +90,10 @@ pub fn note_wrote(
     requires place { MayGoOn from at (length bytes.now) ((held_of events.old.items).disk file) }
     requires some { count ≡ 0 → length bytes.now ≡ 0 }
     requires within { count ≤ length bytes.now - from }
-    ensures ok { OnOk result ((input : List ℕ) → WritesPart count from file at bytes.now (system_of input (held_of events.old.items)) (system_of input (held_of events.new.items))) }
-    ensures torn { OnOk result ((input : List ℕ) → FailsPart from file at (length bytes.now) (system_of input (held_of events.old.items)) (system_of input (held_of events.new.items))) }
+    ensures ok { OnOk result ((input : List ℕ)
+        → WritesPart count from file at bytes.now (system_of input (held_of events.old.items)) (system_of input (held_of events.new.items))) }
+    ensures torn { OnOk result ((input : List ℕ)
+        → FailsPart from file at (length bytes.now) (system_of input (held_of events.old.items)) (system_of input (held_of events.new.items))) }
     ensures err { OnErr result (events.new.items ≡ events.old.items) }
     ensures kept { IsKeepable (held_of events.old.items) → IsKeepable (held_of events.new.items) }
 {

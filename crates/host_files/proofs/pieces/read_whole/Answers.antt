@@ -14,7 +14,7 @@ loop-turn-preserved g c = elim c.match-read_at.branch [
         same = search rules;
         told = search rules;
         answered = λ told.
-            let same = w.in-Ok.ensures.moved told in
+            let same = w.in-Ok.ensures.answers told in
             subst (λ (k : ℕ). TookTurns (c.loop-turn.turn + 1) k (g.S.SystemCalls.answered c.args.system.now) (g.S.SystemCalls.answered c.read_at.new.self)) (sym w.count-is)
             (turned_on c.loop-turn.turn c.loop-turn.count w.in-Ok.more (g.S.SystemCalls.answered c.args.system.now) (g.S.SystemCalls.answered c.loop-turn.system) (g.S.SystemCalls.answered c.read_at.new.self) some (c.loop-turn.invariant.answered told) same);
         some = λ told.

@@ -48,8 +48,8 @@ returns-in-Err g c =
       ok = tt;
       entries = λ told. entries_on old now new (c.loop-turn.invariant.some told).beside.entries (c.in-Err.ensures.err apart told).beside.entries;
       calm = tt;
-      fine = λ told well. absurd (turned_refused c.loop-turn.turn c.loop-turn.done (g.S.SystemCalls.answered c.loop-turn.system).has_lost_entries (g.S.SystemCalls.answered c.args.system.now) (g.S.SystemCalls.answered c.loop-turn.system) (g.S.SystemCalls.answered c.write_at.new.self) (c.loop-turn.invariant.answered told) (c.in-Err.ensures.refused apart told) well);
-      known = λ told. turned_known c.loop-turn.turn c.loop-turn.done (g.S.SystemCalls.answered c.args.system.now) (g.S.SystemCalls.answered c.loop-turn.system) (g.S.SystemCalls.answered c.write_at.new.self) (c.loop-turn.invariant.answered told) (c.in-Err.ensures.refused apart told);
+      fine = λ told well. absurd (turned_refused c.loop-turn.turn c.loop-turn.done (g.S.SystemCalls.answered c.loop-turn.system).has_lost_entries (g.S.SystemCalls.answered c.args.system.now) (g.S.SystemCalls.answered c.loop-turn.system) (g.S.SystemCalls.answered c.write_at.new.self) (c.loop-turn.invariant.answered told) ((c.in-Err.ensures.answers told).refused apart) well);
+      known = λ told. turned_known c.loop-turn.turn c.loop-turn.done (g.S.SystemCalls.answered c.args.system.now) (g.S.SystemCalls.answered c.loop-turn.system) (g.S.SystemCalls.answered c.write_at.new.self) (c.loop-turn.invariant.answered told) ((c.in-Err.ensures.answers told).refused apart);
     }
 
 pub loop-turn-preserved : goal.loop-turn-preserved
@@ -60,7 +60,7 @@ loop-turn-preserved g c = elim c.match-write_at.branch [
         bound = search rules;
         goes = search rules;
         answered = λ told.
-            let same = w.in-Ok.ensures.moved told (λ none. absurd (search rules)) in
+            let same = (w.in-Ok.ensures.answers told).moved (λ none. absurd (search rules)) in
             subst (λ (k : ℕ). TookTurns (c.loop-turn.turn + 1) k (g.S.SystemCalls.answered c.args.system.now) (g.S.SystemCalls.answered c.write_at.new.self)) (sym w.done-is)
             (turned_on c.loop-turn.turn c.loop-turn.done w.in-Ok.more (g.S.SystemCalls.answered c.args.system.now) (g.S.SystemCalls.answered c.loop-turn.system) (g.S.SystemCalls.answered c.write_at.new.self) some (c.loop-turn.invariant.answered told) same);
         some = λ told.
