@@ -284,6 +284,8 @@ with tempfile.TemporaryDirectory() as room:
         ended = go("run", given=LINES)
         rows.row(f"run over {what}", (ended.number in (0, 6), with_reply(ended.output)), (True, set()))
         rows.row(f"init over {what}", go("init", given=BANK).number in (6, 8), True)
+        # The first thing that it writes is the other slot's header gate.
+        rows.row(f"compact over {what}", go("compact"), fault_in("manager-1.otx"))
         rows.row(f"the bytes of {what}", bytes_of(folder), held)
 
     program = os.path.join(room, "program")

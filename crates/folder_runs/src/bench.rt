@@ -25,6 +25,7 @@ fn fault_of(word: &str) -> Fault {
 }
 
 impl<'a> Bench<'a> {
+    /// A bench over this machine, before the first row.
     pub fn new(alloc: Global, machine: &'a Machine) -> Bench<'a> {
         Bench {
             alloc,

@@ -1,5 +1,6 @@
 // A command by a host over the machine, and how it ends.
 use host_files::FolderHost;
+use host_trait::Channel;
 use silo_top::{Gate, GatePlace, Status, run_alone};
 use std::alloc::{AllocError, Global};
 use system_machine::{Fault, Machine, OnMachine};
@@ -18,10 +19,11 @@ pub struct Asked<'a> {
     pub input: &'a str,
 }
 
-/// How a command ended, what it put out, and how many calls of the system it made.
+/// How a command ended, whether the host's faults bear that out, what it put out, and how many calls of the system it made.
 #[derive(Drop)]
 pub struct Ended {
     pub status: Status,
+    pub is_borne_out: bool,
     pub output: String,
     pub calls: u64,
 }
@@ -40,12 +42,29 @@ fn output_of(alloc: Global, machine: &Machine) -> Result<String, AllocError> {
     String::from_str(alloc, std::str::from_utf8(&bytes).unwrap_or("?"))
 }
 
-// Carries the command by a new host. Words that ask for workers are bad use here.
-fn carry_by_host(alloc: Global, machine: &Machine, words: &[String]) -> Result<Status, AllocError> {
+// Whether the channel that a status tells of has had a fault; where all is done, whether neither stream has.
+fn is_borne_out(host: &FolderHost<OnMachine<'_>>, status: Status) -> bool {
+    let read_faults = host.fault_count(Channel::Input);
+    let write_faults = host.fault_count(Channel::Output);
+    match status {
+        Status::Done => read_faults == 0 && write_faults == 0,
+        Status::ReadFault => read_faults > 0,
+        Status::WriteFault => write_faults > 0,
+        Status::DiskFault { file } => host.fault_count(Channel::File(file)) > 0,
+        _ => false,
+    }
+}
+
+// Carries the command by a new host, and answers whether its faults bear the status out. Words that ask for workers are bad use here.
+fn carry_by_host(
+    alloc: Global,
+    machine: &Machine,
+    words: &[String],
+) -> Result<(Status, bool), AllocError> {
     let mut host = FolderHost::new(alloc, OnMachine(machine), "f")?;
     match run_alone(alloc, words, &mut host, &OpenGate) {
-        Ok(status) => Ok(status),
-        Err(_) => Ok(Status::BadUse),
+        Ok(status) => Ok((status, is_borne_out(&host, status))),
+        Err(_) => Ok((Status::BadUse, false)),
     }
 }
 
@@ -60,12 +79,13 @@ pub fn carry_with(
     let words = words_of(alloc, asked.words)?;
     machine.give(asked.input.as_bytes())?;
     machine.fail(nth, fault);
-    let status = carry_by_host(alloc, machine, words.as_slice())?;
+    let (status, is_borne_out) = carry_by_host(alloc, machine, words.as_slice())?;
     let calls = machine.calls();
     let _ = machine.taken();
     let output = output_of(alloc, machine)?;
     Ok(Ended {
         status,
+        is_borne_out,
         output,
         calls,
     })

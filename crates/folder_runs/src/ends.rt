@@ -1,6 +1,7 @@
 // What is untrue of a command's end, whatever stands in the folder then.
 use crate::command_runs::{Asked, Ended, count_lines};
 use crate::records::answers_all;
+use host_trait::FileId;
 use silo_top::Status;
 use std::alloc::{AllocError, Global};
 use system_machine::{Fault, HeldFile};
@@ -9,6 +10,7 @@ use system_machine::{Fault, HeldFile};
 #[derive(Clone, Copy, PartialEq, Eq)]
 pub enum Kind {
     Makes,
+    Compacts,
     Runs,
     Reports,
 }
@@ -17,6 +19,9 @@ pub enum Kind {
 pub fn kind_of(words: &str) -> Kind {
     if words.starts_with("init") {
         return Kind::Makes;
+    }
+    if words.starts_with("compact") {
+        return Kind::Compacts;
     }
     if words.starts_with("run") {
         return Kind::Runs;
@@ -43,6 +48,7 @@ fn is_whole(kind: Kind, asked: Asked<'_>, ended: &Ended, whole: &Ended) -> bool 
     let output = ended.output.as_str();
     match kind {
         Kind::Makes => output.is_empty(),
+        Kind::Compacts => output.is_empty(),
         Kind::Runs => {
             ended.status != Status::Done || answers_all(output, count_lines(asked.input) as u64)
         }
@@ -53,15 +59,28 @@ fn is_whole(kind: Kind, asked: Asked<'_>, ended: &Ended, whole: &Ended) -> bool 
     }
 }
 
-/// What is untrue of an end, beside that of the same command where no call fails.
+fn names_grain(status: Status) -> bool {
+    match status {
+        Status::DiskFault {
+            file: FileId::Grain { .. },
+        } => true,
+        _ => false,
+    }
+}
+
+/// What is untrue of an end, beside that of the same command where no call fails. Once lines are carried no grain's file ends them.
 pub fn untruth_of_end(
     asked: Asked<'_>,
     fault: Fault,
     ended: &Ended,
     whole: &Ended,
+    is_begun: bool,
 ) -> Option<&'static str> {
     if !is_told(fault, is_same(ended, whole)) {
         return Some("a fault that is passed over, or changes what it mustn't");
+    }
+    if !ended.is_borne_out || (is_begun && names_grain(ended.status)) {
+        return Some("an end that no fault bears out");
     }
     if !is_whole(kind_of(asked.words), asked, ended, whole) {
         return Some("an output that isn't whole");

@@ -65,6 +65,26 @@ pub fn untruth_of_silo(
     Ok(None)
 }
 
+/// What is untrue of a folder whose silo was written anew, or wasn't, and that showed these states before.
+pub fn untruth_of_rewriting(
+    alloc: Global,
+    machine: &Machine,
+    states: &str,
+) -> Result<Option<&'static str>, AllocError> {
+    let audit = report(alloc, machine, "audit")?;
+    if audit.status != Status::Done || !audit.output.ends_with("\"first_bad\":null}\n") {
+        return Ok(Some("an audit that finds a bad record"));
+    }
+    let shown = report(alloc, machine, "show")?;
+    if shown.status != Status::Done || shown.output.as_str() != states {
+        return Ok(Some("other states than before"));
+    }
+    if !goes_on(alloc, machine)? {
+        return Ok(Some("a run that doesn't go on"));
+    }
+    Ok(None)
+}
+
 // Whether the folder is a new silo, where it is one.
 fn is_new(audit: &Ended, shown: &Ended) -> bool {
     let is_audited = audit.output.as_str() == "{\"count\":0,\"first_bad\":null}\n";

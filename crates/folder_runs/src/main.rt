@@ -14,12 +14,14 @@
 //! and with all that was done. An untruth is
 //!
 //! - an end that is another because of an interruption or of a part, or that is the same though a call was refused;
+//! - an end that names a channel without a fault, or done though a stream had one; a run that a grain's file ends once it carries lines;
 //! - done, where a line has no reply or two, or a report isn't the whole;
 //! - a report that doesn't print the front of the whole, or changes a file;
 //! - a value or a fault that was answered and has no record in the log, and an abort that has one; half of what is in doubt;
 //! - a record of no line, a second one of a line, or an older one that is gone;
 //! - an `audit` or a `show` that isn't done, or finds a bad record; balances that aren't those of the records; a run behind it that
 //!   doesn't go on;
+//! - of `compact`: other states than before;
 //! - of `init`: done, and no new silo is there; or anything there but a new silo or none, which a second `init` says too.
 #![tactic(auto)]
 

@@ -1,7 +1,7 @@
 // A command over copies of a folder, in each of which another call of the system fails.
 use crate::command_runs::{Asked, Ended, carry, carry_with, count_lines};
 use crate::ends::{Kind, are_same, is_same, kind_of, text_of, untruth_of_end};
-use crate::folders::{untruth_of_making, untruth_of_silo};
+use crate::folders::{untruth_of_making, untruth_of_rewriting, untruth_of_silo};
 use crate::records::Said;
 use crate::tally::Tally;
 use std::alloc::{AllocError, Global};
@@ -16,7 +16,9 @@ struct Sweep<'a> {
     fault: Fault,
     before: Vec<HeldFile>,
     history: String,
+    states: String,
     whole: Ended,
+    quiet: u64,
 }
 
 // How the copies ended.
@@ -48,6 +50,9 @@ impl<'a> Sweep<'a> {
             Kind::Makes => {
                 let input = self.asked.input;
                 return untruth_of_making(alloc, self.machine, input, ended.status);
+            }
+            Kind::Compacts => {
+                return untruth_of_rewriting(alloc, self.machine, self.states.as_str());
             }
             Kind::Runs => ended.output.as_str(),
             Kind::Reports => "",
@@ -83,7 +88,8 @@ impl<'a> Sweep<'a> {
         if is_same(&ended, &self.whole) {
             found.same = found.same.saturating_add(1);
         }
-        let untruth = untruth_of_end(self.asked, self.fault, &ended, &self.whole);
+        let is_begun = nth > self.quiet;
+        let untruth = untruth_of_end(self.asked, self.fault, &ended, &self.whole, is_begun);
         found.note(nth, "at its end", untruth)?;
         self.open_again(found, nth, &ended)
     }
@@ -101,13 +107,17 @@ impl<'a> Sweep<'a> {
     }
 }
 
-// The records of the folder as it stands, none where it is no silo.
-fn history_of(alloc: Global, machine: &Machine) -> Result<String, AllocError> {
-    let asked = Asked {
-        words: "history",
-        input: "",
-    };
-    Ok(carry(alloc, machine, asked)?.output)
+// What a report prints of the folder as it stands, nothing where it is no silo.
+fn printed(alloc: Global, machine: &Machine, words: &str) -> Result<String, AllocError> {
+    Ok(carry(alloc, machine, Asked { words, input: "" })?.output)
+}
+
+// How many calls come before a line is carried, where lines are.
+fn quiet_calls(alloc: Global, machine: &Machine, words: &str) -> Result<u64, AllocError> {
+    if kind_of(words) != Kind::Runs {
+        return Ok(u64::MAX);
+    }
+    Ok(carry(alloc, machine, Asked { words, input: "" })?.calls)
 }
 
 fn sweep_of<'a>(
@@ -117,7 +127,9 @@ fn sweep_of<'a>(
     fault: Fault,
 ) -> Result<Sweep<'a>, AllocError> {
     let before = machine.held()?;
-    let history = history_of(alloc, machine)?;
+    let history = printed(alloc, machine, "history")?;
+    let states = printed(alloc, machine, "show")?;
+    let quiet = quiet_calls(alloc, machine, asked.words)?;
     let whole = carry(alloc, machine, asked)?;
     Ok(Sweep {
         alloc,
@@ -126,7 +138,9 @@ fn sweep_of<'a>(
         fault,
         before,
         history,
+        states,
         whole,
+        quiet,
     })
 }
 

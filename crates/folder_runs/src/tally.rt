@@ -15,6 +15,7 @@ pub struct Tally {
 }
 
 impl Tally {
+    /// A tally of no rows.
     pub fn new(alloc: Global) -> Tally {
         Tally {
             alloc,

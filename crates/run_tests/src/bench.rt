@@ -4,6 +4,7 @@ use crate::answers::{
 };
 use crate::bank::{LAST_LOG, NEW_LOG, new_books, new_silo, program_text};
 use crate::commands::{carry, carry_alone, copied};
+use crate::each_call::add_each_call;
 use crate::faults::add_fault;
 use crate::gates::add_held;
 use crate::names::{MANAGER, fault_of};
@@ -147,6 +148,7 @@ impl Bench {
             "log" => self.cut_log(rest),
             "other" => self.cut_other(rest),
             "last" => self.give_last(),
+            "byte" => self.give_byte(rest),
             "fail" => self.fail(rest),
             "pulls" | "blanks" | "reads" | "feeds" => self.add_many(word, rest),
             "<" => {
@@ -184,6 +186,24 @@ impl Bench {
         for (place, byte) in log.iter_mut().enumerate() {
             if place >= 9 && place < 13 {
                 *byte = 255;
+            }
+        }
+        self.host.set_file(MANAGER, log.as_slice())?;
+        Ok(true)
+    }
+
+    fn give_byte(&mut self, words: &str) -> Result<bool, AllocError> {
+        let (at, byte) = words.split_once(' ').unwrap_or((words, ""));
+        let (Some(at), Some(byte)) = (number_of(at), number_of(byte)) else {
+            return Ok(false);
+        };
+        let Some(log) = self.host.file(MANAGER) else {
+            return Ok(false);
+        };
+        let mut log = Vec::from_slice(self.alloc, log)?;
+        for (place, old) in log.iter_mut().enumerate() {
+            if place as u64 == at {
+                *old = (byte % 256) as u8;
             }
         }
         self.host.set_file(MANAGER, log.as_slice())?;
@@ -298,6 +318,7 @@ impl Bench {
             "stops" => add_stops(rt, self.alloc, out, &self.host),
             "fails" => self.add_fails(rt, out, rest),
             "noise" => self.add_noise(rt, out, rest),
+            "each" => self.add_each(rt, out, rest),
             _ => self.add_kept(out, word, rest),
         }
     }
@@ -338,6 +359,21 @@ impl Bench {
         }
         self.input.clear();
         Ok(())
+    }
+
+    // Writes what comes of commands over copies of the host of which each call fails, or which stop after each. The input stays.
+    fn add_each<R: Threads + Wait + Sync>(
+        &self,
+        rt: &R,
+        out: &mut String,
+        rest: &str,
+    ) -> Result<(), AllocError> {
+        let (count, words) = rest.split_once(' ').unwrap_or((rest, ""));
+        let input = self.input.as_str();
+        match number_of(count) {
+            Some(calls) => add_each_call(rt, self.alloc, out, &self.host, calls, words, input),
+            None => out.push_str("no such case"),
+        }
     }
 
     // Writes what a case tells that carries nothing.

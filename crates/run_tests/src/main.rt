@@ -7,6 +7,7 @@
 //! | `empty`, `new`, `books` | takes a folder without files; a new silo of the bank program; one that has 100 in each of three accounts |
 //! | `log N` | gives the manager file the first N bytes of a new silo's |
 //! | `other N` | gives that of slot 1 the first N bytes of one of the last generation whose header gate is closed |
+//! | `byte N B` | gives the manager file the byte B at place N |
 //! | `last` | gives the manager file the last generation |
 //! | `fail CALL CHANNEL N` | has the N-th call of this kind on this channel fail, counted from here on |
 //! | `crash` | takes what a crash leaves that loses all that is pending |
@@ -18,6 +19,7 @@
 //! | `count WORDS`, `ended WORDS` | carries the command, and tells how it ended and, where all was done, or however it ended, how many lines were put out |
 //! | `held seal`, `held locks`, `held all` | does so for a run by two workers, or by 16, whose threads a gate holds: see [`gates`] |
 //! | `noise N WORDS`, `noise faults WORDS`, `noise N stops WORDS` | carries the command over copies of the host while its threads are held up at random: N times; with each of some calls failing; N times stopped by the host. Tells how many went well: see [`noise`] |
+//! | `each N WORDS; WORDS; ..` | carries one or more commands, one after another, over copies of the host: of N of them the 1st, 2nd, .. N-th call fails, and N others stop after 0, 1, .. calls. Tells how much went well, or what didn't first: see [`each_call`]. The input stays |
 //! | `images WORDS` | carries the command over sixteen images that a crash may leave here, and tells each of its ends once |
 //! | `left` | tells how many syncs the last command asked for, and how long the manager file is |
 //! | `replies` | tells how the last command ended and all that the host has put out by then |
@@ -35,6 +37,7 @@ mod answers;
 mod bank;
 mod bench;
 mod commands;
+mod each_call;
 mod faults;
 mod gates;
 mod names;

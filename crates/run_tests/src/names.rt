@@ -3,8 +3,10 @@ use base_types::GrainId;
 use host_memory::CallKind;
 use host_trait::{Channel, FileId};
 
+/// The manager file of slot 0.
 pub const MANAGER: FileId = FileId::Manager { slot: 0 };
 
+/// The program file of slot 0.
 pub const PROGRAM: FileId = FileId::Program { slot: 0 };
 
 /// A call that is to fail: the nth of its kind on its channel, counted from 1.

@@ -44,7 +44,20 @@ fn all_show<R: Threads + Wait + Sync>(
     Ok(true)
 }
 
-// Whether the silo is whole where the host stops after so many calls, and where a crash comes within the next one.
+// Whether a next generation that wasn't written to its end left the silo whole.
+fn ends_well<R: Threads + Wait + Sync>(
+    rt: &R,
+    alloc: Global,
+    host: &mut MemoryHost,
+    wanted: &str,
+) -> Result<bool, AllocError> {
+    if compact(rt, alloc, host)? == Status::Done {
+        return Ok(false);
+    }
+    all_show(rt, alloc, host, host.calls(), wanted)
+}
+
+// Whether the silo is whole where the host stops after so many calls, where the next one fails, and where a crash comes within that.
 fn stops_well<R: Threads + Wait + Sync>(
     rt: &R,
     alloc: Global,
@@ -53,12 +66,15 @@ fn stops_well<R: Threads + Wait + Sync>(
     stop: u64,
     wanted: &str,
 ) -> Result<bool, AllocError> {
-    let mut host = copied(before)?;
-    host.stop_after(stop);
-    if compact(rt, alloc, &mut host)? == Status::Done {
-        return Ok(false);
-    }
-    Ok(all_show(rt, alloc, &host, stop, wanted)? && all_show(rt, alloc, whole, stop, wanted)?)
+    let mut stopped = copied(before)?;
+    stopped.stop_after(stop);
+    let mut failing = copied(before)?;
+    failing.fail_call(stop.saturating_add(1));
+    Ok(
+        ends_well(rt, alloc, &mut stopped, wanted)?
+            && ends_well(rt, alloc, &mut failing, wanted)?
+            && all_show(rt, alloc, whole, stop, wanted)?,
+    )
 }
 
 // The states of a folder.
