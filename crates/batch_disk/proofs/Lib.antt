@@ -7,6 +7,7 @@ pub mod NextGate
 pub mod OpenGates
 pub mod ImagesSealed
 pub mod WriterState
+pub mod VoteAnswers
 pub mod SealSteps
 pub mod FileEnds
 pub mod Journal

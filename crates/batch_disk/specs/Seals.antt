@@ -1,12 +1,15 @@
 -- What stands after a batch was to be sealed, by the answer.
-use Rattle.std.specs.Prelude.{◌≡◌, ◌⊎◌, ◌+◌, ◌==◌, nat_lt, ℕ, Bool, true, false, ◌&&◌, ◌||◌, not, List, [], ◌∷◌, ◌++◌, length, slice_index}
+use Rattle.std.specs.Prelude.{◌≡◌, ◌⊎◌, ◌+◌, ◌==◌, nat_lt, ℕ, Bool, IsTrue, true, false, ◌&&◌, ◌||◌, not, List, [], ◌∷◌, ◌++◌, length, slice_index}
 use Rattle.base_types.specs.declared.calls.GrainId.{GrainId}
 use Rattle.base_types.specs.declared.shapes.Shape.{Shape}
-use Rattle.host_trait.specs.Disk.{FileState}
+use Rattle.host_trait.specs.declared.channels.Channel.{Channel}
+use Rattle.host_trait.specs.Disk.{FileState, Tears}
 use Rattle.host_trait.specs.World.{World, Image, IsImage, Passes, moment_of}
+use Rattle.host_trait.specs.Runs.{RunsOnFile}
 use Rattle.commit_log.specs.declared.records.CommitRecord.{CommitRecord}
 use Rattle.commit_log.specs.declared.gate.Sealing.{Sealing}
 use Rattle.commit_log.specs.declared.gate.Sealing.TheVariants.{Sealed, NotSealed, InDoubt}
+use Rattle.commit_log.specs.SealImages.{SealHasCause}
 use Rattle.core_model.specs.declared.effects.Effect.{Effect}
 use Rattle.host_trait.specs.declared.channels.FileId.TheVariants.{Manager}
 use Rattle.promise_spec.specs.Records.{Commit, AreRecordsOf}
@@ -14,11 +17,12 @@ use Rattle.promise_spec.specs.Entries.{Log, grown}
 use Rattle.promise_spec.specs.Blocks.{Records, body_of}
 use Rattle.promise_spec.specs.Logs.{StandsUpTo, IsLog}
 use Rattle.promise_spec.specs.Exits.{HasBlock, DifferAt}
-use Rattle.std.specs.List.{flat_map}
+use Rattle.std.specs.List.{flat_map, AllByRecursion}
 use Rattle.batch_disk.specs.ImagesAtRest.{EachImage, SomeImage, raised_ends}
 use Rattle.batch_disk.specs.Moments.{LeavesRest, KeepsLog, IsSeam}
-use Rattle.batch_disk.specs.Writers.{file_end, kept_of, HasSameEnds, KeepsDisk}
-use Rattle.batch_disk.specs.Records.{commits_by}
+use Rattle.batch_disk.specs.Writers.{file_end, kept_of, voted_of, HasSameEnds, KeepsDisk}
+use Rattle.batch_disk.specs.Records.{commits_by, AreRecordsFor, MayBeLogged, IsAsWritten}
+use Rattle.batch_disk.specs.declared.records.SealWork.{SealWork}
 use Rattle.batch_disk.specs.declared.writer.BatchWriter.{BatchWriter}
 
 -- whether an offset lies in none of these ranges
@@ -70,3 +74,18 @@ WriterAfter (Sealed next) records old new = (new.gate_at ≡ next)
     × (((g : GrainId) → file_end new g ≡ raised_ends (file_end old) (flat_map (λ r. r.writes) records) g) × ((new.in_doubt ≡ old.in_doubt) × (kept_of new ≡ [])))
 WriterAfter NotSealed records old new = HasSameEnds old new × (kept_of new ≡ [])
 WriterAfter InDoubt records old new = new ≡ record old { in_doubt = true }
+
+-- What sealing this work does, by the answer: two writes and two syncs at most, of the manager file from the gate on, and no other file
+-- and no output changes. At each moment each image has the log that it had, or it with the records of these units, all of them whole.
+-- Not sealed and in doubt are faults of the manager file, and of nothing else.
+pub record SealsWork {H : Type 0} (tells : Bool) (world : H → World) (faults : H → Channel → ℕ) (live : ℕ) (work : SealWork) (answer : Sealing) (before after : BatchWriter) (old new : H) : Type 0 where
+  pub run : IsTrue tells → RunsOnFile (Manager live) (Tears before.gate_at (length work.block + 1)) 2 (world old) (world new)
+  pub twice : IsTrue tells → (next : ℕ) → answer ≡ Sealed next → (world new).syncs ≡ (world old).syncs + 2
+  pub seals : IsTrue tells → (shape : Shape) (head : List ℕ) (log : Log) (bodies : List (List ℕ)) (batch : ℕ) (effects : List Effect)
+      → AreRecordsFor (voted_of batch before) effects work.records
+      → AllByRecursion (MayBeLogged shape) effects → AllByRecursion (IsAsWritten (voted_of batch before)) effects
+      → KeepsDisk live shape head log bodies before (world old).disk
+      → SealsAs live shape head log bodies effects work.records answer before after (world old) (world new)
+  pub slot : after.slot ≡ before.slot
+  pub after_is : WriterAfter answer work.records before after
+  pub cause : SealHasCause live answer before.gate_at (length work.block) (faults old) (faults new)

@@ -10,6 +10,8 @@ mod laws;
 mod records;
 mod writer;
 
-pub use laws::{batches_go_on_the_journal, writers_know_the_log};
+pub use laws::{
+    batches_go_on_the_journal, unsealed_batches_leave_the_journal, writers_know_the_log,
+};
 pub use records::SealWork;
 pub use writer::BatchWriter;

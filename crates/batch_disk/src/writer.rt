@@ -1,24 +1,13 @@
-ghost use Rattle.std.specs.Prelude.{◌≡◌, ◌+◌, ◌++◌, ◌∷◌, ◌<◌, ◌≤◌, ◌^◌, ℕ, [], List, true, false, IsTrue, length, map, unwrap_or, if◌then◌else◌, IfOk, OnOk, OnErr, vec_len, vec_capacity};
+ghost use Rattle.std.specs.Prelude.{◌≡◌, ◌+◌, ◌++◌, ◌∷◌, ◌<◌, ◌≤◌, ◌^◌, [], true, false, IsTrue, length, map, unwrap_or, IfOk, OnOk, OnErr, vec_len, vec_capacity};
 ghost use Rattle.std.specs.List.{flat_map, AllByRecursion};
 ghost use Rattle.base_types.specs.Stores.{end_in, has_room, KeepsRoom};
 ghost use Rattle.base_types.specs.declared.calls.GrainId.{GrainId as AGrain};
-ghost use Rattle.base_types.specs.declared.shapes.Shape.{Shape};
-ghost use Rattle.host_trait.specs.Disk.{Tears, overlaid, settled};
-ghost use Rattle.host_trait.specs.Faults.{NoneFailed, FailedOn};
 ghost use Rattle.host_trait.specs.Files.{StaysReady};
-ghost use Rattle.host_trait.specs.World.{Passes};
-ghost use Rattle.host_trait.specs.Runs.{RunsOnFile};
-ghost use Rattle.host_trait.specs.declared.channels.Channel.TheVariants.{File};
-ghost use Rattle.host_trait.specs.declared.channels.FileId.TheVariants.{Grain, Manager};
-ghost use Rattle.grain_log.specs.Places.{spelling_of_versions};
-ghost use Rattle.commit_log.specs.SealImages.{SealHasCause};
-ghost use Rattle.core_model.specs.declared.effects.Effect.{Effect as AnEffect};
-ghost use Rattle.promise_spec.specs.Entries.{Log};
-ghost use Rattle.batch_disk.specs.ImagesAtRest.{write_end, raised_ends, NotAmong, AreOfType, voted_at, voted_from};
-ghost use Rattle.batch_disk.specs.Moments.{KeepsLog};
-ghost use Rattle.batch_disk.specs.Writers.{file_end, voted_by, kept_of, voted_of, IsInBounds, FitsDisk, KeepsDisk, HasSameEnds};
-ghost use Rattle.batch_disk.specs.Records.{AreRecordsFor, IsSealable, MayBeLogged, IsAsWritten};
-ghost use Rattle.batch_disk.specs.Seals.{SealsAs, WriterAfter};
+ghost use Rattle.batch_disk.specs.ImagesAtRest.{write_end, raised_ends, voted_at};
+ghost use Rattle.batch_disk.specs.Writers.{file_end, voted_by, kept_of, voted_of, IsInBounds, FitsDisk, HasSameEnds};
+ghost use Rattle.batch_disk.specs.Records.{AreRecordsFor, IsSealable};
+ghost use Rattle.batch_disk.specs.VoteAnswers.{VotesOn, LacksRoom};
+ghost use Rattle.batch_disk.specs.Seals.{SealsWork};
 
 use crate::records::{SealWork, work_of};
 use base_types::{Ends, GrainId, List, Place, State, UnitNo, Version};
@@ -186,35 +175,13 @@ impl BatchWriter {
         requires bounds { IsInBounds self.old }
         requires fits { IsTrue H.tells → FitsDisk self.old (H.world host.old).disk }
 
-        // One write and one sync at most, at the file's end; no other file and no output changes.
-        ensures run { IsTrue H.tells
-            → RunsOnFile (Grain self.old.slot grain) (Tears (file_end self.old grain) (length (spelling_of_versions versions.now))) 1 (H.world host.old) (H.world host.new) }
+        // The vote, and what it leaves of the host, of the disk and of what is kept.
+        ensures voted { IfOk result (λ yes. VotesOn H.tells H.world H.faults self.old.slot batch grain yes versions.now self.old self.new
+            host.old host.new) }
 
-        // At each moment each image has the log that it had.
-        ensures still { IsTrue H.tells → (shape : Shape) (head : List ℕ) (log : Log) (bodies : List (List ℕ)) → NotAmong grain (voted_of batch self.old)
-            → KeepsDisk self.old.slot shape head log bodies self.old (H.world host.old).disk
-            → Passes (KeepsLog self.old.slot head log (H.world host.old)) (H.world host.old).past (H.world host.new).past }
-
-        // After every answer the log is where the writer keeps it, and what the votes wrote stands.
-        ensures keeps { IsTrue H.tells → (shape : Shape) (head : List ℕ) (log : Log) (bodies : List (List ℕ)) → NotAmong grain (voted_of batch self.old)
-            → AreOfType shape grain versions.now → KeepsDisk self.old.slot shape head log bodies self.old (H.world host.old).disk
-            → KeepsDisk self.old.slot shape head log bodies self.new (H.world host.new).disk }
-
-        // A vote of yes: they are on disk, and are kept. No other vote is kept more, and what is kept is this batch's.
-        ensures there { IfOk result (λ yes. IsTrue yes → IsTrue H.tells → (H.world host.new).disk (Grain self.old.slot grain)
-            ≡ settled (overlaid ((H.world host.old).disk (Grain self.old.slot grain)).seen (file_end self.old grain) (spelling_of_versions versions.now))) }
-        ensures once { IfOk result (λ yes. IsTrue yes → IsTrue H.tells → (H.world host.new).syncs ≡ (H.world host.old).syncs + 1) }
-        ensures voted { IfOk result (λ yes. voted_of batch self.new
-            ≡ (if yes then voted_of batch self.old ++ voted_from grain (file_end self.old grain) versions.now else voted_of batch self.old)) }
-        ensures unvoted { OnErr result (voted_of batch self.new ≡ voted_of batch self.old) }
-        ensures same { HasSameEnds self.old self.new }
-        ensures batch { self.new.batch ≡ batch }
-
-        // A vote of no is a fault of the grain's file, and of nothing else.
-        ensures yes { IfOk result (λ yes. IsTrue yes → NoneFailed (H.faults host.old) (H.faults host.new)) }
-        ensures no { IfOk result (λ yes. yes ≡ false → FailedOn (File (Grain self.old.slot grain)) (H.faults host.old) (H.faults host.new)) }
-        ensures calm { OnErr result (NoneFailed (H.faults host.old) (H.faults host.new)) }
-        ensures unwritten { OnErr result (IsTrue H.tells → H.world host.new ≡ H.world host.old) }
+        // Without memory the host holds what it held.
+        ensures lacked { OnErr result (LacksRoom H.tells H.world H.faults self.old.slot batch grain versions.now self.old self.new
+            host.old host.new) }
 
         ensures bounds { IsInBounds self.new }
         ensures fits { IsTrue H.tells → FitsDisk self.new (H.world host.new).disk }
@@ -300,22 +267,8 @@ impl BatchWriter {
         requires sure { self.old.in_doubt ≡ false }
         requires work { IsSealable self.old work }
 
-        // Two writes and two syncs at most, of the manager file from the gate on; no other file and no output changes.
-        ensures run { IsTrue H.tells
-            → RunsOnFile (Manager self.old.slot) (Tears self.old.gate_at (length work.block + 1)) 2 (H.world host.old) (H.world host.new) }
-        ensures twice { IsTrue H.tells → (next : ℕ) → result ≡ Sealing.Sealed next → (H.world host.new).syncs ≡ (H.world host.old).syncs + 2 }
-
-        // The seam: at each moment each image has the log that it had, or it with the records of these units, all of them whole.
-        ensures seals { IsTrue H.tells → (shape : Shape) (head : List ℕ) (log : Log) (bodies : List (List ℕ)) (batch : ℕ) (effects : List AnEffect)
-            → AreRecordsFor (voted_of batch self.old) effects work.records
-            → AllByRecursion (MayBeLogged shape) effects → AllByRecursion (IsAsWritten (voted_of batch self.old)) effects
-            → KeepsDisk self.old.slot shape head log bodies self.old (H.world host.old).disk
-            → SealsAs self.old.slot shape head log bodies effects work.records result self.old self.new (H.world host.old) (H.world host.new) }
-        ensures after { WriterAfter result work.records self.old self.new }
-        ensures slot { self.new.slot ≡ self.old.slot }
-
-        // Not sealed and in doubt are faults of the manager file, and of nothing else.
-        ensures cause { SealHasCause self.old.slot result self.old.gate_at (length work.block) (H.faults host.old) (H.faults host.new) }
+        // What it leaves of the host, of the disk and of the writer, by the answer.
+        ensures seals { SealsWork H.tells H.world H.faults self.old.slot work result self.old self.new host.old host.new }
 
         ensures bounds { IsInBounds self.new }
         ensures fits { IsTrue H.tells → FitsDisk self.new (H.world host.new).disk }

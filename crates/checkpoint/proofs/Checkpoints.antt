@@ -27,7 +27,7 @@ use Rattle.promise_spec.specs.Blocks.{Saved, Checkpoint, pieces_of, IsSaved, Fro
 use Rattle.promise_spec.specs.Logs.{magic, written_file}
 use Rattle.checkpoint.specs.Copies.{copy_of, IsCopied}
 use Rattle.checkpoint.specs.Pieces.{behind_gate, front_bodies, piece_bodies}
-use Rattle.checkpoint.specs.Rewriting.{IsLastOf}
+use Rattle.checkpoint.specs.NextGeneration.{IsLastVersionOf}
 
 -- ---- the manager file's bytes
 
@@ -110,7 +110,7 @@ module _ (live : ℕ) (p : Program) (seen : Image) (disk : Disk) (image : Image)
     pub states : AllByRecursion (λ (w : GrainId × List Value). w.1 ≡ (standing_of log).states w.0) (map (λ s. (s.write.grain, s.state)) saved)
     pub held : (grain : GrainId) → is_among (map (λ s. (s.write.grain, s.state)) saved) grain ≡ list_any (λ (n : Named). same_grain n.written.grain grain) latest
 
-  one_saved : (n : Named) → (l : IsLastOf live p seen log n) → IsCopied live (shape_in p) seen disk n → WriteFits (copy_of n)
+  one_saved : (n : Named) → (l : IsLastVersionOf live p seen log n) → IsCopied live (shape_in p) seen disk n → WriteFits (copy_of n)
       → IsSaved (1 - live) p image (record { unit = l.version.unit; write = copy_of n; state = l.version.state })
   one_saved n l c fits =
       let same : c.version ≡ l.version = (let both : Ok c.version ≡ Ok l.version = sym c.found ∙ l.there in cc both) in
@@ -132,7 +132,7 @@ module _ (live : ℕ) (p : Program) (seen : Image) (disk : Disk) (image : Image)
         };
       }
 
-  pub saved_of : (latest : List Named) → AllByRecursion (IsLastOf live p seen log) latest → AllByRecursion (IsCopied live (shape_in p) seen disk) latest → AllByRecursion WriteFits (map copy_of latest) → AreSavedOf latest
+  pub saved_of : (latest : List Named) → AllByRecursion (IsLastVersionOf live p seen log) latest → AllByRecursion (IsCopied live (shape_in p) seen disk) latest → AllByRecursion WriteFits (map copy_of latest) → AreSavedOf latest
   saved_of [] last copied fits = record { saved = []; writes = refl; each = tt; states = tt; held = λ grain. refl }
   saved_of (n ∷ latest) last copied fits =
       let more = saved_of latest last.1 copied.1 fits.1 in

@@ -30,8 +30,8 @@ use Rattle.promise_spec.specs.Openings.{Reads, opened_as}
 use Rattle.promise_spec.specs.Words.{Manner}
 use Rattle.promise_spec.specs.Endings.{Ending, Done}
 use Rattle.promise_spec.specs.Courses.{Observed}
-use Rattle.promise_spec.specs.Compacting.{IsCompactable}
-use Rattle.promise_spec.specs.Rewriting.{IsRewriting, Rewrites}
+use Rattle.promise_spec.specs.EitherSlot.{IsCompactable}
+use Rattle.promise_spec.specs.Compaction.{IsRewriting, Rewrites}
 use Rattle.promise_spec.proofs.Growing.{program_begins}
 use Rattle.promise_spec.proofs.Lists.{each_of, either_in}
 use Rattle.promise_spec.proofs.Openings.{reads_is, reads_is_live, log_is_read}
@@ -41,7 +41,7 @@ use Rattle.silo_opening.specs.declared.opened_silo.Opened.{Opened}
 use Rattle.silo_opening.specs.OpenedSilo.{program_in, IsOpenedFrom, IsLatest, AreLatest}
 use Rattle.silo_opening.proofs.OpeningCalls.{long_opened, opens_same, opens_and_asked, opens_untouched}
 use Rattle.checkpoint.specs.declared.compaction.Next.{Next}
-use Rattle.checkpoint.specs.Rewriting.{IsOnTheWay, IsLastOf, IsMadeOf}
+use Rattle.checkpoint.specs.NextGeneration.{IsOnTheWay, IsLastVersionOf, IsMadeOf}
 use Rattle.checkpoint.proofs.NamedVersions.{IsNamedIn, latest_named_in}
 
 -- what the next generation of an opened silo is made of
@@ -55,12 +55,12 @@ next_of o latest = record {
 }
 
 -- the last versions, with what the log says of each
-one_named : (o : Opened) (image : Image) (log : Log) (n : Named) → IsLatest image o log n → IsNamedIn o.slot (program_in o) image n → IsLastOf o.slot (program_in o) image log n
+one_named : (o : Opened) (image : Image) (log : Log) (n : Named) → IsLatest image o log n → IsNamedIn o.slot (program_in o) image n → IsLastVersionOf o.slot (program_in o) image log n
 one_named o image log n l m =
     let same : m.version ≡ l.version = (let both : Ok m.version ≡ Ok l.version = sym m.there ∙ l.there in cc both) in
     record { version = m.version; there = m.there; unit = m.unit; stands = m.stands; state = ap (λ (v : Version). v.state) same ∙ l.state }
 
-both_named : (o : Opened) (image : Image) (log : Log) (named : List Named) → AllByRecursion (IsLatest image o log) named → AllByRecursion (IsNamedIn o.slot (program_in o) image) named → AllByRecursion (IsLastOf o.slot (program_in o) image log) named
+both_named : (o : Opened) (image : Image) (log : Log) (named : List Named) → AllByRecursion (IsLatest image o log) named → AllByRecursion (IsNamedIn o.slot (program_in o) image) named → AllByRecursion (IsLastVersionOf o.slot (program_in o) image log) named
 both_named o image log [] latest named = tt
 both_named o image log (n ∷ more) latest named = (one_named o image log n latest.0 named.0, both_named o image log more latest.1 named.1)
 
@@ -144,7 +144,7 @@ module _ (o : Opened) (w0 w1 w2 : World) (from : IsOpenedFrom (seen_in w1.disk) 
       next_unit = from.next;
       generation_is = ap (λ (n : ℕ). n + 1) (sym (subst (λ (i : Image). generation (i (Manager o.slot)) ≡ o.generation) (sym same_too) generation_so));
       held = are.held;
-      each = subst (λ (i : Image). AllByRecursion (IsLastOf o.slot (program_in o) i from.log) latest) (sym (ap seen_in asked.disk)) there;
+      each = subst (λ (i : Image). AllByRecursion (IsLastVersionOf o.slot (program_in o) i from.log) latest) (sym (ap seen_in asked.disk)) there;
     }
       where
         is_there : IsLog o.slot (seen_in w1.disk) from.log
@@ -164,7 +164,7 @@ module _ (o : Opened) (w0 w1 w2 : World) (from : IsOpenedFrom (seen_in w1.disk) 
             subst (λ (p : Program). AllByRecursion (IsNamedIn o.slot p (seen_in w1.disk)) latest) program_there
             (subst (AllByRecursion (IsNamedIn o.slot is_there.is.stands.program (seen_in w1.disk))) (sym (are.latest from.read from.read_as)) all)
 
-        there : AllByRecursion (IsLastOf o.slot (program_in o) (seen_in w1.disk) from.log) latest
+        there : AllByRecursion (IsLastVersionOf o.slot (program_in o) (seen_in w1.disk) from.log) latest
         there = both_named o (seen_in w1.disk) from.log latest are.each named
 
     -- ---- what was written

@@ -19,7 +19,7 @@ use Rattle.promise_spec.specs.Endings.{Ending, Done, LastGeneration, HasFailedAs
 use Rattle.promise_spec.specs.Courses.{Observed}
 use Rattle.promise_spec.specs.Images.{IsWholeFolder}
 use Rattle.promise_spec.specs.Refusals.{IsEitherManager, MustBeRead, IsRefusedBy, IsUnopened}
-use Rattle.promise_spec.specs.Rewriting.{Rewrites, IsRewritten, IsCompacted, IsLastGeneration}
+use Rattle.promise_spec.specs.Compaction.{Rewrites, IsRewritten, IsCompacted, IsLastGeneration}
 use Rattle.silo_opening.specs.declared.faults.OpenFault.{OpenFault}
 use Rattle.silo_opening.specs.declared.opened_silo.Opened.{Opened}
 use Rattle.silo_opening.specs.Counts.{OpenFaulted}

@@ -18,14 +18,14 @@ use Rattle.promise_spec.specs.Programs.{Program, shape_in}
 use Rattle.promise_spec.specs.Entries.{Log, standing_of, checkpointed, is_among}
 use Rattle.promise_spec.specs.Blocks.{Saved, Checkpoint, pieces_of, IsSaved, IsCheckpoint, standing_saved, From, IsSavedFrom}
 use Rattle.promise_spec.specs.Logs.{IsLogIn, written_file}
-use Rattle.promise_spec.specs.Compacting.{IsFilling, IsReadyToOpen}
+use Rattle.promise_spec.specs.EitherSlot.{IsFilling, IsReadyToOpen}
 use Rattle.promise_spec.proofs.WrittenFiles.{written_is_log, generation_is}
 use Rattle.promise_spec.proofs.SavedStandings.{stands_for}
 use Rattle.log_reading.specs.Steps.{seen_in}
 use Rattle.checkpoint.specs.declared.compaction.Next.{Next}
 use Rattle.checkpoint.specs.Copies.{copy_of, IsCopied}
 use Rattle.checkpoint.specs.Pieces.{behind_gate, piece_bodies, HasPieces}
-use Rattle.checkpoint.specs.Rewriting.{IsMadeOf, MayBeWritten}
+use Rattle.checkpoint.specs.NextGeneration.{IsMadeOf, MayBeWritten}
 use Rattle.checkpoint.proofs.Checkpoints.{opened_bytes, AreSavedIn, cut_saved, same_bodies, ascending_copies, AreSavedOf, saved_of, are_small, sizes_saved}
 
 -- a program file that was written

@@ -12,6 +12,7 @@ use Rattle.host_trait.specs.declared.channels.FileId.TheVariants.{Manager, Progr
 use Rattle.host_trait.specs.Disk.{FileState, Tears, overlaid, settled}
 use Rattle.host_trait.specs.World.{World, Disk, Image, IsImage}
 use Rattle.host_trait.specs.Runs.{RunsOnFile}
+use Rattle.host_trait.proofs.Moments.{arrives_then}
 use Rattle.host_trait.proofs.Runs.{Change}
 use Rattle.field_codec.specs.declared.formats.Format.TheVariants.{One}
 use Rattle.field_codec.specs.Spelling.{spelling_of_version}
@@ -24,14 +25,14 @@ use Rattle.silo_spec.specs.Slots.{generation, ShowsSilos}
 use Rattle.promise_spec.specs.Programs.{Program, shape_in}
 use Rattle.promise_spec.specs.Entries.{Log, checkpointed}
 use Rattle.promise_spec.specs.Logs.{magic, IsLog, IsLogIn}
-use Rattle.promise_spec.specs.Compacting.{IsShutFile, IsCompactable, IsReadyToOpen}
+use Rattle.promise_spec.specs.EitherSlot.{IsShutFile, IsCompactable, IsReadyToOpen}
 use Rattle.checkpoint.specs.declared.compaction.Next.{Next}
 use Rattle.checkpoint.specs.Steps.{KeepsGate, ClosesGate, OnlyCopies}
 use Rattle.checkpoint.specs.Copies.{copy_of, IsCopied}
 use Rattle.checkpoint.specs.Pieces.{HasPieces}
-use Rattle.checkpoint.specs.Rewriting.{IsMadeOf, MayBeWritten}
+use Rattle.checkpoint.specs.NextGeneration.{IsMadeOf, HasGone, HasNextSilo, IsQuietly, MayFill, MayBeWritten}
 use Rattle.checkpoint.proofs.Filled.{ready}
-use Rattle.checkpoint.proofs.Moments.{HasGone, IsFilled, gone_closed, begin_filling, gone_program, gone_copies, gone_pieces, gone_opened, opened_done, long_pieces}
+use Rattle.checkpoint.proofs.Moments.{closes_input, closes_clock, IsFilled, gone_closed, begin_filling, gone_program, gone_copies, gone_pieces, gone_opened, opened_done, long_pieces}
 
 -- what a result says that is Ok
 pub when_ok : {T E : Type 0} (P : Type 0) (r : Result T E) → OnOk r P → is_ok r ≡ true → P
@@ -41,13 +42,32 @@ when_ok P (Err error) is ok = absurd (false≢true ok)
 -- ---- what the first steps leave, whatever the folder
 
 -- closing a gate emits nothing
-pub closes_output : (slot : ℕ) (old new : World) → ClosesGate slot old new → new.output ≡ old.output
+closes_output : (slot : ℕ) (old new : World) → ClosesGate slot old new → new.output ≡ old.output
 closes_output slot old new closes = elim closes.closed [
   | inl asked ↦ asked.output ∙ closes.looked.now.output
   | inr p ↦ p.1.now.output ∙ closes.looked.now.output
 ]
 
--- and leaves all other files
+-- nor does it take input, and the clock goes on
+pub closes_quietly : (slot : ℕ) (old new : World) → ClosesGate slot old new → IsQuietly old new
+closes_quietly slot old new closes = record { quiet = closes_output slot old new closes; unread = closes_input slot old new closes; clock = closes_clock slot old new closes }
+
+-- the same of a run on one file, and of copies
+pub run_quietly : (file : FileId) (R : Change) (most : ℕ) (old new : World) → RunsOnFile file R most old new → IsQuietly old new
+run_quietly file R most old new run = record { quiet = run.now.output; unread = run.input; clock = run.clock }
+
+pub copies_quietly : (slot : ℕ) (old new : World) → OnlyCopies slot old new → IsQuietly old new
+copies_quietly slot old new copies = record { quiet = copies.now.output; unread = copies.input; clock = copies.clock }
+
+-- and of what goes on behind such a step
+pub then_quietly : (old mid new : World) → IsQuietly old mid → IsQuietly mid new → IsQuietly old new
+then_quietly old mid new first second = record {
+  quiet = second.quiet ∙ first.quiet;
+  unread = second.unread ∙ first.unread;
+  clock = arrives_then old mid new first.clock second.clock;
+}
+
+-- closing leaves all other files
 pub closes_others : (slot : ℕ) (old new : World) → ClosesGate slot old new → (file : FileId) → file ≢ Manager slot → new.disk file ≡ old.disk file
 closes_others slot old new closes file other = elim closes.closed [
   | inl asked ↦ ap (λ (d : Disk). d file) asked.disk ∙ closes.looked.now.others file other

@@ -1,7 +1,7 @@
 -- A header gate that is looked at.
 use Rattle.std.proofs.Common.{◌≡◌, ◌≢◌, inl, inr, ℕ, ◌<◌, ◌≤◌, List, [], ◌∷◌, length, slice_index, refl, sym, ◌∙◌, ap, subst, arith}
 use Rattle.host_trait.specs.Disk.{FileState, settled, overlaid}
-use Rattle.silo_spec.specs.Filling.{IsShutFile}
+use Rattle.silo_spec.specs.OtherSlot.{IsShutFile}
 use Rattle.checkpoint.specs.Steps.{HasToClose}
 
 -- a file without bytes

@@ -15,20 +15,14 @@ use Rattle.commit_log.specs.declared.records.CheckpointHead.{CheckpointHead}
 use Rattle.commit_log.specs.declared.records.Written.{Written}
 use Rattle.promise_spec.specs.Entries.{Log, checkpointed}
 use Rattle.promise_spec.specs.Logs.{magic, IsLog}
-use Rattle.promise_spec.specs.Compacting.{StaysBelow, IsShutFile, IsFilling, IsCompactable, IsReadyToOpen}
+use Rattle.promise_spec.specs.EitherSlot.{StaysBelow, IsShutFile, IsFilling, IsCompactable, IsReadyToOpen}
 use Rattle.promise_spec.proofs.Slots.{shows_file}
 use Rattle.promise_laws.proofs.GateBytes.{short_below, empty_below, generation_stays}
 use Rattle.promise_laws.proofs.OtherSlots as slots
 use Rattle.checkpoint.specs.Steps.{Stays, KeepsGate, HasToClose, ClosesGate, IsInCopying, OnlyCopies}
 use Rattle.checkpoint.specs.Pieces.{behind_gate, piece_bodies, HasPieces}
-use Rattle.checkpoint.specs.Rewriting.{IsOnTheWay}
+use Rattle.checkpoint.specs.NextGeneration.{IsOnTheWay, HasGone}
 use Rattle.checkpoint.proofs.Rewriting.{looking, closing_gate, filling_slot, opening_gate, shut_fills, file_fills, copies_fill, behind_fills}
-
--- Each moment up to this one was on the way, and no image is a silo by a slot whose manager file reads too short.
-pub record HasGone (live : ℕ) (log : Log) (old new : World) : Type 0 where
-  pub moments : Passes (IsOnTheWay live log (checkpointed log) old) old.past new.past
-  pub now : IsOnTheWay live log (checkpointed log) old (moment_of new)
-  pub shows : ShowsSilos magic new.disk
 
 -- one of two slots is live, or the other one
 other_of : (live slot : ℕ) → live ≤ 1 → slot ≤ 1 → (slot ≡ live) ⊎ (slot ≡ 1 - live)

@@ -13,12 +13,12 @@ use Rattle.silo_spec.specs.Slots.{generation, ShowsSilos}
 use Rattle.promise_spec.specs.Entries.{Log}
 use Rattle.promise_spec.specs.Logs.{magic, IsLog}
 use Rattle.promise_spec.specs.Journals.{AllLog}
-use Rattle.promise_spec.specs.Compacting.{StaysBelow, IsShutFile, KeepsSlot, IsFilling, IsCompactable, MayClose, IsReadyToOpen}
+use Rattle.promise_spec.specs.EitherSlot.{StaysBelow, IsShutFile, KeepsSlot, IsFilling, IsCompactable, MayClose, IsReadyToOpen}
 use Rattle.promise_spec.proofs.Slots.{shows_file}
 use Rattle.promise_laws.proofs.GateBytes.{open_below, short_below, empty_below}
 use Rattle.promise_laws.proofs.OtherSlots.{closing, filling, either}
 use Rattle.checkpoint.specs.Steps.{Stays, KeepsGate, HasToClose, IsInCopying}
-use Rattle.checkpoint.specs.Rewriting.{IsOnTheWay}
+use Rattle.checkpoint.specs.NextGeneration.{IsOnTheWay}
 
 -- the other slot's files aren't the live one's
 pub other_file : (live : ℕ) (file other : FileId) → live ≤ 1 → slot_of file ≡ live → slot_of other ≡ 1 - live → file ≢ other

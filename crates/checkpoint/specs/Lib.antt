@@ -2,4 +2,4 @@ pub mod Steps
 pub mod Copies
 pub mod Pieces
 pub mod Endings
-pub mod Rewriting
+pub mod NextGeneration

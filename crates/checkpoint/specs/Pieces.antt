@@ -6,11 +6,12 @@ use Rattle.host_trait.specs.declared.channels.FileId.TheVariants.{Manager}
 use Rattle.host_trait.specs.Disk.{FileState, overlaid, settled}
 use Rattle.host_trait.specs.World.{World}
 use Rattle.host_trait.specs.Runs.{RunsOnFile}
+use Rattle.gate_block.specs.Blocks.{block_at}
 use Rattle.gate_block.specs.Log.{open_blocks}
 use Rattle.commit_log.specs.declared.records.CheckpointHead.{CheckpointHead}
 use Rattle.commit_log.specs.declared.records.Named.{Named}
 use Rattle.commit_log.specs.declared.records.Written.{Written}
-use Rattle.commit_log.specs.Checkpoints.{spelling_of_piece}
+use Rattle.commit_log.specs.Checkpoints.{flag_of, spelling_of_piece}
 use Rattle.commit_log.specs.Spelling.{WriteFits}
 use Rattle.checkpoint.specs.Steps.{KeepsGate}
 use Rattle.checkpoint.specs.Copies.{copy_of}
@@ -18,6 +19,10 @@ use Rattle.checkpoint.specs.Copies.{copy_of}
 -- bytes 1 to 14 of the header: the magic, the generation, a 1 since the log begins with a checkpoint, and a zero
 abbrev pub behind_gate : ℕ → List ℕ
 behind_gate generation = codes "OTXLOG01" ++ (to_le_bytes w32 generation ++ (1 ∷ 0 ∷ []))
+
+-- the block of a piece that names the copies of these versions, behind its open gate
+abbrev pub block_of_piece : Bool → CheckpointHead → List Named → List ℕ
+block_of_piece more head latest = block_at (spelling_of_piece (flag_of more) head.count head.next_unit.0 (map copy_of latest))
 
 -- the bodies of pieces that others follow
 abbrev pub front_bodies : CheckpointHead → List (List Written) → List (List ℕ)
@@ -33,7 +38,7 @@ pub record HasWritten (slot at : ℕ) (bytes : List ℕ) (old new : World) : Typ
   pub seen : (new.disk (Manager slot)).seen ≡ overlaid (old.disk (Manager slot)).seen at bytes
 
 -- These writes are cut into pieces, of which each has at most 65,536.
-pub record AreCutInto (writes : List Written) (front : List (List Written)) (last : List Written) : Type 0 where
+pub record AreCutInPieces (writes : List Written) (front : List (List Written)) (last : List Written) : Type 0 where
   pub all : writes ≡ flat_map (λ piece. piece) front ++ last
   pub sizes : AllByRecursion (λ (piece : List Written). length piece ≤ 65536) front
   pub size : length last ≤ 65536
@@ -54,5 +59,5 @@ pub record HasFront (tells : Bool) (slot at : ℕ) (head : CheckpointHead) (late
 pub record HasPieces (generation : ℕ) (head : CheckpointHead) (writes : List Written) (old new : FileState) : Type 0 where
   pub front : List (List Written)
   pub last : List Written
-  pub cut : AreCutInto writes front last
+  pub cut : AreCutInPieces writes front last
   pub file : new ≡ settled (overlaid old.seen 1 (behind_gate generation ++ (open_blocks (piece_bodies head front last) ++ 0 ∷ [])))

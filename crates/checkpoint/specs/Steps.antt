@@ -1,5 +1,5 @@
 -- What the steps of `compact` do to the files of the slot that isn't live.
-use Rattle.std.specs.Prelude.{◌≡◌, ◌≢◌, ◌⊎◌, ℕ, ◌<◌, List, [], length, take, slice_index}
+use Rattle.std.specs.Prelude.{◌≡◌, ◌≢◌, ◌⊎◌, ℕ, ◌<◌, ◌≤◌, List, [], length, take, slice_index}
 use Rattle.base_types.specs.declared.calls.GrainId.{GrainId}
 use Rattle.host_trait.specs.declared.channels.FileId.{FileId}
 use Rattle.host_trait.specs.declared.channels.FileId.TheVariants.{Manager, Grain}
@@ -18,6 +18,10 @@ KeepsGate old new = take 1 new ≡ take 1 old
 -- the bytes may be any
 abbrev pub MayBeAny : List ℕ → List ℕ → Type 0
 MayBeAny old new = Unit {0}
+
+-- nothing is pending in a file that reads as long as a header and a gate
+abbrev pub LastsIfLong : FileState → Type 0
+LastsIfLong file = 16 ≤ length file.seen → file ≡ settled file.seen
 
 -- A manager file's header gate has to be closed: the file reads as empty; or nothing of it is pending, and it is too short for a
 -- header, or its gate is open.

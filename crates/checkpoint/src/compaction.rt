@@ -1,26 +1,19 @@
-ghost use Rattle.std.specs.Prelude.{◌≡◌, ◌-◌, ◌≤◌, ℕ, List as AList, length, IsTrue, IfErr, OnOk, IsErrOf, None, Ok, map};
-ghost use Rattle.std.specs.List.{AllByRecursion};
-ghost use Rattle.base_types.specs.declared.stores.Version.{Version as AVersion};
+ghost use Rattle.std.specs.Prelude.{◌≡◌, ◌-◌, ℕ, List as AList, IsTrue, IfErr, OnOk, IsErrOf, None, Ok, map};
 ghost use Rattle.host_trait.specs.Files.{StaysReady};
 ghost use Rattle.host_trait.specs.Faults.{NoneFailed};
-ghost use Rattle.host_trait.specs.Disk.{settled};
-ghost use Rattle.host_trait.specs.World.{Image, IsImage, Passes, Arrives, moment_of};
 ghost use Rattle.host_trait.specs.declared.channels.FileId.{FileId as AFile};
 ghost use Rattle.host_trait.specs.declared.channels.FileId.TheVariants.{Manager};
-ghost use Rattle.field_codec.specs.declared.formats.Format.TheVariants.{One};
 ghost use Rattle.log_reading.specs.declared.faults.FolderFault.{FolderFault as AFault};
-ghost use Rattle.log_reading.specs.Versions.{version_named};
 ghost use Rattle.commit_log.specs.Orders.{IsAscending};
-ghost use Rattle.silo_spec.specs.Slots.{generation, ShowsSilos};
-ghost use Rattle.promise_spec.specs.Programs.{Program, shape_in};
-ghost use Rattle.promise_spec.specs.Entries.{Log, checkpointed};
-ghost use Rattle.promise_spec.specs.Logs.{magic, IsLog};
-ghost use Rattle.promise_spec.specs.Compacting.{IsCompactable};
+ghost use Rattle.promise_spec.specs.Programs.{Program};
+ghost use Rattle.promise_spec.specs.Entries.{Log};
 ghost use Rattle.log_reading.specs.Steps.{seen_in};
-ghost use Rattle.checkpoint.specs.Rewriting.{IsOnTheWay, IsMadeOf, MayBeWritten};
+ghost use Rattle.checkpoint.specs.Copies.{AreThere};
+ghost use Rattle.checkpoint.specs.Steps.{LastsIfLong};
+ghost use Rattle.checkpoint.specs.NextGeneration.{MayFill, HasGone, HasNextSilo, IsQuietly, MayBeWritten};
 ghost use Rattle.promise_spec.specs.Words.{Manner};
 ghost use Rattle.promise_spec.specs.Endings.{HasFailedAs, BadUse};
-ghost use Rattle.promise_spec.specs.Rewriting.{Compacts};
+ghost use Rattle.promise_spec.specs.Compaction.{Compacts};
 ghost use Rattle.log_reading.specs.Counts.{ReadFaulted};
 ghost use Rattle.silo_opening.specs.OpenedSilo.{in_folder};
 ghost use Rattle.checkpoint.specs.Endings.{compact_ending, compacted_as};
@@ -73,33 +66,24 @@ fn folder_fault(fault: FolderFault) -> OpenFault
 fn fill<H: Host>(alloc: Global, host: &mut H, shape: &Shape, next: &Next) -> Result<(), FolderFault>
     requires may { MayBeWritten next.now }
     requires order { IsTrue H.tells → IsAscending None (map (λ n. n.written) next.now.latest) }
-    requires lasts { IsTrue H.tells → 16 ≤ length ((H.world host.old).disk (Manager (1 - next.now.live))).seen
-        → (H.world host.old).disk (Manager (1 - next.now.live)) ≡ settled ((H.world host.old).disk (Manager (1 - next.now.live))).seen }
+    requires lasts { IsTrue H.tells → LastsIfLong ((H.world host.old).disk (Manager (1 - next.now.live))) }
 
     // At each moment each image has the log, in the slot that was live or as a checkpoint in the other one.
-    ensures moments { IsTrue H.tells → (p : Program) (log : Log) → shape.now ≡ shape_in p → IsMadeOf next.now p (seen_in (H.world host.old).disk) log
-        → IsCompactable next.now.live log (H.world host.old) → ShowsSilos magic (H.world host.old).disk
-        → Passes (IsOnTheWay next.now.live log (checkpointed log) (H.world host.old)) (H.world host.old).past (H.world host.new).past }
-    ensures now { IsTrue H.tells → (p : Program) (log : Log) → shape.now ≡ shape_in p → IsMadeOf next.now p (seen_in (H.world host.old).disk) log
-        → IsCompactable next.now.live log (H.world host.old) → ShowsSilos magic (H.world host.old).disk
-        → IsOnTheWay next.now.live log (checkpointed log) (H.world host.old) (moment_of (H.world host.new)) }
-    ensures shows { IsTrue H.tells → (p : Program) (log : Log) → shape.now ≡ shape_in p → IsMadeOf next.now p (seen_in (H.world host.old).disk) log
-        → IsCompactable next.now.live log (H.world host.old) → ShowsSilos magic (H.world host.old).disk → ShowsSilos magic (H.world host.new).disk }
+    ensures gone { IsTrue H.tells → (p : Program) (log : Log) → MayFill next.now shape.now p log (H.world host.old)
+        → HasGone next.now.live log (H.world host.old) (H.world host.new) }
 
     // Once it is done the other slot is live in each image, with the next generation.
-    ensures done { OnOk result (IsTrue H.tells → (p : Program) (log : Log) → shape.now ≡ shape_in p → IsMadeOf next.now p (seen_in (H.world host.old).disk) log
-        → IsCompactable next.now.live log (H.world host.old) → ShowsSilos magic (H.world host.old).disk
-        → (image : Image) → IsImage (H.world host.new).disk image
-        → IsLog (1 - next.now.live) image (checkpointed log) × (generation (image (Manager (1 - next.now.live))) ≡ next.now.generation)) }
+    ensures done { OnOk result (IsTrue H.tells → (p : Program) (log : Log) → MayFill next.now shape.now p log (H.world host.old)
+        → HasNextSilo next.now log (H.world host.new).disk) }
 
-    // Nothing is emitted, no input is taken, and the clock goes on; a fault of a file is answered exactly where a call on it failed.
-    ensures quiet { IsTrue H.tells → (H.world host.new).output ≡ (H.world host.old).output }
-    ensures unread { IsTrue H.tells → (H.world host.new).input ≡ (H.world host.old).input }
-    ensures clock { IsTrue H.tells → Arrives (H.world host.old) (H.world host.new) }
+    // Nothing is emitted, no input is taken, and the clock goes on.
+    ensures quietly { IsTrue H.tells → IsQuietly (H.world host.old) (H.world host.new) }
+
     // None of the versions that are there is found damaged.
     ensures damaged { (file : AFile) (place : ℕ) → IsErrOf result (AFault.Damaged file place) → IsTrue H.tells
-        → AllByRecursion (λ n. (version : AVersion) × (version_named next.now.live One shape.now (seen_in (H.world host.old).disk) n ≡ Ok version)) next.now.latest → ⊥ }
+        → AreThere next.now.live shape.now (seen_in (H.world host.old).disk) next.now.latest → ⊥ }
 
+    // A fault of a file is answered exactly where a call on it failed.
     ensures calm { OnOk result (NoneFailed (H.faults host.old) (H.faults host.new)) }
     ensures fault { IfErr result (λ e. ReadFaulted e (H.faults host.old) (H.faults host.new)) }
     ensures ready { StaysReady (H.is_ready host.old) (H.is_ready host.new) }

@@ -15,7 +15,7 @@ ghost use Rattle.log_reading.specs.Counts.{ReadFaulted};
 ghost use Rattle.log_reading.specs.Steps.{seen_in};
 ghost use Rattle.log_reading.specs.Versions.{version_named};
 ghost use Rattle.checkpoint.specs.Steps.{MayBeAny, OnlyCopies};
-ghost use Rattle.checkpoint.specs.Copies.{StandsFirst, IsCopied};
+ghost use Rattle.checkpoint.specs.Copies.{AreThere, StandsFirst, IsCopied};
 
 use base_types::{List, Shape, Version};
 use commit_log::Named;
@@ -106,7 +106,7 @@ pub fn copy_versions<H: Host>(
 
     // Where each is there, none is found damaged.
     ensures damaged { (file : AFile) (place : ℕ) → IsErrOf result (AFault.Damaged file place) → IsTrue H.tells
-        → AllByRecursion (λ n. (version : AVersion) × (version_named live One shape.now (seen_in (H.world host.old).disk) n ≡ Ok version)) latest.now → ⊥ }
+        → AreThere live shape.now (seen_in (H.world host.old).disk) latest.now → ⊥ }
 
     ensures calm { OnOk result (NoneFailed (H.faults host.old) (H.faults host.new)) }
     ensures fault { IfErr result (λ e. ReadFaulted e (H.faults host.old) (H.faults host.new)) }

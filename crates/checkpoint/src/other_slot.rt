@@ -6,7 +6,7 @@ ghost use Rattle.host_trait.specs.Faults.{Counted};
 ghost use Rattle.host_trait.specs.Runs.{RunsOnFile, OnlyAsked};
 ghost use Rattle.host_trait.specs.declared.channels.Channel.TheVariants.{File};
 ghost use Rattle.host_trait.specs.declared.channels.FileId.TheVariants.{Manager};
-ghost use Rattle.silo_spec.specs.Filling.{IsShutFile};
+ghost use Rattle.silo_spec.specs.OtherSlot.{IsShutFile};
 ghost use Rattle.checkpoint.specs.Steps.{Stays, HasToClose, ClosesGate};
 
 use host_trait::{Failed, FileId, Host, read_full, write_synced};

@@ -16,7 +16,7 @@ ghost use Rattle.commit_log.specs.Spelling.{WriteFits};
 ghost use Rattle.log_reading.specs.Counts.{ReadFaulted};
 ghost use Rattle.checkpoint.specs.Steps.{KeepsGate};
 ghost use Rattle.checkpoint.specs.Copies.{copy_of};
-ghost use Rattle.checkpoint.specs.Pieces.{behind_gate, HasWritten, HasFront, HasPieces};
+ghost use Rattle.checkpoint.specs.Pieces.{behind_gate, block_of_piece, HasWritten, HasFront, HasPieces};
 
 use base_types::{List, Place};
 use commit_log::{CheckpointHead, Named, Written, encode_piece};
@@ -55,7 +55,7 @@ fn piece_block(
     latest: &[Named],
 ) -> Result<List<u8>, AllocError>
     requires { length latest.now ≤ 65536 }
-    ensures block { IfOk result (λ block. block ≡ block_at (spelling_of_piece (flag_of more) head.count head.next_unit.0 (map copy_of latest.now))) }
+    ensures block { IfOk result (λ block. block ≡ block_of_piece more head latest.now) }
     ensures fits { OnOk result (AllByRecursion WriteFits (map copy_of latest.now)) }
 {
     let copies = copies_of(alloc, latest)?;
@@ -120,8 +120,8 @@ fn put_piece<H: Host>(
     requires size { length latest.now ≤ 65536 }
     ensures run { IsTrue H.tells → RunsOnFile (Manager slot) KeepsGate 0 (H.world host.old) (H.world host.new) }
     ensures written { OnOk result (IsTrue H.tells
-        → HasWritten slot at (block_at (spelling_of_piece (flag_of more) head.count head.next_unit.0 (map copy_of latest.now))) (H.world host.old) (H.world host.new)) }
-    ensures end { IfOk result (λ end. (end ≡ at + length (block_at (spelling_of_piece (flag_of more) head.count head.next_unit.0 (map copy_of latest.now)))) × (end < 2 ^ 63)) }
+        → HasWritten slot at (block_of_piece more head latest.now) (H.world host.old) (H.world host.new)) }
+    ensures end { IfOk result (λ end. (end ≡ at + length (block_of_piece more head latest.now)) × (end < 2 ^ 63)) }
     ensures within { IfOk result (λ end. IsTrue H.tells → end ≤ length ((H.world host.new).disk (Manager slot)).seen) }
     ensures fits { OnOk result (AllByRecursion WriteFits (map copy_of latest.now)) }
     ensures whole { (other : AFile) (place : ℕ) → IsErrOf result (AFault.Damaged other place) → ⊥ }

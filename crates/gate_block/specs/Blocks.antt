@@ -1,5 +1,5 @@
 -- What stands behind a gate.
-use Rattle.std.specs.Prelude.{◌≡◌, ℕ, ◌+◌, ◌^◌, ◌<◌, nat_lt, if◌then◌else◌, List, [], ◌∷◌, ◌++◌, length, take, drop}
+use Rattle.std.specs.Prelude.{◌≡◌, ℕ, ◌+◌, ◌^◌, ◌<◌, nat_lt, if◌then◌else◌, List, [], ◌∷◌, ◌++◌, length, take, drop, Option, MatchOption}
 use Rattle.std.specs.Int.{w32, to_le_bytes, from_le_bytes}
 use Rattle.gate_block.specs.Gates.{is_open_at}
 
@@ -18,6 +18,10 @@ abbrev pub found_at : ℕ → List ℕ → BehindGate
 found_at gate file = if is_open_at gate file
     then (if nat_lt (gate + 5 + size_at gate file) (length file) then whole (take (size_at gate file) (drop (gate + 5) file)) else bad)
     else shut
+
+-- what was read behind a gate is what stands there: the body of a whole block, or none where the gate isn't open
+abbrev pub IsFoundAt : ℕ → List ℕ → Option (List ℕ) → Type 0
+IsFoundAt gate file found = MatchOption found (found_at gate file ≡ shut) (λ body. found_at gate file ≡ whole body)
 
 -- the bytes that go behind a closed gate: the body's length, the body, and the closed gate of the next block
 abbrev pub block_of : List ℕ → List ℕ

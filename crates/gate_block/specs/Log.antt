@@ -2,7 +2,8 @@
 use Rattle.std.specs.Prelude.{◌≡◌, ◌≢◌, ◌⊎◌, ℕ, zero, suc, ◌+◌, ◌^◌, ◌<◌, IsTrue, List, [], ◌∷◌, ◌++◌, length, take, drop, slice_index}
 use Rattle.host_trait.specs.declared.channels.FileId.{FileId}
 use Rattle.host_trait.specs.Disk.{FileState, MayLeave, overlaid, settled}
-use Rattle.host_trait.specs.World.{Disk}
+use Rattle.host_trait.specs.World.{World, Disk, Passes}
+use Rattle.host_trait.specs.Runs.{OnlyAsked}
 use Rattle.gate_block.specs.Gates.{IsClosedAt, is_open_at}
 use Rattle.gate_block.specs.Blocks.{BehindGate, shut, bad, whole, found_at, block_of, block_at}
 
@@ -94,3 +95,25 @@ pub record IsStaged (bodies : List (List ℕ)) (body : List ℕ) (gate : ℕ) (f
   pub log : LogsUpTo bodies gate front
   pub small : length body < 2 ^ 32
   pub there : file ≡ settled (overlaid front (gate + 1) (block_of body))
+
+-- ---- what a call leaves of it
+
+-- what the images have before a call they have at each moment of it
+abbrev pub StaysTrue : (Disk → Type 0) → World → World → Type 0
+StaysTrue P old new = P old.disk → Passes (λ m. P m.disk) old.past new.past
+
+-- Where a block is staged behind the gate: at each moment each image has the log that it had, or it with the block's body more.
+abbrev pub MayLogMore : ℕ → FileId → World → World → Type 0
+MayLogMore gate file old new =
+    (bodies : List (List ℕ)) (body front : List ℕ) → IsStaged bodies body gate front (old.disk file) → Passes (λ m. EachLogsOrMore bodies body gate file m.disk) old.past new.past
+
+-- there each image has the body more
+abbrev pub LogsMore : ℕ → FileId → World → World → Type 0
+LogsMore gate file old new =
+    (bodies : List (List ℕ)) (body front : List ℕ) → IsStaged bodies body gate front (old.disk file) → EachLogs (bodies ++ body ∷ []) (gate + length (block_of body)) file new.disk
+
+-- there all is as it was, or some image has the body more
+abbrev pub IsLeftOrLogsMore : ℕ → FileId → World → World → Type 0
+IsLeftOrLogsMore gate file old new =
+    (bodies : List (List ℕ)) (body front : List ℕ) → IsStaged bodies body gate front (old.disk file)
+    → OnlyAsked old new ⊎ SomeLogs (bodies ++ body ∷ []) (gate + length (block_of body)) file new.disk

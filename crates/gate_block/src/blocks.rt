@@ -2,14 +2,13 @@ ghost use Rattle.std.specs.Prelude.{◌≡◌, ◌≢◌, ◌⊎◌, ◌+◌, �
 ghost use Rattle.std.specs.Int.{w32, to_le_bytes};
 ghost use Rattle.host_trait.specs.Disk.{Tears, overlaid, settled};
 ghost use Rattle.host_trait.specs.Files.{MayAsk, StaysReady, IsManager};
-ghost use Rattle.host_trait.specs.World.{Passes};
 ghost use Rattle.host_trait.specs.Runs.{RunsOnFile, OnlyAsked, HasFailedWrite};
 ghost use Rattle.host_trait.specs.Faults.{Counted, NoneFailed};
 ghost use Rattle.host_trait.specs.declared.channels.Channel.TheVariants.{File};
 ghost use Rattle.gate_block.specs.Gates.{IsClosedAt, is_open_at};
-ghost use Rattle.gate_block.specs.Blocks.{found_at, shut, bad, whole, block_of, block_at};
+ghost use Rattle.gate_block.specs.Blocks.{found_at, bad, block_at, IsFoundAt};
 ghost use Rattle.gate_block.specs.Counts.{BlockFaulted};
-ghost use Rattle.gate_block.specs.Log.{EachClosed, EachOpen, EachLogs, SomeLogs, EachLogsOrMore, IsStaged};
+ghost use Rattle.gate_block.specs.Log.{EachClosed, EachOpen, EachLogs, StaysTrue, MayLogMore, LogsMore, IsLeftOrLogsMore};
 ghost use Rattle.gate_block.specs.declared.faults.BlockFault.{BlockFault};
 
 use crate::faults::BlockFault;
@@ -43,10 +42,8 @@ pub fn append_closed<H: Host>(
 
     // The gate is closed still; in each image too, at each moment, where it was before; and so each image has the log that it had.
     ensures closed { IsTrue H.tells → IsClosedAt gate_at ((H.world host.new).disk file).seen }
-    ensures shut { IsTrue H.tells → EachClosed gate_at file (H.world host.old).disk
-        → Passes (λ m. EachClosed gate_at file m.disk) (H.world host.old).past (H.world host.new).past }
-    ensures log { IsTrue H.tells → (bodies : List (List ℕ)) → EachLogs bodies gate_at file (H.world host.old).disk
-        → Passes (λ m. EachLogs bodies gate_at file m.disk) (H.world host.old).past (H.world host.new).past }
+    ensures shut { IsTrue H.tells → StaysTrue (EachClosed gate_at file) (H.world host.old) (H.world host.new) }
+    ensures log { IsTrue H.tells → (bodies : List (List ℕ)) → StaysTrue (EachLogs bodies gate_at file) (H.world host.old) (H.world host.new) }
 
     ensures faults { Counted (File file) result (H.faults host.old) (H.faults host.new) }
     ensures ready { StaysReady (H.is_ready host.old) (H.is_ready host.new) }
@@ -78,15 +75,12 @@ pub fn open_gate<H: Host>(host: &mut H, file: FileId, gate_at: u64) -> Result<()
 
     // Behind a closed gate that ends a log, where a block lasts: at each moment each image has this log, or it with the block's
     // body more; and after Ok each has the body more.
-    ensures log { IsTrue H.tells → (bodies : List (List ℕ)) (body front : List ℕ) → IsStaged bodies body gate_at front ((H.world host.old).disk file)
-        → Passes (λ m. EachLogsOrMore bodies body gate_at file m.disk) (H.world host.old).past (H.world host.new).past }
-    ensures logged { OnOk result (IsTrue H.tells → (bodies : List (List ℕ)) (body front : List ℕ) → IsStaged bodies body gate_at front ((H.world host.old).disk file)
-        → EachLogs (bodies ++ body ∷ []) (gate_at + length (block_of body)) file (H.world host.new).disk) }
+    ensures log { IsTrue H.tells → MayLogMore gate_at file (H.world host.old) (H.world host.new) }
+    ensures logged { OnOk result (IsTrue H.tells → LogsMore gate_at file (H.world host.old) (H.world host.new)) }
 
     // After a failure the write never began, or some image has the body more.
     ensures left { OnErr result (IsTrue H.tells → HasFailedWrite file gate_at 1 (H.world host.old) (H.world host.new)) }
-    ensures doubted { OnErr result (IsTrue H.tells → (bodies : List (List ℕ)) (body front : List ℕ) → IsStaged bodies body gate_at front ((H.world host.old).disk file)
-        → OnlyAsked (H.world host.old) (H.world host.new) ⊎ SomeLogs (bodies ++ body ∷ []) (gate_at + length (block_of body)) file (H.world host.new).disk) }
+    ensures doubted { OnErr result (IsTrue H.tells → IsLeftOrLogsMore gate_at file (H.world host.old) (H.world host.new)) }
 
     ensures faults { Counted (File file) result (H.faults host.old) (H.faults host.new) }
     ensures ready { StaysReady (H.is_ready host.old) (H.is_ready host.new) }
@@ -172,9 +166,7 @@ pub fn read_block<H: Host>(
     requires manager { IsManager file }
     requires place { gate_at < 2 ^ 63 }
 
-    ensures found { IfOk result (λ found. IsTrue H.tells → MatchOption found
-        (found_at gate_at ((H.world host.old).disk file).seen ≡ shut)
-        (λ body. found_at gate_at ((H.world host.old).disk file).seen ≡ whole body)) }
+    ensures found { IfOk result (λ found. IsTrue H.tells → IsFoundAt gate_at ((H.world host.old).disk file).seen found) }
 
     // A body was spelled there, its length before it and the next gate behind it.
     ensures spelled { IfOk result (λ found. IsTrue H.tells → IfSome found (λ body.

@@ -3,6 +3,7 @@ use Rattle.std.specs.Prelude.{◌≡◌, ℕ, ◌+◌, List, [], ◌∷◌, leng
 use Rattle.std.specs.List.{flat_map}
 use Rattle.base_types.specs.declared.stores.Place.{Place}
 use Rattle.base_types.specs.declared.stores.Version.{Version}
+use Rattle.host_trait.specs.Disk.{FileState, MayLeave, overlaid, settled}
 use Rattle.field_codec.specs.declared.formats.Format.{Format}
 use Rattle.field_codec.specs.Spelling.{Stands, spelling_of_version, VersionFits}
 
@@ -36,3 +37,19 @@ IsVersionIn format (Some fields) size version = IsVersionOf format fields size v
 pub record IsVersionAt (format : Format) (fields : ℕ) (place : Place) (file : List ℕ) (version : Version) : Type 0 where
   pub version_is : IsVersionOf format fields place.len version
   pub here : take place.len (drop place.offset file) ≡ spelling_of_version version
+
+-- these versions were written from this offset on, and nothing is pending
+abbrev pub HasVersions : ℕ → List Version → FileState → FileState → Type 0
+HasVersions at versions old new = new ≡ settled (overlaid old.seen at (spelling_of_versions versions))
+
+-- each image of a file has them there
+abbrev pub VersionsLast : ℕ → List Version → FileState → Type 0
+VersionsLast at versions new = (image : List ℕ) → MayLeave new image → VersionsStand image at versions
+
+-- each image of it keeps what stood before that offset
+abbrev pub KeepsFront : ℕ → FileState → FileState → Type 0
+KeepsFront at old new = (image : List ℕ) → MayLeave new image → take at image ≡ take at old.seen
+
+-- there are so many fields, and this version stands at this place of the file
+abbrev pub StandsWith : Format → Option ℕ → Place → List ℕ → Version → Type 0
+StandsWith format fields place file version = (count : ℕ) × (fields ≡ Some count) × IsVersionAt format count place file version

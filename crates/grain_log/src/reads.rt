@@ -1,3 +1,4 @@
+// How a version is read back from its grain's file, and versions that stand one behind the other.
 ghost use Rattle.std.specs.Prelude.{◌≡◌, ◌+◌, ◌-◌, ◌^◌, ◌<◌, ◌≤◌, ℕ, List, IsTrue, true, false, length, take, drop, Some, None, Ok, OnOk, IfOk, IfErr, IfSome, IfNone, IsErrOf};
 ghost use Rattle.std.specs.Int.{w64, to_le_bytes};
 ghost use Rattle.host_trait.specs.Faults.{NoneFailed};
@@ -5,7 +6,7 @@ ghost use Rattle.host_trait.specs.Files.{HasSlot, StaysReady};
 ghost use Rattle.host_trait.specs.Runs.{OnlyAsked};
 ghost use Rattle.field_codec.specs.Results.{GivesRead, named_place, place_of};
 ghost use Rattle.grain_log.specs.Counts.{VersionReadFaulted};
-ghost use Rattle.grain_log.specs.Places.{IsVersionOf, IsVersionIn, IsVersionAt};
+ghost use Rattle.grain_log.specs.Places.{IsVersionOf, IsVersionIn, IsVersionAt, StandsWith};
 ghost use Rattle.grain_log.specs.Reads.{fields_in, version_in, version_of, is_beyond, in_file, damage_at, version_at_place, version_by_owner, BeginsBy, IsTextAt, GivesVersion, IsImpossible};
 ghost use Rattle.field_codec.specs.Readers.{AreBytes};
 ghost use Rattle.field_codec.specs.Units.{may_be_unit};
@@ -198,7 +199,8 @@ fn read_text<H: Host>(
     requires slot { HasSlot file }
     requires offset { place.offset < 2 ^ 63 }
     ensures some { IfOk result (λ found. IsTrue H.tells → IfSome found (λ text.
-        (place.len ≤ length ((H.world host.old).disk file).seen - place.offset) × (text.items ≡ take place.len (drop place.offset ((H.world host.old).disk file).seen)))) }
+        (place.len ≤ length ((H.world host.old).disk file).seen - place.offset)
+        × (text.items ≡ take place.len (drop place.offset ((H.world host.old).disk file).seen)))) }
     ensures len { IfOk result (λ found. IfSome found (λ text. length text.items ≡ place.len)) }
     ensures near { IfOk result (λ found. IfSome found (λ _. place.offset + place.len < 2 ^ 63)) }
     ensures none { IfOk result (λ found. IsTrue H.tells → IfNone found (length ((H.world host.old).disk file).seen - place.offset < place.len)) }
@@ -281,7 +283,8 @@ pub fn read_version<H: Host>(
     requires { HasSlot file }
 
     // It answers a version exactly where one of the grain's type stands at the place.
-    ensures found { IfOk result (λ version. IsTrue H.tells → (fields : ℕ) × (fields_in shape.now file ≡ Some fields) × IsVersionAt format fields place ((H.world host.old).disk file).seen version) }
+    ensures found { IfOk result (λ version. IsTrue H.tells
+        → StandsWith format (fields_in shape.now file) place ((H.world host.old).disk file).seen version) }
     ensures only { IsTrue H.tells → (fields : ℕ) (version : AVersion) → fields_in shape.now file ≡ Some fields → place.offset < 2 ^ 63
         → IsVersionAt format fields place ((H.world host.old).disk file).seen version → GivesVersion result (Ok version) }
 

@@ -7,7 +7,7 @@ ghost use Rattle.host_trait.specs.Runs.{RunsOnFile};
 ghost use Rattle.field_codec.specs.declared.formats.Format.TheVariants.{One};
 ghost use Rattle.field_codec.specs.Spelling.{VersionFits};
 ghost use Rattle.grain_log.specs.Counts.{WriteFaulted};
-ghost use Rattle.grain_log.specs.Places.{spelling_of_versions, places_from, VersionsStand};
+ghost use Rattle.grain_log.specs.Places.{spelling_of_versions, places_from, HasVersions, VersionsLast, KeepsFront};
 ghost use Rattle.grain_log.specs.declared.faults.LogFault.{LogFault};
 
 use crate::faults::LogFault;
@@ -57,15 +57,12 @@ pub fn write_versions<H: Host>(
         → RunsOnFile file (Tears at (length (spelling_of_versions versions.now))) 1 (H.world host.old) (H.world host.new) }
 
     // Once it is done the versions last, each at its place.
-    ensures ok { OnOk result (IsTrue H.tells
-        → (H.world host.new).disk file ≡ settled (overlaid ((H.world host.old).disk file).seen at (spelling_of_versions versions.now))) }
+    ensures ok { OnOk result (IsTrue H.tells → HasVersions at versions.now ((H.world host.old).disk file) ((H.world host.new).disk file)) }
     ensures count { OnOk result (IsTrue H.tells
         → (H.world host.new).syncs ≡ (H.world host.old).syncs + 1) }
     ensures places { IfOk result (λ places. places ≡ places_from at versions.now) }
-    ensures stand { OnOk result (IsTrue H.tells
-        → (image : List ℕ) → MayLeave ((H.world host.new).disk file) image → VersionsStand image at versions.now) }
-    ensures before { OnOk result (IsTrue H.tells
-        → (image : List ℕ) → MayLeave ((H.world host.new).disk file) image → take at image ≡ take at ((H.world host.old).disk file).seen) }
+    ensures stand { OnOk result (IsTrue H.tells → VersionsLast at versions.now ((H.world host.new).disk file)) }
+    ensures before { OnOk result (IsTrue H.tells → KeepsFront at ((H.world host.old).disk file) ((H.world host.new).disk file)) }
     ensures fits { OnOk result (AllByRecursion (VersionFits One) versions.now) }
     ensures bound { OnOk result (at + length (spelling_of_versions versions.now) < 2 ^ 63) }
 

@@ -75,11 +75,13 @@ front-placed placed (d ∷ ds) (m ∷ ms) h = (h.0, front-placed placed ds ms h.
 pub is-ready : (p : Parts) (w : CoreState) (ds : List Decision) → PartsStand p w → ((u : UnitNo) → Member u (waiting w) → w.units.phase u ≡ Finished) → length ds ≡ owed_in p.batch → Ready p ds
 is-ready p w ds s finished e = record {
   within = (let t = owed-within p.batch p.waiting.items w.manager.batch (to-cases p.batch p.waiting.items w.manager.batch s.batch) in omega (arith, e, t));
-  over = subst (AreOver (λ u. is_over (phase_in p.units u)) ds) (sym s.effects)
-      (are-over (λ u. is_over (phase_in p.units u)) ds w (waiting w) (λ u m. (λ i. is_over ((sym s.units i).phase u)) ∙ ap is_over (finished u m)));
-  entries = subst (λ n. n ≤ p.entries.spare) (sym e) s.room.entries;
-  learn = subst (λ n. n ≤ p.learn.spare) (sym (front-writes ds p.waiting.items)) (subst (λ n. writes_in (take n p.waiting.items) ≤ p.learn.spare) (sym e) s.room.learn);
-  placed = front-placed (has_place p.last) ds p.waiting.items (placed-each (has_place p.last) (take (length ds) p.waiting.items) (subst (λ n. EachPlaced (has_place p.last) (take n p.waiting.items)) (sym e) s.room.places));
+  closable = record {
+    over = subst (AreOver (λ u. is_over (phase_in p.units u)) ds) (sym s.effects)
+        (are-over (λ u. is_over (phase_in p.units u)) ds w (waiting w) (λ u m. (λ i. is_over ((sym s.units i).phase u)) ∙ ap is_over (finished u m)));
+    entries = subst (λ n. n ≤ p.entries.spare) (sym e) s.room.entries;
+    learn = subst (λ n. n ≤ p.learn.spare) (sym (front-writes ds p.waiting.items)) (subst (λ n. writes_in (take n p.waiting.items) ≤ p.learn.spare) (sym e) s.room.learn);
+    placed = front-placed (has_place p.last) ds p.waiting.items (placed-each (has_place p.last) (take (length ds) p.waiting.items) (subst (λ n. EachPlaced (has_place p.last) (take n p.waiting.items)) (sym e) s.room.places));
+  };
 }
 
 -- ---- a batch that is decided closes

@@ -1,18 +1,17 @@
 // How a batch closes.
-ghost use Rattle.std.specs.Prelude.{◌≡◌, ◌<◌, ◌≤◌, ◌+◌, ◌++◌, ℕ, Option as AnOption, List as AList, Some, true, map, drop, length};
+ghost use Rattle.std.specs.Prelude.{◌≡◌, ◌<◌, ◌≤◌, ◌+◌, ◌++◌, List as AList, Some, true, map, drop, length};
 ghost use Rattle.base_types.specs.declared.calls.GrainId.{GrainId as AGrain};
-ghost use Rattle.base_types.specs.declared.calls.UnitNo.{UnitNo as AUnit};
 ghost use Rattle.core_model.specs.CoreState.{put};
 ghost use Rattle.core_model.specs.Changes.{entry_for, told};
 ghost use Rattle.core_model.specs.Tests.{is_over, is_final, is_committed, state_written};
 ghost use Rattle.cell_table.specs.Table.{opens_with};
 ghost use Rattle.core_parts.specs.States.{last_in, has_place, KeepsPlaces};
 ghost use Rattle.open_batch.specs.Members.{effect_in};
-ghost use Rattle.unit_table.specs.Table.{units_of, verdict_in, result_in, phase_in};
+ghost use Rattle.unit_table.specs.Table.{verdict_in, phase_in};
 ghost use Rattle.cell_model.specs.declared.outcomes.Decision.{Decision as ADecision};
-ghost use Rattle.history_core.specs.BatchClosing.{IsReadyToClose, Closes, decisions_in};
-ghost use Rattle.history_core.specs.ClosedUnits.{ArePlaced, state_after, grains_with};
-ghost use Rattle.history_core.specs.Fronts.{ends_as, told_as, pairs_of, verdicts_after, entries_after, pairs_after, last_after, writes_after, AreOver, PlacedAfter};
+ghost use Rattle.history_core.specs.BatchClosing.{IsReadyToClose, Closes, AreClosable, ClosesUnits, OnlyVerdictsChange, decisions_in, verdict_by};
+ghost use Rattle.history_core.specs.ClosedUnits.{ArePlaced, state_after};
+ghost use Rattle.history_core.specs.Fronts.{ends_as, told_as, pairs_of};
 
 use crate::learn::is_committed;
 use crate::parts::Parts;
@@ -70,17 +69,9 @@ pub(crate) fn close_all(
     how: Closing,
 )
     requires within { length decisions.now ≤ length waiting.old.items }
-    requires over { AreOver (λ u. is_over (phase_in units.old u)) decisions.now (map effect_in waiting.old.items) }
-    requires entries { length decisions.now ≤ entries.old.spare }
-    requires learn { writes_after decisions.now (map effect_in waiting.old.items) ≤ learn.old.spare }
-    requires placed { PlacedAfter (has_place last.old) decisions.now (map effect_in waiting.old.items) }
-    ensures units { (seen : AUnit → AnOption ℕ) → units_of units.new seen ≡ units_of units.old seen }
-    ensures result { result_in units.new ≡ result_in units.old }
-    ensures verdict { verdict_in units.new ≡ verdicts_after (ends_as how) decisions.now (map effect_in waiting.old.items) (verdict_in units.old) }
-    ensures entries { entries.new.entries ≡ entries.old.entries ++ entries_after how decisions.now (map effect_in waiting.old.items) }
-    ensures emitted { entries.new.emitted ≡ entries.old.emitted }
-    ensures pairs { learn.new.pairs ≡ learn.old.pairs ++ pairs_after (ends_as how) decisions.now (map effect_in waiting.old.items) (verdict_in units.old) }
-    ensures last { (g : AGrain) → last_in last.new g ≡ last_after (ends_as how) g decisions.now (map effect_in waiting.old.items) (verdict_in units.old) (last_in last.old g) }
+    requires closable { AreClosable decisions.now (map effect_in waiting.old.items) units.old entries.old learn.old last.old }
+    ensures closes { ClosesUnits how decisions.now (map effect_in waiting.old.items) units.old units.new entries.old entries.new learn.old learn.new
+        last.old last.new }
     ensures waiting { waiting.new.items ≡ drop (length decisions.now) waiting.old.items }
 {
     for decision in decisions {
@@ -103,15 +94,17 @@ fn close_one(
     requires entries { 0 < entries.old.spare }
     requires learn { length done.effect.writes ≤ learn.old.spare }
     requires placed { ArePlaced (has_place last.old) done.effect.writes }
-    ensures units { (seen : AUnit → AnOption ℕ) → units_of units.new seen ≡ units_of units.old seen }
-    ensures result { result_in units.new ≡ result_in units.old }
-    ensures verdict { verdict_in units.new ≡ put (verdict_in units.old) done.effect.unit (ends_as how (verdict_in units.old done.effect.unit)) }
-    ensures entries { entries.new.entries ≡ entries.old.entries ++ entry_for done.effect.origin done.effect.unit (told (told_as how done.effect.result) decision.now) }
+    ensures others { OnlyVerdictsChange units.old units.new }
+    ensures verdict { verdict_in units.new ≡ put (verdict_in units.old) done.effect.unit (verdict_by how units.old done.effect.unit) }
+    ensures entries { entries.new.entries ≡ entries.old.entries ++ entry_for done.effect.origin done.effect.unit
+        (told (told_as how done.effect.result) decision.now) }
     ensures emitted { entries.new.emitted ≡ entries.old.emitted }
     ensures spare { entries.old.spare ≤ entries.new.spare + 1 }
-    ensures pairs { learn.new.pairs ≡ learn.old.pairs ++ pairs_of (is_final (ends_as how (verdict_in units.old done.effect.unit))) done.effect.unit done.effect.writes }
+    ensures pairs { learn.new.pairs ≡ learn.old.pairs ++ pairs_of (is_final (verdict_by how units.old done.effect.unit)) done.effect.unit
+        done.effect.writes }
     ensures room { learn.old.spare ≤ learn.new.spare + length done.effect.writes }
-    ensures last { (g : AGrain) → last_in last.new g ≡ state_after (is_committed (ends_as how (verdict_in units.old done.effect.unit))) (state_written g done.effect.writes) (last_in last.old g) }
+    ensures last { (g : AGrain) → last_in last.new g ≡ state_after (is_committed (verdict_by how units.old done.effect.unit))
+        (state_written g done.effect.writes) (last_in last.old g) }
     ensures places { KeepsPlaces last.old last.new }
 {
     let effect = done.effect;

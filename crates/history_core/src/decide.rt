@@ -57,7 +57,8 @@ impl Parts {
         requires { IsUndecided self.old }
         ensures units { (seen : AUnit → AnOption ℕ) → units_of self.new.units seen ≡ units_of self.old.units seen }
         ensures result { result_in self.new.units ≡ result_in self.old.units }
-        ensures verdict { (x : TakenBatch) → self.old.batch ≡ Some x → verdict_in self.new.units ≡ judged_after (decisions_now self.old x) (map effect_in self.old.waiting.items) (verdict_in self.old.units) }
+        ensures verdict { (x : TakenBatch) → self.old.batch ≡ Some x
+            → verdict_in self.new.units ≡ judged_after (decisions_now self.old x) (map effect_in self.old.waiting.items) (verdict_in self.old.units) }
         ensures batch { (x : TakenBatch) → self.old.batch ≡ Some x → self.new.batch ≡ Some (with_decisions x (decisions_now self.old x)) }
         ensures commits { (x : TakenBatch) → self.old.batch ≡ Some x → result ≡ commits_in (Some (decisions_now self.old x)) }
         ensures cells { self.new.cells ≡ self.old.cells }

@@ -86,7 +86,8 @@ impl Parts {
         requires runs { is_running (phase_in self.old.units unit) ≡ true }
         requires room { owed_in self.old.batch < self.old.entries.spare }
         requires same { kept ≡ told }
-        ensures ended { (w : CoreState) → PartsStand self.old w → IsCoreReached w → (answers : AList AnOutcome) (at : AnOption ℕ) → PartsStand self.new (after_end w unit answers told at) }
+        ensures ended { (w : CoreState) → PartsStand self.old w → IsCoreReached w → (answers : AList AnOutcome) (at : AnOption ℕ)
+            → PartsStand self.new (after_end w unit answers told at) }
         ensures opens { opens_with self.new.cells ≡ opens_with self.old.cells }
     {
         let origin = self.origin(unit);

@@ -86,7 +86,8 @@ impl Parts {
         ensures copied { IfOk result (λ made. made ≡ effect.now.result) }
         ensures room { OnOk result (vec_len self.new.waiting < vec_capacity self.new.waiting) }
         ensures waiting { self.new.waiting.items ≡ self.old.waiting.items }
-        ensures handed { OnOk result (handed_in self.new.handed ≡ with_writes (cleared (handed_in self.old.handed) unit effect.now.reads) unit effect.now.writes) }
+        ensures handed { OnOk result (handed_in self.new.handed ≡ with_writes (cleared (handed_in self.old.handed) unit effect.now.reads) unit
+            effect.now.writes) }
         ensures others { (x : UnitNo) (g : GrainId) → (x ≡ unit → ⊥) → handed_in self.new.handed x g ≡ handed_in self.old.handed x g }
         ensures units { self.new.units ≡ self.old.units }
         ensures cells { self.new.cells ≡ self.old.cells }

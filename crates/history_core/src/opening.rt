@@ -24,7 +24,13 @@ impl Core {
     pub fn new(alloc: Global, opened: Opening) -> Core
         requires above { 0 < opened.next_unit.0 }
         requires few { opened.next_unit.0 ≤ 2 ^ 63 }
-        ensures { run_of result ≡ record { base = opened.next_unit.0; kinds = length opened.shape.types; capacity = None; opening = opening_state opened.shape opened.store; events = [] } }
+        ensures { run_of result ≡ record {
+          base = opened.next_unit.0;
+          kinds = length opened.shape.types;
+          capacity = None;
+          opening = opening_state opened.shape opened.store;
+          events = [];
+        } }
     {
         let base = opened.next_unit;
         let kinds = opened.shape.types.len() as u64;

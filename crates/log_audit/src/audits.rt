@@ -109,7 +109,8 @@ fn write_audit<H: Host>(
     host: &mut H,
     report: &AuditReport,
 ) -> Result<(), ReportFault>
-    ensures puts { IsTrue H.tells → PutsPart (line_of (audit_data report.now.count (bad_unit report.now.first_bad))) (is_ok result) (H.world host.old) (H.world host.new) }
+    ensures puts { IsTrue H.tells → PutsPart (line_of (audit_data report.now.count (bad_unit report.now.first_bad))) (is_ok result) (H.world host.old)
+        (H.world host.new) }
     ensures ended { MayEnd (report_ending result) }
     ensures exact { HasFailedAs (report_ending result) (H.faults host.old) (H.faults host.new) }
     ensures ready { StaysReady (H.is_ready host.old) (H.is_ready host.new) }

@@ -157,7 +157,8 @@ fn replay_block<H: Host>(
 ) -> Result<Option<Bad>, FolderFault>
     requires slot { slot ≤ 1 }
     ensures replays { IfOk result (λ found. IsTrue H.tells → let types = program_tree checked.now in
-        AllReplayTo types (found_in types store.old) (as_commits slot shape.now (seen_in (H.world host.old).disk) records.now) (found_in types store.new) found) }
+        AllReplayTo types (found_in types store.old) (as_commits slot shape.now (seen_in (H.world host.old).disk) records.now)
+        (found_in types store.new) found) }
     ensures unread { IfErr result (λ e. IsTrue H.tells → IsVersionFault slot shape.now (seen_in (H.world host.old).disk) (named_by records.now) e) }
     ensures asked { IsTrue H.tells → OnlyAsked (H.world host.old) (H.world host.new) }
     ensures calm { OnOk result (NoneFailed (H.faults host.old) (H.faults host.new)) }
@@ -197,8 +198,10 @@ fn saved_store<H: Host>(
 ) -> Result<Store, FolderFault>
     requires slot { slot ≤ 1 }
     ensures states { IfOk result (λ store. IsTrue H.tells → (grain : AGrain)
-        → state_in store grain ≡ state_after slot One shape.now (seen_in (H.world host.old).disk) None (map (λ w. record { unit = None; written = w }) saved.now) grain) }
-    ensures unread { IfErr result (λ e. IsTrue H.tells → IsVersionFault slot shape.now (seen_in (H.world host.old).disk) (map (λ w. record { unit = None; written = w }) saved.now) e) }
+        → state_in store grain ≡ state_after slot One shape.now (seen_in (H.world host.old).disk) None
+        (map (λ w. record { unit = None; written = w }) saved.now) grain) }
+    ensures unread { IfErr result (λ e. IsTrue H.tells
+        → IsVersionFault slot shape.now (seen_in (H.world host.old).disk) (map (λ w. record { unit = None; written = w }) saved.now) e) }
     ensures asked { IsTrue H.tells → OnlyAsked (H.world host.old) (H.world host.new) }
     ensures calm { OnOk result (NoneFailed (H.faults host.old) (H.faults host.new)) }
     ensures fault { IfErr result (λ e. ReadFaulted e (H.faults host.old) (H.faults host.new)) }
@@ -233,7 +236,8 @@ pub(crate) fn replay_log<H: Host>(
     requires slot { slot ≤ 1 }
     ensures replays { IfOk result (λ found. IsTrue H.tells → (log : ALog) → log_in_file One shape.now ((H.world host.old).disk (Manager slot)).seen ≡ Ok log
         → let types = program_tree checked.now in
-        IsFirstFailure types (base_states slot types shape.now (seen_in (H.world host.old).disk) log.base) (as_commits slot shape.now (seen_in (H.world host.old).disk) log.records) found) }
+        IsFirstFailure types (base_states slot types shape.now (seen_in (H.world host.old).disk) log.base)
+        (as_commits slot shape.now (seen_in (H.world host.old).disk) log.records) found) }
     ensures unread { IfErr result (λ e. IsTrue H.tells → (log : ALog) → log_in_file One shape.now ((H.world host.old).disk (Manager slot)).seen ≡ Ok log
         → IsRereadFault slot shape.now (seen_in (H.world host.old).disk) log e) }
     ensures asked { IsTrue H.tells → OnlyAsked (H.world host.old) (H.world host.new) }

@@ -7,7 +7,7 @@ use Rattle.host_trait.proofs.Crashes.{settled_only}
 use Rattle.silo_spec.specs.Silos.{IsSilo}
 use Rattle.silo_spec.specs.Slots.{generation}
 use Rattle.promise_spec.specs.Logs.{magic}
-use Rattle.promise_spec.specs.Compacting.{StaysBelow}
+use Rattle.promise_spec.specs.EitherSlot.{StaysBelow}
 
 module _ (before after : List ℕ) (tears : Tears 0 1 before after) where
   -- the generation stands behind the gate

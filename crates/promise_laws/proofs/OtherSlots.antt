@@ -14,7 +14,7 @@ use Rattle.silo_spec.specs.Slots.{generation}
 use Rattle.promise_spec.specs.Entries.{Log}
 use Rattle.promise_spec.specs.Logs.{magic, IsLogIn, IsLog}
 use Rattle.promise_spec.specs.Journals.{AllLog}
-use Rattle.promise_spec.specs.Compacting.{HasEither, MayClose, IsFilling, IsCompactable, IsReadyToOpen}
+use Rattle.promise_spec.specs.EitherSlot.{HasEither, MayClose, IsFilling, IsCompactable, IsReadyToOpen}
 use Rattle.promise_laws.proofs.MovedLogs.{log_moves}
 use Rattle.promise_laws.proofs.GateBytes.{generation_stays}
 

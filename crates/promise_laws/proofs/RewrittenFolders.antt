@@ -12,8 +12,8 @@ use Rattle.promise_spec.specs.Logs.{magic, IsLog, HasLog}
 use Rattle.promise_spec.specs.Prefixes.{IsPrefixOf}
 use Rattle.promise_spec.specs.Images.{AreNumbered, IsSound, IsSoundFolder}
 use Rattle.promise_spec.specs.Courses.{Observed, seen_at_entry}
-use Rattle.promise_spec.specs.Compacting.{HasEither, AllEither}
-use Rattle.promise_spec.specs.Rewriting.{Rewrites, IsCompacted, Compacts}
+use Rattle.promise_spec.specs.EitherSlot.{HasEither, AllEither}
+use Rattle.promise_spec.specs.Compaction.{Rewrites, IsCompacted, Compacts}
 use Rattle.promise_laws.specs.Closings.{ReadsMayStay}
 use Rattle.promise_laws.specs.SoundMoments.{IsSoundAt}
 use Rattle.promise_spec.proofs.Lists.{all_of, in_append, either_in}

@@ -10,8 +10,8 @@ use Rattle.promise_spec.specs.Commands.{IsReported, Reports, ShowsStates, Audits
 use Rattle.promise_spec.specs.Checks.{Checks}
 use Rattle.promise_spec.specs.Calls.{IsBadUse}
 use Rattle.promise_spec.specs.Promise.{Keeps, Promises}
-use Rattle.promise_spec.specs.Compacting.{HasEither}
-use Rattle.promise_spec.specs.Rewriting.{Compacts}
+use Rattle.promise_spec.specs.EitherSlot.{HasEither}
+use Rattle.promise_spec.specs.Compaction.{Compacts}
 use Rattle.promise_spec.proofs.Chains.{chains}
 use Rattle.promise_spec.proofs.Lists.{in_append}
 use Rattle.promise_spec.proofs.OneLog.{one_log}

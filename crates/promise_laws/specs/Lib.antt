@@ -1,5 +1,7 @@
 pub mod QuietRuns
 pub mod SoundMoments
+pub mod KeptFolders
+pub mod RunJournals
 pub mod Legality
 pub mod UnitAnswers
 pub mod ProperEvents

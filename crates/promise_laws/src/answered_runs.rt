@@ -11,7 +11,8 @@ ghost use Rattle.promise_laws.specs.Obligations.{ShowsAnywhere, Lasts, Shows};
 /// Over any folder that reads as a silo, sound or not: what a run answers is enough for what is promised there. From that it
 /// follows how the run ends and, where all that is settled was written, that this is one entry for each line that may begin.
 pub fn answered_runs_open()
-    ensures keeps { (p : Program) (r : Observed) (c : Course) → ShowsAnywhere p r c → opened_as (seen_at_entry r) ≡ Reads c.live c.opening → KeepsAnywhere p r c }
+    ensures keeps { (p : Program) (r : Observed) (c : Course) → ShowsAnywhere p r c → opened_as (seen_at_entry r) ≡ Reads c.live c.opening
+        → KeepsAnywhere p r c }
     ensures opened { (r : Observed) (c : Course) → KeepsAnywhere (program_in_force c) r c → HasOpened r }
 {}
 

@@ -36,6 +36,7 @@ pub fn records_are_whole_batches()
 /// At the moments of a step: where each image has one log that ends so, and while a batch is sealed, where both logs do.
 pub fn moments_end_batches()
     ensures logged { (live : ℕ) (w : CoreState) (opening log : Log) (m : Moment) → AllLog live log m.disk → EndsABatch w opening log → AllEnd live w opening m }
-    ensures sealing { (live : ℕ) (w : CoreState) (opening before : Log) (batch : List Settlement) (mid : host.World) (m : Moment) → IsSealing live before batch mid m
+    ensures sealing { (live : ℕ) (w : CoreState) (opening before : Log) (batch : List Settlement) (mid : host.World) (m : Moment)
+        → IsSealing live before batch mid m
         → EndsABatch w opening before → EndsABatch w opening (grown before (commits_of batch)) → AllEnd live w opening m }
 {}

@@ -16,7 +16,7 @@ mod answered_runs;
 mod batches;
 mod calm_runs;
 mod causes;
-mod compacting;
+mod compaction;
 mod families;
 mod folders;
 mod loads;
@@ -33,11 +33,13 @@ pub use answered_runs::{answered_runs_open, answered_runs_promise, shown_runs_an
 pub use batches::{batches_stay_whole, moments_end_batches, records_are_whole_batches};
 pub use calm_runs::{calm_runs_are_undisturbed, single_runs_meet_no_lock};
 pub use causes::explained_aborts_have_causes;
-pub use compacting::{compacting_keeps_the_log, rewritten_folders_are_sound};
+pub use compaction::{
+    closed_slots_stay_below, compacting_keeps_the_log, rewritten_folders_are_sound,
+};
 pub use families::explained_runs_are_families;
 pub use folders::{
     crashes_leave_sound_folders, folders_keep_their_program, folders_stay_sound,
-    fresh_silos_have_an_empty_log,
+    fresh_silos_have_an_empty_log, made_folders_are_sound,
 };
 pub use loads::{loads_count_each_line, loads_follow_runs};
 pub use proper_entries::settled_entries_are_proper;
@@ -45,8 +47,9 @@ pub use replies::explained_replies_are_true;
 pub use serial_runs::{explained_entries_have_causes, explained_runs_are_serial, runs_are_legal};
 pub use shown_runs::{shown_runs_keep, shown_runs_promise};
 pub use steps::{
-    clocks_arrive, doubts_have_an_image, journals_are_told, journals_back_entries, journals_doubt,
-    journals_go_on, journals_survive, settled_folders_have_one_log, whole_journals_are_cut,
+    clocks_arrive, doubted_journals_are_told, doubts_have_an_image, journals_are_told,
+    journals_back_entries, journals_doubt, journals_go_on, journals_survive,
+    settled_folders_have_one_log, whole_journals_are_cut,
 };
 pub use unit_answers::units_got_what_the_core_shows;
 pub use whole_folders::{carried_runs_promise, kept_journals_last, read_folders_open};

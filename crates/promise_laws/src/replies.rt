@@ -18,8 +18,10 @@ pub fn explained_replies_are_true()
         → (e : Entry) → Member e c.entries → (1 ≤ e.line) × (e.line ≤ length (lines r)) }
     ensures once { (p : Program) (r : Observed) (c : Course) → 0 < c.opening.base.next → IsExplained p r c → IsPrefix c.entries (core_end p c).manager.settled
         → DifferInLine c.entries }
-    ensures ordered { (p : Program) (r : Observed) (c : Course) → 0 < c.opening.base.next → IsExplained p r c → IsPrefix c.entries (core_end p c).manager.settled
+    ensures ordered { (p : Program) (r : Observed) (c : Course) → 0 < c.opening.base.next → IsExplained p r c
+        → IsPrefix c.entries (core_end p c).manager.settled
         → StandInOrder c.entries c.added }
-    ensures true_each { (p : Program) (r : Observed) (c : Course) → 0 < c.opening.base.next → IsExplained p r c → AreNumbered c.opening.base.next (records_of c.opening)
+    ensures true_each { (p : Program) (r : Observed) (c : Course) → 0 < c.opening.base.next → IsExplained p r c
+        → AreNumbered c.opening.base.next (records_of c.opening)
         → IsPrefix c.entries (core_end p c).manager.settled → (e : Entry) → Member e c.entries → IsTrueOf p r c e e.what }
 {}

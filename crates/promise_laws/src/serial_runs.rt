@@ -25,7 +25,8 @@ pub fn runs_are_legal()
 /// of the batch in doubt, and the events keep the unit rule, the records are serial from what the opening log stands
 /// for. This is the core's own law, carried from its effects to the records.
 pub fn explained_runs_are_serial()
-    ensures { (p : Program) (r : Observed) (c : Course) → 0 < c.opening.base.next → IsExplained p r c → IsSerial p.types (standing_of c.opening).states c.added }
+    ensures { (p : Program) (r : Observed) (c : Course) → 0 < c.opening.base.next → IsExplained p r c
+        → IsSerial p.types (standing_of c.opening).states c.added }
 {}
 
 /// Where a run keeps the unit rule, each entry that it settles has its cause at an event of the run.

@@ -12,17 +12,17 @@ ghost use Rattle.host_trait.specs.declared.channels.FileId.TheVariants.{Manager}
 ghost use Rattle.host_trait.specs.World.{World, Moment, Disk, Image, IsImage, Passes, Ticks, Emitted, IsEmitted, moment_of, Arrives};
 ghost use Rattle.host_trait.specs.Runs.{OnlyAsked};
 ghost use Rattle.promise_spec.specs.Logs.{StandsUpTo, IsLog, IsPrefix};
-ghost use Rattle.promise_spec.specs.Images.{IsWholeFolder, AreChained, AreNumbered, IsSoundIfSilo};
+ghost use Rattle.promise_spec.specs.Images.{IsWholeFolder, AreChained, IsSoundIfSilo};
 ghost use Rattle.request_wire.specs.Reply.{reply_line};
 ghost use Rattle.promise_spec.specs.Programs.{Program, shape_in};
 ghost use Rattle.promise_spec.specs.Records.{Commit};
-ghost use Rattle.promise_spec.specs.Entries.{Log, records_of, grown};
+ghost use Rattle.promise_spec.specs.Entries.{Log, grown};
 ghost use Rattle.promise_spec.specs.Blocks.{Records, body_of};
-ghost use Rattle.promise_spec.specs.Outputs.{IsProper};
 ghost use Rattle.core_model.specs.CoreState.{Member};
 ghost use Rattle.promise_spec.specs.Crashes.{Acknowledges, Holds};
-ghost use Rattle.promise_spec.specs.Journals.{Settlement, Backs, AllKeep, AllSay, AllLog, JournalAt, DoubtAt, CutAt, Seals, Doubts, commits_of, entries_of, KeepsJournal};
-ghost use Rattle.promise_spec.specs.SerialExecution.{IsSerialFrom};
+ghost use Rattle.promise_spec.specs.Journals.{Settlement, Backs, AllKeep, AllSay, AllLog, JournalAt, Seals, Doubts, commits_of, entries_of, KeepsJournal};
+ghost use Rattle.promise_laws.specs.RunJournals.{RunJournal, HasProperLines, IsNextEntry, IsJournalAt, IsDoubtedAt, IsCutShortAt, with_settled, with_said, journal_log, journal_line};
+ghost use Rattle.promise_laws.specs.SoundMoments.{IsSerialLog};
 ghost use Rattle.promise_spec.specs.Moments.{IsImageOf, IsLongest};
 ghost use Rattle.promise_spec.specs.Courses.{Observed, Course};
 
@@ -32,61 +32,51 @@ ghost use Rattle.promise_spec.specs.Courses.{Observed, Course};
 pub fn journals_go_on()
     ensures begins { (live : ℕ) (p : Program) (opening : Log) (old now : World) → now.output ≡ old.output → now.past ≡ old.past
         → AllLog live opening now.disk → JournalAt live p opening old [] [] now }
-    ensures stays { (live : ℕ) (p : Program) (opening : Log) (old mid new : World) (said unsaid : List Settlement)
-        → AllByRecursion (IsProper (shape_in p)) (entries_of said) → JournalAt live p opening old said unsaid mid
-        → Seals live (grown opening (commits_of (said ++ unsaid))) [] mid new → JournalAt live p opening old said unsaid new }
+    ensures stays { (j : RunJournal) (mid new : World) → HasProperLines j → IsJournalAt j mid
+        → Seals j.live (journal_log j) [] mid new → IsJournalAt j new }
     ensures asked { (live : ℕ) (before : Log) (mid new : World) → OnlyAsked mid new → AllLog live before mid.disk → Seals live before [] mid new }
-    ensures seals { (live : ℕ) (p : Program) (opening : Log) (old mid new : World) (said unsaid batch : List Settlement)
-        → AllByRecursion (IsProper (shape_in p)) (entries_of said) → JournalAt live p opening old said unsaid mid
-        → Seals live (grown opening (commits_of (said ++ unsaid))) batch mid new → JournalAt live p opening old said (unsaid ++ batch) new }
+    ensures seals { (j : RunJournal) (batch : List Settlement) (mid new : World) → HasProperLines j → IsJournalAt j mid
+        → Seals j.live (journal_log j) batch mid new → IsJournalAt (with_settled j batch) new }
     ensures kept { (live : ℕ) (p : Program) (opening : Log) (before : List ℕ) (said journal : List Settlement) (m : Moment)
         → AllSay live p opening before said journal m → AllKeep live p opening before journal m }
-    ensures settles { (live : ℕ) (p : Program) (opening : Log) (old now : World) (said unsaid more : List Settlement)
-        → commits_of more ≡ [] → JournalAt live p opening old said unsaid now → JournalAt live p opening old said (unsaid ++ more) now }
+    ensures settles { (j : RunJournal) (more : List Settlement) (now : World) → commits_of more ≡ [] → IsJournalAt j now
+        → IsJournalAt (with_settled j more) now }
 {}
 
 /// The next entry is written: its line stands whole in the output, or, where the call failed, whole or cut.
 pub fn journals_are_told()
-    ensures emits { (live : ℕ) (p : Program) (opening : Log) (old mid new : World) (said moved unsaid : List Settlement) (e : Entry)
-        → entries_of moved ≡ e ∷ [] → AllByRecursion (IsProper (shape_in p)) (entries_of (said ++ moved))
-        → JournalAt live p opening old said (moved ++ unsaid) mid → IsEmitted (reply_line (shape_in p) e) mid new
-        → JournalAt live p opening old (said ++ moved) unsaid new }
+    ensures emits { (j : RunJournal) (moved left : List Settlement) (e : Entry) (mid new : World) → IsNextEntry j moved left e
+        → IsJournalAt j mid → IsEmitted (journal_line j e) mid new → IsJournalAt (with_said j moved left) new }
     ensures front { (shape : Shape) (e : Entry) (n : ℕ) → IsPrefix (take n (reply_line shape e)) (reply_line shape e) }
-    ensures fails { (live : ℕ) (p : Program) (opening : Log) (old mid new : World) (said moved unsaid : List Settlement) (e : Entry) (n : ℕ)
-        → entries_of moved ≡ e ∷ [] → AllByRecursion (IsProper (shape_in p)) (entries_of (said ++ moved))
-        → JournalAt live p opening old said (moved ++ unsaid) mid → Emitted n (reply_line (shape_in p) e) mid new
-        → JournalAt live p opening old (said ++ moved) unsaid new ⊎ CutAt live p opening old said (moved ++ unsaid) [] (take n (reply_line (shape_in p) e)) new }
+    ensures fails { (j : RunJournal) (moved left : List Settlement) (e : Entry) (n : ℕ) (mid new : World) → IsNextEntry j moved left e
+        → IsJournalAt j mid → Emitted n (journal_line j e) mid new
+        → IsJournalAt (with_said j moved left) new ⊎ IsCutShortAt j [] (take n (journal_line j e)) new }
 {}
 
 /// A batch is in doubt. Its units' entries, which name no outcome, stand in the journal, and behind them the batch, where an
-/// image may have it; where none has it, at no moment, the entries alone. Then entries are written as before.
+/// image may have it; where none has it, at no moment, the entries alone.
 pub fn journals_doubt()
-    ensures unbegun { (live : ℕ) (p : Program) (opening : Log) (old mid new : World) (said unsaid names : List Settlement)
-        → commits_of names ≡ [] → AllByRecursion (IsProper (shape_in p)) (entries_of said) → JournalAt live p opening old said unsaid mid
-        → Seals live (grown opening (commits_of (said ++ unsaid))) [] mid new → JournalAt live p opening old said (unsaid ++ names) new }
-    ensures doubts { (live : ℕ) (p : Program) (opening : Log) (old mid new : World) (said unsaid names : List Settlement) (batch : Settlement)
-        → commits_of names ≡ [] → AllByRecursion (IsProper (shape_in p)) (entries_of said) → JournalAt live p opening old said unsaid mid
-        → Doubts live (grown opening (commits_of (said ++ unsaid))) batch mid new → DoubtAt live p opening old said (unsaid ++ names) batch new }
-    ensures stays { (live : ℕ) (p : Program) (opening : Log) (old mid new : World) (said unsaid : List Settlement) (batch : Settlement)
-        → AllByRecursion (IsProper (shape_in p)) (entries_of said) → DoubtAt live p opening old said unsaid batch mid
-        → Passes (λ m. m ≡ moment_of mid) mid.past new.past → moment_of new ≡ moment_of mid → DoubtAt live p opening old said unsaid batch new }
-    ensures emits { (live : ℕ) (p : Program) (opening : Log) (old mid new : World) (said moved unsaid : List Settlement) (batch : Settlement) (e : Entry)
-        → entries_of moved ≡ e ∷ [] → AllByRecursion (IsProper (shape_in p)) (entries_of (said ++ moved))
-        → DoubtAt live p opening old said (moved ++ unsaid) batch mid → IsEmitted (reply_line (shape_in p) e) mid new
-        → DoubtAt live p opening old (said ++ moved) unsaid batch new }
-    ensures fails { (live : ℕ) (p : Program) (opening : Log) (old mid new : World) (said moved unsaid : List Settlement) (batch : Settlement) (e : Entry) (n : ℕ)
-        → entries_of moved ≡ e ∷ [] → AllByRecursion (IsProper (shape_in p)) (entries_of (said ++ moved))
-        → DoubtAt live p opening old said (moved ++ unsaid) batch mid → Emitted n (reply_line (shape_in p) e) mid new
-        → DoubtAt live p opening old (said ++ moved) unsaid batch new
-        ⊎ CutAt live p opening old said (moved ++ unsaid) (batch ∷ []) (take n (reply_line (shape_in p) e)) new }
+    ensures unbegun { (j : RunJournal) (names : List Settlement) (mid new : World) → commits_of names ≡ [] → HasProperLines j
+        → IsJournalAt j mid → Seals j.live (journal_log j) [] mid new → IsJournalAt (with_settled j names) new }
+    ensures doubts { (j : RunJournal) (names : List Settlement) (batch : Settlement) (mid new : World) → commits_of names ≡ [] → HasProperLines j
+        → IsJournalAt j mid → Doubts j.live (journal_log j) batch mid new → IsDoubtedAt (with_settled j names) batch new }
+    ensures stays { (j : RunJournal) (batch : Settlement) (mid new : World) → HasProperLines j → IsDoubtedAt j batch mid
+        → Passes (λ m. m ≡ moment_of mid) mid.past new.past → moment_of new ≡ moment_of mid → IsDoubtedAt j batch new }
+{}
+
+/// Behind a batch in doubt entries are written as before.
+pub fn doubted_journals_are_told()
+    ensures emits { (j : RunJournal) (moved left : List Settlement) (batch : Settlement) (e : Entry) (mid new : World)
+        → IsNextEntry j moved left e → IsDoubtedAt j batch mid → IsEmitted (journal_line j e) mid new → IsDoubtedAt (with_said j moved left) batch new }
+    ensures fails { (j : RunJournal) (moved left : List Settlement) (batch : Settlement) (e : Entry) (n : ℕ) (mid new : World)
+        → IsNextEntry j moved left e → IsDoubtedAt j batch mid → Emitted n (journal_line j e) mid new
+        → IsDoubtedAt (with_said j moved left) batch new ⊎ IsCutShortAt j (batch ∷ []) (take n (journal_line j e)) new }
 {}
 
 /// Whole lines are a cut without a rest: so what holds at the end of a run whose last line was cut holds of every run.
 pub fn whole_journals_are_cut()
-    ensures journal { (live : ℕ) (p : Program) (opening : Log) (old now : World) (said unsaid : List Settlement)
-        → JournalAt live p opening old said unsaid now → CutAt live p opening old said unsaid [] [] now }
-    ensures doubt { (live : ℕ) (p : Program) (opening : Log) (old now : World) (said unsaid : List Settlement) (batch : Settlement)
-        → DoubtAt live p opening old said unsaid batch now → CutAt live p opening old said unsaid (batch ∷ []) [] now }
+    ensures journal { (j : RunJournal) (now : World) → IsJournalAt j now → IsCutShortAt j [] [] now }
+    ensures doubt { (j : RunJournal) (batch : Settlement) (now : World) → IsDoubtedAt j batch now → IsCutShortAt j (batch ∷ []) [] now }
 {}
 
 /// Over a whole folder whose files read as this log, each image that has the live manager file as it reads has this log too, and the
@@ -135,8 +125,7 @@ pub fn journals_survive()
         → IsImageOf moments image → IsLog live image (grown opening (commits_of journal))
         → ((m : Moment) → Member m moments → AllKeep live p opening before journal m) → IsLongest live moments (grown opening (commits_of journal)) }
     ensures sound { (live : ℕ) (p : Program) (opening : Log) (before : List ℕ) (journal : List Settlement) (m : Moment) (image : Image)
-        → KeepsJournal live p opening before journal m image → IsSerialFrom opening.base (grown opening (commits_of journal)).entries
-        → AreNumbered opening.base.next (records_of (grown opening (commits_of journal))) → IsSoundIfSilo image }
+        → KeepsJournal live p opening before journal m image → IsSerialLog (grown opening (commits_of journal)) → IsSoundIfSilo image }
     ensures holds { (p : Program) (r : Observed) (c : Course) (journal : List Settlement) (m : Moment) (image : Image) → Backs journal c.added
         → (k : KeepsJournal c.live p c.opening r.old.output journal m image) → IsPrefix (entries_of k.said) c.entries → Holds p r c m image }
 {}

@@ -126,12 +126,12 @@ module _ {H : Type 0} (tells : Bool) (world : H → World) (faults : H → Chann
     as-doubt t head f sealing.NotSealed q s = absurd (cc q)
     as-doubt t head f sealing.InDoubt q s =
         subst (DoubtsBatch o.live o.program head f.stood f.bodies before.writer after.writer (world old) (world new) before.writer.gate_at effects) s.made_of
-        (doubted o.live o.program head f.stood f.bodies before.writer after.writer (world old) (world new) f.keeps effects does.work.records (does.run t).now.output (does.run t).clock s)
+        (doubted o.live o.program head f.stood f.bodies before.writer after.writer (world old) (world new) f.keeps effects does.work.records (does.leaves.run t).now.output (does.leaves.run t).clock s)
 
     doubt-of : (t : IsTrue tells) (head : List ℕ) (f : KeepsFolder o head b r before.writer (world old).disk) → DoubtsBatch o.live o.program head f.stood f.bodies before.writer after.writer (world old) (world new) before.writer.gate_at effects batch
     doubt-of t head f =
         let fair = (is-fair o r before.writer can.above can.units can.kinds can.accepted can.numbers f.votes).seal n (seals-step n (settler_step (ends r)) makes) in
-        as-doubt t head f does.answer does.event (does.seals t (shape_in o.program) head f.stood f.bodies fair.0 fair.1 f.keeps)
+        as-doubt t head f does.answer does.event (does.leaves.seals t (shape_in o.program) head f.stood f.bodies n effects does.records fair.0 fair.1 f.keeps)
 
     module _ (t : IsTrue tells) (head : List ℕ) (l : LastsSo o head b r before.writer (world old)) where
       abbrev Lasting : List Settlement → Type 0

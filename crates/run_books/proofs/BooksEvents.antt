@@ -36,7 +36,8 @@ use Rattle.batch_disk.specs.declared.writer.BatchWriter.{BatchWriter}
 use Rattle.batch_disk.proofs.BatchRecords.{records_are}
 use Rattle.settler_rules.proofs.Commits.{sealed-commit, others-leave as committed-stays, doubt-chosen}
 use Rattle.settle_loop.specs.ShownWork.{event_of, tells_doubt}
-use Rattle.settle_loop.specs.HostSteps.{MakesNoCall, VotesOn, SealsUnits, DoubtsAgain}
+use Rattle.batch_disk.specs.VoteAnswers.{VotesOn}
+use Rattle.settle_loop.specs.HostSteps.{MakesNoCall, SealsUnits, DoubtsAgain}
 use Rattle.settle_loop.specs.StepJournal.{as_settled}
 use Rattle.settle_loop.specs.declared.settler.Settler.{Settler}
 use Rattle.run_books.specs.Beginnings.{Outset, basis_of}
@@ -178,17 +179,17 @@ module _ {H : Type 0} (tells : Bool) (world : H → World) (faults : H → Chann
   adds-sealed n a m quiet written doubted does =
       let e : CoreEvent = event.Sealed n in
       let effects : List Effect = to_commit (ends r) (ends r).manager.batch in
-      let later : NoneFell (faults old) (faults new) = calm-later (faults old) (faults new) (sealed-calm n before.writer.gate_at (length does.work.block) does.answer does.event does.cause) in
-      plain-adds e a m quiet written refl doubted (sealed-writer n does.answer does.work.records before.writer after.writer does.event does.after_is) does.slot
+      let later : NoneFell (faults old) (faults new) = calm-later (faults old) (faults new) (sealed-calm n before.writer.gate_at (length does.work.block) does.answer does.event does.leaves.cause) in
+      plain-adds e a m quiet written refl doubted (sealed-writer n does.answer does.work.records before.writer after.writer does.event does.leaves.after_is) does.leaves.slot
       (made_batch effects does.work.records) effects refl (sealed-commit (basis_of o) r above units n a)
       (made-records before.writer n effects does.work.records (records_are (voted_of n before.writer) effects does.work.records does.records))
       (faults-same o.live r (extended r (e ∷ [])) o.faults (faults old) (faults new) k.faults later (λ g. how-same (is_no g) r e refl) (how-same is_unsealed r e refl))
-      later (λ t. (does.run t).now.output)
+      later (λ t. (does.leaves.run t).now.output)
       (λ t. calls-seal o r (extended r (e ∷ [])) (faults old) (faults new) (world old) (world new) _ (k.outside t).calls (how-same is_vote r e refl)
       (let seals : how_many is_sealed (extended r (e ∷ [])) ≡ how_many is_sealed r + 1 = how-one is_sealed r e refl a in
       let unsealed : how_many is_unsealed (extended r (e ∷ [])) ≡ how_many is_unsealed r = how-same is_unsealed r e refl in
-      omega (arith, seals, unsealed)) (λ g. how-same (is_vote_of g) r e refl) (does.run t) (λ none.
-      (let next = sealed-next n does.answer does.event in does.twice t next.0 next.1)
+      omega (arith, seals, unsealed)) (λ g. how-same (is_vote_of g) r e refl) (does.leaves.run t) (λ none.
+      (let next = sealed-next n does.answer does.event in does.leaves.twice t next.0 next.1)
       ∙ ap (λ (x : ℕ). x + 2) ((k.outside t).calls.each (rose-back o.faults (faults old) (faults new) k.later later none))
       ∙ (let votes : how_many is_vote (extended r (e ∷ [])) ≡ how_many is_vote r = how-same is_vote r e refl in
       let seals : how_many is_sealed (extended r (e ∷ [])) ≡ how_many is_sealed r + 1 = how-one is_sealed r e refl a in
@@ -211,12 +212,12 @@ module _ {H : Type 0} (tells : Bool) (world : H → World) (faults : H → Chann
       → AddsBatch tells o r (extended r (event.NotSealed n ∷ [])) before after (faults old) (faults new) (world old) (world new) [] b.doubted
   adds-unsealed n a m quiet written doubted does =
       let e : CoreEvent = event.NotSealed n in
-      let failed : FailedOn (File (Manager o.live)) (faults old) (faults new) = unsealed-failed n before.writer.gate_at (length does.work.block) does.answer does.event does.cause in
+      let failed : FailedOn (File (Manager o.live)) (faults old) (faults new) = unsealed-failed n before.writer.gate_at (length does.work.block) does.answer does.event does.leaves.cause in
       let later : NoneFell (faults old) (faults new) = failed-later (File (Manager o.live)) (faults old) (faults new) failed in
-      plain-adds e a m quiet written refl doubted (unsealed-writer n does.answer does.work.records before.writer after.writer does.event does.after_is) does.slot
+      plain-adds e a m quiet written refl doubted (unsealed-writer n does.answer does.work.records before.writer after.writer does.event does.leaves.after_is) does.leaves.slot
       [] [] refl (none-more e a m quiet written refl) tt
       (faults-unsealed o.live r (extended r (e ∷ [])) o.faults (faults old) (faults new) k.faults later (λ g. how-same (is_no g) r e refl) (how-one is_unsealed r e refl a) failed.rose)
-      later (λ t. (does.run t).now.output) (calls-unsealed e a refl refl refl failed (λ t. does.run t))
+      later (λ t. (does.leaves.run t).now.output) (calls-unsealed e a refl refl refl failed (λ t. does.leaves.run t))
 
   -- ---- a doubt
 
@@ -234,7 +235,7 @@ module _ {H : Type 0} (tells : Bool) (world : H → World) (faults : H → Chann
   adds-doubt n a m quiet written doubted does =
       let e : CoreEvent = event.Doubt n in
       let effects : List Effect = to_commit (ends r) (ends r).manager.batch in
-      let failed : FailedOn (File (Manager o.live)) (faults old) (faults new) = doubt-failed n before.writer.gate_at (length does.work.block) does.answer does.event does.cause in
+      let failed : FailedOn (File (Manager o.live)) (faults old) (faults new) = doubt-failed n before.writer.gate_at (length does.work.block) does.answer does.event does.leaves.cause in
       let later : NoneFell (faults old) (faults new) = failed-later (File (Manager o.live)) (faults old) (faults new) failed in
       let left = m.doubted refl in
       record {
@@ -248,11 +249,11 @@ module _ {H : Type 0} (tells : Bool) (world : H → World) (faults : H → Chann
         later = later;
         quiet = quiet;
         doubt = doubted ∙ ap is_some (sym left.1);
-        slot = does.slot;
-        unsure = doubt-writer n does.answer does.work.records before.writer after.writer does.event does.after_is ∙ sym doubted;
+        slot = does.leaves.slot;
+        unsure = doubt-writer n does.answer does.work.records before.writer after.writer does.event does.leaves.after_is ∙ sym doubted;
         written = written;
-        output = λ t. (does.run t).now.output;
-        calls = calls-unsealed e a refl refl refl failed (λ t. does.run t);
+        output = λ t. (does.leaves.run t).now.output;
+        calls = calls-unsealed e a refl refl refl failed (λ t. does.leaves.run t);
       }
 
   -- none is told again, where none stands

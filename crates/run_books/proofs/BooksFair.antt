@@ -42,7 +42,7 @@ use Rattle.settler_rules.proofs.LoggedUnits.{shown-fit, fits-program, as-written
 use Rattle.settler_rules.proofs.NextVote.{other-grain, vote-made, shown-any}
 use Rattle.settler_rules.proofs.StandingVotes.{left-later}
 use Rattle.settler_rules.proofs.ToldOf.{told-by-then}
-use Rattle.settle_loop.specs.HostSteps.{KeepsVotes}
+use Rattle.batch_disk.specs.VoteAnswers.{KeepsVotes}
 use Rattle.settle_loop.specs.StepJournal.{IsFair}
 use Rattle.run_books.specs.Beginnings.{Outset, basis_of}
 use Rattle.run_books.proofs.BooksImages.{vote-kept}

@@ -36,7 +36,8 @@ use Rattle.promise_spec.specs.UnitRule.{KeepsUnitRule}
 use Rattle.promise_spec.specs.Journals.{CutAt, entries_of}
 use Rattle.promise_spec.proofs.Doubts.{doubt_left}
 use Rattle.settle_loop.specs.ShownWork.{tells_entry, tells_doubt, has_applied, counted_up}
-use Rattle.settle_loop.specs.HostSteps.{WritesEntry, CutsEntry, DoesFor, MakesNoCall, LacksRoom}
+use Rattle.batch_disk.specs.VoteAnswers.{LacksRoom}
+use Rattle.settle_loop.specs.HostSteps.{WritesEntry, CutsEntry, DoesFor, MakesNoCall}
 use Rattle.settle_loop.specs.SettlerStep.{state_shown, has_unwritten, LooksOn, PutsNext, IsBrokenOff, LacksForVote, IsNotTaken, TurnsAs}
 use Rattle.settle_loop.specs.declared.settler.Settler.{Settler}
 use Rattle.settle_loop.specs.declared.settler.Turned.{Turned}

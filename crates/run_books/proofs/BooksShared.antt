@@ -33,7 +33,8 @@ use Rattle.worker_rules.proofs.Workers.{work-settles}
 use Rattle.promise_spec.specs.Programs.{shape_in}
 use Rattle.promise_spec.specs.UnitRule.{KeepsUnitRule}
 use Rattle.settle_loop.specs.ShownWork.{tells_entry, tells_doubt, has_applied, counted_up}
-use Rattle.settle_loop.specs.HostSteps.{CutsEntry, DoesFor, LacksRoom, MakesNoCall}
+use Rattle.batch_disk.specs.VoteAnswers.{LacksRoom}
+use Rattle.settle_loop.specs.HostSteps.{CutsEntry, DoesFor, MakesNoCall}
 use Rattle.settle_loop.specs.SettlerStep.{written_after, doubted_after, LooksOn, PutsNext, IsNotTaken, TurnsAs}
 use Rattle.settle_loop.specs.declared.settler.Settler.{Settler}
 use Rattle.settle_loop.specs.declared.settler.Turned.{Turned}

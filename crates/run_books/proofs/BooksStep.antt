@@ -40,7 +40,8 @@ use Rattle.commit_log.specs.declared.gate.Sealing.TheVariants as sealing
 use Rattle.commit_log.specs.declared.records.CommitRecord.{CommitRecord}
 use Rattle.commit_log.specs.SealImages.{SealHasCause}
 use Rattle.settle_loop.specs.ShownWork.{event_of, tells_entry, tells_doubt, counted_up}
-use Rattle.settle_loop.specs.HostSteps.{MakesNoCall, VotesOn, SealsUnits, DoesFor, batch_made}
+use Rattle.batch_disk.specs.VoteAnswers.{VotesOn}
+use Rattle.settle_loop.specs.HostSteps.{MakesNoCall, SealsUnits, DoesFor, batch_made}
 use Rattle.settle_loop.specs.StepJournal.{as_settled, LeavesLogs, JournalsAs}
 use Rattle.settle_loop.specs.declared.settler.Settler.{Settler}
 use Rattle.settle_loop.proofs.StepJournal.{journals, leaves}
@@ -221,8 +222,8 @@ module _ {H : Type 0} (tells : Bool) (world : H → World) (faults : H → Chann
   seal-behind n t does was bytes left =
       let gate : ℕ = before.writer.gate_at in
       let size : ℕ = length does.work.block in
-      let next : after.writer.gate_at ≡ gate + size = next-gate n does.answer does.work.records before.writer after.writer size does.event does.cause does.after_is in
-      let crash = (does.run t).now.crash bytes left in
+      let next : after.writer.gate_at ≡ gate + size = next-gate n does.answer does.work.records before.writer after.writer size does.event does.leaves.cause does.leaves.after_is in
+      let crash = (does.leaves.run t).now.crash bytes left in
       behind-block gate size after.writer.gate_at crash.0 bytes (o.world.disk (Manager o.live)).seen next crash.2.after (was crash.0 crash.1)
 
   -- the three events without a host call
@@ -273,7 +274,7 @@ module _ {H : Type 0} (tells : Bool) (world : H → World) (faults : H → Chann
       plain-done e c refl refl refl []
       (adds-unsealed tells world faults o b r before after old new can.above can.units k n c.applied (moves-run r e c.applied) c.quiet c.written (c.doubted ∙ or-none before.doubted) does)
       (λ t head f. leaves-disk e c refl refl head f (journal-of e c refl refl makes t head f does)
-      (votes-gone e c refl refl (unsealed-gone n does.answer does.work.records before.writer after.writer does.event does.after_is))
+      (votes-gone e c refl refl (unsealed-gone n does.answer does.work.records before.writer after.writer does.event does.leaves.after_is))
       (λ none. absurd (let one = how-one is_unsealed r e refl c.applied in omega (arith, one, none)))) no-older
 
   pub by-sealed : (n : ℕ) → MakesEvent (settler_step (ends r)) (event.Sealed n) → SealsUnits tells world faults o.live n (event.Sealed n) (to_commit (ends r) (ends r).manager.batch) before.writer after.writer old new → IsCounted (event.Sealed n) → StepDone (event.Sealed n)
@@ -292,7 +293,7 @@ module _ {H : Type 0} (tells : Bool) (world : H → World) (faults : H → Chann
         bodies = f.bodies ++ body_of (Records batch) ∷ [];
         log = ap (grown f.stood) (sym (append-nil batch));
         keeps = s.disk;
-        votes = votes-gone e c refl refl (sealed-gone n does.answer does.work.records before.writer after.writer does.event does.after_is);
+        votes = votes-gone e c refl refl (sealed-gone n does.answer does.work.records before.writer after.writer does.event does.leaves.after_is);
         seals = s.seals;
         rest = s.rest;
         rest_now = s.rest_now;

@@ -1,9 +1,10 @@
 -- What may be relied on of what was seen may be relied on of what was seen before.
 use Rattle.std.proofs.Common.{◌≡◌, ◌⊎◌, ℕ, ◌<◌, ◌≤◌, ◌^◌, List, [], ◌∷◌, ◌++◌, length, Bool, true, false, refl, sym, ap, ◌∙◌, subst, arith, length-append, append-nil, append_assoc}
+use Rattle.base_types.specs.Lists.{Member}
 use Rattle.core_model.specs.LegalRuns.{Run, ends}
 use Rattle.core_model.specs.declared.events.CoreEvent.{CoreEvent}
 use Rattle.core_model.specs.declared.events.CoreReply.{CoreReply}
-use Rattle.turn_cell.specs.History.{In, entries_of, entry}
+use Rattle.turn_cell.specs.History.{entries_of, entry}
 use Rattle.turn_cell.proofs.Lists.{in_left}
 use Rattle.core_access.specs.Histories.{Told, run_after}
 use Rattle.core_access.specs.Sights.{Sight, run_seen, Looks, Tells, Counts, IsAlone}
@@ -107,10 +108,10 @@ module _ (s t : Sight) (on : SeesOn s t) where
   pub alone-before : (harmless : CoreEvent → Bool) → Counts s → IsAlone harmless t → IsAlone harmless s
   alone-before harmless c a = record { others = others; own = own-same }
     where
-      others : (x : Told) → In x s.seen → (x.by ≡ s.number) ⊎ (harmless x.event ≡ true)
+      others : (x : Told) → Member x s.seen → (x.by ≡ s.number) ⊎ (harmless x.event ≡ true)
       others x i =
           subst (λ (n : List ℕ). (x.by ≡ n) ⊎ (harmless x.event ≡ true)) on.number
-          (a.others x (subst (In x) (sym on.seen) (in_left x s.seen on.rest i)))
+          (a.others x (subst (Member x) (sym on.seen) (in_left x s.seen on.rest i)))
 
       whole : entries_of s.number s.seen ++ entries_of s.number on.rest ≡ s.mine ++ on.own
       whole = sym (entries-append s.number s.seen on.rest) ∙ (λ i. entries_of (sym on.number i) (sym on.seen i)) ∙ a.own ∙ on.mine

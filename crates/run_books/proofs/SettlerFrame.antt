@@ -24,7 +24,8 @@ use Rattle.core_model.specs.declared.events.CoreEvent.{CoreEvent}
 use Rattle.core_model.specs.declared.events.CoreEvent.TheVariants.{Vote, Sealed, NotSealed, Doubt, Emitted}
 use Rattle.core_access.specs.Sights.{Sight}
 use Rattle.batch_disk.specs.declared.writer.BatchWriter.{BatchWriter}
-use Rattle.settle_loop.specs.HostSteps.{HasVoteCause, HasLine, VotesOn, SealsUnits, WritesEntry, DoesFor}
+use Rattle.batch_disk.specs.VoteAnswers.{HasVoteCause, VotesOn}
+use Rattle.settle_loop.specs.HostSteps.{HasLine, SealsUnits, WritesEntry, DoesFor}
 use Rattle.settle_loop.specs.SettlerStep.{IsBrokenOff, TurnsAs, state_shown}
 use Rattle.settle_loop.specs.declared.settler.Settler.{Settler}
 use Rattle.settle_loop.specs.declared.settler.Turned.{Turned}
@@ -129,13 +130,13 @@ module _ {H : Type 0} (hush tells : Bool) (world : H → World) (faults : H → 
       by false failed = leaves-file (Grain live g) failed goes hushed
 
   seals-leave : (live n : ℕ) (e : CoreEvent) (effects : List Effect) (before after : BatchWriter) → SealsUnits tells world faults live n e effects before after old new → LeavesHost hush tells world faults old new
-  seals-leave live n e effects before after s = by s.answer s.cause
+  seals-leave live n e effects before after s = by s.answer s.leaves.cause
     where
       goes : IsTrue tells → GoesWith (world old) (world new)
-      goes t = file-goes _ _ _ (world old) (world new) (s.run t)
+      goes t = file-goes _ _ _ (world old) (world new) (s.leaves.run t)
 
       hushed : hush ≡ true → IsTrue tells → IsHushed (world old) (world new)
-      hushed h t = file-hushed _ _ _ (world old) (world new) (s.run t)
+      hushed h t = file-hushed _ _ _ (world old) (world new) (s.leaves.run t)
 
       by : (a : Sealing) → SealHasCause live a before.gate_at (length s.work.block) (faults old) (faults new) → LeavesHost hush tells world faults old new
       by (sealing.Sealed next) c = leaves-calm c.1.1 goes hushed

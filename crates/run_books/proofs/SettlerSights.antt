@@ -2,9 +2,9 @@
 use Rattle.std.proofs.Common.{◌≡◌, inl, inr, ⊎_elim, ℕ, List, [], ◌∷◌, Bool, true, false, refl, sym, ap, ◌∙◌, subst}
 use Rattle.std.specs.Prelude.{Result, Ok, Err, ◌&&◌}
 use Rattle.base_types.specs.declared.shapes.Shape.{Shape}
+use Rattle.base_types.specs.Lists.{Member}
 use Rattle.host_trait.specs.declared.channels.Channel.{Channel}
 use Rattle.host_trait.specs.World.{World}
-use Rattle.turn_cell.specs.History.{In}
 use Rattle.turn_cell.proofs.Histories.{in_entries}
 use Rattle.core_model.specs.declared.events.CoreEvent.{CoreEvent}
 use Rattle.core_model.specs.declared.events.CoreEvent.TheVariants.{Halt}
@@ -56,14 +56,14 @@ going-one r e none = by (applies (ends r) e) refl
     by true a = (moves-run r e a).halt (not-halt e none)
     by false a = ap (λ w. w.units.halt) (unapplied-run r e a)
 
-pub going-all : (rest : List Told) (r : Run) → ((x : Told) → In x rest → x.event ≡ Halt → ⊥) → (ends (run_after r rest)).units.halt ≡ (ends r).units.halt
+pub going-all : (rest : List Told) (r : Run) → ((x : Told) → Member x rest → x.event ≡ Halt → ⊥) → (ends (run_after r rest)).units.halt ≡ (ends r).units.halt
 going-all [] r none = refl
 going-all (x ∷ rest) r none = going-all rest (extended r (x.event ∷ [])) (λ y i. none y (inr i)) ∙ going-one r x.event (none x (inl refl))
 
 -- where others put lines' and units' events alone
-pub none-stopped : (s : Sight) → (ends s.first).units.halt ≡ false → IsAlone is_work s → ((x : Told) → In x s.mine → x.event ≡ Halt → ⊥) → (ends (run_seen s)).units.halt ≡ false
+pub none-stopped : (s : Sight) → (ends s.first).units.halt ≡ false → IsAlone is_work s → ((x : Told) → Member x s.mine → x.event ≡ Halt → ⊥) → (ends (run_seen s)).units.halt ≡ false
 none-stopped s going alone mine =
     going-all s.seen s.first (λ x i. ⊎_elim
-    (λ (own : x.by ≡ s.number). mine x (subst (In x) alone.own (in_entries s.seen s.number x (sym own) i)))
+    (λ (own : x.by ≡ s.number). mine x (subst (Member x) alone.own (in_entries s.seen s.number x (sym own) i)))
     (λ (work : is_work x.event ≡ true). work-stops x.event work)
     (alone.others x i)) ∙ going

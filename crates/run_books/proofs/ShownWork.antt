@@ -25,7 +25,8 @@ use Rattle.core_access.proofs.SettlerEvents.{others-leave}
 use Rattle.promise_spec.specs.UnitRule.{Basis, KeepsUnitRule}
 use Rattle.settler_rules.proofs.SealWork.{shown-stay}
 use Rattle.batch_disk.specs.declared.writer.BatchWriter.{BatchWriter}
-use Rattle.settle_loop.specs.HostSteps.{SealsUnits, VotesOn, DoesFor}
+use Rattle.batch_disk.specs.VoteAnswers.{VotesOn}
+use Rattle.settle_loop.specs.HostSteps.{SealsUnits, DoesFor}
 use Rattle.run_books.proofs.BooksSettled.{is_of_batch}
 use Rattle.run_books.proofs.Fronts.{after-units, get-front}
 use Rattle.run_books.proofs.ShownVersions.{versions-stay}

@@ -1,5 +1,5 @@
 -- How the record of a run is that of a whole run's course.
-use Rattle.std.specs.Prelude.{◌≡◌, ◌⊎◌, ◌≤◌, ℕ, length, Result, Ok, Err}
+use Rattle.std.specs.Prelude.{◌≡◌, ◌⊎◌, ◌≤◌, ℕ, Bool, length, Result, Ok, Err}
 use Rattle.host_trait.specs.declared.channels.FileId.{FileId}
 use Rattle.host_trait.specs.declared.channels.FileId.TheVariants.{Manager}
 use Rattle.core_model.specs.LegalRuns.{Run, ends}
@@ -8,10 +8,13 @@ use Rattle.promise_spec.specs.Endings.{Ending, Done, WriteFault as Unwritten, Di
 use Rattle.promise_spec.specs.Courses.{Observed, Course, core_run}
 use Rattle.promise_spec.specs.Explanation.{FileMayEndInDoubt}
 use Rattle.promise_spec.specs.Journals.{commits_of, entries_of}
+use Rattle.settle_loop.specs.declared.settler.Settler.{Settler}
 use Rattle.run_books.specs.declared.faults.RunFault.{RunFault}
 use Rattle.run_books.specs.declared.faults.RunFault.TheVariants.{InDoubt, WriteFault, Memory}
 use Rattle.run_books.specs.Beginnings.{Outset}
 use Rattle.run_books.specs.Books.{Books, booked_journal}
+use Rattle.run_books.specs.Records.{KeepsRecord}
+use Rattle.run_books.specs.Stages.{stage_by}
 
 -- the ending of a whole run in this slot whose turns were answered so
 abbrev pub turns_ending : {T : Type 0} → ℕ → Result T RunFault → Ending
@@ -40,3 +43,8 @@ pub record IsCourseOf (o : Outset) (b : Books) (r : Run) (seen : Observed) (c : 
   pub picks : seen.manner.picks ≡ o.picks
   pub before : seen.faults_before ≡ o.faults
   pub output : seen.old.output ≡ o.world.output
+
+-- The record of a run is kept where a whole run was seen to end, and this is that run's course.
+pub record IsRecorded (tells : Bool) (o : Outset) (b : Books) (r : Run) (settler : Settler) (seen : Observed) (c : Course) : Type 0 where
+  pub kept : KeepsRecord tells o b (stage_by r settler seen.faults_after seen.new)
+  pub course : IsCourseOf o b r seen c

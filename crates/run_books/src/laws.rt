@@ -17,30 +17,36 @@ ghost use Rattle.run_books.specs.declared.faults.RunFault.{RunFault as AFault};
 ghost use Rattle.run_books.specs.Beginnings.{Outset};
 ghost use Rattle.run_books.specs.Books.{Books};
 ghost use Rattle.run_books.specs.Images.{LastsSo};
-ghost use Rattle.run_books.specs.Records.{KeepsFile, KeepsRecord, HasCarriedAll, TurnsEndAs};
-ghost use Rattle.run_books.specs.RunCourse.{EndsSo, IsCourseOf, turns_ending};
-ghost use Rattle.run_books.specs.Stages.{Stage, stage_by};
+ghost use Rattle.run_books.specs.Records.{KeepsFile, HasCarriedAll, TurnsEndAs};
+ghost use Rattle.run_books.specs.RunCourse.{EndsSo, IsRecorded, turns_ending};
+ghost use Rattle.run_books.specs.Stages.{Stage};
 
-/// What the record of a run says, however it ended, is what a whole run has to show over any folder: that the core's events explain
-/// what it did, where those of one thread keep the turn rule; that a grain's file is written for a vote alone; that what it wrote is
-/// what is settled; and, where the images keep the books, what has to last. A run may end as its turns were answered, and where all so
-/// far was carried in any way but by a file's fault.
-pub fn records_show<T>()
-    ensures by_turns { (o : Outset) (b : Books) (s : Stage) (result : AResult T AFault) (ending : Ending) → TurnsEndAs o b s result → ending ≡ turns_ending o.live result
+/// A run may end as its turns were answered, and where all so far was carried in any way but by a file's fault.
+pub fn runs_end_so<T>()
+    ensures by_turns { (o : Outset) (b : Books) (s : Stage) (result : AResult T AFault) (ending : Ending) → TurnsEndAs o b s result
+        → ending ≡ turns_ending o.live result
         → EndsSo o s.run ending }
     ensures carried { (o : Outset) (s : Stage) (ending : Ending) → HasCarriedAll o s → (IsDiskFault ending → ⊥) → EndsSo o s.run ending }
-    ensures explains { (tells : Bool) (o : Outset) (b : Books) (r : Run) (settler : ASettler) (seen : Observed) (c : Course)
-        → KeepsRecord tells o b (stage_by r settler seen.faults_after seen.new) → EndsSo o r seen.ending
-        → (seen.manner.threaded ≡ false → KeepsTurnRule o.program.types seen.windowed c.allowed o.width o.picks r)
-        → IsCourseOf o b r seen c → LeavesUnvoted c.live o.program seen c → ExplainsEvents o.program seen c }
-    ensures unvoted { (p : AProgram) (seen : Observed) (c : Course) (mid : World) → IsBehind seen c mid
+{}
+
+/// A grain's file is written for a vote alone.
+pub fn unvoted_files_stay()
+    ensures { (p : AProgram) (seen : Observed) (c : Course) (mid : World) → IsBehind seen c mid
         → ((g : GrainId) → how_many (is_vote_of g) (core_run p c) ≡ 0 → KeepsFile (Grain c.live g) mid seen.new) → LeavesUnvoted c.live p seen c }
+{}
+
+/// What the record of a run says, however it ended, is what a whole run has to show over any folder: that the core's events explain
+/// what it did, where those of one thread keep the turn rule; that what it wrote is what is settled; and, where the images keep the
+/// books, what has to last.
+pub fn records_show()
+    ensures explains { (tells : Bool) (o : Outset) (b : Books) (r : Run) (settler : ASettler) (seen : Observed) (c : Course)
+        → IsRecorded tells o b r settler seen c → EndsSo o r seen.ending
+        → (seen.manner.threaded ≡ false → KeepsTurnRule o.program.types seen.windowed c.allowed o.width o.picks r)
+        → LeavesUnvoted c.live o.program seen c → ExplainsEvents o.program seen c }
     ensures settled { (tells : Bool) (o : Outset) (b : Books) (r : Run) (settler : ASettler) (seen : Observed) (c : Course)
-        → settler.quiet ≡ false → KeepsRecord tells o b (stage_by r settler seen.faults_after seen.new) → EndsSo o r seen.ending
-        → IsCourseOf o b r seen c → AreSettled o.program seen c }
+        → settler.quiet ≡ false → IsRecorded tells o b r settler seen c → EndsSo o r seen.ending → AreSettled o.program seen c }
     ensures lasts { (tells : Bool) (o : Outset) (head : AList ℕ) (b : Books) (r : Run) (settler : ASettler) (seen : Observed) (c : Course)
-        → tells ≡ true → KeepsRecord tells o b (stage_by r settler seen.faults_after seen.new)
-        → LastsSo o head b r settler.writer seen.new → IsCourseOf o b r seen c
+        → tells ≡ true → IsRecorded tells o b r settler seen c → LastsSo o head b r settler.writer seen.new
         → head ≡ take 15 (seen_at_entry seen (Manager c.live)) → IsBehind seen c o.world → Opens seen c → ReadsMayStay seen.new
         → Lasts o.program seen c }
 {}

@@ -13,7 +13,8 @@ ghost use Rattle.run_books.specs.Stages.{Stage};
 /// A run that is asked more lines keeps its record, and its images keep what they kept. Behind whole windows it keeps the turn rule too.
 /// No more lines have begun than are asked.
 pub fn records_go_on_over_more_lines()
-    ensures record_kept { (tells : Bool) (o : Outset) (more : List (List ℕ)) (b : Books) (s : Stage) → KeepsRecord tells o b s → KeepsRecord tells (with_more o more) b s }
+    ensures record_kept { (tells : Bool) (o : Outset) (more : List (List ℕ)) (b : Books) (s : Stage) → KeepsRecord tells o b s
+        → KeepsRecord tells (with_more o more) b s }
     ensures lasts { (o : Outset) (more : List (List ℕ)) (head : List ℕ) (b : Books) (r : Run) (writer : AWriter) (now : World) → LastsSo o head b r writer now
         → LastsSo (with_more o more) head b r writer now }
     ensures turns { (o : Outset) (more : List (List ℕ)) (r : Run) → KeepsUnitRule (basis_of o) r → at_seam o.windowed (length o.asked) ≡ true

@@ -1,10 +1,10 @@
-ghost use Rattle.std.specs.Prelude.{◌≡◌, ◌⊎◌, false, Bool, Result as AResult};
+ghost use Rattle.std.specs.Prelude.{◌≡◌, false, Bool, Result as AResult};
 ghost use Rattle.base_types.specs.declared.shapes.Shape.{Shape as AShape};
+ghost use Rattle.base_types.specs.Lists.{Member};
 ghost use Rattle.core_model.specs.LegalRuns.{ends};
 ghost use Rattle.core_model.specs.declared.events.CoreEvent.{CoreEvent as AnEvent};
 ghost use Rattle.core_model.specs.declared.events.CoreEvent.TheVariants.{Halt};
 ghost use Rattle.core_model.specs.declared.events.CoreReply.{CoreReply as AReply};
-ghost use Rattle.turn_cell.specs.History.{In};
 ghost use Rattle.core_access.specs.Histories.{Told};
 ghost use Rattle.core_access.specs.Sights.{Sight, run_seen, Looks, Tells, Counts, IsAlone};
 ghost use Rattle.worker_rules.specs.Work.{is_work};
@@ -46,6 +46,6 @@ pub fn calls_see_on<H: Host, E>()
 
 /// Where others put lines' and units' events alone, and none of one's own is a stop, the run isn't stopped.
 pub fn none_stops()
-    ensures { (s : Sight) → (ends s.first).units.halt ≡ false → IsAlone is_work s → ((x : Told) → In x s.mine → x.event ≡ Halt → ⊥)
+    ensures { (s : Sight) → (ends s.first).units.halt ≡ false → IsAlone is_work s → ((x : Told) → Member x s.mine → x.event ≡ Halt → ⊥)
         → (ends (run_seen s)).units.halt ≡ false }
 {}

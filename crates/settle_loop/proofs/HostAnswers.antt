@@ -1,15 +1,12 @@
 -- What is made of the host's answers, case by case.
-use Rattle.std.proofs.Common.{◌≡◌, ◌⊎◌, inl, inr, ℕ, List, ◌++◌, Bool, true, false, refl, sym, subst}
-use Rattle.std.specs.Prelude.{Result, Ok, Err, IsErr, if◌then◌else◌}
+use Rattle.std.proofs.Common.{◌≡◌, ◌⊎◌, inl, inr, ℕ, List, Bool, true, false, refl, sym, subst}
+use Rattle.std.specs.Prelude.{Result, Ok, Err, IsErr}
 use Rattle.base_types.specs.declared.calls.GrainId.{GrainId}
 use Rattle.base_types.specs.declared.calls.UnitNo.{UnitNo}
 use Rattle.base_types.specs.declared.entries.Entry.{Entry}
 use Rattle.base_types.specs.declared.shapes.Shape.{Shape}
 use Rattle.base_types.specs.declared.stores.Version.{Version}
 use Rattle.host_trait.specs.declared.channels.Channel.{Channel}
-use Rattle.host_trait.specs.declared.channels.Channel.TheVariants.{File}
-use Rattle.host_trait.specs.declared.channels.FileId.TheVariants.{Grain}
-use Rattle.host_trait.specs.Faults.{NoneFailed, FailedOn}
 use Rattle.host_trait.specs.World.{World}
 use Rattle.commit_log.specs.declared.gate.Sealing.{Sealing}
 use Rattle.commit_log.specs.declared.gate.Sealing.TheVariants as sealing
@@ -19,25 +16,12 @@ use Rattle.core_model.specs.declared.events.CoreEvent.{CoreEvent}
 use Rattle.core_model.specs.declared.events.CoreEvent.TheVariants.{Vote, Decide, Sealed, NotSealed, Doubt, Learn, Emitted, Take}
 use Rattle.core_model.specs.Settler.{Step, Decides, Seals, Learns, Takes, settler_step, MakesEvent, to_commit}
 use Rattle.core_model.specs.declared.questions.SettlerWork.TheVariants as work
-use Rattle.batch_disk.specs.ImagesAtRest.{voted_from}
-use Rattle.batch_disk.specs.Writers.{file_end, voted_of}
-use Rattle.batch_disk.specs.declared.writer.BatchWriter.{BatchWriter}
 use Rattle.settle_loop.specs.ShownWork.{ShowsWork, event_of, tells_doubt, tells_entry}
-use Rattle.settle_loop.specs.HostSteps.{HasVoteCause, KeepsVotes, VotesOn, LacksRoom, SealsUnits, WritesEntry, DoesFor}
+use Rattle.batch_disk.specs.VoteAnswers.{VotesOn, LacksRoom}
+use Rattle.settle_loop.specs.HostSteps.{SealsUnits, WritesEntry, DoesFor}
 use Rattle.settle_loop.specs.StepParts.{with_writer, IsToTell, LacksVersions, MadeAs}
 use Rattle.settle_loop.specs.declared.cases.Made.{Made}
 use Rattle.settle_loop.specs.declared.settler.Settler.{Settler}
-
--- the cause of a vote, by its two kinds
-pub vote_cause : (live : ℕ) (g : GrainId) (kept : Bool) (f0 f1 : Channel → ℕ) → (kept ≡ true → NoneFailed f0 f1) → (kept ≡ false → FailedOn (File (Grain live g)) f0 f1) → HasVoteCause live g kept f0 f1
-vote_cause live g true f0 f1 calm fault = calm refl
-vote_cause live g false f0 f1 calm fault = fault refl
-
--- and what is kept
-pub vote_kept : (kept : Bool) (n : ℕ) (g : GrainId) (versions : List Version) (before after : BatchWriter)
-    → voted_of n after ≡ (if kept then voted_of n before ++ voted_from g (file_end before g) versions else voted_of n before) → KeepsVotes kept n g versions before after
-vote_kept true n g versions before after is = is
-vote_kept false n g versions before after is = is
 
 module _ {H : Type 0} (tells : Bool) (world : H → World) (faults : H → Channel → ℕ) (shape : Shape) (w : CoreState) (before after : Settler) (old new : H) (same : after ≡ with_writer before after) where
   -- a vote

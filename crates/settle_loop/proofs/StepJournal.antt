@@ -26,7 +26,8 @@ use Rattle.batch_disk.specs.declared.writer.BatchWriter.{BatchWriter}
 use Rattle.batch_disk.proofs.WriterState.{keeps_log}
 use Rattle.batch_disk.proofs.Journal.{as_it_was, seals_on, doubt_on}
 use Rattle.settle_loop.specs.ShownWork.{event_of}
-use Rattle.settle_loop.specs.HostSteps.{MakesNoCall, VotesOn, SealsUnits, DoubtsAgain, WritesEntry, DoesFor, batch_made}
+use Rattle.batch_disk.specs.VoteAnswers.{VotesOn}
+use Rattle.settle_loop.specs.HostSteps.{MakesNoCall, SealsUnits, DoubtsAgain, WritesEntry, DoesFor, batch_made}
 use Rattle.settle_loop.specs.StepJournal.{IsFair, as_settled, LeavesLogs, SealsBatch, DoubtsBatch, JournalsAs}
 
 -- ---- what holds at each moment holds now
@@ -102,7 +103,7 @@ module _ {H : Type 0} (tells : Bool) (told : tells ≡ true) (world : H → Worl
   -- a seal, by its answer
   seals : (n : ℕ) (e : CoreEvent) → settler_step w ≡ SealStep n → (x : SealsUnits tells world faults live n e (to_commit w w.manager.batch) before after old new)
       → SealsAs live (shape_in p) head log bodies (to_commit w w.manager.batch) x.work.records x.answer before after (world old) (world new)
-  seals n e is x = let facts = fair.seal n is in x.seals told (shape_in p) head log bodies facts.0 facts.1 keeps
+  seals n e is x = let facts = fair.seal n is in x.leaves.seals told (shape_in p) head log bodies n (to_commit w w.manager.batch) x.records facts.0 facts.1 keeps
 
   by_sealed : (n : ℕ) (made : List CommitRecord) (a : Sealing) → event.Sealed n ≡ event_of n a → (world new).output ≡ (world old).output → Arrives (world old) (world new)
       → SealsAs live (shape_in p) head log bodies (to_commit w w.manager.batch) made a before after (world old) (world new) → SealsBatch live p head log bodies before after (world old) (world new) (to_commit w w.manager.batch) (commits_by (to_commit w w.manager.batch) made)
@@ -137,7 +138,7 @@ module _ {H : Type 0} (tells : Bool) (told : tells ≡ true) (world : H → Worl
   -- a doubt, of this seal or an earlier one
   doubt_or_not : (n : ℕ) (quiet : Bool) → settler_step w ≡ SealStep n → (does : SealsUnits tells world faults live n (event.Doubt n) (to_commit w w.manager.batch) before after old new ⊎ DoubtsAgain tells world faults before after old new)
       → DoubtsBatch live p head log bodies before after (world old) (world new) before.gate_at (to_commit w w.manager.batch) (batch_made tells world faults live (event.Doubt n) quiet (shape_in p) w before after old new does) ⊎ (world new ≡ world old)
-  doubt_or_not n quiet is (inl x) = inl (by_doubt n x.work.records x.answer x.event (x.run told).now.output (x.run told).clock (seals n (event.Doubt n) is x))
+  doubt_or_not n quiet is (inl x) = inl (by_doubt n x.work.records x.answer x.event (x.leaves.run told).now.output (x.leaves.run told).clock (seals n (event.Doubt n) is x))
   doubt_or_not n quiet is (inr d) = inr (ap world d.none.host)
 
   -- an entry
@@ -161,10 +162,10 @@ module _ {H : Type 0} (tells : Bool) (told : tells ≡ true) (world : H → Worl
       (sym m) (λ none. by_none none) does
   journals quiet (SealStep n) e is (inl m) does =
       subst (Journal quiet)
-      (sym m) (λ x. by_sealed n x.work.records x.answer x.event (x.run told).now.output (x.run told).clock (seals n (event.Sealed n) is x)) does
+      (sym m) (λ x. by_sealed n x.work.records x.answer x.event (x.leaves.run told).now.output (x.leaves.run told).clock (seals n (event.Sealed n) is x)) does
   journals quiet (SealStep n) e is (inr (inl m)) does =
       subst (Journal quiet)
-      (sym m) (λ x. by_not_sealed n x.work.records x.answer x.event (x.run told).now.output (x.run told).clock (seals n (event.NotSealed n) is x)) does
+      (sym m) (λ x. by_not_sealed n x.work.records x.answer x.event (x.leaves.run told).now.output (x.leaves.run told).clock (seals n (event.NotSealed n) is x)) does
   journals quiet (SealStep n) e is (inr (inr m)) does =
       subst (Journal quiet)
       (sym m) (λ d. doubt_or_not n quiet is d) does

@@ -12,7 +12,8 @@ use Rattle.core_model.specs.Settler.{settler_step, MakesEvent, Votes, Writes, Re
 use Rattle.core_access.specs.Sights.{Sight, run_seen, Looks, Tells}
 use Rattle.core_access.specs.CallsWithoutMemory.{is_spared}
 use Rattle.settle_loop.specs.ShownWork.{tells_entry, tells_doubt, has_applied, counted_up}
-use Rattle.settle_loop.specs.HostSteps.{LacksRoom, CutsEntry, DoesFor}
+use Rattle.batch_disk.specs.VoteAnswers.{LacksRoom}
+use Rattle.settle_loop.specs.HostSteps.{CutsEntry, DoesFor}
 use Rattle.settle_loop.specs.declared.settler.Settler.{Settler}
 use Rattle.settle_loop.specs.declared.settler.Turned.{Turned}
 use Rattle.settle_loop.specs.declared.settler.Turned.TheVariants.{Stepped, Nothing, Stop}

@@ -185,7 +185,8 @@ impl Settler {
     ) -> Result<Made, AllocError>
         requires bounds { IsInBounds self.old.writer }
         requires fits { IsTrue H.tells → FitsDisk self.old.writer (H.world host.old).disk }
-        ensures made { (w : CoreState) → ShowsWork w (settler_step w) work → MadeAs H.tells H.world H.faults shape.now w self.old self.new host.old host.new result }
+        ensures made { (w : CoreState) → ShowsWork w (settler_step w) work
+            → MadeAs H.tells H.world H.faults shape.now w self.old self.new host.old host.new result }
         ensures bounds { IsInBounds self.new.writer }
         ensures fits { IsTrue H.tells → FitsDisk self.new.writer (H.world host.new).disk }
         ensures ready { StaysReady (H.is_ready host.old) (H.is_ready host.new) }

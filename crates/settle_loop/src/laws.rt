@@ -23,7 +23,8 @@ use host_trait::Host;
 /// longer by its line; each other event leaves logs and output as they are, at each moment. The writer keeps the disk again,
 /// unless the batch is in doubt.
 pub fn steps_are_journaled<H: Host>()
-    ensures { (may : AnEvent → Bool) (p : Program) (head : List ℕ) (log : Log) (bodies : List (List ℕ)) (before after : ASettler) (s : Sight) (e : AnEvent) (old new : H)
+    ensures { (may : AnEvent → Bool) (p : Program) (head : List ℕ) (log : Log) (bodies : List (List ℕ)) (before after : ASettler) (s : Sight)
+        (e : AnEvent) (old new : H)
         → IsTrue H.tells → (a : ActsNext H.tells H.world H.faults may (shape_in p) before after s e old new)
         → IsFair (shape_in p) before.writer (state_shown a.seen) → KeepsDisk before.writer.slot (shape_in p) head log bodies before.writer (H.world old).disk
         → JournalsAs before.writer.slot p head log bodies before.writer after.writer (H.world old) (H.world new) e before.quiet (state_shown a.seen)

@@ -171,7 +171,8 @@ impl Settler {
         ensures kept { StaysFit (A.is_fit access.new) (A.aside access.old) (A.aside access.new) }
 
         // What it did to the core and to the host, for each answer and for want of memory.
-        ensures turns { TurnsAs H.tells H.world H.faults A.may_come shape.now self.old self.new (A.sight access.old) (A.sight access.new) host.old host.new result }
+        ensures turns { TurnsAs H.tells H.world H.faults A.may_come shape.now self.old self.new (A.sight access.old) (A.sight access.new) host.old
+            host.new result }
 
         ensures bounds { IsInBounds self.new.writer }
         ensures fits { IsTrue H.tells → FitsDisk self.new.writer (H.world host.new).disk }

@@ -10,10 +10,11 @@ use Rattle.host_trait.proofs.Crashes.{Tears-at, Tears-trans, Tears-wider}
 use Rattle.host_trait.proofs.Runs.{Change, settled_image, run_one_write, run_wrote, run_weaker}
 use Rattle.gate_block.specs.Log.{LogsUpTo, first_gate}
 use Rattle.gate_block.proofs.Logs.{no_blocks, logged}
+use Rattle.silo_spec.specs.OtherSlot.{IsShutFile}
 use Rattle.silo_spec.specs.Silos.{manager, program_file, IsSilo, HasProgram, IsNewSilo, new_header}
 use Rattle.promise_spec.specs.Logs.{magic}
 use Rattle.silo_spec.specs.Creation.{IsNewAt, IsMade}
-use Rattle.silo_opening.specs.Steps.{LacksSilo, HasNoSilo, IsShut}
+use Rattle.silo_opening.specs.Steps.{LacksSilo, HasNoSilo}
 use Rattle.silo_opening.proofs.GateClosing.{changes_lacks}
 
 log_apart : manager ≢ program_file
@@ -89,7 +90,7 @@ lacks_program text w lacks m changes = changes_lacks magic program_file (Tears 0
 pub lacks_log : (R : Change) (w : World) → LacksSilo magic 1 (moment_of w) → (m : Moment) → ChangesFile manager R w m → LacksSilo magic 1 m
 lacks_log R w lacks m changes = changes_lacks magic manager R 1 (λ e. absurd cc) w lacks m changes
 
-module _ (text : List ℕ) (w0 : World) (shut : IsShut (w0.disk manager)) where
+module _ (text : List ℕ) (w0 : World) (shut : IsShutFile (w0.disk manager)) where
   -- while the program file is written the gate is closed in each image
   pub program_shut : (m : Moment) → ChangesFile program_file (Tears 0 (4 + length text)) w0 m → LacksSilo magic 0 m
   program_shut m changes image is silo =

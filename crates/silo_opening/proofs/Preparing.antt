@@ -3,10 +3,11 @@ use Rattle.std.proofs.Common.{◌≡◌, ◌≢◌, ◌⊎◌, inl, inr, ℕ, �
 use Rattle.host_trait.specs.declared.channels.FileId.TheVariants.{Manager}
 use Rattle.host_trait.specs.Disk.{FileState, settled, overlaid}
 use Rattle.host_trait.specs.World.{World, Disk}
+use Rattle.silo_spec.specs.OtherSlot.{IsShutFile}
 use Rattle.silo_spec.specs.Silos.{manager, IsSilo}
 use Rattle.silo_opening.specs.declared.creation.Front.{Front}
 use Rattle.silo_opening.specs.declared.creation.Front.TheVariants.{Empty, Silo, Open, Closed}
-use Rattle.silo_opening.specs.Steps.{ShowsFront, syncs_for, ReadsSilo, IsShut}
+use Rattle.silo_opening.specs.Steps.{ShowsFront, syncs_for, ReadsSilo}
 use Rattle.silo_opening.proofs.GateClosing.{MayBeClosed, otherwise_no_silo}
 
 -- a file with bytes isn't empty
@@ -42,14 +43,14 @@ module _ (magic : List ℕ) where
   may_close Closed other unclosed old mid shows seen lasts = absurd (unclosed refl)
 
   -- one that is closed
-  pub closed_shut : (front : Front) → front ≡ Closed → (old mid : World) → ShowsFront magic front (old.disk manager).seen → ((old.disk manager).seen ≢ [] → mid.disk manager ≡ settled (old.disk manager).seen) → IsShut (mid.disk manager)
+  pub closed_shut : (front : Front) → front ≡ Closed → (old mid : World) → ShowsFront magic front (old.disk manager).seen → ((old.disk manager).seen ≢ [] → mid.disk manager ≡ settled (old.disk manager).seen) → IsShutFile (mid.disk manager)
   closed_shut front is old mid shows lasts =
       let shut : ShowsFront magic Closed (old.disk manager).seen = subst (λ (f : Front). ShowsFront magic f (old.disk manager).seen) is shows in
-      subst IsShut (sym (lasts (some_bytes (old.disk manager).seen shut.0))) (record { lasts = refl; some = shut.0; closed = shut.1 })
+      subst IsShutFile (sym (lasts (some_bytes (old.disk manager).seen shut.0))) (record { lasts = refl; some = shut.0; closed = shut.1 })
 
 -- and one that was closed
-pub gate_shut : (bytes : List ℕ) (file : FileState) → file ≡ settled (overlaid bytes 0 (0 ∷ [])) → IsShut file
-gate_shut bytes file is = subst IsShut (sym is) (record { lasts = refl; some = omega arith; closed = λ one. let wrong : 0 ≡ 1 = one in absurd cc })
+pub gate_shut : (bytes : List ℕ) (file : FileState) → file ≡ settled (overlaid bytes 0 (0 ∷ [])) → IsShutFile file
+gate_shut bytes file is = subst IsShutFile (sym is) (record { lasts = refl; some = omega arith; closed = λ one. let wrong : 0 ≡ 1 = one in absurd cc })
 
 -- a file is synced once at most
 pub syncs_low : (front : Front) → syncs_for front ≤ 1

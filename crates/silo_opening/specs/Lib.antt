@@ -1,4 +1,5 @@
 pub mod Steps
+pub mod NewSilos
 pub mod Counts
 pub mod OpenedSilo
 pub mod Inits

@@ -1,12 +1,13 @@
 -- What an opened silo is, and what its refusals say.
-use Rattle.std.specs.Prelude.{◌≡◌, ℕ, ◌≤◌, Bool, ◌&&◌, ◌==◌, nat_lt, if◌then◌else◌, List, length, map, take, drop, slice_index, bytes_eq, unwrap_or, Option, Some, None, Ok}
+use Rattle.std.specs.Prelude.{◌≡◌, ℕ, ◌+◌, ◌^◌, ◌<◌, ◌≤◌, Bool, ◌&&◌, ◌==◌, nat_lt, if◌then◌else◌, List, length, map, take, drop, slice_index, bytes_eq, unwrap_or, Option, Some, None, Ok}
 use Rattle.std.specs.List.{list_any, AllByRecursion}
 use Rattle.base_types.specs.declared.calls.GrainId.{GrainId}
 use Rattle.base_types.specs.declared.stores.Version.{Version}
 use Rattle.base_types.specs.Stores.{state_in, end_in}
 use Rattle.host_trait.specs.declared.channels.FileId.TheVariants.{Manager, Program as ProgramFile, Grain}
 use Rattle.host_trait.specs.Files.{same_grain}
-use Rattle.host_trait.specs.World.{Image}
+use Rattle.host_trait.specs.Disk.{settled}
+use Rattle.host_trait.specs.World.{World, Image}
 use Rattle.field_codec.specs.declared.formats.Format.TheVariants.{One}
 use Rattle.gate_block.specs.Gates.{IsClosedAt}
 use Rattle.gate_block.specs.Log.{gate_of}
@@ -15,10 +16,12 @@ use Rattle.commit_log.specs.Orders.{IsAscending}
 use Rattle.log_reading.specs.declared.faults.FolderFault.{FolderFault}
 use Rattle.log_reading.specs.Blocks.{LogRead, log_in_file}
 use Rattle.log_reading.specs.Versions.{named_in, named_by_grain, version_named, first_missing, latest_of}
-use Rattle.log_reading.specs.Sums.{end_after}
+use Rattle.log_reading.specs.Steps.{seen_in}
+use Rattle.log_reading.specs.Sums.{end_after, AreNear}
 use Rattle.program_file.specs.declared.faults.ProgramFileFault.{ProgramFileFault}
 use Rattle.script_tree.specs.Programs.{program_tree}
 use Rattle.silo_spec.specs.Slots.{generation}
+use Rattle.silo_spec.specs.OpenedDisks.{opening_syncs, opened_disk}
 use Rattle.promise_spec.specs.Programs.{Program, shape_in}
 use Rattle.promise_spec.specs.Entries.{Log, initial_states, standing_of}
 use Rattle.promise_spec.specs.Logs.{magic}
@@ -26,6 +29,7 @@ use Rattle.promise_spec.specs.Openings.{is_silo, log_of, Reads, opened_as}
 use Rattle.promise_spec.specs.Endings as ending
 use Rattle.silo_opening.specs.declared.faults.OpenFault.{OpenFault}
 use Rattle.silo_opening.specs.declared.opened_silo.Opened.{Opened}
+use Rattle.silo_opening.specs.Steps.{SettlesBoth}
 
 -- ---- the live slot
 
@@ -70,6 +74,23 @@ pub record IsOpenedFrom (image : Image) (o : Opened) : Type 0 where
   pub within : (grain : GrainId) (end : ℕ) → end_in o.ends grain ≡ Some end → end ≤ length (image (Grain o.slot grain))
   pub gate : gate_of (image (Manager o.slot)) ≡ o.gate_at
   pub closed : IsClosedAt o.gate_at (image (Manager o.slot))
+
+-- What an opening leaves that gave this silo: the folder reads as it; each manager file of 16 bytes or more was synced once, the live
+-- one among them, and beside that there was nothing but asking. So nothing is pending in these files, and all others are as they were.
+pub record LeavesOpened (old new : World) (o : Opened) : Type 0 where
+  pub opened : IsOpenedFrom (seen_in old.disk) o
+  pub settles : SettlesBoth old new
+  pub left : new.disk ≡ opened_disk old.disk
+  pub settled : new.disk (Manager o.slot) ≡ settled (old.disk (Manager o.slot)).seen
+  pub count : new.syncs ≡ old.syncs + opening_syncs (seen_in old.disk)
+
+-- what an opened silo has is within its bounds, whatever the host tells
+pub record IsOpenedInBounds (o : Opened) : Type 0 where
+  pub slot : o.slot ≤ 1
+  pub gate : o.gate_at < 2 ^ 63
+  pub next : (0 < o.next_unit.0) × (o.next_unit.0 ≤ 2 ^ 63)
+  pub near : AreNear o.ends
+  pub text : length o.text ≤ 262144
 
 -- these names are of this grain too
 abbrev pub names_grain : List Named → GrainId → Bool

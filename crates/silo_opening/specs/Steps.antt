@@ -2,7 +2,6 @@
 use Rattle.std.specs.Prelude.{◌≡◌, ◌≢◌, ◌⊎◌, ℕ, ◌<◌, ◌≤◌, true, List, [], length, take, drop, slice_index}
 use Rattle.host_trait.specs.declared.channels.FileId.{FileId}
 use Rattle.host_trait.specs.declared.channels.FileId.TheVariants.{Manager}
-use Rattle.host_trait.specs.Disk.{FileState, settled}
 use Rattle.host_trait.specs.World.{World, Moment, Disk, Image, IsImage, Passes, Synced, moment_of}
 use Rattle.host_trait.specs.Runs.{OnlyAsked}
 use Rattle.silo_spec.specs.Silos.{IsSilo}
@@ -75,9 +74,3 @@ HasNoSilo magic m = LacksSilo magic 0 m × LacksSilo magic 1 m
 -- a manager file reads as a silo's
 abbrev pub ReadsSilo : List ℕ → Disk → Type 0
 ReadsSilo magic disk = IsSilo magic (disk (Manager 0)).seen ⊎ IsSilo magic (disk (Manager 1)).seen
-
--- the manager file has a header gate, which isn't open, and nothing is pending in it
-pub record IsShut (file : FileState) : Type 0 where
-  pub lasts : file ≡ settled file.seen
-  pub some : 0 < length file.seen
-  pub closed : slice_index file.seen 0 ≢ 1

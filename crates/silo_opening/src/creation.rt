@@ -9,6 +9,7 @@ ghost use Rattle.host_trait.specs.declared.channels.FileId.{FileId};
 ghost use Rattle.host_trait.specs.declared.channels.FileId.TheVariants.{Manager, Program as ProgramFile};
 ghost use Rattle.host_trait.specs.declared.channels.Channel.TheVariants.{File};
 ghost use Rattle.silo_spec.specs.Silos.{manager, IsEitherManager, IsNewSilo};
+ghost use Rattle.silo_spec.specs.OtherSlot.{IsShutFile};
 ghost use Rattle.silo_spec.specs.Slots.{IsLive, ShowsSilos};
 ghost use Rattle.promise_spec.specs.Logs.{magic};
 ghost use Rattle.silo_spec.specs.Moments.{IsUntouched};
@@ -16,7 +17,8 @@ ghost use Rattle.silo_opening.specs.declared.faults.CreateFault.{CreateFault};
 ghost use Rattle.silo_opening.specs.declared.creation.Front.{Front};
 ghost use Rattle.silo_opening.specs.Counts.{CreateFaulted};
 ghost use Rattle.silo_spec.specs.Creation.{IsMade, StaysBeside, FromFirstSync, IsNewAt, CameThisFar};
-ghost use Rattle.silo_opening.specs.Steps.{ShowsFront, OnlyLooks, SyncsFor, syncs_for, LacksSilo, HasNoSilo, ReadsSilo, IsShut};
+ghost use Rattle.silo_opening.specs.NewSilos.{KeepsSilo, FoundSilo, LooksAtBoth, IsPrepared, ComesSoFar, FillsSoFar, IsCreated};
+ghost use Rattle.silo_opening.specs.Steps.{ShowsFront, OnlyLooks, SyncsFor, syncs_for, LacksSilo, HasNoSilo, ReadsSilo};
 
 use crate::faults::CreateFault;
 use host_trait::{Failed, FileId, Host, read_full, write_synced};
@@ -58,37 +60,21 @@ enum Front {
 pub fn create<H: Host>(host: &mut H, program: &[u8]) -> Result<(), CreateFault>
     requires { length program.now ≤ 262144 }
 
-    // Once it is made, each image is a silo of this program with an empty log, in slot 0, and nothing is pending in its files.
-    ensures made { OnOk result (IsTrue H.tells
-        → (image : Image) → IsImage (H.world host.new).disk image → IsNewSilo magic program.now image) }
-    ensures live { OnOk result (IsTrue H.tells → ShowsSilos magic (H.world host.old).disk
-        → (image : Image) → IsImage (H.world host.new).disk image → IsLive magic 0 image) }
-    ensures files { OnOk result (IsTrue H.tells → IsMade magic program.now (H.world host.new).disk) }
+    // Once it is made, each image is a silo of this program with an empty log, in slot 0, and nothing is pending in its files. Four to
+    // six syncs were asked.
+    ensures made { OnOk result (IsTrue H.tells → IsCreated program.now (H.world host.old) (H.world host.new)) }
 
-    // A folder that reads as a silo is left as it was, and only such a one is called a silo.
-    ensures silo { IsTrue H.tells → ReadsSilo magic (H.world host.old).disk
-        → (IsErrOf result CreateFault.AlreadyASilo) ⊎ ((file : FileId) × IsEitherManager file × IsErrOf result (CreateFault.DiskFault file)) }
-    ensures untouched { IsTrue H.tells → ReadsSilo magic (H.world host.old).disk
-        → IsUntouched (H.world host.old) (H.world host.new) }
-    ensures already { IsErrOf result CreateFault.AlreadyASilo → IsTrue H.tells
-        → ReadsSilo magic (H.world host.old).disk }
-    ensures lasts { IsErrOf result CreateFault.AlreadyASilo → IsTrue H.tells → (slot : ℕ) → slot ≤ 1 → ((H.world host.old).disk (Manager slot)).seen ≢ []
-        → (H.world host.new).disk (Manager slot) ≡ settled ((H.world host.old).disk (Manager slot)).seen }
+    // A folder that reads as a silo is left as it was, and only such a one is called a silo; what its manager files read lasts then.
+    ensures silo { IsTrue H.tells → ReadsSilo magic (H.world host.old).disk → KeepsSilo result (H.world host.old) (H.world host.new) }
+    ensures already { IsErrOf result CreateFault.AlreadyASilo → IsTrue H.tells → FoundSilo (H.world host.old) (H.world host.new) }
 
     // A crash at any moment leaves a folder of before, until the manager files that have bytes are synced, and from then on no silo
-    // or a new one.
-    ensures moments { IsTrue H.tells → ShowsSilos magic (H.world host.old).disk → CameThisFar magic program.now (H.world host.old) (H.world host.new) }
-
-    // So it stays that no manager file that reads shorter than 16 bytes is a silo's in any image.
-    ensures shows { IsTrue H.tells → ShowsSilos magic (H.world host.old).disk → ShowsSilos magic (H.world host.new).disk }
+    // or a new one; and it stays that no manager file that reads shorter than 16 bytes is a silo's in any image.
+    ensures moments { IsTrue H.tells → ShowsSilos magic (H.world host.old).disk
+        → ComesSoFar (IsNewAt magic program.now) (H.world host.old) (H.world host.new) }
 
     // No other file changes, slot 1's manager file is at most synced, and no output or input changes.
     ensures beside { IsTrue H.tells → StaysBeside (H.world host.old) (H.world host.new) }
-
-    // Four syncs were asked, one more where slot 1's manager file has bytes, and one more where the header of slot 0's was closed first
-    // and has bytes.
-    ensures least { OnOk result (IsTrue H.tells → (H.world host.old).syncs + 4 ≤ (H.world host.new).syncs) }
-    ensures most { OnOk result (IsTrue H.tells → (H.world host.new).syncs ≤ (H.world host.old).syncs + 6) }
 
     // `DiskFault` is answered exactly where a call on the file, one of these, failed: its count rose then, and no other
     // changed. With another answer no count has changed.
@@ -104,21 +90,11 @@ pub fn create<H: Host>(host: &mut H, program: &[u8]) -> Result<(), CreateFault>
 // Steps one and two: looks whether the folder is a silo, and closes slot 0's header gate where it has to be closed. After Ok no
 // image is a silo.
 fn prepare<H: Host>(host: &mut H) -> Result<(), CreateFault>
-    ensures first { OnOk result (IsTrue H.tells → ShowsSilos magic (H.world host.old).disk → FromFirstSync (HasNoSilo magic) (H.world host.old) (H.world host.new)) }
-    ensures shut { OnOk result (IsTrue H.tells → IsShut ((H.world host.new).disk manager)) }
-    ensures least { OnOk result (IsTrue H.tells → (H.world host.old).syncs + 1 ≤ (H.world host.new).syncs) }
-    ensures most { OnOk result (IsTrue H.tells → (H.world host.new).syncs ≤ (H.world host.old).syncs + 3) }
-    ensures silo { IsTrue H.tells → ReadsSilo magic (H.world host.old).disk
-        → (IsErrOf result CreateFault.AlreadyASilo) ⊎ ((file : FileId) × IsEitherManager file × IsErrOf result (CreateFault.DiskFault file)) }
-    ensures untouched { IsTrue H.tells → ReadsSilo magic (H.world host.old).disk
-        → IsUntouched (H.world host.old) (H.world host.new) }
-    ensures already { IsErrOf result CreateFault.AlreadyASilo → IsTrue H.tells
-        → ReadsSilo magic (H.world host.old).disk }
-    ensures lasts { IsErrOf result CreateFault.AlreadyASilo → IsTrue H.tells → (slot : ℕ) → slot ≤ 1 → ((H.world host.old).disk (Manager slot)).seen ≢ []
-        → (H.world host.new).disk (Manager slot) ≡ settled ((H.world host.old).disk (Manager slot)).seen }
-    ensures moments { IsTrue H.tells → ShowsSilos magic (H.world host.old).disk → IsUntouched (H.world host.old) (H.world host.new)
-        ⊎ FromFirstSync (HasNoSilo magic) (H.world host.old) (H.world host.new) }
-    ensures shows { IsTrue H.tells → ShowsSilos magic (H.world host.old).disk → ShowsSilos magic (H.world host.new).disk }
+    ensures prepared { OnOk result (IsTrue H.tells → IsPrepared (H.world host.old) (H.world host.new)) }
+    ensures silo { IsTrue H.tells → ReadsSilo magic (H.world host.old).disk → KeepsSilo result (H.world host.old) (H.world host.new) }
+    ensures already { IsErrOf result CreateFault.AlreadyASilo → IsTrue H.tells → FoundSilo (H.world host.old) (H.world host.new) }
+    ensures moments { IsTrue H.tells → ShowsSilos magic (H.world host.old).disk
+        → ComesSoFar (HasNoSilo magic) (H.world host.old) (H.world host.new) }
     ensures beside { IsTrue H.tells → StaysBeside (H.world host.old) (H.world host.new) }
     ensures calm { OnOk result (NoneFailed (H.faults host.old) (H.faults host.new)) }
     ensures fault { IfErr result (λ e. CreateFaulted e (H.faults host.old) (H.faults host.new)) }
@@ -179,13 +155,7 @@ fn is_closed(front: Front) -> bool
 
 // Step one: looks at both manager files, slot 0's first, and makes what they read last. Nothing is written.
 fn look_both<H: Host>(host: &mut H) -> Result<(Front, Front), CreateFault>
-    ensures front { IfOk result (λ fronts. IsTrue H.tells → ShowsFront magic fronts.0 ((H.world host.old).disk (Manager 0)).seen) }
-    ensures other { IfOk result (λ fronts. IsTrue H.tells → ShowsFront magic fronts.1 ((H.world host.old).disk (Manager 1)).seen) }
-    ensures lasts { OnOk result (IsTrue H.tells → (slot : ℕ) → slot ≤ 1 → ((H.world host.old).disk (Manager slot)).seen ≢ []
-        → (H.world host.new).disk (Manager slot) ≡ settled ((H.world host.old).disk (Manager slot)).seen) }
-    ensures first { IfOk result (λ fronts. IsTrue H.tells → ShowsSilos magic (H.world host.old).disk → fronts.0 ≢ Front.Silo → fronts.1 ≢ Front.Silo
-        → FromFirstSync (HasNoSilo magic) (H.world host.old) (H.world host.new)) }
-    ensures count { IfOk result (λ fronts. IsTrue H.tells → (H.world host.new).syncs ≡ (H.world host.old).syncs + (syncs_for fronts.0 + syncs_for fronts.1)) }
+    ensures looked { IfOk result (λ fronts. IsTrue H.tells → LooksAtBoth fronts.0 fronts.1 (H.world host.old) (H.world host.new)) }
     ensures untouched { IsTrue H.tells → IsUntouched (H.world host.old) (H.world host.new) }
     ensures beside { IsTrue H.tells → StaysBeside (H.world host.old) (H.world host.new) }
     ensures refused { IfErr result (λ e. (file : FileId) × IsEitherManager file × (e ≡ CreateFault.DiskFault file)) }
@@ -269,13 +239,9 @@ fn close_header<H: Host>(host: &mut H) -> Result<(), Failed>
 // Steps three to five: writes the program file, then what stands behind the header gate, and then opens the gate.
 fn fill<H: Host>(host: &mut H, program: &[u8]) -> Result<(), CreateFault>
     requires small { length program.now ≤ 262144 }
-    requires shut { IsTrue H.tells → IsShut ((H.world host.old).disk manager) }
+    requires shut { IsTrue H.tells → IsShutFile ((H.world host.old).disk manager) }
     ensures files { OnOk result (IsTrue H.tells → IsMade magic program.now (H.world host.new).disk) }
-    ensures moments { IsTrue H.tells → LacksSilo magic 1 (moment_of (H.world host.old))
-        → Passes (IsNewAt magic program.now) (H.world host.old).past (H.world host.new).past }
-    ensures now { IsTrue H.tells → LacksSilo magic 1 (moment_of (H.world host.old)) → IsNewAt magic program.now (moment_of (H.world host.new)) }
-    ensures lacks { IsTrue H.tells → LacksSilo magic 1 (moment_of (H.world host.old)) → LacksSilo magic 1 (moment_of (H.world host.new)) }
-    ensures shows { IsTrue H.tells → LacksSilo magic 1 (moment_of (H.world host.old)) → ShowsSilos magic (H.world host.new).disk }
+    ensures filled { IsTrue H.tells → LacksSilo magic 1 (moment_of (H.world host.old)) → FillsSoFar program.now (H.world host.old) (H.world host.new) }
     ensures beside { IsTrue H.tells → StaysBeside (H.world host.old) (H.world host.new) }
     ensures count { OnOk result (IsTrue H.tells → (H.world host.new).syncs ≡ (H.world host.old).syncs + 3) }
     ensures already { IsErrOf result CreateFault.AlreadyASilo → ⊥ }

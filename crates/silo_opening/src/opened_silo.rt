@@ -14,7 +14,7 @@ ghost use Rattle.promise_spec.specs.Refusals.{IsRefusedBy};
 ghost use Rattle.silo_opening.specs.Steps.{Settles, SettlesBoth};
 ghost use Rattle.silo_opening.specs.declared.faults.OpenFault.{OpenFault};
 ghost use Rattle.silo_opening.specs.Counts.{OpenFaulted};
-ghost use Rattle.silo_opening.specs.OpenedSilo.{is_header, header_in, live_header, in_program_file, in_folder, ending_of, IsOpenedFrom};
+ghost use Rattle.silo_opening.specs.OpenedSilo.{is_header, header_in, live_header, in_program_file, in_folder, ending_of, LeavesOpened, IsOpenedInBounds};
 
 use crate::faults::OpenFault;
 use base_types::{Ends, List, Store, UnitNo};
@@ -215,31 +215,20 @@ pub(crate) fn folder_fault(fault: FolderFault) -> OpenFault
 /// `NotASilo` exactly where neither slot's manager file has 16 bytes or more and begins with the header of a silo. `Damaged` names the
 /// first damage in the order of reading. `DiskFault` where a call on that file failed, and `Memory` at any place.
 pub fn open_silo<H: Host>(alloc: Global, host: &mut H) -> Result<Opened, OpenFault>
-    // The folder reads as a silo with a program and a log, and this is what they stand for.
-    ensures opened { IfOk result (λ o. IsTrue H.tells → IsOpenedFrom (seen_in (H.world host.old).disk) o) }
-    ensures slot { IfOk result (λ o. o.slot ≤ 1) }
-    ensures bound { IfOk result (λ o. (o.gate_at < 2 ^ 63) × ((0 < o.next_unit.0) × (o.next_unit.0 ≤ 2 ^ 63))) }
-    ensures near { IfOk result (λ o. AreNear o.ends) }
-    ensures text { IfOk result (λ o. length o.text ≤ 262144) }
-
-    // Each manager file of 16 bytes or more was synced once, the live one among them, and beside that there was nothing but asking.
-    // So nothing is pending in these files, and all others are as they were.
-    ensures settles { OnOk result (IsTrue H.tells → SettlesBoth (H.world host.old) (H.world host.new)) }
-    ensures left { OnOk result (IsTrue H.tells → (H.world host.new).disk ≡ opened_disk (H.world host.old).disk) }
-    ensures settled { IfOk result (λ o. IsTrue H.tells
-        → (H.world host.new).disk (Manager o.slot) ≡ settled ((H.world host.old).disk (Manager o.slot)).seen) }
-    ensures count { OnOk result (IsTrue H.tells
-        → (H.world host.new).syncs ≡ (H.world host.old).syncs + opening_syncs (seen_in (H.world host.old).disk)) }
+    // The folder reads as a silo with a program and a log, and this is what they stand for. Each manager file of 16 bytes or more was
+    // synced once, the live one among them, and beside that there was nothing but asking.
+    ensures opened { IfOk result (λ o. IsTrue H.tells → LeavesOpened (H.world host.old) (H.world host.new) o) }
+    ensures bounds { IfOk result (λ o. IsOpenedInBounds o) }
 
     // A refusal is what the folder reads as, a fault of a file that has to be read, or want of memory.
     ensures refused { IfErr result (λ e. IsTrue H.tells
         → IsRefusedBy (seen_in (H.world host.old).disk) (opened_as (seen_in (H.world host.old).disk)) (ending_of e)) }
+    ensures not_last { IsErrOf result OpenFault.LastGeneration → ⊥ }
 
     // `DiskFault` is answered exactly where a call on the file failed: its count rose, and no other changed. With another answer
     // no count has changed.
     ensures calm { OnOk result (NoneFailed (H.faults host.old) (H.faults host.new)) }
     ensures fault { IfErr result (λ e. OpenFaulted e (H.faults host.old) (H.faults host.new)) }
-    ensures not_last { IsErrOf result OpenFault.LastGeneration → ⊥ }
 
     // Whatever is answered, nothing was written or emitted, and no input was taken: each image of each moment is one of those at
     // entry, and each file is as it was, or as this call leaves it.

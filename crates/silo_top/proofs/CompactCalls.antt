@@ -4,7 +4,7 @@ use Rattle.host_trait.specs.declared.channels.Channel.{Channel}
 use Rattle.host_trait.specs.World.{World}
 use Rattle.promise_spec.specs.Words.{Manner}
 use Rattle.promise_spec.specs.Endings.{Ending}
-use Rattle.promise_spec.specs.Rewriting.{Compacts}
+use Rattle.promise_spec.specs.Compaction.{Compacts}
 use Rattle.checkpoint.specs.Endings.{compact_ending, compacted_as}
 use Rattle.silo_opening.specs.declared.faults.OpenFault.{OpenFault}
 use Rattle.silo_top.specs.declared.status.Status.{Status}

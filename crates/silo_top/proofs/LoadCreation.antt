@@ -1,10 +1,10 @@
 -- The making of a load's silo, and its opening.
-use Rattle.std.proofs.Common.{◌≡◌, ◌≢◌, ◌⊎◌, inl, inr, ℕ, zero, suc, ◌+◌, ◌≤◌, List, [], Result, Ok, Err, refl, sym, subst, false, arith}
+use Rattle.std.proofs.Common.{◌≡◌, ◌⊎◌, inl, inr, ℕ, zero, suc, ◌+◌, ◌≤◌, List, [], Result, Ok, Err, refl, sym, subst, false, arith}
 use Rattle.host_trait.specs.declared.channels.Channel.{Channel}
 use Rattle.host_trait.specs.declared.channels.FileId.{FileId}
 use Rattle.host_trait.specs.declared.channels.FileId.TheVariants.{Manager}
 use Rattle.host_trait.specs.Faults.{NoneFailed}
-use Rattle.host_trait.specs.Disk.{FileState, MayLeave, settled}
+use Rattle.host_trait.specs.Disk.{FileState, MayLeave}
 use Rattle.host_trait.specs.World.{World, Disk, Image, IsImage}
 use Rattle.host_trait.proofs.Crashes.{settled_only}
 use Rattle.log_reading.specs.Steps.{seen_in}
@@ -27,6 +27,7 @@ use Rattle.promise_spec.specs.Loads.{bank_text, IsUnmade, Loads}
 use Rattle.promise_laws.specs.Closings.{ReadsMayStay}
 use Rattle.promise_spec.proofs.Slots.{some_live}
 use Rattle.silo_opening.specs.Counts.{CreateFaulted, OpenFaulted}
+use Rattle.silo_opening.specs.NewSilos.{ManagersStay}
 use Rattle.silo_opening.specs.OpenedSilo.{ending_of}
 use Rattle.silo_opening.specs.Steps.{ReadsSilo}
 use Rattle.silo_opening.specs.declared.faults.CreateFault.{CreateFault}
@@ -70,10 +71,6 @@ same_file A a b e = cc
 -- a call on a silo was refused, for a manager file where a fault was
 abbrev IsRefusedOn : Type 0 → CreateFault → Type 0
 IsRefusedOn A e = (fault_of A e ≡ fault_of A CreateFault.AlreadyASilo) ⊎ ((file : FileId) × IsEitherManager file × (fault_of A e ≡ fault_of A (CreateFault.DiskFault file)))
-
--- the manager files that have bytes last as they read
-abbrev ManagersStay : World → World → Type 0
-ManagersStay old new = (slot : ℕ) → slot ≤ 1 → (old.disk (Manager slot)).seen ≢ [] → new.disk (Manager slot) ≡ settled (old.disk (Manager slot)).seen
 
 module _ (m : Manner) (asked : List (List ℕ)) (old new : World) (before after : Channel → ℕ) where
   abbrev ended_so : Ending → Observed

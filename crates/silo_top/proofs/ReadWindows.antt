@@ -2,7 +2,7 @@
 use Rattle.std.proofs.Common.{◌≡◌, ℕ, Bool, false, List, subst}
 use Rattle.host_trait.specs.declared.channels.Channel.{Channel}
 use Rattle.host_trait.specs.World.{World}
-use Rattle.input_windows.specs.Given.{AreWhole, GivenTo, HasGiven, input_ending}
+use Rattle.input_windows.specs.GivenWindows.{AreWhole, GivenTo, HasGiven, input_ending}
 use Rattle.input_windows.specs.Windows.{is_last_in, PullFaulted}
 use Rattle.input_windows.specs.declared.windows.InputWindows.{InputWindows}
 use Rattle.input_windows.specs.declared.windows.WindowFault.{WindowFault}

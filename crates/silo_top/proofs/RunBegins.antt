@@ -32,7 +32,7 @@ use Rattle.run_books.specs.Stages.{stage_by}
 use Rattle.silo_opening.specs.declared.opened_silo.Opened.{Opened}
 use Rattle.silo_top.specs.RunBehindOpening.{IsBehindOpening}
 use Rattle.silo_top.specs.RunStart.{IsStartOf}
-use Rattle.silo_top.specs.RunWindows.{WasOpened, outset_of, IsBetween, KeepsImages, IsUnderWay}
+use Rattle.silo_top.specs.RunWindows.{WasOpened, outset_of, IsBetweenWindows, KeepsRunImages, IsRunUnderWay}
 use Rattle.silo_top.specs.declared.run_start.Started.{Started}
 use Rattle.silo_top.proofs.CoreOpening.{start_is, many_types}
 use Rattle.silo_top.proofs.OpenedImages.{starts_resting}
@@ -73,7 +73,7 @@ module _ (tells : Bool) (m : Manner) (x : Opened) (st : Started) (old mid : Worl
   carried : HasCarriedAll o (stage_by first st.settler counts mid)
   carried = starts_carried first.base first.kinds first.opening o st.settler counts mid refl start.written
 
-  between_first : IsBetween tells o no_books 0 (stage_by first st.settler counts mid)
+  between_first : IsBetweenWindows tells o no_books 0 (stage_by first st.settler counts mid)
   between_first = record {
     stands = window-ends tells o no_books (stage_by first st.settler counts mid) kept 0 carried refl (λ ruled. refl);
     carried = carried;
@@ -84,8 +84,8 @@ module _ (tells : Bool) (m : Manner) (x : Opened) (st : Started) (old mid : Worl
     emitted = calm Output;
   }
 
-  pub begins_between : IsBetween tells o no_books 0 (stage_by (run_of st.core) st.settler counts mid)
-  begins_between = subst (λ (r : Run). IsBetween tells o no_books 0 (stage_by r st.settler counts mid)) (sym start.run) between_first
+  pub begins_between : IsBetweenWindows tells o no_books 0 (stage_by (run_of st.core) st.settler counts mid)
+  begins_between = subst (λ (r : Run). IsBetweenWindows tells o no_books 0 (stage_by r st.settler counts mid)) (sym start.run) between_first
 
   -- ---- over a host that tells
 
@@ -113,8 +113,8 @@ module _ (tells : Bool) (m : Manner) (x : Opened) (st : Started) (old mid : Worl
         in_force : is.opened.log ≡ log → x.text ≡ text → (standing_of log).program ≡ o.program
         in_force a b = ap (λ (l : Log). (standing_of l).program) (sym a) ∙ is.opened.program ∙ ap (λ (t : List ℕ). record { text = t; types = types }) b
 
-    pub begins_images : KeepsImages old o no_books (stage_by (run_of st.core) st.settler counts mid)
-    begins_images = subst (λ (r : Run). KeepsImages old o no_books (stage_by r st.settler counts mid)) (sym same) (record {
+    pub begins_images : KeepsRunImages old o no_books (stage_by (run_of st.core) st.settler counts mid)
+    begins_images = subst (λ (r : Run). KeepsRunImages old o no_books (stage_by r st.settler counts mid)) (sym same) (record {
       run = refl;
       past = ([], sym (append-nil mid.past));
       lasts = lasts;
@@ -122,7 +122,7 @@ module _ (tells : Bool) (m : Manner) (x : Opened) (st : Started) (old mid : Worl
 
 pub begins : (tells : Bool) (m : Manner) (x : Opened) (st : Started) (windows : InputWindows) (old mid : World) (before counts : Channel → ℕ) → IsStartOf x st → 0 < m.width → 0 < x.next_unit.0 → st.settler.quiet ≡ false → NoneFailed before counts
     → (IsTrue tells → IsBehindOpening old mid x) → (IsTrue tells → ReadsMayStay mid) → left_in windows ≡ [] → given_in windows ≡ 0 → is_last_in windows ≡ false
-    → IsUnderWay tells m before old (record { started = st; windows = windows; used = 0 }) counts mid
+    → IsRunUnderWay tells m before old (record { started = st; windows = windows; used = 0 }) counts mid
 begins tells m x st windows old mid before counts start wide above loud calm behind stays left zero_is first =
     let t = was_opened tells old mid x behind stays in
     record {

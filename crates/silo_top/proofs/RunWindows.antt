@@ -16,7 +16,7 @@ use Rattle.core_model.specs.Laws.{extended}
 use Rattle.core_model.specs.declared.events.CoreEvent.{CoreEvent}
 use Rattle.history_core.specs.Cores.{run_of}
 use Rattle.history_core.specs.declared.whole_core.Core.{Core}
-use Rattle.input_windows.specs.Given.{HasGiven, HasNext, IsGood, EndsAs, InputEnds}
+use Rattle.input_windows.specs.GivenWindows.{HasGiven, HasNext, IsGood, InputEndsAs, InputEnds}
 use Rattle.input_windows.specs.Pulls.{PulledOnly}
 use Rattle.input_windows.specs.Windows.{window_in, left_in, before_in}
 use Rattle.input_windows.specs.declared.windows.InputWindows.{InputWindows}
@@ -50,7 +50,7 @@ use Rattle.silo_top.specs.CallAnswers.{AnswersRun}
 use Rattle.silo_top.specs.Continuation.{CanCarry}
 use Rattle.silo_top.specs.LineExecution.{CarriedOn, CarriedLines}
 use Rattle.silo_top.specs.RunBehindOpening.{IsBehindOpening, ending_by_turns}
-use Rattle.silo_top.specs.RunWindows.{WasOpened, outset_of, IsBetween, KeepsImages, IsUnderWay, HasKept}
+use Rattle.silo_top.specs.RunWindows.{WasOpened, outset_of, IsBetweenWindows, KeepsRunImages, IsRunUnderWay, HasKept}
 use Rattle.silo_top.specs.Statuses.{status_ending}
 use Rattle.silo_top.specs.declared.run_start.Started.{Started}
 use Rattle.silo_top.specs.declared.run_windows.Running.{Running}
@@ -64,7 +64,7 @@ Counts = Channel → ℕ
 
 -- ---- while input is pulled
 
-module _ (tells : Bool) (o : Outset) (b : Books) (used : ℕ) (r : Run) (s : Settler) (f f' : Counts) (now now' : World) (pulled : IsTrue tells → PulledOnly now now') (between : IsBetween tells o b used (stage_by r s f now)) where
+module _ (tells : Bool) (o : Outset) (b : Books) (used : ℕ) (r : Run) (s : Settler) (f f' : Counts) (now now' : World) (pulled : IsTrue tells → PulledOnly now now') (between : IsBetweenWindows tells o b used (stage_by r s f now)) where
   pub stands_pulled : f' Output ≡ f Output → ((file : FileId) → f' (File file) ≡ f (File file)) → f Input ≤ f' Input → StandsBehind tells o b used (stage_by r s f' now')
   stands_pulled output files more = record {
     lines = between.stands.lines;
@@ -76,7 +76,7 @@ module _ (tells : Bool) (o : Outset) (b : Books) (used : ℕ) (r : Run) (s : Set
   pub carried_pulled : HasCarriedAll o (stage_by r s f' now')
   carried_pulled = let c = between.carried in record { run = c.run; none = c.none; never = c.never; unstopped = c.unstopped; rests = c.rests; written = c.written }
 
-  pub images_pulled : (old : World) → IsTrue tells → KeepsImages old o b (stage_by r s f now) → KeepsImages old o b (stage_by r s f' now')
+  pub images_pulled : (old : World) → IsTrue tells → KeepsRunImages old o b (stage_by r s f now) → KeepsRunImages old o b (stage_by r s f' now')
   images_pulled old told i = record {
     run = i.run;
     past = (i.past.0 ++ (pulled told).moments.more, (pulled told).moments.past ∙ ap (λ (l : List Moment). l ++ (pulled told).moments.more) i.past.1 ∙ append_assoc o.world.past i.past.0 (pulled told).moments.more);
@@ -86,7 +86,7 @@ module _ (tells : Bool) (o : Outset) (b : Books) (used : ℕ) (r : Run) (s : Set
 -- ---- the input ends
 
 module _ (tells : Bool) (pulled : List ℕ) (asked : List (List ℕ)) (now : World) where
-  carried_by : (e : Ending) → EndsAs e tells pulled asked now → IsCarried e
+  carried_by : (e : Ending) → InputEndsAs e tells pulled asked now → IsCarried e
   carried_by ending.Done a = tt
   carried_by ending.BadUse a = absurd a
   carried_by ending.Memory a = tt
@@ -100,7 +100,7 @@ module _ (tells : Bool) (pulled : List ℕ) (asked : List (List ℕ)) (now : Wor
   carried_by ending.LastGeneration a = absurd a
   carried_by (ending.InputTooLong line) a = tt
 
-  no_file : (e : Ending) → EndsAs e tells pulled asked now → IsDiskFault e → ⊥
+  no_file : (e : Ending) → InputEndsAs e tells pulled asked now → IsDiskFault e → ⊥
   no_file ending.Done a d = absurd d
   no_file ending.BadUse a d = absurd a
   no_file ending.Memory a d = absurd d
@@ -114,7 +114,7 @@ module _ (tells : Bool) (pulled : List ℕ) (asked : List (List ℕ)) (now : Wor
   no_file ending.LastGeneration a d = absurd a
   no_file (ending.InputTooLong line) a d = absurd d
 
-  good_by : (e : Ending) → EndsAs e tells pulled asked now → e ≢ ending.BadUse
+  good_by : (e : Ending) → InputEndsAs e tells pulled asked now → e ≢ ending.BadUse
   good_by ending.BadUse a q = absurd a
   good_by ending.Done a q = cc q
   good_by ending.Memory a q = cc q
@@ -129,13 +129,13 @@ module _ (tells : Bool) (pulled : List ℕ) (asked : List (List ℕ)) (now : Wor
   good_by (ending.InputTooLong line) a q = cc q
 
   -- no other channel's count has changed, and the input's hasn't fallen
-  others_by : (f f' : Counts) (e : Ending) → EndsAs e tells pulled asked now → HasFailedAs e f f' → (f' Output ≡ f Output) × ((file : FileId) → f' (File file) ≡ f (File file)) × (f Input ≤ f' Input)
+  others_by : (f f' : Counts) (e : Ending) → InputEndsAs e tells pulled asked now → HasFailedAs e f f' → (f' Output ≡ f Output) × ((file : FileId) → f' (File file) ≡ f (File file)) × (f Input ≤ f' Input)
   others_by f f' e a failed = by e a failed
     where
       calm : NoneFailed f f' → (f' Output ≡ f Output) × ((file : FileId) → f' (File file) ≡ f (File file)) × (f Input ≤ f' Input)
       calm n = (n Output, λ file. n (File file), (let i = n Input in omega (arith, i)))
 
-      by : (e : Ending) → EndsAs e tells pulled asked now → HasFailedAs e f f' → (f' Output ≡ f Output) × ((file : FileId) → f' (File file) ≡ f (File file)) × (f Input ≤ f' Input)
+      by : (e : Ending) → InputEndsAs e tells pulled asked now → HasFailedAs e f f' → (f' Output ≡ f Output) × ((file : FileId) → f' (File file) ≡ f (File file)) × (f Input ≤ f' Input)
       by ending.Done a n = calm n
       by ending.BadUse a n = absurd a
       by ending.Memory a n = calm n
@@ -150,7 +150,7 @@ module _ (tells : Bool) (pulled : List ℕ) (asked : List (List ℕ)) (now : Wor
       by (ending.InputTooLong line) a n = calm n
 
   -- a failed pull is shown by its count, and no other fault of the input is passed over
-  risen_by : (old f f' : Counts) → f Input ≡ old Input → (e : Ending) → EndsAs e tells pulled asked now → HasFailedAs e f f' → HasRisen e old f'
+  risen_by : (old f f' : Counts) → f Input ≡ old Input → (e : Ending) → InputEndsAs e tells pulled asked now → HasFailedAs e f f' → HasRisen e old f'
   risen_by old f f' same ending.Done a n = tt
   risen_by old f f' same ending.BadUse a n = absurd a
   risen_by old f f' same ending.Memory a n = tt
@@ -164,7 +164,7 @@ module _ (tells : Bool) (pulled : List ℕ) (asked : List (List ℕ)) (now : Wor
   risen_by old f f' same ending.LastGeneration a n = absurd a
   risen_by old f f' same (ending.InputTooLong line) a n = tt
 
-  named_by : (old f f' : Counts) → f Input ≡ old Input → (e : Ending) → EndsAs e tells pulled asked now → HasFailedAs e f f' → f' Input ≢ old Input → e ≡ ending.ReadFault
+  named_by : (old f f' : Counts) → f Input ≡ old Input → (e : Ending) → InputEndsAs e tells pulled asked now → HasFailedAs e f f' → f' Input ≢ old Input → e ≡ ending.ReadFault
   named_by old f f' same ending.Done a n other = absurd (other (n Input ∙ same))
   named_by old f f' same ending.BadUse a n other = absurd a
   named_by old f f' same ending.Memory a n other = absurd (other (n Input ∙ same))
@@ -194,7 +194,7 @@ module _ (m : Manner) (old now : World) (before after : Counts) (status : Status
   is_told : IsTrue true
   is_told = cc
 
-  allowed_by : (e : Ending) → EndsAs e true i.pulled asked now → AllowedBy e i.pulled (observed_run m old now before after status) (length asked)
+  allowed_by : (e : Ending) → InputEndsAs e true i.pulled asked now → AllowedBy e i.pulled (observed_run m old now before after status) (length asked)
   allowed_by ending.Done a = record {
     input = a.input is_told;
     all = ap length (sym (ap lines_of (i.whole is_told ∙ ap (λ (l : List ℕ). i.pulled ++ l) (a.input is_told) ∙ append-nil i.pulled) ∙ a.lines));
@@ -230,17 +230,17 @@ module _ (m : Manner) (old now : World) (before after : Counts) (status : Status
 
 -- the program text and the log that an opening tells of are these
 module _ (tells : Bool) (m : Manner) (x : Opened) (asked : List (List ℕ)) (before : Counts) (old mid : World) (b : Books) (used : ℕ) (s : Stage) where
-  between_opened : (text : List ℕ) (log : Log) (w : WasOpened old mid x text log) → IsBetween tells (outset_of m x text log asked before mid) b used s
-      → IsBetween tells (outset_of m x x.text w.behind.opened.log asked before mid) b used s
+  between_opened : (text : List ℕ) (log : Log) (w : WasOpened old mid x text log) → IsBetweenWindows tells (outset_of m x text log asked before mid) b used s
+      → IsBetweenWindows tells (outset_of m x x.text w.behind.opened.log asked before mid) b used s
   between_opened text log w between =
-      subst (λ (t : List ℕ). IsBetween tells (outset_of m x t w.behind.opened.log asked before mid) b used s) (sym w.text_is)
-      (subst (λ (l : Log). IsBetween tells (outset_of m x text l asked before mid) b used s) (sym w.log_is) between)
+      subst (λ (t : List ℕ). IsBetweenWindows tells (outset_of m x t w.behind.opened.log asked before mid) b used s) (sym w.text_is)
+      (subst (λ (l : Log). IsBetweenWindows tells (outset_of m x text l asked before mid) b used s) (sym w.log_is) between)
 
-  images_opened : (text : List ℕ) (log : Log) (w : WasOpened old mid x text log) → KeepsImages old (outset_of m x text log asked before mid) b s
-      → KeepsImages old (outset_of m x x.text w.behind.opened.log asked before mid) b s
+  images_opened : (text : List ℕ) (log : Log) (w : WasOpened old mid x text log) → KeepsRunImages old (outset_of m x text log asked before mid) b s
+      → KeepsRunImages old (outset_of m x x.text w.behind.opened.log asked before mid) b s
   images_opened text log w images =
-      subst (λ (t : List ℕ). KeepsImages old (outset_of m x t w.behind.opened.log asked before mid) b s) (sym w.text_is)
-      (subst (λ (l : Log). KeepsImages old (outset_of m x text l asked before mid) b s) (sym w.log_is) images)
+      subst (λ (t : List ℕ). KeepsRunImages old (outset_of m x t w.behind.opened.log asked before mid) b s) (sym w.text_is)
+      (subst (λ (l : Log). KeepsRunImages old (outset_of m x text l asked before mid) b s) (sym w.log_is) images)
 
 -- ---- no further window comes
 
@@ -249,7 +249,7 @@ module _ (m : Manner) (x : Opened) (asked : List (List ℕ)) (before f f' : Coun
   o = outset_of m x x.text is.opened.log asked before mid
 
   -- what the run leaves then
-  ends_leaves : IsBetween true o b used (stage_by r s f now) → KeepsImages old o b (stage_by r s f now) → PulledOnly now now' → InputEnds true old.input asked (status_ending status) now' → HasFailedAs (status_ending status) f f'
+  ends_leaves : IsBetweenWindows true o b used (stage_by r s f now) → KeepsRunImages old o b (stage_by r s f now) → PulledOnly now now' → InputEnds true old.input asked (status_ending status) now' → HasFailedAs (status_ending status) f f'
       → RunLeaves m o b r s (observed_run m old now' before f' status)
   ends_leaves between images pulled i failed =
       let others = others_by true i.pulled asked now' f f' (status_ending status) i.by failed in
@@ -275,7 +275,7 @@ module _ (m : Manner) (x : Opened) (asked : List (List ℕ)) (before f f' : Coun
       told = cc
 
 -- so the run has kept its promise
-pub ends_kept : (tells : Bool) (m : Manner) (before : Counts) (old : World) (run : Running) (f f' : Counts) (now now' : World) (status : Status) (u : IsUnderWay tells m before old run f now) → (IsTrue tells → PulledOnly now now')
+pub ends_kept : (tells : Bool) (m : Manner) (before : Counts) (old : World) (run : Running) (f f' : Counts) (now now' : World) (status : Status) (u : IsRunUnderWay tells m before old run f now) → (IsTrue tells → PulledOnly now now')
     → InputEnds tells old.input u.asked (status_ending status) now' → HasFailedAs (status_ending status) f f' → (IsTrue tells → ReadsMayStay now') → HasKept tells m before old status f' now'
 ends_kept tells m before old run f f' now now' status u pulled i failed stay =
     let r : Run = run_of run.started.core in
@@ -287,7 +287,7 @@ ends_kept tells m before old run f f' now now' status u pulled i failed stay =
           let x : Opened = u.opened in
           leaves_promised m x u.asked old u.mid now' before f' status u.books r s w.behind w.stays (stay told)
           (ends_leaves m x u.asked before f f' old u.mid now now' u.books run.used r s status w.behind
-          (between_opened true m x u.asked before old u.mid u.books run.used (stage_by r s f now) u.text u.log w (subst (λ (t : Bool). IsBetween t (outset_of m x u.text u.log u.asked before u.mid) u.books run.used (stage_by r s f now)) told u.between))
+          (between_opened true m x u.asked before old u.mid u.books run.used (stage_by r s f now) u.text u.log w (subst (λ (t : Bool). IsBetweenWindows t (outset_of m x u.text u.log u.asked before u.mid) u.books run.used (stage_by r s f now)) told u.between))
           (images_opened true m x u.asked before old u.mid u.books run.used (stage_by r s f now) u.text u.log w (u.images told))
           (pulled told) (subst (λ (t : Bool). InputEnds t old.input u.asked e now') told i) failed);
       answers = record {
@@ -351,7 +351,7 @@ alone_by true q = absurd (cc q)
 -- ---- a further window is carried
 
 module _ (tells : Bool) (m : Manner) (before : Counts) (old : World) (run : Running) (f0 f f' : Counts) (w0 now now' : World) (windows : InputWindows) (used : ℕ) (settler : Settler) (result : Result Core RunFault)
-    (u : IsUnderWay tells m before old run f0 w0) (next : HasNext tells old.input u.asked windows now) (calm : NoneFailed f0 f) (pulled : IsTrue tells → PulledOnly w0 now)
+    (u : IsRunUnderWay tells m before old run f0 w0) (next : HasNext tells old.input u.asked windows now) (calm : NoneFailed f0 f) (pulled : IsTrue tells → PulledOnly w0 now)
     (carried : CarriedLines tells m (program_tree run.started.checked) (lines_from_texts (program_tree run.started.checked) (before_in windows) (lines_of (window_in windows))) run.used used
     (stage_by (run_of run.started.core) run.started.settler f now) (side_by settler f' now') result) where
   abbrev texts : List (List ℕ)
@@ -405,7 +405,7 @@ module _ (tells : Bool) (m : Manner) (before : Counts) (old : World) (run : Runn
   abbrev books : Books
   books = goes.on.books
 
-  images : IsTrue tells → KeepsImages old out books then_at
+  images : IsTrue tells → KeepsRunImages old out books then_at
   images told =
       let i = images_pulled tells so_far u.books run.used r run.started.settler f0 f w0 now pulled u.between old told (u.images told) in
       let head : List ℕ = take 15 (old.disk (Manager u.opened.slot)).seen in
@@ -432,7 +432,7 @@ module _ (tells : Bool) (m : Manner) (before : Counts) (old : World) (run : Runn
     core_is : run_of core ≡ left
     core_is = subst (λ (y : Result Core RunFault). IfOk y (λ c. run_of c ≡ left)) is carried_so.core
 
-    between : IsBetween tells out books used then_at
+    between : IsBetweenWindows tells out books used then_at
     between = record {
       stands = window-ends tells out books then_at
           (record { above = goes.on.record_kept.above; units = goes.on.record_kept.units; turns = λ ruled. goes.turns (alone_by m.threaded ruled); books = goes.on.record_kept.books })
@@ -446,7 +446,7 @@ module _ (tells : Bool) (m : Manner) (before : Counts) (old : World) (run : Runn
       emitted = subst (λ (y : Result Core RunFault). EmitsAs y (f Output) (f' Output)) is beside.emitted ∙ calm Output ∙ u.between.emitted;
     }
 
-    pub goes_on : IsUnderWay tells m before old (record { started = record { slot = run.started.slot; checked = run.started.checked; core = core; settler = settler }; windows = windows; used = used }) f' now'
+    pub goes_on : IsRunUnderWay tells m before old (record { started = record { slot = run.started.slot; checked = run.started.checked; core = core; settler = settler }; windows = windows; used = used }) f' now'
     goes_on = record {
       opened = u.opened;
       text = u.text;
@@ -459,8 +459,8 @@ module _ (tells : Bool) (m : Manner) (before : Counts) (old : World) (run : Runn
       checked = u.checked;
       told = u.told;
       given = given;
-      between = subst (λ (z : Run). IsBetween tells out books used (stage_by z settler f' now')) (sym core_is) between;
-      images = λ told. subst (λ (z : Run). KeepsImages old out books (stage_by z settler f' now')) (sym core_is) (images told);
+      between = subst (λ (z : Run). IsBetweenWindows tells out books used (stage_by z settler f' now')) (sym core_is) between;
+      images = λ told. subst (λ (z : Run). KeepsRunImages old out books (stage_by z settler f' now')) (sym core_is) (images told);
     }
 
   -- ---- a fault ends it

@@ -5,7 +5,7 @@ use Rattle.host_trait.specs.World.{World}
 use Rattle.promise_spec.specs.Words.{plain_manner, Command, Init, Run, Show, History, Audit, Load, Check, Compact}
 use Rattle.promise_spec.specs.Endings.{Ending, BadUse, Memory, HasFailedAs}
 use Rattle.promise_spec.specs.Courses.{Observed}
-use Rattle.promise_spec.specs.Calls.{any_option, Understands, Obeys, Serves, AnswersAs, GoesOn}
+use Rattle.promise_spec.specs.Calls.{any_option, Understands, Obeys, Serves, AnswersAs, MayGoOn}
 use Rattle.bank_load.specs.Requests.{load_texts}
 use Rattle.silo_top.specs.declared.status.Status.{Status}
 use Rattle.silo_top.specs.CallAnswers.{shown, AnswersRun}
@@ -41,14 +41,14 @@ module _ (texts : List (List ℕ)) where
     }
 
     -- and one that may go on behind a file's fault
-    pub run_answers : (may : Ending → Type 0) (before after : Channel → ℕ) (e : Ending) → (may e → GoesOn d e) → AnswersRun may e before after → AnswersAs texts e before after
+    pub run_answers : (may : Ending → Type 0) (before after : Channel → ℕ) (e : Ending) → (may e → MayGoOn d e) → AnswersRun may e before after → AnswersAs texts e before after
     run_answers may before after e goes a = record {
       said = λ c v. a.good;
       other = λ none. absurd (none d u);
       risen = a.risen;
       input = a.input;
       output = a.output;
-      exact = λ c v stops. a.exact (λ begun. subst (λ (x : Command). GoesOn x e → ⊥) (one_understood c d v u) stops (goes begun));
+      exact = λ c v stops. a.exact (λ begun. subst (λ (x : Command). MayGoOn x e → ⊥) (one_understood c d v u) stops (goes begun));
     }
 
   -- ---- words that say none

@@ -4,7 +4,7 @@ use Rattle.host_trait.specs.declared.channels.Channel.{Channel}
 use Rattle.host_trait.specs.Faults.{NoneFailed}
 use Rattle.host_trait.specs.World.{World}
 use Rattle.input_windows.specs.declared.windows.InputWindows.{InputWindows}
-use Rattle.input_windows.specs.Given.{HasGiven, HasNext, InputEnds}
+use Rattle.input_windows.specs.GivenWindows.{HasGiven, HasNext, InputEnds}
 use Rattle.promise_spec.specs.Endings.{HasFailedAs}
 use Rattle.silo_top.specs.declared.status.Status.{Status}
 use Rattle.silo_top.specs.Statuses.{status_ending}
@@ -20,6 +20,6 @@ WindowComes tells w now w' now' result =
     (input : List ℕ) (asked : List (List ℕ)) → HasGiven tells input asked w now → ReadsOn tells input asked w' now' result
 
 -- no call failed where a window came; else exactly the one that the ending names
-abbrev pub InputFaulted : {T : Type 0} → Result T Status → (Channel → ℕ) → (Channel → ℕ) → Type 0
-InputFaulted (Ok done) old new = NoneFailed old new
-InputFaulted (Err status) old new = HasFailedAs (status_ending status) old new
+abbrev pub WindowFaulted : {T : Type 0} → Result T Status → (Channel → ℕ) → (Channel → ℕ) → Type 0
+WindowFaulted (Ok done) old new = NoneFailed old new
+WindowFaulted (Err status) old new = HasFailedAs (status_ending status) old new

@@ -6,7 +6,7 @@ use Rattle.host_trait.specs.declared.channels.FileId.TheVariants.{Manager}
 use Rattle.host_trait.specs.World.{World, Moment}
 use Rattle.history_core.specs.Cores.{run_of}
 use Rattle.script_tree.specs.Programs.{program_tree}
-use Rattle.input_windows.specs.Given.{HasGiven}
+use Rattle.input_windows.specs.GivenWindows.{HasGiven}
 use Rattle.promise_spec.specs.Cores.{core_from}
 use Rattle.promise_spec.specs.Endings.{IsCarried}
 use Rattle.promise_spec.specs.Entries.{Log, standing_of}
@@ -53,7 +53,7 @@ outset_of m x text log asked before mid = record {
 
 -- All lines so far are carried, and nobody can move: the record is kept, so many picks were used, and nothing has happened where there
 -- are no lines yet. No call on the input or the output has failed.
-pub record IsBetween (tells : Bool) (o : Outset) (b : Books) (used : ℕ) (s : Stage) : Type 0 where
+pub record IsBetweenWindows (tells : Bool) (o : Outset) (b : Books) (used : ℕ) (s : Stage) : Type 0 where
   pub stands : StandsBehind tells o b used s
   pub carried : HasCarriedAll o s
   pub kinds : s.run.kinds ≡ length o.program.types
@@ -64,14 +64,14 @@ pub record IsBetween (tells : Bool) (o : Outset) (b : Books) (used : ℕ) (s : S
 
 -- And over a host that tells the core goes on from what the log stands for, and the host's clock from the opening; and what the
 -- images keep has lasted, if each image had the log at the opening.
-pub record KeepsImages (old : World) (o : Outset) (b : Books) (s : Stage) : Type 0 where
+pub record KeepsRunImages (old : World) (o : Outset) (b : Books) (s : Stage) : Type 0 where
   pub run : s.run ≡ core_from o.program.types (standing_of o.opening) s.run.events
   pub past : (l : List Moment) × (s.world.past ≡ o.world.past ++ l)
   pub lasts : AllLog o.live o.opening o.world.disk
       → LastsSo o (take 15 (old.disk (Manager o.live)).seen) b s.run s.settler.writer s.world
 
 -- A run that is under way: it was opened, has been given these lines, and all of them are carried.
-pub record IsUnderWay (tells : Bool) (m : Manner) (before : Channel → ℕ) (old : World) (run : Running) (counts : Channel → ℕ) (now : World) : Type 0 where
+pub record IsRunUnderWay (tells : Bool) (m : Manner) (before : Channel → ℕ) (old : World) (run : Running) (counts : Channel → ℕ) (now : World) : Type 0 where
   pub opened : Opened
   pub text : List ℕ
   pub log : Log
@@ -83,8 +83,8 @@ pub record IsUnderWay (tells : Bool) (m : Manner) (before : Channel → ℕ) (ol
   pub checked : run.started.checked ≡ opened.checked
   pub told : IsTrue tells → WasOpened old mid opened text log
   pub given : HasGiven tells old.input asked run.windows now
-  pub between : IsBetween tells (outset_of m opened text log asked before mid) books run.used (stage_by (run_of run.started.core) run.started.settler counts now)
-  pub images : IsTrue tells → KeepsImages old (outset_of m opened text log asked before mid) books (stage_by (run_of run.started.core) run.started.settler counts now)
+  pub between : IsBetweenWindows tells (outset_of m opened text log asked before mid) books run.used (stage_by (run_of run.started.core) run.started.settler counts now)
+  pub images : IsTrue tells → KeepsRunImages old (outset_of m opened text log asked before mid) books (stage_by (run_of run.started.core) run.started.settler counts now)
 
 -- ---- how it goes on
 
@@ -96,14 +96,14 @@ pub record HasKept (tells : Bool) (m : Manner) (before : Channel → ℕ) (old :
 -- wherever it was under way it has ended so
 abbrev pub GoesToItsEnd : Bool → Manner → Running → (Channel → ℕ) → World → Status → (Channel → ℕ) → World → Type 0
 GoesToItsEnd tells m run counts now status after new =
-    (before : Channel → ℕ) (old : World) → IsUnderWay tells m before old run counts now → HasKept tells m before old status after new
+    (before : Channel → ℕ) (old : World) → IsRunUnderWay tells m before old run counts now → HasKept tells m before old status after new
 
 -- with its next window, or to its end
-abbrev pub Next : Bool → Manner → (Channel → ℕ) → World → Result Running Status → (Channel → ℕ) → World → Type 0
-Next tells m before old (Ok run) after new = IsUnderWay tells m before old run after new
-Next tells m before old (Err status) after new = HasKept tells m before old status after new
+abbrev pub NextOrEnd : Bool → Manner → (Channel → ℕ) → World → Result Running Status → (Channel → ℕ) → World → Type 0
+NextOrEnd tells m before old (Ok run) after new = IsRunUnderWay tells m before old run after new
+NextOrEnd tells m before old (Err status) after new = HasKept tells m before old status after new
 
 -- wherever it was under way it goes on so
-abbrev pub GoesOn : Bool → Manner → Running → (Channel → ℕ) → World → Result Running Status → (Channel → ℕ) → World → Type 0
-GoesOn tells m run counts now result after new =
-    (before : Channel → ℕ) (old : World) → IsUnderWay tells m before old run counts now → Next tells m before old result after new
+abbrev pub GoesOnInWindows : Bool → Manner → Running → (Channel → ℕ) → World → Result Running Status → (Channel → ℕ) → World → Type 0
+GoesOnInWindows tells m run counts now result after new =
+    (before : Channel → ℕ) (old : World) → IsRunUnderWay tells m before old run counts now → NextOrEnd tells m before old result after new

@@ -1,7 +1,7 @@
 ghost use Rattle.std.specs.Prelude.{◌≡◌, IsTrue};
 ghost use Rattle.host_trait.specs.Files.{StaysReady};
 ghost use Rattle.promise_spec.specs.Words as command;
-ghost use Rattle.promise_spec.specs.Rewriting.{Compacts};
+ghost use Rattle.promise_spec.specs.Compaction.{Compacts};
 ghost use Rattle.promise_spec.specs.Endings.{HasFailedAs, BadUse};
 ghost use Rattle.checkpoint.specs.Endings.{compact_ending};
 ghost use Rattle.silo_top.specs.CallAnswers.{shown};

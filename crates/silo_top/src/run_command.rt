@@ -7,7 +7,7 @@ ghost use Rattle.promise_spec.specs.Promise.{Promises};
 ghost use Rattle.silo_top.specs.CallAnswers.{AnswersRun, shown, turns_manner, workers_manner};
 ghost use Rattle.silo_opening.specs.OpenedSilo.{ending_of};
 ghost use Rattle.silo_top.specs.Continuation.{CanCarry};
-ghost use Rattle.silo_top.specs.RunWindows.{IsUnderWay};
+ghost use Rattle.silo_top.specs.RunWindows.{IsRunUnderWay};
 ghost use Rattle.silo_top.specs.Statuses.{status_ending};
 
 use crate::run_start::start;
@@ -38,7 +38,7 @@ pub(crate) fn open_status(fault: OpenFault) -> Status
 /// Opens the silo. Nothing of the input was read yet.
 fn begin_run<H: Host>(alloc: Global, host: &mut H) -> Result<Running, Status>
     // Carried in whichever manner, the run is under way.
-    ensures begins { IfOk result (λ run. (m : Manner) → 0 < m.width → IsUnderWay H.tells m (H.faults host.old) (H.world host.old)
+    ensures begins { IfOk result (λ run. (m : Manner) → 0 < m.width → IsRunUnderWay H.tells m (H.faults host.old) (H.world host.old)
         run (H.faults host.new) (H.world host.new)) }
     ensures can { IfOk result (λ run. CanCarry H.tells run.started (H.world host.new)) }
 

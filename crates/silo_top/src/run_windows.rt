@@ -1,12 +1,12 @@
 ghost use Rattle.std.specs.Prelude.{◌≡◌, ◌<◌, ◌≤◌, IsTrue, IfOk, OnOk};
 ghost use Rattle.host_trait.specs.Files.{StaysReady};
-ghost use Rattle.input_windows.specs.Given.{input_ending};
+ghost use Rattle.input_windows.specs.GivenWindows.{input_ending};
 ghost use Rattle.input_windows.specs.Pulls.{PulledOnly};
 ghost use Rattle.input_windows.specs.Windows.{given_in};
 ghost use Rattle.silo_top.specs.CallAnswers.{turns_manner, workers_manner};
-ghost use Rattle.silo_top.specs.InputReads.{InputFaulted, WindowComes};
+ghost use Rattle.silo_top.specs.InputReads.{WindowFaulted, WindowComes};
 ghost use Rattle.silo_top.specs.RunBehindOpening.{ending_by_turns};
-ghost use Rattle.silo_top.specs.RunWindows.{GoesOn, GoesToItsEnd};
+ghost use Rattle.silo_top.specs.RunWindows.{GoesOnInWindows, GoesToItsEnd};
 ghost use Rattle.silo_top.specs.Continuation.{CanCarry};
 ghost use Rattle.silo_top.specs.Statuses.{status_ending};
 
@@ -59,7 +59,7 @@ fn window_status(fault: WindowFault) -> Status
 fn next_window<H: Host>(windows: &mut InputWindows, host: &mut H) -> Result<(), Status>
     ensures comes { WindowComes H.tells windows.old (H.world host.old) windows.new (H.world host.new) result }
     ensures further { OnOk result (given_in windows.old < given_in windows.new) }
-    ensures counts { InputFaulted result (H.faults host.old) (H.faults host.new) }
+    ensures counts { WindowFaulted result (H.faults host.old) (H.faults host.new) }
     ensures only { IsTrue H.tells → PulledOnly (H.world host.old) (H.world host.new) }
     ensures ready { StaysReady (H.is_ready host.old) (H.is_ready host.new) }
 {
@@ -84,7 +84,7 @@ fn window_in_turns<H: Host, G: Gate>(
 ) -> Result<Running, Status>
     requires wide { 0 < width }
     requires can { CanCarry H.tells running.started (H.world host.old) }
-    ensures goes { GoesOn H.tells (turns_manner width picks.now) running (H.faults host.old) (H.world host.old)
+    ensures goes { GoesOnInWindows H.tells (turns_manner width picks.now) running (H.faults host.old) (H.world host.old)
         result (H.faults host.new) (H.world host.new) }
     ensures can { IfOk result (λ run. CanCarry H.tells run.started (H.world host.new)) }
     ensures further { IfOk result (λ run. given_in running.windows < given_in run.windows) }
@@ -143,7 +143,7 @@ fn window_by_workers<R: Threads + Wait + Sync, H: Host, G: Gate + Sync>(
 ) -> Result<Running, Status>
     requires few { workers ≤ 16 }
     requires can { CanCarry H.tells running.started (H.world host.old) }
-    ensures goes { GoesOn H.tells workers_manner running (H.faults host.old) (H.world host.old)
+    ensures goes { GoesOnInWindows H.tells workers_manner running (H.faults host.old) (H.world host.old)
         result (H.faults host.new) (H.world host.new) }
     ensures can { IfOk result (λ run. CanCarry H.tells run.started (H.world host.new)) }
     ensures further { IfOk result (λ run. given_in running.windows < given_in run.windows) }

@@ -3,6 +3,7 @@ use Rattle.std.proofs.Common.{◌≡◌, ℕ, zero, suc, ◌+◌, ◌≤◌, ◌
 use Rattle.std.specs.Prelude.{filter}
 use Rattle.std.proofs.lemmas.Bool.{cond-true, cond_both, and_parts, cases_lt}
 use Rattle.cell_model.proofs.Units.{Member-append, filter-member}
+use Rattle.cell_model.specs.Units.{UnitsAscend}
 use Rattle.core_model.specs.CoreState.{UnitNo, Call, Origin, Member, CoreState}
 use Rattle.core_model.specs.declared.events.CoreEvent.{CoreEvent}
 use Rattle.core_model.specs.declared.events.CoreEvent.TheVariants.{Begin}
@@ -11,7 +12,6 @@ use Rattle.core_laws.proofs.EventCases.{Change, bad, begin, lock, raise, refuse,
 use Rattle.core_model.specs.Events.{applies, can, does, is_allowed, step}
 use Rattle.promise_spec.specs.TurnRule.{units_from}
 use Rattle.turn_rules.specs.NextEvent.{is_begin}
-use Rattle.turn_rules.specs.TurnLoop.{AreOlder}
 
 -- ---- the units of a run
 
@@ -88,7 +88,7 @@ units-within (suc n) b u (inr m) = (let t = units-within n (b + 1) u m in (omega
 -- ---- in number order
 
 -- one that is younger than all comes last
-pub older-last : (us : List UnitNo) (u : UnitNo) → ((v : UnitNo) → Member v us → v.0 < u.0) → AreOlder us → AreOlder (us ++ (u ∷ []))
+pub older-last : (us : List UnitNo) (u : UnitNo) → ((v : UnitNo) → Member v us → v.0 < u.0) → UnitsAscend us → UnitsAscend (us ++ (u ∷ []))
 older-last [] u below o = ((λ v m. absurd m), tt)
 older-last (x ∷ us) u below o = (
   (λ v m. elim (Member-append v us (u ∷ []) m) [
@@ -99,8 +99,8 @@ older-last (x ∷ us) u below o = (
 )
 
 -- those that stay are in order
-pub older-filter : (p : UnitNo → Bool) (us : List UnitNo) → AreOlder us → AreOlder (filter p us)
+pub older-filter : (p : UnitNo → Bool) (us : List UnitNo) → UnitsAscend us → UnitsAscend (filter p us)
 older-filter p [] o = tt
-older-filter p (u ∷ us) o = cond_both (p u) (u ∷ filter p us) (filter p us) AreOlder
+older-filter p (u ∷ us) o = cond_both (p u) (u ∷ filter p us) (filter p us) UnitsAscend
     (λ e. ((λ v m. o.0 v (filter-member p us v m).0), older-filter p us o.1))
     (λ e. older-filter p us o.1)

@@ -22,6 +22,11 @@ pub record HasTrail (r : Run) (u : UnitNo) (trail : List Given) : Type 0 where
   pub running : (ends r).units.phase u ≡ Running
   pub given : given_by (ends r) (got_in r u) ≡ Some trail
 
+-- the unit runs, this is what it was given by now, and its script asks for this next
+pub record AsksFor (types : ProgramTree) (r : Run) (u : UnitNo) (trail : List Given) (want : Want) : Type 0 where
+  pub given : HasTrail r u trail
+  pub asks : asks_next types r u trail ≡ want
+
 -- the unit runs, and got a child after this was given
 pub record IsAwaiting (r : Run) (u child : UnitNo) (call : Call) (depth : ℕ) (trail : List Given) : Type 0 where
   pub running : (ends r).units.phase u ≡ Running

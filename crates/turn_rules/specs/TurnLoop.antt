@@ -1,6 +1,7 @@
 -- What a loop of turns keeps.
-use Rattle.std.specs.Prelude.{◌≡◌, ◌<◌, ℕ, List, [], ◌∷◌, ◌++◌, length, get_or, Bool, true, false, Some, ⊤}
-use Rattle.core_model.specs.CoreState.{UnitNo, Member}
+use Rattle.std.specs.Prelude.{◌≡◌, ◌<◌, ℕ, List, [], ◌∷◌, ◌++◌, length, get_or, Bool, true, false, Some}
+use Rattle.cell_model.specs.Units.{UnitsAscend}
+use Rattle.core_model.specs.CoreState.{UnitNo}
 use Rattle.core_model.specs.Changes.{new_unit}
 use Rattle.core_model.specs.declared.events.CoreEvent.{CoreEvent}
 use Rattle.core_model.specs.LegalRuns.{Run, ends}
@@ -9,11 +10,6 @@ use Rattle.promise_spec.specs.TurnRule.{Mover, KeepsTurnRule, picked, picks_used
 use Rattle.turn_rules.specs.NextEvent.{with_event}
 use Rattle.turn_rules.specs.CarriedUnits.{AreKept, movers_of, can_begin_by}
 use Rattle.turn_rules.specs.Windows.{InWindow}
-
--- each unit is older than those behind it
-abbrev pub AreOlder : List UnitNo → Type 0
-AreOlder [] = ⊤
-AreOlder (u ∷ us) = ((v : UnitNo) → Member v us → u.0 < v.0) × AreOlder us
 
 -- Where a loop of turns stands: what the unit rule is told, whether the input comes in windows, whether the run so far is of turns
 -- alone, the width and the picks, the run so far, the units that are looked at, and how many picks were used.
@@ -36,7 +32,7 @@ pub record IsTurning (l : TurnLoop) : Type 0 where
   pub turn_rule : l.ruled ≡ true → KeepsTurnRule l.basis.types l.windowed (length l.basis.lines) l.width l.picks l.run
   pub within : l.ruled ≡ true → InWindow l.basis.types l.windowed (length l.basis.lines) l.run
   pub kept : AreKept l.run l.units
-  pub older : AreOlder l.units
+  pub older : UnitsAscend l.units
   pub count : l.ruled ≡ true → l.used ≡ picks_used l.run (length l.run.events)
 
 -- a line may begin

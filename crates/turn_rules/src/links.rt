@@ -13,23 +13,24 @@ ghost use Rattle.script_meaning.specs.Trails.{Given, GivenOutcome};
 ghost use Rattle.promise_spec.specs.UnitAnswers.{got_in};
 ghost use Rattle.promise_spec.specs.UnitRule.{Basis, IsDue, IsPlayOf};
 ghost use Rattle.turn_rules.specs.NextEvent.{with_event, is_own};
-ghost use Rattle.turn_rules.specs.Links.{asks_next, HasTrail, IsAwaiting, IsFreeing};
+ghost use Rattle.turn_rules.specs.Links.{AsksFor, HasTrail, IsAwaiting, IsFreeing};
 
 /// Where a unit runs and this is what it was given, what its script asks for next is due: a lock, its refusal, a child, or
-/// its end with the whole effect of its call. Where it is over, the first of its locks in ascending order may go.
+/// its end with the whole effect of its call.
 pub fn what_is_asked_for_is_due()
-    ensures lock { (s : Basis) (r : Run) (u : UnitNo) (trail : List Given) (g : GrainId) (mode : Mode) → HasTrail r u trail
-        → asks_next s.types r u trail ≡ WantLock g mode
+    ensures lock { (s : Basis) (r : Run) (u : UnitNo) (trail : List Given) (g : GrainId) (mode : Mode) → AsksFor s.types r u trail (WantLock g mode)
         → IsDue s (ends r) (got_in r) (Grant u g mode) × IsDue s (ends r) (got_in r) (Refuse u g mode) }
-    ensures raise { (s : Basis) (r : Run) (u : UnitNo) (trail : List Given) (g : GrainId) → HasTrail r u trail
-        → asks_next s.types r u trail ≡ WantRaise g
+    ensures raise { (s : Basis) (r : Run) (u : UnitNo) (trail : List Given) (g : GrainId) → AsksFor s.types r u trail (WantRaise g)
         → IsDue s (ends r) (got_in r) (Grant u g Update) × IsDue s (ends r) (got_in r) (Refuse u g Update) }
-    ensures child { (s : Basis) (r : Run) (u : UnitNo) (trail : List Given) (index depth : ℕ) (call : Call) → HasTrail r u trail
-        → asks_next s.types r u trail ≡ WantUnit call depth → IsDue s (ends r) (got_in r) (Begin (Child u index depth) call false) }
-    ensures end { (s : Basis) (r : Run) (u : UnitNo) (trail : List Given) (e : Effect) → HasTrail r u trail
-        → asks_next s.types r u trail ≡ Over e.result → IsPlayOf s.types e
-        → IsDue s (ends r) (got_in r) (Finish u e) × IsDue s (ends r) (got_in r) (EndPlain u e) }
-    ensures release { (s : Basis) (r : Run) (u : UnitNo) (g : GrainId) (rest : List GrainId) → IsFreeing r u (g ∷ rest)
+    ensures child { (s : Basis) (r : Run) (u : UnitNo) (trail : List Given) (index depth : ℕ) (call : Call)
+        → AsksFor s.types r u trail (WantUnit call depth) → IsDue s (ends r) (got_in r) (Begin (Child u index depth) call false) }
+    ensures end { (s : Basis) (r : Run) (u : UnitNo) (trail : List Given) (e : Effect) → AsksFor s.types r u trail (Over e.result)
+        → IsPlayOf s.types e → IsDue s (ends r) (got_in r) (Finish u e) × IsDue s (ends r) (got_in r) (EndPlain u e) }
+{}
+
+/// Where a unit is over, the first of its locks in ascending order may go.
+pub fn freed_locks_are_due()
+    ensures { (s : Basis) (r : Run) (u : UnitNo) (g : GrainId) (rest : List GrainId) → IsFreeing r u (g ∷ rest)
         → IsDue s (ends r) (got_in r) (Release u g) }
 {}
 

@@ -13,7 +13,8 @@ ghost use Rattle.turn_rules.specs.NextEvent.{with_event, got_next, MayCome, IsNe
 /// turn rule. Its last state is one step on, and each unit got what the event gives it besides.
 pub fn rules_go_on()
     ensures unit_rule { (s : Basis) (r : Run) (e : CoreEvent) → KeepsUnitRule s r → MayCome s r e → KeepsUnitRule s (with_event r e) }
-    ensures turn_rule { (types : ProgramTree) (windowed : Bool) (lines width : ℕ) (picks : List ℕ) (r : Run) (e : CoreEvent) → KeepsTurnRule types windowed lines width picks r
+    ensures turn_rule { (types : ProgramTree) (windowed : Bool) (lines width : ℕ) (picks : List ℕ) (r : Run) (e : CoreEvent)
+        → KeepsTurnRule types windowed lines width picks r
         → IsNext types windowed lines width picks r e → KeepsTurnRule types windowed lines width picks (with_event r e) }
     ensures state { (r : Run) (e : CoreEvent) → ends (with_event r e) ≡ step (ends r) e }
     ensures got { (r : Run) (e : CoreEvent) (u : UnitNo) → got_in (with_event r e) u ≡ got_in r u ++ got_next (ends r) e u }

@@ -14,20 +14,33 @@ ghost use Rattle.turn_rules.specs.CarriedUnits.{is_kept, movers_of};
 ghost use Rattle.turn_rules.specs.QuietRun.{HasRun};
 ghost use Rattle.turn_rules.specs.TurnLoop.{TurnLoop, IsTurning, IsPicked, has_room, with_new, turned};
 
-/// What a loop of turns keeps, over a run of turns alone or not: it holds of a run without events within the first window, and goes on by an event that doesn't apply, by a bad line
-/// or one that begins, where a line can begin, and else by an event of the mover at the pick: of the unit's own, of a child
-/// that the unit begins, or of the settler's step. A unit that begins is carried last; units that are no more to be looked
-/// at may be dropped. Where no mover and no line is left and there is no doubt, all is settled, and each line has its entry.
-pub fn turns_go_on()
+/// What a loop of turns keeps, over a run of turns alone or not: it holds of a run without events within the first window. Units that
+/// are no more to be looked at may be dropped. Where no mover and no line is left and there is no doubt, all is settled, and each line
+/// has its entry.
+pub fn turns_begin_and_end()
     ensures none { (s : Basis) (windowed ruled : Bool) (width : ℕ) (picks : List ℕ) (r : Run) → r.events ≡ [] → 0 < r.base
         → (windowed ≡ true → length s.lines ≤ window_lines)
         → IsTurning (record { basis = s; windowed = windowed; ruled = ruled; width = width; picks = picks; run = r; units = []; used = 0 }) }
+    ensures dropped { (l : TurnLoop) → IsTurning l → (stays : UnitNo → Bool) → ((u : UnitNo) → is_kept (ends l.run) u ≡ true → stays u ≡ true)
+        → IsTurning (record l { units = filter stays l.units }) }
+    ensures ended { (l : TurnLoop) → IsTurning l → (ends l.run).manager.doubt ≡ None → movers_of l.basis.types l.run l.units ≡ [] → 0 < l.width
+        → has_room l ≡ false → HasRun (length l.basis.lines) (ends l.run) }
+{}
+
+/// A loop of turns goes on by an event that doesn't apply, and, where a line can begin, by a bad line or by one that begins. The unit
+/// that begins is carried last.
+pub fn turns_go_on_by_lines()
     ensures unapplied { (l : TurnLoop) → IsTurning l → (e : CoreEvent) → applies (ends l.run) e ≡ false → IsTurning (turned l e l.units l.used) }
     ensures bad { (l : TurnLoop) → IsTurning l → (e : CoreEvent) → is_begin e ≡ false → mover_of e ≡ OfLine → has_room l ≡ true
         → MayCome l.basis l.run e → IsTurning (turned l e l.units l.used) }
     ensures line { (l : TurnLoop) → IsTurning l → (n : ℕ) (call : Call) (plain : Bool) → has_room l ≡ true
         → MayCome l.basis l.run (Begin (Line n) call plain) → applies (ends l.run) (Begin (Line n) call plain) ≡ true
         → IsTurning (turned l (Begin (Line n) call plain) (with_new l) l.used) }
+{}
+
+/// Where no line can begin a loop of turns goes on by an event of the mover at the pick: of the unit's own, of a child that the unit
+/// begins, which is carried last, or of the settler's step.
+pub fn turns_go_on_by_movers()
     ensures unit { (l : TurnLoop) → IsTurning l → (u : UnitNo) (e : CoreEvent) → IsPicked l (OfUnit u) → mover_of e ≡ OfUnit u → is_begin e ≡ false
         → MayCome l.basis l.run e → applies (ends l.run) e ≡ true → IsTurning (turned l e l.units (l.used + 1)) }
     ensures child { (l : TurnLoop) → IsTurning l → (u : UnitNo) (index depth : ℕ) (call : Call) → IsPicked l (OfUnit u)
@@ -36,8 +49,4 @@ pub fn turns_go_on()
         → IsTurning (turned l (Begin (Child u index depth) call false) (with_new l) (l.used + 1)) }
     ensures settler { (l : TurnLoop) → IsTurning l → (e : CoreEvent) → IsPicked l OfSettler → MakesEvent (settler_step (ends l.run)) e
         → applies (ends l.run) e ≡ true → IsTurning (turned l e l.units (l.used + 1)) }
-    ensures dropped { (l : TurnLoop) → IsTurning l → (stays : UnitNo → Bool) → ((u : UnitNo) → is_kept (ends l.run) u ≡ true → stays u ≡ true)
-        → IsTurning (record l { units = filter stays l.units }) }
-    ensures ended { (l : TurnLoop) → IsTurning l → (ends l.run).manager.doubt ≡ None → movers_of l.basis.types l.run l.units ≡ [] → 0 < l.width
-        → has_room l ≡ false → HasRun (length l.basis.lines) (ends l.run) }
 {}

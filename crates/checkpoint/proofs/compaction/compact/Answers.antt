@@ -13,7 +13,7 @@ use Rattle.log_reading.proofs.Errors.{other_value}
 use Rattle.silo_spec.specs.OpenedDisks.{opening_syncs}
 use Rattle.promise_spec.specs.Programs.{shape_in}
 use Rattle.promise_spec.specs.Endings.{Done, Memory}
-use Rattle.promise_spec.specs.Rewriting.{Compacts}
+use Rattle.promise_spec.specs.Compaction.{Compacts}
 use Rattle.silo_opening.specs.declared.faults.OpenFault.{OpenFault}
 use Rattle.silo_opening.specs.OpenedSilo.{program_in, in_folder, ending_of, IsOpenedFrom}
 use Rattle.silo_opening.proofs.OpeningCalls.{opens_same, opens_and_asked}
@@ -40,9 +40,9 @@ returns-then-opened-clause-compacts g c told manner lines =
     let f1 = g.H.Host.faults c.open_silo.new.host in
     let o = c.in_ok-opened.opened in
     let opens = c.open_silo.ensures.only told in
-    let left = c.in_ok-opened.ensures.left told in
-    let slot = c.in_ok-opened.ensures.slot in
-    let from = subst (λ (i : Image). IsOpenedFrom i o) (sym (opens_same (opening_syncs (seen_in w0.disk)) w0 w1 opens)) (c.in_ok-opened.ensures.opened told) in
+    let left = (c.in_ok-opened.ensures.opened told).left in
+    let slot = c.in_ok-opened.ensures.bounds.slot in
+    let from = subst (λ (i : Image). IsOpenedFrom i o) (sym (opens_same (opening_syncs (seen_in w0.disk)) w0 w1 opens)) ((c.in_ok-opened.ensures.opened told).opened) in
     inr (inl (is_last manner lines f0 f1 o w0 w1 w1 from slot opens left (none_asked w1) c.if-opened.true c.in_ok-opened.ensures.calm))
 
 pub returns-then-opened-ge-COUNT_LIMIT-clause-compacts : goal.returns-then-opened-ge-COUNT_LIMIT-clause-compacts
@@ -74,9 +74,9 @@ returns-in_err-latest-clause-compacts g c =
     rw (p.1, p.2) λ told manner lines.
     let o = c.in_ok-opened.opened in
     let opens = c.open_silo.ensures.only told in
-    let left = c.in_ok-opened.ensures.left told in
-    let slot = c.in_ok-opened.ensures.slot in
-    let from = subst (λ (i : Image). IsOpenedFrom i o) (sym (opens_same (opening_syncs (seen_in w0.disk)) w0 w1 opens)) (c.in_ok-opened.ensures.opened told) in
+    let left = (c.in_ok-opened.ensures.opened told).left in
+    let slot = c.in_ok-opened.ensures.bounds.slot in
+    let from = subst (λ (i : Image). IsOpenedFrom i o) (sym (opens_same (opening_syncs (seen_in w0.disk)) w0 w1 opens)) ((c.in_ok-opened.ensures.opened told).opened) in
     let asked = c.latest_versions.ensures.asked told in
     inl (unopened manner lines f0 f2 (ending_of e) w0 w2 (opens_and_asked (opening_syncs (seen_in w0.disk)) w0 w1 w2 opens asked)
     (latest_refused manner lines f0 f2 o w0 w1 w2 from slot opens left asked e (c.in_err-latest.ensures.refused told from))
@@ -88,9 +88,9 @@ fill-requires-clause-order g c told =
     let w1 = g.H.Host.world c.open_silo.new.host in
     let o = c.in_ok-opened.opened in
     let opens = c.open_silo.ensures.only told in
-    let left = c.in_ok-opened.ensures.left told in
-    let slot = c.in_ok-opened.ensures.slot in
-    let from = subst (λ (i : Image). IsOpenedFrom i o) (sym (opens_same (opening_syncs (seen_in w0.disk)) w0 w1 opens)) (c.in_ok-opened.ensures.opened told) in
+    let left = (c.in_ok-opened.ensures.opened told).left in
+    let slot = c.in_ok-opened.ensures.bounds.slot in
+    let from = subst (λ (i : Image). IsOpenedFrom i o) (sym (opens_same (opening_syncs (seen_in w0.disk)) w0 w1 opens)) ((c.in_ok-opened.ensures.opened told).opened) in
     (c.in_ok-latest.ensures.latest told from).order
 
 pub returns-in-Ok-fill-clause-compacts : goal.returns-in-Ok-fill-clause-compacts
@@ -105,25 +105,26 @@ returns-in-Ok-fill-clause-compacts g c told manner lines =
     let f3 = g.H.Host.faults c.fill.new.host in
     let o = c.in_ok-opened.opened in
     let opens = c.open_silo.ensures.only told in
-    let left = c.in_ok-opened.ensures.left told in
-    let slot = c.in_ok-opened.ensures.slot in
-    let from = subst (λ (i : Image). IsOpenedFrom i o) (sym (opens_same (opening_syncs (seen_in w0.disk)) w0 w1 opens)) (c.in_ok-opened.ensures.opened told) in
+    let left = (c.in_ok-opened.ensures.opened told).left in
+    let slot = c.in_ok-opened.ensures.bounds.slot in
+    let from = subst (λ (i : Image). IsOpenedFrom i o) (sym (opens_same (opening_syncs (seen_in w0.disk)) w0 w1 opens)) ((c.in_ok-opened.ensures.opened told).opened) in
     let asked = c.latest_versions.ensures.asked told in
     let are = c.in_ok-latest.ensures.latest told from in
     let latest = c.in_ok-latest.latest in
     let shape_is : c.in-Ok.shape ≡ shape_in (program_in o) = (λ i. record { types = c.in-Ok.ensures i }) in
     let other : o.generation ≢ 4294967295 = c.if-opened.false in
     let low : o.generation < 2 ^ 32 = search rules in
-    inr (inr (is_compacted manner lines f0 f3 o w0 w1 w2 from slot opens left asked Done w3 other low (c.fill.ensures.unread told) (c.fill.ensures.quiet told) (inl refl) (calm_then f0 f2 f3 (calm_then f0 f1 f2 c.in_ok-opened.ensures.calm c.in_ok-latest.ensures.calm) c.in-Ok-fill.ensures.calm)
+    inr (inr (is_compacted manner lines f0 f3 o w0 w1 w2 from slot opens left asked Done w3 other low (c.fill.ensures.quietly told).unread (c.fill.ensures.quietly told).quiet (inl refl) (calm_then f0 f2 f3 (calm_then f0 f1 f2 c.in_ok-opened.ensures.calm c.in_ok-latest.ensures.calm) c.in-Ok-fill.ensures.calm)
     (λ whole.
     let stay = λ (file : FileId). g.met.H.Host.seen_may_stay c.args.host.now file told in
     let stay_too = λ (file : FileId). g.met.H.Host.seen_may_stay c.latest_versions.new.host file told in
     let may = can o w0 w1 w2 from slot opens left asked stay stay_too whole in
     let shows = shown o w0 w1 w2 from slot opens left asked stay stay_too whole in
     let is = made o w0 w1 w2 from slot opens left asked stay stay_too whole latest are in
+    let gone = c.fill.ensures.gone told (program_in o) from.log (record { shape_is = shape_is; made = is; can = may; shown = shows }) in
     rewrites o w0 w1 w2 from slot opens left asked stay stay_too whole manner lines f0 f3 Done w3
-    (c.fill.ensures.moments told (program_in o) from.log shape_is is may shows) (c.fill.ensures.now told (program_in o) from.log shape_is is may shows) (c.fill.ensures.shows told (program_in o) from.log shape_is is may shows)
-    (λ ends image left_so. c.in-Ok-fill.ensures.done told (program_in o) from.log shape_is is may shows image left_so))))
+    gone.moments gone.now gone.shows
+    (λ ends image left_so. c.in-Ok-fill.ensures.done told (program_in o) from.log (record { shape_is = shape_is; made = is; can = may; shown = shows }) image left_so))))
 
 pub returns-clause-compacts : goal.returns-clause-compacts
 returns-clause-compacts g c told manner lines =
@@ -137,9 +138,9 @@ returns-clause-compacts g c told manner lines =
     let f3 = g.H.Host.faults c.fill.new.host in
     let o = c.in_ok-opened.opened in
     let opens = c.open_silo.ensures.only told in
-    let left = c.in_ok-opened.ensures.left told in
-    let slot = c.in_ok-opened.ensures.slot in
-    let from = subst (λ (i : Image). IsOpenedFrom i o) (sym (opens_same (opening_syncs (seen_in w0.disk)) w0 w1 opens)) (c.in_ok-opened.ensures.opened told) in
+    let left = (c.in_ok-opened.ensures.opened told).left in
+    let slot = c.in_ok-opened.ensures.bounds.slot in
+    let from = subst (λ (i : Image). IsOpenedFrom i o) (sym (opens_same (opening_syncs (seen_in w0.disk)) w0 w1 opens)) ((c.in_ok-opened.ensures.opened told).opened) in
     let asked = c.latest_versions.ensures.asked told in
     let are = c.in_ok-latest.ensures.latest told from in
     let latest = c.in_ok-latest.latest in
@@ -149,7 +150,7 @@ returns-clause-compacts g c told manner lines =
     let fault = c.in-Err-fill.fault in
     let there = subst (λ (i : Image). AllByRecursion (λ n. (version : Version) × (version_named o.slot One c.in-Ok.shape i n ≡ Ok version)) latest) (sym (ap seen_in asked.disk)) (latest_there o (seen_in w1.disk) from.log c.in-Ok.shape shape_is latest are.each) in
     subst (λ (e : OpenFault). Compacts (compacted_as {A = Unit {0}} manner lines w0 w3 f0 f3 (Err e))) (sym c.folder_fault.ensures)
-    (inr (inr (is_compacted manner lines f0 f3 o w0 w1 w2 from slot opens left asked (ending_of (in_folder fault)) w3 other low (c.fill.ensures.unread told) (c.fill.ensures.quiet told) (not_damaged {A = Unit {0}} fault (λ file place same. c.in-Err-fill.ensures.damaged file place (other_value _ (FolderFault.Damaged file place) same) told there))
+    (inr (inr (is_compacted manner lines f0 f3 o w0 w1 w2 from slot opens left asked (ending_of (in_folder fault)) w3 other low (c.fill.ensures.quietly told).unread (c.fill.ensures.quietly told).quiet (not_damaged {A = Unit {0}} fault (λ file place same. c.in-Err-fill.ensures.damaged file place (other_value _ (FolderFault.Damaged file place) same) told there))
     (calm_before (ending_of (in_folder fault)) f0 f2 f3 (calm_then f0 f1 f2 c.in_ok-opened.ensures.calm c.in_ok-latest.ensures.calm) (read_failed f2 f3 fault c.in-Err-fill.ensures.fault))
     (λ whole.
     let stay = λ (file : FileId). g.met.H.Host.seen_may_stay c.args.host.now file told in
@@ -157,6 +158,7 @@ returns-clause-compacts g c told manner lines =
     let may = can o w0 w1 w2 from slot opens left asked stay stay_too whole in
     let shows = shown o w0 w1 w2 from slot opens left asked stay stay_too whole in
     let is = made o w0 w1 w2 from slot opens left asked stay stay_too whole latest are in
+    let gone = c.fill.ensures.gone told (program_in o) from.log (record { shape_is = shape_is; made = is; can = may; shown = shows }) in
     rewrites o w0 w1 w2 from slot opens left asked stay stay_too whole manner lines f0 f3 (ending_of (in_folder fault)) w3
-    (c.fill.ensures.moments told (program_in o) from.log shape_is is may shows) (c.fill.ensures.now told (program_in o) from.log shape_is is may shows) (c.fill.ensures.shows told (program_in o) from.log shape_is is may shows)
+    gone.moments gone.now gone.shows
     (λ ends image left_so. absurd (never_done fault ends))))))

@@ -1,4 +1,4 @@
-use Rattle.std.proofs.Common.{◌≡◌, ◌-◌, ◌++◌, ℕ, List, length, map, false, Result, Ok, Err, rules, sym, ◌∙◌, subst}
+use Rattle.std.proofs.Common.{◌≡◌, ◌-◌, ◌++◌, ℕ, List, length, map, false, Result, Ok, Err, rules, sym, subst}
 use Rattle.std.specs.Prelude.{is_err, OnOk}
 use Rattle.std.specs.Int.{w32, to_le_bytes}
 use Rattle.std.specs.List.{AllByRecursion}
@@ -6,7 +6,6 @@ use Rattle.std.proofs.lemmas.Result.{err_from_is_err_and}
 use Rattle.base_types.specs.declared.stores.Version.{Version}
 use Rattle.host_trait.specs.declared.channels.FileId.TheVariants.{Manager, Program as ProgramFile}
 use Rattle.host_trait.specs.Disk.{overlaid, settled}
-use Rattle.host_trait.proofs.Moments.{arrives_then}
 use Rattle.field_codec.specs.declared.formats.Format.TheVariants.{One}
 use Rattle.commit_log.specs.declared.records.Named.{Named}
 use Rattle.log_reading.specs.declared.faults.FolderFault.{FolderFault}
@@ -15,8 +14,7 @@ use Rattle.log_reading.specs.Versions.{version_named}
 use Rattle.log_reading.proofs.Errors.{other_value}
 use Rattle.checkpoint.specs.Copies.{copy_of, IsCopied}
 use Rattle.checkpoint.specs.Pieces.{HasPieces}
-use Rattle.checkpoint.proofs.Moments.{closes_input, closes_clock}
-use Rattle.checkpoint.proofs.Fillings.{closes_output, grains_kept, there_still, first_gone, second_filled, third_filled, fourth_filled, last_gone, last_done, some_left}
+use Rattle.checkpoint.proofs.Fillings.{closes_quietly, run_quietly, copies_quietly, then_quietly, grains_kept, there_still, first_gone, second_filled, third_filled, fourth_filled, last_gone, last_done, some_left}
 use Rattle.checkpoint.proofs.compaction.fill.Goals as goal
 
 -- none was answered
@@ -24,56 +22,24 @@ on_ok : {T E : Type 0} (r : Result T E) {P : Type 0} → is_err r ≡ false → 
 on_ok (Ok x) is holds = holds
 on_ok (Err e) is holds = absurd (cc is)
 
-pub returns-then-is_err-clause-moments : goal.returns-then-is_err-clause-moments
-returns-then-is_err-clause-moments g c told p log shape made can shown =
+pub returns-then-is_err-clause-gone : goal.returns-then-is_err-clause-gone
+returns-then-is_err-clause-gone g c told p log may =
     let n = c.args.next.now in
     let w0 = g.H.Host.world c.args.host.now in
     let w1 = g.H.Host.world c.close_gate.new.host in
     let closes = c.close_gate.ensures.closes told in
-    (first_gone n log w0 w1 w1 can shown closes).moments
+    first_gone n log w0 w1 w1 may.can may.shown closes
 
-pub returns-then-is_err-clause-now : goal.returns-then-is_err-clause-now
-returns-then-is_err-clause-now g c told p log shape made can shown =
+pub returns-then-is_err-clause-quietly : goal.returns-then-is_err-clause-quietly
+returns-then-is_err-clause-quietly g c told =
     let n = c.args.next.now in
     let w0 = g.H.Host.world c.args.host.now in
     let w1 = g.H.Host.world c.close_gate.new.host in
     let closes = c.close_gate.ensures.closes told in
-    (first_gone n log w0 w1 w1 can shown closes).now
+    closes_quietly (1 - n.live) w0 w1 closes
 
-pub returns-then-is_err-clause-shows : goal.returns-then-is_err-clause-shows
-returns-then-is_err-clause-shows g c told p log shape made can shown =
-    let n = c.args.next.now in
-    let w0 = g.H.Host.world c.args.host.now in
-    let w1 = g.H.Host.world c.close_gate.new.host in
-    let closes = c.close_gate.ensures.closes told in
-    (first_gone n log w0 w1 w1 can shown closes).shows
-
-pub returns-then-is_err-clause-quiet : goal.returns-then-is_err-clause-quiet
-returns-then-is_err-clause-quiet g c told =
-    let n = c.args.next.now in
-    let w0 = g.H.Host.world c.args.host.now in
-    let w1 = g.H.Host.world c.close_gate.new.host in
-    let closes = c.close_gate.ensures.closes told in
-    closes_output (1 - n.live) w0 w1 closes
-
-pub returns-then-is_err-clause-unread : goal.returns-then-is_err-clause-unread
-returns-then-is_err-clause-unread g c told =
-    let n = c.args.next.now in
-    let w0 = g.H.Host.world c.args.host.now in
-    let w1 = g.H.Host.world c.close_gate.new.host in
-    let closes = c.close_gate.ensures.closes told in
-    closes_input (1 - n.live) w0 w1 closes
-
-pub returns-then-is_err-clause-clock : goal.returns-then-is_err-clause-clock
-returns-then-is_err-clause-clock g c told =
-    let n = c.args.next.now in
-    let w0 = g.H.Host.world c.args.host.now in
-    let w1 = g.H.Host.world c.close_gate.new.host in
-    let closes = c.close_gate.ensures.closes told in
-    closes_clock (1 - n.live) w0 w1 closes
-
-pub returns-then-is_err-2-clause-moments : goal.returns-then-is_err-2-clause-moments
-returns-then-is_err-2-clause-moments g c told p log shape made can shown =
+pub returns-then-is_err-2-clause-gone : goal.returns-then-is_err-2-clause-gone
+returns-then-is_err-2-clause-gone g c told p log may =
     let n = c.args.next.now in
     let w0 = g.H.Host.world c.args.host.now in
     let w1 = g.H.Host.world c.close_gate.new.host in
@@ -81,62 +47,20 @@ returns-then-is_err-2-clause-moments g c told p log shape made can shown =
     let w2 = g.H.Host.world c.write_program.new.host in
     let program = c.write_program.ensures.run told in
     let shut = on_ok c.close_gate.result (search rules) c.close_gate.ensures.shut told in
-    ((second_filled n log w0 w1 w2 can shown closes shut _ 1 program).gone).moments
+    (second_filled n log w0 w1 w2 may.can may.shown closes shut _ 1 program).gone
 
-pub returns-then-is_err-2-clause-now : goal.returns-then-is_err-2-clause-now
-returns-then-is_err-2-clause-now g c told p log shape made can shown =
+pub returns-then-is_err-2-clause-quietly : goal.returns-then-is_err-2-clause-quietly
+returns-then-is_err-2-clause-quietly g c told =
     let n = c.args.next.now in
     let w0 = g.H.Host.world c.args.host.now in
     let w1 = g.H.Host.world c.close_gate.new.host in
     let closes = c.close_gate.ensures.closes told in
     let w2 = g.H.Host.world c.write_program.new.host in
     let program = c.write_program.ensures.run told in
-    let shut = on_ok c.close_gate.result (search rules) c.close_gate.ensures.shut told in
-    ((second_filled n log w0 w1 w2 can shown closes shut _ 1 program).gone).now
+    then_quietly w0 w1 w2 (closes_quietly (1 - n.live) w0 w1 closes) (run_quietly (ProgramFile (1 - n.live)) _ 1 w1 w2 program)
 
-pub returns-then-is_err-2-clause-shows : goal.returns-then-is_err-2-clause-shows
-returns-then-is_err-2-clause-shows g c told p log shape made can shown =
-    let n = c.args.next.now in
-    let w0 = g.H.Host.world c.args.host.now in
-    let w1 = g.H.Host.world c.close_gate.new.host in
-    let closes = c.close_gate.ensures.closes told in
-    let w2 = g.H.Host.world c.write_program.new.host in
-    let program = c.write_program.ensures.run told in
-    let shut = on_ok c.close_gate.result (search rules) c.close_gate.ensures.shut told in
-    ((second_filled n log w0 w1 w2 can shown closes shut _ 1 program).gone).shows
-
-pub returns-then-is_err-2-clause-quiet : goal.returns-then-is_err-2-clause-quiet
-returns-then-is_err-2-clause-quiet g c told =
-    let n = c.args.next.now in
-    let w0 = g.H.Host.world c.args.host.now in
-    let w1 = g.H.Host.world c.close_gate.new.host in
-    let closes = c.close_gate.ensures.closes told in
-    let w2 = g.H.Host.world c.write_program.new.host in
-    let program = c.write_program.ensures.run told in
-    program.now.output ∙ closes_output (1 - n.live) w0 w1 closes
-
-pub returns-then-is_err-2-clause-unread : goal.returns-then-is_err-2-clause-unread
-returns-then-is_err-2-clause-unread g c told =
-    let n = c.args.next.now in
-    let w0 = g.H.Host.world c.args.host.now in
-    let w1 = g.H.Host.world c.close_gate.new.host in
-    let closes = c.close_gate.ensures.closes told in
-    let w2 = g.H.Host.world c.write_program.new.host in
-    let program = c.write_program.ensures.run told in
-    program.input ∙ closes_input (1 - n.live) w0 w1 closes
-
-pub returns-then-is_err-2-clause-clock : goal.returns-then-is_err-2-clause-clock
-returns-then-is_err-2-clause-clock g c told =
-    let n = c.args.next.now in
-    let w0 = g.H.Host.world c.args.host.now in
-    let w1 = g.H.Host.world c.close_gate.new.host in
-    let closes = c.close_gate.ensures.closes told in
-    let w2 = g.H.Host.world c.write_program.new.host in
-    let program = c.write_program.ensures.run told in
-    arrives_then w0 w1 w2 (closes_clock (1 - n.live) w0 w1 closes) program.clock
-
-pub returns-in_err-copy_versions-clause-moments : goal.returns-in_err-copy_versions-clause-moments
-returns-in_err-copy_versions-clause-moments g c told p log shape made can shown =
+pub returns-in_err-copy_versions-clause-gone : goal.returns-in_err-copy_versions-clause-gone
+returns-in_err-copy_versions-clause-gone g c told p log may =
     let n = c.args.next.now in
     let w0 = g.H.Host.world c.args.host.now in
     let w1 = g.H.Host.world c.close_gate.new.host in
@@ -146,10 +70,10 @@ returns-in_err-copy_versions-clause-moments g c told p log shape made can shown 
     let w3 = g.H.Host.world c.copy_versions.new.host in
     let copies = c.copy_versions.ensures.only told in
     let shut = on_ok c.close_gate.result (search rules) c.close_gate.ensures.shut told in
-    ((third_filled n log w0 w1 w2 can shown closes shut _ 1 program w3 copies).gone).moments
+    (third_filled n log w0 w1 w2 may.can may.shown closes shut _ 1 program w3 copies).gone
 
-pub returns-in_err-copy_versions-clause-now : goal.returns-in_err-copy_versions-clause-now
-returns-in_err-copy_versions-clause-now g c told p log shape made can shown =
+pub returns-in_err-copy_versions-clause-quietly : goal.returns-in_err-copy_versions-clause-quietly
+returns-in_err-copy_versions-clause-quietly g c told =
     let n = c.args.next.now in
     let w0 = g.H.Host.world c.args.host.now in
     let w1 = g.H.Host.world c.close_gate.new.host in
@@ -158,60 +82,10 @@ returns-in_err-copy_versions-clause-now g c told p log shape made can shown =
     let program = c.write_program.ensures.run told in
     let w3 = g.H.Host.world c.copy_versions.new.host in
     let copies = c.copy_versions.ensures.only told in
-    let shut = on_ok c.close_gate.result (search rules) c.close_gate.ensures.shut told in
-    ((third_filled n log w0 w1 w2 can shown closes shut _ 1 program w3 copies).gone).now
+    then_quietly w0 w2 w3 (then_quietly w0 w1 w2 (closes_quietly (1 - n.live) w0 w1 closes) (run_quietly (ProgramFile (1 - n.live)) _ 1 w1 w2 program)) (copies_quietly (1 - n.live) w2 w3 copies)
 
-pub returns-in_err-copy_versions-clause-shows : goal.returns-in_err-copy_versions-clause-shows
-returns-in_err-copy_versions-clause-shows g c told p log shape made can shown =
-    let n = c.args.next.now in
-    let w0 = g.H.Host.world c.args.host.now in
-    let w1 = g.H.Host.world c.close_gate.new.host in
-    let closes = c.close_gate.ensures.closes told in
-    let w2 = g.H.Host.world c.write_program.new.host in
-    let program = c.write_program.ensures.run told in
-    let w3 = g.H.Host.world c.copy_versions.new.host in
-    let copies = c.copy_versions.ensures.only told in
-    let shut = on_ok c.close_gate.result (search rules) c.close_gate.ensures.shut told in
-    ((third_filled n log w0 w1 w2 can shown closes shut _ 1 program w3 copies).gone).shows
-
-pub returns-in_err-copy_versions-clause-quiet : goal.returns-in_err-copy_versions-clause-quiet
-returns-in_err-copy_versions-clause-quiet g c told =
-    let n = c.args.next.now in
-    let w0 = g.H.Host.world c.args.host.now in
-    let w1 = g.H.Host.world c.close_gate.new.host in
-    let closes = c.close_gate.ensures.closes told in
-    let w2 = g.H.Host.world c.write_program.new.host in
-    let program = c.write_program.ensures.run told in
-    let w3 = g.H.Host.world c.copy_versions.new.host in
-    let copies = c.copy_versions.ensures.only told in
-    copies.now.output ∙ program.now.output ∙ closes_output (1 - n.live) w0 w1 closes
-
-pub returns-in_err-copy_versions-clause-unread : goal.returns-in_err-copy_versions-clause-unread
-returns-in_err-copy_versions-clause-unread g c told =
-    let n = c.args.next.now in
-    let w0 = g.H.Host.world c.args.host.now in
-    let w1 = g.H.Host.world c.close_gate.new.host in
-    let closes = c.close_gate.ensures.closes told in
-    let w2 = g.H.Host.world c.write_program.new.host in
-    let program = c.write_program.ensures.run told in
-    let w3 = g.H.Host.world c.copy_versions.new.host in
-    let copies = c.copy_versions.ensures.only told in
-    copies.input ∙ program.input ∙ closes_input (1 - n.live) w0 w1 closes
-
-pub returns-in_err-copy_versions-clause-clock : goal.returns-in_err-copy_versions-clause-clock
-returns-in_err-copy_versions-clause-clock g c told =
-    let n = c.args.next.now in
-    let w0 = g.H.Host.world c.args.host.now in
-    let w1 = g.H.Host.world c.close_gate.new.host in
-    let closes = c.close_gate.ensures.closes told in
-    let w2 = g.H.Host.world c.write_program.new.host in
-    let program = c.write_program.ensures.run told in
-    let w3 = g.H.Host.world c.copy_versions.new.host in
-    let copies = c.copy_versions.ensures.only told in
-    arrives_then w0 w2 w3 (arrives_then w0 w1 w2 (closes_clock (1 - n.live) w0 w1 closes) program.clock) copies.clock
-
-pub returns-in_err-write_pieces-clause-moments : goal.returns-in_err-write_pieces-clause-moments
-returns-in_err-write_pieces-clause-moments g c told p log shape made can shown =
+pub returns-in_err-write_pieces-clause-gone : goal.returns-in_err-write_pieces-clause-gone
+returns-in_err-write_pieces-clause-gone g c told p log may =
     let n = c.args.next.now in
     let w0 = g.H.Host.world c.args.host.now in
     let w1 = g.H.Host.world c.close_gate.new.host in
@@ -223,10 +97,10 @@ returns-in_err-write_pieces-clause-moments g c told p log shape made can shown =
     let w4 = g.H.Host.world c.write_pieces.new.host in
     let run = c.write_pieces.ensures.run told in
     let shut = on_ok c.close_gate.result (search rules) c.close_gate.ensures.shut told in
-    ((fourth_filled n log w0 w1 w2 can shown closes shut _ 1 program w3 copies w4 1 run).gone).moments
+    (fourth_filled n log w0 w1 w2 may.can may.shown closes shut _ 1 program w3 copies w4 1 run).gone
 
-pub returns-in_err-write_pieces-clause-now : goal.returns-in_err-write_pieces-clause-now
-returns-in_err-write_pieces-clause-now g c told p log shape made can shown =
+pub returns-in_err-write_pieces-clause-quietly : goal.returns-in_err-write_pieces-clause-quietly
+returns-in_err-write_pieces-clause-quietly g c told =
     let n = c.args.next.now in
     let w0 = g.H.Host.world c.args.host.now in
     let w1 = g.H.Host.world c.close_gate.new.host in
@@ -237,68 +111,10 @@ returns-in_err-write_pieces-clause-now g c told p log shape made can shown =
     let copies = c.copy_versions.ensures.only told in
     let w4 = g.H.Host.world c.write_pieces.new.host in
     let run = c.write_pieces.ensures.run told in
-    let shut = on_ok c.close_gate.result (search rules) c.close_gate.ensures.shut told in
-    ((fourth_filled n log w0 w1 w2 can shown closes shut _ 1 program w3 copies w4 1 run).gone).now
+    then_quietly w0 w3 w4 (then_quietly w0 w2 w3 (then_quietly w0 w1 w2 (closes_quietly (1 - n.live) w0 w1 closes) (run_quietly (ProgramFile (1 - n.live)) _ 1 w1 w2 program)) (copies_quietly (1 - n.live) w2 w3 copies)) (run_quietly (Manager (1 - n.live)) _ 1 w3 w4 run)
 
-pub returns-in_err-write_pieces-clause-shows : goal.returns-in_err-write_pieces-clause-shows
-returns-in_err-write_pieces-clause-shows g c told p log shape made can shown =
-    let n = c.args.next.now in
-    let w0 = g.H.Host.world c.args.host.now in
-    let w1 = g.H.Host.world c.close_gate.new.host in
-    let closes = c.close_gate.ensures.closes told in
-    let w2 = g.H.Host.world c.write_program.new.host in
-    let program = c.write_program.ensures.run told in
-    let w3 = g.H.Host.world c.copy_versions.new.host in
-    let copies = c.copy_versions.ensures.only told in
-    let w4 = g.H.Host.world c.write_pieces.new.host in
-    let run = c.write_pieces.ensures.run told in
-    let shut = on_ok c.close_gate.result (search rules) c.close_gate.ensures.shut told in
-    ((fourth_filled n log w0 w1 w2 can shown closes shut _ 1 program w3 copies w4 1 run).gone).shows
-
-pub returns-in_err-write_pieces-clause-quiet : goal.returns-in_err-write_pieces-clause-quiet
-returns-in_err-write_pieces-clause-quiet g c told =
-    let n = c.args.next.now in
-    let w0 = g.H.Host.world c.args.host.now in
-    let w1 = g.H.Host.world c.close_gate.new.host in
-    let closes = c.close_gate.ensures.closes told in
-    let w2 = g.H.Host.world c.write_program.new.host in
-    let program = c.write_program.ensures.run told in
-    let w3 = g.H.Host.world c.copy_versions.new.host in
-    let copies = c.copy_versions.ensures.only told in
-    let w4 = g.H.Host.world c.write_pieces.new.host in
-    let run = c.write_pieces.ensures.run told in
-    run.now.output ∙ copies.now.output ∙ program.now.output ∙ closes_output (1 - n.live) w0 w1 closes
-
-pub returns-in_err-write_pieces-clause-unread : goal.returns-in_err-write_pieces-clause-unread
-returns-in_err-write_pieces-clause-unread g c told =
-    let n = c.args.next.now in
-    let w0 = g.H.Host.world c.args.host.now in
-    let w1 = g.H.Host.world c.close_gate.new.host in
-    let closes = c.close_gate.ensures.closes told in
-    let w2 = g.H.Host.world c.write_program.new.host in
-    let program = c.write_program.ensures.run told in
-    let w3 = g.H.Host.world c.copy_versions.new.host in
-    let copies = c.copy_versions.ensures.only told in
-    let w4 = g.H.Host.world c.write_pieces.new.host in
-    let run = c.write_pieces.ensures.run told in
-    run.input ∙ copies.input ∙ program.input ∙ closes_input (1 - n.live) w0 w1 closes
-
-pub returns-in_err-write_pieces-clause-clock : goal.returns-in_err-write_pieces-clause-clock
-returns-in_err-write_pieces-clause-clock g c told =
-    let n = c.args.next.now in
-    let w0 = g.H.Host.world c.args.host.now in
-    let w1 = g.H.Host.world c.close_gate.new.host in
-    let closes = c.close_gate.ensures.closes told in
-    let w2 = g.H.Host.world c.write_program.new.host in
-    let program = c.write_program.ensures.run told in
-    let w3 = g.H.Host.world c.copy_versions.new.host in
-    let copies = c.copy_versions.ensures.only told in
-    let w4 = g.H.Host.world c.write_pieces.new.host in
-    let run = c.write_pieces.ensures.run told in
-    arrives_then w0 w3 w4 (arrives_then w0 w2 w3 (arrives_then w0 w1 w2 (closes_clock (1 - n.live) w0 w1 closes) program.clock) copies.clock) run.clock
-
-pub returns-then-is_err-3-clause-moments : goal.returns-then-is_err-3-clause-moments
-returns-then-is_err-3-clause-moments g c told p log shape made can shown =
+pub returns-then-is_err-3-clause-gone : goal.returns-then-is_err-3-clause-gone
+returns-then-is_err-3-clause-gone g c told p log may =
     let n = c.args.next.now in
     let w0 = g.H.Host.world c.args.host.now in
     let w1 = g.H.Host.world c.close_gate.new.host in
@@ -315,10 +131,26 @@ returns-then-is_err-3-clause-moments g c told p log shape made can shown =
     let text = subst (λ (t : List ℕ). w2.disk (ProgramFile (1 - n.live)) ≡ settled (overlaid (w1.disk (ProgramFile (1 - n.live))).seen 0 (to_le_bytes w32 (length t) ++ t))) c.as_slice.ensures (on_ok c.write_program.result (search rules) c.write_program.ensures.ok told) in
     let copied = subst (AllByRecursion (IsCopied n.live c.args.shape.now (seen_in w2.disk) w3.disk)) c.as_slice-latest.ensures (c.in_ok-copy_versions.ensures.copied told) in
     let pieces = subst (λ (l : List Named). HasPieces n.generation n.head (map copy_of l) (w3.disk (Manager (1 - n.live))) (w4.disk (Manager (1 - n.live)))) c.as_slice-latest.ensures (c.in_ok-write_pieces.ensures.written told) in
-    (last_gone n log w0 w1 w2 can shown closes shut _ 1 program w3 copies w4 1 run p c.requires.may (c.requires.order told) made c.args.shape.now shape text copied pieces w5 opening).moments
+    last_gone n log w0 w1 w2 may.can may.shown closes shut _ 1 program w3 copies w4 1 run p c.requires.may (c.requires.order told) may.made c.args.shape.now may.shape_is text copied pieces w5 opening
 
-pub returns-then-is_err-3-clause-now : goal.returns-then-is_err-3-clause-now
-returns-then-is_err-3-clause-now g c told p log shape made can shown =
+pub returns-then-is_err-3-clause-quietly : goal.returns-then-is_err-3-clause-quietly
+returns-then-is_err-3-clause-quietly g c told =
+    let n = c.args.next.now in
+    let w0 = g.H.Host.world c.args.host.now in
+    let w1 = g.H.Host.world c.close_gate.new.host in
+    let closes = c.close_gate.ensures.closes told in
+    let w2 = g.H.Host.world c.write_program.new.host in
+    let program = c.write_program.ensures.run told in
+    let w3 = g.H.Host.world c.copy_versions.new.host in
+    let copies = c.copy_versions.ensures.only told in
+    let w4 = g.H.Host.world c.write_pieces.new.host in
+    let run = c.write_pieces.ensures.run told in
+    let w5 = g.H.Host.world c.open_gate.new.host in
+    let opening = c.open_gate.ensures.run told in
+    then_quietly w0 w4 w5 (then_quietly w0 w3 w4 (then_quietly w0 w2 w3 (then_quietly w0 w1 w2 (closes_quietly (1 - n.live) w0 w1 closes) (run_quietly (ProgramFile (1 - n.live)) _ 1 w1 w2 program)) (copies_quietly (1 - n.live) w2 w3 copies)) (run_quietly (Manager (1 - n.live)) _ 1 w3 w4 run)) (run_quietly (Manager (1 - n.live)) _ 1 w4 w5 opening)
+
+pub returns-clause-gone : goal.returns-clause-gone
+returns-clause-gone g c told p log may =
     let n = c.args.next.now in
     let w0 = g.H.Host.world c.args.host.now in
     let w1 = g.H.Host.world c.close_gate.new.host in
@@ -335,10 +167,10 @@ returns-then-is_err-3-clause-now g c told p log shape made can shown =
     let text = subst (λ (t : List ℕ). w2.disk (ProgramFile (1 - n.live)) ≡ settled (overlaid (w1.disk (ProgramFile (1 - n.live))).seen 0 (to_le_bytes w32 (length t) ++ t))) c.as_slice.ensures (on_ok c.write_program.result (search rules) c.write_program.ensures.ok told) in
     let copied = subst (AllByRecursion (IsCopied n.live c.args.shape.now (seen_in w2.disk) w3.disk)) c.as_slice-latest.ensures (c.in_ok-copy_versions.ensures.copied told) in
     let pieces = subst (λ (l : List Named). HasPieces n.generation n.head (map copy_of l) (w3.disk (Manager (1 - n.live))) (w4.disk (Manager (1 - n.live)))) c.as_slice-latest.ensures (c.in_ok-write_pieces.ensures.written told) in
-    (last_gone n log w0 w1 w2 can shown closes shut _ 1 program w3 copies w4 1 run p c.requires.may (c.requires.order told) made c.args.shape.now shape text copied pieces w5 opening).now
+    last_gone n log w0 w1 w2 may.can may.shown closes shut _ 1 program w3 copies w4 1 run p c.requires.may (c.requires.order told) may.made c.args.shape.now may.shape_is text copied pieces w5 opening
 
-pub returns-then-is_err-3-clause-shows : goal.returns-then-is_err-3-clause-shows
-returns-then-is_err-3-clause-shows g c told p log shape made can shown =
+pub returns-clause-quietly : goal.returns-clause-quietly
+returns-clause-quietly g c told =
     let n = c.args.next.now in
     let w0 = g.H.Host.world c.args.host.now in
     let w1 = g.H.Host.world c.close_gate.new.host in
@@ -351,170 +183,10 @@ returns-then-is_err-3-clause-shows g c told p log shape made can shown =
     let run = c.write_pieces.ensures.run told in
     let w5 = g.H.Host.world c.open_gate.new.host in
     let opening = c.open_gate.ensures.run told in
-    let shut = on_ok c.close_gate.result (search rules) c.close_gate.ensures.shut told in
-    let text = subst (λ (t : List ℕ). w2.disk (ProgramFile (1 - n.live)) ≡ settled (overlaid (w1.disk (ProgramFile (1 - n.live))).seen 0 (to_le_bytes w32 (length t) ++ t))) c.as_slice.ensures (on_ok c.write_program.result (search rules) c.write_program.ensures.ok told) in
-    let copied = subst (AllByRecursion (IsCopied n.live c.args.shape.now (seen_in w2.disk) w3.disk)) c.as_slice-latest.ensures (c.in_ok-copy_versions.ensures.copied told) in
-    let pieces = subst (λ (l : List Named). HasPieces n.generation n.head (map copy_of l) (w3.disk (Manager (1 - n.live))) (w4.disk (Manager (1 - n.live)))) c.as_slice-latest.ensures (c.in_ok-write_pieces.ensures.written told) in
-    (last_gone n log w0 w1 w2 can shown closes shut _ 1 program w3 copies w4 1 run p c.requires.may (c.requires.order told) made c.args.shape.now shape text copied pieces w5 opening).shows
-
-pub returns-then-is_err-3-clause-quiet : goal.returns-then-is_err-3-clause-quiet
-returns-then-is_err-3-clause-quiet g c told =
-    let n = c.args.next.now in
-    let w0 = g.H.Host.world c.args.host.now in
-    let w1 = g.H.Host.world c.close_gate.new.host in
-    let closes = c.close_gate.ensures.closes told in
-    let w2 = g.H.Host.world c.write_program.new.host in
-    let program = c.write_program.ensures.run told in
-    let w3 = g.H.Host.world c.copy_versions.new.host in
-    let copies = c.copy_versions.ensures.only told in
-    let w4 = g.H.Host.world c.write_pieces.new.host in
-    let run = c.write_pieces.ensures.run told in
-    let w5 = g.H.Host.world c.open_gate.new.host in
-    let opening = c.open_gate.ensures.run told in
-    opening.now.output ∙ run.now.output ∙ copies.now.output ∙ program.now.output ∙ closes_output (1 - n.live) w0 w1 closes
-
-pub returns-then-is_err-3-clause-unread : goal.returns-then-is_err-3-clause-unread
-returns-then-is_err-3-clause-unread g c told =
-    let n = c.args.next.now in
-    let w0 = g.H.Host.world c.args.host.now in
-    let w1 = g.H.Host.world c.close_gate.new.host in
-    let closes = c.close_gate.ensures.closes told in
-    let w2 = g.H.Host.world c.write_program.new.host in
-    let program = c.write_program.ensures.run told in
-    let w3 = g.H.Host.world c.copy_versions.new.host in
-    let copies = c.copy_versions.ensures.only told in
-    let w4 = g.H.Host.world c.write_pieces.new.host in
-    let run = c.write_pieces.ensures.run told in
-    let w5 = g.H.Host.world c.open_gate.new.host in
-    let opening = c.open_gate.ensures.run told in
-    opening.input ∙ run.input ∙ copies.input ∙ program.input ∙ closes_input (1 - n.live) w0 w1 closes
-
-pub returns-then-is_err-3-clause-clock : goal.returns-then-is_err-3-clause-clock
-returns-then-is_err-3-clause-clock g c told =
-    let n = c.args.next.now in
-    let w0 = g.H.Host.world c.args.host.now in
-    let w1 = g.H.Host.world c.close_gate.new.host in
-    let closes = c.close_gate.ensures.closes told in
-    let w2 = g.H.Host.world c.write_program.new.host in
-    let program = c.write_program.ensures.run told in
-    let w3 = g.H.Host.world c.copy_versions.new.host in
-    let copies = c.copy_versions.ensures.only told in
-    let w4 = g.H.Host.world c.write_pieces.new.host in
-    let run = c.write_pieces.ensures.run told in
-    let w5 = g.H.Host.world c.open_gate.new.host in
-    let opening = c.open_gate.ensures.run told in
-    arrives_then w0 w4 w5 (arrives_then w0 w3 w4 (arrives_then w0 w2 w3 (arrives_then w0 w1 w2 (closes_clock (1 - n.live) w0 w1 closes) program.clock) copies.clock) run.clock) opening.clock
-
-pub returns-clause-moments : goal.returns-clause-moments
-returns-clause-moments g c told p log shape made can shown =
-    let n = c.args.next.now in
-    let w0 = g.H.Host.world c.args.host.now in
-    let w1 = g.H.Host.world c.close_gate.new.host in
-    let closes = c.close_gate.ensures.closes told in
-    let w2 = g.H.Host.world c.write_program.new.host in
-    let program = c.write_program.ensures.run told in
-    let w3 = g.H.Host.world c.copy_versions.new.host in
-    let copies = c.copy_versions.ensures.only told in
-    let w4 = g.H.Host.world c.write_pieces.new.host in
-    let run = c.write_pieces.ensures.run told in
-    let w5 = g.H.Host.world c.open_gate.new.host in
-    let opening = c.open_gate.ensures.run told in
-    let shut = on_ok c.close_gate.result (search rules) c.close_gate.ensures.shut told in
-    let text = subst (λ (t : List ℕ). w2.disk (ProgramFile (1 - n.live)) ≡ settled (overlaid (w1.disk (ProgramFile (1 - n.live))).seen 0 (to_le_bytes w32 (length t) ++ t))) c.as_slice.ensures (on_ok c.write_program.result (search rules) c.write_program.ensures.ok told) in
-    let copied = subst (AllByRecursion (IsCopied n.live c.args.shape.now (seen_in w2.disk) w3.disk)) c.as_slice-latest.ensures (c.in_ok-copy_versions.ensures.copied told) in
-    let pieces = subst (λ (l : List Named). HasPieces n.generation n.head (map copy_of l) (w3.disk (Manager (1 - n.live))) (w4.disk (Manager (1 - n.live)))) c.as_slice-latest.ensures (c.in_ok-write_pieces.ensures.written told) in
-    (last_gone n log w0 w1 w2 can shown closes shut _ 1 program w3 copies w4 1 run p c.requires.may (c.requires.order told) made c.args.shape.now shape text copied pieces w5 opening).moments
-
-pub returns-clause-now : goal.returns-clause-now
-returns-clause-now g c told p log shape made can shown =
-    let n = c.args.next.now in
-    let w0 = g.H.Host.world c.args.host.now in
-    let w1 = g.H.Host.world c.close_gate.new.host in
-    let closes = c.close_gate.ensures.closes told in
-    let w2 = g.H.Host.world c.write_program.new.host in
-    let program = c.write_program.ensures.run told in
-    let w3 = g.H.Host.world c.copy_versions.new.host in
-    let copies = c.copy_versions.ensures.only told in
-    let w4 = g.H.Host.world c.write_pieces.new.host in
-    let run = c.write_pieces.ensures.run told in
-    let w5 = g.H.Host.world c.open_gate.new.host in
-    let opening = c.open_gate.ensures.run told in
-    let shut = on_ok c.close_gate.result (search rules) c.close_gate.ensures.shut told in
-    let text = subst (λ (t : List ℕ). w2.disk (ProgramFile (1 - n.live)) ≡ settled (overlaid (w1.disk (ProgramFile (1 - n.live))).seen 0 (to_le_bytes w32 (length t) ++ t))) c.as_slice.ensures (on_ok c.write_program.result (search rules) c.write_program.ensures.ok told) in
-    let copied = subst (AllByRecursion (IsCopied n.live c.args.shape.now (seen_in w2.disk) w3.disk)) c.as_slice-latest.ensures (c.in_ok-copy_versions.ensures.copied told) in
-    let pieces = subst (λ (l : List Named). HasPieces n.generation n.head (map copy_of l) (w3.disk (Manager (1 - n.live))) (w4.disk (Manager (1 - n.live)))) c.as_slice-latest.ensures (c.in_ok-write_pieces.ensures.written told) in
-    (last_gone n log w0 w1 w2 can shown closes shut _ 1 program w3 copies w4 1 run p c.requires.may (c.requires.order told) made c.args.shape.now shape text copied pieces w5 opening).now
-
-pub returns-clause-shows : goal.returns-clause-shows
-returns-clause-shows g c told p log shape made can shown =
-    let n = c.args.next.now in
-    let w0 = g.H.Host.world c.args.host.now in
-    let w1 = g.H.Host.world c.close_gate.new.host in
-    let closes = c.close_gate.ensures.closes told in
-    let w2 = g.H.Host.world c.write_program.new.host in
-    let program = c.write_program.ensures.run told in
-    let w3 = g.H.Host.world c.copy_versions.new.host in
-    let copies = c.copy_versions.ensures.only told in
-    let w4 = g.H.Host.world c.write_pieces.new.host in
-    let run = c.write_pieces.ensures.run told in
-    let w5 = g.H.Host.world c.open_gate.new.host in
-    let opening = c.open_gate.ensures.run told in
-    let shut = on_ok c.close_gate.result (search rules) c.close_gate.ensures.shut told in
-    let text = subst (λ (t : List ℕ). w2.disk (ProgramFile (1 - n.live)) ≡ settled (overlaid (w1.disk (ProgramFile (1 - n.live))).seen 0 (to_le_bytes w32 (length t) ++ t))) c.as_slice.ensures (on_ok c.write_program.result (search rules) c.write_program.ensures.ok told) in
-    let copied = subst (AllByRecursion (IsCopied n.live c.args.shape.now (seen_in w2.disk) w3.disk)) c.as_slice-latest.ensures (c.in_ok-copy_versions.ensures.copied told) in
-    let pieces = subst (λ (l : List Named). HasPieces n.generation n.head (map copy_of l) (w3.disk (Manager (1 - n.live))) (w4.disk (Manager (1 - n.live)))) c.as_slice-latest.ensures (c.in_ok-write_pieces.ensures.written told) in
-    (last_gone n log w0 w1 w2 can shown closes shut _ 1 program w3 copies w4 1 run p c.requires.may (c.requires.order told) made c.args.shape.now shape text copied pieces w5 opening).shows
-
-pub returns-clause-quiet : goal.returns-clause-quiet
-returns-clause-quiet g c told =
-    let n = c.args.next.now in
-    let w0 = g.H.Host.world c.args.host.now in
-    let w1 = g.H.Host.world c.close_gate.new.host in
-    let closes = c.close_gate.ensures.closes told in
-    let w2 = g.H.Host.world c.write_program.new.host in
-    let program = c.write_program.ensures.run told in
-    let w3 = g.H.Host.world c.copy_versions.new.host in
-    let copies = c.copy_versions.ensures.only told in
-    let w4 = g.H.Host.world c.write_pieces.new.host in
-    let run = c.write_pieces.ensures.run told in
-    let w5 = g.H.Host.world c.open_gate.new.host in
-    let opening = c.open_gate.ensures.run told in
-    opening.now.output ∙ run.now.output ∙ copies.now.output ∙ program.now.output ∙ closes_output (1 - n.live) w0 w1 closes
-
-pub returns-clause-unread : goal.returns-clause-unread
-returns-clause-unread g c told =
-    let n = c.args.next.now in
-    let w0 = g.H.Host.world c.args.host.now in
-    let w1 = g.H.Host.world c.close_gate.new.host in
-    let closes = c.close_gate.ensures.closes told in
-    let w2 = g.H.Host.world c.write_program.new.host in
-    let program = c.write_program.ensures.run told in
-    let w3 = g.H.Host.world c.copy_versions.new.host in
-    let copies = c.copy_versions.ensures.only told in
-    let w4 = g.H.Host.world c.write_pieces.new.host in
-    let run = c.write_pieces.ensures.run told in
-    let w5 = g.H.Host.world c.open_gate.new.host in
-    let opening = c.open_gate.ensures.run told in
-    opening.input ∙ run.input ∙ copies.input ∙ program.input ∙ closes_input (1 - n.live) w0 w1 closes
-
-pub returns-clause-clock : goal.returns-clause-clock
-returns-clause-clock g c told =
-    let n = c.args.next.now in
-    let w0 = g.H.Host.world c.args.host.now in
-    let w1 = g.H.Host.world c.close_gate.new.host in
-    let closes = c.close_gate.ensures.closes told in
-    let w2 = g.H.Host.world c.write_program.new.host in
-    let program = c.write_program.ensures.run told in
-    let w3 = g.H.Host.world c.copy_versions.new.host in
-    let copies = c.copy_versions.ensures.only told in
-    let w4 = g.H.Host.world c.write_pieces.new.host in
-    let run = c.write_pieces.ensures.run told in
-    let w5 = g.H.Host.world c.open_gate.new.host in
-    let opening = c.open_gate.ensures.run told in
-    arrives_then w0 w4 w5 (arrives_then w0 w3 w4 (arrives_then w0 w2 w3 (arrives_then w0 w1 w2 (closes_clock (1 - n.live) w0 w1 closes) program.clock) copies.clock) run.clock) opening.clock
+    then_quietly w0 w4 w5 (then_quietly w0 w3 w4 (then_quietly w0 w2 w3 (then_quietly w0 w1 w2 (closes_quietly (1 - n.live) w0 w1 closes) (run_quietly (ProgramFile (1 - n.live)) _ 1 w1 w2 program)) (copies_quietly (1 - n.live) w2 w3 copies)) (run_quietly (Manager (1 - n.live)) _ 1 w3 w4 run)) (run_quietly (Manager (1 - n.live)) _ 1 w4 w5 opening)
 
 pub returns-clause-done : goal.returns-clause-done
-returns-clause-done g c told p log shape made can shown image is =
+returns-clause-done g c told p log may image is =
     let n = c.args.next.now in
     let w0 = g.H.Host.world c.args.host.now in
     let w1 = g.H.Host.world c.close_gate.new.host in
@@ -531,7 +203,7 @@ returns-clause-done g c told p log shape made can shown image is =
     let text = subst (λ (t : List ℕ). w2.disk (ProgramFile (1 - n.live)) ≡ settled (overlaid (w1.disk (ProgramFile (1 - n.live))).seen 0 (to_le_bytes w32 (length t) ++ t))) c.as_slice.ensures (on_ok c.write_program.result (search rules) c.write_program.ensures.ok told) in
     let copied = subst (AllByRecursion (IsCopied n.live c.args.shape.now (seen_in w2.disk) w3.disk)) c.as_slice-latest.ensures (c.in_ok-copy_versions.ensures.copied told) in
     let pieces = subst (λ (l : List Named). HasPieces n.generation n.head (map copy_of l) (w3.disk (Manager (1 - n.live))) (w4.disk (Manager (1 - n.live)))) c.as_slice-latest.ensures (c.in_ok-write_pieces.ensures.written told) in
-    last_done n log w0 w1 w2 can shown closes shut _ 1 program w3 copies w4 1 run p c.requires.may (c.requires.order told) made c.args.shape.now shape text copied pieces w5 opening (on_ok c.open_gate.result (search rules) c.open_gate.ensures.ok told) image is
+    last_done n log w0 w1 w2 may.can may.shown closes shut _ 1 program w3 copies w4 1 run p c.requires.may (c.requires.order told) may.made c.args.shape.now may.shape_is text copied pieces w5 opening (on_ok c.open_gate.result (search rules) c.open_gate.ensures.ok told) image is
 
 pub returns-in_err-copy_versions-clause-damaged : goal.returns-in_err-copy_versions-clause-damaged
 returns-in_err-copy_versions-clause-damaged g c =

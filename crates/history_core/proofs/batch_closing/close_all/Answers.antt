@@ -19,19 +19,19 @@ pub close_one-requires-clause-over : goal.close_one-requires-clause-over
 close_one-requires-clause-over c =
     let ds = drop-at-or c.args.decisions.now c.loop-decision.decision-index Commit c.loop-decision-test.true in
     let ws = first-waits c.args.decisions.now c.loop-decision.decision-index c.loop-decision.waiting.items c.remove-done.new.self.items c.remove-done.result c.loop-decision.invariant.within c.loop-decision-test.true c.remove-done.ensures.value c.remove-done.ensures.items in
-    (over-front (λ u. is_over (phase_in c.loop-decision.units u)) ds ws c.loop-decision.invariant.over).0
+    (over-front (λ u. is_over (phase_in c.loop-decision.units u)) ds ws c.loop-decision.invariant.closable.over).0
 
 pub close_one-requires-clause-learn : goal.close_one-requires-clause-learn
 close_one-requires-clause-learn c =
     let ds = drop-at-or c.args.decisions.now c.loop-decision.decision-index Commit c.loop-decision-test.true in
     let ws = first-waits c.args.decisions.now c.loop-decision.decision-index c.loop-decision.waiting.items c.remove-done.new.self.items c.remove-done.result c.loop-decision.invariant.within c.loop-decision-test.true c.remove-done.ensures.value c.remove-done.ensures.items in
-    (let t = room-front c.loop-decision.learn.spare ds ws c.loop-decision.invariant.room in omega (arith, t))
+    (let t = room-front c.loop-decision.learn.spare ds ws c.loop-decision.invariant.closable.learn in omega (arith, t))
 
 pub close_one-requires-clause-placed : goal.close_one-requires-clause-placed
 close_one-requires-clause-placed c =
     let ds = drop-at-or c.args.decisions.now c.loop-decision.decision-index Commit c.loop-decision-test.true in
     let ws = first-waits c.args.decisions.now c.loop-decision.decision-index c.loop-decision.waiting.items c.remove-done.new.self.items c.remove-done.result c.loop-decision.invariant.within c.loop-decision-test.true c.remove-done.ensures.value c.remove-done.ensures.items in
-    (placed-front (has_place c.loop-decision.last) ds ws c.loop-decision.invariant.placed).0
+    (placed-front (has_place c.loop-decision.last) ds ws c.loop-decision.invariant.closable.placed).0
 
 pub loop-decision-preserved : goal.loop-decision-preserved
 loop-decision-preserved c =
@@ -47,7 +47,7 @@ loop-decision-preserved c =
     let ws = first-waits c.args.decisions.now c.loop-decision.decision-index c.loop-decision.waiting.items c.remove-done.new.self.items c.remove-done.result c.loop-decision.invariant.within c.loop-decision-test.true c.remove-done.ensures.value c.remove-done.ensures.items in
     let lengths : length (drop i c.args.decisions.now) ≡ suc (length rest) = ap (λ (xs : List Decision). length xs) ds in
     let waitings : length c.loop-decision.waiting.items ≡ suc (length c.remove-done.new.self.items) = ap (λ (xs : List FinishedUnit). length xs) ws in
-    let phases : (x : UnitNo) → is_over (phase_in c.loop-decision.units x) ≡ is_over (phase_in c.close_one.new.units x) = λ x. sym (ap (λ (us : Units). is_over (us.phase x)) (e.units (λ y. None))) in record {
+    let phases : (x : UnitNo) → is_over (phase_in c.loop-decision.units x) ≡ is_over (phase_in c.close_one.new.units x) = λ x. sym (ap (λ (us : Units). is_over (us.phase x)) (e.others.units (λ y. None))) in record {
       verdict = ap (verdicts_after f rest es) e.verdict ∙ (λ k. verdicts_after f (sym ds k) (map effect_in (sym ws k)) v) ∙ c.loop-decision.invariant.verdict;
       entries =
           ap (λ (xs : List Entry). xs ++ entries_after c.args.how rest es) e.entries
@@ -64,12 +64,16 @@ loop-decision-preserved c =
           (λ k. last_after f g rest es (e.verdict k) (e.last g k))
           ∙ (λ k. last_after f g (sym ds k) (map effect_in (sym ws k)) v (last_in c.loop-decision.last g))
           ∙ c.loop-decision.invariant.last g;
-      units = λ seen. e.units seen ∙ c.loop-decision.invariant.units seen;
-      result = e.result ∙ c.loop-decision.invariant.result;
+      others = record {
+        units = λ seen. e.others.units seen ∙ c.loop-decision.invariant.others.units seen;
+        result = e.others.result ∙ c.loop-decision.invariant.others.result;
+      };
       waiting = ap (λ (xs : List FinishedUnit). drop 1 xs) (sym ws ∙ c.loop-decision.invariant.waiting) ∙ drop-more i 1 c.args.waiting.now.items;
       within = omega (arith, c.loop-decision.invariant.within, lengths, waitings);
-      over = over-same (λ x. is_over (phase_in c.loop-decision.units x)) (λ x. is_over (phase_in c.close_one.new.units x)) rest es phases (over-front (λ u. is_over (phase_in c.loop-decision.units u)) ds ws c.loop-decision.invariant.over).1;
-      spare = omega (arith, c.loop-decision.invariant.spare, lengths, e.spare);
-      room = (let t = room-front c.loop-decision.learn.spare ds ws c.loop-decision.invariant.room in omega (arith, t, e.room));
-      placed = placed-after-more (has_place c.loop-decision.last) (has_place c.close_one.new.last) rest es e.places (placed-front (has_place c.loop-decision.last) ds ws c.loop-decision.invariant.placed).1;
+      closable = record {
+        over = over-same (λ x. is_over (phase_in c.loop-decision.units x)) (λ x. is_over (phase_in c.close_one.new.units x)) rest es phases (over-front (λ u. is_over (phase_in c.loop-decision.units u)) ds ws c.loop-decision.invariant.closable.over).1;
+        entries = omega (arith, c.loop-decision.invariant.closable.entries, lengths, e.spare);
+        learn = (let t = room-front c.loop-decision.learn.spare ds ws c.loop-decision.invariant.closable.learn in omega (arith, t, e.room));
+        placed = placed-after-more (has_place c.loop-decision.last) (has_place c.close_one.new.last) rest es e.places (placed-front (has_place c.loop-decision.last) ds ws c.loop-decision.invariant.closable.placed).1;
+      };
     }

@@ -37,7 +37,7 @@ returns-in-Ok-replay_log-clause-audited g c told =
     let opened = c.in-Ok.opened in
     let types = program_tree opened.checked in
     let image = seen_in old.disk in
-    let o = c.in-Ok.ensures.opened told in
+    let o = (c.in-Ok.ensures.opened told).opened in
     let p = program_opened image opened o in
     let same : seen_in mid.disk ≡ image = opens_same _ old mid (c.in-Ok.ensures.only told) in
     let shape : c.in-Ok-shape.shape ≡ shape_in p = (λ i. record { types = c.in-Ok-shape.ensures i }) in
@@ -63,9 +63,9 @@ returns-in-Ok-replay_log-clause-settled g c told live is =
     let old = g.H.Host.world c.args.host.now in
     let new = g.H.Host.world c.replay_log.new.host in
     let opened = c.in-Ok.opened in
-    let o = c.in-Ok.ensures.opened told in
+    let o = (c.in-Ok.ensures.opened told).opened in
     let read : IsLive magic opened.slot (seen_in old.disk) = reads_is_live (seen_in old.disk) opened.slot o.log o.reads in
-    let here : new.disk (Manager opened.slot) ≡ settled (old.disk (Manager opened.slot)).seen = ap (λ (d : Disk). d (Manager opened.slot)) (c.replay_log.ensures.asked told).disk ∙ c.in-Ok.ensures.settled told in
+    let here : new.disk (Manager opened.slot) ≡ settled (old.disk (Manager opened.slot)).seen = ap (λ (d : Disk). d (Manager opened.slot)) (c.replay_log.ensures.asked told).disk ∙ (c.in-Ok.ensures.opened told).settled in
     subst (λ (slot : ℕ). new.disk (Manager slot) ≡ settled (old.disk (Manager slot)).seen) (one_slot opened.slot live (seen_in old.disk) read is) here
 
 pub returns-in-Ok-replay_log-clause-calm : goal.returns-in-Ok-replay_log-clause-calm
@@ -83,7 +83,7 @@ returns-clause-refused g c told =
     let mid = g.H.Host.world c.open_silo.new.host in
     let opened = c.in-Ok.opened in
     let image = seen_in old.disk in
-    let o = c.in-Ok.ensures.opened told in
+    let o = (c.in-Ok.ensures.opened told).opened in
     let p = program_opened image opened o in
     let same : seen_in mid.disk ≡ image = opens_same _ old mid (c.in-Ok.ensures.only told) in
     let shape : c.in-Ok-shape.shape ≡ shape_in p = (λ i. record { types = c.in-Ok-shape.ensures i }) in

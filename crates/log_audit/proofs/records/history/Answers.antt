@@ -16,8 +16,8 @@ returns-in-Ok-clause-reports g c told manner asked =
     let opened = c.in-Ok.opened in
     let run = c.in-Ok.ensures.only told in
     let same : seen_in mid.disk ≡ seen_in old.disk = opens_same _ old mid run in
-    let o : IsOpenedFrom (seen_in mid.disk) opened = subst (λ (image : Image). IsOpenedFrom image opened) (sym same) (c.in-Ok.ensures.opened told) in
-    inr (is_reported opened.slot old mid (c.in-Ok.ensures.settled told) run history_text o.log manner asked (g.H.Host.world c.write_history.new.host) (g.H.Host.faults c.args.host.now) (g.H.Host.faults c.write_history.new.host) c.write_history.result
+    let o : IsOpenedFrom (seen_in mid.disk) opened = subst (λ (image : Image). IsOpenedFrom image opened) (sym same) (c.in-Ok.ensures.opened told).opened in
+    inr (is_reported opened.slot old mid (c.in-Ok.ensures.opened told).settled run history_text o.log manner asked (g.H.Host.world c.write_history.new.host) (g.H.Host.faults c.args.host.now) (g.H.Host.faults c.write_history.new.host) c.write_history.result
     (ap (λ (image : Image). opened_as image) (sym same) ∙ o.reads) (c.write_history.ensures.puts told o) (c.write_history.ensures.ended told o)
     (failed_then _ _ _ _ c.in-Ok.ensures.calm c.write_history.ensures.exact))
 

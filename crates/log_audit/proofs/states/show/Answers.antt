@@ -15,9 +15,9 @@ returns-in-Ok-clause-reports g c told manner asked =
     let opened = c.in-Ok.opened in
     let run = c.in-Ok.ensures.only told in
     let same : seen_in mid.disk ≡ seen_in old.disk = opens_same _ old mid run in
-    let o : IsOpenedFrom (seen_in mid.disk) opened = subst (λ (image : Image). IsOpenedFrom image opened) (sym same) (c.in-Ok.ensures.opened told) in
+    let o : IsOpenedFrom (seen_in mid.disk) opened = subst (λ (image : Image). IsOpenedFrom image opened) (sym same) (c.in-Ok.ensures.opened told).opened in
     let shown = c.write_show.ensures.puts told o in
-    inr (is_shown opened.slot old mid (c.in-Ok.ensures.settled told) run shown.0 o.log manner asked (g.H.Host.world c.write_show.new.host) (g.H.Host.faults c.args.host.now) (g.H.Host.faults c.write_show.new.host) c.write_show.result
+    inr (is_shown opened.slot old mid (c.in-Ok.ensures.opened told).settled run shown.0 o.log manner asked (g.H.Host.world c.write_show.new.host) (g.H.Host.faults c.args.host.now) (g.H.Host.faults c.write_show.new.host) c.write_show.result
     (ap (λ (image : Image). opened_as image) (sym same) ∙ o.reads) shown.1 shown.2 (c.write_show.ensures.ended told o)
     (failed_then _ _ _ _ c.in-Ok.ensures.calm c.write_show.ensures.exact))
 

@@ -1,4 +1,4 @@
-use Rattle.promise_laws.proofs.SoundFolders.{run_keeps, shows_keep, reports_keep, audits_keep, bad_use_keeps, init_keeps, init_makes, load_keeps, checks_keep, obeying_keeps}
+use Rattle.promise_laws.proofs.SoundFolders.{run_keeps, shows_keep, reports_keep, audits_keep, bad_use_keeps, load_keeps, checks_keep, obeying_keeps}
 use Rattle.promise_laws.proofs.RewrittenFolders.{compact_keeps}
 use Rattle.promise_laws.proofs.folders.folders_stay_sound.Goals as goal
 
@@ -14,20 +14,14 @@ returns-clause-audits c = audits_keep
 pub returns-clause-bad_use : goal.returns-clause-bad_use
 returns-clause-bad_use c = bad_use_keeps
 
-pub returns-clause-init : goal.returns-clause-init
-returns-clause-init c = init_keeps
-
-pub returns-clause-makes : goal.returns-clause-makes
-returns-clause-makes c = init_makes
-
 pub returns-clause-load : goal.returns-clause-load
-returns-clause-load c = load_keeps
+returns-clause-load c n seed m bank r is = load_keeps n seed m bank r is.checked is.text
 
 pub returns-clause-check : goal.returns-clause-check
 returns-clause-check c = checks_keep
 
 pub returns-clause-any : goal.returns-clause-any
-returns-clause-any c = obeying_keeps
+returns-clause-any c command bank r is = obeying_keeps command bank r is.checked is.text
 
 pub returns-clause-show : goal.returns-clause-show
 returns-clause-show c = shows_keep

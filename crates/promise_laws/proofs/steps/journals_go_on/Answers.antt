@@ -5,13 +5,13 @@ pub returns-clause-begins : goal.returns-clause-begins
 returns-clause-begins c live p opening old now output past log = begins_at live p opening old now output past log
 
 pub returns-clause-stays : goal.returns-clause-stays
-returns-clause-stays c live p opening old mid new said unsaid proper at s = stays_on live p opening old said unsaid mid new proper at s
+returns-clause-stays c j mid new proper at s = stays_on j.live j.program j.opening j.old j.said j.unsaid mid new proper at s
 
 pub returns-clause-seals : goal.returns-clause-seals
-returns-clause-seals c live p opening old mid new said unsaid batch proper at s = seals_on live p opening old said unsaid batch mid new proper at s
+returns-clause-seals c j batch mid new proper at s = seals_on j.live j.program j.opening j.old j.said j.unsaid batch mid new proper at s
 
 pub returns-clause-settles : goal.returns-clause-settles
-returns-clause-settles c live p opening old now said unsaid more none at = settles_on live p opening old said unsaid more now none at
+returns-clause-settles c j more now none at = settles_on j.live j.program j.opening j.old j.said j.unsaid more now none at
 
 pub returns-clause-asked : goal.returns-clause-asked
 returns-clause-asked c = asked_seals

@@ -11,45 +11,43 @@ use Rattle.silo_opening.proofs.ManagerLook.{log_run_beside, program_run_beside, 
 use Rattle.silo_opening.proofs.FolderFilling.{while_program, while_header, while_opened, filled, seen_long, program_shut, header_shut, lacks_program, lacks_log}
 use Rattle.silo_opening.proofs.creation.fill.Goals as goal
 
-pub returns-in_err-map_err-clause-moments : goal.returns-in_err-map_err-clause-moments
-returns-in_err-map_err-clause-moments g c told lacks =
+pub returns-in_err-map_err-clause-filled : goal.returns-in_err-map_err-clause-filled
+returns-in_err-map_err-clause-filled g c told lacks =
     let w0 = g.H.Host.world c.args.host.now in
     let text : List ℕ = c.args.program.now in
     let first = c.write_program.ensures.run told in
-    weaker (ChangesFile program_file (Tears 0 (4 + length text)) w0) (IsNewAt magic text) (while_program text w0 (c.requires.shut told) lacks) first.moments
-
-pub returns-in_err-map_err-clause-now : goal.returns-in_err-map_err-clause-now
-returns-in_err-map_err-clause-now g c told lacks =
-    let w0 = g.H.Host.world c.args.host.now in
-    let first = c.write_program.ensures.run told in
-    while_program c.args.program.now w0 (c.requires.shut told) lacks _ first.now
+    record {
+      moments = weaker (ChangesFile program_file (Tears 0 (4 + length text)) w0) (IsNewAt magic text) (while_program text w0 (c.requires.shut told) lacks) first.moments;
+      now = while_program c.args.program.now w0 (c.requires.shut told) lacks _ first.now;
+      lacks = lacks_program c.args.program.now (g.H.Host.world c.args.host.now) lacks _ (c.write_program.ensures.run told).now;
+      shows = none_shown magic (g.H.Host.world c.write_program.new.host) (program_shut c.args.program.now w0 (c.requires.shut told) (moment_of (g.H.Host.world c.write_program.new.host)) first.now, lacks_program c.args.program.now w0 lacks (moment_of (g.H.Host.world c.write_program.new.host)) first.now);
+    }
 
 pub returns-in_err-map_err-clause-beside : goal.returns-in_err-map_err-clause-beside
 returns-in_err-map_err-clause-beside g c told = program_run_beside (Tears 0 (4 + length c.args.program.now)) 1 _ _ (c.write_program.ensures.run told)
 
-pub returns-in_err-map_err-2-clause-moments : goal.returns-in_err-map_err-2-clause-moments
-returns-in_err-map_err-2-clause-moments g c told lacks =
+pub returns-in_err-map_err-2-clause-filled : goal.returns-in_err-map_err-2-clause-filled
+returns-in_err-map_err-2-clause-filled g c told lacks =
     let w0 = g.H.Host.world c.args.host.now in
     let w1 = g.H.Host.world c.write_program.new.host in
     let text : List ℕ = c.args.program.now in
     let P = IsNewAt magic text in
     let first = c.write_program.ensures.run told in
     let second = c.write_synced.ensures.run told in
-    both P (weaker (ChangesFile program_file (Tears 0 (4 + length text)) w0) P (while_program text w0 (c.requires.shut told) lacks) first.moments)
-    (weaker (ChangesFile manager (Tears 1 15) w1) P (while_header text w0 (c.requires.shut told) w1 first.now (lacks_program text w0 lacks _ first.now)) second.moments)
-
-pub returns-in_err-map_err-2-clause-now : goal.returns-in_err-map_err-2-clause-now
-returns-in_err-map_err-2-clause-now g c told lacks =
-    let w0 = g.H.Host.world c.args.host.now in
-    let w1 = g.H.Host.world c.write_program.new.host in
-    while_header c.args.program.now w0 (c.requires.shut told) w1 (c.write_program.ensures.run told).now (lacks_program c.args.program.now w0 lacks _ (c.write_program.ensures.run told).now) _ (c.write_synced.ensures.run told).now
+    let w2 = g.H.Host.world c.write_synced.new.host in
+    record {
+      moments = both P (weaker (ChangesFile program_file (Tears 0 (4 + length text)) w0) P (while_program text w0 (c.requires.shut told) lacks) first.moments) (weaker (ChangesFile manager (Tears 1 15) w1) P (while_header text w0 (c.requires.shut told) w1 first.now (lacks_program text w0 lacks _ first.now)) second.moments);
+      now = while_header c.args.program.now w0 (c.requires.shut told) w1 (c.write_program.ensures.run told).now (lacks_program c.args.program.now w0 lacks _ (c.write_program.ensures.run told).now) _ (c.write_synced.ensures.run told).now;
+      lacks = lacks_log (Tears 1 15) (g.H.Host.world c.write_program.new.host) (lacks_program c.args.program.now (g.H.Host.world c.args.host.now) lacks _ (c.write_program.ensures.run told).now) _ (c.write_synced.ensures.run told).now;
+      shows = none_shown magic w2 (header_shut c.args.program.now w0 (c.requires.shut told) w1 first.now (moment_of w2) second.now, lacks_log (Tears 1 15) w1 (lacks_program c.args.program.now w0 lacks (moment_of w1) first.now) (moment_of w2) second.now);
+    }
 
 pub returns-in_err-map_err-2-clause-beside : goal.returns-in_err-map_err-2-clause-beside
 returns-in_err-map_err-2-clause-beside g c told =
     beside_then _ _ _ (program_run_beside (Tears 0 (4 + length c.args.program.now)) 1 _ _ (c.write_program.ensures.run told)) (log_run_beside (Tears 1 15) 1 _ _ (c.write_synced.ensures.run told))
 
-pub returns-in_err-map_err-3-clause-moments : goal.returns-in_err-map_err-3-clause-moments
-returns-in_err-map_err-3-clause-moments g c told lacks =
+pub returns-in_err-map_err-3-clause-filled : goal.returns-in_err-map_err-3-clause-filled
+returns-in_err-map_err-3-clause-filled g c told lacks =
     let w0 = g.H.Host.world c.args.host.now in
     let w1 = g.H.Host.world c.write_program.new.host in
     let w2 = g.H.Host.world c.write_synced.new.host in
@@ -60,21 +58,13 @@ returns-in_err-map_err-3-clause-moments g c told lacks =
     let third = c.write_synced-2.ensures.run told in
     let ok-1 : is_ok c.write_program.result ≡ true = search rules in
     let ok-2 : is_ok c.write_synced.result ≡ true = search rules in
-    both P (both P (weaker (ChangesFile program_file (Tears 0 (4 + length text)) w0) P (while_program text w0 (c.requires.shut told) lacks) first.moments)
-    (weaker (ChangesFile manager (Tears 1 15) w1) P (while_header text w0 (c.requires.shut told) w1 first.now (lacks_program text w0 lacks _ first.now)) second.moments))
-    (weaker (ChangesFile manager (Tears 0 1) w2) P (while_opened text w0 (c.requires.shut told) w1 first.now (on_ok _ c.write_program.result c.write_program.ensures.ok ok-1 told) w2 second.now (on_ok _ c.write_synced.result c.write_synced.ensures.ok ok-2 told) (lacks_log (Tears 1 15) w1 (lacks_program text w0 lacks _ first.now) _ second.now)) third.moments)
-
-pub returns-in_err-map_err-3-clause-now : goal.returns-in_err-map_err-3-clause-now
-returns-in_err-map_err-3-clause-now g c told lacks =
-    let w0 = g.H.Host.world c.args.host.now in
-    let w1 = g.H.Host.world c.write_program.new.host in
-    let w2 = g.H.Host.world c.write_synced.new.host in
-    let first = c.write_program.ensures.run told in
-    let second = c.write_synced.ensures.run told in
-    let third = c.write_synced-2.ensures.run told in
-    let ok-1 : is_ok c.write_program.result ≡ true = search rules in
-    let ok-2 : is_ok c.write_synced.result ≡ true = search rules in
-    while_opened c.args.program.now w0 (c.requires.shut told) w1 first.now (on_ok _ c.write_program.result c.write_program.ensures.ok ok-1 told) w2 second.now (on_ok _ c.write_synced.result c.write_synced.ensures.ok ok-2 told) (lacks_log (Tears 1 15) w1 (lacks_program c.args.program.now w0 lacks _ first.now) _ second.now) _ third.now
+    let w3 = g.H.Host.world c.write_synced-2.new.host in
+    record {
+      moments = both P (both P (weaker (ChangesFile program_file (Tears 0 (4 + length text)) w0) P (while_program text w0 (c.requires.shut told) lacks) first.moments) (weaker (ChangesFile manager (Tears 1 15) w1) P (while_header text w0 (c.requires.shut told) w1 first.now (lacks_program text w0 lacks _ first.now)) second.moments)) (weaker (ChangesFile manager (Tears 0 1) w2) P (while_opened text w0 (c.requires.shut told) w1 first.now (on_ok _ c.write_program.result c.write_program.ensures.ok ok-1 told) w2 second.now (on_ok _ c.write_synced.result c.write_synced.ensures.ok ok-2 told) (lacks_log (Tears 1 15) w1 (lacks_program text w0 lacks _ first.now) _ second.now)) third.moments);
+      now = while_opened c.args.program.now w0 (c.requires.shut told) w1 first.now (on_ok _ c.write_program.result c.write_program.ensures.ok ok-1 told) w2 second.now (on_ok _ c.write_synced.result c.write_synced.ensures.ok ok-2 told) (lacks_log (Tears 1 15) w1 (lacks_program c.args.program.now w0 lacks _ first.now) _ second.now) _ third.now;
+      lacks = lacks_log (Tears 0 1) (g.H.Host.world c.write_synced.new.host) (lacks_log (Tears 1 15) (g.H.Host.world c.write_program.new.host) (lacks_program c.args.program.now (g.H.Host.world c.args.host.now) lacks _ (c.write_program.ensures.run told).now) _ (c.write_synced.ensures.run told).now) _ (c.write_synced-2.ensures.run told).now;
+      shows = long_shown magic w3 (seen_long c.args.program.now w0 (c.requires.shut told) w1 first.now (on_ok _ c.write_program.result c.write_program.ensures.ok ok-1 told) w2 second.now (on_ok _ c.write_synced.result c.write_synced.ensures.ok ok-2 told) w3 third.seen) (lacks_log (Tears 0 1) w2 (lacks_log (Tears 1 15) w1 (lacks_program c.args.program.now w0 lacks (moment_of w1) first.now) (moment_of w2) second.now) (moment_of w3) third.now);
+    }
 
 pub returns-in_err-map_err-3-clause-beside : goal.returns-in_err-map_err-3-clause-beside
 returns-in_err-map_err-3-clause-beside g c told =
@@ -96,8 +86,8 @@ returns-clause-files g c told =
     filled c.args.program.now w0 (c.requires.shut told) w1 first.now (on_ok _ c.write_program.result c.write_program.ensures.ok ok-1 told) w2 second.now (on_ok _ c.write_synced.result c.write_synced.ensures.ok ok-2 told)
     w3 third.now (on_ok _ c.write_synced-2.result c.write_synced-2.ensures.ok ok-3 told)
 
-pub returns-clause-moments : goal.returns-clause-moments
-returns-clause-moments g c told lacks =
+pub returns-clause-filled : goal.returns-clause-filled
+returns-clause-filled g c told lacks =
     let w0 = g.H.Host.world c.args.host.now in
     let w1 = g.H.Host.world c.write_program.new.host in
     let w2 = g.H.Host.world c.write_synced.new.host in
@@ -108,85 +98,15 @@ returns-clause-moments g c told lacks =
     let third = c.write_synced-2.ensures.run told in
     let ok-1 : is_ok c.write_program.result ≡ true = search rules in
     let ok-2 : is_ok c.write_synced.result ≡ true = search rules in
-    both P (both P (weaker (ChangesFile program_file (Tears 0 (4 + length text)) w0) P (while_program text w0 (c.requires.shut told) lacks) first.moments)
-    (weaker (ChangesFile manager (Tears 1 15) w1) P (while_header text w0 (c.requires.shut told) w1 first.now (lacks_program text w0 lacks _ first.now)) second.moments))
-    (weaker (ChangesFile manager (Tears 0 1) w2) P (while_opened text w0 (c.requires.shut told) w1 first.now (on_ok _ c.write_program.result c.write_program.ensures.ok ok-1 told) w2 second.now (on_ok _ c.write_synced.result c.write_synced.ensures.ok ok-2 told) (lacks_log (Tears 1 15) w1 (lacks_program text w0 lacks _ first.now) _ second.now)) third.moments)
-
-pub returns-clause-now : goal.returns-clause-now
-returns-clause-now g c told lacks =
-    let w0 = g.H.Host.world c.args.host.now in
-    let w1 = g.H.Host.world c.write_program.new.host in
-    let w2 = g.H.Host.world c.write_synced.new.host in
-    let first = c.write_program.ensures.run told in
-    let second = c.write_synced.ensures.run told in
-    let third = c.write_synced-2.ensures.run told in
-    let ok-1 : is_ok c.write_program.result ≡ true = search rules in
-    let ok-2 : is_ok c.write_synced.result ≡ true = search rules in
-    while_opened c.args.program.now w0 (c.requires.shut told) w1 first.now (on_ok _ c.write_program.result c.write_program.ensures.ok ok-1 told) w2 second.now (on_ok _ c.write_synced.result c.write_synced.ensures.ok ok-2 told) (lacks_log (Tears 1 15) w1 (lacks_program c.args.program.now w0 lacks _ first.now) _ second.now) _ third.now
+    let w3 = g.H.Host.world c.write_synced-2.new.host in
+    record {
+      moments = both P (both P (weaker (ChangesFile program_file (Tears 0 (4 + length text)) w0) P (while_program text w0 (c.requires.shut told) lacks) first.moments) (weaker (ChangesFile manager (Tears 1 15) w1) P (while_header text w0 (c.requires.shut told) w1 first.now (lacks_program text w0 lacks _ first.now)) second.moments)) (weaker (ChangesFile manager (Tears 0 1) w2) P (while_opened text w0 (c.requires.shut told) w1 first.now (on_ok _ c.write_program.result c.write_program.ensures.ok ok-1 told) w2 second.now (on_ok _ c.write_synced.result c.write_synced.ensures.ok ok-2 told) (lacks_log (Tears 1 15) w1 (lacks_program text w0 lacks _ first.now) _ second.now)) third.moments);
+      now = while_opened c.args.program.now w0 (c.requires.shut told) w1 first.now (on_ok _ c.write_program.result c.write_program.ensures.ok ok-1 told) w2 second.now (on_ok _ c.write_synced.result c.write_synced.ensures.ok ok-2 told) (lacks_log (Tears 1 15) w1 (lacks_program c.args.program.now w0 lacks _ first.now) _ second.now) _ third.now;
+      lacks = lacks_log (Tears 0 1) (g.H.Host.world c.write_synced.new.host) (lacks_log (Tears 1 15) (g.H.Host.world c.write_program.new.host) (lacks_program c.args.program.now (g.H.Host.world c.args.host.now) lacks _ (c.write_program.ensures.run told).now) _ (c.write_synced.ensures.run told).now) _ (c.write_synced-2.ensures.run told).now;
+      shows = long_shown magic w3 (seen_long c.args.program.now w0 (c.requires.shut told) w1 first.now (on_ok _ c.write_program.result c.write_program.ensures.ok ok-1 told) w2 second.now (on_ok _ c.write_synced.result c.write_synced.ensures.ok ok-2 told) w3 third.seen) (lacks_log (Tears 0 1) w2 (lacks_log (Tears 1 15) w1 (lacks_program c.args.program.now w0 lacks (moment_of w1) first.now) (moment_of w2) second.now) (moment_of w3) third.now);
+    }
 
 pub returns-clause-beside : goal.returns-clause-beside
 returns-clause-beside g c told =
     beside_then _ _ _ (beside_then _ _ _ (program_run_beside (Tears 0 (4 + length c.args.program.now)) 1 _ _ (c.write_program.ensures.run told)) (log_run_beside (Tears 1 15) 1 _ _ (c.write_synced.ensures.run told)))
     (log_run_beside (Tears 0 1) 1 _ _ (c.write_synced-2.ensures.run told))
-
-pub returns-in_err-map_err-clause-lacks : goal.returns-in_err-map_err-clause-lacks
-returns-in_err-map_err-clause-lacks g c told lacks = lacks_program c.args.program.now (g.H.Host.world c.args.host.now) lacks _ (c.write_program.ensures.run told).now
-
-pub returns-in_err-map_err-2-clause-lacks : goal.returns-in_err-map_err-2-clause-lacks
-returns-in_err-map_err-2-clause-lacks g c told lacks =
-    lacks_log (Tears 1 15) (g.H.Host.world c.write_program.new.host) (lacks_program c.args.program.now (g.H.Host.world c.args.host.now) lacks _ (c.write_program.ensures.run told).now) _ (c.write_synced.ensures.run told).now
-
-pub returns-in_err-map_err-3-clause-lacks : goal.returns-in_err-map_err-3-clause-lacks
-returns-in_err-map_err-3-clause-lacks g c told lacks =
-    lacks_log (Tears 0 1) (g.H.Host.world c.write_synced.new.host)
-    (lacks_log (Tears 1 15) (g.H.Host.world c.write_program.new.host) (lacks_program c.args.program.now (g.H.Host.world c.args.host.now) lacks _ (c.write_program.ensures.run told).now) _ (c.write_synced.ensures.run told).now)
-    _ (c.write_synced-2.ensures.run told).now
-
-pub returns-clause-lacks : goal.returns-clause-lacks
-returns-clause-lacks g c told lacks =
-    lacks_log (Tears 0 1) (g.H.Host.world c.write_synced.new.host)
-    (lacks_log (Tears 1 15) (g.H.Host.world c.write_program.new.host) (lacks_program c.args.program.now (g.H.Host.world c.args.host.now) lacks _ (c.write_program.ensures.run told).now) _ (c.write_synced.ensures.run told).now)
-    _ (c.write_synced-2.ensures.run told).now
-
-pub returns-in_err-map_err-clause-shows : goal.returns-in_err-map_err-clause-shows
-returns-in_err-map_err-clause-shows g c told lacks =
-    let w0 = g.H.Host.world c.args.host.now in
-    let first = c.write_program.ensures.run told in
-    none_shown magic (g.H.Host.world c.write_program.new.host) (program_shut c.args.program.now w0 (c.requires.shut told) (moment_of (g.H.Host.world c.write_program.new.host)) first.now, lacks_program c.args.program.now w0 lacks (moment_of (g.H.Host.world c.write_program.new.host)) first.now)
-
-pub returns-in_err-map_err-2-clause-shows : goal.returns-in_err-map_err-2-clause-shows
-returns-in_err-map_err-2-clause-shows g c told lacks =
-    let w0 = g.H.Host.world c.args.host.now in
-    let w1 = g.H.Host.world c.write_program.new.host in
-    let w2 = g.H.Host.world c.write_synced.new.host in
-    let first = c.write_program.ensures.run told in
-    let second = c.write_synced.ensures.run told in
-    none_shown magic w2 (header_shut c.args.program.now w0 (c.requires.shut told) w1 first.now (moment_of w2) second.now, lacks_log (Tears 1 15) w1 (lacks_program c.args.program.now w0 lacks (moment_of w1) first.now) (moment_of w2) second.now)
-
-pub returns-in_err-map_err-3-clause-shows : goal.returns-in_err-map_err-3-clause-shows
-returns-in_err-map_err-3-clause-shows g c told lacks =
-    let w0 = g.H.Host.world c.args.host.now in
-    let w1 = g.H.Host.world c.write_program.new.host in
-    let w2 = g.H.Host.world c.write_synced.new.host in
-    let w3 = g.H.Host.world c.write_synced-2.new.host in
-    let first = c.write_program.ensures.run told in
-    let second = c.write_synced.ensures.run told in
-    let third = c.write_synced-2.ensures.run told in
-    let ok-1 : is_ok c.write_program.result ≡ true = search rules in
-    let ok-2 : is_ok c.write_synced.result ≡ true = search rules in
-    long_shown magic w3 (seen_long c.args.program.now w0 (c.requires.shut told) w1 first.now (on_ok _ c.write_program.result c.write_program.ensures.ok ok-1 told) w2 second.now (on_ok _ c.write_synced.result c.write_synced.ensures.ok ok-2 told) w3 third.seen)
-    (lacks_log (Tears 0 1) w2 (lacks_log (Tears 1 15) w1 (lacks_program c.args.program.now w0 lacks (moment_of w1) first.now) (moment_of w2) second.now) (moment_of w3) third.now)
-
-pub returns-clause-shows : goal.returns-clause-shows
-returns-clause-shows g c told lacks =
-    let w0 = g.H.Host.world c.args.host.now in
-    let w1 = g.H.Host.world c.write_program.new.host in
-    let w2 = g.H.Host.world c.write_synced.new.host in
-    let w3 = g.H.Host.world c.write_synced-2.new.host in
-    let first = c.write_program.ensures.run told in
-    let second = c.write_synced.ensures.run told in
-    let third = c.write_synced-2.ensures.run told in
-    let ok-1 : is_ok c.write_program.result ≡ true = search rules in
-    let ok-2 : is_ok c.write_synced.result ≡ true = search rules in
-    long_shown magic w3 (seen_long c.args.program.now w0 (c.requires.shut told) w1 first.now (on_ok _ c.write_program.result c.write_program.ensures.ok ok-1 told) w2 second.now (on_ok _ c.write_synced.result c.write_synced.ensures.ok ok-2 told) w3 third.seen)
-    (lacks_log (Tears 0 1) w2 (lacks_log (Tears 1 15) w1 (lacks_program c.args.program.now w0 lacks (moment_of w1) first.now) (moment_of w2) second.now) (moment_of w3) third.now)

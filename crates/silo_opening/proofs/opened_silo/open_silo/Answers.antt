@@ -32,21 +32,6 @@ returns-in-Ok-read_contents-clause-only g c told = opens_and_asked _ _ _ _ (open
 pub returns-in-Err-read_contents-clause-only : goal.returns-in-Err-read_contents-clause-only
 returns-in-Err-read_contents-clause-only g c told = opens_and_asked _ _ _ _ (opens_and_asked _ _ _ _ (c.find_live.ensures.only told) (c.read_program.ensures.asked told)) (c.read_contents.ensures.asked told)
 
-pub returns-in-Ok-read_contents-clause-settles : goal.returns-in-Ok-read_contents-clause-settles
-returns-in-Ok-read_contents-clause-settles g c told = both_more _ _ _ (both_more _ _ _ (c.in_ok-slot.ensures.settles told) (c.read_program.ensures.asked told)) (c.read_contents.ensures.asked told)
-
-pub returns-in-Ok-read_contents-clause-left : goal.returns-in-Ok-read_contents-clause-left
-returns-in-Ok-read_contents-clause-left g c told = (c.read_contents.ensures.asked told).disk ∙ (c.read_program.ensures.asked told).disk ∙ both_left _ _ (c.in_ok-slot.ensures.settles told)
-
-pub returns-in-Ok-read_contents-clause-settled : goal.returns-in-Ok-read_contents-clause-settled
-returns-in-Ok-read_contents-clause-settled g c told =
-    let old : Disk = (g.H.Host.world c.args.host.now).disk in
-    let slot : ℕ = c.in-Some.slot in
-    let is : c.in_ok-slot.field-0 ≡ Some (slot, c.in-Some.generation) = search rules in
-    let live = live_found (seen_in old) slot c.in-Some.generation (sym (c.in_ok-slot.ensures.told told) ∙ is) in
-    let left : (g.H.Host.world c.read_contents.new.host).disk ≡ opened_disk old = (c.read_contents.ensures.asked told).disk ∙ (c.read_program.ensures.asked told).disk ∙ both_left _ _ (c.in_ok-slot.ensures.settles told) in
-    ap (λ (d : Disk). d (Manager slot)) left ∙ live_settled old slot live.0
-
 -- ---- what was read
 
 pub returns-in_default-clause-refused : goal.returns-in_default-clause-refused
@@ -83,7 +68,8 @@ returns-in-Err-read_contents-clause-refused g c told =
 pub returns-in-Ok-read_contents-clause-opened : goal.returns-in-Ok-read_contents-clause-opened
 returns-in-Ok-read_contents-clause-opened g c told =
     let o = c.in-Ok-read_contents.contents in
-    let image = seen_in (g.H.Host.world c.args.host.now).disk in
+    let old : Disk = (g.H.Host.world c.args.host.now).disk in
+    let image = seen_in old in
     let slot : ℕ = c.in-Some.slot in
     let is : c.in_ok-slot.field-0 ≡ Some (slot, c.in-Some.generation) = search rules in
     let live = live_found image slot c.in-Some.generation (sym (c.in_ok-slot.ensures.told told) ∙ is) in
@@ -92,6 +78,13 @@ returns-in-Ok-read_contents-clause-opened g c told =
     let p : Program = record { text = c.in-Ok.found.0; types = program_tree c.in-Ok.found.1 } in
     let program : program_in_file (image (ProgramFile slot)) ≡ Ok p = ap (λ (im : Image). program_in_file (im (ProgramFile slot))) (sym first) ∙ c.in-Ok.ensures.found told in
     let shape : c.in-Ok-shape.shape ≡ shape_in p = (λ i. record { types = c.in-Ok-shape.ensures i }) in
-    is_opened image (record { slot = slot; generation = c.in-Some.generation; text = c.in-Ok.found.0; checked = c.in-Ok.found.1; count = o.count; store = o.store; ends = o.ends; next_unit = o.next_unit; gate_at = o.gate_at })
-    live.0 live.1 (live_silo image slot live.0) program
-    (subst (λ (im : Image). HasContents slot One (shape_in p) im o) same (subst (λ (s : Shape). HasContents slot One s (seen_in (g.H.Host.world c.read_program.new.host).disk) o) shape (c.in-Ok-read_contents.ensures.opened told)))
+    let left : (g.H.Host.world c.read_contents.new.host).disk ≡ opened_disk old = (c.read_contents.ensures.asked told).disk ∙ (c.read_program.ensures.asked told).disk ∙ both_left _ _ (c.in_ok-slot.ensures.settles told) in
+    record {
+      opened = is_opened image (record { slot = slot; generation = c.in-Some.generation; text = c.in-Ok.found.0; checked = c.in-Ok.found.1; count = o.count; store = o.store; ends = o.ends; next_unit = o.next_unit; gate_at = o.gate_at })
+          live.0 live.1 (live_silo image slot live.0) program
+          (subst (λ (im : Image). HasContents slot One (shape_in p) im o) same (subst (λ (s : Shape). HasContents slot One s (seen_in (g.H.Host.world c.read_program.new.host).disk) o) shape (c.in-Ok-read_contents.ensures.opened told)));
+      settles = both_more _ _ _ (both_more _ _ _ (c.in_ok-slot.ensures.settles told) (c.read_program.ensures.asked told)) (c.read_contents.ensures.asked told);
+      left = left;
+      settled = ap (λ (d : Disk). d (Manager slot)) left ∙ live_settled old slot live.0;
+      count = (c.read_contents.ensures.asked told).syncs ∙ (c.read_program.ensures.asked told).syncs ∙ c.in_ok-slot.ensures.count told;
+    }

@@ -69,10 +69,10 @@ returns-in-Ok-create-clause-makes g c told manner asked =
       reads = ap program_in same ∙ c.in-Ok-accept.ensures;
     } in
     is_made (Unit {0}) manner asked old mid before after (c.read_input.ensures.disk told) (c.read_input.ensures.output told) (c.read_input.ensures.moments told)
-    new (c.create.ensures.beside told) (subst (λ (t : List ℕ). ShowsSilos magic mid.disk → CameThisFar magic t mid new) (sym again) (c.create.ensures.moments told)) (c.create.ensures.untouched told) reads
-    (λ file. g.met.H.Host.seen_may_stay c.args.host.now file told) (c.create.ensures.shows told)
-    tt (λ image is. subst (λ (t : List ℕ). IsNewSilo magic t image) (sym again) (c.in-Ok-create.ensures.made told image is)) (c.in-Ok-create.ensures.live told)
-    (λ silo. made_no_fault tt _ _ _ (c.in-Ok-create.ensures.silo told silo))
+    new (c.create.ensures.beside told) (subst (λ (t : List ℕ). ShowsSilos magic mid.disk → CameThisFar magic t mid new) (sym again) (λ shows. (c.create.ensures.moments told shows).moments)) (λ silo. (c.create.ensures.silo told silo).untouched) reads
+    (λ file. g.met.H.Host.seen_may_stay c.args.host.now file told) (λ shows. (c.create.ensures.moments told shows).shows)
+    tt (λ image is. subst (λ (t : List ℕ). IsNewSilo magic t image) (sym again) ((c.in-Ok-create.ensures.made told).made image is)) (c.in-Ok-create.ensures.made told).live
+    (λ silo. made_no_fault tt _ _ _ (c.in-Ok-create.ensures.silo told silo).answer)
 
 pub returns-in-Ok-create-clause-calm : goal.returns-in-Ok-create-clause-calm
 returns-in-Ok-create-clause-calm g c = λ channel. c.in-Ok-create.ensures.calm channel ∙ c.in-Ok.ensures.calm channel
@@ -98,11 +98,11 @@ returns-clause-makes g c told manner asked =
     } in
     subst (λ (e : InitFault). MakesSilo (ended_with {A = Unit {0}} manner asked old new before after (failed e))) (sym c.creation_fault.ensures)
     (creation_refused (Unit {0}) manner asked old mid before after (c.read_input.ensures.disk told) (c.read_input.ensures.output told) (c.read_input.ensures.moments told)
-    new (c.create.ensures.beside told) (subst (λ (t : List ℕ). ShowsSilos magic mid.disk → CameThisFar magic t mid new) (sym again) (c.create.ensures.moments told)) (c.create.ensures.untouched told) reads
-    (λ file. g.met.H.Host.seen_may_stay c.args.host.now file told) (c.create.ensures.shows told)
+    new (c.create.ensures.beside told) (subst (λ (t : List ℕ). ShowsSilos magic mid.disk → CameThisFar magic t mid new) (sym again) (λ shows. (c.create.ensures.moments told shows).moments)) (λ silo. (c.create.ensures.silo told silo).untouched) reads
+    (λ file. g.met.H.Host.seen_may_stay c.args.host.now file told) (λ shows. (c.create.ensures.moments told shows).shows)
     fault (subst (λ (f : Channel → ℕ). CreateFaulted fault f after) (same_counts before between c.in-Ok.ensures.calm) c.in-Err-create.ensures.fault)
-    (λ is. c.in-Err-create.ensures.already is told) (λ is. c.in-Err-create.ensures.lasts is told)
-    (c.in-Err-create.ensures.silo told))
+    (λ is. (c.in-Err-create.ensures.already is told).reads) (λ is. (c.in-Err-create.ensures.already is told).lasts)
+    (λ silo. (c.in-Err-create.ensures.silo told silo).answer))
 
 pub returns-clause-fault : goal.returns-clause-fault
 returns-clause-fault g c =

@@ -30,8 +30,8 @@ returns-in-Err-clause-loads g c = λ told m. record {
   manner = refl;
   windowed = refl;
   answers = inl (uncreated m (load_texts c.args.transfers c.args.seed) (g.H.Host.world c.args.host.now) (g.H.Host.world c.create.new.host) (g.H.Host.faults c.args.host.now) (g.H.Host.faults c.create.new.host) (Unit {0})
-      c.in-Err.fault c.creation_status.result c.creation_status.ensures (c.create.ensures.beside told) (λ short. subst (λ (t : List ℕ). CameThisFar magic t (g.H.Host.world c.args.host.now) (g.H.Host.world c.create.new.host)) c.bank_text-2.ensures (c.create.ensures.moments told short)) (c.create.ensures.shows told) c.in-Err.ensures.fault
-      (λ is. c.in-Err.ensures.already is told) (λ is. c.in-Err.ensures.lasts is told) (c.in-Err.ensures.silo told) (c.create.ensures.untouched told));
+      c.in-Err.fault c.creation_status.result c.creation_status.ensures (c.create.ensures.beside told) (λ short. subst (λ (t : List ℕ). CameThisFar magic t (g.H.Host.world c.args.host.now) (g.H.Host.world c.create.new.host)) c.bank_text-2.ensures (c.create.ensures.moments told short).moments) (λ short. (c.create.ensures.moments told short).shows) c.in-Err.ensures.fault
+      (λ is. (c.in-Err.ensures.already is told).reads) (λ is. (c.in-Err.ensures.already is told).lasts) (λ reads. (c.in-Err.ensures.silo told reads).answer) (λ reads. (c.create.ensures.silo told reads).untouched));
 }
 
 pub returns-in-Err-clause-answers : goal.returns-in-Err-clause-answers
@@ -44,10 +44,10 @@ returns-in-Err-open_silo-clause-answers g c = answers_behind IsLoadCarried (stat
 pub returns-in-Err-open_silo-clause-loads : goal.returns-in-Err-open_silo-clause-loads
 returns-in-Err-open_silo-clause-loads g c = λ told m.
     let bank_is : program_in bank_text ≡ Ok (program_tree c.in-Ok.bank) = subst (λ (t : List ℕ). program_in t ≡ Ok (program_tree c.in-Ok.bank)) c.bank_text.ensures c.in-Ok.ensures in
-    let made : IsMadeFrom (g.H.Host.world c.args.host.now) (g.H.Host.world c.create.new.host) = made_from (Unit {0}) (g.H.Host.world c.args.host.now) (g.H.Host.world c.create.new.host) tt (c.in-Ok-create.ensures.silo told) (c.create.ensures.beside told)
-    (λ short. subst (λ (t : List ℕ). CameThisFar magic t (g.H.Host.world c.args.host.now) (g.H.Host.world c.create.new.host)) c.bank_text-2.ensures (c.create.ensures.moments told short)) (c.create.ensures.shows told)
-    (λ image left. subst (λ (t : List ℕ). IsNewSilo magic t image) c.bank_text-2.ensures (c.in-Ok-create.ensures.made told image left)) (c.in-Ok-create.ensures.live told) (λ file. g.met.H.Host.seen_may_stay c.create.new.host file told)
-    (c.in-Ok-create.ensures.least told) (c.in-Ok-create.ensures.most told) in
+    let made : IsMadeFrom (g.H.Host.world c.args.host.now) (g.H.Host.world c.create.new.host) = made_from (Unit {0}) (g.H.Host.world c.args.host.now) (g.H.Host.world c.create.new.host) tt (λ reads. (c.in-Ok-create.ensures.silo told reads).answer) (c.create.ensures.beside told)
+    (λ short. subst (λ (t : List ℕ). CameThisFar magic t (g.H.Host.world c.args.host.now) (g.H.Host.world c.create.new.host)) c.bank_text-2.ensures (c.create.ensures.moments told short).moments) (λ short. (c.create.ensures.moments told short).shows)
+    (λ image left. subst (λ (t : List ℕ). IsNewSilo magic t image) c.bank_text-2.ensures ((c.in-Ok-create.ensures.made told).made image left)) (c.in-Ok-create.ensures.made told).live (λ file. g.met.H.Host.seen_may_stay c.create.new.host file told)
+    (c.in-Ok-create.ensures.made told).least (c.in-Ok-create.ensures.made told).most in
     made_loads c.args.transfers c.args.seed m (load_texts c.args.transfers c.args.seed) (g.H.Host.world c.args.host.now) (g.H.Host.world c.create.new.host) (g.H.Host.world c.open_silo.new.host) (g.H.Host.faults c.args.host.now) (g.H.Host.faults c.create.new.host) (g.H.Host.faults c.open_silo.new.host) c.open_status.result made c.in-Ok-create.ensures.calm
     (returns-in-Err-open_silo-clause-answers g c)
     (λ short. unopened_carries c.args.transfers c.args.seed m (load_texts c.args.transfers c.args.seed) c.in-Ok.bank (g.H.Host.world c.create.new.host) (g.H.Host.world c.open_silo.new.host) (g.H.Host.faults c.create.new.host) (g.H.Host.faults c.open_silo.new.host) c.in-Err-open_silo.fault c.open_status.result bank_is c.open_status.ensures (c.in-Err-open_silo.ensures.only told) (c.in-Err-open_silo.ensures.refused told) c.in-Err-open_silo.ensures.fault)
@@ -58,15 +58,15 @@ returns-in-Err-start-clause-answers g c = exactly_answers (g.H.Host.faults c.arg
 pub returns-in-Err-start-clause-loads : goal.returns-in-Err-start-clause-loads
 returns-in-Err-start-clause-loads g c = λ told m.
     let bank_is : program_in bank_text ≡ Ok (program_tree c.in-Ok.bank) = subst (λ (t : List ℕ). program_in t ≡ Ok (program_tree c.in-Ok.bank)) c.bank_text.ensures c.in-Ok.ensures in
-    let made : IsMadeFrom (g.H.Host.world c.args.host.now) (g.H.Host.world c.create.new.host) = made_from (Unit {0}) (g.H.Host.world c.args.host.now) (g.H.Host.world c.create.new.host) tt (c.in-Ok-create.ensures.silo told) (c.create.ensures.beside told)
-    (λ short. subst (λ (t : List ℕ). CameThisFar magic t (g.H.Host.world c.args.host.now) (g.H.Host.world c.create.new.host)) c.bank_text-2.ensures (c.create.ensures.moments told short)) (c.create.ensures.shows told)
-    (λ image left. subst (λ (t : List ℕ). IsNewSilo magic t image) c.bank_text-2.ensures (c.in-Ok-create.ensures.made told image left)) (c.in-Ok-create.ensures.live told) (λ file. g.met.H.Host.seen_may_stay c.create.new.host file told)
-    (c.in-Ok-create.ensures.least told) (c.in-Ok-create.ensures.most told) in
+    let made : IsMadeFrom (g.H.Host.world c.args.host.now) (g.H.Host.world c.create.new.host) = made_from (Unit {0}) (g.H.Host.world c.args.host.now) (g.H.Host.world c.create.new.host) tt (λ reads. (c.in-Ok-create.ensures.silo told reads).answer) (c.create.ensures.beside told)
+    (λ short. subst (λ (t : List ℕ). CameThisFar magic t (g.H.Host.world c.args.host.now) (g.H.Host.world c.create.new.host)) c.bank_text-2.ensures (c.create.ensures.moments told short).moments) (λ short. (c.create.ensures.moments told short).shows)
+    (λ image left. subst (λ (t : List ℕ). IsNewSilo magic t image) c.bank_text-2.ensures ((c.in-Ok-create.ensures.made told).made image left)) (c.in-Ok-create.ensures.made told).live (λ file. g.met.H.Host.seen_may_stay c.create.new.host file told)
+    (c.in-Ok-create.ensures.made told).least (c.in-Ok-create.ensures.made told).most in
     let behind : IsBehindOpening (g.H.Host.world c.create.new.host) (g.H.Host.world c.open_silo.new.host) c.in-Ok-open_silo.opened = record {
-      opened = c.in-Ok-open_silo.ensures.opened told;
-      settled = c.in-Ok-open_silo.ensures.settled told;
-      count = c.in-Ok-open_silo.ensures.count told;
-      left = c.in-Ok-open_silo.ensures.left told;
+      opened = (c.in-Ok-open_silo.ensures.opened told).opened;
+      settled = (c.in-Ok-open_silo.ensures.opened told).settled;
+      count = (c.in-Ok-open_silo.ensures.opened told).count;
+      left = (c.in-Ok-open_silo.ensures.opened told).left;
       run = c.in-Ok-open_silo.ensures.only told;
       stays = λ file. g.met.H.Host.seen_may_stay c.create.new.host file told;
     } in
@@ -81,15 +81,15 @@ returns-in-Err-load_lines-clause-answers g c = exactly_answers (g.H.Host.faults 
 pub returns-in-Err-load_lines-clause-loads : goal.returns-in-Err-load_lines-clause-loads
 returns-in-Err-load_lines-clause-loads g c = λ told m.
     let bank_is : program_in bank_text ≡ Ok (program_tree c.in-Ok.bank) = subst (λ (t : List ℕ). program_in t ≡ Ok (program_tree c.in-Ok.bank)) c.bank_text.ensures c.in-Ok.ensures in
-    let made : IsMadeFrom (g.H.Host.world c.args.host.now) (g.H.Host.world c.create.new.host) = made_from (Unit {0}) (g.H.Host.world c.args.host.now) (g.H.Host.world c.create.new.host) tt (c.in-Ok-create.ensures.silo told) (c.create.ensures.beside told)
-    (λ short. subst (λ (t : List ℕ). CameThisFar magic t (g.H.Host.world c.args.host.now) (g.H.Host.world c.create.new.host)) c.bank_text-2.ensures (c.create.ensures.moments told short)) (c.create.ensures.shows told)
-    (λ image left. subst (λ (t : List ℕ). IsNewSilo magic t image) c.bank_text-2.ensures (c.in-Ok-create.ensures.made told image left)) (c.in-Ok-create.ensures.live told) (λ file. g.met.H.Host.seen_may_stay c.create.new.host file told)
-    (c.in-Ok-create.ensures.least told) (c.in-Ok-create.ensures.most told) in
+    let made : IsMadeFrom (g.H.Host.world c.args.host.now) (g.H.Host.world c.create.new.host) = made_from (Unit {0}) (g.H.Host.world c.args.host.now) (g.H.Host.world c.create.new.host) tt (λ reads. (c.in-Ok-create.ensures.silo told reads).answer) (c.create.ensures.beside told)
+    (λ short. subst (λ (t : List ℕ). CameThisFar magic t (g.H.Host.world c.args.host.now) (g.H.Host.world c.create.new.host)) c.bank_text-2.ensures (c.create.ensures.moments told short).moments) (λ short. (c.create.ensures.moments told short).shows)
+    (λ image left. subst (λ (t : List ℕ). IsNewSilo magic t image) c.bank_text-2.ensures ((c.in-Ok-create.ensures.made told).made image left)) (c.in-Ok-create.ensures.made told).live (λ file. g.met.H.Host.seen_may_stay c.create.new.host file told)
+    (c.in-Ok-create.ensures.made told).least (c.in-Ok-create.ensures.made told).most in
     let behind : IsBehindOpening (g.H.Host.world c.create.new.host) (g.H.Host.world c.open_silo.new.host) c.in-Ok-open_silo.opened = record {
-      opened = c.in-Ok-open_silo.ensures.opened told;
-      settled = c.in-Ok-open_silo.ensures.settled told;
-      count = c.in-Ok-open_silo.ensures.count told;
-      left = c.in-Ok-open_silo.ensures.left told;
+      opened = (c.in-Ok-open_silo.ensures.opened told).opened;
+      settled = (c.in-Ok-open_silo.ensures.opened told).settled;
+      count = (c.in-Ok-open_silo.ensures.opened told).count;
+      left = (c.in-Ok-open_silo.ensures.opened told).left;
       run = c.in-Ok-open_silo.ensures.only told;
       stays = λ file. g.met.H.Host.seen_may_stay c.create.new.host file told;
     } in
@@ -99,13 +99,13 @@ returns-in-Err-load_lines-clause-loads g c = λ told m.
     (λ short. starved_carries c.args.transfers c.args.seed m (load_texts c.args.transfers c.args.seed) (with_checked c.in-Ok-open_silo.opened c.in-Ok.bank) (g.H.Host.world c.create.new.host) (g.H.Host.world c.open_silo.new.host) (g.H.Host.faults c.create.new.host) (g.H.Host.faults c.open_silo.new.host) bank_is (behind_bank short) c.in-Ok-open_silo.ensures.calm)
 
 pub returns-in-Ok-load_lines-clause-can : goal.returns-in-Ok-load_lines-clause-can
-returns-in-Ok-load_lines-clause-can g c = can_carry g.H.Host.tells (with_checked c.in-Ok-open_silo.opened c.in-Ok.bank) c.in-Ok-start.started (g.H.Host.world c.open_silo.new.host) c.in-Ok-start.ensures.start c.in-Ok-open_silo.ensures.bound.1.0 c.in-Ok-start.ensures.bounds
+returns-in-Ok-load_lines-clause-can g c = can_carry g.H.Host.tells (with_checked c.in-Ok-open_silo.opened c.in-Ok.bank) c.in-Ok-start.started (g.H.Host.world c.open_silo.new.host) c.in-Ok-start.ensures.start c.in-Ok-open_silo.ensures.bounds.next.0 c.in-Ok-start.ensures.bounds
     (λ told.
     let behind : IsBehindOpening (g.H.Host.world c.create.new.host) (g.H.Host.world c.open_silo.new.host) c.in-Ok-open_silo.opened = record {
-      opened = c.in-Ok-open_silo.ensures.opened told;
-      settled = c.in-Ok-open_silo.ensures.settled told;
-      count = c.in-Ok-open_silo.ensures.count told;
-      left = c.in-Ok-open_silo.ensures.left told;
+      opened = (c.in-Ok-open_silo.ensures.opened told).opened;
+      settled = (c.in-Ok-open_silo.ensures.opened told).settled;
+      count = (c.in-Ok-open_silo.ensures.opened told).count;
+      left = (c.in-Ok-open_silo.ensures.opened told).left;
       run = c.in-Ok-open_silo.ensures.only told;
       stays = λ file. g.met.H.Host.seen_may_stay c.create.new.host file told;
     } in
@@ -120,20 +120,20 @@ returns-in-Ok-load_lines-clause-answers_on g c = λ m settler' after new result 
     let carried = of_opened g.H.Host.tells (with_checked c.in-Ok-open_silo.opened c.in-Ok.bank) c.in-Ok-start.started (λ (k : ProgramTree). c.in-Ok-load_lines.lines) (g.H.Host.faults c.open_silo.new.host) (g.H.Host.world c.open_silo.new.host) m settler' after new result c.in-Ok-start.ensures.start went in
     answers_behind IsLoadCarried (status_ending status) (g.H.Host.faults c.args.host.now) (g.H.Host.faults c.create.new.host) final c.in-Ok-create.ensures.calm
     (answers_behind IsLoadCarried (status_ending status) (g.H.Host.faults c.create.new.host) (g.H.Host.faults c.open_silo.new.host) final c.in-Ok-open_silo.ensures.calm
-    (load_answers g.H.Host.tells c.args.transfers c.args.seed m (with_checked c.in-Ok-open_silo.opened c.in-Ok.bank) c.in-Ok-start.started (g.H.Host.world c.open_silo.new.host) new (g.H.Host.faults c.open_silo.new.host) after result c.in-Ok-start.ensures.start c.in-Ok-start.ensures.quiet c.in-Ok-load_lines.lines are went.wide c.in-Ok-open_silo.ensures.bound.1.0 settler' went.used carried status final (subst (λ (n : ℕ). LoadCounts n result status after final) c.in-Ok-start.ensures.start.slot counts)))
+    (load_answers g.H.Host.tells c.args.transfers c.args.seed m (with_checked c.in-Ok-open_silo.opened c.in-Ok.bank) c.in-Ok-start.started (g.H.Host.world c.open_silo.new.host) new (g.H.Host.faults c.open_silo.new.host) after result c.in-Ok-start.ensures.start c.in-Ok-start.ensures.quiet c.in-Ok-load_lines.lines are went.wide c.in-Ok-open_silo.ensures.bounds.next.0 settler' went.used carried status final (subst (λ (n : ℕ). LoadCounts n result status after final) c.in-Ok-start.ensures.start.slot counts)))
 
 pub returns-in-Ok-load_lines-clause-keeps : goal.returns-in-Ok-load_lines-clause-keeps
 returns-in-Ok-load_lines-clause-keeps g c = λ told m settler' after new result requests status final last went stay counts says many.
     let bank_is : program_in bank_text ≡ Ok (program_tree c.in-Ok.bank) = subst (λ (t : List ℕ). program_in t ≡ Ok (program_tree c.in-Ok.bank)) c.bank_text.ensures c.in-Ok.ensures in
-    let made : IsMadeFrom (g.H.Host.world c.args.host.now) (g.H.Host.world c.create.new.host) = made_from (Unit {0}) (g.H.Host.world c.args.host.now) (g.H.Host.world c.create.new.host) tt (c.in-Ok-create.ensures.silo told) (c.create.ensures.beside told)
-    (λ short. subst (λ (t : List ℕ). CameThisFar magic t (g.H.Host.world c.args.host.now) (g.H.Host.world c.create.new.host)) c.bank_text-2.ensures (c.create.ensures.moments told short)) (c.create.ensures.shows told)
-    (λ image left. subst (λ (t : List ℕ). IsNewSilo magic t image) c.bank_text-2.ensures (c.in-Ok-create.ensures.made told image left)) (c.in-Ok-create.ensures.live told) (λ file. g.met.H.Host.seen_may_stay c.create.new.host file told)
-    (c.in-Ok-create.ensures.least told) (c.in-Ok-create.ensures.most told) in
+    let made : IsMadeFrom (g.H.Host.world c.args.host.now) (g.H.Host.world c.create.new.host) = made_from (Unit {0}) (g.H.Host.world c.args.host.now) (g.H.Host.world c.create.new.host) tt (λ reads. (c.in-Ok-create.ensures.silo told reads).answer) (c.create.ensures.beside told)
+    (λ short. subst (λ (t : List ℕ). CameThisFar magic t (g.H.Host.world c.args.host.now) (g.H.Host.world c.create.new.host)) c.bank_text-2.ensures (c.create.ensures.moments told short).moments) (λ short. (c.create.ensures.moments told short).shows)
+    (λ image left. subst (λ (t : List ℕ). IsNewSilo magic t image) c.bank_text-2.ensures ((c.in-Ok-create.ensures.made told).made image left)) (c.in-Ok-create.ensures.made told).live (λ file. g.met.H.Host.seen_may_stay c.create.new.host file told)
+    (c.in-Ok-create.ensures.made told).least (c.in-Ok-create.ensures.made told).most in
     let behind : IsBehindOpening (g.H.Host.world c.create.new.host) (g.H.Host.world c.open_silo.new.host) c.in-Ok-open_silo.opened = record {
-      opened = c.in-Ok-open_silo.ensures.opened told;
-      settled = c.in-Ok-open_silo.ensures.settled told;
-      count = c.in-Ok-open_silo.ensures.count told;
-      left = c.in-Ok-open_silo.ensures.left told;
+      opened = (c.in-Ok-open_silo.ensures.opened told).opened;
+      settled = (c.in-Ok-open_silo.ensures.opened told).settled;
+      count = (c.in-Ok-open_silo.ensures.opened told).count;
+      left = (c.in-Ok-open_silo.ensures.opened told).left;
       run = c.in-Ok-open_silo.ensures.only told;
       stays = λ file. g.met.H.Host.seen_may_stay c.create.new.host file told;
     } in
@@ -146,5 +146,5 @@ returns-in-Ok-load_lines-clause-keeps g c = λ told m settler' after new result 
     made_loads c.args.transfers c.args.seed m (load_texts c.args.transfers c.args.seed) (g.H.Host.world c.args.host.now) (g.H.Host.world c.create.new.host) last (g.H.Host.faults c.args.host.now) (g.H.Host.faults c.create.new.host) final status made c.in-Ok-create.ensures.calm
     (returns-in-Ok-load_lines-clause-answers_on g c m settler' after new result status final went counts)
     (λ short. load_carries c.args.transfers c.args.seed m (with_checked c.in-Ok-open_silo.opened c.in-Ok.bank) c.in-Ok-start.started (g.H.Host.world c.create.new.host) (g.H.Host.world c.open_silo.new.host) new (g.H.Host.faults c.create.new.host) (g.H.Host.faults c.open_silo.new.host) after result (behind_bank short) c.in-Ok-start.ensures.start bank_is (made.bank short) (λ file. g.met.H.Host.seen_may_stay c.open_silo.new.host file told) stay c.in-Ok-start.ensures.quiet
-    c.in-Ok-load_lines.lines are went.wide c.in-Ok-open_silo.ensures.bound.1.0 c.in-Ok-open_silo.ensures.calm settler' went.used carried (texts_ask types c.args.transfers c.args.seed read) requests
+    c.in-Ok-load_lines.lines are went.wide c.in-Ok-open_silo.ensures.bounds.next.0 c.in-Ok-open_silo.ensures.calm settler' went.used carried (texts_ask types c.args.transfers c.args.seed read) requests
     (many ∙ ap length c.in-Ok-load_lines.ensures ∙ numbered_many 0 (load_calls c.args.transfers c.args.seed)) status final last (subst (λ (n : ℕ). LoadCounts n result status after final) c.in-Ok-start.ensures.start.slot counts) says)

@@ -28,19 +28,19 @@ pub returns-in-Err-start-clause-answers : goal.returns-in-Err-start-clause-answe
 returns-in-Err-start-clause-answers g c = exactly_answers (g.H.Host.faults c.args.host.now) (g.H.Host.faults c.open_silo.new.host) IsCarried Memory (λ q. cc q) c.in-Ok.ensures.calm
 
 pub returns-in-Ok-start-clause-can : goal.returns-in-Ok-start-clause-can
-returns-in-Ok-start-clause-can g c = can_carry g.H.Host.tells c.in-Ok.opened c.in-Ok-start.started (g.H.Host.world c.open_silo.new.host) c.in-Ok-start.ensures.start c.in-Ok.ensures.bound.1.0 c.in-Ok-start.ensures.bounds
-    (λ told. fits_at (seen_in (g.H.Host.world c.args.host.now).disk) c.in-Ok.opened c.in-Ok-start.started (g.H.Host.world c.open_silo.new.host).disk (c.in-Ok.ensures.opened told) c.in-Ok-start.ensures.start
+returns-in-Ok-start-clause-can g c = can_carry g.H.Host.tells c.in-Ok.opened c.in-Ok-start.started (g.H.Host.world c.open_silo.new.host) c.in-Ok-start.ensures.start c.in-Ok.ensures.bounds.next.0 c.in-Ok-start.ensures.bounds
+    (λ told. fits_at (seen_in (g.H.Host.world c.args.host.now).disk) c.in-Ok.opened c.in-Ok-start.started (g.H.Host.world c.open_silo.new.host).disk (c.in-Ok.ensures.opened told).opened c.in-Ok-start.ensures.start
     (λ file. (opens_untouched _ (g.H.Host.world c.args.host.now) (g.H.Host.world c.open_silo.new.host) (c.in-Ok.ensures.only told)).seen file))
 
 pub returns-in-Ok-start-clause-begins : goal.returns-in-Ok-start-clause-begins
 returns-in-Ok-start-clause-begins g c = λ m wide.
     begins g.H.Host.tells m c.in-Ok.opened c.in-Ok-start.started c.new-windows.result (g.H.Host.world c.args.host.now) (g.H.Host.world c.open_silo.new.host) (g.H.Host.faults c.args.host.now) (g.H.Host.faults c.open_silo.new.host)
-    c.in-Ok-start.ensures.start wide c.in-Ok.ensures.bound.1.0 c.in-Ok-start.ensures.quiet c.in-Ok.ensures.calm
+    c.in-Ok-start.ensures.start wide c.in-Ok.ensures.bounds.next.0 c.in-Ok-start.ensures.quiet c.in-Ok.ensures.calm
     (λ told. record {
-      opened = c.in-Ok.ensures.opened told;
-      settled = c.in-Ok.ensures.settled told;
-      count = c.in-Ok.ensures.count told;
-      left = c.in-Ok.ensures.left told;
+      opened = (c.in-Ok.ensures.opened told).opened;
+      settled = (c.in-Ok.ensures.opened told).settled;
+      count = (c.in-Ok.ensures.opened told).count;
+      left = (c.in-Ok.ensures.opened told).left;
       run = c.in-Ok.ensures.only told;
       stays = λ file. g.met.H.Host.seen_may_stay c.args.host.now file told;
     })

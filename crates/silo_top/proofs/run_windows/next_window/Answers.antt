@@ -1,5 +1,5 @@
 use Rattle.std.proofs.Common.{Bool, sym, subst, ◌∙◌, arith}
-use Rattle.input_windows.specs.Given.{GivenTo, InputEnds}
+use Rattle.input_windows.specs.GivenWindows.{GivenTo, InputEnds}
 use Rattle.input_windows.specs.Windows.{Gave}
 use Rattle.input_windows.proofs.GivenWindows.{gives_next, gives_end, refuses, ends_behind}
 use Rattle.input_windows.proofs.Still.{still_none}

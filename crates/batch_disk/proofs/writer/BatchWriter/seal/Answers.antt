@@ -1,10 +1,13 @@
-use Rattle.std.proofs.Common.{◌≡◌, ◌+◌, true, [], List, length, map, refl, sym, subst, ap, ◌∙◌}
+use Rattle.std.proofs.Common.{◌≡◌, ℕ, ◌+◌, true, [], List, length, map, refl, sym, subst, ap, ◌∙◌}
 use Rattle.std.specs.List.{flat_map, AllByRecursion}
 use Rattle.base_types.specs.declared.calls.GrainId.{GrainId}
 use Rattle.host_trait.specs.declared.channels.FileId.{FileId}
-use Rattle.host_trait.specs.Disk.{MayLeave}
+use Rattle.host_trait.specs.declared.channels.FileId.TheVariants.{Manager}
+use Rattle.host_trait.specs.Disk.{MayLeave, Tears}
+use Rattle.host_trait.specs.Runs.{RunsOnFile}
 use Rattle.commit_log.specs.declared.records.CommitRecord.{CommitRecord}
 use Rattle.commit_log.specs.declared.gate.Sealing.TheVariants.{Sealed, NotSealed, InDoubt}
+use Rattle.commit_log.specs.SealImages.{SealHasCause}
 use Rattle.commit_log.specs.Spelling.{spelling_of_body, spelling_of_block}
 use Rattle.promise_spec.specs.Blocks.{Records, body_of}
 use Rattle.batch_disk.specs.ImagesAtRest.{raised_ends}
@@ -36,27 +39,19 @@ returns-in-Sealed-clause-seals g c =
     let ends : (q : GrainId) → file_end d q ≡ raised_ends (file_end a) (flat_map (λ r. r.writes) rs) q =
     λ q. c.count_records.ensures.ends q ∙ ap (λ (l : List CommitRecord). raised_ends (file_end a) (flat_map (λ r. r.writes) l) q) c.as_slice-in-Sealed.ensures in
     let none : kept_of d ≡ [] = ap (map voted_by) c.clear.ensures.items in
-    λ told shape head log bodies batch es are logged true_of keeps.
-    let seen : (f : FileId) → MayLeave (w0.disk f) (w0.disk f).seen = λ f. g.met.H.Host.seen_may_stay c.args.host.now f told in
-    let bodies = bodies in
-    let body = body_of (Records (commits_by es rs)) in
-    let next = is_next a.slot shape head log bodies batch es a rs block c.requires.work.fits c.requires.work.small is are logged true_of w0 w2 keeps seen in
-    seals_as a.slot shape head log bodies batch es a rs block c.requires.work.fits c.requires.work.small is are logged true_of w0 w2 keeps seen (c.seal.ensures.run told) (Sealed c.in-Sealed.next_gate) d (c.seal.ensures.moments told bodies body next)
-    (stands_sealed a.slot shape head log bodies batch es a rs block c.requires.work.fits c.requires.work.small is are logged true_of w0 w2 keeps seen (c.seal.ensures.run told) c.in-Sealed.next_gate d (c.in-Sealed.ensures.logs told bodies body next) c.count_records.ensures.gate none ends)
-
-pub returns-in-Sealed-clause-after : goal.returns-in-Sealed-clause-after
-returns-in-Sealed-clause-after g c =
-    let a = c.args.self.now in
-    let rs = c.args.work.records in
-    let block = c.as_slice.result.now in
-    let is : block ≡ spelling_of_block rs = c.as_slice.ensures ∙ c.requires.work.block in
-    let w0 = g.H.Host.world c.args.host.now in
-    let w2 = g.H.Host.world c.seal.new.host in
-    let d : BatchWriter = record { slot = c.count_records.new.self.slot; gate_at = c.count_records.new.self.gate_at; ends = c.count_records.new.self.ends; batch = c.count_records.new.self.batch; kept = c.clear.new.self; in_doubt = c.count_records.new.self.in_doubt } in
-    let ends : (q : GrainId) → file_end d q ≡ raised_ends (file_end a) (flat_map (λ r. r.writes) rs) q =
-    λ q. c.count_records.ensures.ends q ∙ ap (λ (l : List CommitRecord). raised_ends (file_end a) (flat_map (λ r. r.writes) l) q) c.as_slice-in-Sealed.ensures in
-    let none : kept_of d ≡ [] = ap (map voted_by) c.clear.ensures.items in
-    (c.count_records.ensures.gate, (ends, (c.count_records.ensures.doubt, none)))
+    record {
+      run = λ told. subst (λ (l : List ℕ). RunsOnFile (Manager a.slot) (Tears a.gate_at (length l + 1)) 2 w0 w2) c.as_slice.ensures (c.seal.ensures.run told);
+      twice = λ told next is. (c.in-Sealed.ensures.end told).1;
+      seals = λ told shape head log bodies batch es are logged true_of keeps.
+          let seen : (f : FileId) → MayLeave (w0.disk f) (w0.disk f).seen = λ f. g.met.H.Host.seen_may_stay c.args.host.now f told in
+          let body = body_of (Records (commits_by es rs)) in
+          let next = is_next a.slot shape head log bodies batch es a rs block c.requires.work.fits c.requires.work.small is are logged true_of w0 w2 keeps seen in
+          seals_as a.slot shape head log bodies batch es a rs block c.requires.work.fits c.requires.work.small is are logged true_of w0 w2 keeps seen (c.seal.ensures.run told) (Sealed c.in-Sealed.next_gate) d (c.seal.ensures.moments told bodies body next)
+          (stands_sealed a.slot shape head log bodies batch es a rs block c.requires.work.fits c.requires.work.small is are logged true_of w0 w2 keeps seen (c.seal.ensures.run told) c.in-Sealed.next_gate d (c.in-Sealed.ensures.logs told bodies body next) c.count_records.ensures.gate none ends);
+      slot = c.count_records.ensures.slot;
+      after_is = (c.count_records.ensures.gate, (ends, (c.count_records.ensures.doubt, none)));
+      cause = subst (λ (l : List ℕ). SealHasCause a.slot (Sealed c.in-Sealed.next_gate) a.gate_at (length l) (g.H.Host.faults c.args.host.now) (g.H.Host.faults c.seal.new.host)) c.as_slice.ensures c.in-Sealed.ensures.cause;
+    }
 
 pub returns-in-Sealed-clause-fits : goal.returns-in-Sealed-clause-fits
 returns-in-Sealed-clause-fits g c =
@@ -84,13 +79,19 @@ returns-in-NotSealed-clause-seals g c =
     let d : BatchWriter = record { slot = a.slot; gate_at = a.gate_at; ends = a.ends; batch = a.batch; kept = c.clear-in-NotSealed.new.self; in_doubt = a.in_doubt } in
     let same : HasSameEnds a d = record { slot = refl; gate = refl; ends = λ q. refl; doubt = refl } in
     let none : kept_of d ≡ [] = ap (map voted_by) c.clear-in-NotSealed.ensures.items in
-    λ told shape head log bodies batch es are logged true_of keeps.
-    let seen : (f : FileId) → MayLeave (w0.disk f) (w0.disk f).seen = λ f. g.met.H.Host.seen_may_stay c.args.host.now f told in
-    let bodies = bodies in
-    let body = body_of (Records (commits_by es rs)) in
-    let next = is_next a.slot shape head log bodies batch es a rs block c.requires.work.fits c.requires.work.small is are logged true_of w0 w2 keeps seen in
-    seals_as a.slot shape head log bodies batch es a rs block c.requires.work.fits c.requires.work.small is are logged true_of w0 w2 keeps seen (c.seal.ensures.run told) NotSealed d (c.seal.ensures.moments told bodies body next)
-    (stands_unsealed a.slot shape head log bodies batch es a rs block c.requires.work.fits c.requires.work.small is are logged true_of w0 w2 keeps seen (c.seal.ensures.run told) d (c.in-NotSealed.ensures.logs told bodies body next) same none)
+    record {
+      run = λ told. subst (λ (l : List ℕ). RunsOnFile (Manager a.slot) (Tears a.gate_at (length l + 1)) 2 w0 w2) c.as_slice.ensures (c.seal.ensures.run told);
+      twice = λ told next is. absurd (cc is);
+      seals = λ told shape head log bodies batch es are logged true_of keeps.
+          let seen : (f : FileId) → MayLeave (w0.disk f) (w0.disk f).seen = λ f. g.met.H.Host.seen_may_stay c.args.host.now f told in
+          let body = body_of (Records (commits_by es rs)) in
+          let next = is_next a.slot shape head log bodies batch es a rs block c.requires.work.fits c.requires.work.small is are logged true_of w0 w2 keeps seen in
+          seals_as a.slot shape head log bodies batch es a rs block c.requires.work.fits c.requires.work.small is are logged true_of w0 w2 keeps seen (c.seal.ensures.run told) NotSealed d (c.seal.ensures.moments told bodies body next)
+          (stands_unsealed a.slot shape head log bodies batch es a rs block c.requires.work.fits c.requires.work.small is are logged true_of w0 w2 keeps seen (c.seal.ensures.run told) d (c.in-NotSealed.ensures.logs told bodies body next) same none);
+      slot = refl;
+      after_is = (same, none);
+      cause = subst (λ (l : List ℕ). SealHasCause a.slot NotSealed a.gate_at (length l) (g.H.Host.faults c.args.host.now) (g.H.Host.faults c.seal.new.host)) c.as_slice.ensures c.in-NotSealed.ensures.cause;
+    }
 
 pub returns-in-NotSealed-clause-fits : goal.returns-in-NotSealed-clause-fits
 returns-in-NotSealed-clause-fits g c =
@@ -114,13 +115,19 @@ returns-clause-seals g c =
     let w0 = g.H.Host.world c.args.host.now in
     let w2 = g.H.Host.world c.seal.new.host in
     let d : BatchWriter = record { slot = a.slot; gate_at = a.gate_at; ends = a.ends; batch = a.batch; kept = a.kept; in_doubt = true } in
-    λ told shape head log bodies batch es are logged true_of keeps.
-    let seen : (f : FileId) → MayLeave (w0.disk f) (w0.disk f).seen = λ f. g.met.H.Host.seen_may_stay c.args.host.now f told in
-    let bodies = bodies in
-    let body = body_of (Records (commits_by es rs)) in
-    let next = is_next a.slot shape head log bodies batch es a rs block c.requires.work.fits c.requires.work.small is are logged true_of w0 w2 keeps seen in
-    seals_as a.slot shape head log bodies batch es a rs block c.requires.work.fits c.requires.work.small is are logged true_of w0 w2 keeps seen (c.seal.ensures.run told) InDoubt d (c.seal.ensures.moments told bodies body next)
-    (stands_in_doubt a.slot shape head log bodies batch es a rs block c.requires.work.fits c.requires.work.small is are logged true_of w0 w2 keeps seen (c.seal.ensures.run told) d (λ f. g.met.H.Host.seen_may_stay c.seal.new.host f told) (c.in-InDoubt.ensures.end told) (c.in-InDoubt.ensures.logs told bodies body next) (c.in-InDoubt.ensures.which told bodies body next))
+    record {
+      run = λ told. subst (λ (l : List ℕ). RunsOnFile (Manager a.slot) (Tears a.gate_at (length l + 1)) 2 w0 w2) c.as_slice.ensures (c.seal.ensures.run told);
+      twice = λ told next is. absurd (cc is);
+      seals = λ told shape head log bodies batch es are logged true_of keeps.
+          let seen : (f : FileId) → MayLeave (w0.disk f) (w0.disk f).seen = λ f. g.met.H.Host.seen_may_stay c.args.host.now f told in
+          let body = body_of (Records (commits_by es rs)) in
+          let next = is_next a.slot shape head log bodies batch es a rs block c.requires.work.fits c.requires.work.small is are logged true_of w0 w2 keeps seen in
+          seals_as a.slot shape head log bodies batch es a rs block c.requires.work.fits c.requires.work.small is are logged true_of w0 w2 keeps seen (c.seal.ensures.run told) InDoubt d (c.seal.ensures.moments told bodies body next)
+          (stands_in_doubt a.slot shape head log bodies batch es a rs block c.requires.work.fits c.requires.work.small is are logged true_of w0 w2 keeps seen (c.seal.ensures.run told) d (λ f. g.met.H.Host.seen_may_stay c.seal.new.host f told) (c.in-InDoubt.ensures.end told) (c.in-InDoubt.ensures.logs told bodies body next) (c.in-InDoubt.ensures.which told bodies body next));
+      slot = refl;
+      after_is = refl;
+      cause = subst (λ (l : List ℕ). SealHasCause a.slot InDoubt a.gate_at (length l) (g.H.Host.faults c.args.host.now) (g.H.Host.faults c.seal.new.host)) c.as_slice.ensures c.in-InDoubt.ensures.cause;
+    }
 
 pub returns-clause-fits : goal.returns-clause-fits
 returns-clause-fits g c =

@@ -29,12 +29,7 @@ returns-in-Sealed-clause-made g c = λ shape w shown.
       work = c.in_ok-made.made;
       records = c.in_ok-made.ensures.records;
       sealable = c.in_ok-made.ensures.sealable;
-      run = c.seal.ensures.run;
-      twice = c.seal.ensures.twice;
-      seals = λ told shape head log bodies logged written keeps. c.seal.ensures.seals told shape head log bodies c.args.batch c.args.effects c.in_ok-made.ensures.records logged written keeps;
-      slot = c.seal.ensures.slot;
-      after_is = c.seal.ensures.after;
-      cause = c.seal.ensures.cause;
+      leaves = c.seal.ensures.seals;
     } in
     seal_made g.H.Host.tells g.H.Host.world g.H.Host.faults shape w a b c.args.host.now c.seal.new.host refl c.args.batch c.args.effects c.seal.result (event.Sealed c.args.batch) false (ap (event_of c.args.batch) (sym c.in-Sealed.is)) refl shown seals
 
@@ -49,12 +44,7 @@ returns-in-NotSealed-clause-made g c = λ shape w shown.
       work = c.in_ok-made.made;
       records = c.in_ok-made.ensures.records;
       sealable = c.in_ok-made.ensures.sealable;
-      run = c.seal.ensures.run;
-      twice = c.seal.ensures.twice;
-      seals = λ told shape head log bodies logged written keeps. c.seal.ensures.seals told shape head log bodies c.args.batch c.args.effects c.in_ok-made.ensures.records logged written keeps;
-      slot = c.seal.ensures.slot;
-      after_is = c.seal.ensures.after;
-      cause = c.seal.ensures.cause;
+      leaves = c.seal.ensures.seals;
     } in
     seal_made g.H.Host.tells g.H.Host.world g.H.Host.faults shape w a b c.args.host.now c.seal.new.host refl c.args.batch c.args.effects c.seal.result (event.NotSealed c.args.batch) false (ap (event_of c.args.batch) (sym c.in-NotSealed.is)) refl shown seals
 
@@ -69,11 +59,6 @@ returns-in-InDoubt-clause-made g c = λ shape w shown.
       work = c.in_ok-made.made;
       records = c.in_ok-made.ensures.records;
       sealable = c.in_ok-made.ensures.sealable;
-      run = c.seal.ensures.run;
-      twice = c.seal.ensures.twice;
-      seals = λ told shape head log bodies logged written keeps. c.seal.ensures.seals told shape head log bodies c.args.batch c.args.effects c.in_ok-made.ensures.records logged written keeps;
-      slot = c.seal.ensures.slot;
-      after_is = c.seal.ensures.after;
-      cause = c.seal.ensures.cause;
+      leaves = c.seal.ensures.seals;
     } in
     seal_made g.H.Host.tells g.H.Host.world g.H.Host.faults shape w a b c.args.host.now c.seal.new.host refl c.args.batch c.args.effects c.seal.result (event.Doubt c.args.batch) true (ap (event_of c.args.batch) (sym c.in-InDoubt.is)) refl shown seals

@@ -1,19 +1,22 @@
 -- What a silo that is written anew shows on the way, and what its next generation is made of.
-use Rattle.std.specs.Prelude.{◌≡◌, ℕ, ◌+◌, ◌<◌, ◌≤◌, ◌^◌, length, Ok}
+use Rattle.std.specs.Prelude.{◌≡◌, ℕ, ◌+◌, ◌-◌, ◌<◌, ◌≤◌, ◌^◌, length, Ok}
 use Rattle.std.specs.List.{list_any, AllByRecursion}
 use Rattle.base_types.specs.declared.calls.GrainId.{GrainId}
+use Rattle.base_types.specs.declared.shapes.Shape.{Shape}
 use Rattle.base_types.specs.declared.stores.Version.{Version}
 use Rattle.base_types.specs.Grains.{same_grain}
 use Rattle.host_trait.specs.declared.channels.FileId.TheVariants.{Manager}
-use Rattle.host_trait.specs.World.{World, Moment, Image}
+use Rattle.host_trait.specs.World.{World, Moment, Disk, Image, IsImage, Passes, Arrives, moment_of}
 use Rattle.field_codec.specs.declared.formats.Format.TheVariants.{One}
 use Rattle.commit_log.specs.declared.records.Named.{Named}
+use Rattle.log_reading.specs.Steps.{seen_in}
 use Rattle.log_reading.specs.Versions.{version_named}
-use Rattle.silo_spec.specs.Slots.{generation}
+use Rattle.silo_spec.specs.Slots.{generation, ShowsSilos}
 use Rattle.promise_spec.specs.Programs.{Program, IsChecked, shape_in}
-use Rattle.promise_spec.specs.Entries.{Log, standing_of}
+use Rattle.promise_spec.specs.Entries.{Log, standing_of, checkpointed}
+use Rattle.promise_spec.specs.Logs.{magic, IsLog}
 use Rattle.promise_spec.specs.Versions.{WriteStands}
-use Rattle.promise_spec.specs.Compacting.{AllEither, KeepsSlot}
+use Rattle.promise_spec.specs.EitherSlot.{AllEither, KeepsSlot, IsCompactable}
 use Rattle.checkpoint.specs.declared.compaction.Next.{Next}
 
 -- A moment on the way: nothing was emitted, the live slot's files are as they were, and each image has one of the two logs.
@@ -23,7 +26,7 @@ pub record IsOnTheWay (live : ℕ) (log new : Log) (w : World) (m : Moment) : Ty
   pub either : AllEither live log new m
 
 -- A named version is there and stands whole, of a unit that may be logged, with the state of its grain.
-pub record IsLastOf (live : ℕ) (p : Program) (image : Image) (log : Log) (n : Named) : Type 0 where
+pub record IsLastVersionOf (live : ℕ) (p : Program) (image : Image) (log : Log) (n : Named) : Type 0 where
   pub version : Version
   pub there : version_named live One (shape_in p) image n ≡ Ok version
   pub unit : (0 < version.unit.0) × (version.unit.0 < 2 ^ 63)
@@ -40,7 +43,30 @@ pub record IsMadeOf (next : Next) (p : Program) (image : Image) (log : Log) : Ty
   pub next_unit : next.head.next_unit.0 ≡ (standing_of log).next
   pub generation_is : next.generation ≡ generation (image (Manager next.live)) + 1
   pub held : (grain : GrainId) → list_any (λ n. same_grain n.written.grain grain) next.latest ≡ (standing_of log).held grain
-  pub each : AllByRecursion (IsLastOf next.live p image log) next.latest
+  pub each : AllByRecursion (IsLastVersionOf next.live p image log) next.latest
+
+-- Where the other slot's files may be filled: the next generation is made of this log, which the live slot has in each image.
+pub record MayFill (next : Next) (shape : Shape) (p : Program) (log : Log) (w : World) : Type 0 where
+  pub shape_is : shape ≡ shape_in p
+  pub made : IsMadeOf next p (seen_in w.disk) log
+  pub can : IsCompactable next.live log w
+  pub shown : ShowsSilos magic w.disk
+
+-- Each moment up to this one was on the way, and no image is a silo by a slot whose manager file reads too short.
+pub record HasGone (live : ℕ) (log : Log) (old new : World) : Type 0 where
+  pub moments : Passes (IsOnTheWay live log (checkpointed log) old) old.past new.past
+  pub now : IsOnTheWay live log (checkpointed log) old (moment_of new)
+  pub shows : ShowsSilos magic new.disk
+
+-- Each image has the log as a checkpoint in the other slot, of the next generation.
+abbrev pub HasNextSilo : Next → Log → Disk → Type 0
+HasNextSilo next log disk = (image : Image) → IsImage disk image → IsLog (1 - next.live) image (checkpointed log) × (generation (image (Manager (1 - next.live))) ≡ next.generation)
+
+-- nothing is emitted, no input is taken, and the clock goes on
+pub record IsQuietly (old new : World) : Type 0 where
+  pub quiet : new.output ≡ old.output
+  pub unread : new.input ≡ old.input
+  pub clock : Arrives old new
 
 -- A slot, a text and numbers that a checkpoint may have.
 pub record MayBeWritten (next : Next) : Type 0 where

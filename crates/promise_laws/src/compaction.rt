@@ -5,24 +5,26 @@ ghost use Rattle.host_trait.specs.World.{World, Moment, Image, IsImage};
 ghost use Rattle.host_trait.specs.declared.channels.FileId.TheVariants.{Manager};
 ghost use Rattle.silo_spec.specs.Silos.{IsSilo};
 ghost use Rattle.silo_spec.specs.Slots.{generation};
-ghost use Rattle.promise_spec.specs.Entries.{Log, records_of, checkpointed};
-ghost use Rattle.promise_spec.specs.SerialExecution.{IsSerialFrom};
+ghost use Rattle.promise_spec.specs.Entries.{Log, checkpointed};
 ghost use Rattle.promise_spec.specs.Logs.{magic, IsLog};
-ghost use Rattle.promise_spec.specs.Images.{AreNumbered};
 ghost use Rattle.promise_spec.specs.Journals.{AllLog};
-ghost use Rattle.promise_spec.specs.Compacting.{AllEither, StaysBelow, MayClose, IsFilling, IsCompactable, IsReadyToOpen};
-ghost use Rattle.promise_laws.specs.SoundMoments.{IsSoundAt};
+ghost use Rattle.promise_spec.specs.EitherSlot.{AllEither, StaysBelow, MayClose, IsFilling, IsCompactable, IsReadyToOpen};
+ghost use Rattle.promise_laws.specs.SoundMoments.{IsSerialLog, IsSoundAt};
+
+/// Where the header gate of the other slot is closed, a crash leaves no silo's file of so high a generation there: where the manager
+/// file lasts with an open gate and a lower generation, where it lasts and is too short, and where it reads as empty and no crash
+/// leaves a silo's.
+pub fn closed_slots_stay_below()
+    ensures lower { (bound : ℕ) (bytes : List ℕ) → slice_index bytes 0 ≡ 1
+        → (IsSilo magic bytes → generation bytes < bound) → StaysBelow bound (settled bytes) }
+    ensures short { (bound : ℕ) (bytes : List ℕ) → length bytes < 16 → StaysBelow bound (settled bytes) }
+    ensures empty { (bound : ℕ) (file : FileState) → file.seen ≡ [] → MayLeave file file.seen
+        → ((bytes : List ℕ) → MayLeave file bytes → IsSilo magic bytes → ⊥) → StaysBelow bound file }
+{}
 
 /// The other slot is written anew, at every moment. While its header gate is closed, and while its files are filled, each image still
 /// has the log. While that gate is opened each image has the log, or what was written in the other slot; and once it is open the latter.
-/// The gate may be closed where the manager file lasts with an open gate and a lower generation, where it lasts and is too short, and
-/// where it reads as empty and no crash leaves a silo's.
 pub fn compacting_keeps_the_log()
-    ensures opening_closed { (bound : ℕ) (bytes : List ℕ) → slice_index bytes 0 ≡ 1
-        → (IsSilo magic bytes → generation bytes < bound) → StaysBelow bound (settled bytes) }
-    ensures opening_short { (bound : ℕ) (bytes : List ℕ) → length bytes < 16 → StaysBelow bound (settled bytes) }
-    ensures opening_empty { (bound : ℕ) (file : FileState) → file.seen ≡ [] → MayLeave file file.seen
-        → ((bytes : List ℕ) → MayLeave file bytes → IsSilo magic bytes → ⊥) → StaysBelow bound file }
     ensures closing { (live : ℕ) (log : Log) (w : World) → IsCompactable live log w → MayClose live w
         → (m : Moment) → ChangesFile (Manager (1 - live)) (Tears 0 1) w m → AllLog live log m.disk }
     ensures filling { (live : ℕ) (log : Log) (w : World) → IsCompactable live log w → (m : Moment) → IsFilling live w.disk m → AllLog live log m.disk }
@@ -36,5 +38,5 @@ pub fn compacting_keeps_the_log()
 /// A folder stays sound at each moment of it, where the log is: its images are a chain, and each that is a silo is sound.
 pub fn rewritten_folders_are_sound()
     ensures { (live : ℕ) (log : Log) (m : Moment) → AllEither live log (checkpointed log) m
-        → IsSerialFrom log.base log.entries → AreNumbered log.base.next (records_of log) → IsSoundAt m }
+        → IsSerialLog log → IsSoundAt m }
 {}

@@ -1,15 +1,5 @@
-use Rattle.promise_laws.proofs.GateBytes.{open_below, short_below, empty_below}
 use Rattle.promise_laws.proofs.OtherSlots.{closing, filling, either, opened}
-use Rattle.promise_laws.proofs.compacting.compacting_keeps_the_log.Goals as goal
-
-pub returns-clause-opening_closed : goal.returns-clause-opening_closed
-returns-clause-opening_closed c = open_below
-
-pub returns-clause-opening_short : goal.returns-clause-opening_short
-returns-clause-opening_short c = short_below
-
-pub returns-clause-opening_empty : goal.returns-clause-opening_empty
-returns-clause-opening_empty c = empty_below
+use Rattle.promise_laws.proofs.compaction.compacting_keeps_the_log.Goals as goal
 
 pub returns-clause-closing : goal.returns-clause-closing
 returns-clause-closing c = closing

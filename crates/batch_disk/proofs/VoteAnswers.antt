@@ -1,0 +1,69 @@
+-- What a vote leaves, by its answer.
+use Rattle.std.proofs.Common.{◌≡◌, ℕ, ◌+◌, ◌<◌, ◌^◌, Bool, true, false, List, length, refl, ◌∙◌}
+use Rattle.std.specs.Prelude.{IsTrue}
+use Rattle.std.specs.List.{AllByRecursion}
+use Rattle.base_types.specs.declared.calls.GrainId.{GrainId}
+use Rattle.base_types.specs.declared.stores.Version.{Version}
+use Rattle.host_trait.specs.declared.channels.Channel.{Channel}
+use Rattle.host_trait.specs.declared.channels.Channel.TheVariants.{File}
+use Rattle.host_trait.specs.declared.channels.FileId.TheVariants.{Grain}
+use Rattle.host_trait.specs.Disk.{MayLeave, Tears}
+use Rattle.host_trait.specs.Faults.{NoneFailed, FailedOn}
+use Rattle.host_trait.specs.World.{World}
+use Rattle.host_trait.specs.Runs.{RunsOnFile}
+use Rattle.field_codec.specs.declared.formats.Format.TheVariants.{One}
+use Rattle.field_codec.specs.Spelling.{VersionFits}
+use Rattle.grain_log.specs.Places.{spelling_of_versions, VersionsStand}
+use Rattle.batch_disk.specs.Writers.{file_end, kept_of, voted_of, HasSameEnds}
+use Rattle.batch_disk.specs.VoteAnswers.{IsOnDisk, KeepsImages, VotesOn, LacksRoom}
+use Rattle.batch_disk.specs.declared.writer.BatchWriter.{BatchWriter}
+use Rattle.batch_disk.proofs.WriterState.{IsReadyFor, KeepsMore, voted_is, keeps_no, keeps_yes, vote_keeps_log}
+
+module _ {H : Type 0} (tells : Bool) (world : H → World) (faults : H → Channel → ℕ) (n : ℕ) (g : GrainId) (versions : List Version) (a b : BatchWriter) (old new : H)
+    (run : IsTrue tells → RunsOnFile (Grain a.slot g) (Tears (file_end a g) (length (spelling_of_versions versions))) 1 (world old) (world new)) where
+  -- no version more is kept: images keep what they had
+  images_no : HasSameEnds a b → kept_of b ≡ voted_of n a → IsTrue tells → KeepsImages a.slot n g versions a b (world old) (world new)
+  images_no same kept told = record {
+    still = λ shape head log bodies fresh keeps. vote_keeps_log a.slot shape head log bodies a n g (length (spelling_of_versions versions)) (world old) (world new) fresh keeps (run told);
+    keeps = λ shape head log bodies fresh typed keeps. keeps_no a.slot shape head log bodies a n g (length (spelling_of_versions versions)) (world old) (world new) fresh keeps (run told) b same kept;
+  }
+
+  -- a vote of no
+  pub votes_no : IsReadyFor n a b → FailedOn (File (Grain a.slot g)) (faults old) (faults new) → VotesOn tells world faults a.slot n g false versions a b old new
+  votes_no ready fault = record {
+    cause = fault;
+    run = run;
+    there = λ told is. absurd (cc is);
+    kept = voted_is b n ready.goes_to ∙ ready.kept;
+    batch = ready.goes_to;
+    same = ready.same;
+    images = images_no ready.same ready.kept;
+  }
+
+  -- none, for want of memory
+  pub lacks_room : IsReadyFor n a b → NoneFailed (faults old) (faults new) → (IsTrue tells → world new ≡ world old) → LacksRoom tells world faults a.slot n g versions a b old new
+  lacks_room ready calm same = record {
+    calm = calm;
+    world_is = same;
+    kept = voted_is b n ready.goes_to ∙ ready.kept;
+    batch = ready.goes_to;
+    same = ready.same;
+    images = images_no ready.same ready.kept;
+  }
+
+  -- a vote of yes
+  pub votes_yes : KeepsMore n g (file_end a g) versions a b → NoneFailed (faults old) (faults new) → (IsTrue tells → IsOnDisk a.slot g (file_end a g) versions (world old) (world new))
+      → (IsTrue tells → (image : List ℕ) → MayLeave ((world new).disk (Grain a.slot g)) image → VersionsStand image (file_end a g) versions) → AllByRecursion (VersionFits One) versions
+      → file_end a g + length (spelling_of_versions versions) < 2 ^ 63 → VotesOn tells world faults a.slot n g true versions a b old new
+  votes_yes more calm there stand fits low = record {
+    cause = calm;
+    run = run;
+    there = λ told is. there told;
+    kept = voted_is b n more.goes_to ∙ more.kept;
+    batch = more.goes_to;
+    same = more.same;
+    images = λ told. record {
+      still = λ shape head log bodies fresh keeps. vote_keeps_log a.slot shape head log bodies a n g (length (spelling_of_versions versions)) (world old) (world new) fresh keeps (run told);
+      keeps = λ shape head log bodies fresh typed keeps. keeps_yes a.slot shape head log bodies a n g versions (world old) (world new) fresh keeps (run told) b more.same more.kept (stand told) typed fits low;
+    };
+  }
