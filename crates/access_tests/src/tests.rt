@@ -1,3 +1,4 @@
+// An access that never finds memory for an event, called in each way.
 ghost use Rattle.access_tests.specs.Lines.{IsFit};
 
 use crate::{LineCore, spoil_next, write_one};

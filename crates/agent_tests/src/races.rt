@@ -1,3 +1,4 @@
+// Rows of races: a worker carries lines while another puts events of its own between its calls.
 ghost use Rattle.std.specs.Prelude.{◌≡◌, [], IfOk, ◌<◌};
 ghost use Rattle.history_core.specs.Cores.{run_of};
 ghost use Rattle.turn_cell.specs.Passes.{IsPassOf, pass_view};

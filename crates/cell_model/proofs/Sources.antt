@@ -2,10 +2,10 @@
 use Rattle.std.proofs.Common.{◌≡◌, ◌<◌, List, [], ◌∷◌, Bool, true, false, ◌⊎◌, inl, inr, refl, sym, ap, subst, arith, Option, Some, None, filter, nat_lt}
 use Rattle.std.specs.Prelude.{if◌then◌else◌, find}
 use Rattle.std.proofs.lemmas.Bool.{cond_both, ltb-true, ltb-false, cases_order}
-use Rattle.cell_model.specs.Units.{UnitNo, Member, same_unit, older_first, oldest}
-use Rattle.cell_model.specs.Sources.{with_source, SourcesAscend}
+use Rattle.cell_model.specs.Sources.{with_source}
 use Rattle.cell_model.specs.Laws.{SourcesFollow}
 use Rattle.cell_model.proofs.Units.{same_unit-true, same_unit-false, filter-member, oldest-some}
+use Rattle.cell_model.specs.Units.{UnitNo, Member, same_unit, older_first, oldest, UnitsAscend}
 
 with-is : (x : UnitNo) (xs : List UnitNo) (s : UnitNo) (P : List UnitNo → Type 0) →
     (x ≡ s → P (x ∷ xs)) → ((x ≡ s → ⊥) → s.0 < x.0 → P (s ∷ x ∷ xs)) → (x.0 < s.0 → P (x ∷ with_source xs s)) → P (with_source (x ∷ xs) s)
@@ -34,24 +34,24 @@ with-only (x ∷ xs) s u m =
     (λ l m. elim m [ inl q ↦ inr (inl q) | inr q ↦ elim (with-only xs s u q) [ inl a ↦ inl a | inr a ↦ inr (inr a) ] ])
     m
 
-pub with-ascending : (xs : List UnitNo) (s : UnitNo) → SourcesAscend xs → SourcesAscend (with_source xs s)
+pub with-ascending : (xs : List UnitNo) (s : UnitNo) → UnitsAscend xs → UnitsAscend (with_source xs s)
 with-ascending [] s a = ((λ y m. absurd m), tt)
 with-ascending (x ∷ xs) s a =
-    with-is x xs s SourcesAscend (λ e. a)
+    with-is x xs s UnitsAscend (λ e. a)
     (λ n l. ((λ y m. elim m [ inl q ↦ omega (arith, l, ap (λ (z : UnitNo). z.0) q) | inr q ↦ (let t = a.0 y q in omega (arith, l, t)) ]), a))
     (λ l. (
       (λ y m. elim (with-only xs s y m) [ inl q ↦ omega (arith, l, ap (λ (z : UnitNo). z.0) q) | inr q ↦ a.0 y q ]),
       with-ascending xs s a.1,
     ))
 
-pub sources-follow : (xs : List UnitNo) (s : UnitNo) → SourcesAscend xs → SourcesFollow xs s
+pub sources-follow : (xs : List UnitNo) (s : UnitNo) → UnitsAscend xs → SourcesFollow xs s
 sources-follow xs s a = record {
   ascending = with-ascending xs s a;
   has = λ u. ((λ m. with-only xs s u m), (λ o. elim o [ inl q ↦ subst (λ z. Member z (with_source xs s)) (sym q) (with-has xs s) | inr m ↦ with-keeps xs s u m ]));
 }
 
 -- in an ascending list the first that meets a test is the oldest
-pub first-oldest : (test : UnitNo → Bool) (xs : List UnitNo) → SourcesAscend xs → find test xs ≡ oldest (filter test xs)
+pub first-oldest : (test : UnitNo → Bool) (xs : List UnitNo) → UnitsAscend xs → find test xs ≡ oldest (filter test xs)
 first-oldest test [] a = refl
 first-oldest test (x ∷ xs) a =
     (let both : (b : Bool) → (if b then Some x else find test xs) ≡ oldest (if b then x ∷ filter test xs else filter test xs) = elim [

@@ -1,11 +1,11 @@
 -- What holds of these words.
 use Rattle.std.specs.Prelude.{◌≡◌, ◌↔◌, ◌<◌, ◌≤◌, List, [], ◌∷◌, ◌++◌, Bool, true, false, None, ◌⊎◌}
 use Rattle.std.specs.List.{list_any as any}
-use Rattle.cell_model.specs.Units.{UnitNo, Member}
 use Rattle.cell_model.specs.Stacks.{Version, top, committed_stack, removed, has_version}
 use Rattle.cell_model.specs.Locks.{Hold, Mode, Ask, Free, Held, MustWait, MustDie, covers, conflicts, granted, dropped, holds_lock}
-use Rattle.cell_model.specs.Sources.{SourcesAscend, with_source}
+use Rattle.cell_model.specs.Sources.{with_source}
 use Rattle.cell_model.specs.Decisions.{Prepared, Commit, decision, all_decided, and_itself}
+use Rattle.cell_model.specs.Units.{UnitNo, Member, UnitsAscend}
 
 -- the unit is the oldest of the holders who conflict
 pub record IsOldestRival (holds : List Hold) (unit : UnitNo) (mode : Mode) (holder : UnitNo) : Type 0 where
@@ -53,7 +53,7 @@ pub record LocksFollow (holds : List Hold) (unit : UnitNo) (mode : Mode) : Type 
 
 -- a set of sources with one more
 pub record SourcesFollow (sources : List UnitNo) (source : UnitNo) : Type 0 where
-  pub ascending : SourcesAscend (with_source sources source)
+  pub ascending : UnitsAscend (with_source sources source)
   pub has : (u : UnitNo) → Member u (with_source sources source) ↔ ((u ≡ source) ⊎ Member u sources)
 
 -- the dead after a batch: those of before, and who can't commit

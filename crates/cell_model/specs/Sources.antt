@@ -1,7 +1,7 @@
 -- The sources that a unit depends on, oldest first, each once.
-use Rattle.std.specs.Prelude.{List, [], ◌∷◌, Bool, Option, nat_lt, if◌then◌else◌, find, ⊤, ◌<◌}
+use Rattle.std.specs.Prelude.{List, [], ◌∷◌, Bool, Option, nat_lt, if◌then◌else◌, find}
 use Rattle.std.specs.List.{list_any as any}
-use Rattle.cell_model.specs.Units.{UnitNo, same_unit, Member}
+use Rattle.cell_model.specs.Units.{UnitNo, same_unit}
 
 -- the unit is in the list
 abbrev pub is_among : List UnitNo → UnitNo → Bool
@@ -16,8 +16,3 @@ with_source (x ∷ xs) unit =
 -- the oldest source that is among the aborted, none where there is none
 abbrev pub first_aborted : List UnitNo → List UnitNo → Option UnitNo
 first_aborted sources aborted = find (is_among aborted) sources
-
--- each is older than all after it
-abbrev pub SourcesAscend : List UnitNo → Type 0
-SourcesAscend [] = ⊤
-SourcesAscend (x ∷ xs) = ((y : UnitNo) → Member y xs → x.0 < y.0) × SourcesAscend xs

@@ -1,9 +1,14 @@
 -- Units and grains by their numbers.
-use Rattle.std.specs.Prelude.{List, [], ◌∷◌, Bool, Option, Some, None, ◌==◌, nat_lt, if◌then◌else◌}
+use Rattle.std.specs.Prelude.{List, [], ◌∷◌, Bool, Option, Some, None, ◌==◌, nat_lt, if◌then◌else◌, ⊤, ◌<◌}
 pub use Rattle.base_types.specs.declared.calls.UnitNo.{UnitNo}
 pub use Rattle.base_types.specs.declared.calls.GrainId.{GrainId}
 pub use Rattle.base_types.specs.Grains.{same_grain}
 pub use Rattle.base_types.specs.Lists.{Member}
+
+-- each unit is older than all behind it
+abbrev pub UnitsAscend : List UnitNo → Type 0
+UnitsAscend [] = ⊤
+UnitsAscend (u ∷ us) = ((v : UnitNo) → Member v us → u.0 < v.0) × UnitsAscend us
 
 -- nobody, whose version is the opening state
 abbrev pub nobody : UnitNo

@@ -1,12 +1,12 @@
 ghost use Rattle.std.specs.Prelude.{◌≡◌, List, Bool, length};
 ghost use Rattle.std.specs.Prelude.{filter};
-ghost use Rattle.cell_model.specs.Units.{UnitNo, oldest};
 ghost use Rattle.cell_model.specs.Stacks.{Version};
 ghost use Rattle.cell_model.specs.Locks.{Hold, Mode, ask};
-ghost use Rattle.cell_model.specs.Sources.{SourcesAscend, first_aborted, is_among};
+ghost use Rattle.cell_model.specs.Sources.{first_aborted, is_among};
 ghost use Rattle.cell_model.specs.Decisions.{Prepared, all_decided};
 ghost use Rattle.cell_model.specs.Cells.{Cell, cell_learned};
 ghost use Rattle.cell_model.specs.Laws.{AnswersExactly, StackFollows, LocksFollow, SourcesFollow, CommitsExactly, DecidesInOrder};
+ghost use Rattle.cell_model.specs.Units.{UnitNo, oldest, UnitsAscend};
 
 /// What a commit keeps and which version is the bottom then, what an abort takes off, and that strangers change nothing.
 pub fn stacks_follow()
@@ -25,8 +25,8 @@ pub fn locks_follow()
 
 /// Sources stay ascending, with the new one among them; the first aborted one is the oldest.
 pub fn sources_are_a_set()
-    ensures kept { (sources : List UnitNo) (source : UnitNo) → SourcesAscend sources → SourcesFollow sources source }
-    ensures first { (sources aborted : List UnitNo) → SourcesAscend sources → first_aborted sources aborted ≡ oldest (filter (is_among aborted) sources) }
+    ensures kept { (sources : List UnitNo) (source : UnitNo) → UnitsAscend sources → SourcesFollow sources source }
+    ensures first { (sources aborted : List UnitNo) → UnitsAscend sources → first_aborted sources aborted ≡ oldest (filter (is_among aborted) sources) }
 {}
 
 /// A batch has one decision for each unit, made where those before it stand, and `Commit` exactly for the alive.

@@ -10,6 +10,7 @@ ghost use Rattle.bank_load.specs.Summaries.{total_kept};
 /// The balances by the order, in a silo of the bank program whose log was empty, are those that the core's last committed writers
 /// left, where no batch is in doubt.
 pub fn totals_are_kept()
-    ensures { (p : Program) (r : Observed) (c : Course) → IsExplained p r c → IsChecked p → p.text ≡ bank_text → c.opening ≡ new_log p → (RunHasDoubt (core_run p c) → ⊥)
+    ensures { (p : Program) (r : Observed) (c : Course) → IsExplained p r c → IsChecked p → p.text ≡ bank_text → c.opening ≡ new_log p
+        → (RunHasDoubt (core_run p c) → ⊥)
         → total_of (standing_of (order c)).states 64 ≡ total_kept (core_end p c) 64 }
 {}

@@ -1,11 +1,12 @@
 -- The entries of one number in a history.
 use Rattle.std.proofs.Common.{◌≡◌, ℕ, List, [], ◌∷◌, ◌++◌, length, Bool, true, false, refl, ap, subst, arith, length-append}
 use Rattle.std.specs.Prelude.{cond}
+use Rattle.base_types.specs.Lists.{Member}
 use Rattle.core_model.specs.declared.events.CoreEvent.{CoreEvent}
 use Rattle.core_model.specs.declared.events.CoreReply.{CoreReply}
 use Rattle.core_model.specs.LegalRuns.{Run}
 use Rattle.core_model.specs.Laws.{extended}
-use Rattle.turn_cell.specs.History.{In, entries_of, same_number, entry}
+use Rattle.turn_cell.specs.History.{entries_of, same_number, entry}
 use Rattle.turn_cell.proofs.Names.{same_is}
 use Rattle.turn_cell.proofs.Histories.{in_entries}
 use Rattle.core_access.specs.Histories.{Told, run_after}
@@ -29,8 +30,8 @@ nothing [] e = refl
 nothing (y ∷ ys) e = absurd (omega (arith, e))
 
 -- an entry of the number isn't nothing
-pub not-nothing : (n : List ℕ) (xs : List Told) (e : Told) → In e xs → n ≡ e.by → entries_of n xs ≡ [] → ⊥
-not-nothing n xs e i is none = subst (In e) none (in_entries xs n e is i)
+pub not-nothing : (n : List ℕ) (xs : List Told) (e : Told) → Member e xs → n ≡ e.by → entries_of n xs ≡ [] → ⊥
+not-nothing n xs e i is none = subst (Member e) none (in_entries xs n e is i)
 
 -- the first of a list
 abbrev pub front-of : Told → List Told → Told

@@ -2,6 +2,7 @@
 use Rattle.std.proofs.Common.{◌≡◌, ⊎_elim, inl, List, [], ◌∷◌, ◌++◌, length, Bool, refl, sym, ap, ◌∙◌, subst, append-nil, arith, false}
 use Rattle.std.specs.Prelude.{Result, Ok, Err, IfOk, IfErr}
 use mathlib.Core.List.{append_assoc}
+use Rattle.base_types.specs.Lists.{Member}
 use Rattle.core_model.specs.declared.events.CoreEvent.{CoreEvent}
 use Rattle.core_model.specs.declared.events.CoreReply.{CoreReply}
 use Rattle.core_model.specs.declared.questions.CoreQuestion.{CoreQuestion}
@@ -10,7 +11,7 @@ use Rattle.core_model.specs.Answers.{answer_to}
 use Rattle.core_model.specs.LegalRuns.{Run, ends}
 use Rattle.core_access.specs.CallsWithoutMemory.{is_spared}
 use Rattle.core_model.specs.Laws.{extended}
-use Rattle.turn_cell.specs.History.{In, entries_of, entry}
+use Rattle.turn_cell.specs.History.{entries_of, entry}
 use Rattle.core_access.specs.Histories.{Told, IsTrue, run_after, reply_in}
 use Rattle.core_access.specs.Sights.{run_seen, IsHistory, Looks, Tells, Counts, IsAlone}
 use Rattle.core_access.specs.OneHolder.{answered, opened, own_sight, none_comes}
@@ -54,7 +55,7 @@ own-tells r e =
     }
 
 -- each of them is one's own
-answered-by : (es : List CoreEvent) (r : Run) (x : Told) → In x (answered r es) → x.by ≡ []
+answered-by : (es : List CoreEvent) (r : Run) (x : Told) → Member x (answered r es) → x.by ≡ []
 answered-by [] r x i = absurd i
 answered-by (e ∷ es) r x i = ⊎_elim
     (λ (t : x ≡ entry [] e (reply_in r e)). ap (λ (z : Told). z.by) t)

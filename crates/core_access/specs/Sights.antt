@@ -1,9 +1,10 @@
 -- What one knows of a core through an access, and what a call of it leaves of that.
 use Rattle.std.specs.Prelude.{◌≡◌, ◌⊎◌, ◌≤◌, ℕ, List, [], ◌∷◌, ◌++◌, length, Bool, true}
+use Rattle.base_types.specs.Lists.{Member}
 use Rattle.core_model.specs.declared.events.CoreEvent.{CoreEvent}
 use Rattle.core_model.specs.declared.events.CoreReply.{CoreReply}
 use Rattle.core_model.specs.LegalRuns.{Run}
-use Rattle.turn_cell.specs.History.{In, entry, entries_of}
+use Rattle.turn_cell.specs.History.{entry, entries_of}
 use Rattle.core_access.specs.Histories.{Told, reply_in, run_after, IsTrue}
 
 -- what is known through an access
@@ -31,7 +32,7 @@ told s e r = record { first = s.first; number = s.number; seen = s.seen ++ (entr
 
 -- each entry is of an event that passes the test
 abbrev pub AllPass : (CoreEvent → Bool) → List Told → Type 0
-AllPass test entries = (x : Told) → In x entries → test x.event ≡ true
+AllPass test entries = (x : Told) → Member x entries → test x.event ≡ true
 
 -- Events that may come were seen, and nothing else changed.
 pub record Looks (may_come : CoreEvent → Bool) (s t : Sight) : Type 0 where
@@ -53,7 +54,7 @@ Counts s = length s.mine ≤ length (entries_of s.number s.seen)
 -- Nobody else interfered: each entry of another number is of an event that passes the test, and all entries of one's number
 -- are one's own. That can't be seen while others have the core; it is known once their entries are.
 pub record IsAlone (harmless : CoreEvent → Bool) (s : Sight) : Type 0 where
-  pub others : (x : Told) → In x s.seen → (x.by ≡ s.number) ⊎ (harmless x.event ≡ true)
+  pub others : (x : Told) → Member x s.seen → (x.by ≡ s.number) ⊎ (harmless x.event ≡ true)
   pub own : entries_of s.number s.seen ≡ s.mine
 
 -- this holds of the run by now, if nobody else interfered

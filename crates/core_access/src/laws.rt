@@ -48,7 +48,8 @@ pub fn who_is_alone_was_alone()
 /// follow.
 pub fn what_was_seen_only_grows()
     ensures looks { (may : CoreEvent → Bool) (s t : Sight) → Looks may s t → OnlyExtends (ends (run_seen s)) (ends (run_seen t)) }
-    ensures tells { (may : CoreEvent → Bool) (s t : Sight) (e : CoreEvent) (r : CoreReply) → Tells may s e r t → OnlyExtends (ends (run_seen s)) (ends (run_seen t)) }
+    ensures tells { (may : CoreEvent → Bool) (s t : Sight) (e : CoreEvent) (r : CoreReply) → Tells may s e r t
+        → OnlyExtends (ends (run_seen s)) (ends (run_seen t)) }
 {}
 
 /// An event that isn't the settler's leaves the batches, the doubt and what is written.
@@ -72,6 +73,7 @@ pub fn a_pass_sees_as_an_access<T>()
     ensures run { (state : T → Run) (v : View T CoreEvent CoreReply) → run_seen (sight_of state v) ≡ state_seen state (λ r e. extended r (e ∷ [])) reply_in v }
     ensures looks { (state : T → Run) (v w : View T CoreEvent CoreReply) → Sees state (λ r e. extended r (e ∷ [])) reply_in v w
         → Looks all_come (sight_of state v) (sight_of state w) × IsHistory (sight_of state w) }
-    ensures tells { (state : T → Run) (v w : View T CoreEvent CoreReply) (e : CoreEvent) (r : CoreReply) → Adds state (λ r e. extended r (e ∷ [])) reply_in v e r w
+    ensures tells { (state : T → Run) (v w : View T CoreEvent CoreReply) (e : CoreEvent) (r : CoreReply)
+        → Adds state (λ r e. extended r (e ∷ [])) reply_in v e r w
         → Tells all_come (sight_of state v) e r (sight_of state w) × IsHistory (sight_of state w) }
 {}

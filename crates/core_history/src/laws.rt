@@ -33,34 +33,40 @@ pub fn reads_are_granted()
     ensures reads { (r : Run) (u : UnitNo) → (ends r).units.reads u ≡ reads_in u (history_of r) }
     ensures writes { (r : Run) (u : UnitNo) → (ends r).manager.writes u ≡ writes_in u (history_of r) }
     ensures result { (r : Run) (u : UnitNo) → (ends r).units.phase u ≡ Finished → result_in u (history_of r) ≡ Some ((ends r).manager.result u) }
-    ensures dependencies { (plays : Effect → Bool) (r : Run) → IsLegal plays r → (u d : UnitNo) → Member d ((ends r).units.deps u) ↔ IsDependency (history_of r) u d }
+    ensures dependencies { (plays : Effect → Bool) (r : Run) → IsLegal plays r → (u d : UnitNo)
+        → Member d ((ends r).units.deps u) ↔ IsDependency (history_of r) u d }
 {}
 
 /// The batches of the history are those of the state: the closed ones, then the open one, whose units are those of the
 /// batch of its number.
 pub fn batches_are_taken()
     ensures taken { (r : Run) → batches_of (ends r) ≡ batches_in (history_of r) }
-    ensures in_open { (r : Run) (b : Batch) → (ends r).manager.batch ≡ Some b → (u : UnitNo) → Member u (members (ends r) b) ↔ InBatch (history_of r) b.number u }
+    ensures in_open { (r : Run) (b : Batch) → (ends r).manager.batch ≡ Some b → (u : UnitNo)
+        → Member u (members (ends r) b) ↔ InBatch (history_of r) b.number u }
 {}
 
 /// Who is dead is dead by the history, and who is committed committed by it.
 pub fn the_dead_are_dead()
     ensures dead { (plays : Effect → Bool) (r : Run) → IsLegal plays r → (u : UnitNo) → IsDead (ends r) u ↔ IsDeadIn (history_of r) u }
-    ensures committed { (plays : Effect → Bool) (r : Run) → IsLegal plays r → (u : UnitNo) → ((ends r).manager.verdict u ≡ Committed) ↔ IsCommittedIn (history_of r) u }
+    ensures committed { (plays : Effect → Bool) (r : Run) → IsLegal plays r → (u : UnitNo)
+        → ((ends r).manager.verdict u ≡ Committed) ↔ IsCommittedIn (history_of r) u }
 {}
 
 /// Who is aborted after its finish is dead by the history and had a batch that has ended; and what a running unit read is
 /// no longer on top of its grain's stack exactly where the history says that it's gone.
 pub fn versions_are_taken_off()
-    ensures decided { (plays : Effect → Bool) (r : Run) → IsLegal plays r → (u : UnitNo) → (((ends r).units.phase u ≡ Finished) × ((ends r).manager.verdict u ≡ Aborted)) ↔ IsDecidedDead (history_of r) u }
-    ensures gone { (plays : Effect → Bool) (r : Run) → IsLegal plays r → (u : UnitNo) (x : Read) → (ends r).units.phase u ≡ Running → Member x ((ends r).units.reads u) → (is_gone (ends r) x ≡ true) ↔ IsGone (history_of r) x }
+    ensures decided { (plays : Effect → Bool) (r : Run) → IsLegal plays r → (u : UnitNo)
+        → (((ends r).units.phase u ≡ Finished) × ((ends r).manager.verdict u ≡ Aborted)) ↔ IsDecidedDead (history_of r) u }
+    ensures gone { (plays : Effect → Bool) (r : Run) → IsLegal plays r → (u : UnitNo) (x : Read) → (ends r).units.phase u ≡ Running
+        → Member x ((ends r).units.reads u) → (is_gone (ends r) x ≡ true) ↔ IsGone (history_of r) x }
 {}
 
 /// Each settled entry was settled by an event of the history, with the cause that it names, and has its unit's line; and
 /// each aborted unit was aborted so, a child too.
 pub fn causes_are_in_the_history()
     ensures entries { (plays : Effect → Bool) (r : Run) → IsLegal plays r → (x : Entry) → Member x (ends r).manager.settled → IsCausedIn (history_of r) x }
-    ensures units { (plays : Effect → Bool) (r : Run) → IsLegal plays r → (u : UnitNo) → (ends r).manager.verdict u ≡ Aborted → (why : Settled) × IsAbortedIn (history_of r) u why }
+    ensures units { (plays : Effect → Bool) (r : Run) → IsLegal plays r → (u : UnitNo) → (ends r).manager.verdict u ≡ Aborted
+        → (why : Settled) × IsAbortedIn (history_of r) u why }
 {}
 
 /// The histories of the core model's computed runs tell what is said of them.

@@ -2,11 +2,12 @@
 use Rattle.std.proofs.Common.{◌≡◌, ℕ, List, [], ◌∷◌, ◌++◌, true, ◌⊎◌, inl, inr, sym, ◌∙◌, subst, Option, Some, None}
 use Rattle.std.proofs.lemmas.Bool.{and_parts, or_parts, cond_both}
 use Rattle.cell_model.proofs.Units.{same_unit-false, Member-left, Member-last}
+use Rattle.cell_model.specs.Units.{UnitsAscend}
 use Rattle.core_model.specs.CoreState.{UnitNo, GrainId, nobody, same_unit, put, Member, Value, top, Mode, CoreState}
 use Rattle.core_model.specs.declared.effects.Read.{Read}
 use Rattle.core_model.specs.Tests.{is_committed}
 use Rattle.core_laws.proofs.Puts.{put-at, put-from, put-is}
-use Rattle.cell_model.specs.Sources.{with_source, SourcesAscend}
+use Rattle.cell_model.specs.Sources.{with_source}
 use Rattle.cell_model.proofs.Sources.{with-only, with-ascending}
 use Rattle.core_model.specs.Changes.{restacked, cleaned, after_lock, deps_with, is_sure, read_of, swept, swept_by}
 use Rattle.core_model.specs.Events.{applies, can, does, step, run, is_allowed}
@@ -17,13 +18,13 @@ use Rattle.core_laws.proofs.KeptInvariant.{Kept, kept-step}
 
 abbrev pub Depends : CoreState → Type 0
 Depends w =
-    ((u : UnitNo) → SourcesAscend (w.units.deps u))
+    ((u : UnitNo) → UnitsAscend (w.units.deps u))
     × ((u d : UnitNo) → Member d (w.units.deps u) → (r : Read) × Member r (w.units.reads u) × (r.source ≡ d) × (d ≡ nobody → ⊥))
 
 depends-locked : (w : CoreState) (u : UnitNo) (g : GrainId) (mode : Mode) → Depends w → Depends (after_lock w u g mode)
 depends-locked w u g mode s = (
-  (λ x. put-at w.units.deps u new_deps SourcesAscend x
-      (λ e. cond_both (is_sure w source) (w.units.deps u) (with_source (w.units.deps u) source) SourcesAscend (λ q. s.0 u) (λ q. with-ascending (w.units.deps u) source (s.0 u)))
+  (λ x. put-at w.units.deps u new_deps UnitsAscend x
+      (λ e. cond_both (is_sure w source) (w.units.deps u) (with_source (w.units.deps u) source) UnitsAscend (λ q. s.0 u) (λ q. with-ascending (w.units.deps u) source (s.0 u)))
       (λ e. s.0 x)),
   (λ x d. put-from w.units.deps u new_deps (Member d) ((r : Read) × Member r (put w.units.reads u reads_u x) × (r.source ≡ d) × (d ≡ nobody → ⊥)) x
       (λ e m. elim (only d m) [

@@ -1,6 +1,7 @@
 -- Replies tell whether an event applied, and some lists only grow.
 use Rattle.std.proofs.Common.{◌≡◌, ℕ, List, [], ◌∷◌, ◌++◌, Bool, true, false, not, refl, sym, ap, ◌∙◌, subst, Option, Some, None}
 use Rattle.std.proofs.lemmas.Bool.{and_parts, cond-true, cond-false, cond_both}
+use Rattle.base_types.specs.Lists.{IsPrefix}
 use Rattle.core_model.specs.CoreState.{nobody, Batch, CoreState}
 use Rattle.std.proofs.Common.{append-nil, append_assoc}
 use Rattle.base_types.specs.declared.entries.Settled.TheVariants as settled
@@ -8,7 +9,7 @@ use Rattle.core_model.specs.declared.questions.AskAnswer.{AskAnswer}
 use Rattle.core_model.specs.declared.questions.AskAnswer.TheVariants as answer
 use Rattle.core_model.specs.declared.events.CoreReply.TheVariants as reply
 use Rattle.core_model.specs.Tests.{ask_answer, members, is_voted}
-use Rattle.core_model.specs.Replies.{says_no, BeginsWith, OnlyExtends}
+use Rattle.core_model.specs.Replies.{says_no, OnlyExtends}
 use Rattle.core_model.specs.Changes.{entry_for, entries_in, result_told, with_decisions, decisions_of, swept, swept_by}
 use Rattle.core_model.specs.Events.{not_granted, reply_with, reply_without, decided_reply, reply_to, is_open}
 use Rattle.core_model.specs.LegalRuns.{Run, begins, ends}
@@ -85,10 +86,10 @@ reply-tells w e = by_test (applies w e) refl
 pub no-change : (w : CoreState) (e : CoreEvent) → applies w e ≡ false → step w e ≡ w
 no-change w e a = cond-false (applies w e) (swept (does w e)) w a
 
-same-list : {A : Type 0} (xs : List A) → BeginsWith xs xs
+same-list : {A : Type 0} (xs : List A) → IsPrefix xs xs
 same-list xs = ([], sym (append-nil xs))
 
-more-list : {A : Type 0} (xs ys zs : List A) → BeginsWith xs ys → BeginsWith ys zs → BeginsWith xs zs
+more-list : {A : Type 0} (xs ys zs : List A) → IsPrefix xs ys → IsPrefix ys zs → IsPrefix xs zs
 more-list xs ys zs a b = (a.0 ++ b.0, b.1 ∙ ap (λ t. t ++ b.0) a.1 ∙ append_assoc xs a.0 b.0)
 
 extends-same : (w : CoreState) → OnlyExtends w w

@@ -52,7 +52,8 @@ pub fn batches_are_longest()
 /// exactly where it is dead by its dependencies.
 pub fn fate_is_final()
     ensures dead { (r : Run) (more : List CoreEvent) → 0 < r.base → (u : UnitNo) → IsDead (ends r) u → IsDead (ends (extended r more)) u }
-    ensures known { (r : Run) (more : List CoreEvent) → 0 < r.base → (u : UnitNo) (o : Outcome) → outcome_of (ends r) u ≡ Some o → outcome_of (ends (extended r more)) u ≡ Some o }
+    ensures known { (r : Run) (more : List CoreEvent) → 0 < r.base → (u : UnitNo) (o : Outcome) → outcome_of (ends r) u ≡ Some o
+        → outcome_of (ends (extended r more)) u ≡ Some o }
     ensures either_way { (plays : Effect → Bool) (r : Run) → IsLegal plays r → DeadEitherWay (ends r) }
 {}
 
@@ -114,7 +115,8 @@ pub fn settler_steps_apply()
     ensures applies { (r : Run) (e : CoreEvent) → StepApplies (ends r) e }
     ensures shown { (r : Run) → step_of (work_in (ends r) (settler_step (ends r))) ≡ settler_step (ends r) }
     ensures versions { (w : CoreState) (b : Batch) (g : GrainId) → ShowsVersions w b g }
-    ensures effects { (plays : Effect → Bool) (r : Run) → IsLegal plays r → (b : Batch) (ds : List Decision) → (ends r).manager.batch ≡ Some b → b.decisions ≡ Some ds → to_commit (ends r) (Some b) ≡ chosen (ends r) }
+    ensures effects { (plays : Effect → Bool) (r : Run) → IsLegal plays r → (b : Batch) (ds : List Decision) → (ends r).manager.batch ≡ Some b
+        → b.decisions ≡ Some ds → to_commit (ends r) (Some b) ≡ chosen (ends r) }
     ensures is_decided { (w : CoreState) (u : UnitNo) → TellsDecided w u }
 {}
 
@@ -122,14 +124,16 @@ pub fn settler_steps_apply()
 /// it is made where the batch is taken, and is still that until the batch is decided.
 pub fn plans_are_kept()
     ensures taken { (w : CoreState) → applies w Take ≡ true → (b : Batch) → (step w Take).manager.batch ≡ Some b → IsPlan (step w Take) b }
-    ensures stays { (plays : Effect → Bool) (r : Run) → IsLegal plays r → (b : Batch) → (ends r).manager.batch ≡ Some b → b.decisions ≡ None → IsPlan (ends r) b }
+    ensures stays { (plays : Effect → Bool) (r : Run) → IsLegal plays r → (b : Batch) → (ends r).manager.batch ≡ Some b → b.decisions ≡ None
+        → IsPlan (ends r) b }
 {}
 
 /// A unit that asks for a lock is answered exactly: that it isn't active; or the oldest source whose version, read by the
 /// unit, was taken off; or what the grain's locks say; or that the grain isn't in memory. What an answer says of the locks and
 /// of memory is so in every state. A grant applies exactly where the answer is that the lock can be had, and no stop stands.
 pub fn asking_is_told()
-    ensures asked { (plays : Effect → Bool) (r : Run) → IsLegal plays r → (u : UnitNo) (g : GrainId) (mode : Mode) → AskExactly (ends r) u g mode (ask_answer (ends r) u g mode) }
+    ensures asked { (plays : Effect → Bool) (r : Run) → IsLegal plays r → (u : UnitNo) (g : GrainId) (mode : Mode)
+        → AskExactly (ends r) u g mode (ask_answer (ends r) u g mode) }
     ensures locks { (w : CoreState) (u : UnitNo) (g : GrainId) (mode : Mode) → AskedLocks w u g mode (ask_answer w u g mode) }
     ensures granted { (w : CoreState) (u : UnitNo) (g : GrainId) (mode : Mode) → GrantApplies w u g mode }
 {}
@@ -161,7 +165,8 @@ pub fn runs_are_computed()
 /// Settled entries are proper, where no play ends in an abort: the line is one that was taken, the unit is one of the run's,
 /// or nobody's of a bad line, a result is no abort, and what a cause names is in range.
 pub fn entries_are_proper()
-    ensures { (plays : Effect → Bool) (r : Run) → IsLegal plays r → NeverAborts plays → (x : Entry) → Member x (ends r).manager.settled → IsProperEntry r.base (ends r) x }
+    ensures { (plays : Effect → Bool) (r : Run) → IsLegal plays r → NeverAborts plays → (x : Entry) → Member x (ends r).manager.settled
+        → IsProperEntry r.base (ends r) x }
 {}
 
 /// An outcome that was told is the unit's for good, and the unit's children are decided, as those of each unit are that came

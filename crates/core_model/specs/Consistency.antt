@@ -1,7 +1,7 @@
 -- The core invariant: nine facts that hold after every legal run.
 use Rattle.std.specs.Prelude.{◌≡◌, ◌⊎◌, ◌≤◌, ◌<◌, ◌+◌, ℕ, List, [], ◌∷◌, Bool, true, false, Option, Some, None, length, get_or}
 use Rattle.cell_model.specs.Locks.{is_update}
-use Rattle.cell_model.specs.Sources.{SourcesAscend}
+use Rattle.cell_model.specs.Units.{UnitsAscend}
 use Rattle.core_model.specs.CoreState.{UnitNo, GrainId, nobody, Member, Value, Running, Finished, Ended, Chosen, Committed, Aborted, Read, Effect, Version, Hold, Batch, CoreState}
 use Rattle.core_model.specs.Tests.{is_good, is_final, state_written}
 use Rattle.core_model.specs.DeadUnits.{IsDead}
@@ -50,7 +50,7 @@ NoLiveWriterBetween w = (u : UnitNo) (r : Read) (x : UnitNo) → Member r (w.uni
 -- A unit's dependencies are the sources that weren't known committed at their grant, oldest first. Those of a finished
 -- unit stand before it in the finish order.
 pub record DependenciesComeEarlier (w : CoreState) : Type 0 where
-  pub ascending : (u : UnitNo) → SourcesAscend (w.units.deps u)
+  pub ascending : (u : UnitNo) → UnitsAscend (w.units.deps u)
   pub sources : (u d : UnitNo) → Member d (w.units.deps u) → (r : Read) × Member r (w.units.reads u) × (r.source ≡ d) × (d ≡ nobody → ⊥)
   pub others : (u : UnitNo) (r : Read) → Member r (w.units.reads u) → (r.source ≡ nobody) ⊎ ((w.manager.verdict r.source ≡ Committed) ⊎ Member r.source (w.units.deps u))
   pub earlier : (u d : UnitNo) → w.units.phase u ≡ Finished → Member d (w.units.deps u) → (w.units.phase d ≡ Finished) × (w.manager.place d < w.manager.place u)

@@ -1,5 +1,6 @@
 -- Replies, and what only grows.
-use Rattle.std.specs.Prelude.{◌≡◌, List, ◌++◌, Bool, true, false}
+use Rattle.std.specs.Prelude.{Bool, true, false}
+use Rattle.base_types.specs.Lists.{IsPrefix}
 use Rattle.core_model.specs.declared.events.CoreReply.{CoreReply}
 use Rattle.core_model.specs.declared.events.CoreReply.TheVariants as reply
 use Rattle.core_model.specs.CoreState.{CoreState}
@@ -17,12 +18,8 @@ says_no (reply.Granted state source) = false
 says_no (reply.Taken batch) = false
 says_no (reply.Decided commits) = false
 
--- the second list begins with the first
-abbrev pub BeginsWith : {A : Type 0} → List A → List A → Type 0
-BeginsWith {A} xs ys = (more : List A) × (ys ≡ xs ++ more)
-
 -- The finish order, the closed batches and the settled list only grow at their end.
 pub record OnlyExtends (w later : CoreState) : Type 0 where
-  pub order : BeginsWith w.manager.order later.manager.order
-  pub past : BeginsWith w.manager.past later.manager.past
-  pub settled : BeginsWith w.manager.settled later.manager.settled
+  pub order : IsPrefix w.manager.order later.manager.order
+  pub past : IsPrefix w.manager.past later.manager.past
+  pub settled : IsPrefix w.manager.settled later.manager.settled

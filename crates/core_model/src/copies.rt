@@ -1,3 +1,4 @@
+// Copies of the core's entries.
 ghost use Rattle.std.specs.Prelude.{◌≡◌, IfOk};
 
 use crate::effects::{Effect, Read};

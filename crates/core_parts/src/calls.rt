@@ -1,3 +1,4 @@
+// When two calls, origins or reads are the same.
 ghost use Rattle.std.specs.Prelude.{◌≡◌};
 ghost use Rattle.core_model.specs.Equality.{same_call, same_origin, same_read};
 

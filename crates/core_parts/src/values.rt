@@ -1,3 +1,4 @@
+// When two texts, values, states or outcomes are the same.
 ghost use Rattle.std.specs.Prelude.{◌≡◌};
 ghost use Rattle.core_model.specs.Equality.{same_text, same_value, same_state, same_outcome};
 

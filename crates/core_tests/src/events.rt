@@ -1,3 +1,4 @@
+// The events that the words of a list name.
 use crate::drafts::Draft;
 use crate::verbs::Event;
 use base_types::{BadRequest, GrainId, Mode, UnitNo};

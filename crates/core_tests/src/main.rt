@@ -6,7 +6,7 @@ mod drafts;
 mod events;
 mod openings;
 mod runs;
-mod shared;
+mod shared_cores;
 mod surveys;
 mod texts;
 mod verbs;

@@ -3,7 +3,7 @@ ghost use Rattle.std.specs.Prelude.{◌<◌, ◌≤◌, ◌^◌};
 use crate::drafts::Draft;
 use crate::events::{Kind, kind_of, made, refusal};
 use crate::openings::opening;
-use crate::shared::{is_object, next_line, spoil};
+use crate::shared_cores::{is_object, next_line, spoil};
 use crate::surveys::{Wanted, sum_of, survey};
 use crate::texts::{add_entries, add_reply};
 use crate::verbs::{Look, Verb, verb_of};

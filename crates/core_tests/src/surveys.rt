@@ -1,3 +1,4 @@
+// What a core answers to all questions, added up.
 use crate::texts::{add_answer, add_entries, add_last};
 use base_types::{Entry, GrainId, Mode, UnitNo};
 use core_model::{AskAnswer, CoreAnswer, CoreQuestion};

@@ -1,5 +1,6 @@
 ghost use Rattle.std.specs.Prelude.{◌≡◌, ◌<◌, ◌≤◌, ◌+◌, ◌-◌, [], not, nat_lt, position, vec_len, vec_capacity, IsOk, IfOk, OnOk, OnErr};
-ghost use Rattle.cell_model.specs.Sources.{SourcesAscend, is_among, with_source, first_aborted};
+ghost use Rattle.cell_model.specs.Sources.{is_among, with_source, first_aborted};
+ghost use Rattle.cell_model.specs.Units.{UnitsAscend};
 
 use base_types::{List, UnitNo};
 use std::alloc::{AllocError, Global};
@@ -14,14 +15,14 @@ pub struct DepSet {
 
 impl Model for DepSet {
     ghost use Rattle.std.specs.Prelude.{◌-◌, vec_len, vec_capacity};
-    ghost use Rattle.cell_model.specs.Sources.{SourcesAscend};
+    ghost use Rattle.cell_model.specs.Units.{UnitsAscend};
     ghost use Rattle.dependency_sets.specs.Room.{SourcesInRoom};
 
     ghost Value = { SourcesInRoom };
 
     ghost view = { λ s. record { sources = s.sources.items; spare = vec_capacity s.sources - vec_len s.sources } };
 
-    ghost invariant = { λ s. SourcesAscend s.sources.items };
+    ghost invariant = { λ s. UnitsAscend s.sources.items };
 }
 
 impl DepSet {
@@ -66,7 +67,7 @@ impl DepSet {
     /// The sources, ascending, each once.
     pub fn list(&self) -> &[UnitNo]
         ensures same { result.now ≡ self.now.sources }
-        ensures ascending { SourcesAscend self.now.sources }
+        ensures ascending { UnitsAscend self.now.sources }
     {
         self.sources.as_slice()
     }

@@ -1,3 +1,4 @@
+// The spelling of a version.
 use crate::numbers::put_u64;
 use crate::spelling::Spelled;
 use crate::values::append_values;

@@ -32,6 +32,7 @@ module _ (at : ℕ) (bytes old : List ℕ) where
       get_or-append_right (take at old ++ bytes) _ (at + length bytes) i 0 (omega (arith, length-append (take at old) bytes, length-take at old)) high
       ∙ get_or-drop (at + length bytes) old (i - (at + length bytes)) 0 ∙ ap (slice_index old) back
 
+-- it stays so by an event
 changed_stays : (e : Event) (s : FileState) → SeenStays s → SeenStays (changed e s)
 changed_stays (Emitted bytes) s here = here
 changed_stays (Wrote file at bytes) s here = record {
@@ -47,6 +48,7 @@ changed_stays (Synced file true) s here = settled_stays s.seen
 changed_stays (Synced file false) s here = here
 changed_stays (Put file bytes) s here = settled_stays bytes.items
 
+-- by an event, whichever file it is about
 step_stays : (f : FileId) (e : Event) (s : FileState) → SeenStays s → SeenStays (state_step f e s)
 step_stays f e s here = by (is_on f e)
   where
@@ -54,6 +56,7 @@ step_stays f e s here = by (is_on f e)
     by true = changed_stays e s here
     by false = here
 
+-- by any events, one after the other
 all_stay : (f : FileId) (events : List Noted) (s : FileState) → SeenStays s → SeenStays (after_all (state_step f) s events)
 all_stay f [] s here = here
 all_stay f (noted ∷ events) s here = all_stay f events (state_step f noted.event s) (step_stays f noted.event s here)
@@ -62,6 +65,7 @@ all_stay f (noted ∷ events) s here = all_stay f events (state_step f noted.eve
 pub stays : (events : List Noted) (f : FileId) → SeenStays (state_of events f)
 stays events f = all_stay f events (settled []) (settled_stays [])
 
+-- by those of them that came up to a stamp
 some_stay : (f : FileId) (until : ℕ) (events : List Noted) (s : FileState) → SeenStays s → SeenStays (after_some (state_step f) until s events)
 some_stay f until [] s here = here
 some_stay f until (noted ∷ events) s here = some_stay f until events (if nat_le noted.stamp until then state_step f noted.event s else s) (by (nat_le noted.stamp until))

@@ -74,7 +74,8 @@ pub fn put_out(
     requires call { call < 2 ^ 62 }
     requires clock { AreBy (2 * call + 1) events.old.items }
     requires shown { output.old.items ≡ output_of events.old.items }
-    ensures ok { OnOk result ((input : List ℕ) → Emitted (length bytes.now) bytes.now (world_of input events.old.items call) (world_of input events.new.items (call + 1))) }
+    ensures ok { OnOk result ((input : List ℕ)
+        → Emitted (length bytes.now) bytes.now (world_of input events.old.items call) (world_of input events.new.items (call + 1))) }
     ensures err { OnErr result (events.new.items ≡ events.old.items) }
     ensures shown { output.new.items ≡ output_of events.new.items }
     ensures seen { (files : List Stored) → AreSeen files events.old.items → AreSeen files events.new.items }
@@ -105,7 +106,8 @@ pub fn write(
     requires kept { IsTrue (is_kept files.old.items file) }
     requires seen { AreSeen files.old.items events.old.items }
     requires place { at ≤ length (state_of events.old.items file).seen }
-    ensures told { OnOk result ((input : List ℕ) → Written file at (length bytes.now) (world_of input events.old.items call) (world_of input events.new.items (call + 1))) }
+    ensures told { OnOk result ((input : List ℕ)
+        → Written file at (length bytes.now) (world_of input events.old.items call) (world_of input events.new.items (call + 1))) }
     ensures err { OnErr result (events.new.items ≡ events.old.items) }
     ensures ok { OnOk result (Overwrote at bytes.now (state_of events.old.items file) (state_of events.new.items file)) }
     ensures bound { OnOk result (at + length bytes.now < 2 ^ 63) }

@@ -18,6 +18,7 @@ pub struct Stored {
     pub faults: u64,
 }
 
+/// Whether the two are one file.
 pub fn is_same(a: FileId, b: FileId) -> bool
     ensures { result ≡ same_file a b }
 {

@@ -36,6 +36,7 @@ pub enum Turn {
     Stopped,
 }
 
+/// How many calls were made and may still be made, and which of them are to fail.
 #[derive(Drop)]
 pub struct Plan {
     pub calls: u64,
@@ -122,6 +123,7 @@ impl Plan {
     ghost use Rattle.host_memory.specs.declared.events.Noted.{Noted};
     ghost use Rattle.host_memory.specs.Replay.{AreBy, world_of};
 
+    /// No call was made, and none is to fail.
     pub fn new(alloc: Global) -> Plan
         ensures calls { result.calls ≡ 0 }
         ensures left { result.left ≡ 2 ^ 62 }

@@ -5,7 +5,7 @@ use Rattle.std.proofs.Math.Seq.{take-append_seam, drop-append_seam}
 use Rattle.std.proofs.lemmas.List.{take-append-drop, length-take, length-drop}
 use Rattle.request_wire.specs.Lines.{lines_of}
 use Rattle.promise_spec.specs.Windows.{before_bad}
-use Rattle.input_windows.specs.Lines.{AreWindows, IsFull, IsNext, bytes_in, lines_in}
+use Rattle.input_windows.specs.Lines.{AreWindows, IsFull, IsNextLine, bytes_in, lines_in}
 use Rattle.input_windows.proofs.Cuts.{line_there, lines_on_both_sides}
 
 -- behind a whole window the lines are its own and those behind it
@@ -17,7 +17,7 @@ full_seam window more full =
 -- ---- the next window
 
 -- the next window is one that is full
-pub full_is_next : (window input rest : List ℕ) → input ≡ window ++ rest → IsFull window → IsNext window input rest
+pub full_is_next : (window input rest : List ℕ) → input ≡ window ++ rest → IsFull window → IsNextLine window input rest
 full_is_next window input rest cut full =
     let all : lines_of input ≡ lines_of window ++ lines_of rest = ap lines_of cut ∙ full_seam window rest full in
     let count = full.count in
@@ -29,7 +29,7 @@ full_is_next window input rest cut full =
     }
 
 -- or it is all
-pub last_is_next : (window input rest : List ℕ) → input ≡ window ++ rest → rest ≡ [] → 0 < length (lines_of window) → length (lines_of window) ≤ 4096 → IsNext window input rest
+pub last_is_next : (window input rest : List ℕ) → input ≡ window ++ rest → rest ≡ [] → 0 < length (lines_of window) → length (lines_of window) ≤ 4096 → IsNextLine window input rest
 last_is_next window input rest cut none some most =
     let all : lines_of input ≡ lines_of window = ap lines_of (cut ∙ ap (λ (l : List ℕ). window ++ l) none ∙ append-nil window) in
     record {
@@ -53,7 +53,7 @@ windows_are_lines (window ∷ windows) input are =
     ∙ ap (λ (l : List (List ℕ)). lines_of window ++ l) (sym next.later ∙ windows_are_lines windows are.0 are.2)
 
 -- a window that something follows has 4,096 lines
-pub followed_is_full : (window input rest : List ℕ) → IsNext window input rest → rest ≢ [] → length (lines_of window) ≡ 4096
+pub followed_is_full : (window input rest : List ℕ) → IsNextLine window input rest → rest ≢ [] → length (lines_of window) ≡ 4096
 followed_is_full window input [] next some = absurd (some refl)
 followed_is_full window input (b ∷ rest) next some =
     let there = line_there b rest in

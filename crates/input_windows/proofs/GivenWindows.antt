@@ -11,8 +11,8 @@ use Rattle.input_windows.specs.Pulls.{Took}
 use Rattle.input_windows.specs.Scans.{HasBadLine, HasNoEnd}
 use Rattle.input_windows.specs.declared.windows.InputWindows.{InputWindows}
 use Rattle.input_windows.specs.declared.windows.WindowFault.{WindowFault}
-use Rattle.input_windows.specs.Windows.{window_in, left_in, before_in, given_in, is_last_in, input_behind, HasEnded, EndsBy, GaveWindow, GaveEnd, Refused}
-use Rattle.input_windows.specs.Given.{AreWhole, GivenTo, HasGiven, HasNext, IsAll, IsGood, HasBad, EndsAs, InputEnds, input_ending}
+use Rattle.input_windows.specs.Windows.{window_in, left_in, before_in, given_in, is_last_in, input_behind, InputHasEnded, EndsBy, GaveWindow, GaveEnd, Refused}
+use Rattle.input_windows.specs.GivenWindows.{AreWhole, GivenTo, HasGiven, HasNext, IsAll, IsGood, HasBad, InputEndsAs, InputEnds, input_ending}
 use Rattle.input_windows.proofs.Cuts.{bad_behind, fed_lines}
 use Rattle.input_windows.proofs.Following.{full_seam, before_is}
 
@@ -160,7 +160,7 @@ module _ (tells : Bool) (input : List ℕ) (asked : List (List ℕ)) (w w' : Inp
                   ∙ windows_on (length asked) (feeds (left_in w')) are.seam few);
             }
 
-        by : (e : WindowFault) → Refused e (given_in w) (left_in w') → EndsAs (input_ending e) tells (g.given ++ left_in w') asked new
+        by : (e : WindowFault) → Refused e (given_in w) (left_in w') → InputEndsAs (input_ending e) tells (g.given ++ left_in w') asked new
         by WindowFault.Memory r = no_end r
         by WindowFault.Failed r = no_end r
         by (WindowFault.TooLong line) r =
@@ -191,7 +191,7 @@ module _ (tells : Bool) (input : List ℕ) (asked : List (List ℕ)) (w w' : Inp
 
   -- ---- the window was the last
 
-  pub ends_behind : HasEnded tells w old → InputEnds tells input asked ending.Done old
+  pub ends_behind : InputHasEnded tells w old → InputEnds tells input asked ending.Done old
   ends_behind ended =
       let is : IsTrue tells → input ≡ g.given ++ old.input = (λ told. g.whole told ∙ ap (λ (l : List ℕ). g.given ++ (l ++ old.input)) ended.left) in
       record {

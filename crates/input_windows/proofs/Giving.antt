@@ -12,10 +12,10 @@ use Rattle.request_wire.specs.Lines.{lines_of}
 use Rattle.input_windows.specs.declared.windows.InputWindows.{InputWindows}
 use Rattle.input_windows.specs.declared.windows.WindowFault.{WindowFault}
 use Rattle.promise_spec.specs.Windows.{first_bad}
-use Rattle.input_windows.specs.Lines.{IsNext, IsFull}
+use Rattle.input_windows.specs.Lines.{IsNextLine, IsFull}
 use Rattle.input_windows.specs.Pulls.{Took}
-use Rattle.input_windows.specs.Scans.{Stands, Ends, HasBadLine}
-use Rattle.input_windows.specs.Windows.{window_in, left_in, before_in, is_last_in, input_behind, HasEnded, EndsBy, Gave, Refused, PullFaulted, IsBegun, IsOfPull}
+use Rattle.input_windows.specs.Scans.{ScanStands, WindowEnds, HasBadLine}
+use Rattle.input_windows.specs.Windows.{window_in, left_in, before_in, is_last_in, input_behind, InputHasEnded, EndsBy, Gave, Refused, PullFaulted, IsBegun, IsOfPull}
 use Rattle.input_windows.proofs.Cuts.{line_there}
 use Rattle.input_windows.proofs.Following.{full_is_next, last_is_next}
 use Rattle.input_windows.proofs.Places.{rest_is}
@@ -82,13 +82,13 @@ faulted_then (WindowFault.TooLong line) a b c calm pull failed = absurd pull
 pub record Gives (found tells : Bool) (left : List ℕ) (old new : World) (w : InputWindows) : Type 0 where
   pub took : Took tells old new left (window_in w ++ left_in w)
   pub gave : Gave found tells w new
-  pub next : IsTrue found → IsTrue tells → IsNext (window_in w) (left ++ old.input) (input_behind w new)
+  pub next : IsTrue found → IsTrue tells → IsNextLine (window_in w) (left ++ old.input) (input_behind w new)
 
 ends_full : (last tells : Bool) (w : InputWindows) (world : World) → last ≡ false → IsFull (window_in w) → EndsBy last tells w world
 ends_full true tells w world e full = absurd cc
 ends_full false tells w world e full = full
 
-ends_last : (last tells : Bool) (w : InputWindows) (world : World) → last ≡ true → HasEnded tells w world → EndsBy last tells w world
+ends_last : (last tells : Bool) (w : InputWindows) (world : World) → last ≡ true → InputHasEnded tells w world → EndsBy last tells w world
 ends_last true tells w world e ended = ended
 ends_last false tells w world e ended = absurd cc
 
@@ -97,7 +97,7 @@ cut_is : (tells : Bool) (old new : World) (left : List ℕ) (w : InputWindows) �
     → left ++ old.input ≡ window_in w ++ input_behind w new
 cut_is tells old new left w took told = input_is tells old new left (window_in w ++ left_in w) took told ∙ append_assoc (window_in w) (left_in w) new.input
 
-pub gives_full : (tells : Bool) (old new : World) (before n : ℕ) (left now : List ℕ) (w : InputWindows) → Took tells old new left now → Ends before (take n now)
+pub gives_full : (tells : Bool) (old new : World) (before n : ℕ) (left now : List ℕ) (w : InputWindows) → Took tells old new left now → WindowEnds before (take n now)
     → window_in w ≡ take n now → left_in w ≡ drop n now → before_in w ≡ before → is_last_in w ≡ false → Gives true tells left old new w
 gives_full tells old new before n left now w took ends window rest numbered goes =
     let all : window_in w ++ left_in w ≡ now = ap (λ (l : List ℕ). l ++ left_in w) window ∙ ap (λ (l : List ℕ). take n now ++ l) rest ∙ take-append-drop n now in
@@ -125,17 +125,17 @@ no_line_is_none (b ∷ bytes) none =
     absurd (omega (arith, none, l))
 
 pub gives_rest : (found tells : Bool) (old new : World) (before lines stood : ℕ) (left now : List ℕ) (w : InputWindows) → Took tells old new left now
-    → Stands before now lines stood → lines < 4096 → (IsTrue tells → new.input ≡ []) → found ≡ nat_lt 0 (lines + min stood 1)
+    → ScanStands before now lines stood → lines < 4096 → (IsTrue tells → new.input ≡ []) → found ≡ nat_lt 0 (lines + min stood 1)
     → window_in w ≡ now → left_in w ≡ [] → before_in w ≡ before → is_last_in w ≡ true → Gives found tells left old new w
 gives_rest found tells old new before lines stood left now w took stands few end is window rest numbered last =
     let all : window_in w ++ left_in w ≡ now = ap (λ (l : List ℕ). l ++ left_in w) window ∙ ap (λ (l : List ℕ). now ++ l) rest ∙ append-nil now in
     let cut = took_as tells old new left left now (window_in w ++ left_in w) took refl all in
-    let ended : HasEnded tells w new = record { left = rest; input = end } in
+    let ended : InputHasEnded tells w new = record { left = rest; input = end } in
     let stand = lines_that_stand before lines stood now stands in
     let count : length (lines_of (window_in w)) ≡ lines + min stood 1 = ap (λ (l : List ℕ). length (lines_of l)) window ∙ stand.0 in
     by found is cut ended count stand.1
   where
-    by : (found : Bool) → found ≡ nat_lt 0 (lines + min stood 1) → Took tells old new left (window_in w ++ left_in w) → HasEnded tells w new → length (lines_of (window_in w)) ≡ lines + min stood 1
+    by : (found : Bool) → found ≡ nat_lt 0 (lines + min stood 1) → Took tells old new left (window_in w ++ left_in w) → InputHasEnded tells w new → length (lines_of (window_in w)) ≡ lines + min stood 1
         → first_bad before (lines_of now) ≡ None → Gives found tells left old new w
     by true is cut ended count good =
         let some : 0 < length (lines_of (window_in w)) = grind (arith, nat_tests) in
@@ -161,7 +161,7 @@ gives_rest found tells old new before lines stood left now w took stands few end
 
 -- ---- a refusal
 
-pub refuses_pull : (e : WindowFault) (before lines stood : ℕ) (left : List ℕ) → IsOfPull e → Stands before left lines stood → lines < 4096 → Refused e before left
+pub refuses_pull : (e : WindowFault) (before lines stood : ℕ) (left : List ℕ) → IsOfPull e → ScanStands before left lines stood → lines < 4096 → Refused e before left
 refuses_pull WindowFault.Memory before lines stood left pull stands few = nothing_ends before lines stood left stands few
 refuses_pull WindowFault.Failed before lines stood left pull stands few = nothing_ends before lines stood left stands few
 refuses_pull (WindowFault.TooLong line) before lines stood left pull stands few = absurd pull
@@ -177,19 +177,19 @@ pub left_in_all : (w : InputWindows) (start : ℕ) (items : List ℕ) (seen : �
 left_in_all w start items seen same at begun within =
     ap (λ (k : ℕ). take (w.filled - (k + seen)) (drop (k + seen) items)) at ∙ rest_is items w.buffer.items w.start w.end w.filled seen same begun.place w.within w.room within
 
-pub found_end : (before seen size : ℕ) (left fresh : List ℕ) → seen ≤ length left → fresh ≡ drop seen left → (0 < size) × (size ≤ length fresh) × Ends before (take seen left ++ take size fresh)
-    → (seen + size ≤ length left) × Ends before (take (seen + size) left)
+pub found_end : (before seen size : ℕ) (left fresh : List ℕ) → seen ≤ length left → fresh ≡ drop seen left → (0 < size) × (size ≤ length fresh) × WindowEnds before (take seen left ++ take size fresh)
+    → (seen + size ≤ length left) × WindowEnds before (take (seen + size) left)
 found_end before seen size left fresh within is found =
     let l = ap length is ∙ length-drop seen left in
     let most = found.1 in (
       omega (arith, l, most, within),
-      subst (Ends before) (ap (λ (m : List ℕ). take seen left ++ take size m) is ∙ sym (take-add seen size left)) found.2,
+      subst (WindowEnds before) (ap (λ (m : List ℕ). take seen left ++ take size m) is ∙ sym (take-add seen size left)) found.2,
     )
 
 pub found_bad : (before seen number : ℕ) (left fresh : List ℕ) → fresh ≡ drop seen left → HasBadLine before (take seen left ++ fresh) number → HasBadLine before left number
 found_bad before seen number left fresh is bad =
     subst (λ (l : List ℕ). HasBadLine before l number) (ap (λ (m : List ℕ). take seen left ++ m) is ∙ take-append-drop seen left) bad
 
-pub found_open : (before seen lines stood : ℕ) (left fresh : List ℕ) → fresh ≡ drop seen left → Stands before (take seen left ++ fresh) lines stood → Stands before left lines stood
+pub found_open : (before seen lines stood : ℕ) (left fresh : List ℕ) → fresh ≡ drop seen left → ScanStands before (take seen left ++ fresh) lines stood → ScanStands before left lines stood
 found_open before seen lines stood left fresh is stands =
-    subst (λ (l : List ℕ). Stands before l lines stood) (ap (λ (m : List ℕ). take seen left ++ m) is ∙ take-append-drop seen left) stands
+    subst (λ (l : List ℕ). ScanStands before l lines stood) (ap (λ (m : List ℕ). take seen left ++ m) is ∙ take-append-drop seen left) stands

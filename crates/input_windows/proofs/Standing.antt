@@ -5,7 +5,7 @@ use Rattle.std.proofs.lemmas.List.Sums.{sum_by-append}
 use Rattle.std.proofs.lemmas.Bool.Decides.{nat_tests}
 use Rattle.request_wire.specs.Lines.{lines_of}
 use Rattle.promise_spec.specs.Windows.{feeds, first_bad}
-use Rattle.input_windows.specs.Scans.{Stands, Ends, HasBadLine, HasNoEnd}
+use Rattle.input_windows.specs.Scans.{ScanStands, WindowEnds, HasBadLine, HasNoEnd}
 use Rattle.input_windows.proofs.Cuts.{IsPlain, plain_behind, line_ended, line_begun, line_alone, line_there, bad_behind, long_is_bad, late_is_bad, line_is_good}
 
 none_has_length : {A : Type 0} (xs : List A) → length xs ≡ 0 → xs ≡ []
@@ -22,7 +22,7 @@ other_is_none b e = rw e refl
 
 -- ---- a window begins
 
-pub nothing_stands : (before : ℕ) → before ≤ 4294967295 → Stands before [] 0 0
+pub nothing_stands : (before : ℕ) → before ≤ 4294967295 → ScanStands before [] 0 0
 nothing_stands before few = record {
   ended = [];
   open_line = [];
@@ -41,7 +41,7 @@ nothing_stands before few = record {
 -- ---- the next byte
 
 -- a line feed ends the open line
-pub stands_behind_feed : (before lines stood : ℕ) (seen : List ℕ) → Stands before seen lines stood → before + lines < 4294967295 → Stands before (seen ++ (10 ∷ [])) (lines + 1) 0
+pub stands_behind_feed : (before lines stood : ℕ) (seen : List ℕ) → ScanStands before seen lines stood → before + lines < 4294967295 → ScanStands before (seen ++ (10 ∷ [])) (lines + 1) 0
 stands_behind_feed before lines stood seen s few =
     let count = s.count in
     let size = s.size in
@@ -65,7 +65,7 @@ stands_behind_feed before lines stood seen s few =
     }
 
 -- any other byte goes on in the open line
-pub stands_behind_byte : (before lines stood : ℕ) (seen : List ℕ) (b : ℕ) → Stands before seen lines stood → (b == 10) ≡ false → before + lines < 4294967295 → stood < 65536 → Stands before (seen ++ (b ∷ [])) lines (stood + 1)
+pub stands_behind_byte : (before lines stood : ℕ) (seen : List ℕ) (b : ℕ) → ScanStands before seen lines stood → (b == 10) ≡ false → before + lines < 4294967295 → stood < 65536 → ScanStands before (seen ++ (b ∷ [])) lines (stood + 1)
 stands_behind_byte before lines stood seen b s other few short =
     let bound = s.bound in
     record {
@@ -87,11 +87,11 @@ stands_behind_byte before lines stood seen b s other few short =
 -- ---- ends
 
 -- the lines of what has been seen, where no line is open
-lines_ended : (before lines : ℕ) (seen : List ℕ) (s : Stands before seen lines 0) (more : List ℕ) → lines_of (seen ++ more) ≡ s.ended ++ lines_of more
+lines_ended : (before lines : ℕ) (seen : List ℕ) (s : ScanStands before seen lines 0) (more : List ℕ) → lines_of (seen ++ more) ≡ s.ended ++ lines_of more
 lines_ended before lines seen s more = s.seam more ∙ ap (λ (l : List ℕ). s.ended ++ lines_of (l ++ more)) (none_has_length s.open_line s.size)
 
 -- a window of 4,096 lines ends at the last line feed
-pub window_ends : (before lines : ℕ) (front : List ℕ) → Stands before (front ++ (10 ∷ [])) lines 0 → lines ≡ 4096 → Ends before (front ++ (10 ∷ []))
+pub window_ends : (before lines : ℕ) (front : List ℕ) → ScanStands before (front ++ (10 ∷ [])) lines 0 → lines ≡ 4096 → WindowEnds before (front ++ (10 ∷ []))
 window_ends before lines front s whole =
     let window = front ++ (10 ∷ []) in
     let all : lines_of window ≡ s.ended = ap lines_of (sym (append-nil window)) ∙ lines_ended before lines window s [] ∙ append-nil s.ended in
@@ -103,7 +103,7 @@ window_ends before lines front s whole =
     }
 
 -- a byte of a line that has no number
-pub line_too_many : (before lines stood : ℕ) (seen : List ℕ) (b : ℕ) (rest : List ℕ) → Stands before seen lines stood → before + lines ≡ 4294967295 → HasBadLine before (seen ++ (b ∷ rest)) (before + lines + 1)
+pub line_too_many : (before lines stood : ℕ) (seen : List ℕ) (b : ℕ) (rest : List ℕ) → ScanStands before seen lines stood → before + lines ≡ 4294967295 → HasBadLine before (seen ++ (b ∷ rest)) (before + lines + 1)
 line_too_many before lines stood seen b rest s late more =
     let numbered = s.numbered in
     let size = s.size in
@@ -121,7 +121,7 @@ line_too_many before lines stood seen b rest s late more =
     by (suc n) h = let k = h (omega arith) in absurd (omega (arith, k, late))
 
 -- a byte behind the 65,536th of a line
-pub line_too_long : (before lines stood : ℕ) (seen : List ℕ) (b : ℕ) (rest : List ℕ) → Stands before seen lines stood → (b == 10) ≡ false → stood ≡ 65536 → HasBadLine before (seen ++ (b ∷ rest)) (before + lines + 1)
+pub line_too_long : (before lines stood : ℕ) (seen : List ℕ) (b : ℕ) (rest : List ℕ) → ScanStands before seen lines stood → (b == 10) ≡ false → stood ≡ 65536 → HasBadLine before (seen ++ (b ∷ rest)) (before + lines + 1)
 line_too_long before lines stood seen b rest s other long more =
     let size = s.size in
     let count = s.count in
@@ -138,7 +138,7 @@ line_too_long before lines stood seen b rest s other long more =
 -- ---- what stands at last
 
 -- the lines of what has been seen: those that have ended, and the open one where it has a byte; none of them is bad
-pub lines_that_stand : (before lines stood : ℕ) (seen : List ℕ) → Stands before seen lines stood
+pub lines_that_stand : (before lines stood : ℕ) (seen : List ℕ) → ScanStands before seen lines stood
     → (length (lines_of seen) ≡ lines + min stood 1) × (first_bad before (lines_of seen) ≡ None)
 lines_that_stand before lines stood seen s = by s.open_line s.size s.plain (ap lines_of (sym (append-nil seen)) ∙ s.seam [] ∙ ap (λ (l : List ℕ). s.ended ++ lines_of l) (append-nil s.open_line))
   where
@@ -159,7 +159,7 @@ lines_that_stand before lines stood seen s = by s.open_line s.size s.plain (ap l
         )
 
 -- they are no more than have a number
-pub few_stand : (before lines stood : ℕ) (seen : List ℕ) → Stands before seen lines stood → before + (lines + min stood 1) ≤ 4294967295
+pub few_stand : (before lines stood : ℕ) (seen : List ℕ) → ScanStands before seen lines stood → before + (lines + min stood 1) ≤ 4294967295
 few_stand before lines stood seen s = by stood s.few s.numbered
   where
     by : (n : ℕ) → before + lines ≤ 4294967295 → (0 < n → before + lines < 4294967295) → before + (lines + min n 1) ≤ 4294967295
@@ -167,7 +167,7 @@ few_stand before lines stood seen s = by stood s.few s.numbered
     by (suc n) few numbered = let h = numbered (omega arith) in omega (arith, h)
 
 -- neither a window nor a bad line
-pub nothing_ends : (before lines stood : ℕ) (seen : List ℕ) → Stands before seen lines stood → lines < 4096 → HasNoEnd before seen
+pub nothing_ends : (before lines stood : ℕ) (seen : List ℕ) → ScanStands before seen lines stood → lines < 4096 → HasNoEnd before seen
 nothing_ends before lines stood seen s few = record {
   good = (lines_that_stand before lines stood seen s).1;
   few = (let f = s.fed in omega (arith, f, few));
@@ -186,31 +186,31 @@ all_of_them seen bytes i within =
 other_than_feed : (b : ℕ) → b ≢ 10 → (b == 10) ≡ false
 other_than_feed b h = grind (arith, nat_tests)
 
-pub feed_here : (before lines stood : ℕ) (seen bytes : List ℕ) (i : ℕ) → i < length bytes → Stands before (seen ++ take i bytes) lines stood → get_or bytes i 0 ≡ 10 → before + lines < 4294967295
-    → Stands before (seen ++ take (i + 1) bytes) (lines + 1) 0
+pub feed_here : (before lines stood : ℕ) (seen bytes : List ℕ) (i : ℕ) → i < length bytes → ScanStands before (seen ++ take i bytes) lines stood → get_or bytes i 0 ≡ 10 → before + lines < 4294967295
+    → ScanStands before (seen ++ take (i + 1) bytes) (lines + 1) 0
 feed_here before lines stood seen bytes i within s feed few =
-    subst (λ (l : List ℕ). Stands before l (lines + 1) 0) (ap (λ (b : ℕ). (seen ++ take i bytes) ++ (b ∷ [])) (sym feed) ∙ one_more seen bytes i within)
+    subst (λ (l : List ℕ). ScanStands before l (lines + 1) 0) (ap (λ (b : ℕ). (seen ++ take i bytes) ++ (b ∷ [])) (sym feed) ∙ one_more seen bytes i within)
     (stands_behind_feed before lines stood (seen ++ take i bytes) s few)
 
-pub byte_here : (before lines stood : ℕ) (seen bytes : List ℕ) (i : ℕ) → i < length bytes → Stands before (seen ++ take i bytes) lines stood → get_or bytes i 0 ≢ 10 → before + lines < 4294967295 → stood < 65536
-    → Stands before (seen ++ take (i + 1) bytes) lines (stood + 1)
+pub byte_here : (before lines stood : ℕ) (seen bytes : List ℕ) (i : ℕ) → i < length bytes → ScanStands before (seen ++ take i bytes) lines stood → get_or bytes i 0 ≢ 10 → before + lines < 4294967295 → stood < 65536
+    → ScanStands before (seen ++ take (i + 1) bytes) lines (stood + 1)
 byte_here before lines stood seen bytes i within s other few short =
-    subst (λ (l : List ℕ). Stands before l lines (stood + 1)) (one_more seen bytes i within)
+    subst (λ (l : List ℕ). ScanStands before l lines (stood + 1)) (one_more seen bytes i within)
     (stands_behind_byte before lines stood (seen ++ take i bytes) (get_or bytes i 0) s (other_than_feed (get_or bytes i 0) other) few short)
 
-pub window_ends_here : (before lines stood : ℕ) (seen bytes : List ℕ) (i : ℕ) → i < length bytes → Stands before (seen ++ take i bytes) lines stood → get_or bytes i 0 ≡ 10 → before + lines < 4294967295 → lines + 1 ≡ 4096
-    → Ends before (seen ++ take (i + 1) bytes)
+pub window_ends_here : (before lines stood : ℕ) (seen bytes : List ℕ) (i : ℕ) → i < length bytes → ScanStands before (seen ++ take i bytes) lines stood → get_or bytes i 0 ≡ 10 → before + lines < 4294967295 → lines + 1 ≡ 4096
+    → WindowEnds before (seen ++ take (i + 1) bytes)
 window_ends_here before lines stood seen bytes i within s feed few whole =
-    subst (Ends before) (ap (λ (b : ℕ). (seen ++ take i bytes) ++ (b ∷ [])) (sym feed) ∙ one_more seen bytes i within)
+    subst (WindowEnds before) (ap (λ (b : ℕ). (seen ++ take i bytes) ++ (b ∷ [])) (sym feed) ∙ one_more seen bytes i within)
     (window_ends before (lines + 1) (seen ++ take i bytes) (stands_behind_feed before lines stood (seen ++ take i bytes) s few) whole)
 
-pub too_many_here : (before lines stood : ℕ) (seen bytes : List ℕ) (i : ℕ) → i < length bytes → Stands before (seen ++ take i bytes) lines stood → before + lines ≡ 4294967295
+pub too_many_here : (before lines stood : ℕ) (seen bytes : List ℕ) (i : ℕ) → i < length bytes → ScanStands before (seen ++ take i bytes) lines stood → before + lines ≡ 4294967295
     → HasBadLine before (seen ++ bytes) (before + lines + 1)
 too_many_here before lines stood seen bytes i within s late =
     subst (λ (l : List ℕ). HasBadLine before l (before + lines + 1)) (all_of_them seen bytes i within)
     (line_too_many before lines stood (seen ++ take i bytes) (get_or bytes i 0) (drop (suc i) bytes) s late)
 
-pub too_long_here : (before lines stood : ℕ) (seen bytes : List ℕ) (i : ℕ) → i < length bytes → Stands before (seen ++ take i bytes) lines stood → get_or bytes i 0 ≢ 10 → stood ≡ 65536
+pub too_long_here : (before lines stood : ℕ) (seen bytes : List ℕ) (i : ℕ) → i < length bytes → ScanStands before (seen ++ take i bytes) lines stood → get_or bytes i 0 ≢ 10 → stood ≡ 65536
     → HasBadLine before (seen ++ bytes) (before + lines + 1)
 too_long_here before lines stood seen bytes i within s other long =
     subst (λ (l : List ℕ). HasBadLine before l (before + lines + 1)) (all_of_them seen bytes i within)

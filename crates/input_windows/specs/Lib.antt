@@ -2,4 +2,4 @@ pub mod Lines
 pub mod Pulls
 pub mod Scans
 pub mod Windows
-pub mod Given
+pub mod GivenWindows

@@ -9,7 +9,7 @@ pub record IsFull (window : List ℕ) : Type 0 where
   pub count : length (lines_of window) ≡ 4096
 
 -- the first window of an input, and what is left of it: the window has its first 4,096 lines, or all where it has no more
-pub record IsNext (window input rest : List ℕ) : Type 0 where
+pub record IsNextLine (window input rest : List ℕ) : Type 0 where
   pub cut : input ≡ window ++ rest
   pub some : 0 < length (lines_of window)
   pub lines : lines_of window ≡ take 4096 (lines_of input)
@@ -18,7 +18,7 @@ pub record IsNext (window input rest : List ℕ) : Type 0 where
 -- these are the windows of an input, all of them and in order
 abbrev pub AreWindows : List (List ℕ) → List ℕ → Type 0
 AreWindows [] input = input ≡ []
-AreWindows (window ∷ windows) input = (rest : List ℕ) × IsNext window input rest × AreWindows windows rest
+AreWindows (window ∷ windows) input = (rest : List ℕ) × IsNextLine window input rest × AreWindows windows rest
 
 -- the lines of all these windows, one window after another
 abbrev pub lines_in : List (List ℕ) → List (List ℕ)

@@ -8,7 +8,7 @@ use Rattle.input_windows.specs.declared.scan.Found.{Found}
 
 -- What has been seen of a window behind so many lines: so many lines have ended, and so many bytes stand in the open one. None of
 -- them is bad, and what follows goes on in the open line.
-pub record Stands (before : ℕ) (seen : List ℕ) (lines stood : ℕ) : Type 0 where
+pub record ScanStands (before : ℕ) (seen : List ℕ) (lines stood : ℕ) : Type 0 where
   pub ended : List (List ℕ)
   pub open_line : List ℕ
   pub count : length ended ≡ lines
@@ -23,7 +23,7 @@ pub record Stands (before : ℕ) (seen : List ℕ) (lines stood : ℕ) : Type 0 
   pub bound : length seen ≤ lines * 65537 + stood
 
 -- a whole window, all of whose lines have a number and can be taken, and whose lines the next bytes leave
-pub record Ends (before : ℕ) (window : List ℕ) : Type 0 where
+pub record WindowEnds (before : ℕ) (window : List ℕ) : Type 0 where
   pub full : IsFull window
   pub good : first_bad before (lines_of window) ≡ None
   pub few : before + 4096 ≤ 4294967295
@@ -40,7 +40,7 @@ pub record HasNoEnd (before : ℕ) (bytes : List ℕ) : Type 0 where
 
 -- what is found in these bytes behind those that were seen
 abbrev pub IsFound : ℕ → List ℕ → List ℕ → Found → Type 0
-IsFound before seen bytes (Found.End size) = (0 < size) × (size ≤ length bytes) × Ends before (seen ++ take size bytes)
+IsFound before seen bytes (Found.End size) = (0 < size) × (size ≤ length bytes) × WindowEnds before (seen ++ take size bytes)
 IsFound before seen bytes (Found.BadLine behind) =
     HasBadLine before (seen ++ bytes) (before + behind + 1) × (behind < 4096) × (before + behind ≤ 4294967295)
-IsFound before seen bytes (Found.Open lines size) = Stands before (seen ++ bytes) lines size × (lines < 4096) × (size ≤ 65536)
+IsFound before seen bytes (Found.Open lines size) = ScanStands before (seen ++ bytes) lines size × (lines < 4096) × (size ≤ 65536)

@@ -19,10 +19,11 @@ window_in w = take (w.end - w.start) (drop w.start w.buffer.items)
 abbrev pub left_in : InputWindows → List ℕ
 left_in w = take (w.filled - w.end) (drop w.end w.buffer.items)
 
--- how many lines the windows before it have, and how many those and it
+-- how many lines the windows before it have
 abbrev pub before_in : InputWindows → ℕ
 before_in w = w.before
 
+-- how many lines those and it have
 abbrev pub given_in : InputWindows → ℕ
 given_in w = w.before + w.lines
 
@@ -35,13 +36,13 @@ abbrev pub input_behind : InputWindows → World → List ℕ
 input_behind w world = left_in w ++ world.input
 
 -- the input has ended: nothing is left that was pulled, and nothing of a host that tells
-pub record HasEnded (tells : Bool) (w : InputWindows) (world : World) : Type 0 where
+pub record InputHasEnded (tells : Bool) (w : InputWindows) (world : World) : Type 0 where
   pub left : left_in w ≡ []
   pub input : IsTrue tells → world.input ≡ []
 
 -- how a window ends: with the input, or at the line feed of its 4,096th line
 abbrev pub EndsBy : Bool → Bool → InputWindows → World → Type 0
-EndsBy true tells w world = HasEnded tells w world
+EndsBy true tells w world = InputHasEnded tells w world
 EndsBy false tells w world = IsFull (window_in w)
 
 -- a window was given: it has a line, at most 4,096 and none that is bad
@@ -54,8 +55,9 @@ pub record GaveWindow (tells : Bool) (w : InputWindows) (world : World) : Type 0
 -- the end was told
 pub record GaveEnd (tells : Bool) (w : InputWindows) (world : World) : Type 0 where
   pub window : window_in w ≡ []
-  pub ended : HasEnded tells w world
+  pub ended : InputHasEnded tells w world
 
+-- what was given: a window, or the end
 abbrev pub Gave : Bool → Bool → InputWindows → World → Type 0
 Gave true tells w world = GaveWindow tells w world
 Gave false tells w world = GaveEnd tells w world

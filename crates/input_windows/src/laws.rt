@@ -1,7 +1,7 @@
 ghost use Rattle.std.specs.Prelude.{◌≡◌, ◌≢◌, ◌+◌, ◌%◌, ◌<◌, ◌≤◌, ◌++◌, [], ℕ, List, length, None};
 ghost use Rattle.request_wire.specs.Lines.{lines_of};
 ghost use Rattle.promise_spec.specs.Windows.{before_bad, first_bad};
-ghost use Rattle.input_windows.specs.Lines.{bytes_in, lines_in, AreWindows, IsFull, IsNext};
+ghost use Rattle.input_windows.specs.Lines.{bytes_in, lines_in, AreWindows, IsFull, IsNextLine};
 
 /// Windows are the input's, whatever pieces it was pulled in.
 pub fn windows_make_up_the_input()
@@ -10,7 +10,7 @@ pub fn windows_make_up_the_input()
     // all windows are all bytes and all lines, 4,096 in each but the last
     ensures bytes { (windows : List (List ℕ)) (input : List ℕ) → AreWindows windows input → input ≡ bytes_in windows }
     ensures lines { (windows : List (List ℕ)) (input : List ℕ) → AreWindows windows input → lines_of input ≡ lines_in windows }
-    ensures full { (window input rest : List ℕ) → IsNext window input rest → rest ≢ [] → length (lines_of window) ≡ 4096 }
+    ensures full { (window input rest : List ℕ) → IsNextLine window input rest → rest ≢ [] → length (lines_of window) ≡ 4096 }
     // the windows before that of a bad line have so many lines
     ensures before { (before number : ℕ) → before % 4096 ≡ 0 → before < number → number ≤ before + 4096 → before_bad number ≡ before }
     // the first bad line is one behind the windows that have none

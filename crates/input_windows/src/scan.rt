@@ -1,5 +1,5 @@
 ghost use Rattle.std.specs.Prelude.{◌≡◌, ◌+◌, ◌<◌, ◌≤◌, ℕ, List};
-ghost use Rattle.input_windows.specs.Scans.{Stands, IsFound};
+ghost use Rattle.input_windows.specs.Scans.{ScanStands, IsFound};
 
 /// How many lines a window has, unless the input ends before.
 pub const WINDOW_LINES: u32 = 4096;
@@ -22,7 +22,7 @@ pub(crate) enum Found {
 pub(crate) fn scan(bytes: &[u8], most: u32, lines: u32, stood: usize) -> Found
     requires lines { lines < 4096 }
     requires stood { stood ≤ 65536 }
-    ensures { (before : ℕ) (seen : List ℕ) → before + most ≡ 4294967295 → Stands before seen lines stood
+    ensures { (before : ℕ) (seen : List ℕ) → before + most ≡ 4294967295 → ScanStands before seen lines stood
         → IsFound before seen bytes.now result }
 {
     let mut lines = lines;

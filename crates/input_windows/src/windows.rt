@@ -4,7 +4,7 @@ ghost use Rattle.host_trait.specs.Files.{StaysReady};
 ghost use Rattle.host_trait.specs.World.{Asked, Pulled};
 ghost use Rattle.host_trait.specs.declared.channels.Channel.TheVariants.{Input};
 ghost use Rattle.request_wire.specs.Lines.{lines_of};
-ghost use Rattle.input_windows.specs.Lines.{IsNext};
+ghost use Rattle.input_windows.specs.Lines.{IsNextLine};
 ghost use Rattle.input_windows.specs.Pulls.{PulledOnly, Took};
 
 use crate::scan::{Found, WINDOW_LINES, scan};
@@ -238,7 +238,7 @@ impl InputWindows {
         // what is answered
         ensures gave { IfOk result (λ found. Gave found H.tells self.new (H.world host.new)) }
         ensures next { IfOk result (λ found. IsTrue found → IsTrue H.tells
-            → IsNext (window_in self.new) (input_behind self.old (H.world host.old)) (input_behind self.new (H.world host.new))) }
+            → IsNextLine (window_in self.new) (input_behind self.old (H.world host.old)) (input_behind self.new (H.world host.new))) }
         ensures refused { IfErr result (λ e. Refused e (given_in self.old) (left_in self.new)) }
         ensures none { OnErr result (window_in self.new ≡ []) }
 

@@ -23,9 +23,10 @@ use Rattle.turn_rules.specs.NextEvent.{with_event, MayCome}
 use Rattle.turn_rules.specs.TurnLoop.{IsTurning, TurnLoop, has_room, with_new}
 use Rattle.turn_rules.proofs.Growth.{ends-more}
 use Rattle.turn_rules.proofs.Turns.{turn-bad, turn-line}
+use Rattle.txn_agent.specs.Replies.{began_by}
 use Rattle.settle_loop.specs.declared.settler.Settler.{Settler}
 use Rattle.unit_carrier.specs.CarriedUnits.{units_carried}
-use Rattle.unit_carrier.specs.Lines.{IsEventOf, began_by, with_begun}
+use Rattle.unit_carrier.specs.Lines.{IsEventOf, with_begun}
 use Rattle.run_books.specs.Beginnings.{Outset, IsOutset, GoUpFrom, basis_of}
 use Rattle.run_books.specs.Books.{Books}
 use Rattle.interleaver.specs.Flights.{loop_at}

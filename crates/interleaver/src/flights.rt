@@ -1,3 +1,4 @@
+// The units in flight, and which of them are still to be looked at.
 ghost use Rattle.std.specs.Prelude.{◌≡◌, true, filter, count_by};
 ghost use Rattle.std.specs.List.{list_all};
 ghost use Rattle.core_access.specs.OneHolder.{none_comes, own_sight};

@@ -3,7 +3,7 @@ ghost use Rattle.std.specs.Prelude.{◌<◌, ◌^◌};
 use crate::cases::{Case, case_of};
 use crate::fields::add_field;
 use crate::folder::Folder;
-use crate::printing::add_bytes;
+use crate::printer::add_bytes;
 use crate::records::{add_records, block_of, records_in};
 use base_types::{GrainId, List, Place, Shape, State, Text, TypeShape, UnitNo, Value, Version};
 use commit_log::seal;

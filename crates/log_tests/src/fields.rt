@@ -1,5 +1,6 @@
+// The fields of a log, read from bytes of a row.
 use crate::cases::Case;
-use crate::printing::add_call;
+use crate::printer::add_call;
 use base_types::{Call, Origin, Outcome, State, Value};
 use field_codec::{
     CodecFault, Format, Numbers, get_answer, get_call, get_origin, get_result, get_state, get_u16,

@@ -10,7 +10,7 @@ mod bench;
 mod cases;
 mod fields;
 mod folder;
-mod printing;
+mod printer;
 mod records;
 
 use crate::bench::Bench;

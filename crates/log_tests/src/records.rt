@@ -3,7 +3,7 @@ ghost use Rattle.std.specs.List.{AllByRecursion};
 ghost use Rattle.commit_log.specs.EncodableRecords.{MaySpell};
 ghost use Rattle.gate_block.specs.Blocks.{IsBlockOfBody};
 
-use crate::printing::add_record;
+use crate::printer::add_record;
 use base_types::{List, Shape};
 use commit_log::{CommitRecord, decode_body, encode_block, read_records};
 use field_codec::{CodecFault, Format};

@@ -18,6 +18,7 @@ pub struct Bench {
 }
 
 impl Bench {
+    /// A bench without a program.
     pub fn new(alloc: Global) -> Bench {
         Bench {
             alloc,

@@ -82,7 +82,8 @@ impl Driver<'_> {
         mode: Mode,
     ) -> Result<Input, Trouble>
         requires { has_begun machine.now ≡ true }
-        ensures { IfOk result (λ input. (types : ProgramTree) → Pause.NeedGrain grain mode ≡ pause_for (asks (rest types machine.now)) → AnswersRequest (rest types machine.now) input) }
+        ensures { IfOk result (λ input. (types : ProgramTree) → Pause.NeedGrain grain mode ≡ pause_for (asks (rest types machine.now))
+            → AnswersRequest (rest types machine.now) input) }
     {
         let raise = machine.is_raise();
         self.note_lock(alloc, grain, mode, raise)?;
@@ -96,7 +97,8 @@ impl Driver<'_> {
     // What a machine is given that has paused.
     fn answer(&mut self, alloc: Global, machine: &Machine, pause: Pause) -> Result<Input, Trouble>
         requires { has_begun machine.now ≡ true }
-        ensures { IfOk result (λ input. (types : ProgramTree) → pause ≡ pause_for (asks (rest types machine.now)) → AnswersRequest (rest types machine.now) input) }
+        ensures { IfOk result (λ input. (types : ProgramTree) → pause ≡ pause_for (asks (rest types machine.now))
+            → AnswersRequest (rest types machine.now) input) }
     {
         match pause {
             Pause::NeedGrain { grain, mode } => self.lock(alloc, machine, grain, mode),

@@ -1,3 +1,4 @@
+// Calls of a host in memory, with files, failures, stops and crashes worked out by hand.
 use base_types::GrainId;
 use host_memory::{CallKind, MemoryHost};
 use host_trait::{Channel, Failed, FileId, Host, read_full, write_synced};

@@ -31,6 +31,7 @@ fn blanks(alloc: Global, count: &str) -> Result<Vec<u8>, AllocError> {
 }
 
 impl Bench {
+    /// A bench over a folder in memory that is empty.
     pub fn new(alloc: Global) -> Result<Bench, AllocError> {
         let host = MemoryHost::new(alloc, &[])?;
         Ok(Bench { alloc, host })

@@ -77,6 +77,7 @@ pub fn add_file(out: &mut String, file: FileId) -> Result<(), AllocError> {
     write!(out, "-{slot}")
 }
 
+/// The channel of a name: a file, or else the input.
 pub fn channel_of(name: &str) -> Channel {
     match file_of(name) {
         Some(file) => Channel::File(file),
@@ -84,6 +85,7 @@ pub fn channel_of(name: &str) -> Channel {
     }
 }
 
+/// The kind of call that a word names.
 pub fn kind_of(word: &str) -> CallKind {
     match word {
         "length" => CallKind::Length,

@@ -3,7 +3,7 @@ use Rattle.std.specs.Prelude.{◌≡◌, ℕ, ◌+◌, List, Option, Some, None,
 use Rattle.host_trait.specs.declared.channels.Channel.{Channel}
 use Rattle.host_trait.specs.declared.channels.Channel.TheVariants.{File}
 use Rattle.host_trait.specs.Faults.{NoneFailed, FailedOn}
-use Rattle.script_tree.specs.Programs.{ProgramTree, program_tree}
+use Rattle.script_tree.specs.Programs.{program_tree}
 use Rattle.script_tree.specs.declared.programs.Program.{Program as Tree}
 use Rattle.script_lexer.specs.declared.faults.ParseFault.{ParseFault}
 use Rattle.script_lexer.specs.declared.faults.ParseFault.TheVariants.{BadToken, Unexpected, TooDeep, Memory}
@@ -12,7 +12,7 @@ use Rattle.script_scopes.specs.declared.faults.CheckFault.TheVariants as check
 use Rattle.program_file.specs.declared.faults.ProgramFault.{ProgramFault}
 use Rattle.program_file.specs.declared.faults.ProgramFault.TheVariants.{Unparsed, Unchecked}
 use Rattle.program_file.specs.declared.faults.ProgramFileFault.{ProgramFileFault}
-use Rattle.program_file.specs.Programs.{parse_place, check_place, program_in}
+use Rattle.program_file.specs.Programs.{program_in}
 use Rattle.host_trait.specs.declared.channels.FileId.TheVariants.{Program as ProgramFile}
 
 -- the place that a parse names, none where memory ran out

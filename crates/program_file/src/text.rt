@@ -23,7 +23,8 @@ fn number(field: [u8; 4]) -> u32
 // The number that the length field of a slot's program file says, none where the file ends before it does.
 fn read_size<H: Host>(host: &mut H, slot: u8) -> Result<Option<u32>, Failed>
     requires slot { slot ≤ 1 }
-    ensures some { IfOk result (λ found. IsTrue H.tells → IfSome found (λ size. size ≡ from_le_bytes w32 (take 4 ((H.world host.old).disk (ProgramFile slot)).seen))) }
+    ensures some { IfOk result (λ found. IsTrue H.tells
+        → IfSome found (λ size. size ≡ from_le_bytes w32 (take 4 ((H.world host.old).disk (ProgramFile slot)).seen))) }
     ensures none { IfOk result (λ found. IsTrue H.tells → IfNone found (length ((H.world host.old).disk (ProgramFile slot)).seen < 4)) }
     ensures asked { IsTrue H.tells → OnlyAsked (H.world host.old) (H.world host.new) }
     ensures faults { Counted (File (ProgramFile slot)) result (H.faults host.old) (H.faults host.new) }

@@ -34,11 +34,11 @@ use Rattle.promise_spec.specs.Promise.{AllowsBefore, AllowedBy, Promises}
 use Rattle.promise_laws.specs.AnsweredRuns.{HasAnswered, HasOpened}
 use Rattle.promise_laws.proofs.OpenedRuns.{anywhere_opened}
 use Rattle.promise_spec.specs.Commands.{MakesAs, MakesSilo, MayCut, IsReported, Reports, ShowsStates, Audits}
-use Rattle.promise_spec.specs.Rewriting.{IsRewritten, Compacts}
+use Rattle.promise_spec.specs.Compaction.{IsRewritten, Compacts}
 use Rattle.promise_spec.proofs.Slots.{some_live}
 use Rattle.promise_spec.specs.Loads.{IsUnmadeBy, Loads}
 use Rattle.promise_spec.specs.Checks.{Checks}
-use Rattle.promise_spec.specs.Calls.{Understands, Obeys, Serves, AnswersAs, GoesOn}
+use Rattle.promise_spec.specs.Calls.{Understands, Obeys, Serves, AnswersAs, MayGoOn}
 use Rattle.promise_spec.proofs.Lists.{some_is, in_append}
 use Rattle.promise_examples.proofs.WholeInputs.{all_lines}
 use Rattle.promise_examples.proofs.BadLines.{one_front}
@@ -462,11 +462,11 @@ module _ (words : List (List ℕ)) (e : ending.Ending) (old new : Channel → �
   pub output_passed : AnswersAs words e old new → e ≢ ending.WriteFault → new Output ≢ old Output → ⊥
   output_passed answers other rose = other (answers.output rose)
 
-  pub made_though : (c : Command) (channel : Channel) → AnswersAs words e old new → Understands words c → ((f : ending.Ending) → GoesOn c f → ⊥)
+  pub made_though : (c : Command) (channel : Channel) → AnswersAs words e old new → Understands words c → ((f : ending.Ending) → MayGoOn c f → ⊥)
       → e ≡ ending.Done → new channel ≢ old channel → ⊥
   made_though c channel answers says never is rose = rose (subst (λ (x : ending.Ending). ending.HasFailedAs x old new) is (answers.exact c says (never e)) channel)
 
-  pub other_named : (c : Command) (f : FileId) (channel : Channel) → AnswersAs words e old new → Understands words c → ((g : ending.Ending) → GoesOn c g → ⊥)
+  pub other_named : (c : Command) (f : FileId) (channel : Channel) → AnswersAs words e old new → Understands words c → ((g : ending.Ending) → MayGoOn c g → ⊥)
       → e ≡ ending.DiskFault f → channel ≢ File f → new channel ≢ old channel → ⊥
   other_named c f channel answers says never is other rose =
       rose ((subst (λ (x : ending.Ending). ending.HasFailedAs x old new) is (answers.exact c says (never e))).counts.others channel other)

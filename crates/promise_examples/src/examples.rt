@@ -73,7 +73,8 @@ pub fn first_deposit_reads()
 
 /// What the reports print of the first deposit.
 pub fn reports_tell_the_first_deposit()
-    ensures show { show_text (account_1 ∷ []) (account_log (first_commit ∷ [])) ≡ codes "{\"fields\":{\"balance\":5},\"grain\":\"account/1\"}\n{\"count\":1}\n" }
+    ensures show { show_text (account_1 ∷ []) (account_log (first_commit ∷ []))
+        ≡ codes "{\"fields\":{\"balance\":5},\"grain\":\"account/1\"}\n{\"count\":1}\n" }
     ensures history { history_text (account_log (first_commit ∷ [])) ≡ codes "{\"args\":[5],\"call\":\"account/1.deposit\",\"n\":1,\"reply\":5,\"unit\":1}\n" }
     ensures audit { audit_text (account_log (first_commit ∷ [])) None ≡ codes "{\"count\":1,\"first_bad\":null}\n" }
 {}
@@ -81,7 +82,8 @@ pub fn reports_tell_the_first_deposit()
 /// A folder whose open block is cut has no log, and one whose grain file is cut within a version doesn't keep the record.
 pub fn torn_folders_have_no_log()
     ensures block { (log : Log) → IsLog 0 (torn_folder 80) log → ⊥ }
-    ensures version { (states : List (List Value)) → IsKept 0 (shape_in account_program) (folder 1 (take 10 grain_bytes)) (record { logged = deposit; states = states }) → ⊥ }
+    ensures version { (states : List (List Value))
+        → IsKept 0 (shape_in account_program) (folder 1 (take 10 grain_bytes)) (record { logged = deposit; states = states }) → ⊥ }
 {}
 
 /// A deposit of 5 and one of 4 that leaves 9 are serial, and not where the second leaves 4.
@@ -128,12 +130,14 @@ pub fn deposits_keep_the_rules()
 
 /// A run of one deposit keeps all six clauses: it opens an empty log, seals the deposit's record and replies.
 pub fn deposit_runs_keep()
-    ensures { (r : Observed) (opened : Moment) (sealing : List Moment) → IsDepositRun r opened sealing → Keeps account_program r (deposit_course opened sealing r) }
+    ensures { (r : Observed) (opened : Moment) (sealing : List Moment) → IsDepositRun r opened sealing
+        → Keeps account_program r (deposit_course opened sealing r) }
 {}
 
 /// And so does a run of two lines of which the second meets the first one's lock, and the first is left in doubt.
 pub fn doubt_runs_keep()
-    ensures { (r : Observed) (opened : Moment) (told doubting : List Moment) → IsDoubtRun r opened told doubting → Keeps account_program r (doubt_course opened told doubting r) }
+    ensures { (r : Observed) (opened : Moment) (told doubting : List Moment) → IsDoubtRun r opened told doubting
+        → Keeps account_program r (doubt_course opened told doubting r) }
 {}
 
 /// A third run keeps both rules: a deposit, and a read of what it left before it is logged. The deposit's file can't be
@@ -146,7 +150,8 @@ pub fn votes_keep_the_rules()
 
 /// And it keeps all six clauses, where its lines are told so and no image ever has a record of them.
 pub fn vote_runs_keep()
-    ensures { (r : Observed) (opened : Moment) (failing told : List Moment) → IsVoteRun r opened failing told → Keeps account_program r (vote_course opened failing told r) }
+    ensures { (r : Observed) (opened : Moment) (failing told : List Moment) → IsVoteRun r opened failing told
+        → Keeps account_program r (vote_course opened failing told r) }
 {}
 
 /// What a load draws from the seed 7, after its 64 deposits, and what it would print of the run of one deposit.
@@ -154,7 +159,8 @@ pub fn loads_draw_and_sum()
     ensures drawn { transfers_after 7 2 ≡ call (at 1 0) 0 (int 30 ∷ int 63 ∷ int 54 ∷ []) ∷ call (at 1 0) 0 (int 17 ∷ int 41 ∷ int 20 ∷ []) ∷ [] }
     ensures many { length (load_calls 2 7) ≡ 66 }
     ensures last { slice_get (load_calls 2 7) 63 ≡ Some (call (at 0 63) 0 (int 1000 ∷ [])) }
-    ensures summed { (r : Observed) (opened : Moment) (sealing : List Moment) → length (lines r) ≡ 1 → summary_text r (deposit_course opened sealing r) ≡ codes "{\"aborted\":0,\"committed\":1,\"faulted\":0,\"requests\":1,\"total\":5}\n" }
+    ensures summed { (r : Observed) (opened : Moment) (sealing : List Moment) → length (lines r) ≡ 1
+        → summary_text r (deposit_course opened sealing r) ≡ codes "{\"aborted\":0,\"committed\":1,\"faulted\":0,\"requests\":1,\"total\":5}\n" }
 {}
 
 /// A run of one deposit is written out whole: the program is a checked one, the folder is a new silo's and sound, what the run

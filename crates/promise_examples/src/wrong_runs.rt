@@ -54,7 +54,7 @@ ghost use Rattle.promise_spec.specs.Batches.{kept_by};
 ghost use Rattle.promise_spec.specs.Exits.{HasBlock};
 ghost use Rattle.promise_spec.specs.Promise.{Keeps, KeepsAnywhere, Promises};
 ghost use Rattle.promise_spec.specs.Commands.{MakesSilo, Reports};
-ghost use Rattle.promise_spec.specs.Calls.{Understands, Serves, AnswersAs, GoesOn};
+ghost use Rattle.promise_spec.specs.Calls.{Understands, Serves, AnswersAs, MayGoOn};
 ghost use Rattle.promise_spec.specs.Loads.{KeepsLoad, summary_text};
 ghost use Rattle.promise_spec.specs.Checks.{Checks};
 ghost use Rattle.two_silos.specs.GeneratedEvents.{checked};
@@ -110,8 +110,10 @@ pub fn calm_runs_sync_once()
 /// than the opening's.
 pub fn syncs_are_bounded()
     ensures run { (p : Program) (r : Observed) (c : Course) → Keeps p r c → r.old.syncs + most_syncs_of (seen_at_entry r) (core_run p c) < r.new.syncs → ⊥ }
-    ensures anywhere { (p : Program) (r : Observed) (c : Course) → KeepsAnywhere p r c → r.old.syncs + most_syncs_of (seen_at_entry r) (core_run p c) < r.new.syncs → ⊥ }
-    ensures load { (p : Program) (r : Observed) (c : Course) (n seed : ℕ) → KeepsLoad p n seed r c → r.old.syncs + most_syncs_of (seen_at_entry r) (core_run p c) < r.new.syncs → ⊥ }
+    ensures anywhere { (p : Program) (r : Observed) (c : Course) → KeepsAnywhere p r c
+        → r.old.syncs + most_syncs_of (seen_at_entry r) (core_run p c) < r.new.syncs → ⊥ }
+    ensures load { (p : Program) (r : Observed) (c : Course) (n seed : ℕ) → KeepsLoad p n seed r c
+        → r.old.syncs + most_syncs_of (seen_at_entry r) (core_run p c) < r.new.syncs → ⊥ }
     ensures unopened { (r : Observed) → IsUnopened r → r.old.syncs + opening_syncs (seen_at_entry r) < r.new.syncs → ⊥ }
 {}
 
@@ -121,7 +123,8 @@ pub fn nothing_stands_behind_the_log()
     ensures run { (p : Program) (r : Observed) (c : Course) (image : Image) → Keeps p r c → how_many is_unsealed (core_run p c) ≡ 0 → IsImage r.new.disk image
         → length (seen_at_entry r (file.Manager c.live)) ≤ gate_of (image (file.Manager c.live)) + 1
         → gate_of (image (file.Manager c.live)) + 1 < length (image (file.Manager c.live)) → ⊥ }
-    ensures load { (p : Program) (r : Observed) (c : Course) (image : Image) (n seed : ℕ) → KeepsLoad p n seed r c → how_many is_unsealed (core_run p c) ≡ 0 → IsImage r.new.disk image
+    ensures load { (p : Program) (r : Observed) (c : Course) (image : Image) (n seed : ℕ) → KeepsLoad p n seed r c
+        → how_many is_unsealed (core_run p c) ≡ 0 → IsImage r.new.disk image
         → length (seen_at_entry r (file.Manager c.live)) ≤ gate_of (image (file.Manager c.live)) + 1
         → gate_of (image (file.Manager c.live)) + 1 < length (image (file.Manager c.live)) → ⊥ }
 {}
@@ -222,14 +225,16 @@ pub fn aborts_have_causes()
         → ((at : ℕ) (mode : Mode) → AppliesAt (core_run p c) at (event.Refuse e.unit grain mode) → ⊥) → ⊥ }
     ensures dead { (p : Program) (r : Observed) (c : Course) (e : Entry) (on : UnitNo) → Keeps p r c
         → Member e c.entries → e.what ≡ settled.Dependency on
-        → ((before later : List CoreEvent) (event : CoreEvent) → c.events ≡ before ++ (event ∷ later) → IsAlive (run (begins (core_run p c)) before) event on) → ⊥ }
+        → ((before later : List CoreEvent) (event : CoreEvent) → c.events ≡ before ++ (event ∷ later)
+        → IsAlive (run (begins (core_run p c)) before) event on) → ⊥ }
 {}
 
 /// No run keeps the promise that ends with a fault of a grain's file, or as done after a doubt, or as done without having
 /// opened the folder; and none that read its input to the end may say that it hasn't opened the folder, as one that calls a
 /// grain file's fault a refusal would.
 pub fn endings_are_true()
-    ensures grain { (p : Program) (r : Observed) (c : Course) (slot : ℕ) (grain : GrainId) → Keeps p r c → r.ending ≡ ending.DiskFault (file.Grain slot grain) → ⊥ }
+    ensures grain { (p : Program) (r : Observed) (c : Course) (slot : ℕ) (grain : GrainId) → Keeps p r c
+        → r.ending ≡ ending.DiskFault (file.Grain slot grain) → ⊥ }
     ensures doubt { (p : Program) (r : Observed) (c : Course) → Keeps p r c → RunHasDoubt (core_run p c) → r.ending ≡ ending.Done → ⊥ }
     ensures unopened { (r : Observed) → IsUnopened r → r.ending ≡ ending.Done → ⊥ }
     ensures read { (r : Observed) → IsUnopened r → r.old.input ≢ [] → r.new.input ≡ [] → ⊥ }
@@ -315,10 +320,10 @@ pub fn bad_use_is_said_by_words()
     ensures output { (words : List (List ℕ)) (e : ending.Ending) (old new : Channel → ℕ)
         → AnswersAs words e old new → e ≢ ending.WriteFault → new Output ≢ old Output → ⊥ }
     ensures made { (words : List (List ℕ)) (e : ending.Ending) (old new : Channel → ℕ) (c : Command) (channel : Channel)
-        → AnswersAs words e old new → Understands words c → ((f : ending.Ending) → GoesOn c f → ⊥) → e ≡ ending.Done
+        → AnswersAs words e old new → Understands words c → ((f : ending.Ending) → MayGoOn c f → ⊥) → e ≡ ending.Done
         → new channel ≢ old channel → ⊥ }
     ensures named { (words : List (List ℕ)) (e : ending.Ending) (old new : Channel → ℕ) (c : Command) (f : FileId) (channel : Channel)
-        → AnswersAs words e old new → Understands words c → ((g : ending.Ending) → GoesOn c g → ⊥) → e ≡ ending.DiskFault f
+        → AnswersAs words e old new → Understands words c → ((g : ending.Ending) → MayGoOn c g → ⊥) → e ≡ ending.DiskFault f
         → channel ≢ File f → new channel ≢ old channel → ⊥ }
 {}
 

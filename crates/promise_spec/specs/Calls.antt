@@ -11,7 +11,7 @@ use Rattle.promise_spec.specs.Reports.{history_text}
 use Rattle.promise_spec.specs.Commands.{MakesSilo, Reports, ShowsStates, Audits}
 use Rattle.promise_spec.specs.Loads.{Loads}
 use Rattle.promise_spec.specs.Checks.{Checks}
-use Rattle.promise_spec.specs.Rewriting.{Compacts}
+use Rattle.promise_spec.specs.Compaction.{Compacts}
 
 -- what each command promises
 abbrev pub Obeys : Command → Observed → Type 0
@@ -45,10 +45,10 @@ pub record Serves (words : List (List ℕ)) (shown : Command → Observed) : Typ
   pub refuses : ((c : Command) → Understands words c → ⊥) → (c : Command) → IsBadUse (shown c)
 
 -- a command may go on behind a file's fault and end so: one that carries lines, whose votes and seals may fail
-abbrev pub GoesOn : Command → Ending → Type 0
-GoesOn (Run m) e = IsCarried e
-GoesOn (Load n seed m) e = IsLoadCarried e
-GoesOn _ e = ⊥
+abbrev pub MayGoOn : Command → Ending → Type 0
+MayGoOn (Run m) e = IsCarried e
+MayGoOn (Load n seed m) e = IsLoadCarried e
+MayGoOn _ e = ⊥
 
 -- What holds over any host, one that tells nothing of what it holds too: the words alone say what is bad use, but for want of
 -- memory, and a fault is shown by its count. No failed call is passed over, by want of memory neither: one on the input or the
@@ -59,4 +59,4 @@ pub record AnswersAs (words : List (List ℕ)) (e : Ending) (old new : Channel �
   pub risen : HasRisen e old new
   pub input : new Input ≢ old Input → e ≡ ReadFault
   pub output : new Output ≢ old Output → e ≡ WriteFault
-  pub exact : (c : Command) → Understands words c → (GoesOn c e → ⊥) → HasFailedAs e old new
+  pub exact : (c : Command) → Understands words c → (MayGoOn c e → ⊥) → HasFailedAs e old new

@@ -36,6 +36,6 @@ pub mod Commands
 pub mod Loads
 pub mod Checks
 pub mod Journals
-pub mod Compacting
-pub mod Rewriting
+pub mod EitherSlot
+pub mod Compaction
 pub mod Calls

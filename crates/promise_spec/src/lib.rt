@@ -6,7 +6,7 @@
 //! `TurnRule`, `Causes`, `Family` (what the core's events are, and where records come from), `Openings` (what a folder
 //! reads as), `Words`, `Endings`, `Courses`, `Refusals`; the clauses `Orders`, `Replies` and `Crashes`, which `Headline`
 //! says alone; and the others, `Batches`, `Explanation`, `Exits` and `Promise`. `Reports`, `Commands`, `Loads`, `Checks`,
-//! `Compacting` and `Rewriting` have the other commands, and `Calls` the whole program.
+//! `EitherSlot` and `Compaction` have the other commands, and `Calls` the whole program.
 //!
 //! `laws` has what follows from the definitions alone, `checkpoints` what of a log's beginning, and `folders` that a sound folder is
 //! whole. `promise_laws` has what

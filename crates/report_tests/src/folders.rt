@@ -5,10 +5,13 @@ use host_trait::FileId;
 use std::alloc::Global;
 use std::test::Fail;
 
+/// The program file.
 pub const PROGRAM: FileId = FileId::Program { slot: 0 };
 
+/// The manager file.
 pub const MANAGER: FileId = FileId::Manager { slot: 0 };
 
+/// The file of the one grain.
 pub const GRAIN: FileId = FileId::Grain {
     slot: 0,
     grain: GrainId { kind: 0, key: 1 },

@@ -1,3 +1,4 @@
+// The call that a request line asks for: its JSON value, its grain, its method and its arguments.
 ghost use Rattle.std.specs.Prelude.{◌≡◌, true, Ok, Err, IfOk, IfErr, option_map};
 ghost use Rattle.request_wire.specs.Request.{json_of, shape_of, split_at_first, is_digits, number_of, key_of, grain_named, grain_of, value_of_json, values_of, args_of, call_of};
 ghost use Rattle.serde_json.specs.View.{view, items_view};

@@ -40,6 +40,7 @@ module _ (stop : ParseFault) where
   word_place depth word.Call ts all = parenthesised depth all
   word_place depth word.Attempt ts all = parenthesised depth all
 
+  -- such a key, by the token at its begin and its place
   abbrev pub place_from : ℕ → Token → ℕ → List Spanned → Read ExprTree
   place_from depth (token.Int n) at ts all = Ok (Constant (literal.Int n), ts)
   place_from depth (token.Name s) at ts all = Ok (Variable (record { text = s; at = at }), ts)

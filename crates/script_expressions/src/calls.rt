@@ -1,3 +1,4 @@
+// Calls, read from tokens.
 ghost use Rattle.std.specs.Prelude.{◌≡◌, map, length};
 ghost use Rattle.script_tree.specs.Exprs.{expr_tree, call_tree};
 ghost use Rattle.script_expressions.specs.TokenReaders.{GivesPart};

@@ -1,3 +1,4 @@
+// Expressions, read from tokens by tiers of operators.
 ghost use Rattle.std.specs.Prelude.{◌≡◌};
 ghost use Rattle.script_tree.specs.Exprs.{expr_tree};
 ghost use Rattle.script_expressions.specs.TokenReaders.{GivesPart, Finds};

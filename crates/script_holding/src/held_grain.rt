@@ -12,6 +12,7 @@ pub struct Held {
     pub written: bool,
 }
 
+/// Whether the two are one grain.
 pub fn same_grain(one: GrainId, other: GrainId) -> bool
     ensures { result ≡ same_grain one other }
 {

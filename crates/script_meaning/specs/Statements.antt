@@ -36,6 +36,7 @@ module _ (types : ProgramTree) (runner : Runner) (site : Site) (back : Back) whe
   abbrev pub around : Locals → Holding → Surroundings
   around locals has = record { fields = readable site.kind site.fields; key = site.grain.key; state = state_at site.grain has.held; locals = locals }
 
+  -- what an expression gives there: a value, or its fault
   abbrev pub given : ExprTree → Locals → Holding → ValueOrFault
   given expression locals has = value_in (around locals has) expression
 

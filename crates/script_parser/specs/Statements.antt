@@ -21,9 +21,11 @@ module _ (stop : ParseFault) where
   source_from depth ts (Some after) = call_at stop depth after >>= λ c. Ok (Called c.0, c.1)
   source_from depth ts None = expression stop depth ts >>= λ e. Ok (Computed e.0, e.1)
 
+  -- where a value comes from: a call behind its word, or an expression
   unfoldable pub source_at : ℕ → Read SourceTree
   source_at depth ts = source_from depth ts (taken_word word.Call ts)
 
+  -- a new local, behind its word
   unfoldable pub let_at : ℕ → Read StmtTree
   let_at depth ts = do
     name ← name_at stop ts
@@ -32,6 +34,7 @@ module _ (stop : ParseFault) where
     end ← expected stop symbol.Semicolon value.1
     Ok (Bind name.0 value.0, end.1)
 
+  -- a new value of a local, behind its name
   unfoldable pub assign_at : ℕ → Name → Read StmtTree
   assign_at depth name ts = do
     assign ← expected stop symbol.Assign ts
@@ -39,6 +42,7 @@ module _ (stop : ParseFault) where
     end ← expected stop symbol.Semicolon value.1
     Ok (Rebind name value.0, end.1)
 
+  -- a new value of a field, behind its word
   unfoldable pub set_at : ℕ → Read StmtTree
   set_at depth ts = do
     name ← name_at stop ts
@@ -47,18 +51,21 @@ module _ (stop : ParseFault) where
     end ← expected stop symbol.Semicolon value.1
     Ok (SetField name.0 value.0, end.1)
 
+  -- a call whose value isn't used, behind its word
   unfoldable pub call_statement_at : ℕ → Read StmtTree
   call_statement_at depth ts = do
     call ← call_at stop depth ts
     end ← expected stop symbol.Semicolon call.1
     Ok (Perform call.0, end.1)
 
+  -- the value of a method, behind its word
   unfoldable pub return_at : ℕ → Read StmtTree
   return_at depth ts = do
     value ← expression stop depth ts
     end ← expected stop symbol.Semicolon value.1
     Ok (Give value.0, end.1)
 
+  -- a fault of the program's own, behind its word
   unfoldable pub fail_at : Read StmtTree
   fail_at ts = do
     said ← spelling_at stop ts
@@ -70,9 +77,11 @@ module _ (stop : ParseFault) where
   else_from blocks ts (Some after) = blocks after >>= λ b. Ok (Else (block_tree b.0), b.1)
   else_from blocks ts None = Ok (NoElse, ts)
 
+  -- the second block of an if, where its word stands
   unfoldable pub else_at : Read (List StmtTree) → Read ElseTree
   else_at blocks ts = else_from blocks ts (taken_word word.Else ts)
 
+  -- a choice of two blocks, behind its word
   unfoldable pub if_at : ℕ → Read (List StmtTree) → Read StmtTree
   if_at depth blocks ts = do
     test ← expression stop depth ts
@@ -80,12 +89,14 @@ module _ (stop : ParseFault) where
     other ← else_at blocks first.1
     Ok (Choose test.0 (block_tree first.0) other.0, other.1)
 
+  -- a block that is repeated, behind its word
   unfoldable pub while_at : ℕ → Read (List StmtTree) → Read StmtTree
   while_at depth blocks ts = do
     test ← expression stop depth ts
     body ← blocks test.1
     Ok (Repeat test.0 (block_tree body.0), body.1)
 
+  -- a call whose fault is caught, behind its word at this place: a block for its value, and one for the fault
   unfoldable pub attempt_at : ℕ → Read (List StmtTree) → ℕ → Read StmtTree
   attempt_at depth blocks at ts = do
     name ← name_at stop ts
@@ -97,7 +108,7 @@ module _ (stop : ParseFault) where
     other ← blocks others.1
     Ok (Try at name.0 call.0 (block_tree first.0) (block_tree other.0), other.1)
 
-  -- a statement that begins with a word, or with a token, at a place
+  -- a statement that begins with a word, which stands at this place
   abbrev pub word_begins : ℕ → Read (List StmtTree) → Word → ℕ → Read StmtTree
   word_begins depth blocks word.Let at ts = let_at depth ts
   word_begins depth blocks word.Set at ts = set_at depth ts
@@ -113,6 +124,7 @@ module _ (stop : ParseFault) where
   word_begins depth blocks word.Else at ts = Err (Unexpected at)
   word_begins depth blocks word.Key at ts = Err (Unexpected at)
 
+  -- a statement, by the token that it begins with, and that one's place
   abbrev pub statement_from : ℕ → Read (List StmtTree) → Token → ℕ → Read StmtTree
   statement_from depth blocks (token.Name s) at ts = assign_at depth (record { text = s; at = at }) ts
   statement_from depth blocks (token.Word w) at ts = word_begins depth blocks w at ts

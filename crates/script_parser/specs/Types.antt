@@ -42,6 +42,7 @@ module _ (stop : ParseFault) where
   number_at [] = Err stop
   number_at (t ∷ ts) = negative_from t.token t.at ts
 
+  -- what a field has at first, by the symbol that it begins with: a number below 0
   abbrev pub symbol_initial : Symbol → ℕ → Read Literal
   symbol_initial symbol.Minus at ts = number_at ts
   symbol_initial symbol.LeftBrace at ts = Err (Unexpected at)
@@ -66,6 +67,7 @@ module _ (stop : ParseFault) where
   symbol_initial symbol.Or at ts = Err (Unexpected at)
   symbol_initial symbol.Not at ts = Err (Unexpected at)
 
+  -- what a field has at first, by the token that it begins with
   abbrev pub initial_from : Token → ℕ → Read Literal
   initial_from (token.Int n) at ts = Ok (literal.Int n, ts)
   initial_from (token.Text s) at ts = Ok (literal.Chars s, ts)

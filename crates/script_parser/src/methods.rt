@@ -1,3 +1,4 @@
+// Methods, read from tokens.
 ghost use Rattle.std.specs.Prelude.{◌≡◌, length, bytes_eq};
 ghost use Rattle.script_tree.specs.Stmts.{stmt_trees, block_tree};
 ghost use Rattle.script_tree.specs.Programs.{method_tree};

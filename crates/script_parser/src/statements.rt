@@ -1,3 +1,4 @@
+// Statements and their blocks, read from tokens.
 ghost use Rattle.std.specs.Prelude.{◌≡◌, length};
 ghost use Rattle.script_tree.specs.Stmts.{source_tree, stmt_tree, stmt_trees, else_tree};
 ghost use Rattle.script_expressions.specs.TokenReaders.{GivesPart};

@@ -26,6 +26,7 @@ fn add_refused(
 }
 
 impl Bench {
+    /// A bench without a program.
     pub fn new(alloc: Global) -> Bench {
         Bench {
             alloc,

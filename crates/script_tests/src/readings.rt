@@ -1,3 +1,4 @@
+// What each stage of reading makes of a text, written out.
 use crate::printer::{print_call, print_expr, print_program};
 use crate::tokens::add_tokens;
 use crate::trouble::Trouble;

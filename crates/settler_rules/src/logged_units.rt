@@ -26,7 +26,8 @@ pub fn shown_versions_fit()
 
 /// What is shown of a unit to commit is within the program and the formats, and what a file has by a vote is what it wrote.
 pub fn units_to_commit_can_be_logged()
-    ensures program { (s : Basis) (r : Run) → 0 < r.base → KeepsUnitRule s r → r.kinds ≡ length s.types → IsAcceptedProgram s.types → (ends r).units.next ≤ 2 ^ 63
+    ensures program { (s : Basis) (r : Run) → 0 < r.base → KeepsUnitRule s r → r.kinds ≡ length s.types → IsAcceptedProgram s.types
+        → (ends r).units.next ≤ 2 ^ 63
         → (e : Effect) → Member e (to_commit (ends r) (ends r).manager.batch) → FitsProgram s.types e }
     ensures format { (s : Basis) (r : Run) → 0 < r.base → KeepsUnitRule s r → IsAcceptedProgram s.types
         → (e : Effect) → Member e (to_commit (ends r) (ends r).manager.batch) → FitsFormat e }

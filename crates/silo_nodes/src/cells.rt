@@ -36,7 +36,8 @@ fn after(cell: Cell, delta: i64, commit: bool) -> Cell
 /// Settles one shift of a decided transaction.
 pub fn settle_one(cells: &mut BTreeMap<GrainId, Cell>, shift: Shift, commit: bool)
     requires room { IfSome (get grain_cmp cells.old shift.grain) (λ c. FitsSigned w64 (c.balance +ℤ shift.delta)) }
-    ensures { (grain : GrainId) → get grain_cmp cells.new grain ≡ (if same_grain shift.grain grain then settled_cell commit shift.delta (get grain_cmp cells.old grain) else get grain_cmp cells.old grain) }
+    ensures { (grain : GrainId) → get grain_cmp cells.new grain ≡
+        (if same_grain shift.grain grain then settled_cell commit shift.delta (get grain_cmp cells.old grain) else get grain_cmp cells.old grain) }
 {
     if let Some(cell) = cells.get_mut(&shift.grain) {
         *cell = after(*cell, shift.delta, commit);
@@ -81,7 +82,8 @@ pub fn allow(cells: &BTreeMap<GrainId, Cell>, shifts: &[Shift]) -> bool
 
 // Keeps one grain busy.
 fn hold_one(cells: &mut BTreeMap<GrainId, Cell>, grain: GrainId)
-    ensures { (other : GrainId) → get grain_cmp cells.new other ≡ (if same_grain grain other then held_cell (get grain_cmp cells.old other) else get grain_cmp cells.old other) }
+    ensures { (other : GrainId) → get grain_cmp cells.new other ≡
+        (if same_grain grain other then held_cell (get grain_cmp cells.old other) else get grain_cmp cells.old other) }
 {
     if let Some(cell) = cells.get_mut(&grain) {
         cell.busy = true;
@@ -99,7 +101,9 @@ pub fn hold(cells: &mut BTreeMap<GrainId, Cell>, shifts: &[Shift])
 
 /// Gives a grain its opening balance, where it has none yet.
 pub fn open(cells: &mut BTreeMap<GrainId, Cell>, entry: (GrainId, i64)) -> Result<(), AllocError>
-    ensures { OnOk result ((other : GrainId) → get grain_cmp cells.new other ≡ (if same_grain entry.0 other then or_cell (get grain_cmp cells.old other) (Some entry.1) else get grain_cmp cells.old other)) }
+    ensures { OnOk result ((other : GrainId)
+        → get grain_cmp cells.new other ≡
+        (if same_grain entry.0 other then or_cell (get grain_cmp cells.old other) (Some entry.1) else get grain_cmp cells.old other)) }
 {
     if cells.get(&entry.0).is_some() {
         return Ok(());

@@ -1,6 +1,6 @@
 pub mod Silos
 pub mod Slots
-pub mod Filling
+pub mod OtherSlot
 pub mod Moments
 pub mod Creation
 pub mod OpenedDisks

@@ -3,6 +3,7 @@ use Rattle.std.proofs.Common.{◌≡◌, ◌⊎◌, inl, inr, ⊎_elim, ℕ, ◌
 use Rattle.std.specs.Prelude.{Result, Ok, Err}
 use mathlib.Core.List.{append_assoc}
 use Rattle.base_types.specs.declared.shapes.Shape.{Shape}
+use Rattle.base_types.specs.Lists.{Member}
 use Rattle.core_model.specs.declared.events.CoreEvent.{CoreEvent}
 use Rattle.core_model.specs.declared.events.CoreReply.{CoreReply}
 use Rattle.core_model.specs.declared.events.CoreEvent.TheVariants.{Halt}
@@ -12,7 +13,7 @@ use Rattle.history_core.specs.Cores.{CoreData, run_of}
 use Rattle.turn_cell.specs.declared.view.View.{View}
 use Rattle.turn_cell.specs.Hands.{first_hand}
 use Rattle.turn_cell.specs.Passes.{view}
-use Rattle.turn_cell.specs.History.{In, entry, entries_of}
+use Rattle.turn_cell.specs.History.{entry, entries_of}
 use Rattle.turn_cell.proofs.Lists.{in_append}
 use Rattle.turn_rules.specs.NextEvent.{MayCome}
 use Rattle.turn_rules.specs.QuietRun.{IsQuiet}
@@ -49,14 +50,14 @@ use Rattle.run_books.specs.Stages.{Side, stage_with}
 -- ---- what the one who settles put
 
 settles-only : (s t : Sight) → s.mine ≡ [] → SettlesAmong s t → SettlesOrStops t.mine
-settles-only s t none a x i = inl (a.settling x (subst (In x) (a.mine ∙ ap (λ (l : List Told). l ++ a.own) none) i))
+settles-only s t none a x i = inl (a.settling x (subst (Member x) (a.mine ∙ ap (λ (l : List Told). l ++ a.own) none) i))
 
 settles-or-stops : (s t : Sight) → s.mine ≡ [] → SettlesAmong s t ⊎ StopsAmong all_come s t → SettlesOrStops t.mine
 settles-or-stops s t none (inl p) = settles-only s t none p
 settles-or-stops s t none (inr p) = λ x i. ⊎_elim
     (λ j. settles-only s p.mid none p.settles x j)
     (λ j. ⊎_elim (λ (q : x ≡ entry p.mid.number Halt p.reply). inr (ap (λ (z : Told). z.event) q)) (λ k. absurd k) j)
-    (in_append x p.mid.mine (entry p.mid.number Halt p.reply ∷ []) (subst (λ (z : Sight). In x z.mine) p.stop.sight i))
+    (in_append x p.mid.mine (entry p.mid.number Halt p.reply ∷ []) (subst (λ (z : Sight). Member x z.mine) p.stop.sight i))
 
 pub ends-settle : {T : Type 0} (s t : Sight) (result : Result T RunFault) → s.mine ≡ [] → EndsAmong all_come s t result → SettlesOrStops t.mine
 ends-settle s t (Ok done) none a = settles-only s t none a

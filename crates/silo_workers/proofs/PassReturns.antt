@@ -1,6 +1,7 @@
 -- What the calls of a pass leave of it.
 use Rattle.std.proofs.Common.{◌≡◌, inl, inr, ℕ, ◌≤◌, List, [], ◌∷◌, Bool, true, false, refl, sym, ap, ◌∙◌, subst, length, arith}
 use Rattle.std.specs.Prelude.{Result, Ok, Err, IfOk, not, ◌&&◌}
+use Rattle.base_types.specs.Lists.{Member}
 use Rattle.cell_model.specs.Locks.{holds_lock}
 use Rattle.core_model.specs.CoreState.{UnitNo, GrainId, CoreState}
 use Rattle.core_model.specs.declared.effects.Read.{Read}
@@ -10,7 +11,7 @@ use Rattle.core_model.specs.Laws.{extended}
 use Rattle.core_model.specs.LegalRuns.{Run, ends}
 use Rattle.core_model.specs.Tests.{all}
 use Rattle.turn_cell.specs.declared.view.View.{View}
-use Rattle.turn_cell.specs.History.{In, StartsWith, entries_of}
+use Rattle.turn_cell.specs.History.{StartsWith, entries_of}
 use Rattle.turn_cell.specs.Passes.{Adds}
 use Rattle.turn_cell.proofs.Histories.{starts_self}
 use Rattle.core_access.specs.Histories.{Told, reply_in}
@@ -52,7 +53,7 @@ are-done s t u began alone = through-done _ u (t u began alone)
 
 -- where nothing was put, no unit began
 pub nothing-done : (s : Sight) → PutsNothing s → AreOverAndFree s
-nothing-done s none u began = absurd (subst (In began.0) none began.1)
+nothing-done s none u began = absurd (subst (Member began.0) none began.1)
 
 -- ---- a pass
 
@@ -85,7 +86,7 @@ returned-same state P v p = record { first = refl; seen = starts_self v.seen; nu
 pub worked-idle : {T : Type 0} (state : T → Run) (Asked : Basis → Type 0) (v : View T CoreEvent CoreReply) → v.hand.mine ≡ [] → Returns state (HasWorked Asked Idle) v v
 worked-idle state Asked v none = returned-same state (HasWorked Asked Idle) v record {
   counts = subst (λ (l : List Told). length l ≤ length (entries_of v.hand.number v.seen)) (sym none) (omega arith);
-  works = λ x i. absurd (subst (In x) none i);
+  works = λ x i. absurd (subst (Member x) none i);
   promise = λ b asked. subst (λ (l : List Told). Promised (MayCome b) (state v.first) v.hand.number v.seen l) (sym none) (promise-none (MayCome b) (state v.first) v.hand.number v.seen);
   units = none;
 }

@@ -2,13 +2,13 @@
 use Rattle.std.proofs.Common.{◌≡◌, inl, inr, ℕ, ◌≤◌, ◌<◌, Option, Some, None, List, [], ◌∷◌, ◌++◌, Bool, false, true≢false, refl, sym, ◌∙◌, subst, arith}
 use Rattle.std.specs.Prelude.{Result, Ok, Err, is_some}
 use Rattle.base_types.specs.declared.shapes.Shape.{Shape}
+use Rattle.base_types.specs.Lists.{Member}
 use Rattle.host_trait.specs.declared.channels.Channel.{Channel}
 use Rattle.host_trait.specs.World.{World}
 use Rattle.core_model.specs.LockAnswers.{IsGoing}
 use Rattle.core_model.specs.CoreState.{UnitNo}
 use Rattle.core_model.specs.LegalRuns.{Run, ends}
 use Rattle.core_model.specs.Settler.{settler_step, Rests}
-use Rattle.turn_cell.specs.History.{In}
 use Rattle.turn_cell.proofs.Lists.{in_right}
 use Rattle.turn_cell.proofs.Histories.{legal_back}
 use Rattle.turn_rules.specs.NextEvent.{with_event}
@@ -57,7 +57,7 @@ module _ (r r' : Run) (among : SettlesAmong (own_sight r) (own_sight r')) where
     rest-story = record {
       above = above;
       rule = units;
-      ruled = λ before e rest q. settling-may b (run_after r before) e.event (among.settling e (subst (In e) (sym q) (in_right e before (e ∷ rest) (inl refl))));
+      ruled = λ before e rest q. settling-may b (run_after r before) e.event (among.settling e (subst (Member e) (sym q) (in_right e before (e ∷ rest) (inl refl))));
       legal = rest-true;
     }
 

@@ -1,11 +1,12 @@
 -- For callers: calls, splits and joins add up, and what the passes know of their own entries they know of the whole history.
 use Rattle.std.proofs.Common.{◌≡◌, ◌⊎◌, inl, inr, ⊎_elim, ℕ, List, [], ◌∷◌, ◌++◌, map, refl, sym, ap, ◌∙◌, subst}
 use mathlib.Core.List.{append_assoc}
+use Rattle.base_types.specs.Lists.{Member}
 use Rattle.turn_cell.specs.declared.view.Entry.{Entry}
 use Rattle.turn_cell.specs.declared.view.Kept.{Kept}
 use Rattle.turn_cell.specs.declared.view.Hand.{Hand}
 use Rattle.turn_cell.specs.declared.view.View.{View}
-use Rattle.turn_cell.specs.History.{In, StartsWith, entry, leaves, IsLegal}
+use Rattle.turn_cell.specs.History.{StartsWith, entry, leaves, IsLegal}
 use Rattle.turn_cell.specs.Hands.{number_of, kept, next_number, joined_hand, first_hand, IsWhole}
 use Rattle.turn_cell.specs.Passes.{splitter_view, split_off_view, state_seen, SeesLegal, Sees, Adds, Joins, Closes}
 use Rattle.turn_cell.specs.PassContracts.{Continues, Gathers}
@@ -35,10 +36,10 @@ module _ {T E R : Type 0} (P : List (Entry E R) → Type 0) where
     first = c.first;
     seen = c.seen;
     number = c.number;
-    told = λ n x. inl (subst (In n) c.split_off x);
-    stay = λ n x. subst (λ (l : List (Kept E R)). In n (map number_of l)) (sym c.joined) x;
+    told = λ n x. inl (subst (Member n) c.split_off x);
+    stay = λ n x. subst (λ (l : List (Kept E R)). Member n (map number_of l)) (sym c.joined) x;
     mine = c.mine;
-    theirs = λ all k x. all k (subst (In k) c.joined x);
+    theirs = λ all k x. all k (subst (Member k) c.joined x);
   }
 
   -- a pass is split, both are carried on, and they are joined
@@ -50,23 +51,23 @@ module _ {T E R : Type 0} (P : List (Entry E R) → Type 0) where
     unfolding all
     joined_is = ap (λ (x : Hand E R). x.joined) hand
 
-    to : (n : List ℕ) → In n (map number_of all) → In n (map number_of u.hand.joined)
-    to n x = subst (λ (l : List (Kept E R)). In n (map number_of l)) (sym joined_is) x
+    to : (n : List ℕ) → Member n (map number_of all) → Member n (map number_of u.hand.joined)
+    to n x = subst (λ (l : List (Kept E R)). Member n (map number_of l)) (sym joined_is) x
 
-    ours : (n : List ℕ) → In n (map number_of w.hand.joined) → In n (map number_of u.hand.joined)
+    ours : (n : List ℕ) → Member n (map number_of w.hand.joined) → Member n (map number_of u.hand.joined)
     unfolding all
     ours n x = let m = from_map number_of n w.hand.joined x in
-        to n (subst (λ (z : List ℕ). In z (map number_of all)) m.2 (in_map number_of m.0 all (in_left m.0 w.hand.joined (kept r.hand.number r.hand.mine ∷ r.hand.joined) m.1)))
+        to n (subst (λ (z : List ℕ). Member z (map number_of all)) m.2 (in_map number_of m.0 all (in_left m.0 w.hand.joined (kept r.hand.number r.hand.mine ∷ r.hand.joined) m.1)))
 
-    theirs : (n : List ℕ) → In n (map number_of r.hand.joined) → In n (map number_of u.hand.joined)
+    theirs : (n : List ℕ) → Member n (map number_of r.hand.joined) → Member n (map number_of u.hand.joined)
     unfolding all
     theirs n x = let m = from_map number_of n r.hand.joined x in
-        to n (subst (λ (z : List ℕ). In z (map number_of all)) m.2 (in_map number_of m.0 all (in_right m.0 w.hand.joined (kept r.hand.number r.hand.mine ∷ r.hand.joined) (inr m.1))))
+        to n (subst (λ (z : List ℕ). Member z (map number_of all)) m.2 (in_map number_of m.0 all (in_right m.0 w.hand.joined (kept r.hand.number r.hand.mine ∷ r.hand.joined) (inr m.1))))
 
-    new : In (next_number v.hand) (map number_of u.hand.joined)
+    new : Member (next_number v.hand) (map number_of u.hand.joined)
     unfolding all
     new = to (next_number v.hand)
-        (subst (λ (z : List ℕ). In z (map number_of all)) h.number (in_map number_of (kept r.hand.number r.hand.mine) all (in_right (kept r.hand.number r.hand.mine) w.hand.joined (kept r.hand.number r.hand.mine ∷ r.hand.joined) (inl refl))))
+        (subst (λ (z : List ℕ). Member z (map number_of all)) h.number (in_map number_of (kept r.hand.number r.hand.mine) all (in_right (kept r.hand.number r.hand.mine) w.hand.joined (kept r.hand.number r.hand.mine ∷ r.hand.joined) (inl refl))))
 
     pub gathers_joined : Gathers P v u
     unfolding all
@@ -76,22 +77,22 @@ module _ {T E R : Type 0} (P : List (Entry E R) → Type 0) where
       number = ap (λ (x : Hand E R). x.number) hand ∙ g.number;
       told = λ n x. ⊎_elim
           (λ y. ⊎_elim
-          (λ z. ⊎_elim (λ (t : n ≡ next_number v.hand). inr (subst (λ (q : List ℕ). In q (map number_of u.hand.joined)) (sym t) new)) inl z)
+          (λ z. ⊎_elim (λ (t : n ≡ next_number v.hand). inr (subst (λ (q : List ℕ). Member q (map number_of u.hand.joined)) (sym t) new)) inl z)
           (λ z. inr (ours n z))
           (g.told n y))
           (λ y. ⊎_elim (λ z. absurd z) (λ z. inr (theirs n z)) (h.told n y))
-          (in_append n w.hand.split_off r.hand.split_off (subst (λ (x : Hand E R). In n x.split_off) hand x));
+          (in_append n w.hand.split_off r.hand.split_off (subst (λ (x : Hand E R). Member n x.split_off) hand x));
       stay = λ n x. ours n (g.stay n x);
       mine = λ p. subst (λ (x : Hand E R). P x.mine) (sym hand) (g.mine p);
       theirs = λ each k x. ⊎_elim
           (g.theirs each k)
           (λ y. ⊎_elim (λ (t : k ≡ kept r.hand.number r.hand.mine). subst (λ (z : Kept E R). P z.mine) (sym t) (h.mine none)) (h.theirs (λ i z. absurd z) k) y)
-          (in_append k w.hand.joined (kept r.hand.number r.hand.mine ∷ r.hand.joined) (subst (In k) joined_is x));
+          (in_append k w.hand.joined (kept r.hand.number r.hand.mine ∷ r.hand.joined) (subst (Member k) joined_is x));
     }
 
   -- where the first pass gathered all, the cell may be closed
   pub whole_gathered : (v w : View T E R) → v.hand ≡ first_hand → Gathers P v w → IsWhole w.hand
-  whole_gathered v w is g = (g.number ∙ ap (λ (x : Hand E R). x.number) is, λ n x. ⊎_elim (λ y. absurd (subst (λ (h : Hand E R). In n h.split_off) is y)) (λ y. y) (g.told n x))
+  whole_gathered v w is g = (g.number ∙ ap (λ (x : Hand E R). x.number) is, λ n x. ⊎_elim (λ y. absurd (subst (λ (h : Hand E R). Member n h.split_off) is y)) (λ y. y) (g.told n x))
 
 module _ {T S E R : Type 0} (state : T → S) (after : S → E → S) (reply : S → E → R) (P : List (Entry E R) → Type 0) where
   -- a question, or a call that was refused
@@ -109,10 +110,10 @@ module _ {T S E R : Type 0} (state : T → S) (after : S → E → S) (reply : S
 
 module _ {T S E R : Type 0} (state : T → S) (after : S → E → S) (reply : S → E → R) where
   -- each entry of the whole history is of the pass, or of one that was joined into it
-  pub closes_all : (v : View T E R) (o : T) (c : Closes state after reply v o) (e : Entry E R) → In e c.log → In e v.hand.mine ⊎ ((k : Kept E R) × In k v.hand.joined × In e k.mine)
+  pub closes_all : (v : View T E R) (o : T) (c : Closes state after reply v o) (e : Entry E R) → Member e c.log → Member e v.hand.mine ⊎ ((k : Kept E R) × Member k v.hand.joined × Member e k.mine)
   closes_all v o c e x = ⊎_elim
-      (λ t. inl (subst (In e) c.mine (in_entries c.log v.hand.number e (sym t) x)))
-      (λ t. let m = from_map number_of e.by v.hand.joined t in inr (m.0, m.1, subst (In e) (c.theirs m.0 m.1) (in_entries c.log m.0.number e m.2 x)))
+      (λ t. inl (subst (Member e) c.mine (in_entries c.log v.hand.number e (sym t) x)))
+      (λ t. let m = from_map number_of e.by v.hand.joined t in inr (m.0, m.1, subst (Member e) (c.theirs m.0 m.1) (in_entries c.log m.0.number e m.2 x)))
       (c.whose e x)
 
   -- What others put leads from the state that the pass had seen to the state of which it sees now

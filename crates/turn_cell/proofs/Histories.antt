@@ -2,8 +2,9 @@
 use Rattle.std.proofs.Common.{◌≡◌, ◌≢◌, ⊎_elim, inl, inr, ℕ, ◌≤◌, List, [], ◌∷◌, ◌++◌, length, Bool, true, false, refl, sym, ap, ◌∙◌, subst, arith, length-append, append-nil}
 use Rattle.std.specs.Prelude.{cond}
 use mathlib.Core.List.{append_assoc}
+use Rattle.base_types.specs.Lists.{Member}
 use Rattle.turn_cell.specs.declared.view.Entry.{Entry}
-use Rattle.turn_cell.specs.History.{In, same_number, entries_of, StartsWith, leaves, IsLegal}
+use Rattle.turn_cell.specs.History.{same_number, entries_of, StartsWith, leaves, IsLegal}
 use Rattle.turn_cell.proofs.Names.{same_is, same_else}
 
 module _ {E R : Type 0} where
@@ -76,13 +77,13 @@ module _ {E R : Type 0} where
       by_bool false ih = ih
 
   -- an entry of the history is one of its number's
-  pub in_entries : (log : List (Entry E R)) (n : List ℕ) (e : Entry E R) → n ≡ e.by → In e log → In e (entries_of n log)
+  pub in_entries : (log : List (Entry E R)) (n : List ℕ) (e : Entry E R) → n ≡ e.by → Member e log → Member e (entries_of n log)
   in_entries [] n e is h = h
   in_entries (x ∷ xs) n e is h = ⊎_elim
-      (λ (t : e ≡ x). subst (λ (b : Bool). In e (cond b (x ∷ entries_of n xs) (entries_of n xs))) (sym (same_is n x.by (is ∙ ap (λ (u : Entry E R). u.by) t))) (inl t))
-      (λ (t : In e xs). by_bool (same_number n x.by) (in_entries xs n e is t)) h
+      (λ (t : e ≡ x). subst (λ (b : Bool). Member e (cond b (x ∷ entries_of n xs) (entries_of n xs))) (sym (same_is n x.by (is ∙ ap (λ (u : Entry E R). u.by) t))) (inl t))
+      (λ (t : Member e xs). by_bool (same_number n x.by) (in_entries xs n e is t)) h
     where
-      by_bool : (s : Bool) → In e (entries_of n xs) → In e (cond s (x ∷ entries_of n xs) (entries_of n xs))
+      by_bool : (s : Bool) → Member e (entries_of n xs) → Member e (cond s (x ∷ entries_of n xs) (entries_of n xs))
       by_bool true i = inr i
       by_bool false i = i
 

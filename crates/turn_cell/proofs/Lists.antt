@@ -1,8 +1,8 @@
--- Elements of lists, by their places and by `In`.
+-- Members of lists, by their places and by `Member`.
 use Rattle.std.proofs.Common.{◌≡◌, ◌⊎◌, inl, inr, ⊎_elim, ℕ, zero, suc, ◌<◌, List, [], ◌∷◌, ◌++◌, map, length, refl, sym, ap, arith}
 use mathlib.Core.Option.{some, some-injective, some-ne-none}
 use lib.ListN.{get_elem?}
-use Rattle.turn_cell.specs.History.{In}
+use Rattle.base_types.specs.Lists.{Member}
 
 module _ {A : Type 0} where
   -- an element of a list with one more at its end
@@ -19,27 +19,27 @@ module _ {A : Type 0} where
   at_inside (x ∷ xs) (suc j) a e = let h = at_inside xs j a e in omega arith
 
   -- an element of the left part
-  pub in_left : (a : A) (xs ys : List A) → In a xs → In a (xs ++ ys)
+  pub in_left : (a : A) (xs ys : List A) → Member a xs → Member a (xs ++ ys)
   in_left a [] ys h = absurd h
   in_left a (x ∷ xs) ys h = ⊎_elim inl (λ t. inr (in_left a xs ys t)) h
 
   -- an element of the right part
-  pub in_right : (a : A) (xs ys : List A) → In a ys → In a (xs ++ ys)
+  pub in_right : (a : A) (xs ys : List A) → Member a ys → Member a (xs ++ ys)
   in_right a [] ys h = h
   in_right a (x ∷ xs) ys h = inr (in_right a xs ys h)
 
   -- an element of two lists in a row is one of either
-  pub in_append : (a : A) (xs ys : List A) → In a (xs ++ ys) → In a xs ⊎ In a ys
+  pub in_append : (a : A) (xs ys : List A) → Member a (xs ++ ys) → Member a xs ⊎ Member a ys
   in_append a [] ys h = inr h
   in_append a (x ∷ xs) ys h = ⊎_elim (λ t. inl (inl t)) (λ t. ⊎_elim (λ u. inl (inr u)) inr (in_append a xs ys t)) h
 
 module _ {A B : Type 0} where
   -- the image of an element
-  pub in_map : (f : A → B) (a : A) (xs : List A) → In a xs → In (f a) (map f xs)
+  pub in_map : (f : A → B) (a : A) (xs : List A) → Member a xs → Member (f a) (map f xs)
   in_map f a [] h = absurd h
   in_map f a (x ∷ xs) h = ⊎_elim (λ t. inl (ap f t)) (λ t. inr (in_map f a xs t)) h
 
   -- an element of the images is the image of one
-  pub from_map : (f : A → B) (b : B) (xs : List A) → In b (map f xs) → (a : A) × In a xs × (f a ≡ b)
+  pub from_map : (f : A → B) (b : B) (xs : List A) → Member b (map f xs) → (a : A) × Member a xs × (f a ≡ b)
   from_map f b [] h = absurd h
   from_map f b (x ∷ xs) h = ⊎_elim (λ t. (x, inl refl, sym t)) (λ t. let r = from_map f b xs t in (r.0, inr r.1, r.2)) h

@@ -7,10 +7,11 @@ use mathlib.Core.List.{append_assoc}
 use native.Mathlib.Decide.{ℕ_discrete}
 use lib.ListN.{get_elem?}
 use Rattle.atomic_table.proofs.Lists.{at_set, set_here, set_else, at_longer, at_last}
+use Rattle.base_types.specs.Lists.{Member}
 use Rattle.turn_cell.specs.declared.view.Entry.{Entry}
 use Rattle.turn_cell.specs.declared.view.Kept.{Kept}
 use Rattle.turn_cell.specs.declared.view.Hand.{Hand}
-use Rattle.turn_cell.specs.History.{In, entries_of}
+use Rattle.turn_cell.specs.History.{entries_of}
 use Rattle.turn_cell.specs.Hands.{number_of, kept, first_hand, spent_hand, next_number, splitter_hand, split_off_hand, joined_hand, adding, Deals, Keeps, KeptAt, ToldAt, IsNumbered}
 use Rattle.turn_cell.proofs.Lists.{at_push, at_inside, in_left, in_right, in_append, in_map, from_map}
 use Rattle.turn_cell.proofs.Names.{decide, last_cases, not_longer, goes_on, same_some, some_not_none}
@@ -30,7 +31,7 @@ Hands E R = List (Hand E R)
 module _ {E R : Type 0} where
   -- each seat's hand afterwards has what it had before
   Grows : Hands E R → Hands E R → Type 0
-  Grows hands now = (k : ℕ) (g : Hand E R) → get_elem? hands k ≡ some g → (f : Hand E R) × (get_elem? now k ≡ some f) × (g.live ≡ true → f.live ≡ true) × ((n : List ℕ) → Keeps n g → Keeps n f) × ((n : List ℕ) → In n g.split_off → In n f.split_off)
+  Grows hands now = (k : ℕ) (g : Hand E R) → get_elem? hands k ≡ some g → (f : Hand E R) × (get_elem? now k ≡ some f) × (g.live ≡ true → f.live ≡ true) × ((n : List ℕ) → Keeps n g → Keeps n f) × ((n : List ℕ) → Member n g.split_off → Member n f.split_off)
 
   -- a number that a seat kept it still keeps
   kept_later : (hands now : Hands E R) → Grows hands now → (n : List ℕ) (j : ℕ) → KeptAt hands n j → KeptAt now n j
@@ -43,11 +44,11 @@ module _ {E R : Type 0} where
   told_later hands now more n j k = let f = more j k.0 k.1 in (f.0, f.1, f.4 n k.2)
 
   -- one hand changed, and has what it had
-  grows_set : (hands : Hands E R) (j : ℕ) (h w : Hand E R) → get_elem? hands j ≡ some h → (h.live ≡ true → w.live ≡ true) → ((n : List ℕ) → Keeps n h → Keeps n w) → ((n : List ℕ) → In n h.split_off → In n w.split_off) → Grows hands (set hands j w)
+  grows_set : (hands : Hands E R) (j : ℕ) (h w : Hand E R) → get_elem? hands j ≡ some h → (h.live ≡ true → w.live ≡ true) → ((n : List ℕ) → Keeps n h → Keeps n w) → ((n : List ℕ) → Member n h.split_off → Member n w.split_off) → Grows hands (set hands j w)
   unfolding Grows
   grows_set hands j h w at live has told k g e = dite (ℕ_discrete k j)
       (λ is. let same : h ≡ g = some-injective h g (sym at ∙ (ap (get_elem? hands) (sym is) ∙ e)) in
-      (w, ap (get_elem? (set hands j w)) is ∙ set_here hands j w (at_inside hands j h at), (λ l. live (ap (λ (u : Hand E R). u.live) same ∙ l)), (λ n x. has n (subst (λ (u : Hand E R). Keeps n u) (sym same) x)), (λ n x. told n (subst (λ (u : Hand E R). In n u.split_off) (sym same) x))))
+      (w, ap (get_elem? (set hands j w)) is ∙ set_here hands j w (at_inside hands j h at), (λ l. live (ap (λ (u : Hand E R). u.live) same ∙ l)), (λ n x. has n (subst (λ (u : Hand E R). Keeps n u) (sym same) x)), (λ n x. told n (subst (λ (u : Hand E R). Member n u.split_off) (sym same) x))))
       (λ ne. (g, set_else hands j k w ne ∙ e, (λ l. l), (λ n x. x), (λ n x. x)))
 
   -- the first pass alone
@@ -276,12 +277,12 @@ module _ {E R : Type 0} where
           (at_set (set hands j B) o k spent_hand g x)
 
       in_both : (n : List ℕ) → Keeps n h → Keeps n B
-      in_both n x = ⊎_elim inl (λ t. let m = from_map number_of n h.joined t in inr (subst (λ (q : List ℕ). In q (map number_of B.joined)) m.2 (in_map number_of m.0 B.joined (in_left m.0 h.joined (kept i.number i.mine ∷ i.joined) m.1)))) x
+      in_both n x = ⊎_elim inl (λ t. let m = from_map number_of n h.joined t in inr (subst (λ (q : List ℕ). Member q (map number_of B.joined)) m.2 (in_map number_of m.0 B.joined (in_left m.0 h.joined (kept i.number i.mine ∷ i.joined) m.1)))) x
 
       in_other : (n : List ℕ) → Keeps n i → Keeps n B
       in_other n x = ⊎_elim
-          (λ t. inr (subst (λ (q : List ℕ). In q (map number_of B.joined)) (sym t) (in_map number_of (kept i.number i.mine) B.joined (in_right (kept i.number i.mine) h.joined (kept i.number i.mine ∷ i.joined) (inl refl)))))
-          (λ t. let m = from_map number_of n i.joined t in inr (subst (λ (q : List ℕ). In q (map number_of B.joined)) m.2 (in_map number_of m.0 B.joined (in_right m.0 h.joined (kept i.number i.mine ∷ i.joined) (inr m.1)))))
+          (λ t. inr (subst (λ (q : List ℕ). Member q (map number_of B.joined)) (sym t) (in_map number_of (kept i.number i.mine) B.joined (in_right (kept i.number i.mine) h.joined (kept i.number i.mine ∷ i.joined) (inl refl)))))
+          (λ t. let m = from_map number_of n i.joined t in inr (subst (λ (q : List ℕ). Member q (map number_of B.joined)) m.2 (in_map number_of m.0 B.joined (in_right m.0 h.joined (kept i.number i.mine ∷ i.joined) (inr m.1)))))
           x
 
       made : (n : List ℕ) (x : ℕ) → home n ≡ Some x → KeptAt now n x
@@ -296,8 +297,8 @@ module _ {E R : Type 0} where
       parent : (p : List ℕ) (k x : ℕ) → home (p ++ k ∷ []) ≡ Some x → (m : ℕ) × (home p ≡ Some m) × ToldAt now (p ++ k ∷ []) m
       parent p k x e = let y = came (p ++ k ∷ []) x e in let r = N.parent p k y.0 y.1 in let t = r.2 in dite (ℕ_discrete r.0 o)
           (λ is. let same : t.0 ≡ i = some-injective t.0 i (sym t.1 ∙ (ap (get_elem? hands) is ∙ at_o)) in
-          (j, home_o p (r.1 ∙ ap Some is), (B, now_j, in_right (p ++ k ∷ []) h.split_off i.split_off (subst (λ (u : Hand E R). In (p ++ k ∷ []) u.split_off) same t.2))))
+          (j, home_o p (r.1 ∙ ap Some is), (B, now_j, in_right (p ++ k ∷ []) h.split_off i.split_off (subst (λ (u : Hand E R). Member (p ++ k ∷ []) u.split_off) same t.2))))
           (λ ne. dite (ℕ_discrete r.0 j)
           (λ is. let same : t.0 ≡ h = some-injective t.0 h (sym t.1 ∙ (ap (get_elem? hands) is ∙ at)) in
-          (j, home_j p (r.1 ∙ ap Some is), (B, now_j, in_left (p ++ k ∷ []) h.split_off i.split_off (subst (λ (u : Hand E R). In (p ++ k ∷ []) u.split_off) same t.2))))
+          (j, home_j p (r.1 ∙ ap Some is), (B, now_j, in_left (p ++ k ∷ []) h.split_off i.split_off (subst (λ (u : Hand E R). Member (p ++ k ∷ []) u.split_off) same t.2))))
           (λ nj. (r.0, home_of p r.0 r.1 ∙ ap Some (to_else r.0 ne), (t.0, now_else r.0 nj ne ∙ t.1, t.2))))

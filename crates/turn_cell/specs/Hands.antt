@@ -3,10 +3,11 @@
 use Rattle.std.specs.Prelude.{◌⊎◌, ◌≡◌, ◌≢◌, ℕ, ◌+◌, ◌≤◌, List, [], ◌∷◌, ◌++◌, map, true, false, Option, None, Some}
 use mathlib.Core.Option.{some}
 use lib.ListN.{get_elem?}
+use Rattle.base_types.specs.Lists.{Member}
 use Rattle.turn_cell.specs.declared.view.Entry.{Entry}
 use Rattle.turn_cell.specs.declared.view.Kept.{Kept}
 use Rattle.turn_cell.specs.declared.view.Hand.{Hand}
-use Rattle.turn_cell.specs.History.{In, entries_of}
+use Rattle.turn_cell.specs.History.{entries_of}
 
 module _ {E R : Type 0} where
   -- the hand of the first pass
@@ -47,11 +48,11 @@ module _ {E R : Type 0} where
 
   -- the number is the hand's own, or of a pass that was joined into it
   abbrev pub Keeps : List ℕ → Hand E R → Type 0
-  Keeps n h = (n ≡ h.number) ⊎ In n (map number_of h.joined)
+  Keeps n h = (n ≡ h.number) ⊎ Member n (map number_of h.joined)
 
   -- the first pass, which knows of no pass that was split off and not joined back
   abbrev pub IsWhole : Hand E R → Type 0
-  IsWhole h = (h.number ≡ []) × ((n : List ℕ) → In n h.split_off → In n (map number_of h.joined))
+  IsWhole h = (h.number ≡ []) × ((n : List ℕ) → Member n h.split_off → Member n (map number_of h.joined))
 
   -- the seat j has a hand that keeps the number
   abbrev pub KeptAt : List (Hand E R) → List ℕ → ℕ → Type 0
@@ -59,7 +60,7 @@ module _ {E R : Type 0} where
 
   -- the seat j has a hand that knows of the split which made the number
   abbrev pub ToldAt : List (Hand E R) → List ℕ → ℕ → Type 0
-  ToldAt hands n j = (h : Hand E R) × (get_elem? hands j ≡ some h) × In n h.split_off
+  ToldAt hands n j = (h : Hand E R) × (get_elem? hands j ≡ some h) × Member n h.split_off
 
   -- What the rule says of the hand at the seat j. `home` gives the seat that keeps a number, where a pass with that number was made
   pub record Deals (log : List (Entry E R)) (home : List ℕ → Option ℕ) (j : ℕ) (h : Hand E R) : Type 0 where
@@ -69,7 +70,7 @@ module _ {E R : Type 0} where
     -- the numbers of passes that it will split off were not made yet, nor were theirs
     pub unmade : (i : ℕ) (rest : List ℕ) → h.splits ≤ i → home (h.number ++ i ∷ rest) ≡ None
     -- each number that was joined into it is kept here too, with all its entries
-    pub keeps : (k : Kept E R) → In k h.joined → (home k.number ≡ Some j) × (entries_of k.number log ≡ k.mine) × (k.number ≢ h.number)
+    pub keeps : (k : Kept E R) → Member k h.joined → (home k.number ≡ Some j) × (entries_of k.number log ≡ k.mine) × (k.number ≢ h.number)
 
   -- What the rule says of all hands: each number that was made is kept at one seat, with all its entries
   pub record IsNumbered (log : List (Entry E R)) (hands : List (Hand E R)) : Type 0 where

@@ -1,11 +1,6 @@
 -- One history of an object: when it is legal, the state that it leaves, and the entries of one pass.
-use Rattle.std.specs.Prelude.{◌⊎◌, ◌≡◌, ℕ, List, [], ◌∷◌, ◌++◌, Bool, true, false, cond, ◌==◌}
+use Rattle.std.specs.Prelude.{◌≡◌, ℕ, List, [], ◌∷◌, ◌++◌, Bool, true, false, cond, ◌==◌}
 use Rattle.turn_cell.specs.declared.view.Entry.{Entry}
-
--- a is an element of the list
-abbrev pub In : {A : Type 0} → A → List A → Type 0
-In a [] = ⊥
-In a (x ∷ xs) = (a ≡ x) ⊎ In a xs
 
 -- two passes have the same number
 abbrev pub same_number : List ℕ → List ℕ → Bool

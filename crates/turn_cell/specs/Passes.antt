@@ -2,12 +2,13 @@
 use Rattle.std.specs.Prelude.{◌⊎◌, ◌≡◌, List, [], ◌∷◌, ◌++◌, Bool, true, false}
 use Rattle.atomic_table.specs.Seated.{TableId}
 use Rattle.atomic_table.specs.declared.shared.Seat.{Seat}
+use Rattle.base_types.specs.Lists.{Member}
 use Rattle.turn_cell.specs.declared.view.Entry.{Entry}
 use Rattle.turn_cell.specs.declared.view.Kept.{Kept}
 use Rattle.turn_cell.specs.declared.view.Hand.{Hand}
 use Rattle.turn_cell.specs.declared.view.View.{View}
 use Rattle.turn_cell.specs.declared.place.Place.{Place}
-use Rattle.turn_cell.specs.History.{In, entries_of, StartsWith, entry, leaves, IsLegal}
+use Rattle.turn_cell.specs.History.{entries_of, StartsWith, entry, leaves, IsLegal}
 use Rattle.turn_cell.specs.Hands.{splitter_hand, split_off_hand, joined_hand, adding, Keeps}
 
 module _ {T E R : Type 0} where
@@ -92,5 +93,5 @@ module _ {T S E R : Type 0} (state : T → S) (after : S → E → S) (reply : S
     pub legal : IsLegal after reply (opening state v) log
     pub object : state closed ≡ leaves after reply (opening state v) log
     pub mine : entries_of v.hand.number log ≡ v.hand.mine
-    pub theirs : (k : Kept E R) → In k v.hand.joined → entries_of k.number log ≡ k.mine
-    pub whose : (e : Entry E R) → In e log → Keeps e.by v.hand
+    pub theirs : (k : Kept E R) → Member k v.hand.joined → entries_of k.number log ≡ k.mine
+    pub whose : (e : Entry E R) → Member e log → Keeps e.by v.hand

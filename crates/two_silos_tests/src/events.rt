@@ -1,3 +1,4 @@
+// Worlds of two participants, event by event, worked out by hand.
 use crate::openings::{PAYMENT, TWICE, account, openings, parts};
 use crate::plain_model::Move;
 use silo_nodes::NodeEntry;

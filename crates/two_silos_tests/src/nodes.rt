@@ -1,3 +1,4 @@
+// A coordinator and a participant by themselves, act by act, worked out by hand.
 ghost use Rattle.std.specs.Prelude.{IfOk};
 ghost use Rattle.silo_nodes.specs.Participants.{IsApart};
 

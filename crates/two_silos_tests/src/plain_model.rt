@@ -43,6 +43,7 @@ pub struct Plain {
 }
 
 impl Plain {
+    /// So many nodes, each grain of which has this balance.
     pub fn new(nodes: u8, opening: i64, alloc: Global) -> Plain {
         Plain {
             nodes,
@@ -58,14 +59,17 @@ impl Plain {
         }
     }
 
+    /// How many packets are under way.
     pub fn packets(&self) -> u64 {
         self.packets.len() as u64
     }
 
+    /// How many transactions wait for votes.
     pub fn pending(&self) -> u64 {
         self.waiting.len() as u64
     }
 
+    /// What committed, in its order.
     pub fn commits(&self) -> &[TxnId] {
         self.commits.as_slice()
     }
@@ -78,6 +82,7 @@ impl Plain {
         }
     }
 
+    /// A grain's balance by the commits that its node has heard of.
     pub fn balance(&self, node: u8, key: u32) -> i64 {
         let mut sum = self.opening;
         for one in self.moves.as_slice() {
@@ -103,6 +108,7 @@ impl Plain {
         at == log.len()
     }
 
+    /// The coordinator begins a transaction of these moves.
     pub fn start(&mut self, moves: &[Move]) -> Result<(), AllocError> {
         let txn = self.next();
         self.number = txn.number;
@@ -117,6 +123,7 @@ impl Plain {
         self.send_all(txn, 'p')
     }
 
+    /// The packet at this place arrives.
     pub fn deliver(&mut self, at: usize) -> Result<(), AllocError> {
         let Some(packet) = self.packets.get(at).copied() else {
             return Ok(());
@@ -133,6 +140,7 @@ impl Plain {
         self.vote(packet)
     }
 
+    /// The coordinator asks again for the votes that it waits for.
     pub fn nudge_coordinator(&mut self) -> Result<(), AllocError> {
         for at in 0..self.waiting.len() {
             if let Some(txn) = self.waiting.get(at).copied() {
@@ -142,6 +150,7 @@ impl Plain {
         Ok(())
     }
 
+    /// A node asks again for the decisions that it waits for.
     pub fn nudge(&mut self, node: u8) -> Result<(), AllocError> {
         for at in 0..self.lines.len() {
             if let Some(line) = self.lines.get(at).copied() {
@@ -151,6 +160,7 @@ impl Plain {
         Ok(())
     }
 
+    /// The coordinator begins anew, and knows what it has logged alone.
     pub fn restart_coordinator(&mut self) {
         self.epoch = self.epoch.wrapping_add(1);
         self.number = 0;

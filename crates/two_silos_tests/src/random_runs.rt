@@ -1,3 +1,4 @@
+// Random events of a world, beside the plain second implementation.
 ghost use Rattle.std.specs.Prelude.{◌<◌, ◌≤◌};
 
 use crate::openings::{account, openings, parts};

@@ -67,7 +67,8 @@ impl Agent {
     ) -> Result<Agent, AllocError>
         ensures carried { IfOk result (λ agent. agent.carried ≡ record { unit = unit; origin = origin; plain = plain }) }
         ensures children { IfOk result (λ agent. children_of agent.doing ≡ 0) }
-        ensures knows { IfOk result (λ agent. (s : Sight) → IfOwn agent.carried s (λ r. IsNew (program_tree checked.now) r agent.carried call) → Knows (program_tree checked.now) s agent) }
+        ensures knows { IfOk result (λ agent. (s : Sight) → IfOwn agent.carried s (λ r. IsNew (program_tree checked.now) r agent.carried call)
+            → Knows (program_tree checked.now) s agent) }
     {
         let asked = call.copy()?;
         let machine = Machine::start(alloc, checked, asked, origin.depth())?;
@@ -211,7 +212,8 @@ impl Agent {
         ensures kept { StaysFit (A.is_fit access.new) (A.aside access.old) (A.aside access.new) }
         ensures looked { Looks A.may_come (A.sight access.old) (A.sight access.new) }
         ensures sure { IsOk result }
-        ensures moves { IfOk result (λ b. (types : ProgramTree) → Counts (A.sight access.old) → Knows types (A.sight access.old) self.now → IfOwn self.now.carried (A.sight access.new) (λ r. ShowsMove types r self.now.carried self.now.doing b)) }
+        ensures moves { IfOk result (λ b. (types : ProgramTree) → Counts (A.sight access.old) → Knows types (A.sight access.old) self.now
+            → IfOwn self.now.carried (A.sight access.new) (λ r. ShowsMove types r self.now.carried self.now.doing b)) }
     {
         let moves = moves_now(access, self.carried, &self.doing)?;
         Ok(moves)
@@ -232,7 +234,8 @@ impl Agent {
 
         // What was put stands where memory was wanting too.
         ensures acts { Acts A.may_come (program_tree checked.now) self.old.carried.unit (A.sight access.old) (A.sight access.new) }
-        ensures told { IfOk result (λ advanced. AnswerSays A.may_come (program_tree checked.now) self.old.carried.unit (children_of self.old.doing) (A.sight access.old) (A.sight access.new) advanced) }
+        ensures told { IfOk result (λ advanced. AnswerSays A.may_come (program_tree checked.now) self.old.carried.unit (children_of self.old.doing)
+            (A.sight access.old) (A.sight access.new) advanced) }
         ensures knows { IfOk result (λ _. Knows (program_tree checked.now) (A.sight access.new) self.new) }
     {
         let doing = mem::replace(&mut self.doing, Doing::Stopped);

@@ -54,7 +54,8 @@ fn effect_of(
     requires over { is_over work.machine ≡ true }
     requires room { HasRoomForParts work.machine }
     requires sources { length work.sources ≡ length (reads_in work.machine) }
-    ensures effect { IfOk result (λ made. (types : ProgramTree) (trail : AList Given) → FollowsTrail types work.call (depth_of carried.origin) work.machine trail → IsEffectOf types carried work trail made.0) }
+    ensures effect { IfOk result (λ made. (types : ProgramTree) (trail : AList Given)
+        → FollowsTrail types work.call (depth_of carried.origin) work.machine trail → IsEffectOf types carried work trail made.0) }
     ensures held { IfOk result (λ made. made.1 ≡ work.held) }
 {
     let Work {
@@ -98,7 +99,8 @@ pub fn finish<A: Access>(
     requires kind { carried.plain ≡ false }
     ensures kept { StaysFit (A.is_fit access.new) (A.aside access.old) (A.aside access.new) }
     ensures acts { Acts A.may_come (program_tree checked.now) carried.unit (A.sight access.old) (A.sight access.new) }
-    ensures told { IfOk result (λ made. AnswerSays A.may_come (program_tree checked.now) carried.unit work.kids (A.sight access.old) (A.sight access.new) made.1) }
+    ensures told { IfOk result (λ made. AnswerSays A.may_come (program_tree checked.now) carried.unit work.kids (A.sight access.old)
+        (A.sight access.new) made.1) }
     ensures doing { IfOk result (λ made. KnowsDoing (program_tree checked.now) (A.sight access.new) carried made.0) }
 {
     let (effect, held) = effect_of(alloc, carried, work)?;
@@ -124,7 +126,8 @@ pub fn end_plain<A: Access>(
     requires kind { carried.plain ≡ true }
     ensures kept { StaysFit (A.is_fit access.new) (A.aside access.old) (A.aside access.new) }
     ensures acts { Acts A.may_come (program_tree checked.now) carried.unit (A.sight access.old) (A.sight access.new) }
-    ensures told { IfOk result (λ made. AnswerSays A.may_come (program_tree checked.now) carried.unit work.kids (A.sight access.old) (A.sight access.new) made.1) }
+    ensures told { IfOk result (λ made. AnswerSays A.may_come (program_tree checked.now) carried.unit work.kids (A.sight access.old)
+        (A.sight access.new) made.1) }
     ensures doing { IfOk result (λ made. KnowsDoing (program_tree checked.now) (A.sight access.new) carried made.0) }
 {
     let (effect, held) = effect_of(alloc, carried, work)?;

@@ -36,7 +36,8 @@ pub fn grant_first<A: Access>(
     requires free { ask_answer (ends (run_seen (A.sight access.old))) carried.unit grain mode ≡ IsFree }
     ensures kept { StaysFit (A.is_fit access.new) (A.aside access.old) (A.aside access.new) }
     ensures acts { Acts A.may_come (program_tree checked.now) carried.unit (A.sight access.old) (A.sight access.new) }
-    ensures told { IfOk result (λ made. AnswerSays A.may_come (program_tree checked.now) carried.unit work.kids (A.sight access.old) (A.sight access.new) made.1) }
+    ensures told { IfOk result (λ made. AnswerSays A.may_come (program_tree checked.now) carried.unit work.kids (A.sight access.old)
+        (A.sight access.new) made.1) }
     ensures doing { IfOk result (λ made. KnowsDoing (program_tree checked.now) (A.sight access.new) carried made.0) }
 {
     let granted = put_grant(access, carried.unit, grain, mode)?;
@@ -73,7 +74,8 @@ pub fn grant_again<A: Access>(
     requires free { ask_answer (ends (run_seen (A.sight access.old))) carried.unit grain mode ≡ IsFree }
     ensures kept { StaysFit (A.is_fit access.new) (A.aside access.old) (A.aside access.new) }
     ensures acts { Acts A.may_come (program_tree checked.now) carried.unit (A.sight access.old) (A.sight access.new) }
-    ensures told { IfOk result (λ made. AnswerSays A.may_come (program_tree checked.now) carried.unit work.kids (A.sight access.old) (A.sight access.new) made.1) }
+    ensures told { IfOk result (λ made. AnswerSays A.may_come (program_tree checked.now) carried.unit work.kids (A.sight access.old)
+        (A.sight access.new) made.1) }
     ensures doing { IfOk result (λ made. KnowsDoing (program_tree checked.now) (A.sight access.new) carried made.0) }
 {
     let granted = put_grant(access, carried.unit, grain, mode)?;

@@ -25,7 +25,8 @@ ghost use Rattle.txn_agent.specs.AgentStep.{Acts, GoesByEvent, AnswerSays, is_mo
 /// of it: so it can be carried. What makes no transaction is begun as a plain run.
 pub fn a_new_unit_can_be_carried()
     ensures began { (may : AnEvent → Bool) (s t : Sight) (e : AnEvent) (u : AUnit) → Tells may s e (Began u) t → BeganHere u t }
-    ensures new { (may : AnEvent → Bool) (types : ProgramTree) (s t : Sight) (c : AUnitAsBegun) (call : ACall) → Tells may s (Begin c.origin call c.plain) (Began c.unit) t
+    ensures new { (may : AnEvent → Bool) (types : ProgramTree) (s t : Sight) (c : AUnitAsBegun) (call : ACall)
+        → Tells may s (Begin c.origin call c.plain) (Began c.unit) t
         → Counts s → 0 < s.first.base → (c.plain ≡ true → IsTransaction types call → ⊥) → IfOwn c t (λ r. IsNew types r c call) }
 {}
 
@@ -33,17 +34,21 @@ pub fn a_new_unit_can_be_carried()
 /// settler's, and behind another unit's step.
 pub fn others_leave_an_agent()
     ensures looks { (may : AnEvent → Bool) (types : ProgramTree) (a : AnAgent) (s t : Sight) → Looks may s t → Counts s → Knows types s a → Knows types t a }
-    ensures tells { (may : AnEvent → Bool) (types : ProgramTree) (a : AnAgent) (s t : Sight) (e : AnEvent) (r : AReply) → Tells may s e r t → leaves_unit a.carried.unit e ≡ true
+    ensures tells { (may : AnEvent → Bool) (types : ProgramTree) (a : AnAgent) (s t : Sight) (e : AnEvent) (r : AReply) → Tells may s e r t
+        → leaves_unit a.carried.unit e ≡ true
         → Counts s → Knows types s a → Knows types t a }
-    ensures settles { (may : AnEvent → Bool) (types : ProgramTree) (a : AnAgent) (s t : Sight) (e : AnEvent) (r : AReply) → Tells may s e r t → is_settling e ≡ true
+    ensures settles { (may : AnEvent → Bool) (types : ProgramTree) (a : AnAgent) (s t : Sight) (e : AnEvent) (r : AReply) → Tells may s e r t
+        → is_settling e ≡ true
         → Counts s → Knows types s a → Knows types t a }
-    ensures steps { (may : AnEvent → Bool) (types : ProgramTree) (a : AnAgent) (other : AUnit) (s t : Sight) → Acts may types other s t → (a.carried.unit ≡ other → ⊥)
+    ensures steps { (may : AnEvent → Bool) (types : ProgramTree) (a : AnAgent) (other : AUnit) (s t : Sight) → Acts may types other s t
+        → (a.carried.unit ≡ other → ⊥)
         → Counts s → Knows types s a → Knows types t a }
 {}
 
 /// What an answer says is what a step does.
 pub fn answers_are_steps()
-    ensures { (may : AnEvent → Bool) (types : ProgramTree) (u : AUnit) (kids : ℕ) (s t : Sight) (a : AnAnswer) → AnswerSays may types u kids s t a → Acts may types u s t }
+    ensures { (may : AnEvent → Bool) (types : ProgramTree) (u : AUnit) (kids : ℕ) (s t : Sight) (a : AnAnswer) → AnswerSays may types u kids s t a
+        → Acts may types u s t }
 {}
 
 /// One's own entries are counted behind a step, and a unit that began by one of them did.
@@ -59,7 +64,8 @@ pub fn a_step_keeps_the_promise()
 
 /// Where nobody else puts events, a step keeps the unit rule of the core's run, and leaves one alone with each unit.
 pub fn a_step_alone_keeps_the_rule()
-    ensures rule { (b : Basis) (u : AUnit) (s t : Sight) → Acts none_comes b.types u s t → IsAlone (leaves_unit u) s → KeepsUnitRule b (run_seen s) → KeepsUnitRule b (run_seen t) }
+    ensures rule { (b : Basis) (u : AUnit) (s t : Sight) → Acts none_comes b.types u s t → IsAlone (leaves_unit u) s → KeepsUnitRule b (run_seen s)
+        → KeepsUnitRule b (run_seen t) }
     ensures alone { (types : ProgramTree) (u v : AUnit) (s t : Sight) → Acts none_comes types u s t → IsAlone (leaves_unit v) s → IsAlone (leaves_unit v) t }
 {}
 
@@ -67,10 +73,13 @@ pub fn a_step_alone_keeps_the_rule()
 /// memory, a step that says that it moved went on by an event of the unit that applies. It says so exactly where the unit can
 /// move by the turn rule; else it changed nothing.
 pub fn a_step_alone_goes_on()
-    ensures moves { (types : ProgramTree) (u : AUnit) (kids : ℕ) (s t : Sight) (a : AnAnswer) → AnswerSays none_comes types u kids s t a → IsAlone (leaves_unit u) s
-        → (run_seen s).kinds ≡ length types → (run_seen s).capacity ≡ None → IsGoing (ends (run_seen s)) → is_move a ≡ true → GoesByEvent u (run_seen s) (run_seen t) }
+    ensures moves { (types : ProgramTree) (u : AUnit) (kids : ℕ) (s t : Sight) (a : AnAnswer) → AnswerSays none_comes types u kids s t a
+        → IsAlone (leaves_unit u) s
+        → (run_seen s).kinds ≡ length types → (run_seen s).capacity ≡ None → IsGoing (ends (run_seen s)) → is_move a ≡ true
+        → GoesByEvent u (run_seen s) (run_seen t) }
     ensures tells { (b : Basis) (u : AUnit) (kids : ℕ) (s t : Sight) (a : AnAnswer) → AnswerSays none_comes b.types u kids s t a → IsAlone (leaves_unit u) s
         → (run_seen s).kinds ≡ length b.types → (run_seen s).capacity ≡ None → IsGoing (ends (run_seen s)) → 0 < (run_seen s).base
         → is_move a ≡ can_move b.types (ends (run_seen s)) (got_in (run_seen s)) u }
-    ensures waits { (types : ProgramTree) (u : AUnit) (kids : ℕ) (s t : Sight) (a : AnAnswer) → AnswerSays none_comes types u kids s t a → is_move a ≡ false → t ≡ s }
+    ensures waits { (types : ProgramTree) (u : AUnit) (kids : ℕ) (s t : Sight) (a : AnAnswer) → AnswerSays none_comes types u kids s t a
+        → is_move a ≡ false → t ≡ s }
 {}

@@ -58,7 +58,8 @@ fn do_asked<A: Access>(
     requires paused { KnowsPaused (program_tree checked.now) (A.sight access.old) carried work pause }
     ensures kept { StaysFit (A.is_fit access.new) (A.aside access.old) (A.aside access.new) }
     ensures acts { Acts A.may_come (program_tree checked.now) carried.unit (A.sight access.old) (A.sight access.new) }
-    ensures told { IfOk result (λ made. AnswerSays A.may_come (program_tree checked.now) carried.unit work.kids (A.sight access.old) (A.sight access.new) made.1) }
+    ensures told { IfOk result (λ made. AnswerSays A.may_come (program_tree checked.now) carried.unit work.kids (A.sight access.old)
+        (A.sight access.new) made.1) }
     ensures doing { IfOk result (λ made. KnowsDoing (program_tree checked.now) (A.sight access.new) carried made.0) }
 {
     match pause {
@@ -89,7 +90,8 @@ pub fn step<A: Access>(
     requires doing { KnowsDoing (program_tree checked.now) (A.sight access.old) carried doing }
     ensures kept { StaysFit (A.is_fit access.new) (A.aside access.old) (A.aside access.new) }
     ensures acts { Acts A.may_come (program_tree checked.now) carried.unit (A.sight access.old) (A.sight access.new) }
-    ensures told { IfOk result (λ made. AnswerSays A.may_come (program_tree checked.now) carried.unit (children_of doing) (A.sight access.old) (A.sight access.new) made.1) }
+    ensures told { IfOk result (λ made. AnswerSays A.may_come (program_tree checked.now) carried.unit (children_of doing) (A.sight access.old)
+        (A.sight access.new) made.1) }
     ensures doing { IfOk result (λ made. KnowsDoing (program_tree checked.now) (A.sight access.new) carried made.0) }
 {
     match hear_child(alloc, checked, access, carried, doing)? {
@@ -128,7 +130,8 @@ pub fn moves_now<A: Access>(
     ensures kept { StaysFit (A.is_fit access.new) (A.aside access.old) (A.aside access.new) }
     ensures looked { Looks A.may_come (A.sight access.old) (A.sight access.new) }
     ensures sure { IsOk result }
-    ensures moves { IfOk result (λ b. (types : ProgramTree) → Counts (A.sight access.old) → KnowsDoing types (A.sight access.old) carried doing.now → IfOwn carried (A.sight access.new) (λ r. ShowsMove types r carried doing.now b)) }
+    ensures moves { IfOk result (λ b. (types : ProgramTree) → Counts (A.sight access.old) → KnowsDoing types (A.sight access.old) carried doing.now
+        → IfOwn carried (A.sight access.new) (λ r. ShowsMove types r carried doing.now b)) }
 {
     match doing {
         Doing::Asks { pause, .. } => match pause {

@@ -6,6 +6,7 @@ use Rattle.base_types.specs.declared.calls.Call.{Call}
 use Rattle.base_types.specs.declared.calls.Origin.{Origin}
 use Rattle.base_types.specs.declared.calls.Origin.TheVariants.{Line as OfLine, Child}
 use Rattle.base_types.specs.declared.entries.BadRequest.{BadRequest}
+use Rattle.cell_model.specs.Units.{UnitsAscend}
 use Rattle.core_model.specs.CoreState.{UnitNo, Member, CoreState}
 use Rattle.core_model.specs.Changes.{swept}
 use Rattle.core_model.specs.Events.{applies, does, step}
@@ -20,7 +21,6 @@ use Rattle.core_access.specs.Sights.{Sight, Counts, IfAlone, Tells, run_seen, sa
 use Rattle.script_tree.specs.Programs.{ProgramTree}
 use Rattle.script_meaning.specs.Play.{IsTransaction}
 use Rattle.request_wire.specs.declared.requests.Line.{Line}
-use Rattle.turn_rules.specs.TurnLoop.{AreOlder}
 use Rattle.turn_rules.proofs.Growth.{ends-more}
 use Rattle.turn_rules.proofs.Numbers.{older-last}
 use Rattle.worker_rules.specs.UnitOwnership.{leaves_unit, BeganHere}
@@ -31,8 +31,9 @@ use Rattle.txn_agent.specs.declared.work.Carried.{Carried}
 use Rattle.txn_agent.specs.CoreLink.{IfOwn, IsNew, Knows}
 use Rattle.txn_agent.specs.AgentStep.{AnswerSays, Misses, Puts, children_of}
 use Rattle.txn_agent.proofs.StepPromises.{new-began, new-carried}
+use Rattle.txn_agent.specs.Replies.{began_by}
 use Rattle.unit_carrier.specs.CarriedUnits.{CarriesOneMore, units_carried}
-use Rattle.unit_carrier.specs.Lines.{CarriesBegun, PutsLine, StartsCall, StartsLine, began_by}
+use Rattle.unit_carrier.specs.Lines.{CarriesBegun, PutsLine, StartsCall, StartsLine}
 use Rattle.unit_carrier.proofs.LineUnit.{bad-none, began-is, plain-makes-none, puts-call}
 use Rattle.unit_carrier.proofs.CarriedUnits.{all-each}
 use Rattle.unit_carrier.proofs.Places.{all-last, carries-units}
@@ -127,7 +128,7 @@ module _ (types : ProgramTree) (may : CoreEvent → Bool) (s t : Sight) (origin 
     own = subst (AllByRecursion (IsOwnUnit t)) (sym k.list)
         (all-last (IsOwnUnit t) agents k.agent (all-each (IsOwnUnit s) (IsOwnUnit t) agents (λ a m x. c.began a.carried.unit x) c.own)
         (subst (λ (x : Carried). BeganHere x.unit t) (sym k.carried) (new-began may s t (Begin origin call plain) unit l)));
-    older = subst AreOlder (sym units) (older-last (units_carried agents) unit older c.older);
+    older = subst UnitsAscend (sym units) (older-last (units_carried agents) unit older c.older);
     rest = λ v b. subst (λ (us : List UnitNo). Member v us ⊎ IfAlone (leaves_unit v) t (λ r. IsThrough r v)) (sym units) (elim (now-begun v b) [
       | inl old ↦ elim (c.rest v old) [ inl m ↦ inl (member-left v (units_carried agents) (unit ∷ []) m) | inr x ↦ inr x ]
       | inr is ↦ inl (member-right v (units_carried agents) (unit ∷ []) (inl is))

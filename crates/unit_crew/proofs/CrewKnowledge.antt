@@ -4,6 +4,7 @@ use Rattle.std.specs.Prelude.{slice_get, slice_set}
 use Rattle.std.specs.List.{AllByRecursion}
 use Rattle.base_types.specs.declared.calls.Origin.TheVariants.{Line, Child}
 use Rattle.cell_model.proofs.Units.{same_unit-true}
+use Rattle.cell_model.specs.Units.{UnitsAscend}
 use Rattle.core_model.specs.CoreState.{UnitNo, Member, same_unit}
 use Rattle.core_model.specs.declared.events.CoreEvent.{CoreEvent}
 use Rattle.core_model.specs.declared.events.CoreEvent.TheVariants.{Bad, Begin, Grant, Refuse, Finish, EndPlain, EndSnapshot, Release, Take, Vote, Decide, Sealed, NotSealed, Doubt, Learn, Emitted, Halt, Want, Load}
@@ -19,7 +20,6 @@ use Rattle.promise_spec.specs.UnitRule.{Basis}
 use Rattle.turn_cell.specs.History.{entry}
 use Rattle.turn_cell.proofs.Lists.{in_append, in_left}
 use Rattle.turn_rules.specs.NextEvent.{is_own, with_event}
-use Rattle.turn_rules.specs.TurnLoop.{AreOlder}
 use Rattle.worker_rules.specs.UnitOwnership.{leaves_unit, BeganHere}
 use Rattle.worker_rules.specs.Work.{OnlyWorks, is_work}
 use Rattle.worker_rules.proofs.CallPromises.{is-harmless}
@@ -92,7 +92,7 @@ pub record IsCrewSo (types : ProgramTree) (s t : Sight) (agents : List Agent) : 
   pub began : (u : UnitNo) → BeganHere u s → BeganHere u t
   pub known : AllByRecursion (Knows types t) agents
   pub own : AllByRecursion (IsOwnUnit s) agents
-  pub older : AreOlder (units_carried agents)
+  pub older : UnitsAscend (units_carried agents)
   pub rest : (u : UnitNo) → BeganHere u s → Member u (units_carried agents) ⊎ IfAlone (leaves_unit u) t (λ r. IsThrough r u)
 
 -- where no unit began, that is all
@@ -217,7 +217,7 @@ module _ (types : ProgramTree) (may : CoreEvent → Bool) (s t : Sight) (agents 
           began = λ u b. acts-began may types old.carried.unit u s t acts b;
           known = steps-known types may s t c.counts agents i old new acts q knows c.older c.known;
           own = all-set (IsOwnUnit s) agents i new c.own (subst (λ (x : Carried). BeganHere x.unit s) (sym same) own-here);
-          older = subst AreOlder (sym units) c.older;
+          older = subst UnitsAscend (sym units) c.older;
           rest = λ u b. subst (λ (us : List UnitNo). Member u us ⊎ IfAlone (leaves_unit u) t (λ r. IsThrough r u)) (sym units)
               (elim (c.rest u b) [ inl m ↦ inl m | inr k ↦ rest-acts u acts k ]);
         }

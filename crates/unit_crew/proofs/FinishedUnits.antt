@@ -3,6 +3,7 @@ use Rattle.std.proofs.Common.{◌≡◌, ◌≤◌, ℕ, List, [], ◌∷◌, in
 use Rattle.std.specs.Prelude.{if◌then◌else◌}
 use Rattle.std.proofs.lemmas.Bool.{and_parts}
 use Rattle.base_types.specs.declared.calls.Origin.TheVariants.{Line as OfLine, Child}
+use Rattle.base_types.specs.Lists.{Member}
 use Rattle.core_model.specs.LockAnswers.{IsGoing}
 use Rattle.core_model.specs.CoreState.{UnitNo, CoreState}
 use Rattle.core_model.specs.Changes.{swept, swept_by}
@@ -15,7 +16,7 @@ use Rattle.core_access.specs.Histories.{Told, run_after}
 use Rattle.core_access.specs.Sights.{Sight, Counts, IfAlone, Looks, Tells, run_seen, saw}
 use Rattle.core_access.proofs.Entries.{run-on}
 use Rattle.core_access.proofs.Knowledge.{saw-knows, looks-knows, tells-knows}
-use Rattle.turn_cell.specs.History.{In, StartsWith}
+use Rattle.turn_cell.specs.History.{StartsWith}
 use Rattle.turn_rules.specs.NextEvent.{with_event}
 use Rattle.turn_rules.proofs.Growth.{ends-more}
 use Rattle.worker_rules.specs.UnitOwnership.{leaves_unit}
@@ -78,7 +79,7 @@ through-stays u s t n f number m w k =
 
 -- so all do
 pub all-stay : (s t : Sight) → Counts s → t.first ≡ s.first → t.number ≡ s.number → t.mine ≡ s.mine → StartsWith t.seen s.seen → AreThrough s → AreThrough t
-all-stay s t n f number m w all u b = through-stays u s t n f number m w (all u (b.0, subst (λ (l : List Told). In b.0 l) m b.1, b.2))
+all-stay s t n f number m w all u b = through-stays u s t n f number m w (all u (b.0, subst (λ (l : List Told). Member b.0 l) m b.1, b.2))
 
 -- it has no event left
 pub through-ended : (r : Run) (u : UnitNo) → IsThrough r u → HasNoEventLeft (ends r) u

@@ -1,12 +1,12 @@
 -- A worker that has put nothing, and what its call comes to.
 use Rattle.std.proofs.Common.{◌≡◌, ◌⊎◌, ◌+◌, ℕ, List, [], length, inl, inr, sym, ap, subst, arith, Bool, ◌<◌}
+use Rattle.base_types.specs.Lists.{Member}
 use Rattle.core_model.specs.declared.events.CoreEvent.{CoreEvent}
 use Rattle.core_access.specs.Histories.{Told}
 use Rattle.core_access.specs.Sights.{Sight, Counts, Looks}
 use Rattle.request_wire.specs.declared.requests.Line.{Line}
 use Rattle.script_tree.specs.Programs.{ProgramTree}
 use Rattle.promise_spec.specs.UnitRule.{Basis}
-use Rattle.turn_cell.specs.History.{In}
 use Rattle.turn_rules.specs.NextEvent.{MayCome}
 use Rattle.worker_rules.specs.UnitOwnership.{KeepsPromise}
 use Rattle.worker_rules.specs.SharedHistories.{Promised}
@@ -20,8 +20,8 @@ use Rattle.unit_crew.proofs.RoundEnds.{looks-all}
 use Rattle.unit_crew.proofs.Works.{showed-on, works-looks, works-on}
 
 -- nothing is an own entry
-none-in : {A : Type 0} (s : Sight) → s.mine ≡ [] → (x : Told) → In x s.mine → A
-none-in s e x i = absurd (subst (In x) e i)
+none-in : {A : Type 0} (s : Sight) → s.mine ≡ [] → (x : Told) → Member x s.mine → A
+none-in s e x i = absurd (subst (Member x) e i)
 
 -- nobody is carried
 pub crew-none : (types : ProgramTree) (s : Sight) → 0 < s.first.base → s.mine ≡ [] → IsCrew types s []

@@ -1,6 +1,7 @@
 -- What a worker knows of the units that it carries, and what its work leaves of its sight and of its promise.
 use Rattle.std.specs.Prelude.{◌≡◌, ◌⊎◌, ◌+◌, ◌<◌, ℕ, List, Some, slice_get}
 use Rattle.std.specs.List.{AllByRecursion}
+use Rattle.cell_model.specs.Units.{UnitsAscend}
 use Rattle.core_model.specs.CoreState.{UnitNo, Member}
 use Rattle.core_model.specs.LegalRuns.{ends}
 use Rattle.core_access.specs.Sights.{Sight, Counts, IfAlone, run_seen}
@@ -9,7 +10,6 @@ use Rattle.script_tree.specs.Programs.{ProgramTree}
 use Rattle.promise_spec.specs.Lines.{ReadsLineAs}
 use Rattle.promise_spec.specs.UnitRule.{Basis}
 use Rattle.turn_cell.specs.History.{StartsWith}
-use Rattle.turn_rules.specs.TurnLoop.{AreOlder}
 use Rattle.worker_rules.specs.UnitOwnership.{leaves_unit, BeganHere, KeepsPromise}
 use Rattle.worker_rules.specs.Work.{OnlyWorks}
 use Rattle.txn_agent.specs.declared.agent.Agent.{Agent}
@@ -55,5 +55,5 @@ pub record IsCrew (types : ProgramTree) (s : Sight) (agents : List Agent) : Type
   pub below : (u : UnitNo) → BeganHere u s → u.0 < (ends (run_seen s)).units.next
   pub known : AllByRecursion (Knows types s) agents
   pub own : AllByRecursion (IsOwnUnit s) agents
-  pub older : AreOlder (units_carried agents)
+  pub older : UnitsAscend (units_carried agents)
   pub rest : (u : UnitNo) → BeganHere u s → Member u (units_carried agents) ⊎ IfAlone (leaves_unit u) s (λ r. IsThrough r u)

@@ -13,7 +13,8 @@ ghost use Rattle.unit_crew.specs.FinishedUnits.{AreThrough, HasLetGo, IsThrough}
 pub fn what_is_through_stays()
     ensures stays { (u : AUnit) (s t : Sight) → Counts s → t.first ≡ s.first → t.number ≡ s.number → t.mine ≡ s.mine → StartsWith t.seen s.seen
         → IfAlone (leaves_unit u) s (λ r. IsThrough r u) → IfAlone (leaves_unit u) t (λ r. IsThrough r u) }
-    ensures all_stay { (s t : Sight) → Counts s → t.first ≡ s.first → t.number ≡ s.number → t.mine ≡ s.mine → StartsWith t.seen s.seen → AreThrough s → AreThrough t }
+    ensures all_stay { (s t : Sight) → Counts s → t.first ≡ s.first → t.number ≡ s.number → t.mine ≡ s.mine → StartsWith t.seen s.seen → AreThrough s
+        → AreThrough t }
     ensures ended { (r : Run) (u : AUnit) → IsThrough r u → HasNoEventLeft (ends r) u }
     ensures freed { (r : Run) (u : AUnit) → IsThrough r u → IsGoing (ends r) → HasLetGo r u }
 {}

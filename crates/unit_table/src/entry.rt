@@ -141,7 +141,10 @@ impl RunningUnit {
     pub fn add_read(&mut self, read: Read, depends: bool)
         requires reads { vec_len self.old.reads < vec_capacity self.old.reads }
         requires deps { 0 < self.old.deps.spare }
-        ensures { known_running self.new ≡ record (known_running self.old) { reads = (known_running self.old).reads ++ read ∷ []; deps = deps_after depends (known_running self.old).deps read.source } }
+        ensures { known_running self.new ≡ record (known_running self.old) {
+          reads = (known_running self.old).reads ++ read ∷ [];
+          deps = deps_after depends (known_running self.old).deps read.source;
+        } }
     {
         self.add_source(read.source, depends);
         let done = self.reads.push(read);
@@ -361,7 +364,10 @@ impl UnitEntry {
     /// A running unit has read a grain, in room that was made. Takes no memory.
     pub fn add_read(&mut self, read: Read, depends: bool)
         requires { HasReadRoom self.old }
-        ensures { known_entry self.new ≡ record (known_entry self.old) { reads = (known_entry self.old).reads ++ read ∷ []; deps = deps_after depends (known_entry self.old).deps read.source } }
+        ensures { known_entry self.new ≡ record (known_entry self.old) {
+          reads = (known_entry self.old).reads ++ read ∷ [];
+          deps = deps_after depends (known_entry self.old).deps read.source;
+        } }
     {
         match self {
             UnitEntry::Running(unit) => unit.add_read(read, depends),

@@ -1,3 +1,4 @@
+// Which results are let go.
 ghost use Rattle.std.specs.Prelude.{◌≡◌};
 ghost use Rattle.unit_table.specs.Rooms.{SameUnits};
 ghost use Rattle.unit_table.specs.Table.{next_in};

@@ -1,3 +1,4 @@
+// What is known of a unit, and where it stands in the table.
 ghost use Rattle.std.specs.Prelude.{◌≡◌, ◌&&◌, not, is_some, true, false, MatchOption, IfSome, IfOk};
 ghost use Rattle.std.specs.Option.{option_copied};
 ghost use Rattle.core_model.specs.Tests.{is_running, is_over};

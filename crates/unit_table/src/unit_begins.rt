@@ -1,3 +1,4 @@
+// How a unit comes into the table.
 ghost use Rattle.std.specs.Prelude.{◌≡◌, ◌<◌, ◌≤◌, ◌+◌, ◌^◌, ◌∷◌, ◌++◌, [], ℕ, true, Option, nat_lt, OnOk, IsErrOf};
 ghost use Rattle.std.specs.VecDeque.{deque_len, deque_capacity};
 ghost use Rattle.base_types.specs.declared.calls.UnitNo.{UnitNo};
@@ -123,7 +124,8 @@ impl UnitTable {
     // One more child of a running unit, in room that was made.
     fn add_kid(&mut self, parent: UnitNo, unit: UnitNo)
         requires { KidRoomAt (entry_in self.old parent) }
-        ensures known { known_in self.new ≡ put (known_in self.old) parent (record (known_in self.old parent) { kids = (known_in self.old parent).kids ++ unit ∷ [] }) }
+        ensures known { known_in self.new ≡ put (known_in self.old) parent
+            (record (known_in self.old parent) { kids = (known_in self.old parent).kids ++ unit ∷ [] }) }
         ensures lines { self.new.lines ≡ self.old.lines }
         ensures room { SameRoom self.old self.new }
         ensures rest { SameRest self.old self.new }

@@ -1,3 +1,4 @@
+// How a unit ends.
 ghost use Rattle.std.specs.Prelude.{◌≡◌, ℕ, true, Option};
 ghost use Rattle.base_types.specs.declared.calls.UnitNo.{UnitNo};
 ghost use Rattle.core_model.specs.declared.phases.Phase.TheVariants as phases;
@@ -88,7 +89,8 @@ impl UnitTable {
     fn close(&mut self, unit: UnitNo, ending: Ending, verdict: Verdict, outcome: Outcome) -> DepSet
         requires { is_running (phase_in self.old unit) ≡ true }
         ensures deps { result.sources ≡ deps_in self.old unit }
-        ensures known { known_in self.new ≡ put (known_in self.old) unit (record (known_in self.old unit) { phase = phase_at ending; verdict = verdict; result = outcome }) }
+        ensures known { known_in self.new ≡ put (known_in self.old) unit
+            (record (known_in self.old unit) { phase = phase_at ending; verdict = verdict; result = outcome }) }
         ensures wants { wants_in self.new ≡ without_wants unit (wants_in self.old) }
         ensures lines { self.new.lines ≡ self.old.lines }
         ensures next { next_in self.new ≡ next_in self.old }

@@ -1,3 +1,4 @@
+// What a unit read.
 ghost use Rattle.std.specs.Prelude.{◌≡◌, ℕ, true, Option, OnOk};
 ghost use Rattle.base_types.specs.declared.calls.UnitNo.{UnitNo};
 ghost use Rattle.core_model.specs.Tests.{is_running};

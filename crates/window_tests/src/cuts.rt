@@ -1,3 +1,4 @@
+// Inputs that are cut into windows, a byte at a time and as much as there is.
 use host_memory::{CallKind, MemoryHost};
 use host_trait::Channel;
 use input_windows::{InputWindows, WindowFault};

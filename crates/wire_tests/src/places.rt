@@ -1,3 +1,4 @@
+// Lines by their numbers, and the places where reading goes on.
 use crate::programs::{COUNTER, program_of};
 use base_types::{BadRequest, List};
 use request_wire::Line;

@@ -1,3 +1,4 @@
+// Reply lines, byte by byte.
 use base_types::{
     BadRequest, Entry, GrainId, List, Outcome, Settled, Shape, State, Text, TypeShape, UnitNo,
     Value,

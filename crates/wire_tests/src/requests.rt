@@ -1,3 +1,4 @@
+// Request lines, and the test that each fails.
 use crate::programs::{BANK, COUNTER, program_of};
 use base_types::{BadRequest, Call, GrainId, Value};
 use request_wire::{RequestFault, first_line, read_request};

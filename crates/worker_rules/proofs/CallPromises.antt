@@ -1,13 +1,14 @@
 -- Calls of an access, and a promise of the own entries.
 use Rattle.std.proofs.Common.{◌≡◌, ◌⊎◌, ⊎_elim, inl, inr, List, [], ◌∷◌, ◌++◌, Bool, true, false, true≢false, refl, sym, ap, ◌∙◌, subst}
 use Rattle.std.specs.Prelude.{not}
+use Rattle.base_types.specs.Lists.{Member}
 use Rattle.core_model.specs.CoreState.{UnitNo}
 use Rattle.core_model.specs.declared.events.CoreEvent.{CoreEvent}
 use Rattle.core_model.specs.declared.events.CoreEvent.TheVariants.{Bad, Begin, Grant, Refuse, Finish, EndPlain, EndSnapshot, Release, Take, Vote, Decide, Sealed, NotSealed, Doubt, Learn, Emitted, Halt, Want, Load}
 use Rattle.core_model.specs.declared.events.CoreReply.{CoreReply}
 use Rattle.core_model.specs.declared.events.CoreReply.TheVariants.{Began}
 use Rattle.core_model.specs.LegalRuns.{Run}
-use Rattle.turn_cell.specs.History.{In, entries_of, entry}
+use Rattle.turn_cell.specs.History.{entries_of, entry}
 use Rattle.turn_cell.proofs.Lists.{in_left, in_append}
 use Rattle.core_access.specs.Sights.{Sight, run_seen, saw, Looks, Tells, IsAlone}
 use Rattle.core_access.specs.SettlerEvents.{is_settling}
@@ -42,7 +43,7 @@ quiet-alone u s quiet is = record {
   own = is;
 }
   where
-    by : (x : Told) → In x s.seen → (o : Bool) → is_own u x.event ≡ o → (x.by ≡ s.number) ⊎ (leaves_unit u x.event ≡ true)
+    by : (x : Told) → Member x s.seen → (o : Bool) → is_own u x.event ≡ o → (x.by ≡ s.number) ⊎ (leaves_unit u x.event ≡ true)
     by x i true o = inl (quiet x i o)
     by x i false o = inr (is-harmless u x.event o)
 
@@ -53,7 +54,7 @@ pub looks-promise : (b : Basis) (may : CoreEvent → Bool) (s t : Sight) → Loo
 looks-promise b may s t l p = subst (KeepsPromise b) (sym l.sight) (promise-sees (MayCome b) s.first s.number s.seen l.rest s.mine p)
 
 -- one entry more is of units that began before it
-owns-more : (mine : List Told) (x : Told) → OwnsUnits mine → ((u : UnitNo) → is_own u x.event ≡ true → (b : Told) × In b mine × (b.reply ≡ Began u)) → OwnsUnits (mine ++ (x ∷ []))
+owns-more : (mine : List Told) (x : Told) → OwnsUnits mine → ((u : UnitNo) → is_own u x.event ≡ true → (b : Told) × Member b mine × (b.reply ≡ Began u)) → OwnsUnits (mine ++ (x ∷ []))
 owns-more mine x owns new e u i own = ⊎_elim
     (λ j. (let b = owns e u j own in (b.0, in_left b.0 mine (x ∷ []) b.1, b.2)))
     (λ j. ⊎_elim (λ (t : e ≡ x). let b = new u (subst (λ (z : Told). is_own u z.event ≡ true) t own) in (b.0, in_left b.0 mine (x ∷ []) b.1, b.2)) (λ k. absurd k) j)

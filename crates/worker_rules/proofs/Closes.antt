@@ -1,6 +1,7 @@
 -- What follows of a closed core.
 use Rattle.std.proofs.Common.{◌≡◌, ◌⊎◌, inl, inr, ⊎_elim, ℕ, ◌≤◌, ◌<◌, List, [], ◌∷◌, true, false, refl, sym, ap, ◌∙◌, subst, arith}
 use Rattle.std.proofs.lemmas.Bool.{cases_Bool}
+use Rattle.base_types.specs.Lists.{Member}
 use Rattle.core_model.specs.LockAnswers.{IsGoing}
 use Rattle.core_model.specs.CoreState.{UnitNo}
 use Rattle.core_model.specs.declared.events.CoreEvent.TheVariants.{Halt}
@@ -11,7 +12,7 @@ use Rattle.core_model.specs.Tests.{is_over, is_free}
 use Rattle.core_laws.proofs.BatchPrefix.{unfree-holds}
 use Rattle.promise_spec.specs.Cores.{HasBegun}
 use Rattle.promise_spec.specs.UnitRule.{Basis, KeepsUnitRule}
-use Rattle.turn_cell.specs.History.{In, entries_of}
+use Rattle.turn_cell.specs.History.{entries_of}
 use Rattle.turn_cell.proofs.Histories.{in_entries}
 use Rattle.turn_rules.specs.NextEvent.{is_begin, is_own, MayCome}
 use Rattle.turn_rules.specs.QuietRun.{IsQuiet}
@@ -50,7 +51,7 @@ module _ (b : Basis) (first : Run) (log : List Told) where
   keeps-of n k = record { seen = k.shown; begins = k.begins; promise = k.holds }
 
   -- each pass keeps its promise
-  pub all-promise : (own : Knew (KeepsPromise b) first [] log (entries_of [] log)) → ((x : Told) → In x log → (x.by ≡ []) ⊎ Knew (KeepsPromise b) first x.by log (entries_of x.by log))
+  pub all-promise : (own : Knew (KeepsPromise b) first [] log (entries_of [] log)) → ((x : Told) → Member x log → (x.by ≡ []) ⊎ Knew (KeepsPromise b) first x.by log (entries_of x.by log))
       → AllPromise (MayCome b) first log
   all-promise own theirs x i = (
     entries_of x.by log,
@@ -135,19 +136,19 @@ module _ (b : Basis) (first last : Run) (c : IsClosed (λ s. SettlesOrStops s.mi
   story = closed-story b first last promises above rule
 
   -- no event is of a unit that began before
-  old-others : (u : UnitNo) → HasBegun (ends first) u → (x : Told) → In x c.log → is_own u x.event ≡ false
+  old-others : (u : UnitNo) → HasBegun (ends first) u → (x : Told) → Member x c.log → is_own u x.event ≡ false
   old-others u born x i = elim (cases_Bool (is_own u x.event)) [
     | inr o ↦ o
     | inl o ↦ (
         let p = all x i in
-        let y = p.2.promise.owns x u (subst (In x) p.1 (in_entries c.log x.by x refl i)) o in
-        let there = of-log x.by c.log y.0 (subst (In y.0) (sym p.1) y.1) in
+        let y = p.2.promise.owns x u (subst (Member x) p.1 (in_entries c.log x.by x refl i)) o in
+        let there = of-log x.by c.log y.0 (subst (Member y.0) (sym p.1) y.1) in
         let high = began-above c.log first y.0 u c.legal there.0 y.2 in
         absurd (born ((loadless-ends first above).0.unborn u high)))
   ]
 
   -- the one who settles begins none
-  settler-begins : (u : UnitNo) (x : Told) → In x c.log → x.by ≡ [] → x.reply ≡ Began u → ⊥
+  settler-begins : (u : UnitNo) (x : Told) → Member x c.log → x.by ≡ [] → x.reply ≡ Began u → ⊥
   settler-begins u x i is q =
       let there = reply-there c.log first x c.legal i in
       ⊎_elim
@@ -156,11 +157,11 @@ module _ (b : Basis) (first last : Run) (c : IsClosed (λ s. SettlesOrStops s.mi
       (c.own.holds.0 x (in_entries c.log [] x (sym is) i))
 
   -- a unit that a worker began is done
-  worker-done : (u : UnitNo) (x : Told) → In x c.log → x.reply ≡ Began u → Knew (λ s. KeepsPromise b s × AreOverAndFree s) first x.by c.log (entries_of x.by c.log) → IsOverAndFree u (run_after first c.log)
+  worker-done : (u : UnitNo) (x : Told) → Member x c.log → x.reply ≡ Began u → Knew (λ s. KeepsPromise b s × AreOverAndFree s) first x.by c.log (entries_of x.by c.log) → IsOverAndFree u (run_after first c.log)
   worker-done u x i q k =
       let mine : List Told = entries_of x.by c.log in
       let s : Sight = sight_by first x.by k.shown mine in
-      let here : In x mine = in_entries c.log x.by x refl i in
+      let here : Member x mine = in_entries c.log x.by x refl i in
       let whole : IsAlone (leaves_unit u) (sight_by first x.by c.log mine) = alone-with (MayCome b) first c.log c.legal all x.by mine u refl x here q in
       let there : IsAlone (leaves_unit u) (saw (sight_by first x.by k.shown mine) k.begins.0) = subst (λ (l : List Told). IsAlone (leaves_unit u) (sight_by first x.by l mine)) k.begins.1 whole in
       let now : IsOverAndFree u (run_after first k.shown) = k.holds.1 u (x, here, q) (saw-before (leaves_unit u) (sight_by first x.by k.shown mine) k.begins.0 k.holds.0.some there) in
@@ -198,8 +199,8 @@ closed-same first last c = c.left ∙ ap (run_after first) (none c.log refl)
     none : (l : List Told) → c.log ≡ l → l ≡ []
     none [] q = refl
     none (x ∷ l) q =
-        let i : In x c.log = subst (In x) (sym q) (inl refl) in
+        let i : Member x c.log = subst (Member x) (sym q) (inl refl) in
         absurd (⊎_elim
-        (λ t. subst (In x) c.own.holds (in_entries c.log [] x (sym t) i))
-        (λ k. subst (In x) k.holds (in_entries c.log x.by x refl i))
+        (λ t. subst (Member x) c.own.holds (in_entries c.log [] x (sym t) i))
+        (λ k. subst (Member x) k.holds (in_entries c.log x.by x refl i))
         (c.theirs x i))

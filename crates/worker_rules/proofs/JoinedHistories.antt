@@ -2,6 +2,7 @@
 -- who is done stays done.
 use Rattle.std.proofs.Common.{◌≡◌, ◌⊎◌, inl, inr, ⊎_elim, ℕ, ◌≤◌, ◌<◌, List, [], ◌∷◌, ◌++◌, Bool, true, false, true≢false, refl, sym, ap, ◌∙◌, subst, arith}
 use Rattle.std.proofs.lemmas.Bool.{cases_Bool, cases_lt, cond-true, cond-false}
+use Rattle.base_types.specs.Lists.{Member}
 use Rattle.core_model.specs.CoreState.{UnitNo, Call, Origin, CoreState}
 use Rattle.core_model.specs.Changes.{swept}
 use Rattle.core_model.specs.Tests.{is_over}
@@ -13,7 +14,6 @@ use Rattle.core_model.specs.LegalRuns.{Run, ends}
 use Rattle.promise_spec.specs.Cores.{HasBegun}
 use Rattle.promise_spec.specs.UnitAnswers.{got_in}
 use Rattle.promise_spec.specs.UnitRule.{Basis, KeepsUnitRule}
-use Rattle.turn_cell.specs.History.{In}
 use Rattle.turn_rules.specs.NextEvent.{with_event, is_begin, is_own, MayCome}
 use Rattle.turn_rules.specs.RunCounts.{IsCounted}
 use Rattle.turn_rules.specs.UnitFrame.{IsStill}
@@ -103,7 +103,7 @@ begun-event r e u above born = elim (cases_lt u.0 (ends r).units.next) [
 
 -- so a unit that has begun behind a history had begun before it, or began by one of its entries
 pub begun-after : (b : Basis) (log : List Told) (r : Run) (u : UnitNo) → Story b r log → HasBegun (ends (run_after r log)) u
-    → HasBegun (ends r) u ⊎ ((x : Told) × In x log × (x.reply ≡ Began u))
+    → HasBegun (ends r) u ⊎ ((x : Told) × Member x log × (x.reply ≡ Began u))
 begun-after b [] r u s born = inl born
 begun-after b (x ∷ log) r u s born =
     let t = story-tail b r x log s in
@@ -116,11 +116,11 @@ begun-after b (x ∷ log) r u s born =
     ]
 
 -- the reply of an entry is that of some state to its event
-pub reply-there : (log : List Told) (r : Run) (x : Told) → IsTrue r log → In x log → (w : CoreState) × (x.reply ≡ reply_to w x.event)
+pub reply-there : (log : List Told) (r : Run) (x : Told) → IsTrue r log → Member x log → (w : CoreState) × (x.reply ≡ reply_to w x.event)
 reply-there [] r x legal i = absurd i
 reply-there (y ∷ log) r x legal i = ⊎_elim
     (λ (t : x ≡ y). (ends r, subst (λ (z : Told). z.reply ≡ reply_to (ends r) z.event) (sym t) legal.0))
-    (λ (t : In x log). reply-there log (with_event r y.event) x legal.1 t)
+    (λ (t : Member x log). reply-there log (with_event r y.event) x legal.1 t)
     i
 
 -- no unit begins by what isn't a begin
@@ -145,7 +145,7 @@ done-event b r x log u s other done going =
     )
 
 -- one is so behind a history without events of the unit
-pub done-after : (b : Basis) (log : List Told) (r : Run) (u : UnitNo) → Story b r log → ((x : Told) → In x log → is_own u x.event ≡ false) → IsOverAndFree u r → IsOverAndFree u (run_after r log)
+pub done-after : (b : Basis) (log : List Told) (r : Run) (u : UnitNo) → Story b r log → ((x : Told) → Member x log → is_own u x.event ≡ false) → IsOverAndFree u r → IsOverAndFree u (run_after r log)
 done-after b [] r u s others done = done
 done-after b (x ∷ log) r u s others done =
     done-after b log (with_event r x.event) u (story-tail b r x log s) (λ y i. others y (inr i)) (done-event b r x log u s (others x (inl refl)) done)

@@ -1,5 +1,6 @@
 -- Passes are split and joined, and the cell is closed: what was known of each stays known.
 use Rattle.std.proofs.Common.{◌≡◌, inl, inr, ⊎_elim, ℕ, List, [], ◌∷◌, ◌++◌, map, refl, sym, ap, ◌∙◌, subst}
+use Rattle.base_types.specs.Lists.{Member}
 use Rattle.core_model.specs.declared.events.CoreEvent.{CoreEvent}
 use Rattle.core_model.specs.declared.events.CoreReply.{CoreReply}
 use Rattle.core_model.specs.Laws.{extended}
@@ -7,7 +8,7 @@ use Rattle.core_model.specs.LegalRuns.{Run}
 use Rattle.turn_cell.specs.declared.view.Kept.{Kept}
 use Rattle.turn_cell.specs.declared.view.Hand.{Hand}
 use Rattle.turn_cell.specs.declared.view.View.{View}
-use Rattle.turn_cell.specs.History.{In, StartsWith, entries_of}
+use Rattle.turn_cell.specs.History.{StartsWith, entries_of}
 use Rattle.turn_cell.specs.Hands.{number_of, kept, next_number, first_hand, IsWhole}
 use Rattle.turn_cell.specs.Passes.{splitter_view, split_off_view, Joins, Closes}
 use Rattle.turn_cell.proofs.Lists.{in_append, in_left, in_right, in_map, from_map}
@@ -40,15 +41,15 @@ module _ {T : Type 0} (state : T → Run) where
     first = c.first;
     seen = c.seen;
     number = c.number;
-    told = λ n x. inl (subst (In n) c.split_off x);
-    stay = λ n x. subst (λ (l : List (Kept CoreEvent CoreReply)). In n (map number_of l)) (sym c.joined) x;
+    told = λ n x. inl (subst (Member n) c.split_off x);
+    stay = λ n x. subst (λ (l : List (Kept CoreEvent CoreReply)). Member n (map number_of l)) (sym c.joined) x;
     own = record {
       shown = w.seen;
       begins = starts_self w.seen;
       holds = subst (λ (n : List ℕ). Own (sight_by (state v.first) n w.seen w.hand.mine)) c.number
           (subst (λ (o : Run). Own (sight_by o w.hand.number w.seen w.hand.mine)) c.first c.holds);
     };
-    theirs = λ k x. inl (subst (In k) c.joined x);
+    theirs = λ k x. inl (subst (Member k) c.joined x);
   }
 
   -- less is known
@@ -74,18 +75,18 @@ module _ {T : Type 0} (state : T → Run) where
     unfolding all
     joined_is = ap (λ (x : Hand CoreEvent CoreReply). x.joined) j.hand
 
-    to : (n : List ℕ) → In n (map number_of all) → In n (map number_of u.hand.joined)
-    to n x = subst (λ (l : List (Kept CoreEvent CoreReply)). In n (map number_of l)) (sym joined_is) x
+    to : (n : List ℕ) → Member n (map number_of all) → Member n (map number_of u.hand.joined)
+    to n x = subst (λ (l : List (Kept CoreEvent CoreReply)). Member n (map number_of l)) (sym joined_is) x
 
-    ours : (n : List ℕ) → In n (map number_of w.hand.joined) → In n (map number_of u.hand.joined)
+    ours : (n : List ℕ) → Member n (map number_of w.hand.joined) → Member n (map number_of u.hand.joined)
     unfolding all
     ours n x = let m = from_map number_of n w.hand.joined x in
-        to n (subst (λ (z : List ℕ). In z (map number_of all)) m.2 (in_map number_of m.0 all (in_left m.0 w.hand.joined (kept r.hand.number r.hand.mine ∷ r.hand.joined) m.1)))
+        to n (subst (λ (z : List ℕ). Member z (map number_of all)) m.2 (in_map number_of m.0 all (in_left m.0 w.hand.joined (kept r.hand.number r.hand.mine ∷ r.hand.joined) m.1)))
 
-    new : In (next_number v.hand) (map number_of u.hand.joined)
+    new : Member (next_number v.hand) (map number_of u.hand.joined)
     unfolding all
     new = to (next_number v.hand)
-        (subst (λ (z : List ℕ). In z (map number_of all)) h.number
+        (subst (λ (z : List ℕ). Member z (map number_of all)) h.number
         (in_map number_of (kept r.hand.number r.hand.mine) all (in_right (kept r.hand.number r.hand.mine) w.hand.joined (kept r.hand.number r.hand.mine ∷ r.hand.joined) (inl refl))))
 
     firsts : state u.first ≡ state v.first
@@ -110,20 +111,20 @@ module _ {T : Type 0} (state : T → Run) where
       number = ap (λ (x : Hand CoreEvent CoreReply). x.number) j.hand ∙ g.number;
       told = λ n x. ⊎_elim
           (λ y. ⊎_elim
-          (λ z. ⊎_elim (λ (t : n ≡ next_number v.hand). inr (subst (λ (q : List ℕ). In q (map number_of u.hand.joined)) (sym t) new)) inl z)
+          (λ z. ⊎_elim (λ (t : n ≡ next_number v.hand). inr (subst (λ (q : List ℕ). Member q (map number_of u.hand.joined)) (sym t) new)) inl z)
           (λ z. inr (ours n z))
           (g.told n y))
-          (λ y. absurd (subst (In n) h.split_off y))
-          (in_append n w.hand.split_off r.hand.split_off (subst (λ (x : Hand CoreEvent CoreReply). In n x.split_off) j.hand x));
+          (λ y. absurd (subst (Member n) h.split_off y))
+          (in_append n w.hand.split_off r.hand.split_off (subst (λ (x : Hand CoreEvent CoreReply). Member n x.split_off) j.hand x));
       stay = λ n x. ours n (g.stay n x);
       own = subst (Knew Own (state v.first) v.hand.number u.seen) (sym mine-is) (knew-more Own (state v.first) v.hand.number w.seen u.seen w.hand.mine j.one g.own);
       theirs = λ k x. ⊎_elim
           (λ y. ⊎_elim inl (λ z. inr (knew-more Their (state v.first) k.number w.seen u.seen k.mine j.one z)) (g.theirs k y))
           (λ y. ⊎_elim
           (λ (t : k ≡ kept r.hand.number r.hand.mine). inr (subst (λ (z : Kept CoreEvent CoreReply). Knew Their (state v.first) z.number u.seen z.mine) (sym t) theirs-new))
-          (λ z. absurd (subst (In k) h.joined z))
+          (λ z. absurd (subst (Member k) h.joined z))
           y)
-          (in_append k w.hand.joined (kept r.hand.number r.hand.mine ∷ r.hand.joined) (subst (In k) joined_is x));
+          (in_append k w.hand.joined (kept r.hand.number r.hand.mine ∷ r.hand.joined) (subst (Member k) joined_is x));
     }
 
   -- the same of the views that `split` and `join` tell of
@@ -137,7 +138,7 @@ module _ {T : Type 0} (state : T → Run) where
   pub whole-gathered : (Own Their : Sight → Type 0) (v w : View T CoreEvent CoreReply) → v.hand ≡ first_hand → GathersSights state Own Their v w → IsWhole w.hand
   whole-gathered Own Their v w is g = (
     g.number ∙ ap (λ (x : Hand CoreEvent CoreReply). x.number) is,
-    λ n x. ⊎_elim (λ y. absurd (subst (λ (h : Hand CoreEvent CoreReply). In n h.split_off) is y)) (λ y. y) (g.told n x),
+    λ n x. ⊎_elim (λ y. absurd (subst (λ (h : Hand CoreEvent CoreReply). Member n h.split_off) is y)) (λ y. y) (g.told n x),
   )
 
   -- and then what was known is known of the whole history
@@ -154,9 +155,9 @@ module _ {T : Type 0} (state : T → Run) where
         (subst (λ (n : List ℕ). Knew Own (state v.first) n c.log w.hand.mine) (ap (λ (x : Hand CoreEvent CoreReply). x.number) is)
         (knew-more Own (state v.first) v.hand.number w.seen c.log w.hand.mine c.begins g.own))
 
-    others-known : (k : Kept CoreEvent CoreReply) → In k w.hand.joined → Knew Their (state v.first) k.number c.log (entries_of k.number c.log)
+    others-known : (k : Kept CoreEvent CoreReply) → Member k w.hand.joined → Knew Their (state v.first) k.number c.log (entries_of k.number c.log)
     others-known k i = ⊎_elim
-        (λ z. absurd (subst (λ (h : Hand CoreEvent CoreReply). In k h.joined) is z))
+        (λ z. absurd (subst (λ (h : Hand CoreEvent CoreReply). Member k h.joined) is z))
         (λ z. subst (Knew Their (state v.first) k.number c.log) (sym (c.theirs k i)) (knew-more Their (state v.first) k.number w.seen c.log k.mine c.begins z))
         (g.theirs k i)
 

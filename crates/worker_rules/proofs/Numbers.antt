@@ -2,6 +2,7 @@
 use Rattle.std.proofs.Common.{◌≡◌, ⊎_elim, ℕ, ◌+◌, ◌≤◌, List, [], ◌∷◌, Bool, true, false, Option, Some, None, refl, sym, ap, ◌∙◌, arith, le_refl}
 use Rattle.std.specs.Prelude.{if◌then◌else◌}
 use Rattle.std.proofs.lemmas.Bool.{and_parts, cond_both}
+use Rattle.base_types.specs.Lists.{Member}
 use Rattle.core_model.specs.CoreState.{UnitNo, Batch, CoreState}
 use Rattle.core_model.specs.Changes.{new_unit, swept, swept_by}
 use Rattle.core_model.specs.declared.questions.AskAnswer.{AskAnswer}
@@ -14,7 +15,6 @@ use Rattle.core_model.specs.Events.{applies, is_allowed, can, does, step, reply_
 use Rattle.core_model.specs.Tests.{ask_answer}
 use Rattle.core_model.specs.LegalRuns.{Run, ends}
 use Rattle.core_laws.proofs.EventCases.{Change, bad, begin, lock, raise, refuse, finish, end_plain, end_snapshot, release, take_batch, vote, decide_some, decide_none, seal_batch, spoil_batch, doubt_batch, learn, emit, halt_run, want, load, decode}
-use Rattle.turn_cell.specs.History.{In}
 use Rattle.turn_rules.specs.NextEvent.{with_event}
 use Rattle.turn_rules.proofs.Growth.{ends-more}
 use Rattle.worker_rules.specs.SharedHistories.{Told, IsTrue}
@@ -151,11 +151,11 @@ began-next w e u = by (applies w e)
     by false q = unnamed (reply_without w e) u q (without-names w e)
 
 -- who begins in a history has a number that wasn't given before it
-pub began-above : (log : List Told) (r : Run) (e : Told) (u : UnitNo) → IsTrue r log → In e log → e.reply ≡ reply.Began u → next (ends r) ≤ u.0
+pub began-above : (log : List Told) (r : Run) (e : Told) (u : UnitNo) → IsTrue r log → Member e log → e.reply ≡ reply.Began u → next (ends r) ≤ u.0
 began-above [] r e u legal i q = absurd i
 began-above (x ∷ log) r e u legal i q = ⊎_elim
     (λ (t : e ≡ x). let is : reply_to (ends r) x.event ≡ reply.Began u = sym legal.0 ∙ (sym (ap (λ (z : Told). z.reply) t) ∙ q) in let p = (began-next (ends r) x.event u is).0 in omega (arith, p))
-    (λ (t : In e log).
+    (λ (t : Member e log).
     let ih = began-above log (with_event r x.event) e u legal.1 t q in
     let up = step-next (ends r) x.event in
     let m = ap next (ends-more r x.event) in
@@ -163,14 +163,14 @@ began-above (x ∷ log) r e u legal i q = ⊎_elim
     i
 
 -- and no two entries of it begin one unit
-pub begins-once : (log : List Told) (r : Run) (e f : Told) (u : UnitNo) → IsTrue r log → In e log → In f log → e.reply ≡ reply.Began u → f.reply ≡ reply.Began u → e ≡ f
+pub begins-once : (log : List Told) (r : Run) (e f : Told) (u : UnitNo) → IsTrue r log → Member e log → Member f log → e.reply ≡ reply.Began u → f.reply ≡ reply.Began u → e ≡ f
 begins-once [] r e f u legal i j p q = absurd i
 begins-once (x ∷ log) r e f u legal i j p q = ⊎_elim
-    (λ (s : e ≡ x). ⊎_elim (λ (t : f ≡ x). s ∙ sym t) (λ (t : In f log). absurd (both e f s t p q)) j)
-    (λ (s : In e log). ⊎_elim (λ (t : f ≡ x). absurd (both f e t s q p)) (λ (t : In f log). begins-once log (with_event r x.event) e f u legal.1 s t p q) j)
+    (λ (s : e ≡ x). ⊎_elim (λ (t : f ≡ x). s ∙ sym t) (λ (t : Member f log). absurd (both e f s t p q)) j)
+    (λ (s : Member e log). ⊎_elim (λ (t : f ≡ x). absurd (both f e t s q p)) (λ (t : Member f log). begins-once log (with_event r x.event) e f u legal.1 s t p q) j)
     i
   where
-    both : (a b : Told) → a ≡ x → In b log → a.reply ≡ reply.Began u → b.reply ≡ reply.Began u → ⊥
+    both : (a b : Told) → a ≡ x → Member b log → a.reply ≡ reply.Began u → b.reply ≡ reply.Began u → ⊥
     both a b s t p' q' =
         let is : reply_to (ends r) x.event ≡ reply.Began u = sym legal.0 ∙ (sym (ap (λ (z : Told). z.reply) s) ∙ p') in
         let n = began-next (ends r) x.event u is in

@@ -1,20 +1,21 @@
 -- The entries of one number, and what their holder promises.
 use Rattle.std.proofs.Common.{◌≡◌, ◌⊎◌, ⊎_elim, inl, inr, ℕ, List, [], ◌∷◌, ◌++◌, length, Bool, true, false, refl, sym, ap, ◌∙◌, subst, arith, length-append, append-nil}
 use Rattle.std.specs.Prelude.{cond}
+use Rattle.base_types.specs.Lists.{Member}
 use Rattle.core_model.specs.declared.events.CoreEvent.{CoreEvent}
 use Rattle.core_model.specs.declared.events.CoreReply.{CoreReply}
 use Rattle.core_model.specs.LegalRuns.{Run}
-use Rattle.turn_cell.specs.History.{In, entries_of, same_number, entry}
+use Rattle.turn_cell.specs.History.{entries_of, same_number, entry}
 use Rattle.turn_cell.proofs.Lists.{in_right}
 use Rattle.core_access.proofs.Entries.{entries-append, entries-single, nothing, not-nothing, front-of, rest-of, ends-same}
 use Rattle.worker_rules.specs.SharedHistories.{Told, OwnsUnits, IsDueBehind, AllDue, Promised, Keeps}
 
 -- an entry of the number is one of the whole list
-pub of-log : (n : List ℕ) (log : List Told) (e : Told) → In e (entries_of n log) → In e log × (same_number n e.by ≡ true)
+pub of-log : (n : List ℕ) (log : List Told) (e : Told) → Member e (entries_of n log) → Member e log × (same_number n e.by ≡ true)
 of-log n [] e = λ i. absurd i
 of-log n (x ∷ log) e = by (same_number n x.by) refl (of-log n log e)
   where
-    by : (s : Bool) → same_number n x.by ≡ s → (In e (entries_of n log) → In e log × (same_number n e.by ≡ true)) → In e (cond s (x ∷ entries_of n log) (entries_of n log)) → In e (x ∷ log) × (same_number n e.by ≡ true)
+    by : (s : Bool) → same_number n x.by ≡ s → (Member e (entries_of n log) → Member e log × (same_number n e.by ≡ true)) → Member e (cond s (x ∷ entries_of n log) (entries_of n log)) → Member e (x ∷ log) × (same_number n e.by ≡ true)
     by true is ih i = ⊎_elim (λ (t : e ≡ x). (inl t, ap (λ (z : Told). same_number n z.by) t ∙ is)) (λ t. (let r = ih t in (inr r.0, r.1))) i
     by false is ih i = (let r = ih i in (inr r.0, r.1))
 
@@ -31,7 +32,7 @@ split-cases (x ∷ xs) ys (b ∷ before) e rest q =
     (split-cases xs ys before e rest (ap rest-of q))
 
 -- what stands in the middle is in the list
-in-middle : (before : List Told) (e : Told) (rest : List Told) → In e (before ++ (e ∷ rest))
+in-middle : (before : List Told) (e : Told) (rest : List Told) → Member e (before ++ (e ∷ rest))
 in-middle before e rest = in_right e before (e ∷ rest) (inl refl)
 
 module _ (Due : Run → CoreEvent → Type 0) (first : Run) (n : List ℕ) where
@@ -39,7 +40,7 @@ module _ (Due : Run → CoreEvent → Type 0) (first : Run) (n : List ℕ) where
   pub due-longer : (seen more : List Told) → AllDue Due first n seen → entries_of n more ≡ [] → AllDue Due first n (seen ++ more)
   due-longer seen more all none before e rest q by = ⊎_elim
       (λ t. all before e t.0 t.1 by)
-      (λ t. absurd (not-nothing n more e (subst (In e) (sym t.2) (in-middle t.0 e rest)) (sym by) none))
+      (λ t. absurd (not-nothing n more e (subst (Member e) (sym t.2) (in-middle t.0 e rest)) (sym by) none))
       (split-cases seen more before e rest q)
 
   -- and then one more entry of the number
@@ -91,7 +92,7 @@ module _ (Due : Run → CoreEvent → Type 0) (first : Run) (n : List ℕ) where
   promise-none seen = record {
     owns = λ e u i own. absurd i;
     some = omega arith;
-    due = λ is before e rest q by. absurd (not-nothing n seen e (subst (In e) (sym q) (in-middle before e rest)) (sym by) is);
+    due = λ is before e rest q by. absurd (not-nothing n seen e (subst (Member e) (sym q) (in-middle before e rest)) (sym by) is);
   }
 
   -- at the end it holds of the whole history

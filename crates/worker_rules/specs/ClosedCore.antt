@@ -1,11 +1,12 @@
 -- What is known of a core that workers shared, once all passes are joined and its cell is closed.
 use Rattle.std.specs.Prelude.{◌⊎◌, ◌≡◌, ◌≤◌, ℕ, List, [], true}
+use Rattle.base_types.specs.Lists.{Member}
 use Rattle.core_model.specs.LockAnswers.{IsGoing}
 use Rattle.core_model.specs.CoreState.{UnitNo}
 use Rattle.core_model.specs.declared.events.CoreEvent.TheVariants.{Halt}
 use Rattle.core_model.specs.LegalRuns.{Run, ends}
 use Rattle.core_model.specs.Tests.{is_over, is_free}
-use Rattle.turn_cell.specs.History.{In, entries_of}
+use Rattle.turn_cell.specs.History.{entries_of}
 use Rattle.core_access.specs.Histories.{Told, run_after, IsTrue}
 use Rattle.core_access.specs.SettlerEvents.{is_settling}
 use Rattle.core_access.specs.Sights.{Sight, IfAlone}
@@ -19,7 +20,7 @@ pub record IsClosed (Own Their : Sight → Type 0) (first last : Run) : Type 0 w
   pub legal : IsTrue first log
   pub left : last ≡ run_after first log
   pub own : Knew Own first [] log (entries_of [] log)
-  pub theirs : (x : Told) → In x log → (x.by ≡ []) ⊎ Knew Their first x.by log (entries_of x.by log)
+  pub theirs : (x : Told) → Member x log → (x.by ≡ []) ⊎ Knew Their first x.by log (entries_of x.by log)
 
 -- nothing was put
 abbrev pub PutsNothing : Sight → Type 0
@@ -27,7 +28,7 @@ PutsNothing s = s.mine ≡ []
 
 -- each of these entries is of an event of the settler's, or of a stop
 abbrev pub SettlesOrStops : List Told → Type 0
-SettlesOrStops mine = (x : Told) → In x mine → (is_settling x.event ≡ true) ⊎ (x.event ≡ Halt)
+SettlesOrStops mine = (x : Told) → Member x mine → (is_settling x.event ≡ true) ⊎ (x.event ≡ Halt)
 
 -- the unit is over and holds no lock, unless there is a doubt or a stop
 abbrev pub IsOverAndFree : UnitNo → Run → Type 0

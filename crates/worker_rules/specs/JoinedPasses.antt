@@ -1,11 +1,12 @@
 -- What the passes of a core that is shared give back, and what stays known of them as they are joined.
 use Rattle.std.specs.Prelude.{◌⊎◌, ◌≡◌, ℕ, List, map}
+use Rattle.base_types.specs.Lists.{Member}
 use Rattle.core_model.specs.declared.events.CoreEvent.{CoreEvent}
 use Rattle.core_model.specs.declared.events.CoreReply.{CoreReply}
 use Rattle.core_model.specs.LegalRuns.{Run}
 use Rattle.turn_cell.specs.declared.view.Kept.{Kept}
 use Rattle.turn_cell.specs.declared.view.View.{View}
-use Rattle.turn_cell.specs.History.{In, StartsWith}
+use Rattle.turn_cell.specs.History.{StartsWith}
 use Rattle.turn_cell.specs.Hands.{number_of}
 use Rattle.core_access.specs.Histories.{Told, run_after}
 use Rattle.core_access.specs.Sights.{Sight}
@@ -41,7 +42,7 @@ module _ {T : Type 0} (state : T → Run) where
     pub first : state w.first ≡ state v.first
     pub seen : StartsWith w.seen v.seen
     pub number : w.hand.number ≡ v.hand.number
-    pub told : (n : List ℕ) → In n w.hand.split_off → In n v.hand.split_off ⊎ In n (map number_of w.hand.joined)
-    pub stay : (n : List ℕ) → In n (map number_of v.hand.joined) → In n (map number_of w.hand.joined)
+    pub told : (n : List ℕ) → Member n w.hand.split_off → Member n v.hand.split_off ⊎ Member n (map number_of w.hand.joined)
+    pub stay : (n : List ℕ) → Member n (map number_of v.hand.joined) → Member n (map number_of w.hand.joined)
     pub own : Knew Own (state v.first) v.hand.number w.seen w.hand.mine
-    pub theirs : (k : Kept CoreEvent CoreReply) → In k w.hand.joined → In k v.hand.joined ⊎ Knew Their (state v.first) k.number w.seen k.mine
+    pub theirs : (k : Kept CoreEvent CoreReply) → Member k w.hand.joined → Member k v.hand.joined ⊎ Knew Their (state v.first) k.number w.seen k.mine

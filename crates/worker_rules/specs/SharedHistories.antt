@@ -1,20 +1,21 @@
 -- What those who share a core promise of the events that they put, and what that gives for the whole history.
 use Rattle.std.specs.Prelude.{◌≡◌, ℕ, ◌≤◌, true, List, ◌∷◌, ◌++◌, length}
+use Rattle.base_types.specs.Lists.{Member}
 use Rattle.core_model.specs.CoreState.{UnitNo}
 use Rattle.core_model.specs.declared.events.CoreEvent.{CoreEvent}
 use Rattle.core_model.specs.declared.events.CoreReply.TheVariants.{Began}
 use Rattle.core_model.specs.LegalRuns.{Run}
 use Rattle.turn_rules.specs.NextEvent.{is_own}
-use Rattle.turn_cell.specs.History.{In, entries_of, StartsWith}
+use Rattle.turn_cell.specs.History.{entries_of, StartsWith}
 pub use Rattle.core_access.specs.Histories.{Told, reply_in, run_after, IsTrue}
 
 -- each event of a unit is of one that began by an entry of the same list
 abbrev pub OwnsUnits : List Told → Type 0
-OwnsUnits mine = (e : Told) (u : UnitNo) → In e mine → is_own u e.event ≡ true → (b : Told) × In b mine × (b.reply ≡ Began u)
+OwnsUnits mine = (e : Told) (u : UnitNo) → Member e mine → is_own u e.event ≡ true → (b : Told) × Member b mine × (b.reply ≡ Began u)
 
 -- no entry of another number is an event of the unit
 abbrev pub Quiet : List ℕ → UnitNo → List Told → Type 0
-Quiet n u seen = (e : Told) → In e seen → is_own u e.event ≡ true → e.by ≡ n
+Quiet n u seen = (e : Told) → Member e seen → is_own u e.event ≡ true → e.by ≡ n
 
 -- Due says when an event may come behind a run: of the unit rule, `MayCome`.
 module _ (Due : Run → CoreEvent → Type 0) (first : Run) where
@@ -42,7 +43,7 @@ module _ (Due : Run → CoreEvent → Type 0) (first : Run) where
 
   -- every number of the history has such a promise, of all its entries
   abbrev pub AllPromise : List Told → Type 0
-  AllPromise log = (e : Told) → In e log → (mine : List Told) × (entries_of e.by log ≡ mine) × Keeps log e.by mine
+  AllPromise log = (e : Told) → Member e log → (mine : List Told) × (entries_of e.by log ≡ mine) × Keeps log e.by mine
 
   -- each event of the history is due behind those before it
   abbrev pub IsRuled : List Told → Type 0

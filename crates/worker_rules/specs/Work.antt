@@ -1,8 +1,8 @@
 -- Which events are a worker's: those of lines and of units.
 use Rattle.std.specs.Prelude.{◌≡◌, Bool, true, false, List}
+use Rattle.base_types.specs.Lists.{Member}
 use Rattle.core_model.specs.declared.events.CoreEvent.{CoreEvent}
 use Rattle.promise_spec.specs.TurnRule.{Mover, OfLine, OfUnit, OfSettler, mover_of}
-use Rattle.turn_cell.specs.History.{In}
 use Rattle.core_access.specs.Histories.{Told}
 
 -- the move of a line or of a unit
@@ -17,4 +17,4 @@ is_work e = is_of_worker (mover_of e)
 
 -- each of these entries is of such an event
 abbrev pub OnlyWorks : List Told → Type 0
-OnlyWorks mine = (e : Told) → In e mine → is_work e.event ≡ true
+OnlyWorks mine = (e : Told) → Member e mine → is_work e.event ≡ true

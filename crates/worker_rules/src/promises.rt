@@ -1,17 +1,18 @@
 ghost use Rattle.std.specs.Prelude.{◌≡◌, ◌++◌, ℕ, List, [], ◌∷◌};
+ghost use Rattle.base_types.specs.Lists.{Member};
 ghost use Rattle.core_model.specs.declared.events.CoreEvent.{CoreEvent};
 ghost use Rattle.core_model.specs.declared.events.CoreReply.{CoreReply};
 ghost use Rattle.core_model.specs.declared.events.CoreReply.TheVariants.{Began};
 ghost use Rattle.core_model.specs.CoreState.{UnitNo};
 ghost use Rattle.core_model.specs.LegalRuns.{Run};
-ghost use Rattle.turn_cell.specs.History.{In, entry, entries_of};
+ghost use Rattle.turn_cell.specs.History.{entry, entries_of};
 ghost use Rattle.promise_spec.specs.UnitRule.{Basis, KeepsUnitRule};
 ghost use Rattle.turn_rules.specs.NextEvent.{MayCome};
 ghost use Rattle.worker_rules.specs.SharedHistories.{Told, run_after, IsTrue, OwnsUnits, IsDueBehind, Promised, AllPromise, IsRuled};
 
 /// In a true history no two entries begin one unit.
 pub fn numbers_are_given_once()
-    ensures { (first : Run) (log : List Told) (e f : Told) (u : UnitNo) → IsTrue first log → In e log → In f log → e.reply ≡ Began u
+    ensures { (first : Run) (log : List Told) (e f : Told) (u : UnitNo) → IsTrue first log → Member e log → Member f log → e.reply ≡ Began u
         → f.reply ≡ Began u → e ≡ f }
 {}
 

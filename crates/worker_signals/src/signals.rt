@@ -1,3 +1,4 @@
+// The signals by which workers and the settler wait for each other.
 use crate::stand::Stand;
 use std::sync::Wait;
 use std::sync::atomic::{AtomicBool, AtomicU64, Ordering};

@@ -5,6 +5,7 @@ use crate::TurnObject;
 use std::alloc::{AllocError, Global};
 use std::marker::Model;
 
+/// An object that keeps the numbers that are put.
 #[derive(Drop)]
 pub struct Marks {
     marked: Vec<u64>,
@@ -17,6 +18,7 @@ impl Model for Marks {
 }
 
 impl Marks {
+    /// No numbers.
     pub fn new(alloc: Global) -> Marks
         ensures { result ≡ [] }
     {
@@ -25,6 +27,7 @@ impl Marks {
         }
     }
 
+    /// How many it has.
     pub fn count(&self) -> usize
         ensures { result ≡ length self.now }
     {

@@ -5,6 +5,7 @@ use crate::TurnObject;
 use std::alloc::{AllocError, Global};
 use std::marker::Model;
 
+/// An object that adds up the numbers that are put, as long as it has room.
 #[derive(Drop)]
 pub struct Tally {
     number: u64,
@@ -18,6 +19,7 @@ impl Model for Tally {
     ghost view = { λ t. (t.number, t.added.items) };
 }
 
+/// The event that adds this number.
 #[derive(Drop, Clone, Copy, PartialEq)]
 pub struct Add(pub u64);
 
@@ -33,12 +35,14 @@ impl Tally {
         }
     }
 
+    /// The sum.
     pub fn number(&self) -> u64
         ensures { result ≡ self.now.0 }
     {
         self.number
     }
 
+    /// How many events it took.
     pub fn count(&self) -> usize {
         self.added.len()
     }

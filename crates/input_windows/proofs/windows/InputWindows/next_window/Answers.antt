@@ -4,7 +4,7 @@ use Rattle.std.proofs.Math.Seq.{take-append_seam}
 use Rattle.std.proofs.lemmas.List.{take-append-drop}
 use Rattle.request_wire.specs.Lines.{lines_of}
 use Rattle.promise_spec.specs.Windows.{first_bad}
-use Rattle.input_windows.specs.Scans.{Stands}
+use Rattle.input_windows.specs.Scans.{ScanStands}
 use Rattle.input_windows.specs.Windows.{window_in, left_in, before_in, given_in}
 use Rattle.input_windows.proofs.Giving.{on_same_fault, took_then, took_as, took_nothing, gives_full, gives_rest, refuses_pull, none_begun, left_in_all, found_end, found_bad, found_open}
 use Rattle.input_windows.proofs.Places.{left_size, measure_falls}
@@ -137,8 +137,8 @@ returns-in_err-pull_piece-clause-refused g c =
     let stands = found_open (before_in w) seen c.in-Open.ended c.in-Open.bytes L _ is found.0 in
     let pulled = c.in_err-pull_piece.ensures in
     let e : before_in w ≡ given_in c.args.self.now = inv.before ∙ c.go_on.ensures.before in
-    let here : Stands (given_in c.args.self.now) (left_in c.pull_piece.new.self) c.in-Open.ended c.in-Open.bytes =
-    subst (λ (k : ℕ). Stands k (left_in c.pull_piece.new.self) c.in-Open.ended c.in-Open.bytes) e (subst (λ (l : List ℕ). Stands (before_in w) l c.in-Open.ended c.in-Open.bytes) (sym pulled.err) stands) in
+    let here : ScanStands (given_in c.args.self.now) (left_in c.pull_piece.new.self) c.in-Open.ended c.in-Open.bytes =
+    subst (λ (k : ℕ). ScanStands k (left_in c.pull_piece.new.self) c.in-Open.ended c.in-Open.bytes) e (subst (λ (l : List ℕ). ScanStands (before_in w) l c.in-Open.ended c.in-Open.bytes) (sym pulled.err) stands) in
     on_same_fault c.from_residual.result _ c.in_err-pull_piece.field-0.0 c.from_residual.ensures.1
     (refuses_pull c.in_err-pull_piece.field-0.0 (given_in c.args.self.now) c.in-Open.ended c.in-Open.bytes (left_in c.pull_piece.new.self) pulled.counts.0 here found.1)
 
@@ -215,7 +215,7 @@ returns-then-branch-eq0-clause-gave g c =
     let given = c.give-then-branch-eq0.ensures in
     let took = took_as g.H.Host.tells (g.H.Host.world c.args.host.now) (g.H.Host.world c.pull_piece.new.host) _ (left_in c.args.self.now) N N (took_then g.H.Host.tells _ _ _ _ _ _ inv.took pulled.took) c.go_on.ensures.left refl in
     (gives_rest (nat_lt 0 c.with_open-count.result) g.H.Host.tells (g.H.Host.world c.args.host.now) (g.H.Host.world c.pull_piece.new.host) (before_in w) c.in-Open.ended c.in-Open.bytes (left_in c.args.self.now) N
-    c.give-then-branch-eq0.new.self took (subst (λ (l : List ℕ). Stands (before_in w) l c.in-Open.ended c.in-Open.bytes) (sym none) stands) found.1 (pulled.end c.if-branch-eq0.true)
+    c.give-then-branch-eq0.new.self took (subst (λ (l : List ℕ). ScanStands (before_in w) l c.in-Open.ended c.in-Open.bytes) (sym none) stands) found.1 (pulled.end c.if-branch-eq0.true)
     (ap (nat_lt 0) c.with_open-count.ensures) (given.window ∙ take_all (w.filled - w.start) N (omega (arith, size, at)))
     (given.left ∙ drop_of_length-le N (omega (arith, size, at))) (given.before ∙ pulled.before) given.last).gave
 
@@ -236,7 +236,7 @@ returns-then-branch-eq0-clause-next g c =
     let given = c.give-then-branch-eq0.ensures in
     let took = took_as g.H.Host.tells (g.H.Host.world c.args.host.now) (g.H.Host.world c.pull_piece.new.host) _ (left_in c.args.self.now) N N (took_then g.H.Host.tells _ _ _ _ _ _ inv.took pulled.took) c.go_on.ensures.left refl in
     (gives_rest (nat_lt 0 c.with_open-count.result) g.H.Host.tells (g.H.Host.world c.args.host.now) (g.H.Host.world c.pull_piece.new.host) (before_in w) c.in-Open.ended c.in-Open.bytes (left_in c.args.self.now) N
-    c.give-then-branch-eq0.new.self took (subst (λ (l : List ℕ). Stands (before_in w) l c.in-Open.ended c.in-Open.bytes) (sym none) stands) found.1 (pulled.end c.if-branch-eq0.true)
+    c.give-then-branch-eq0.new.self took (subst (λ (l : List ℕ). ScanStands (before_in w) l c.in-Open.ended c.in-Open.bytes) (sym none) stands) found.1 (pulled.end c.if-branch-eq0.true)
     (ap (nat_lt 0) c.with_open-count.ensures) (given.window ∙ take_all (w.filled - w.start) N (omega (arith, size, at)))
     (given.left ∙ drop_of_length-le N (omega (arith, size, at))) (given.before ∙ pulled.before) given.last).next
 
@@ -269,8 +269,8 @@ loop-size-preserved g c =
       room = (let b = pulled.before in let r = inv.room in omega (arith, b, r));
       took = took_then g.H.Host.tells _ _ _ _ _ _ inv.took pulled.took;
       within = omega (arith, n, more);
-      stands = subst (λ (k : ℕ). Stands k (take (w.filled - w.start) N) c.in-Open.ended c.in-Open.bytes) (sym pulled.before)
-          (subst (λ (l : List ℕ). Stands (before_in w) l c.in-Open.ended c.in-Open.bytes) (sym front) stands);
+      stands = subst (λ (k : ℕ). ScanStands k (take (w.filled - w.start) N) c.in-Open.ended c.in-Open.bytes) (sym pulled.before)
+          (subst (λ (l : List ℕ). ScanStands (before_in w) l c.in-Open.ended c.in-Open.bytes) (sym front) stands);
       few = found.1;
       short = found.2;
       calm = λ channel. pulled.calm channel ∙ inv.calm channel;

@@ -2,7 +2,7 @@ use Rattle.std.proofs.Common.{◌≡◌, ◌+◌, ◌-◌, ◌*◌, ◌<◌, ◌
 use Rattle.host_trait.specs.Faults.{NoneFailed}
 use Rattle.host_trait.specs.Files.{StaysReady}
 use Rattle.input_windows.specs.Pulls.{PulledOnly, Took}
-use Rattle.input_windows.specs.Scans.{Stands}
+use Rattle.input_windows.specs.Scans.{ScanStands}
 use Rattle.input_windows.specs.Windows.{left_in, before_in, IsBegun}
 use Rattle.input_windows.proofs.windows.InputWindows.next_window.Given as goal
 
@@ -13,7 +13,7 @@ invariant-loop-size g l = record {
   room : before_in l.self + l.most ≡ 4294967295;
   took : Took g.H.Host.tells (g.H.Host.world l.initial.host) (g.H.Host.world l.host) (left_in l.initial.self) (left_in l.self);
   within : l.seen ≤ length (left_in l.self);
-  stands : Stands (before_in l.self) (take l.seen (left_in l.self)) l.lines l.stood;
+  stands : ScanStands (before_in l.self) (take l.seen (left_in l.self)) l.lines l.stood;
   few : l.lines < 4096;
   short : l.stood ≤ 65536;
   calm : NoneFailed (g.H.Host.faults l.initial.host) (g.H.Host.faults l.host);

@@ -15,7 +15,7 @@ use Rattle.promise_spec.specs.Openings.{Reads, opened_as}
 use Rattle.promise_spec.specs.Endings.{Ending, Done, Memory, LastGeneration, IsDiskFault, HasFailedAs}
 use Rattle.promise_spec.specs.Courses.{Observed, seen_at_entry}
 use Rattle.promise_spec.specs.Refusals.{IsUnopened}
-use Rattle.promise_spec.specs.Compacting.{KeepsSlot, AllEither}
+use Rattle.promise_spec.specs.EitherSlot.{KeepsSlot, AllEither}
 
 -- Nothing is emitted, the live slot's files are as an opening leaves them, and each image has the log there, or the new one in the
 -- other slot.

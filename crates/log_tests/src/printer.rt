@@ -3,6 +3,7 @@ use commit_log::{CommitRecord, Written};
 use std::alloc::AllocError;
 use test_cases::{add_grain, add_outcome, add_values};
 
+/// Adds a call: its grain, the number of its method, and its arguments.
 pub fn add_call(out: &mut String, call: &Call) -> Result<(), AllocError> {
     let method = call.method;
     add_grain(out, call.grain)?;

@@ -6,7 +6,7 @@ use Rattle.promise_spec.specs.Endings as ending
 use Rattle.promise_spec.specs.Windows.{feeds, first_bad, before_bad, told_number, whole_windows}
 use Rattle.input_windows.specs.declared.windows.InputWindows.{InputWindows}
 use Rattle.input_windows.specs.declared.windows.WindowFault.{WindowFault}
-use Rattle.input_windows.specs.Windows.{window_in, left_in, before_in, given_in, is_last_in, input_behind, HasEnded}
+use Rattle.input_windows.specs.Windows.{window_in, left_in, before_in, given_in, is_last_in, input_behind, InputHasEnded}
 
 -- The windows so far, with these lines, are whole: they have a line feed for each line, and 4,096 lines each; and what follows begins
 -- with a line of its own.
@@ -17,7 +17,7 @@ pub record AreWhole (given : List ℕ) (asked : List (List ℕ)) : Type 0 where
 
 -- how the windows so far end: with the input, or whole
 abbrev pub GivenTo : Bool → Bool → List ℕ → List (List ℕ) → InputWindows → World → Type 0
-GivenTo true tells given asked w now = HasEnded tells w now
+GivenTo true tells given asked w now = InputHasEnded tells w now
 GivenTo false tells given asked w now = AreWhole given asked
 
 -- So many bytes of an input were given, with these lines, none of which is bad; the rest was pulled and is left, or is there still.
@@ -63,12 +63,12 @@ pub record HasBad (pulled : List ℕ) (asked : List (List ℕ)) (told : ℕ) : T
   pub is_told : told ≡ told_number number
 
 -- by how the run ends
-abbrev pub EndsAs : ending.Ending → Bool → List ℕ → List (List ℕ) → World → Type 0
-EndsAs ending.Done tells pulled asked now = IsAll tells pulled asked now
-EndsAs ending.ReadFault tells pulled asked now = IsGood pulled asked
-EndsAs ending.Memory tells pulled asked now = IsGood pulled asked
-EndsAs (ending.InputTooLong told) tells pulled asked now = HasBad pulled asked told
-EndsAs _ tells pulled asked now = ⊥
+abbrev pub InputEndsAs : ending.Ending → Bool → List ℕ → List (List ℕ) → World → Type 0
+InputEndsAs ending.Done tells pulled asked now = IsAll tells pulled asked now
+InputEndsAs ending.ReadFault tells pulled asked now = IsGood pulled asked
+InputEndsAs ending.Memory tells pulled asked now = IsGood pulled asked
+InputEndsAs (ending.InputTooLong told) tells pulled asked now = HasBad pulled asked told
+InputEndsAs _ tells pulled asked now = ⊥
 
 -- No further window came: the lines that were given are the input's first, none is bad, and with what was pulled besides it ends so.
 pub record InputEnds (tells : Bool) (input : List ℕ) (asked : List (List ℕ)) (e : ending.Ending) (now : World) : Type 0 where
@@ -76,4 +76,4 @@ pub record InputEnds (tells : Bool) (input : List ℕ) (asked : List (List ℕ))
   pub whole : IsTrue tells → input ≡ pulled ++ now.input
   pub front : IsTrue tells → take (length asked) (lines_of input) ≡ asked
   pub good : first_bad 0 asked ≡ None
-  pub by : EndsAs e tells pulled asked now
+  pub by : InputEndsAs e tells pulled asked now

@@ -6,7 +6,7 @@ use Rattle.host_trait.specs.Disk.{FileState, MayLeave, Tears, settled}
 use Rattle.host_trait.specs.World.{World, Moment, Image, IsImage, moment_of, with_bytes}
 use Rattle.silo_spec.specs.Silos.{IsSilo}
 use Rattle.silo_spec.specs.Slots.{generation}
-pub use Rattle.silo_spec.specs.Filling.{IsShutFile, KeepsSlot, IsFilling}
+pub use Rattle.silo_spec.specs.OtherSlot.{IsShutFile, KeepsSlot, IsFilling}
 use Rattle.promise_spec.specs.Entries.{Log}
 use Rattle.promise_spec.specs.Logs.{magic, IsLogIn, IsLog}
 use Rattle.promise_spec.specs.Journals.{AllLog}
