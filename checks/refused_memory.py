@@ -1,7 +1,9 @@
 """A command that is refused memory once, at each place where it asks for some, or from there on: it ends with 3 or as it ends else, what it
-has put out is the front of what it puts out else, and the folder holds what it held, and all that was answered."""
+has put out is the front of what it puts out else, and the folder holds what it held, and all that was answered. Workers number their
+transactions as they come to them, and answer in any order: there each line that is answered has the reply that it has else."""
 import concurrent.futures
 import errno
+import json
 import os
 import re
 import shutil
@@ -38,7 +40,7 @@ class Case:
         run(self.template, "init", given=program.encode())
         for lines in before:
             run(self.template, *(["compact"] if lines is None else ["run"]), given=lines or b"")
-        self.records, self.shown = self.count(self.template), run(self.template, "show")
+        self.records, self.shown, self.free = self.count(self.template), run(self.template, "show"), "--workers" in words
         folder, self.whole, self.asked = self.run("whole", notes=os.path.join(room, name))
         shutil.rmtree(folder)
 
@@ -54,15 +56,36 @@ class Case:
         ended = run(folder, *self.words, given=self.given, shim=shim.words(self.library, kinds="memory", notes=notes, **settings))
         return folder, ended, sum(call.kind == "memory" for call in shim.notes(notes)) if notes else 0
 
+    def answers(self, ended):
+        """What each line was answered, without the number of its transaction; none where two have one number."""
+        lines = [json.loads(line) for line in ended.output.splitlines()]
+        if len({line["unit"] for line in lines}) < len(lines):
+            return None
+        return {line["n"]: {key: value for key, value in line.items() if key != "unit"} for line in lines}
+
+    def is_whole(self, ended):
+        """It ended as it does where nothing is refused."""
+        if not self.free:
+            return ended == self.whole
+        return ended[0::2] == self.whole[0::2] and self.answers(ended) == self.answers(self.whole)
+
+    def is_front(self, ended):
+        """What it put out are whole lines, and the front of what it puts out else."""
+        if ended.output and not ended.output.endswith(b"\n"):
+            return False
+        if not self.free:
+            return self.whole.output.startswith(ended.output)
+        answers = self.answers(ended)
+        return answers is not None and answers.items() <= self.answers(self.whole).items()
+
     def try_one(self, way, at):
         """What is wrong where it is refused memory there."""
         folder, ended, _ = self.run(f"{way} {at}", at=at, fail=errno.ENOMEM, **WAYS[way])
         wrong, told = [], ended.output.splitlines()
         # What is said of it wants memory too.
-        if ended != self.whole and (ended.number, ended.errors) not in ((3, b"silo: no memory\n"), (3, b"") if "on" in WAYS[way] else ()):
+        if not self.is_whole(ended) and (ended.number, ended.errors) not in ((3, b"silo: no memory\n"), (3, b"") if "on" in WAYS[way] else ()):
             wrong.append(f"it ended so: {ended}")
-        in_order = self.whole.output.startswith(ended.output) or "--workers" in self.words
-        if not in_order or not ended.output.endswith(b"\n") and ended.output:
+        if not self.is_front(ended):
             wrong.append(f"it put out {ended.output}, not the front of {self.whole.output}")
         count = self.count(folder)
         if count is None or count < self.records + sum(b'"reply"' in line for line in told):
