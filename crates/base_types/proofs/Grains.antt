@@ -19,7 +19,7 @@ both_equal Equal Less e = absurd (cc e)
 both_equal Equal Greater e = absurd (cc e)
 both_equal Equal Equal e = (refl, refl)
 
-same_by_order : (a b : GrainId) → is_at (grain_cmp a) b ≡ true → a ≡ b
+pub same_by_order : (a b : GrainId) → is_at (grain_cmp a) b ≡ true → a ≡ b
 same_by_order a b e =
     let equal = both_equal (nat_cmp a.kind b.kind) (nat_cmp a.key b.key) e in
     let kind : a.kind ≡ b.kind = exact_unsigned a.kind b.kind equal.0 in
@@ -28,7 +28,7 @@ same_by_order a b e =
     let second : record b { key = a.key } ≡ b = ap (λ (k : ℕ). record b { key = k }) key in
     first ∙ second
 
-other_grain : (a b : GrainId) → b ≢ a → is_at (grain_cmp a) b ≡ false
+pub other_grain : (a b : GrainId) → b ≢ a → is_at (grain_cmp a) b ≡ false
 other_grain a b other = by_test (is_at (grain_cmp a) b) refl
   where
     by_test : (t : Bool) → is_at (grain_cmp a) b ≡ t → is_at (grain_cmp a) b ≡ false
@@ -44,7 +44,7 @@ puts_end old new grain end updates = record {
   others = λ other differs. ap option_flatten (updates.2 other (other_grain grain other differs));
 }
 
-some_stays : {A : Type 0} (b : Bool) (x : A) (o : Option A) → is_some o ≡ true → is_some (cond b (Some x) o) ≡ true
+pub some_stays : {A : Type 0} (b : Bool) (x : A) (o : Option A) → is_some o ≡ true → is_some (cond b (Some x) o) ≡ true
 some_stays true x o some = refl
 some_stays false x o some = some
 

@@ -1,1 +1,3 @@
 mod Grains
+mod GrainPlaces
+pub mod GrainOrder

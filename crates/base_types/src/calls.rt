@@ -17,7 +17,7 @@ impl TryCopy for UnitNo {
 }
 
 /// A grain: the number of its type in the program, from 0, and its key. Grains are ordered by type, then key.
-#[derive(Clone, Copy, Debug, PartialEq, Eq, PartialOrd, Ord)]
+#[derive(Clone, Copy, Debug, PartialEq, Eq, PartialOrd, Ord, Hash)]
 pub struct GrainId {
     pub kind: u16,
     pub key: u32,

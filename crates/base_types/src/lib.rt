@@ -6,8 +6,10 @@
 
 mod calls;
 mod entries;
+mod known_version;
 mod limits;
 mod list;
+mod places;
 mod shapes;
 mod state;
 mod stores;
@@ -15,8 +17,10 @@ mod text;
 
 pub use calls::{Call, GrainId, Mode, Origin, Outcome, UnitNo, Value};
 pub use entries::{BadRequest, Entry, Settled};
+pub use known_version::KnownVersion;
 pub use limits::{FILE_LIMIT, PROGRAM_LIMIT, STATE_LIMIT, TEXT_LIMIT};
 pub use list::{List, TryCopy};
+pub use places::{Placed, Places};
 pub use shapes::{Shape, TypeShape};
 pub use state::State;
 pub use stores::{Ends, Place, Store, Version};

@@ -11,7 +11,7 @@ use Rattle.prepare_batch.specs.declared.works.FileWork.{FileWork}
 use Rattle.prepare_batch.specs.Work.{reads_from, untouched, grains_written, versions_on, work_of}
 use Rattle.prepare_batch.proofs.Orders.{strict_grains, strict_ascends}
 use Rattle.core_model.specs.Steps.{AreAscending}
-use Rattle.prepare_batch.specs.Pieces.{pieces_in, pieces_by, pieces_of, with_pieces, pieces_by_grain}
+use Rattle.prepare_batch.specs.Pieces.{pieces_in, pieces_by, batch_pieces, with_pieces, pieces_by_grain}
 use Rattle.prepare_batch.proofs.JoinedPieces.{is_on, version_in, work_with, joined_grains}
 
 -- what one unit wrote, as a piece
@@ -39,33 +39,33 @@ unit_versions g u (x ∷ xs) = by_test (unit_versions g u xs) (same_grain x.0 g)
 
 -- ---- all units
 
-pub batch_grains : (units : List UnitNo) (es : List Effect) → map (λ (p : Piece). p.grain) (pieces_of units es) ≡ flat_map (λ e. map (λ (x : Write). x.0) e.writes) (untouched units es)
+pub batch_grains : (units : List UnitNo) (es : List Effect) → map (λ (p : Piece). p.grain) (batch_pieces units es) ≡ flat_map (λ e. map (λ (x : Write). x.0) e.writes) (untouched units es)
 batch_grains units [] = refl
 batch_grains units (e ∷ es) =
-    map-append (λ (p : Piece). p.grain) (pieces_by units e) (pieces_of units es)
+    map-append (λ (p : Piece). p.grain) (pieces_by units e) (batch_pieces units es)
     ∙ by_test (batch_grains units es) (reads_from units e)
   where
-    by_test : map (λ (p : Piece). p.grain) (pieces_of units es) ≡ flat_map (λ e. map (λ (x : Write). x.0) e.writes) (untouched units es) → (t : Bool) → map (λ (p : Piece). p.grain) (cond t [] (pieces_in e)) ++ map (λ (p : Piece). p.grain) (pieces_of units es)
+    by_test : map (λ (p : Piece). p.grain) (batch_pieces units es) ≡ flat_map (λ e. map (λ (x : Write). x.0) e.writes) (untouched units es) → (t : Bool) → map (λ (p : Piece). p.grain) (cond t [] (pieces_in e)) ++ map (λ (p : Piece). p.grain) (batch_pieces units es)
         ≡ flat_map (λ e. map (λ (x : Write). x.0) e.writes) (cond (not t) (e ∷ untouched units es) (untouched units es))
     by_test more true = more
     by_test more false = λ i. unit_grains e.unit e.writes i ++ more i
 
-pub batch_versions : (g : GrainId) (units : List UnitNo) (es : List Effect) → map version_in (filter (is_on g) (pieces_of units es)) ≡ versions_on g (untouched units es)
+pub batch_versions : (g : GrainId) (units : List UnitNo) (es : List Effect) → map version_in (filter (is_on g) (batch_pieces units es)) ≡ versions_on g (untouched units es)
 batch_versions g units [] = refl
 batch_versions g units (e ∷ es) =
-    ap (map version_in) (filter-append (is_on g) (pieces_by units e) (pieces_of units es))
-    ∙ map-append version_in (filter (is_on g) (pieces_by units e)) (filter (is_on g) (pieces_of units es))
+    ap (map version_in) (filter-append (is_on g) (pieces_by units e) (batch_pieces units es))
+    ∙ map-append version_in (filter (is_on g) (pieces_by units e)) (filter (is_on g) (batch_pieces units es))
     ∙ by_test (batch_versions g units es) (reads_from units e)
   where
-    by_test : map version_in (filter (is_on g) (pieces_of units es)) ≡ versions_on g (untouched units es) → (t : Bool) → map version_in (filter (is_on g) (cond t [] (pieces_in e))) ++ map version_in (filter (is_on g) (pieces_of units es))
+    by_test : map version_in (filter (is_on g) (batch_pieces units es)) ≡ versions_on g (untouched units es) → (t : Bool) → map version_in (filter (is_on g) (cond t [] (pieces_in e))) ++ map version_in (filter (is_on g) (batch_pieces units es))
         ≡ versions_on g (cond (not t) (e ∷ untouched units es) (untouched units es))
     by_test more true = more
     by_test more false = λ i. unit_versions g e.unit e.writes i ++ more i
 
 -- gathered, by grains, and put together: the work of the batch
-pub gathered : (at : GrainId → ℕ) (units : List UnitNo) (es : List Effect) → with_pieces at [] (pieces_by_grain (pieces_of units es)) ≡ work_of at (untouched units es)
+pub gathered : (at : GrainId → ℕ) (units : List UnitNo) (es : List Effect) → with_pieces at [] (pieces_by_grain (batch_pieces units es)) ≡ work_of at (untouched units es)
 gathered at units es =
-    joined_grains at (pieces_of units es)
+    joined_grains at (batch_pieces units es)
     ∙ (λ i. map (λ g. work_with at g (batch_versions g units es i)) (grains_of (batch_grains units es i)))
 
 grains_in_work : (at : GrainId → ℕ) (es : List Effect) (gs : List GrainId) → map (λ (x : FileWork). x.grain) (map (λ g. work_with at g (versions_on g es)) gs) ≡ gs

@@ -10,7 +10,8 @@ use Rattle.core_laws.proofs.Plans.{grains-only}
 use Rattle.prepare_batch.specs.declared.pieces.Piece.{Piece}
 use Rattle.prepare_batch.specs.declared.works.FileWork.{FileWork}
 use Rattle.prepare_batch.specs.Pieces.{first_work, more_work, with_piece, with_pieces, pieces_by_grain}
-use Rattle.prepare_batch.proofs.Orders.{Before, Strict, strict_grains, same_is, is_same, irref}
+use Rattle.base_types.proofs.GrainOrder.{Before, Strict, same_is, is_same, irref}
+use Rattle.prepare_batch.proofs.Orders.{strict_grains}
 
 -- the pieces of a grain
 abbrev pub is_on : GrainId → Piece → Bool

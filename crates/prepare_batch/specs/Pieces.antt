@@ -17,8 +17,8 @@ abbrev pub pieces_by : List UnitNo → Effect → List Piece
 pieces_by units e = if reads_from units e then [] else pieces_in e
 
 -- what those wrote that read from none of these, in their order
-abbrev pub pieces_of : List UnitNo → List Effect → List Piece
-pieces_of units effects = flat_map (pieces_by units) effects
+abbrev pub batch_pieces : List UnitNo → List Effect → List Piece
+batch_pieces units effects = flat_map (pieces_by units) effects
 
 -- the pieces by grains, ascending, those of one grain in the order that they had
 abbrev pub pieces_by_grain : List Piece → List Piece

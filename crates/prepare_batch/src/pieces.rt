@@ -1,7 +1,7 @@
 ghost use Rattle.std.specs.Prelude.{◌≡◌, ◌++◌, is_ok, if◌then◌else◌, IfOk, OnOk};
 ghost use Rattle.cell_model.specs.Sources.{is_among};
 ghost use Rattle.prepare_batch.specs.Work.{reads_from};
-ghost use Rattle.prepare_batch.specs.Pieces.{pieces_in, pieces_by, pieces_of, pieces_by_grain};
+ghost use Rattle.prepare_batch.specs.Pieces.{pieces_in, pieces_by, batch_pieces, pieces_by_grain};
 
 use base_types::{GrainId, UnitNo, Version};
 use core_model::Effect;
@@ -15,12 +15,12 @@ pub struct Piece {
 }
 
 /// What the units of a batch wrote, in batch order, but for units that read from an aborted one.
-pub fn pieces_of(
+pub fn batch_pieces(
     alloc: Global,
     batch: &[Effect],
     aborted: &[UnitNo],
 ) -> Result<Vec<Piece>, AllocError>
-    ensures { IfOk result (λ made. made.items ≡ pieces_of aborted.now batch.now) }
+    ensures { IfOk result (λ made. made.items ≡ batch_pieces aborted.now batch.now) }
 {
     let mut pieces = Vec::new(alloc);
     for effect in batch {

@@ -4,7 +4,7 @@ ghost use Rattle.prepare_batch.specs.Work.{ends_by, untouched, work_of};
 ghost use Rattle.prepare_batch.specs.Pieces.{first_work, with_piece, with_pieces};
 ghost use Rattle.cell_model.specs.Units.{same_grain};
 
-use crate::pieces::{Piece, pieces_of, sort_by_grain};
+use crate::pieces::{Piece, batch_pieces, sort_by_grain};
 use base_types::{Ends, GrainId, List, UnitNo, Version};
 use core_model::Effect;
 use std::alloc::{AllocError, Global};
@@ -29,7 +29,7 @@ pub fn plan(
 ) -> Result<List<FileWork>, AllocError>
     ensures { IfOk result (λ made. made ≡ work_of (ends_by ends.now) (untouched aborted.now batch.now)) }
 {
-    let mut pieces = pieces_of(alloc, batch.as_slice(), aborted.as_slice())?;
+    let mut pieces = batch_pieces(alloc, batch.as_slice(), aborted.as_slice())?;
     sort_by_grain(&mut pieces)?;
     let works = works_of(alloc, pieces, ends)?;
     Ok(List::from_vec(works))
