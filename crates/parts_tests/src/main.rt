@@ -19,9 +19,11 @@ mod equality;
 mod handed_states;
 mod last_states;
 mod locks;
+mod places;
 mod plans;
 mod printer;
 mod queue;
+mod recent;
 mod stacks;
 mod steps;
 mod stores;
@@ -42,6 +44,7 @@ fn play(alloc: Global, out: &mut String, part: &str, steps: &str) -> Result<(), 
         "table" => tables::play(alloc, out, steps),
         "units" => units::play(alloc, out, steps),
         "batch" => batches::play(alloc, out, steps),
+        "recent" => recent::play(alloc, out, steps),
         _ => play_list(alloc, out, part, steps),
     }
 }
@@ -57,6 +60,7 @@ fn play_list(alloc: Global, out: &mut String, part: &str, steps: &str) -> Result
         "handed" => handed_states::play(alloc, out, steps),
         "store" => stores::play(alloc, out, steps),
         "ends" => ends::play(alloc, out, steps),
+        "places" => places::play(alloc, out, steps),
         "copy" => copies::play(alloc, out, steps),
         _ => out.push_str(" = no such part"),
     }
