@@ -182,6 +182,8 @@ fn event_for(work: SettlerWork, written: bool) -> Option<CoreEvent>
         SettlerWork::Learn { unit, grain } => Some(CoreEvent::Learn { unit, grain }),
         SettlerWork::Write { .. } => Some(CoreEvent::Emitted),
         SettlerWork::Take => Some(CoreEvent::Take),
+        // Memory has no limit here.
+        SettlerWork::Load { .. } => None,
         SettlerWork::Nothing => None,
     }
 }

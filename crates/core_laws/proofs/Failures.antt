@@ -57,7 +57,7 @@ first_grain-none (g ∷ gs) e = go (first_grain gs) e
     go (Some k) t = cc
 
 -- the first is one of them, and none comes before it
-first_grain-some : (gs : List GrainId) (g : GrainId) → first_grain gs ≡ Some g → Member g gs × ((k : GrainId) → Member k gs → is_before k g ≡ false)
+pub first_grain-some : (gs : List GrainId) (g : GrainId) → first_grain gs ≡ Some g → Member g gs × ((k : GrainId) → Member k gs → is_before k g ≡ false)
 first_grain-some [] g e = cc
 first_grain-some (x ∷ xs) g e = go (λ y q. first_grain-some xs y q) (first_grain xs) refl e
   where

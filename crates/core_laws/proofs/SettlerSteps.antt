@@ -1,27 +1,28 @@
 -- The event of the settler's step applies, and what is shown for it.
-use Rattle.std.proofs.Common.{◌≡◌, ◌↔◌, ℕ, zero, suc, ◌+◌, List, [], ◌∷◌, ◌++◌, length, take, drop, map, append-nil, take-append-drop, Bool, true, false, ◌&&◌, ◌||◌, not, ◌⊎◌, inl, inr, refl, sym, ap, ◌∙◌, subst, arith, Option, Some, None, find, filter, is_some, is_none, nat_lt, ◌<◌}
+use Rattle.std.proofs.Common.{◌≡◌, ◌↔◌, ℕ, zero, suc, ◌+◌, List, [], ◌∷◌, ◌++◌, length, take, drop, map, append-nil, take-append-drop, Bool, true, false, true≢false, ◌&&◌, ◌||◌, not, ◌⊎◌, inl, inr, refl, sym, ap, ◌∙◌, subst, arith, Option, Some, None, find, filter, is_some, is_none, nat_lt, ◌<◌}
 use Rattle.std.specs.Prelude.{◌==◌, if◌then◌else◌, flat_map}
 use Rattle.std.proofs.lemmas.Option.{slice_get_cases}
 use Rattle.std.proofs.lemmas.Bool.{ltb-true, and_parts, and_from, cases_Bool, cond_both, cond-true, cond-false, eq-eqb}
 use Rattle.cell_model.proofs.Units.{any-member, same_grain-is, filter-member}
 use Rattle.core_model.specs.CoreState.{UnitNo, GrainId, same_grain, Member, Value, Version, Outcome, Write, Batch, Decision, CoreState}
 use Rattle.core_model.specs.declared.effects.Effect.{Effect}
-use Rattle.core_model.specs.Tests.{any, all, is_final, is_good, outcome_of, waiting, is_planned, is_voted, is_vote_on, members, has_bad_source, state_written}
+use Rattle.core_model.specs.Tests.{any, all, is_final, is_good, outcome_of, waiting, is_planned, is_voted, is_vote_on, members, has_bad_source, state_written, is_wanted}
 use Rattle.core_model.specs.Chains.{WroteGrain}
 use Rattle.core_model.specs.Changes.{swept, swept_by}
 use Rattle.core_model.specs.LearnQueue.{to_learn, next_learn}
-use Rattle.core_model.specs.Settler.{Votes, Decides, Learns, Seals, Writes, Takes, Rests, MakesEvent, first_unvoted, undecided_step, batch_step, learn_step, last_step, later_step, version_written, version_to_write, to_commit, Step, settler_step, step_of, work_in, write_work}
+use Rattle.core_model.specs.Settler.{Votes, Decides, Learns, Seals, Writes, Loads, Takes, Rests, MakesEvent, first_unvoted, undecided_step, batch_step, learn_step, load_step, last_step, later_step, version_written, version_to_write, to_commit, Step, settler_step, step_of, work_in, write_work}
 use Rattle.core_model.specs.Steps.{StepApplies, ShowsVersions, TellsDecided}
 use Rattle.core_model.specs.Events.{applies, can, does, step, run, is_allowed, is_open, is_judged, is_after_doubt, is_after_halt}
 use Rattle.core_model.specs.declared.events.CoreEvent.{CoreEvent}
-use Rattle.core_model.specs.declared.events.CoreEvent.TheVariants.{Take, Vote, Decide, Sealed, NotSealed, Doubt, Learn, Emitted}
+use Rattle.core_model.specs.declared.events.CoreEvent.TheVariants.{Take, Vote, Decide, Sealed, NotSealed, Doubt, Learn, Emitted, Load}
 use Rattle.core_model.specs.Effects.{effect_of}
 use Rattle.core_model.specs.Answers.{known}
 use Rattle.core_model.specs.declared.questions.CoreAnswer.TheVariants as answer
 use Rattle.core_model.specs.declared.questions.KnownOutcome.TheVariants.{Decided}
 use Rattle.core_model.specs.SerialOrder.{chosen, batch_begin}
 use Rattle.core_model.specs.LegalRuns.{Run, IsLegal, begins, ends}
-use Rattle.core_laws.proofs.Failures.{named-written}
+use Rattle.core_model.specs.WantedGrains.{next_wanted}
+use Rattle.core_laws.proofs.Failures.{named-written, first_grain-some}
 use Rattle.core_laws.proofs.Plans.{flat-member, member-flat}
 use Rattle.core_laws.proofs.EventCases.{Change, bad, begin, lock, raise, refuse, finish, end_plain, end_snapshot, release, take_batch, vote, decide_some, decide_none, seal_batch, spoil_batch, doubt_batch, learn, emit, halt_run, want, load, decode}
 use Rattle.core_laws.proofs.Orders.{in_drop}
@@ -137,16 +138,44 @@ learn-can w x q =
     and_from (is_some (state_written x.1 (w.manager.writes x.0))) (is_final (w.manager.verdict x.0) && not (w.cells.learnt x.0 x.1)) (ap is_some s.1.1)
     (and_from (is_final (w.manager.verdict x.0)) (not (w.cells.learnt x.0 x.1)) f.1 t.1)
 
+-- of these waits one is for the grain
+wanted-one : (wants : List (UnitNo × GrainId)) (g : GrainId) → Member g (map (λ (t : UnitNo × GrainId). t.1) wants) → is_wanted wants g ≡ true
+wanted-one [] g m = absurd m
+wanted-one (t ∷ ts) g (inl q) = ap (λ b. b || is_wanted ts g) (same_grain-is t.1 g (sym q))
+wanted-one (t ∷ ts) g (inr m) = (let r = wanted-one ts g m in ap (λ b. same_grain t.1 g || b) r ∙ or-end (same_grain t.1 g))
+  where
+    or-end : (b : Bool) → (b || true) ≡ true
+    or-end true = refl
+    or-end false = refl
+
+-- what is to be brought into memory can be
+load-can : (w : CoreState) (g : GrainId) (u : UnitNo) (state : List Value) → next_wanted w ≡ Some g → can w (Load g u state) ≡ true
+load-can w g u state e =
+    let m = (first_grain-some (filter (λ k. not (w.cells.here k)) (map (λ (t : UnitNo × GrainId). t.1) w.units.wants)) g e).0 in
+    let f = filter-member (λ k. not (w.cells.here k)) (map (λ (t : UnitNo × GrainId). t.1) w.units.wants) g m in
+    and_from (not (w.cells.here g)) (is_wanted w.units.wants g) f.1 (wanted-one w.units.wants g f.0)
+
 module _ (w : CoreState) (ended : Ended w) (e : CoreEvent) where
   abbrev Applies : Type 0
   Applies = applies w e ≡ (not w.units.halt || is_after_halt e)
 
-  by_last : (may_take : Bool) → (is_none w.manager.doubt ≡ true) ⊎ (may_take ≡ false) → MakesEvent (last_step w may_take) e → Applies
-  by_last may_take o = cond_both (nat_lt w.manager.emitted (length w.manager.settled)) Writes (if may_take && applies w Take then Takes else Rests) (λ s. MakesEvent s e → Applies)
+  by_load : is_none w.manager.doubt ≡ true → (o : Option GrainId) → next_wanted w ≡ o → MakesEvent (load_step w o) e → Applies
+  by_load d None n m = cond_both (applies w Take) Takes Rests (λ s. MakesEvent s e → Applies)
+      (λ t q. subst (λ (x : CoreEvent). applies w x ≡ (not w.units.halt || is_after_halt x)) (sym q)
+      (allowed-is w Take (and_parts _ _ (and_parts (is_allowed w Take) (can w Take) t).0).0 (and_parts (is_allowed w Take) (can w Take) t).1))
+      (λ t q. absurd q) m
+  by_load d (Some g) n q =
+      subst (λ (x : CoreEvent). applies w x ≡ (not w.units.halt || is_after_halt x)) (sym q.2) (allowed-is w (Load g q.0 q.1) (ap (λ b. b || false) d) (load-can w g q.0 q.1 n))
+
+  by_last : (may : Bool) → (is_none w.manager.doubt ≡ true) ⊎ (may ≡ false) → MakesEvent (last_step w may) e → Applies
+  by_last may o = cond_both (nat_lt w.manager.emitted (length w.manager.settled)) Writes (if may && not w.units.halt then load_step w (next_wanted w) else Rests) (λ s. MakesEvent s e → Applies)
       (λ h q. subst (λ (x : CoreEvent). applies w x ≡ (not w.units.halt || is_after_halt x)) (sym q) (allowed-is w Emitted (or-true (is_none w.manager.doubt)) h))
-      (λ h. cond_both (may_take && applies w Take) Takes Rests (λ s. MakesEvent s e → Applies)
-      (λ t q. (let p = and_parts may_take (applies w Take) t in
-      subst (λ (x : CoreEvent). applies w x ≡ (not w.units.halt || is_after_halt x)) (sym q) (allowed-is w Take (and_parts _ _ (and_parts (is_allowed w Take) (can w Take) p.1).0).0 (and_parts (is_allowed w Take) (can w Take) p.1).1)))
+      (λ h. cond_both (may && not w.units.halt) (load_step w (next_wanted w)) Rests (λ s. MakesEvent s e → Applies)
+      (λ t q. (let p = and_parts may (not w.units.halt) t in
+      elim o [
+        | inl d ↦ by_load d (next_wanted w) refl q
+        | inr f ↦ absurd (true≢false (sym p.0 ∙ f))
+      ]))
       (λ t q. absurd q))
     where
       or-true : (a : Bool) → (a || true) ≡ true
@@ -232,6 +261,7 @@ shows-step w Writes left = elim (slice_get_cases w.manager.settled w.manager.emi
   | inl t ↦ ap (λ o. step_of (write_work o)) t.2
   | inr t ↦ absurd (let lt = left refl in omega (arith, lt, t.0))
 ]
+shows-step w (Loads g) left = refl
 shows-step w Takes left = refl
 shows-step w Rests left = refl
 

@@ -1,13 +1,17 @@
 -- Where memory has no limit no load applies.
-use Rattle.std.proofs.Common.{◌≡◌, List, [], ◌∷◌, true, false, not, sym, ap, ◌∙◌, subst, None, is_none}
-use Rattle.std.proofs.lemmas.Bool.{and_parts, cond_both}
-use Rattle.core_model.specs.CoreState.{GrainId, Value, CoreState}
-use Rattle.core_model.specs.Tests.{is_wanted}
+use Rattle.std.proofs.Common.{◌≡◌, List, [], ◌∷◌, Bool, true, false, ◌&&◌, not, refl, sym, ap, ◌∙◌, subst, Option, None, Some, is_some, is_none, filter, length, map, nat_lt}
+use Rattle.std.specs.Prelude.{if◌then◌else◌}
+use Rattle.std.proofs.lemmas.Bool.{and_parts, cond_both, cond-false}
+use Rattle.core_model.specs.CoreState.{UnitNo, GrainId, Value, Batch, CoreState}
+use Rattle.core_model.specs.Tests.{first_grain, is_wanted}
 use Rattle.core_model.specs.Changes.{swept, swept_by}
-use Rattle.core_model.specs.Events.{applies, can, does, step, is_allowed}
+use Rattle.core_model.specs.Events.{applies, can, does, step, run, is_allowed}
 use Rattle.core_model.specs.declared.events.CoreEvent.{CoreEvent}
 use Rattle.core_model.specs.declared.events.CoreEvent.TheVariants.{Bad, Begin, Grant, Refuse, Finish, EndPlain, EndSnapshot, Release, Take, Vote, Decide, Sealed, NotSealed, Doubt, Learn, Emitted, Halt, Want, Load}
-use Rattle.core_model.specs.LegalRuns.{Run, begins}
+use Rattle.core_model.specs.LegalRuns.{Run, begins, ends}
+use Rattle.core_model.specs.WantedGrains.{next_wanted}
+use Rattle.core_model.specs.LearnQueue.{next_learn}
+use Rattle.core_model.specs.Settler.{Seals, Writes, Loads, Takes, Rests, first_unvoted, undecided_step, batch_step, learn_step, load_step, last_step, settler_step}
 use Rattle.core_model.specs.SerialOrder.{IsTrueLoad, AllLoadsTrue}
 use Rattle.core_laws.proofs.EventCases.{Change, bad, begin, lock, raise, refuse, finish, end_plain, end_snapshot, release, take_batch, vote, decide_some, decide_none, seal_batch, spoil_batch, doubt_batch, learn, emit, halt_run, want, load, decode}
 
@@ -76,3 +80,52 @@ no-loads opening (e ∷ es) w m = (no-load opening w e m, no-loads opening es (s
 
 pub loads-without-limit : (r : Run) → r.capacity ≡ None → AllLoadsTrue r.opening (begins r) r.events
 loads-without-limit r limit = no-loads r.opening r.events (begins r) (limit, λ g. ap is_none limit)
+
+here-run : (es : List CoreEvent) (w : CoreState) → AllHere w → AllHere (run w es)
+here-run [] w m = m
+here-run (e ∷ es) w m = here-run es (step w e) (here-step w e m)
+
+all-here : (r : Run) → r.capacity ≡ None → AllHere (ends r)
+all-here r limit = here-run r.events (begins r) (limit, λ g. ap is_none limit)
+
+-- each grain is in memory
+pub here-without-limit : (r : Run) → r.capacity ≡ None → (g : GrainId) → (ends r).cells.here g ≡ true
+here-without-limit r limit = (all-here r limit).1
+
+-- so none is to be brought into it
+pub wanted-without-limit : (r : Run) → r.capacity ≡ None → next_wanted (ends r) ≡ None
+wanted-without-limit r limit = ap first_grain (none-left (map (λ (t : UnitNo × GrainId). t.1) (ends r).units.wants))
+  where
+    none-left : (gs : List GrainId) → filter (λ g. not ((ends r).cells.here g)) gs ≡ []
+    none-left [] = refl
+    none-left (g ∷ gs) = cond-false (not ((ends r).cells.here g)) (g ∷ filter (λ k. not ((ends r).cells.here k)) gs) (filter (λ k. not ((ends r).cells.here k)) gs) (ap not (here-without-limit r limit g)) ∙ none-left gs
+
+-- the settler brings the first wanted grain into memory, and no other
+module _ (w : CoreState) (g : GrainId) where
+  last-loads : (unwritten may : Bool) (o : Option GrainId) → (if unwritten then Writes else (if may then load_step w o else Rests)) ≡ Loads g → o ≡ Some g
+  last-loads true may o q = cc
+  last-loads false false o q = cc
+  last-loads false true None q = absurd (by (applies w Take) q)
+    where
+      by : (takes : Bool) → (if takes then Takes else Rests) ≡ Loads g → ⊥
+      by true z = cc
+      by false z = cc
+  last-loads false true (Some k) q = cc
+
+  later-loads : (doubt : Bool) (next : Option (UnitNo × GrainId)) → (if doubt then last_step w false else learn_step w next) ≡ Loads g → next_wanted w ≡ Some g
+  later-loads true next q = last-loads (nat_lt w.manager.emitted (length w.manager.settled)) (false && not w.units.halt) (next_wanted w) q
+  later-loads false None q = last-loads (nat_lt w.manager.emitted (length w.manager.settled)) (true && not w.units.halt) (next_wanted w) q
+  later-loads false (Some x) q = cc
+
+  batch-loads : (b : Option Batch) → batch_step w b ≡ Loads g → next_wanted w ≡ Some g
+  batch-loads None q = later-loads (is_some w.manager.doubt) (next_learn w) q
+  batch-loads (Some b) q = absurd (by (is_some b.decisions) (first_unvoted b) q)
+    where
+      by : (decided : Bool) (o : Option GrainId) → (if decided then Seals b.number else undecided_step b.number o) ≡ Loads g → ⊥
+      by true o z = cc
+      by false None z = cc
+      by false (Some k) z = cc
+
+-- where memory has no limit the settler brings nothing into it
+pub no-load-step : (r : Run) → r.capacity ≡ None → (g : GrainId) → settler_step (ends r) ≡ Loads g → ⊥
+no-load-step r limit g q = (let t : None ≡ Some g = sym (wanted-without-limit r limit) ∙ batch-loads (ends r) g (ends r).manager.batch q in cc)

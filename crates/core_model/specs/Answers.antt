@@ -9,9 +9,10 @@ use Rattle.core_model.specs.declared.questions.KnownOutcome.TheVariants.{Undecid
 use Rattle.core_model.specs.declared.questions.BatchView.{BatchView}
 use Rattle.cell_model.specs.Sources.{with_source}
 use Rattle.core_model.specs.CoreState.{UnitNo, GrainId, Outcome, Batch, CoreState}
-use Rattle.core_model.specs.Tests.{is_aborted, is_decided, outcome_of, ask_answer, members, first_grain}
+use Rattle.core_model.specs.Tests.{is_aborted, is_decided, outcome_of, ask_answer, members}
 pub use Rattle.core_model.specs.Effects.{effect_of}
 pub use Rattle.core_model.specs.LearnQueue.{next_learn}
+pub use Rattle.core_model.specs.WantedGrains.{next_wanted}
 use Rattle.core_model.specs.Settler.{settler_step, work_in}
 use Rattle.core_model.specs.Events.{applies, Take}
 
@@ -38,10 +39,6 @@ view w b = record {
   votes = b.votes;
   decisions = b.decisions;
 }
-
--- the first wanted grain that isn't in memory
-abbrev pub next_wanted : CoreState → Option GrainId
-next_wanted w = first_grain (filter (λ g. not (w.cells.here g)) (map (λ (t : UnitNo × GrainId). t.1) w.units.wants))
 
 -- the answer to a question
 abbrev pub answer_to : CoreState → CoreQuestion → CoreAnswer

@@ -5,6 +5,7 @@ pub mod Changes
 pub mod Events
 pub mod Effects
 pub mod LearnQueue
+pub mod WantedGrains
 pub mod Settler
 pub mod Steps
 pub mod Answers

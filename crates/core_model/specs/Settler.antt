@@ -2,21 +2,23 @@
 use Rattle.std.specs.Prelude.{◌≡◌, ◌⊎◌, ℕ, nat_lt, Bool, true, false, ◌&&◌, not, if◌then◌else◌, List, [], ◌∷◌, map, filter, find, length, flat_map, Option, Some, None, is_some, slice_get}
 use Rattle.std.specs.List.{list_any as any}
 use Rattle.core_model.specs.CoreState.{UnitNo, GrainId, Value, Version, Effect, Entry, Batch, CoreState}
+use Rattle.core_model.specs.WantedGrains.{next_wanted}
 use Rattle.core_model.specs.Tests.{is_good, state_written, members, has_bad_source, is_vote_on}
 use Rattle.core_model.specs.Effects.{effect_of}
 use Rattle.core_model.specs.LearnQueue.{next_learn}
-use Rattle.core_model.specs.Events.{CoreEvent, Take, Vote, Decide, Sealed, NotSealed, Doubt, Learn, Emitted, applies}
+use Rattle.core_model.specs.Events.{CoreEvent, Take, Vote, Decide, Sealed, NotSealed, Doubt, Learn, Emitted, Load, applies}
 use Rattle.core_model.specs.declared.questions.SettlerWork.{SettlerWork}
 use Rattle.core_model.specs.declared.questions.SettlerWork.TheVariants as work
 
 -- what the settler does next: it has a grain's versions of the batch written and votes, decides the batch, seals it,
--- has a grain learn a decision, writes an entry, takes a batch, or has nothing to do
+-- has a grain learn a decision, writes an entry, brings a grain into memory, takes a batch, or has nothing to do
 pub data Step : Type 0 where
   Votes : ℕ → GrainId → Step
   Decides : ℕ → Step
   Seals : ℕ → Step
   Learns : UnitNo → GrainId → Step
   Writes : Step
+  Loads : GrainId → Step
   Takes : Step
   Rests : Step
 
@@ -24,17 +26,27 @@ pub data Step : Type 0 where
 abbrev pub first_unvoted : Batch → Option GrainId
 first_unvoted b = find (λ g. not (any (is_vote_on g) b.votes)) b.plan
 
--- what is to write comes before a batch that can be taken, where one may be
+-- a batch, where one can be taken
+abbrev pub take_step : CoreState → Step
+take_step w = if applies w Take then Takes else Rests
+
+-- a wanted grain that isn't in memory comes before
+abbrev pub load_step : CoreState → Option GrainId → Step
+load_step w None = take_step w
+load_step w (Some g) = Loads g
+
+-- what is to write comes before what is to load and to take, where that may be and no stop stands
 abbrev pub last_step : CoreState → Bool → Step
-last_step w may_take = if nat_lt w.manager.emitted (length w.manager.settled) then Writes else (if may_take && applies w Take then Takes else Rests)
+last_step w may =
+    if nat_lt w.manager.emitted (length w.manager.settled) then Writes else (if may && not w.units.halt then load_step w (next_wanted w) else Rests)
 
 -- what is to learn comes before
 abbrev pub learn_step : CoreState → Option (UnitNo × GrainId) → Step
 learn_step w None = last_step w true
 learn_step w (Some x) = Learns x.0 x.1
 
--- behind the open batch come what is to learn, what is to write, and what is to take; after a doubt entries alone are
--- written
+-- behind the open batch come what is to learn, what is to write, what is to load, and what is to take; after a doubt
+-- entries alone are written
 abbrev pub later_step : CoreState → Step
 later_step w = if is_some w.manager.doubt then last_step w false else learn_step w (next_learn w)
 
@@ -52,13 +64,18 @@ batch_step w (Some b) = if is_some b.decisions then Seals b.number else undecide
 abbrev pub settler_step : CoreState → Step
 settler_step w = batch_step w w.manager.batch
 
--- the step makes this event; the vote and the answer of the seal are the host's
+-- the event brings that grain into memory
+abbrev pub IsLoadOf : GrainId → CoreEvent → Type 0
+IsLoadOf g e = (u : UnitNo) × (state : List Value) × (e ≡ Load g u state)
+
+-- the step makes this event; the vote, the answer of the seal and what is loaded are the host's
 abbrev pub MakesEvent : Step → CoreEvent → Type 0
 MakesEvent (Votes number g) e = (kept : Bool) × (e ≡ Vote number g kept)
 MakesEvent (Decides number) e = e ≡ Decide number
 MakesEvent (Seals number) e = (e ≡ Sealed number) ⊎ ((e ≡ NotSealed number) ⊎ (e ≡ Doubt number))
 MakesEvent (Learns u g) e = e ≡ Learn u g
 MakesEvent Writes e = e ≡ Emitted
+MakesEvent (Loads g) e = IsLoadOf g e
 MakesEvent Takes e = e ≡ Take
 MakesEvent Rests e = ⊥
 
@@ -69,6 +86,7 @@ has_step (Decides number) = true
 has_step (Seals number) = true
 has_step (Learns u g) = true
 has_step Writes = true
+has_step (Loads g) = true
 has_step Takes = true
 has_step Rests = false
 
@@ -103,6 +121,7 @@ work_in w (Decides number) = work.Decide number
 work_in w (Seals number) = work.Seal number (to_commit w w.manager.batch)
 work_in w (Learns u g) = work.Learn u g
 work_in w Writes = write_work (slice_get w.manager.settled w.manager.emitted)
+work_in w (Loads g) = work.Load g
 work_in w Takes = work.Take
 work_in w Rests = work.Nothing
 
@@ -113,5 +132,6 @@ step_of (work.Decide number) = Decides number
 step_of (work.Seal number effects) = Seals number
 step_of (work.Learn u g) = Learns u g
 step_of (work.Write entry) = Writes
+step_of (work.Load g) = Loads g
 step_of work.Take = Takes
 step_of work.Nothing = Rests

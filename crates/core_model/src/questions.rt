@@ -90,6 +90,10 @@ pub enum SettlerWork {
     Write {
         entry: Entry,
     },
+    /// The lowest grain that a unit wants and that isn't in memory.
+    Load {
+        grain: GrainId,
+    },
     /// A batch can be taken.
     Take,
     Nothing,

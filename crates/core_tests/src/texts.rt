@@ -263,6 +263,10 @@ fn add_work(out: &mut String, work: &SettlerWork) -> Result<(), AllocError> {
             out.push_str("writes ")?;
             add_entry(out, entry)
         }
+        SettlerWork::Load { grain } => {
+            out.push_str("loads ")?;
+            add_grain(out, *grain)
+        }
         SettlerWork::Take => out.push_str("takes"),
         SettlerWork::Nothing => out.push_str("rests"),
     }

@@ -1,15 +1,15 @@
 -- What is answered to a question, by what is kept, is the model's answer.
-use Rattle.std.proofs.Common.{◌≡◌, ℕ, zero, suc, ◌≤◌, List, [], ◌∷◌, Bool, true, false, ◌&&◌, not, refl, sym, ap, ◌∙◌, subst, Option, Some, None, is_some, is_none, nat_lt, cond, length, filter, find, map, take, slice_get, arith, inl, inr}
+use Rattle.std.proofs.Common.{◌≡◌, ℕ, zero, suc, ◌≤◌, List, [], ◌∷◌, Bool, true, false, ◌&&◌, ◌||◌, not, refl, sym, ap, ◌∙◌, subst, Option, Some, None, is_some, is_none, nat_lt, cond, length, filter, find, map, take, slice_get, arith, inl, inr}
 use Rattle.std.specs.Prelude.{if◌then◌else◌, option_map}
-use Rattle.std.proofs.lemmas.Bool.{cond-true, cond-false, lt-ltb, le-ltb}
+use Rattle.std.proofs.lemmas.Bool.{and_parts, cases_Bool, cond-true, cond-false, lt-ltb, le-ltb}
 use Rattle.std.proofs.lemmas.Option.{slice_get_within, slice_get_cases}
 use Rattle.core_model.specs.CoreState.{UnitNo, GrainId, Entry, Batch, CoreState}
 use Rattle.core_model.specs.Tests.{members, waiting, is_bad, is_good, is_aborted, outcome_in, outcome_of, first_grain}
 use Rattle.core_model.specs.LearnQueue.{to_learn, next_learn}
-use Rattle.core_model.specs.Events.{applies}
+use Rattle.core_model.specs.Events.{applies, can, is_allowed}
 use Rattle.core_model.specs.declared.events.CoreEvent.TheVariants.{Take}
 use Rattle.core_model.specs.Answers.{view, next_wanted}
-use Rattle.core_model.specs.Settler.{Seals, Writes, Takes, Rests, has_step, first_unvoted, last_step, learn_step, later_step, undecided_step, batch_step, settler_step, versions_to_write, to_commit, write_work, work_in}
+use Rattle.core_model.specs.Settler.{Step, Seals, Writes, Takes, Rests, has_step, first_unvoted, load_step, last_step, learn_step, later_step, undecided_step, batch_step, settler_step, versions_to_write, to_commit, write_work, work_in}
 use Rattle.core_model.specs.declared.questions.CoreQuestion.{CoreQuestion}
 use Rattle.core_model.specs.declared.questions.CoreAnswer.{CoreAnswer}
 use Rattle.core_model.specs.declared.questions.SettlerWork.{SettlerWork}
@@ -159,6 +159,24 @@ learns-is p u g here e = λ w s r. ap (λ t. work_in w (learn_step w t)) (sym e 
 pub learnt-is : (p : Parts) (work : SettlerWork) → p.doubt ≡ false → slice_get p.learn.pairs 0 ≡ None → ShowsStep p (λ w. last_step w true) work → ShowsStep p later_step work
 learnt-is p work here e h = λ w s r. h w s r ∙ ap (λ t. work_in w (learn_step w t)) (sym e ∙ learn-is p w s) ∙ ap (work_in w) (sure-is p w s here)
 
+-- after a stop no batch is taken
+stopped-takes : (w : CoreState) → w.units.halt ≡ true → applies w Take ≡ false
+stopped-takes w h = elim (cases_Bool (applies w Take)) [
+  | inl t ↦ (let going : (not w.units.halt || false) ≡ true = (and_parts (is_none w.manager.doubt || false) (not w.units.halt || false) (and_parts (is_allowed w Take) (can w Take) t).0).1 in
+      let z : false ≡ true = ap (λ b. not b || false) (sym h) ∙ going in cc)
+  | inr f ↦ f
+]
+
+-- nothing is to be brought into memory, so what is left is a batch that can be taken
+load-none : (p : Parts) (w : CoreState) → PartsStand p w → (may : Bool) →
+    (if may && not w.units.halt then load_step w (next_wanted w) else Rests) ≡ (if may && applies w Take then Takes else Rests)
+load-none p w s may = ap (λ (g : Option GrainId). if may && not w.units.halt then load_step w g else Rests) (wanted-is p w s) ∙ by may w.units.halt refl
+  where
+    by : (m h : Bool) → w.units.halt ≡ h → (if m && not h then load_step w None else Rests) ≡ (if m && applies w Take then Takes else Rests)
+    by false h q = refl
+    by true false q = refl
+    by true true q = sym (cond-false (applies w Take) Takes Rests (stopped-takes w q))
+
 -- no element is there only where the list isn't so long
 past : {A : Type 0} (xs : List A) (n : ℕ) → slice_get xs n ≡ None → length xs ≤ n
 past xs n e = elim ((slice_get_cases xs n).1) [
@@ -170,14 +188,15 @@ pub writes-is : (p : Parts) (entry : Entry) (may : Bool) → slice_get p.entries
 writes-is p entry may e = λ w s r.
     let here : slice_get w.manager.settled w.manager.emitted ≡ Some entry = sym (next-is p w s) ∙ e in
     let more : nat_lt w.manager.emitted (length w.manager.settled) ≡ true = lt-ltb w.manager.emitted (length w.manager.settled) (slice_get_within w.manager.settled w.manager.emitted entry here) in
-    ap write_work (sym here) ∙ ap (work_in w) (sym (cond-true (nat_lt w.manager.emitted (length w.manager.settled)) Writes (if may && applies w Take then Takes else Rests) more))
+    ap write_work (sym here) ∙ ap (work_in w) (sym (cond-true (nat_lt w.manager.emitted (length w.manager.settled)) Writes (if may && not w.units.halt then load_step w (next_wanted w) else Rests) more))
 
 pub written-is : (p : Parts) (work : SettlerWork) (may : Bool) → slice_get p.entries.entries p.entries.emitted ≡ None →
     ShowsStep p (λ w. if may && applies w Take then Takes else Rests) work → ShowsStep p (λ w. last_step w may) work
 written-is p work may e h = λ w s r.
     let here : slice_get w.manager.settled w.manager.emitted ≡ None = sym (next-is p w s) ∙ e in
     let no_more : nat_lt w.manager.emitted (length w.manager.settled) ≡ false = le-ltb w.manager.emitted (length w.manager.settled) (past w.manager.settled w.manager.emitted here) in
-    h w s r ∙ ap (work_in w) (sym (cond-false (nat_lt w.manager.emitted (length w.manager.settled)) Writes (if may && applies w Take then Takes else Rests) no_more))
+    h w s r ∙ ap (work_in w) (sym (load-none p w s may))
+    ∙ ap (work_in w) (sym (cond-false (nat_lt w.manager.emitted (length w.manager.settled)) Writes (if may && not w.units.halt then load_step w (next_wanted w) else Rests) no_more))
 
 pub takes-is : (p : Parts) (may can : Bool) → ((w : CoreState) → PartsStand p w → IsCoreReached w → can ≡ applies w Take) → (may && can) ≡ true → ShowsStep p (λ w. if may && applies w Take then Takes else Rests) work.Take
 takes-is p may can t e = λ w s r. ap (work_in w) (sym (cond-true (may && applies w Take) Takes Rests (ap (λ b. may && b) (sym (t w s r)) ∙ e)))
@@ -195,16 +214,19 @@ either false b = b
 abbrev pub stepping : Bool → Bool → Bool → Bool → Bool → Bool
 stepping batch unwritten doubt unlearnt takes = either batch (either unwritten (if doubt then false else either unlearnt takes))
 
-last-has : (w : CoreState) (may : Bool) → has_step (last_step w may) ≡ either (nat_lt w.manager.emitted (length w.manager.settled)) (may && applies w Take)
-last-has w may = by (nat_lt w.manager.emitted (length w.manager.settled)) (may && applies w Take)
+last-has : (p : Parts) (w : CoreState) → PartsStand p w → (may : Bool) → has_step (last_step w may) ≡ either (nat_lt w.manager.emitted (length w.manager.settled)) (may && applies w Take)
+last-has p w s may =
+    ap (λ (x : Step). has_step (if nat_lt w.manager.emitted (length w.manager.settled) then Writes else x)) (load-none p w s may)
+    ∙ by (nat_lt w.manager.emitted (length w.manager.settled)) (may && applies w Take)
   where
     by : (n m : Bool) → has_step (if n then Writes else (if m then Takes else Rests)) ≡ either n m
     by true m = refl
     by false true = refl
     by false false = refl
 
-later-has : (w : CoreState) → has_step (later_step w) ≡ stepping false (nat_lt w.manager.emitted (length w.manager.settled)) (is_some w.manager.doubt) (is_some (next_learn w)) (applies w Take)
-later-has w = by (is_some w.manager.doubt) (next_learn w)
+later-has : (p : Parts) (w : CoreState) → PartsStand p w
+    → has_step (later_step w) ≡ stepping false (nat_lt w.manager.emitted (length w.manager.settled)) (is_some w.manager.doubt) (is_some (next_learn w)) (applies w Take)
+later-has p w s = by (is_some w.manager.doubt) (next_learn w)
   where
     here : (n : Bool) → true ≡ either n true
     here true = refl
@@ -212,8 +234,8 @@ later-has w = by (is_some w.manager.doubt) (next_learn w)
 
     by : (d : Bool) (x : Option (UnitNo × GrainId)) → has_step (if d then last_step w false else learn_step w x)
         ≡ stepping false (nat_lt w.manager.emitted (length w.manager.settled)) d (is_some x) (applies w Take)
-    by true x = last-has w false
-    by false None = last-has w true
+    by true x = last-has p w s false
+    by false None = last-has p w s true
     by false (Some x) = here (nat_lt w.manager.emitted (length w.manager.settled))
 
 batch-has : (w : CoreState) (b : Option Batch) → has_step (batch_step w b) ≡ either (is_some b) (has_step (later_step w))
@@ -229,7 +251,7 @@ batch-has w (Some x) = by (is_some x.decisions) (first_unvoted x)
 pub has-work : (p : Parts) (w : CoreState) (batch unwritten doubt unlearnt takes : Bool) → PartsStand p w → is_some p.batch ≡ batch → nat_lt p.entries.emitted (length p.entries.entries) ≡ unwritten → p.doubt ≡ doubt
     → is_some (slice_get p.learn.pairs 0) ≡ unlearnt → applies w Take ≡ takes → stepping batch unwritten doubt unlearnt takes ≡ has_step (settler_step w)
 has-work p w batch unwritten doubt unlearnt takes s b n d l t =
-    sym (batch-has w w.manager.batch ∙ ap (either (is_some w.manager.batch)) (later-has w)
+    sym (batch-has w w.manager.batch ∙ ap (either (is_some w.manager.batch)) (later-has p w s)
     ∙ (λ i. stepping ((sym s.batch.same ∙ b) i) (((λ j. nat_lt (s.emitted j) (length (s.settled j))) ∙ n) i) ((s.doubt ∙ d) i) ((ap is_some (sym (learn-is p w s)) ∙ l) i) (t i)))
 
 pub open-has : (p : Parts) (w : CoreState) → PartsStand p w → is_some p.batch ≡ true → true ≡ has_step (settler_step w)

@@ -97,7 +97,7 @@ module _ (tells : Bool) (o : Outset) (lines : List Line) (b : Books) (s s' : Tur
     books = on.on.books;
     record_kept = record {
       above = above by;
-      units = settles-rule o s.at.run s'.at.run by way.turning.unit_rule;
+      units = settles-rule o s.at.run s'.at.run way.turning.unlimited by way.turning.unit_rule;
       turns = turns by;
       books = on.on.kept;
     };

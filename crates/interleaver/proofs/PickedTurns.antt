@@ -3,9 +3,10 @@ use Rattle.std.proofs.Common.{◌≡◌, ℕ, zero, suc, ◌+◌, ◌%◌, ◌++
 use Rattle.std.specs.Prelude.{drop, filter, map, if◌then◌else◌, get_or, slice_get, Result, Ok, Err, is_some}
 use Rattle.std.proofs.lemmas.Option.{get_or_from_slice_get}
 use Rattle.request_wire.specs.declared.requests.Line.{Line}
-use Rattle.core_model.specs.CoreState.{UnitNo, nobody}
+use Rattle.core_model.specs.CoreState.{UnitNo, GrainId, nobody}
 use Rattle.core_model.specs.LegalRuns.{Run, ends}
-use Rattle.core_model.specs.Settler.{has_step, settler_step, MakesEvent, Step, Votes, Decides, Seals, Learns, Writes, Takes, Rests}
+use Rattle.core_model.specs.Settler.{has_step, settler_step, MakesEvent, Step, Votes, Decides, Seals, Learns, Writes, Loads, Takes, Rests}
+use Rattle.core_laws.proofs.WithoutLimit.{no-load-step}
 use Rattle.core_model.specs.declared.events.CoreEvent.{CoreEvent}
 use Rattle.core_access.specs.Histories.{reply_in}
 use Rattle.core_access.specs.OneHolder.{none_comes, own_sight}
@@ -52,24 +53,25 @@ pub at-outset : (P : ProgramTree → ℕ → List ℕ → Type 0) (o : Outset) (
 at-outset P o types r lines width picks is p =
     subst (λ (t : ProgramTree). P t width picks) is.types_are (subst (λ (n : ℕ). P o.program.types n picks) is.width_is (subst (P o.program.types o.width) is.picks_are p))
 
--- the settler's events
-settlers-settle : (s : Step) (e : CoreEvent) → MakesEvent s e → is_settling e ≡ true
-settlers-settle (Votes n g) e m = ap is_settling m.1
-settlers-settle (Decides n) e m = ap is_settling m
-settlers-settle (Seals n) e (inl m) = ap is_settling m
-settlers-settle (Seals n) e (inr (inl m)) = ap is_settling m
-settlers-settle (Seals n) e (inr (inr m)) = ap is_settling m
-settlers-settle (Learns u g) e m = ap is_settling m
-settlers-settle Writes e m = ap is_settling m
-settlers-settle Takes e m = ap is_settling m
-settlers-settle Rests e m = absurd m
+-- the events of a settler that brings no grain into memory
+settlers-settle : (s : Step) (e : CoreEvent) → ((g : GrainId) → s ≡ Loads g → ⊥) → MakesEvent s e → is_settling e ≡ true
+settlers-settle (Votes n g) e stays m = ap is_settling m.1
+settlers-settle (Decides n) e stays m = ap is_settling m
+settlers-settle (Seals n) e stays (inl m) = ap is_settling m
+settlers-settle (Seals n) e stays (inr (inl m)) = ap is_settling m
+settlers-settle (Seals n) e stays (inr (inr m)) = ap is_settling m
+settlers-settle (Learns u g) e stays m = ap is_settling m
+settlers-settle Writes e stays m = ap is_settling m
+settlers-settle (Loads g) e stays m = absurd (stays g refl)
+settlers-settle Takes e stays m = ap is_settling m
+settlers-settle Rests e stays m = absurd m
 
 -- what is known of carried units stays by a step of the settler
-pub settles-known : (types : ProgramTree) (agents : List Agent) (r r' : Run) → SettlesBy r r' → AreCarried types none_comes (own_sight r) agents → AreCarried types none_comes (own_sight r') agents
-settles-known types agents r r' (inl q) c = subst (λ (x : Run). AreCarried types none_comes (own_sight x) agents) (sym q) c
-settles-known types agents r r' (inr (e, makes, q)) c =
+pub settles-known : (types : ProgramTree) (agents : List Agent) (r r' : Run) → r.capacity ≡ None → SettlesBy r r' → AreCarried types none_comes (own_sight r) agents → AreCarried types none_comes (own_sight r') agents
+settles-known types agents r r' limit (inl q) c = subst (λ (x : Run). AreCarried types none_comes (own_sight x) agents) (sym q) c
+settles-known types agents r r' limit (inr (e, makes, q)) c =
     subst (λ (x : Run). AreCarried types none_comes (own_sight x) agents) (sym q)
-    (settles-carried types none_comes (own_sight r) _ e (reply_in r e) agents (own-tells r e) (settlers-settle (settler_step (ends r)) e makes) c)
+    (settles-carried types none_comes (own_sight r) _ e (reply_in r e) agents (own-tells r e) (settlers-settle (settler_step (ends r)) e (no-load-step r limit) makes) c)
 
 module _ (keeps : OthersKeep) (tells : Bool) (o : Outset) (lines : List Line) (b : Books) (s : TurnStage) (r1 : Run) (agents1 : List Agent) (here : s.at.run.capacity ≡ None)
     (way : IsUnderWay tells o o.program.types lines o.width o.picks b s) (full : has_room (loop_at o s.at.run s.agents s.used) ≡ false)

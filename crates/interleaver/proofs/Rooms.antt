@@ -76,6 +76,7 @@ module _ (tells : Bool) (o : Outset) (types : ProgramTree) (lines : List Line) (
   turning : IsTurning (loop_at o s.at.run agents s.used)
   turning = record {
     first = way.turning.first;
+    unlimited = way.turning.unlimited;
     unit_rule = way.turning.unit_rule;
     unstopped = way.turning.unstopped;
     turn_rule = way.turning.turn_rule;

@@ -1,5 +1,5 @@
 -- Where a run of turns begins.
-use Rattle.std.proofs.Common.{◌≡◌, ◌⊎◌, ℕ, zero, suc, ◌+◌, ◌-◌, ◌≤◌, ◌<◌, Option, List, [], ◌∷◌, ◌++◌, map, Bool, true, false, true≢false, inl, inr, refl, sym, ap, ◌∙◌, arith}
+use Rattle.std.proofs.Common.{◌≡◌, ◌⊎◌, ℕ, zero, suc, ◌+◌, ◌-◌, ◌≤◌, ◌<◌, Option, None, List, [], ◌∷◌, ◌++◌, map, Bool, true, false, true≢false, inl, inr, refl, sym, ap, ◌∙◌, arith}
 use Rattle.std.specs.Prelude.{not, ◌&&◌, ◌||◌, is_some, filter, if◌then◌else◌}
 use Rattle.std.proofs.lemmas.Bool.{cases_Bool}
 use Rattle.base_types.specs.declared.calls.Origin.{Origin}
@@ -107,9 +107,9 @@ nobody-moves types o r settler lines above units can =
 
 module _ (tells : Bool) (o : Outset) (types : ProgramTree) (lines : List Line) (width : ℕ) (picks : List ℕ) (b : Books) (used : ℕ) (r : Run) (settler : Settler) (counts : Channel → ℕ) (now : World) where
   -- all that holds on the way holds where nobody is carried yet
-  pub start : IsOutset o types r lines width picks → CanTurn r settler lines → IsFreshRecord o b used r → KeepsRecord tells o b (stage_by r settler counts now) → IsAcceptedProgram types → HasFewNumbers (ends r)
+  pub start : r.capacity ≡ None → IsOutset o types r lines width picks → CanTurn r settler lines → IsFreshRecord o b used r → KeepsRecord tells o b (stage_by r settler counts now) → IsAcceptedProgram types → HasFewNumbers (ends r)
       → IsUnderWay tells o types lines width picks b (record { at = stage_by r settler counts now; agents = []; begun = 0; used = used })
-  start is can fresh k accepted few = record {
+  start limit is can fresh k accepted few = record {
     outset = is;
     numbers = can.numbers;
     accepted = accepted;
@@ -117,6 +117,7 @@ module _ (tells : Bool) (o : Outset) (types : ProgramTree) (lines : List Line) (
     room = few.lines;
     turning = record {
       first = k.above;
+      unlimited = limit;
       unit_rule = k.units;
       unstopped = can.going.1;
       turn_rule = k.turns;

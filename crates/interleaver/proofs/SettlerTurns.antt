@@ -1,5 +1,5 @@
 -- The settler's step of a turn: how the run goes on by it, and what its answer says.
-use Rattle.std.proofs.Common.{◌≡◌, ℕ, Bool, true, false, true≢false, inl, inr, sym, ap, ◌∙◌, subst}
+use Rattle.std.proofs.Common.{◌≡◌, ℕ, None, Bool, true, false, true≢false, inl, inr, sym, ap, ◌∙◌, subst}
 use Rattle.std.specs.Prelude.{Result, Ok, Err, not, ◌||◌, ◌&&◌}
 use Rattle.base_types.specs.declared.shapes.Shape.{Shape}
 use Rattle.host_trait.specs.declared.channels.Channel.{Channel}
@@ -16,6 +16,8 @@ use Rattle.core_access.proofs.Sights.{looks-alone, looks-none, run-alone}
 use Rattle.promise_spec.specs.UnitRule.{KeepsUnitRule}
 use Rattle.turn_rules.specs.NextEvent.{with_event}
 use Rattle.turn_rules.proofs.Growth.{unit-grows}
+use Rattle.core_laws.proofs.WithoutLimit.{no-load-step}
+use Rattle.settle_loop.proofs.ShownWork.{rests-without-limit}
 use Rattle.turn_rules.proofs.Settlers.{settlers-due}
 use Rattle.promise_spec.specs.UnitAnswers.{got_in}
 use Rattle.settle_loop.specs.ShownWork.{has_applied}
@@ -61,9 +63,11 @@ module _ {H : Type 0} (tells : Bool) (world : H → World) (faults : H → Chann
           two-on r r' t.put.acts.seen (own_sight r') t.e t.r t.put.acts.looked t.put.acts.makes (subst (λ (x : Sight). Tells none_comes t.put.acts.seen t.e t.r x) (sym l) t.put.told) (looks-none none_comes (own_sight r'))
 
   -- where it has no step it rests
-  pub rests-none : IsIdle tells world faults none_comes shape before after (own_sight r) (own_sight r') old new → has_step (settler_step (ends r)) ≡ true → SettlesOne r r'
-  rests-none t q =
-      absurd (true≢false (sym q ∙ ap (λ (x : Run). has_step (settler_step (ends x))) (sym (own-run r' ∙ own-same r r' t.looked)) ∙ ap has_step t.rests))
+  pub rests-none : r.capacity ≡ None → IsIdle tells world faults none_comes shape before after (own_sight r) (own_sight r') old new → has_step (settler_step (ends r)) ≡ true → SettlesOne r r'
+  rests-none limit t q =
+      let same : run_seen (own_sight r') ≡ r = own-run r' ∙ own-same r r' t.looked in
+      absurd (true≢false (sym q ∙ ap (λ (x : Run). has_step (settler_step (ends x))) (sym same)
+      ∙ ap has_step (rests-without-limit (run_seen (own_sight r')) (ap (λ (x : Run). x.capacity) same ∙ limit) t.rests)))
 
 module _ {H E : Type 0} (tells : Bool) (world : H → World) (faults : H → Channel → ℕ) (shape : Shape) (r r' : Run) (before after : Settler) (old new : H) where
   -- or not at all
@@ -96,15 +100,15 @@ module _ {H : Type 0} (tells : Bool) (world : H → World) (faults : H → Chann
   left-before t was d =
       ap (λ (x : Run). has_unwritten (ends x)) (own-same r r' t.looked) ∙ was (ap (λ (s : Settler). s.doubted) (sym t.settler) ∙ d)
 
--- the unit rule stays
-pub settles-rule : (o : Outset) (r r' : Run) → SettlesBy r r' → KeepsUnitRule (basis_of o) r → KeepsUnitRule (basis_of o) r'
-settles-rule o r r' (inl same) k = subst (KeepsUnitRule (basis_of o)) (sym same) k
-settles-rule o r r' (inr s) k =
-    subst (KeepsUnitRule (basis_of o)) (sym s.2) (unit-grows (basis_of o) r s.0 k (λ a. settlers-due (basis_of o) (ends r) (got_in r) (settler_step (ends r)) s.0 s.1))
+-- the unit rule stays, where every grain is in memory
+pub settles-rule : (o : Outset) (r r' : Run) → r.capacity ≡ None → SettlesBy r r' → KeepsUnitRule (basis_of o) r → KeepsUnitRule (basis_of o) r'
+settles-rule o r r' limit (inl same) k = subst (KeepsUnitRule (basis_of o)) (sym same) k
+settles-rule o r r' limit (inr s) k =
+    subst (KeepsUnitRule (basis_of o)) (sym s.2) (unit-grows (basis_of o) r s.0 k (λ a. settlers-due (basis_of o) (ends r) (got_in r) (settler_step (ends r)) s.0 (no-load-step r limit) s.1))
 
 -- what books' own lemma says, with what is left behind
 module _ {H E : Type 0} (keeps : SettledKeep) (tells : Bool) (world : H → World) (faults : H → Channel → ℕ) (shape : Shape) (r r' : Run) (before after : Settler) (old new : H)
-    (result : Result Turned E) (turns : TurnsAs tells world faults none_comes shape before after (own_sight r) (own_sight r') old new result)
+    (result : Result Turned E) (turns : TurnsAs tells world faults none_comes shape before after (own_sight r) (own_sight r') old new result) (limit : r.capacity ≡ None)
     (o : Outset) (b : Books) (can : CanSettle o shape r) (even : AreEven before.quiet b (ends r)) (left : before.doubted ≡ true → has_unwritten (ends r) ≡ true)
     (books : KeepsBooks tells o b (stage_of world faults r before old)) where
   abbrev Settled : (T : Type 0) → Result T RunFault → Type 0
@@ -118,7 +122,7 @@ module _ {H E : Type 0} (keeps : SettledKeep) (tells : Bool) (world : H → Worl
 
   said : Says result
   said = keeps H E tells world faults o b shape r r' before after old new result can
-      (settles-rule o r r' (settles-by tells world faults shape r r' before after old new result turns) can.units) even books turns
+      (settles-rule o r r' limit (settles-by tells world faults shape r r' before after old new result turns) can.units) even books turns
 
   pub on-stepped : {T : Type 0} → result ≡ Ok Stepped → (done : T) → Settled T (Ok done)
   on-stepped {T} q done =

@@ -1,12 +1,13 @@
 -- What is so where there is no mover: the settler has no step, and what that leaves.
-use Rattle.std.proofs.Common.{◌≡◌, ℕ, ◌≤◌, Option, Some, None, List, [], ◌∷◌, ◌++◌, length, map, Bool, true, false, ◌⊎◌, inl, inr, refl, subst, nat_lt, is_some}
-use Rattle.std.specs.Prelude.{if◌then◌else◌}
-use Rattle.std.proofs.lemmas.Bool.{cases_Bool, ltb-false}
+use Rattle.std.proofs.Common.{◌≡◌, ℕ, ◌≤◌, Option, Some, None, List, [], ◌∷◌, ◌++◌, length, map, Bool, true, false, ◌⊎◌, inl, inr, refl, sym, ap, ◌∙◌, subst, nat_lt, is_none, is_some}
+use Rattle.std.specs.Prelude.{if◌then◌else◌, not, ◌&&◌, ◌||◌}
+use Rattle.std.proofs.lemmas.Bool.{and_parts, cases_Bool, cond-true, cond-false, ltb-false}
 use Rattle.core_model.specs.CoreState.{UnitNo, GrainId, Batch, CoreState}
 use Rattle.core_model.specs.Answers.{next_learn}
 use Rattle.core_model.specs.declared.events.CoreEvent.TheVariants.{Take}
-use Rattle.core_model.specs.Events.{applies}
-use Rattle.core_model.specs.Settler.{Step, Votes, Decides, Seals, Learns, Writes, Takes, Rests, has_step, settler_step, batch_step, later_step, undecided_step, first_unvoted}
+use Rattle.core_model.specs.Events.{applies, can, is_allowed}
+use Rattle.core_model.specs.WantedGrains.{next_wanted}
+use Rattle.core_model.specs.Settler.{Step, Votes, Decides, Seals, Learns, Writes, Loads, Takes, Rests, has_step, settler_step, batch_step, later_step, learn_step, last_step, load_step, undecided_step, first_unvoted}
 use Rattle.promise_spec.specs.TurnRule.{Mover, OfUnit, OfSettler}
 use Rattle.turn_rules.proofs.ListTests.{empty-append, empty-map}
 
@@ -26,6 +27,7 @@ no-step (Decides n) e = absurd cc
 no-step (Seals n) e = absurd cc
 no-step (Learns u g) e = absurd cc
 no-step Writes e = absurd cc
+no-step (Loads g) e = absurd cc
 no-step Takes e = absurd cc
 no-step Rests e = refl
 
@@ -52,8 +54,25 @@ module _ (w : CoreState) (sure : is_some w.manager.doubt ≡ false) where
   writing : next_learn w ≡ None → nat_lt w.manager.emitted (length w.manager.settled) ≡ true → later_step w ≡ Rests → ⊥
   writing q a = rw (sure, q, a) (λ e. absurd (cc e))
 
+  -- what can be taken is taken, where nothing is stopped
+  unstopped : applies w Take ≡ true → (h : Bool) → w.units.halt ≡ h → h ≡ false
+  unstopped t false e = refl
+  unstopped t true e =
+      let p = (and_parts (is_none w.manager.doubt || false) (not w.units.halt || false) (and_parts (is_allowed w Take) (can w Take) t).0).1 in
+      let z : false ≡ true = sym (ap (λ (b : Bool). not b || false) e) ∙ p in absurd cc
+
+  -- and what is to be brought into memory comes before
+  loading : (o : Option GrainId) → applies w Take ≡ true → load_step w o ≡ Rests → ⊥
+  loading None t e = (let z : Takes ≡ Rests = sym (cond-true (applies w Take) Takes Rests t) ∙ e in absurd cc)
+  loading (Some g) t e = absurd cc
+
   taking : next_learn w ≡ None → nat_lt w.manager.emitted (length w.manager.settled) ≡ false → applies w Take ≡ true → later_step w ≡ Rests → ⊥
-  taking q a t = rw (sure, q, a, t) (λ e. absurd (cc e))
+  taking q a t h =
+      let p : learn_step w (next_learn w) ≡ Rests = sym (cond-false (is_some w.manager.doubt) (last_step w false) (learn_step w (next_learn w)) sure) ∙ h in
+      let l : last_step w true ≡ Rests = subst (λ (o : Option (UnitNo × GrainId)). learn_step w o ≡ Rests) q p in
+      let z : (if true && not w.units.halt then load_step w (next_wanted w) else Rests) ≡ Rests = sym (cond-false (nat_lt w.manager.emitted (length w.manager.settled)) Writes _ a) ∙ l in
+      let y : load_step w (next_wanted w) ≡ Rests = sym (cond-true (not w.units.halt) (load_step w (next_wanted w)) Rests (ap not (unstopped t w.units.halt refl))) ∙ z in
+      loading (next_wanted w) t y
 
   later-rests : w.manager.batch ≡ None → later_step w ≡ Rests → Rested w
   later-rests n h = by (next_learn w) refl

@@ -2,7 +2,7 @@
 use Rattle.std.proofs.Common.{◌≡◌, ℕ, Bool, suc, Option, Some, None, List, [], ◌∷◌, get_or, true, false, inl, inr, refl, sym, ap, ◌∙◌, subst}
 use Rattle.std.specs.Prelude.{take, slice_get}
 use Rattle.std.proofs.lemmas.Bool.{cond_both, and_parts}
-use Rattle.core_model.specs.CoreState.{UnitNo, CoreState}
+use Rattle.core_model.specs.CoreState.{UnitNo, GrainId, CoreState}
 use Rattle.core_model.specs.declared.events.CoreEvent.{CoreEvent}
 use Rattle.core_model.specs.declared.events.CoreEvent.TheVariants.{Halt}
 use Rattle.core_model.specs.Changes.{swept, swept_by}
@@ -13,7 +13,7 @@ use Rattle.script_tree.specs.Programs.{ProgramTree}
 use Rattle.promise_spec.specs.Cores.{state_before}
 use Rattle.promise_spec.specs.UnitAnswers.{Got, got_from}
 use Rattle.promise_spec.specs.UnitRule.{Basis, IsDue}
-use Rattle.core_model.specs.Settler.{MakesEvent, Step, Votes, Decides, Seals, Learns, Writes, Takes, Rests, settler_step}
+use Rattle.core_model.specs.Settler.{MakesEvent, Step, Votes, Decides, Seals, Learns, Writes, Loads, Takes, Rests, settler_step}
 use Rattle.promise_spec.specs.TurnRule.{OfSettler, IsTurn, KeepsTurnRule, line_can_begin, movers, mover_of, picked, picks_used}
 use Rattle.turn_rules.specs.NextEvent.{is_begin, is_own, with_event}
 use Rattle.turn_rules.proofs.Growth.{ends-more}
@@ -71,6 +71,7 @@ no-halt-step (Seals n) (inr (inl m)) = absurd cc
 no-halt-step (Seals n) (inr (inr m)) = absurd cc
 no-halt-step (Learns u g) m = absurd cc
 no-halt-step Writes m = absurd cc
+no-halt-step (Loads g) m = (let e = m.2 in absurd cc)
 no-halt-step Takes m = absurd cc
 no-halt-step Rests m = m
 
@@ -98,20 +99,22 @@ settlers (Seals n) e (inr (inl m)) = subst (λ (x : CoreEvent). (mover_of x ≡ 
 settlers (Seals n) e (inr (inr m)) = subst (λ (x : CoreEvent). (mover_of x ≡ OfSettler) × (is_begin x ≡ false)) (sym m) (refl, refl)
 settlers (Learns u g) e m = subst (λ (x : CoreEvent). (mover_of x ≡ OfSettler) × (is_begin x ≡ false)) (sym m) (refl, refl)
 settlers Writes e m = subst (λ (x : CoreEvent). (mover_of x ≡ OfSettler) × (is_begin x ≡ false)) (sym m) (refl, refl)
+settlers (Loads g) e m = subst (λ (x : CoreEvent). (mover_of x ≡ OfSettler) × (is_begin x ≡ false)) (sym m.2) (refl, refl)
 settlers Takes e m = subst (λ (x : CoreEvent). (mover_of x ≡ OfSettler) × (is_begin x ≡ false)) (sym m) (refl, refl)
 settlers Rests e m = absurd m
 
--- and is due
-pub settlers-due : (around : Basis) (w : CoreState) (got : UnitNo → List Got) (s : Step) (e : CoreEvent) → MakesEvent s e → IsDue around w got e
-settlers-due around w got (Votes n g) e m = subst (IsDue around w got) (sym m.1) tt
-settlers-due around w got (Decides n) e m = subst (IsDue around w got) (sym m) tt
-settlers-due around w got (Seals n) e (inl m) = subst (IsDue around w got) (sym m) tt
-settlers-due around w got (Seals n) e (inr (inl m)) = subst (IsDue around w got) (sym m) tt
-settlers-due around w got (Seals n) e (inr (inr m)) = subst (IsDue around w got) (sym m) tt
-settlers-due around w got (Learns u g) e m = subst (IsDue around w got) (sym m) tt
-settlers-due around w got Writes e m = subst (IsDue around w got) (sym m) tt
-settlers-due around w got Takes e m = subst (IsDue around w got) (sym m) tt
-settlers-due around w got Rests e m = absurd m
+-- and they are due, where no grain is brought into memory
+pub settlers-due : (around : Basis) (w : CoreState) (got : UnitNo → List Got) (s : Step) (e : CoreEvent) → ((g : GrainId) → s ≡ Loads g → ⊥) → MakesEvent s e → IsDue around w got e
+settlers-due around w got (Votes n g) e stays m = subst (IsDue around w got) (sym m.1) tt
+settlers-due around w got (Decides n) e stays m = subst (IsDue around w got) (sym m) tt
+settlers-due around w got (Seals n) e stays (inl m) = subst (IsDue around w got) (sym m) tt
+settlers-due around w got (Seals n) e stays (inr (inl m)) = subst (IsDue around w got) (sym m) tt
+settlers-due around w got (Seals n) e stays (inr (inr m)) = subst (IsDue around w got) (sym m) tt
+settlers-due around w got (Learns u g) e stays m = subst (IsDue around w got) (sym m) tt
+settlers-due around w got Writes e stays m = subst (IsDue around w got) (sym m) tt
+settlers-due around w got (Loads g) e stays m = absurd (stays g refl)
+settlers-due around w got Takes e stays m = subst (IsDue around w got) (sym m) tt
+settlers-due around w got Rests e stays m = absurd m
 
 -- no event of a settler is a unit's own
 pub settlers-others : (u : UnitNo) (s : Step) (e : CoreEvent) → MakesEvent s e → is_own u e ≡ false
@@ -122,5 +125,6 @@ settlers-others u (Seals n) e (inr (inl m)) = ap (is_own u) m
 settlers-others u (Seals n) e (inr (inr m)) = ap (is_own u) m
 settlers-others u (Learns v g) e m = ap (is_own u) m
 settlers-others u Writes e m = ap (is_own u) m
+settlers-others u (Loads g) e m = ap (is_own u) m.2
 settlers-others u Takes e m = ap (is_own u) m
 settlers-others u Rests e m = absurd m

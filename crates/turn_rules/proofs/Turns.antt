@@ -9,6 +9,7 @@ use Rattle.core_model.specs.Changes.{new_unit}
 use Rattle.core_model.specs.Events.{applies, can, run}
 use Rattle.core_model.specs.LegalRuns.{Run, begins, ends}
 use Rattle.core_laws.proofs.Replies.{no-change}
+use Rattle.core_laws.proofs.WithoutLimit.{no-load-step}
 use Rattle.promise_spec.specs.Cores.{applied_from}
 use Rattle.promise_spec.specs.UnitAnswers.{got_in}
 use Rattle.promise_spec.specs.UnitRule.{Basis}
@@ -52,6 +53,7 @@ module _ (l : TurnLoop) (t : IsTurning l) where
   pub turn-unapplied : (e : CoreEvent) → applies (ends l.run) e ≡ false → IsTurning (turned l e l.units l.used)
   turn-unapplied e a = record {
     first = t.first;
+    unlimited = t.unlimited;
     unit_rule = unit-grows l.basis l.run e t.unit_rule (λ b. not_both b);
     unstopped = ap (λ (w : CoreState). w.units.halt) same ∙ t.unstopped;
     turn_rule = λ ruled. turn-grows l.basis.types l.windowed (length l.basis.lines) l.width l.picks l.run e (t.turn_rule ruled) (λ b. not_both b);
@@ -77,6 +79,7 @@ module _ (l : TurnLoop) (t : IsTurning l) where
   pub turn-bad : (e : CoreEvent) → is_begin e ≡ false → mover_of e ≡ OfLine → has_room l ≡ true → MayCome l.basis l.run e → IsTurning (turned l e l.units l.used)
   turn-bad e b m can may = record {
     first = t.first;
+    unlimited = t.unlimited;
     unit_rule = unit-grows l.basis l.run e t.unit_rule may;
     unstopped = going-by l.run e (no_stop e OfLine m (λ q. absurd cc)) t.unstopped;
     turn_rule = λ ruled. turn-grows l.basis.types l.windowed (length l.basis.lines) l.width l.picks l.run e (t.turn_rule ruled) (no_mover ruled);
@@ -94,6 +97,7 @@ module _ (l : TurnLoop) (t : IsTurning l) where
       IsTurning (turned l (Begin (Line n) call plain) (with_new l) l.used)
   turn-line n call plain can may a = record {
     first = t.first;
+    unlimited = t.unlimited;
     unit_rule = unit-grows l.basis l.run (Begin (Line n) call plain) t.unit_rule may;
     unstopped = going-by l.run (Begin (Line n) call plain) (no_stop (Begin (Line n) call plain) OfLine refl (λ q. absurd cc)) t.unstopped;
     turn_rule = λ ruled. turn-grows l.basis.types l.windowed (length l.basis.lines) l.width l.picks l.run (Begin (Line n) call plain) (t.turn_rule ruled) (λ b. can-begin ruled ∙ can);
@@ -123,7 +127,8 @@ module _ (l : TurnLoop) (t : IsTurning l) where
       let s = settlers (settler_step (ends l.run)) e makes in
       record {
         first = t.first;
-        unit_rule = unit-grows l.basis l.run e t.unit_rule (λ b. settlers-due l.basis (ends l.run) (got_in l.run) (settler_step (ends l.run)) e makes);
+        unlimited = t.unlimited;
+        unit_rule = unit-grows l.basis l.run e t.unit_rule (λ b. settlers-due l.basis (ends l.run) (got_in l.run) (settler_step (ends l.run)) e (no-load-step l.run t.unlimited) makes);
         unstopped = going-by l.run e (settlers-go (settler_step (ends l.run)) e makes) t.unstopped;
         turn_rule = λ ruled. turn-grows l.basis.types l.windowed (length l.basis.lines) l.width l.picks l.run e (t.turn_rule ruled) (at_turn OfSettler e s.0 (none_begins ruled turn.none, chosen ruled OfSettler turn.pick, makes));
         within = window-stays e (λ ruled. (at_turn OfSettler e s.0 (none_begins ruled turn.none, chosen ruled OfSettler turn.pick, makes)));
@@ -137,6 +142,7 @@ module _ (l : TurnLoop) (t : IsTurning l) where
       IsTurning (turned l e l.units (l.used + 1))
   turn-unit u e turn is b may a = record {
     first = t.first;
+    unlimited = t.unlimited;
     unit_rule = unit-grows l.basis l.run e t.unit_rule may;
     unstopped = going-by l.run e (no_stop e (OfUnit u) is (λ q. absurd cc)) t.unstopped;
     turn_rule = λ ruled. turn-grows l.basis.types l.windowed (length l.basis.lines) l.width l.picks l.run e (t.turn_rule ruled) (at_turn (OfUnit u) e is (none_begins ruled turn.none, chosen ruled (OfUnit u) turn.pick));
@@ -151,6 +157,7 @@ module _ (l : TurnLoop) (t : IsTurning l) where
       applies (ends l.run) (Begin (Child u index depth) call false) ≡ true → IsTurning (turned l (Begin (Child u index depth) call false) (with_new l) (l.used + 1))
   turn-child u index depth call turn may a = record {
     first = t.first;
+    unlimited = t.unlimited;
     unit_rule = unit-grows l.basis l.run (Begin (Child u index depth) call false) t.unit_rule may;
     unstopped = going-by l.run (Begin (Child u index depth) call false) (no_stop (Begin (Child u index depth) call false) (OfUnit u) refl (λ q. absurd cc)) t.unstopped;
     turn_rule = λ ruled. turn-grows l.basis.types l.windowed (length l.basis.lines) l.width l.picks l.run (Begin (Child u index depth) call false) (t.turn_rule ruled) (at_turn (OfUnit u) (Begin (Child u index depth) call false) refl (none_begins ruled turn.none, chosen ruled (OfUnit u) turn.pick));
@@ -164,6 +171,7 @@ module _ (l : TurnLoop) (t : IsTurning l) where
   pub turn-dropped : (stays : UnitNo → Bool) → ((u : UnitNo) → is_kept (ends l.run) u ≡ true → stays u ≡ true) → IsTurning (record l { units = filter stays l.units })
   turn-dropped stays weak = record {
     first = t.first;
+    unlimited = t.unlimited;
     unit_rule = t.unit_rule;
     unstopped = t.unstopped;
     turn_rule = t.turn_rule;
@@ -182,10 +190,11 @@ module _ (l : TurnLoop) (t : IsTurning l) where
 -- ---- the start
 
 -- a run without events
-pub turning-begins : (around : Basis) (windowed ruled : Bool) (width : ℕ) (picks : List ℕ) (r : Run) → r.events ≡ [] → 0 < r.base → (windowed ≡ true → length around.lines ≤ window_lines)
+pub turning-begins : (around : Basis) (windowed ruled : Bool) (width : ℕ) (picks : List ℕ) (r : Run) → r.events ≡ [] → 0 < r.base → r.capacity ≡ None → (windowed ≡ true → length around.lines ≤ window_lines)
     → IsTurning (record { basis = around; windowed = windowed; ruled = ruled; width = width; picks = picks; run = r; units = []; used = 0 })
-turning-begins around windowed ruled width picks r none first few = record {
+turning-begins around windowed ruled width picks r none first limit few = record {
   first = first;
+  unlimited = limit;
   unit_rule = λ at e a. absurd (nothing at e a.there);
   unstopped = ap (λ (l : List CoreEvent). (run (begins r) l).units.halt) none;
   turn_rule = λ is at e a. absurd (nothing at e a.there);

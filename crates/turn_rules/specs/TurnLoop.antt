@@ -1,5 +1,5 @@
 -- What a loop of turns keeps.
-use Rattle.std.specs.Prelude.{◌≡◌, ◌<◌, ℕ, List, [], ◌∷◌, ◌++◌, length, get_or, Bool, true, false, Some}
+use Rattle.std.specs.Prelude.{◌≡◌, ◌<◌, ℕ, List, [], ◌∷◌, ◌++◌, length, get_or, Bool, true, false, Some, None}
 use Rattle.cell_model.specs.Units.{UnitsAscend}
 use Rattle.core_model.specs.CoreState.{UnitNo}
 use Rattle.core_model.specs.Changes.{new_unit}
@@ -23,10 +23,11 @@ pub record TurnLoop : Type 0 where
   pub units : List UnitNo
   pub used : ℕ
 
--- The run keeps the unit rule and isn't stopped; the units that are looked at are in number order, and leave no mover out. Where the
+-- The run keeps the unit rule and isn't stopped, and every grain is in memory; the units that are looked at are in number order, and leave no mover out. Where the
 -- run so far is of turns alone, it keeps the turn rule too, is within a window, and so many picks were used.
 pub record IsTurning (l : TurnLoop) : Type 0 where
   pub first : 0 < l.run.base
+  pub unlimited : l.run.capacity ≡ None
   pub unit_rule : KeepsUnitRule l.basis l.run
   pub unstopped : (ends l.run).units.halt ≡ false
   pub turn_rule : l.ruled ≡ true → KeepsTurnRule l.basis.types l.windowed (length l.basis.lines) l.width l.picks l.run

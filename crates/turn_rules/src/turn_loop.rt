@@ -14,11 +14,12 @@ ghost use Rattle.turn_rules.specs.CarriedUnits.{is_kept, movers_of};
 ghost use Rattle.turn_rules.specs.QuietRun.{HasRun};
 ghost use Rattle.turn_rules.specs.TurnLoop.{TurnLoop, IsTurning, IsPicked, has_room, with_new, turned};
 
-/// What a loop of turns keeps, over a run of turns alone or not: it holds of a run without events within the first window. Units that
+/// What a loop of turns keeps, over a run of turns alone or not: it holds of a run without events within the first window,
+/// where every grain is in memory. Units that
 /// are no more to be looked at may be dropped. Where no mover and no line is left and there is no doubt, all is settled, and each line
 /// has its entry.
 pub fn turns_begin_and_end()
-    ensures none { (s : Basis) (windowed ruled : Bool) (width : ℕ) (picks : List ℕ) (r : Run) → r.events ≡ [] → 0 < r.base
+    ensures none { (s : Basis) (windowed ruled : Bool) (width : ℕ) (picks : List ℕ) (r : Run) → r.events ≡ [] → 0 < r.base → r.capacity ≡ None
         → (windowed ≡ true → length s.lines ≤ window_lines)
         → IsTurning (record { basis = s; windowed = windowed; ruled = ruled; width = width; picks = picks; run = r; units = []; used = 0 }) }
     ensures dropped { (l : TurnLoop) → IsTurning l → (stays : UnitNo → Bool) → ((u : UnitNo) → is_kept (ends l.run) u ≡ true → stays u ≡ true)

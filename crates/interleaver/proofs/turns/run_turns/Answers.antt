@@ -46,7 +46,7 @@ loop-turn-init g c = record {
       subst (λ (l : List Agent). WentOn g.H.Host.tells o (program_tree c.args.checked.now) (g.L.Lines.lines c.args.lines.now) c.args.width c.args.turns.now b from (record from { agents = l })) (sym c.new.ensures)
       (nothing-went g.H.Host.tells o (program_tree c.args.checked.now) (g.L.Lines.lines c.args.lines.now) c.args.width c.args.turns.now b from
       (start g.H.Host.tells o (program_tree c.args.checked.now) (g.L.Lines.lines c.args.lines.now) c.args.width c.args.turns.now b c.args.used.now (run_of c.args.core.now) c.args.settler.now (g.H.Host.faults c.args.host.now) (g.H.Host.world c.args.host.now)
-      is can fresh kept c.program-program.ensures.checked c.show_few.ensures));
+      refl is can fresh kept c.program-program.ensures.checked c.show_few.ensures));
 }
 
 pub returns-in_err-turn-clause-carries : goal.returns-in_err-turn-clause-carries

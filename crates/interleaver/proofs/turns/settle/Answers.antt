@@ -36,28 +36,28 @@ returns-in-Stop-WriteFault-clause-settles g c =
 
 pub returns-in_err-step-clause-goes : goal.returns-in_err-step-clause-goes
 returns-in_err-step-clause-goes g c = λ o b can even left books.
-    on-lack settled-keeps g.H.Host.tells g.H.Host.world g.H.Host.faults c.args.shape.now (run_of c.args.core.now) (run_of c.step.new.access) c.args.settler.now c.step.new.self c.args.host.now c.step.new.host c.step.result c.step.ensures.turns
+    on-lack settled-keeps g.H.Host.tells g.H.Host.world g.H.Host.faults c.args.shape.now (run_of c.args.core.now) (run_of c.step.new.access) c.args.settler.now c.step.new.self c.args.host.now c.step.new.host c.step.result c.step.ensures.turns refl
     o b can even left books c.in_err-step.field-0.0 c.in_err-step.was c.from_residual.result
     (let p = err_from_is_err_and c.from_residual.result c.from_residual.ensures.1 in p.1 ∙ ap Err p.2)
 
 pub returns-in-Stepped-clause-goes : goal.returns-in-Stepped-clause-goes
 returns-in-Stepped-clause-goes g c = λ o b can even left books.
-    on-stepped settled-keeps g.H.Host.tells g.H.Host.world g.H.Host.faults c.args.shape.now (run_of c.args.core.now) (run_of c.step.new.access) c.args.settler.now c.step.new.self c.args.host.now c.step.new.host c.step.result c.step.ensures.turns
+    on-stepped settled-keeps g.H.Host.tells g.H.Host.world g.H.Host.faults c.args.shape.now (run_of c.args.core.now) (run_of c.step.new.access) c.args.settler.now c.step.new.self c.args.host.now c.step.new.host c.step.result c.step.ensures.turns refl
     o b can even left books (c.in_ok-step.was ∙ ap Ok (c.in-Stepped.is)) tt
 
 pub returns-in-Nothing-clause-goes : goal.returns-in-Nothing-clause-goes
 returns-in-Nothing-clause-goes g c = λ o b can even left books.
-    on-idle settled-keeps g.H.Host.tells g.H.Host.world g.H.Host.faults c.args.shape.now (run_of c.args.core.now) (run_of c.step.new.access) c.args.settler.now c.step.new.self c.args.host.now c.step.new.host c.step.result c.step.ensures.turns
+    on-idle settled-keeps g.H.Host.tells g.H.Host.world g.H.Host.faults c.args.shape.now (run_of c.args.core.now) (run_of c.step.new.access) c.args.settler.now c.step.new.self c.args.host.now c.step.new.host c.step.result c.step.ensures.turns refl
     o b can even left books (c.in_ok-step.was ∙ ap Ok (c.in-Nothing.is)) tt
 
 pub returns-in-Stop-InDoubt-clause-goes : goal.returns-in-Stop-InDoubt-clause-goes
 returns-in-Stop-InDoubt-clause-goes g c = λ o b can even left books.
-    on-doubt settled-keeps g.H.Host.tells g.H.Host.world g.H.Host.faults c.args.shape.now (run_of c.args.core.now) (run_of c.step.new.access) c.args.settler.now c.step.new.self c.args.host.now c.step.new.host c.step.result c.step.ensures.turns
+    on-doubt settled-keeps g.H.Host.tells g.H.Host.world g.H.Host.faults c.args.shape.now (run_of c.args.core.now) (run_of c.step.new.access) c.args.settler.now c.step.new.self c.args.host.now c.step.new.host c.step.result c.step.ensures.turns refl
     o b can even left books _ (c.in_ok-step.was ∙ ap Ok (c.in-Stop-InDoubt.is ∙ ap Stop c.in-Stop-InDoubt.field-0-is))
 
 pub returns-in-Stop-WriteFault-clause-goes : goal.returns-in-Stop-WriteFault-clause-goes
 returns-in-Stop-WriteFault-clause-goes g c = λ o b can even left books.
-    on-cut settled-keeps g.H.Host.tells g.H.Host.world g.H.Host.faults c.args.shape.now (run_of c.args.core.now) (run_of c.step.new.access) c.args.settler.now c.step.new.self c.args.host.now c.step.new.host c.step.result c.step.ensures.turns
+    on-cut settled-keeps g.H.Host.tells g.H.Host.world g.H.Host.faults c.args.shape.now (run_of c.args.core.now) (run_of c.step.new.access) c.args.settler.now c.step.new.self c.args.host.now c.step.new.host c.step.result c.step.ensures.turns refl
     o b can even left books _ (c.in_ok-step.was ∙ ap Ok (c.in-Stop-WriteFault.is ∙ ap Stop c.in-Stop-WriteFault.field-0-is))
 
 abbrev ok-of : Turned → Result Turned AllocError
@@ -70,7 +70,7 @@ returns-in-Stepped-clause-acted g c = λ q.
 
 pub returns-in-Nothing-clause-acted : goal.returns-in-Nothing-clause-acted
 returns-in-Nothing-clause-acted g c = λ q.
-    rests-none g.H.Host.tells g.H.Host.world g.H.Host.faults c.args.shape.now (run_of c.args.core.now) (run_of c.step.new.access) c.args.settler.now c.step.new.self c.args.host.now c.step.new.host
+    rests-none g.H.Host.tells g.H.Host.world g.H.Host.faults c.args.shape.now (run_of c.args.core.now) (run_of c.step.new.access) c.args.settler.now c.step.new.self c.args.host.now c.step.new.host refl
     (subst (λ (x : Turned). TurnsAs g.H.Host.tells g.H.Host.world g.H.Host.faults none_comes c.args.shape.now c.args.settler.now c.step.new.self (own_sight (run_of c.args.core.now)) (own_sight (run_of c.step.new.access)) c.args.host.now c.step.new.host (ok-of x)) c.in-Nothing.is c.in_ok-step.ensures.turns) q
 
 pub returns-in_err-step-clause-beside : goal.returns-in_err-step-clause-beside
@@ -98,24 +98,3 @@ pub returns-in-Stop-WriteFault-clause-beside : goal.returns-in-Stop-WriteFault-c
 returns-in-Stop-WriteFault-clause-beside g c =
     step-beside g.H.Host.tells g.H.Host.world g.H.Host.faults c.args.shape.now (run_of c.args.core.now) (run_of c.step.new.access) c.args.settler.now c.step.new.self c.args.host.now c.step.new.host tt c.step.result c.step.ensures.turns
     (Ok (Stop cause.WriteFault)) (c.in_ok-step.was ∙ ap Ok (c.in-Stop-WriteFault.is ∙ ap Stop c.in-Stop-WriteFault.field-0-is)) (Err fault.WriteFault) refl
-
-pub step-requires-clause-bounds : goal.step-requires-clause-bounds
-step-requires-clause-bounds g c = c.requires.safe.bounds
-
-pub step-requires-clause-fits : goal.step-requires-clause-fits
-step-requires-clause-fits g c = c.requires.safe.fits
-
-pub returns-in_err-step-clause-safe : goal.returns-in_err-step-clause-safe
-returns-in_err-step-clause-safe g c = record { bounds = c.step.ensures.bounds; fits = c.step.ensures.fits }
-
-pub returns-in-Stepped-clause-safe : goal.returns-in-Stepped-clause-safe
-returns-in-Stepped-clause-safe g c = record { bounds = c.step.ensures.bounds; fits = c.step.ensures.fits }
-
-pub returns-in-Nothing-clause-safe : goal.returns-in-Nothing-clause-safe
-returns-in-Nothing-clause-safe g c = record { bounds = c.step.ensures.bounds; fits = c.step.ensures.fits }
-
-pub returns-in-Stop-InDoubt-clause-safe : goal.returns-in-Stop-InDoubt-clause-safe
-returns-in-Stop-InDoubt-clause-safe g c = record { bounds = c.step.ensures.bounds; fits = c.step.ensures.fits }
-
-pub returns-in-Stop-WriteFault-clause-safe : goal.returns-in-Stop-WriteFault-clause-safe
-returns-in-Stop-WriteFault-clause-safe g c = record { bounds = c.step.ensures.bounds; fits = c.step.ensures.fits }

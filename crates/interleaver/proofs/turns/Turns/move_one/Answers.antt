@@ -36,7 +36,7 @@ returns-in-Nobody-clause-units g c = record {
 
 pub returns-in_ok-settle-in-Settler-clause-units : goal.returns-in_ok-settle-in-Settler-clause-units
 returns-in_ok-settle-in-Settler-clause-units g c = record {
-  carried = settles-known (program_tree c.args.checked.now) c.next_mover.new.agents.list.items (run_of c.next_mover.new.core) (run_of c.settle.new.core) c.settle.ensures.settles c.in_ok-next_mover.ensures.carried;
+  carried = settles-known (program_tree c.args.checked.now) c.next_mover.new.agents.list.items (run_of c.next_mover.new.core) (run_of c.settle.new.core) refl c.settle.ensures.settles c.in_ok-next_mover.ensures.carried;
   looked = settles-looked (program_tree c.args.checked.now) c.args.self.now.looked (run_of c.next_mover.new.core) (run_of c.settle.new.core) c.next_mover.new.agents.list.items c.in_ok-next_mover.ensures.carried c.settle.ensures.settles
       (same-looked c.args.self.now.looked (run_of c.args.core.now) (run_of c.next_mover.new.core) (units_carried c.args.self.now.agents.list.items) (units_carried c.next_mover.new.agents.list.items) c.next_mover.ensures.same
       (units-same c.next_mover.new.agents.list.items c.args.self.now.agents.list.items c.in_ok-next_mover.ensures.units) c.requires.units.looked);
