@@ -4,12 +4,11 @@
 #   [BEFORE=PROGRAM] bench/calls.sh [N] [WIDTH | --workers K]
 # Calls for memory, threads and libraries aren't counted. Where BEFORE names a program, each line is a call, how often that program
 # makes it, and how often the one here does; it fails where a command makes more calls in all than it did there, by more than 2.
-# 1,000 transfers at width 1: 3,991 fdatasync, 3,990 pwrite64, 3,061 openat, 1,000 write, 14 read; at width 64: 921 fdatasync, 920
-# pwrite64, 975 openat. A log of 1,000 transfers opens with 3,075 pread64, 1,067 statx and 71 openat where each is a batch of its own,
-# and with 123, 83 and 71 where 64 share one; 64 of the statx tell once of each grain's file whether it is a regular one. A vote opens
-# its grain's file, since two handles are kept: so descriptors don't grow with grains. Of the log by batches of 64 `show` makes 175
-# pread64, 72 openat and a write a grain, `history` the same and a write a record, and `audit` 2,229 pread64 and 2,131 openat, two for
-# each transfer.
+# 1,000 transfers at width 64: 921 fdatasync, 920 pwrite64, 972 statx, 70 openat, a write a reply. Each file is opened once, as long as
+# its handle is kept, and looked for by its name before a write, by one statx, unless it was written last. The log of these opens with
+# 123 pread64, 84 statx and 70 openat; 64 of the statx tell once of each grain's file whether it is a regular one. `show` makes 177
+# pread64, 101 statx, 70 openat and a write a grain, `history` the same and a write a record, and `audit` 2,231 pread64, two for each
+# transfer, 101 statx and 70 openat.
 top=$(cd "$(dirname "${BASH_SOURCE[0]}")/.." && pwd)
 [ -n "${SILO:-}" ] || "$top/silo" </dev/null >/dev/null 2>&1
 command -v strace >/dev/null || { echo "calls.sh: there is no strace here" >&2; exit 0; }

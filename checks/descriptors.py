@@ -1,6 +1,7 @@
 """Each combination of standard descriptors that are closed at the start: no file of the folder gets the number of one, and the
-folder opens afterwards with all that was answered."""
+folder opens afterwards with all that was answered. And processes that may open few files: they do the same as others."""
 import itertools
+import json
 import os
 import tempfile
 
@@ -32,5 +33,18 @@ for closed in itertools.chain.from_iterable(itertools.combinations((0, 1, 2), co
         names = sorted(os.listdir(folder))
         rows.row(f"the files, without {closed}", names, ["grain-0-0-1.otx"] * (logged > 0) + ["manager-0.otx", "program-0.otx"])
         rows.row(f"bad use without {closed}", run(folder, closed=closed), Ended(2, b"", text(b"silo: bad use\n")))
+
+# So many files a process may have open, the standard streams among them: fewer handles are kept then, and all is done as ever.
+for files in (16, 40, None):
+    with tempfile.TemporaryDirectory() as folder:
+        run(folder, "init", given=BANK)
+        lines = [deposit(1, account) for _ in range(3) for account in range(50)]
+        for time in ("first", "second"):
+            ended = run(folder, "run", "--width", "1", given=b"".join(lines), files=files)
+            answered = [line for line in ended.output.splitlines() if "reply" in json.loads(line)]
+            rows.row(f"a {time} run over 50 grains with {files} files", (ended.number, ended.errors, len(answered)), (0, b"", 150))
+        audit = run(folder, "audit", files=files)
+        told = json.loads(audit.output)
+        rows.row(f"the log of {files} files", (audit.number, told["count"], told["first_bad"]), (0, 300, None))
 
 rows.end()

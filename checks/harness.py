@@ -40,16 +40,18 @@ def reply(n, balance, unit):
     return b'{"n":%d,"reply":%d,"unit":%d}\n' % (n, balance, unit)
 
 
-def run(*words, given=b"", closed=(), streams=None, memory=None, threads=None, bound=False, on=None, shim=None, seconds=100, program=PROGRAM):
-    """Runs the program over this input, with these descriptors closed, and at most so many bytes of memory and threads; `bound` by
-    what the folder's files permit, which the superuser isn't; `on` these processors alone; with the words `shim` in the environment
-    beside the others. One that takes longer than so many seconds is ended, and has no number."""
+def run(*words, given=b"", closed=(), streams=None, memory=None, threads=None, files=None, bound=False, on=None, shim=None, seconds=100, program=PROGRAM):
+    """Runs the program over this input, with these descriptors closed, and at most so many bytes of memory, threads and open files;
+    `bound` by what the folder's files permit, which the superuser isn't; `on` these processors alone; with the words `shim` in the
+    environment beside the others. One that takes longer than so many seconds is ended, and has no number."""
 
     def prepare():
         if memory is not None:
             resource.setrlimit(resource.RLIMIT_AS, (memory, memory))
         if threads is not None:
             resource.setrlimit(resource.RLIMIT_NPROC, (threads, threads))
+        if files is not None:
+            resource.setrlimit(resource.RLIMIT_NOFILE, (files, files))
         # The superuser isn't bound by that: another user is, whose threads are these alone.
         if (threads is not None or bound) and os.geteuid() == 0:
             os.setgid(OTHER_USER)
@@ -64,7 +66,8 @@ def run(*words, given=b"", closed=(), streams=None, memory=None, threads=None, b
         given_to.seek(0)
         at = {"stdin": given_to, "stdout": output, "stderr": errors, **(streams or {})}
         # What is done between fork and exec makes a start slow, and isn't for threads.
-        before = prepare if closed or memory is not None or threads is not None or bound or on is not None else None
+        limits = (memory, threads, files, on)
+        before = prepare if closed or bound or any(limit is not None for limit in limits) else None
         try:
             number = subprocess.run([program, *words], preexec_fn=before, timeout=seconds, env={**os.environ, **(shim or {})}, **at).returncode
         except subprocess.TimeoutExpired:

@@ -120,6 +120,7 @@ impl<'a> Bench<'a> {
                 self.machine
                     .fail(nth.parse::<u64>().unwrap_or(0), fault_of(fault));
             }
+            "allow" => self.machine.allow(rest.parse::<u64>().unwrap_or(0)),
             "gone" | "pipe" | "there" => self.lay_file(word, rest)?,
             "rename" => {
                 let (from, to) = rest.split_once(' ').unwrap_or((rest, ""));

@@ -5,7 +5,7 @@ use Rattle.host_trait.specs.declared.channels.FileId.{FileId}
 use Rattle.host_trait.specs.Disk.{FileState, Tears, Pends, Overwrote, overlaid}
 use Rattle.host_trait.specs.World.{World, Moment, Emitted, Filled, Written, Ticks, moment_of}
 use Rattle.host_trait.proofs.Crashes.{Tears-trans, Tears-wider, Tears-overlaid}
-use Rattle.system_calls.specs.System.{System, SameEntries, SameBeside, IsReadPart, AppendsPart, MayGoOn, IsLastPending, WritesPart, FailsPart, TearsFrom, PendsFrom, KeepsTime}
+use Rattle.system_calls.specs.System.{System, SameEntries, SameBeside, IsReadPart, AppendsPart, MayWriteOn, IsLastPending, WritesPart, FailsPart, TearsFrom, PendsFrom, KeepsTime}
 
 pub same_entries : (old : System) → SameEntries old old
 same_entries old = record { entered = refl; doubtful = refl; lost = refl }
@@ -138,7 +138,7 @@ last_pending done file at size old now some (inl first) = absurd (omega (arith, 
 last_pending done file at size old now some (inr later) = record { before = (old.world.disk file).ranges; ranges = later.2.ranges; longest = omega (arith, later.2.longest) }
 
 -- a write goes on where it stopped
-pub may_go_on : (done : ℕ) (file : FileId) (at : ℕ) (bytes : List ℕ) (old now : System) → done ≤ length bytes → at ≤ length (old.world.disk file).seen → WroteSome done file at bytes old now → MayGoOn done at (length bytes) (now.world.disk file)
+pub may_go_on : (done : ℕ) (file : FileId) (at : ℕ) (bytes : List ℕ) (old now : System) → done ≤ length bytes → at ≤ length (old.world.disk file).seen → WroteSome done file at bytes old now → MayWriteOn done at (length bytes) (now.world.disk file)
 may_go_on done file at bytes old now within low so = record {
   reach = reaches_on at done bytes (old.world.disk file).seen (now.world.disk file).seen within low so.seen;
   pending = λ some. last_pending done file at (length bytes) old now some so.past;

@@ -1,12 +1,14 @@
 -- The files that are ready: how often calls on each have failed, whether a sync of it has, and whether it was seen to have bytes.
-use Rattle.std.specs.Prelude.{◌≡◌, ℕ, Bool, true, false, IsTrue, Option, Some, None, is_some}
+use Rattle.std.specs.Prelude.{◌≡◌, ℕ, Bool, false, IsTrue, Option, Some, None, is_some}
 use Rattle.std.specs.declared.cmp.Ordering.{Ordering}
 use Rattle.std.specs.BTreeMap.{BTreeMap, get}
 use Rattle.host_trait.specs.declared.channels.FileId.{FileId}
 use Rattle.host_trait.specs.declared.channels.Channel.{Channel}
 use Rattle.host_trait.specs.declared.channels.Channel.TheVariants.{Input, Output, File}
 use Rattle.host_trait.specs.contracts.channels.FileIdOrd.TheImpl as file_ord
+use Rattle.system_calls.specs.System.{System}
 use Rattle.host_files.specs.declared.table.Known.{Known}
+use Rattle.host_files.specs.UnfailingCalls.{IsInPlace}
 use Rattle.host_trait.specs.Files.{is_always}
 
 -- the order of files in the table
@@ -69,3 +71,7 @@ SameHadBytes old new = (file : FileId) → had_bytes_in new file ≡ had_bytes_i
 -- each file of which a sync has failed is known as such still
 abbrev pub StayLost : BTreeMap FileId Known → BTreeMap FileId Known → Type 0
 StayLost old new = (file : FileId) → IsTrue (is_lost old file) → IsTrue (is_lost new file)
+
+-- By what is known of the file, and as the system has it, nothing stands in the way of a call on it.
+abbrev pub IsInOrder : BTreeMap FileId Known → (FileId → Bool) → System → FileId → Type 0
+IsInOrder files is_regular system file = IsInPlace (is_lost files file) (had_bytes_in files file) (is_regular file) (system.world.disk file).seen

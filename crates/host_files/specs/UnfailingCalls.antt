@@ -21,3 +21,17 @@ pub record IsInPlace (is_lost had_bytes is_regular : Bool) (seen : List ℕ) : T
   pub believed : is_lost ≡ false
   pub regular : IsTrue is_regular
   pub there : IsTrue had_bytes → 0 < length seen
+
+-- How a call that asks the system ends: where it succeeds no call was refused, and it succeeds where all went well and nothing stands in
+-- the way. What is known of the folder's entries stays.
+pub record EndsFairly (ok : Bool) (old new : AnswerCounts) (unhindered : Type 0) : Type 0 where
+  pub calm : IsTrue ok → WasObeyed old new
+  pub fine : WentWell old new → unhindered → IsTrue ok
+  pub known : new.has_lost_entries ≡ old.has_lost_entries
+
+-- How a call on a file ends: it fails where a sync of the file has failed; and where the system tells, no call was refused in one that
+-- succeeds, and it succeeds where all went well and nothing stands in the way.
+pub record EndsOnFile (tells is_lost ok : Bool) (old new : AnswerCounts) (unhindered : Type 0) : Type 0 where
+  pub lost : IsTrue is_lost → ok ≡ false
+  pub calm : IsTrue tells → IsTrue ok → WasObeyed old new
+  pub fine : IsTrue tells → WentWell old new → unhindered → IsTrue ok

@@ -1,29 +1,24 @@
 // The system's calls on the files of a folder.
-ghost use Rattle.std.specs.Prelude.{◌≡◌, ◌≢◌, ◌+◌, ◌^◌, ◌<◌, ◌≤◌, ℕ, [], length, IsTrue, IsOk, IsErr, IsNone, IsSome, is_some, is_ok, true, false, IfOk, IfErr, IfSome, OnOk, OnErr, string_bytes};
+ghost use Rattle.std.specs.Prelude.{◌≡◌, ◌≢◌, ◌+◌, ◌^◌, ◌<◌, ◌≤◌, ℕ, [], length, IsTrue, IsOk, IsErr, IsNone, is_some, is_ok, true, false, IfOk, IfErr, IfSome, OnOk, OnErr, All, string_bytes};
 ghost use Rattle.std.specs.Option.{ForSome};
-ghost use Rattle.host_trait.specs.Files.{name_of, same_file};
+ghost use Rattle.std.specs.VecDeque.{deque_len};
+ghost use Rattle.host_trait.specs.Files.{name_of};
 ghost use Rattle.host_trait.specs.Disk.{Overwrote};
 ghost use Rattle.host_trait.specs.World.{Pulled, Emitted, Filled, Written, Synced};
 ghost use Rattle.host_trait.specs.declared.channels.FileId.{FileId};
 ghost use Rattle.system_calls.specs.System.{NoSyncRefused, HasNoBytes};
-ghost use Rattle.host_files.specs.Told.{SameButEntries, SyncsFile};
-ghost use Rattle.host_files.specs.UnfailingCalls.{WentWell, WasObeyed, IsInPlace};
+ghost use Rattle.host_files.specs.Told.{SameButEntries, SyncsFile, IsRightlyAsked, IsUnhindered};
+ghost use Rattle.host_files.specs.UnfailingCalls.{WentWell, WasObeyed, EndsFairly, EndsOnFile};
 ghost use Rattle.host_files.specs.declared.folder.Entries.{Entries};
 
 use crate::claim::Claim;
+use crate::kept::{Handles, Kept, is_one};
 use crate::pieces::{put_out, read_whole, take_input, write_whole};
 use crate::table::Asked;
 use base_types::FILE_LIMIT;
 use host_trait::FileId;
-use system_calls::{Access, Handle, Refused, SystemCalls};
-
-/// A handle that is kept from one call to the next.
-#[derive(Drop)]
-pub struct Kept<T: Handle> {
-    file: FileId,
-    opened: T,
-    ghost serves: { T.file opened ≡ file },
-}
+use std::alloc::{AllocError, Global};
+use system_calls::{Access, Refused, SystemCalls};
 
 /// Whether the folder's entries last: those of files that were made.
 #[derive(Clone, Copy, PartialEq, Eq)]
@@ -36,9 +31,13 @@ pub enum Entries {
 
 /// A folder of real files, of which no other process makes calls while this one does, and the standard streams.
 ///
-/// The handle that last read a file stays open, and that which last wrote or synced one, so that the sync that follows a write
-/// is asked of the handle that wrote. With the folder's own, and those that stand in for closed standard streams, at most six
-/// are open. Files are made by the first write or sync, and never cut or removed. Only regular files are taken.
+/// Of each file one handle is open at most. Those of the files that were used last stay open: that which last read a file, and 256
+/// others, or fewer where the process may have fewer. So a file is opened once, as long as no more files are in use, and the sync
+/// that follows a write is asked of the handle that wrote. With the folder's own, and those that stand in for closed standard
+/// streams, at most 261 are open. Files are made by the first write or sync, and never cut or removed. Only regular files are taken.
+///
+/// A read by a handle that was kept asks for no name. Before a write or a sync the file's name is looked for, but for the file that
+/// was written or synced last: what is written to a file that nobody finds is lost.
 #[derive(Drop)]
 pub struct Folder<S: SystemCalls> {
     system: S,
@@ -46,58 +45,20 @@ pub struct Folder<S: SystemCalls> {
     claim: Claim<S::Folder, S::Locked>,
     is_reached: bool,
     reader: Option<Kept<S::File>>,
-    writer: Option<Kept<S::File>>,
+    handles: Handles<S::File>,
+    written: Option<FileId>,
     entries: Entries,
     ghost leads: { IsTrue S.tells → string_bytes path ≡ S.leads },
     ghost absent: { IsTrue S.tells → IsTrue claim.is_missing → HasNoBytes (S.state system) },
     ghost reached: { IsTrue S.tells → IsTrue is_reached → ForSome claim.folder (λ folder. IsTrue (S.finds folder)) },
     ghost opened: { IsTrue is_reached → IsTrue (is_some claim.folder) },
-    ghost written: { IsTrue (is_some writer) → IsTrue (is_some claim.folder) },
+    ghost read: { IsTrue (is_some reader) → IsTrue (is_some claim.folder) },
+    ghost kept: { 0 < deque_len handles.kept → IsTrue (is_some claim.folder) },
     ghost reads: { IsTrue S.tells → ForSome reader (λ kept. IsTrue (S.is_regular kept.file)) },
-    ghost writes: { IsTrue S.tells → ForSome writer (λ kept. IsTrue (S.is_regular kept.file)) },
+    ghost keeps: { IsTrue S.tells → All (λ kept. IsTrue (S.is_regular kept.file)) handles.kept.items },
     ghost lost: { IsTrue S.tells → entries ≡ Entries.Lost → IsTrue (S.answered system).has_lost_entries },
     ghost entered: { IsTrue S.tells → entries ≡ Entries.Synced → (file : FileId) → IsTrue ((S.state system).is_entered file) },
     ghost calm: { IsTrue S.tells → entries ≢ Entries.Lost → (S.state system).has_lost ≡ false },
-}
-
-fn is_same(a: FileId, b: FileId) -> bool
-    ensures { result ≡ same_file a b }
-{
-    match (a, b) {
-        (FileId::Program { slot: a }, FileId::Program { slot: b }) => a == b,
-        (FileId::Manager { slot: a }, FileId::Manager { slot: b }) => a == b,
-        (FileId::Grain { slot: a, grain: x }, FileId::Grain { slot: b, grain: y }) => {
-            a == b && x.kind == y.kind && x.key == y.key
-        }
-        _ => false,
-    }
-}
-
-// Whether two names are one file's.
-fn is_one(a: FileId, b: FileId) -> bool
-    ensures { IsTrue result → a ≡ b }
-{
-    let same = is_same(a, b);
-    same
-}
-
-// The handle that was kept, where it is this file's. No other is kept then either.
-fn take_kept<T: Handle + Drop>(kept: &mut Option<Kept<T>>, file: FileId) -> Option<T>
-    ensures file { IfSome result (λ opened. T.file opened ≡ file) }
-    ensures kept { IfSome result (λ opened. IsTrue (is_some kept.old)) }
-    ensures served { IfSome result (λ opened. ForSome kept.old (λ old. old.file ≡ file)) }
-    ensures none { is_some kept.new ≡ false }
-{
-    match kept.take() {
-        Some(kept) => {
-            if is_one(kept.file, file) {
-                Some(kept.opened)
-            } else {
-                None
-            }
-        }
-        None => None,
-    }
 }
 
 // Opens a file to read and write it, or to read it alone where no more is allowed. A pipe isn't waited for: opened both ways it
@@ -158,6 +119,26 @@ fn refuse_unreached<S: SystemCalls>(
     Ok(())
 }
 
+// A file whose name isn't found any more is refused, also where its handle is kept.
+fn refuse_missing<S: SystemCalls>(
+    system: &mut S,
+    folder: &S::Locked,
+    asked: Asked<'_>,
+) -> Result<(), Refused>
+    requires { asked.name.now ≡ name_of asked.file }
+    ensures told { IsTrue S.tells → S.state system.new ≡ S.state system.old }
+    ensures calm { OnOk result (IsTrue S.tells → S.answered system.new ≡ S.answered system.old) }
+    ensures refused { OnErr result (IsTrue S.tells → IsTrue (S.is_regular asked.entry.file)
+        → (S.answered system.new).refusals ≢ (S.answered system.old).refusals) }
+    ensures known { IsTrue S.tells → (S.answered system.new).has_lost_entries ≡ (S.answered system.old).has_lost_entries }
+{
+    let found = system.look(folder, asked.file, asked.name)?;
+    if !found.is_regular {
+        return Err(Refused::Failed);
+    }
+    Ok(())
+}
+
 // A file of which a sync has failed is asked nothing more: the system may have dropped what was pending, and a later sync
 // would succeed all the same.
 fn refuse_lost(is_lost: bool) -> Result<(), Refused>
@@ -183,21 +164,42 @@ fn refuse_gone(had_bytes: bool) -> Result<(), Refused>
 
 impl<S: SystemCalls + Drop> Folder<S> {
     /// The folder at this path. Its own entries count as not yet synced. Nothing is opened.
-    pub fn new(system: S, path: String) -> Folder<S>
+    pub fn new(alloc: Global, system: S, path: String) -> Result<Folder<S>, AllocError>
         requires calm { IsTrue S.tells → NoSyncRefused (S.state system) }
         requires path { IsTrue S.tells → string_bytes path ≡ S.leads }
-        ensures entries { result.entries ≡ Entries.Pending }
-        ensures system { result.system ≡ system }
+        ensures entries { IfOk result (λ folder. folder.entries ≡ Entries.Pending) }
+        ensures system { IfOk result (λ folder. folder.system ≡ system) }
     {
-        Folder {
+        let handles = Handles::new(alloc, system.handle_limit())?;
+        Ok(Folder {
             system,
             path,
             claim: Claim::new(),
             is_reached: false,
             reader: None,
-            writer: None,
+            handles,
+            written: None,
             entries: Entries::Pending,
+        })
+    }
+
+    // The handle that is kept of a file: that which last read one, or one of the others, to which that goes otherwise.
+    fn take_open(&mut self, file: FileId) -> Option<S::File>
+        ensures file { IfSome result (λ opened. S.File.file opened ≡ file) }
+        ensures regular { IfSome result (λ opened. IsTrue S.tells → IsTrue (S.is_regular file)) }
+        ensures taken { IfSome result (λ opened. IsTrue (is_some self.new.claim.folder)) }
+        ensures system { self.new.system ≡ self.old.system }
+        ensures claim { self.new.claim ≡ self.old.claim }
+        ensures entries { self.new.entries ≡ self.old.entries }
+    {
+        let found = self.handles.take(file);
+        if let Some(kept) = self.reader.take() {
+            if is_one(kept.file, file) {
+                return Some(kept.opened);
+            }
+            self.handles.keep(kept);
         }
+        found
     }
 
     /// Moves the next input bytes into the front of the slice, and answers how many.
@@ -235,11 +237,8 @@ impl<S: SystemCalls + Drop> Folder<S> {
         ensures nowhere { IfOk result (λ found. self.new.claim.is_missing ≡ false → IsTrue (is_some self.new.claim.folder)) }
         ensures gone { IfOk result (λ found. IsNone found → asked.entry.had_bytes ≡ false) }
         ensures entries { self.new.entries ≡ self.old.entries }
-        ensures known { IsTrue S.tells → (S.answered self.new.system).has_lost_entries ≡ (S.answered self.old.system).has_lost_entries }
-        ensures calm { OnOk result (IsTrue S.tells → WasObeyed (S.answered self.old.system) (S.answered self.new.system)) }
-        ensures fine { IsTrue S.tells → WentWell (S.answered self.old.system) (S.answered self.new.system)
-            → IsInPlace asked.entry.is_lost asked.entry.had_bytes (S.is_regular asked.entry.file)
-            ((S.state self.old.system).world.disk asked.entry.file).seen → IsOk result }
+        ensures ends { IsTrue S.tells → EndsFairly (is_ok result) (S.answered self.old.system) (S.answered self.new.system)
+            (IsUnhindered S.is_regular (S.state self.old.system) asked.entry) }
     {
         if !self.claim.take(&mut self.system, self.path.as_str())? {
             refuse_gone(asked.had_bytes)?;
@@ -265,8 +264,7 @@ impl<S: SystemCalls + Drop> Folder<S> {
 
     // As `find`, and only a regular file is taken. One that had bytes was seen to be regular.
     fn find_regular(&mut self, asked: Asked<'_>) -> Result<Option<S::File>, Refused>
-        requires name { asked.name.now ≡ name_of asked.file }
-        requires had { IsTrue S.tells → IsTrue asked.had_bytes → IsTrue (S.is_regular asked.file) }
+        requires asked { IsRightlyAsked S.tells S.is_regular (S.state self.old.system) asked }
         requires calm { IsTrue S.tells → (S.state self.old.system).is_doubtful asked.file ≡ false }
         ensures told { IsTrue S.tells → S.state self.new.system ≡ S.state self.old.system }
         ensures file { IfOk result (λ found. IfSome found (λ opened. S.File.file opened ≡ asked.entry.file)) }
@@ -276,11 +274,8 @@ impl<S: SystemCalls + Drop> Folder<S> {
         ensures gone { IfOk result (λ found. IsNone found → asked.entry.had_bytes ≡ false) }
         ensures regular { IfOk result (λ found. IfSome found (λ opened. IsTrue S.tells → IsTrue (S.is_regular asked.entry.file))) }
         ensures entries { self.new.entries ≡ self.old.entries }
-        ensures known { IsTrue S.tells → (S.answered self.new.system).has_lost_entries ≡ (S.answered self.old.system).has_lost_entries }
-        ensures calm { OnOk result (IsTrue S.tells → WasObeyed (S.answered self.old.system) (S.answered self.new.system)) }
-        ensures fine { IsTrue S.tells → WentWell (S.answered self.old.system) (S.answered self.new.system)
-            → IsInPlace asked.entry.is_lost asked.entry.had_bytes (S.is_regular asked.entry.file)
-            ((S.state self.old.system).world.disk asked.entry.file).seen → IsOk result }
+        ensures ends { IsTrue S.tells → EndsFairly (is_ok result) (S.answered self.old.system) (S.answered self.new.system)
+            (IsUnhindered S.is_regular (S.state self.old.system) asked.entry) }
     {
         let Some(opened) = self.find(asked)? else {
             return Ok(None);
@@ -294,23 +289,18 @@ impl<S: SystemCalls + Drop> Folder<S> {
     /// How many bytes a file has; 0 where there is none. Anything there but a regular file is refused, and so is a length of
     /// 2 to the 63 or more.
     pub fn length(&mut self, asked: Asked<'_>) -> Result<u64, Refused>
-        requires name { asked.name.now ≡ name_of asked.file }
-        requires had { IsTrue S.tells → IsTrue asked.had_bytes → IsTrue (S.is_regular asked.file) }
-        requires calm { IsTrue S.tells → asked.is_lost ≡ false → (S.state self.old.system).is_doubtful asked.file ≡ false }
+        requires asked { IsRightlyAsked S.tells S.is_regular (S.state self.old.system) asked }
         ensures told { IsTrue S.tells → S.state self.new.system ≡ S.state self.old.system }
         ensures len { IfOk result (λ count. IsTrue S.tells → count ≡ length ((S.state self.old.system).world.disk asked.entry.file).seen) }
         ensures bound { IfOk result (λ count. count < 2 ^ 63) }
         ensures regular { IfOk result (λ count. IsTrue S.tells → 0 < count → IsTrue (S.is_regular asked.entry.file)) }
         ensures open { OnOk result (IsTrue asked.entry.had_bytes → IsTrue (is_some self.new.reader)) }
-        ensures lost { IsTrue asked.entry.is_lost → IsErr result }
-        ensures calm { OnOk result (IsTrue S.tells → WasObeyed (S.answered self.old.system) (S.answered self.new.system)) }
-        ensures fine { IsTrue S.tells → WentWell (S.answered self.old.system) (S.answered self.new.system)
-            → IsInPlace asked.entry.is_lost asked.entry.had_bytes (S.is_regular asked.entry.file)
-            ((S.state self.old.system).world.disk asked.entry.file).seen
-            → length ((S.state self.old.system).world.disk asked.entry.file).seen < 2 ^ 63 → IsOk result }
+        ensures ends { EndsOnFile S.tells asked.entry.is_lost (is_ok result) (S.answered self.old.system) (S.answered self.new.system)
+            (IsUnhindered S.is_regular (S.state self.old.system) asked.entry
+            × (length ((S.state self.old.system).world.disk asked.entry.file).seen < 2 ^ 63)) }
     {
         refuse_lost(asked.is_lost)?;
-        let opened = match take_kept(&mut self.reader, asked.file) {
+        let opened = match self.take_open(asked.file) {
             Some(opened) => opened,
             None => match self.find(asked)? {
                 Some(opened) => opened,
@@ -331,22 +321,21 @@ impl<S: SystemCalls + Drop> Folder<S> {
         Ok(found.length)
     }
 
-    // The handle that last read the file, or a new one. None where there is no file.
+    // The handle that is kept of the file, or a new one. None where there is no file.
     fn take_reader(&mut self, asked: Asked<'_>) -> Result<Option<S::File>, Refused>
-        requires name { asked.name.now ≡ name_of asked.file }
-        requires had { IsTrue S.tells → IsTrue asked.had_bytes → IsTrue (S.is_regular asked.file) }
+        requires asked { IsRightlyAsked S.tells S.is_regular (S.state self.old.system) asked }
         requires calm { IsTrue S.tells → (S.state self.old.system).is_doubtful asked.file ≡ false }
         ensures told { IsTrue S.tells → S.state self.new.system ≡ S.state self.old.system }
         ensures file { IfOk result (λ found. IfSome found (λ opened. S.File.file opened ≡ asked.entry.file)) }
         ensures absent { IfOk result (λ found. IsNone found → IsTrue S.tells → ((S.state self.old.system).world.disk asked.entry.file).seen ≡ []) }
         ensures gone { IfOk result (λ found. IsNone found → asked.entry.had_bytes ≡ false) }
+        ensures taken { IfOk result (λ found. IfSome found (λ opened. IsTrue (is_some self.new.claim.folder))) }
         ensures regular { IfOk result (λ found. IfSome found (λ opened. IsTrue S.tells → IsTrue (S.is_regular asked.entry.file))) }
         ensures calm { OnOk result (IsTrue S.tells → WasObeyed (S.answered self.old.system) (S.answered self.new.system)) }
         ensures fine { IsTrue S.tells → WentWell (S.answered self.old.system) (S.answered self.new.system)
-            → IsInPlace asked.entry.is_lost asked.entry.had_bytes (S.is_regular asked.entry.file)
-            ((S.state self.old.system).world.disk asked.entry.file).seen → IsOk result }
+            → IsUnhindered S.is_regular (S.state self.old.system) asked.entry → IsOk result }
     {
-        if let Some(opened) = take_kept(&mut self.reader, asked.file) {
+        if let Some(opened) = self.take_open(asked.file) {
             return Ok(Some(opened));
         }
         let found = self.find_regular(asked)?;
@@ -355,19 +344,14 @@ impl<S: SystemCalls + Drop> Folder<S> {
 
     /// Reads from there on, until the slice is full or the file ends. A file that isn't there has no bytes.
     pub fn read_at(&mut self, asked: Asked<'_>, at: u64, into: &mut [u8]) -> Result<usize, Refused>
-        requires name { asked.name.now ≡ name_of asked.file }
-        requires had { IsTrue S.tells → IsTrue asked.had_bytes → IsTrue (S.is_regular asked.file) }
-        requires calm { IsTrue S.tells → asked.is_lost ≡ false → (S.state self.old.system).is_doubtful asked.file ≡ false }
+        requires asked { IsRightlyAsked S.tells S.is_regular (S.state self.old.system) asked }
         ensures told { IsTrue S.tells → S.state self.new.system ≡ S.state self.old.system }
         ensures bytes { IfOk result (λ count. IsTrue S.tells → Filled count at ((S.state self.old.system).world.disk asked.entry.file).seen into.old into.new) }
         ensures bound { IfOk result (λ count. count ≤ length into.old) }
         ensures regular { IfOk result (λ count. IsTrue S.tells → 0 < count → IsTrue (S.is_regular asked.entry.file)) }
         ensures open { OnOk result (IsTrue asked.entry.had_bytes → IsTrue (is_some self.new.reader)) }
-        ensures lost { IsTrue asked.entry.is_lost → IsErr result }
-        ensures calm { OnOk result (IsTrue S.tells → WasObeyed (S.answered self.old.system) (S.answered self.new.system)) }
-        ensures fine { IsTrue S.tells → WentWell (S.answered self.old.system) (S.answered self.new.system)
-            → IsInPlace asked.entry.is_lost asked.entry.had_bytes (S.is_regular asked.entry.file)
-            ((S.state self.old.system).world.disk asked.entry.file).seen → IsOk result }
+        ensures ends { EndsOnFile S.tells asked.entry.is_lost (is_ok result) (S.answered self.old.system) (S.answered self.new.system)
+            (IsUnhindered S.is_regular (S.state self.old.system) asked.entry) }
     {
         refuse_lost(asked.is_lost)?;
         let Some(opened) = self.take_reader(asked)? else {
@@ -407,10 +391,36 @@ impl<S: SystemCalls + Drop> Folder<S> {
         Ok(opened)
     }
 
-    // The handle that last wrote the file, or a new one. The file is made where it isn't there.
-    fn take_writer(&mut self, asked: Asked<'_>) -> Result<S::File, Refused>
+    // The handle that is kept of the file. Where another file was written or synced last, the name is looked for first.
+    fn take_kept(&mut self, asked: Asked<'_>) -> Result<Option<S::File>, Refused>
         requires name { asked.name.now ≡ name_of asked.file }
-        requires had { IsTrue S.tells → IsTrue asked.had_bytes → IsTrue (S.is_regular asked.file) }
+        ensures told { IsTrue S.tells → S.state self.new.system ≡ S.state self.old.system }
+        ensures file { IfOk result (λ found. IfSome found (λ opened. S.File.file opened ≡ asked.entry.file)) }
+        ensures regular { IfOk result (λ found. IfSome found (λ opened. IsTrue S.tells → IsTrue (S.is_regular asked.entry.file))) }
+        ensures taken { IfOk result (λ found. IfSome found (λ opened. IsTrue (is_some self.new.claim.folder))) }
+        ensures claim { self.new.claim ≡ self.old.claim }
+        ensures entries { self.new.entries ≡ self.old.entries }
+        ensures known { IsTrue S.tells → (S.answered self.new.system).has_lost_entries ≡ (S.answered self.old.system).has_lost_entries }
+        ensures calm { OnOk result (IsTrue S.tells → S.answered self.new.system ≡ S.answered self.old.system) }
+        ensures fine { IsTrue S.tells → WentWell (S.answered self.old.system) (S.answered self.new.system)
+            → IsTrue (S.is_regular asked.entry.file) → IsOk result }
+    {
+        let is_latest = self.written == Some(asked.file);
+        let Some(opened) = self.take_open(asked.file) else {
+            return Ok(None);
+        };
+        let Some(folder) = self.claim.folder() else {
+            return Ok(None);
+        };
+        if !is_latest {
+            refuse_missing(&mut self.system, folder, asked)?;
+        }
+        Ok(Some(opened))
+    }
+
+    // The handle that is kept of the file, or a new one. The file is made where it isn't there.
+    fn take_writer(&mut self, asked: Asked<'_>) -> Result<S::File, Refused>
+        requires asked { IsRightlyAsked S.tells S.is_regular (S.state self.old.system) asked }
         requires calm { IsTrue S.tells → (S.state self.old.system).is_doubtful asked.file ≡ false }
         ensures told { IsTrue S.tells → SameButEntries (S.state self.old.system) (S.state self.new.system) }
         ensures file { IfOk result (λ opened. S.File.file opened ≡ asked.entry.file) }
@@ -420,10 +430,9 @@ impl<S: SystemCalls + Drop> Folder<S> {
         ensures known { IsTrue S.tells → (S.answered self.new.system).has_lost_entries ≡ (S.answered self.old.system).has_lost_entries }
         ensures calm { OnOk result (IsTrue S.tells → WasObeyed (S.answered self.old.system) (S.answered self.new.system)) }
         ensures fine { IsTrue S.tells → WentWell (S.answered self.old.system) (S.answered self.new.system)
-            → IsInPlace asked.entry.is_lost asked.entry.had_bytes (S.is_regular asked.entry.file)
-            ((S.state self.old.system).world.disk asked.entry.file).seen → self.new.claim.is_missing ≡ false → IsOk result }
+            → IsUnhindered S.is_regular (S.state self.old.system) asked.entry → self.new.claim.is_missing ≡ false → IsOk result }
     {
-        if let Some(opened) = take_kept(&mut self.writer, asked.file) {
+        if let Some(opened) = self.take_kept(asked)? {
             return Ok(opened);
         }
         if let Some(opened) = self.find_regular(asked)? {
@@ -435,9 +444,7 @@ impl<S: SystemCalls + Drop> Folder<S> {
 
     /// Writes from there on, and makes the file where it isn't there. A range that doesn't end below 2 to the 63 is refused.
     pub fn write_at(&mut self, asked: Asked<'_>, at: u64, bytes: &[u8]) -> Result<(), Refused>
-        requires name { asked.name.now ≡ name_of asked.file }
-        requires had { IsTrue S.tells → IsTrue asked.had_bytes → IsTrue (S.is_regular asked.file) }
-        requires calm { IsTrue S.tells → asked.is_lost ≡ false → (S.state self.old.system).is_doubtful asked.file ≡ false }
+        requires asked { IsRightlyAsked S.tells S.is_regular (S.state self.old.system) asked }
         requires place { IsTrue S.tells → at ≤ length ((S.state self.old.system).world.disk asked.file).seen }
         ensures told { IsTrue S.tells → Written asked.entry.file at (length bytes.now) (S.state self.old.system).world (S.state self.new.system).world }
         ensures ok { OnOk result (IsTrue S.tells
@@ -445,12 +452,9 @@ impl<S: SystemCalls + Drop> Folder<S> {
         ensures doubts { IsTrue S.tells → (S.state self.new.system).is_doubtful ≡ (S.state self.old.system).is_doubtful }
         ensures bound { OnOk result (at + length bytes.now < 2 ^ 63) }
         ensures regular { OnOk result (IsTrue S.tells → IsTrue (S.is_regular asked.entry.file)) }
-        ensures lost { IsTrue asked.entry.is_lost → IsErr result }
         ensures entries { self.new.entries ≡ Entries.Lost → self.old.entries ≡ Entries.Lost }
-        ensures calm { OnOk result (IsTrue S.tells → WasObeyed (S.answered self.old.system) (S.answered self.new.system)) }
-        ensures fine { IsTrue S.tells → WentWell (S.answered self.old.system) (S.answered self.new.system)
-            → IsInPlace asked.entry.is_lost asked.entry.had_bytes (S.is_regular asked.entry.file)
-            ((S.state self.old.system).world.disk asked.entry.file).seen → self.new.claim.is_missing ≡ false → at + length bytes.now < 2 ^ 63 → IsOk result }
+        ensures ends { EndsOnFile S.tells asked.entry.is_lost (is_ok result) (S.answered self.old.system) (S.answered self.new.system)
+            (IsUnhindered S.is_regular (S.state self.old.system) asked.entry × (self.new.claim.is_missing ≡ false) × (at + length bytes.now < 2 ^ 63)) }
     {
         refuse_lost(asked.is_lost)?;
         let count = bytes.len() as u64;
@@ -459,10 +463,11 @@ impl<S: SystemCalls + Drop> Folder<S> {
         }
         let opened = self.take_writer(asked)?;
         let answer = write_whole(&mut self.system, &opened, at, bytes);
-        self.writer = Some(Kept {
+        self.handles.keep(Kept {
             file: asked.file,
             opened,
         });
+        self.written = Some(asked.file);
         answer?;
         Ok(())
     }
@@ -501,27 +506,22 @@ impl<S: SystemCalls + Drop> Folder<S> {
     /// Syncs a file's bytes and length, and before that the folder's entries at the first sync and after a file was made: a sync
     /// of bytes helps only where their file is found.
     pub fn sync(&mut self, asked: Asked<'_>) -> Result<(), Refused>
-        requires name { asked.name.now ≡ name_of asked.file }
-        requires had { IsTrue S.tells → IsTrue asked.had_bytes → IsTrue (S.is_regular asked.file) }
-        requires calm { IsTrue S.tells → asked.is_lost ≡ false → (S.state self.old.system).is_doubtful asked.file ≡ false }
+        requires asked { IsRightlyAsked S.tells S.is_regular (S.state self.old.system) asked }
         ensures told { IsTrue S.tells → SyncsFile asked.entry.file (is_ok result) (S.state self.old.system) (S.state self.new.system) }
         ensures regular { OnOk result (IsTrue S.tells → IsTrue (S.is_regular asked.entry.file)) }
-        ensures lost { IsTrue asked.entry.is_lost → IsErr result }
-        ensures calm { OnOk result (IsTrue S.tells → WasObeyed (S.answered self.old.system) (S.answered self.new.system)) }
-        ensures fine { IsTrue S.tells → WentWell (S.answered self.old.system) (S.answered self.new.system)
-            → IsInPlace asked.entry.is_lost asked.entry.had_bytes (S.is_regular asked.entry.file)
-            ((S.state self.old.system).world.disk asked.entry.file).seen → self.new.claim.is_missing ≡ false
-            → (S.answered self.old.system).has_lost_entries ≡ false → IsOk result }
+        ensures ends { EndsOnFile S.tells asked.entry.is_lost (is_ok result) (S.answered self.old.system) (S.answered self.new.system)
+            (IsUnhindered S.is_regular (S.state self.old.system) asked.entry × (self.new.claim.is_missing ≡ false)
+            × ((S.answered self.old.system).has_lost_entries ≡ false)) }
     {
         refuse_lost(asked.is_lost)?;
         let opened = self.take_writer(asked)?;
         self.sync_entries()?;
-        let answer = self.system.sync_data(&opened);
-        self.writer = Some(Kept {
+        self.system.sync_data(&opened)?;
+        self.handles.keep(Kept {
             file: asked.file,
             opened,
         });
-        answer?;
+        self.written = Some(asked.file);
         Ok(())
     }
 }

@@ -3,7 +3,8 @@ ghost use Rattle.host_trait.specs.declared.channels.FileId.{FileId};
 ghost use Rattle.host_trait.specs.declared.channels.Channel.{Channel};
 ghost use Rattle.system_calls.specs.System.{NoSyncRefused};
 ghost use Rattle.host_files.specs.Path.{path_of};
-ghost use Rattle.host_files.specs.Table.{is_lost, had_bytes_in, counts_of};
+ghost use Rattle.host_files.specs.Table.{is_lost, had_bytes_in};
+ghost use Rattle.host_files.specs.CountedCalls.{counts_in};
 
 use crate::file_names::name_of;
 use crate::folder::Folder;
@@ -35,8 +36,6 @@ use system_calls::SystemCalls;
 pub struct FolderHost<S: SystemCalls> {
     folder: Folder<S>,
     table: Table,
-    input_faults: u64,
-    output_faults: u64,
     ghost plain: { IsTrue S.tells → (file : FileId) → IsTrue (had_bytes_in table.files file) → IsTrue (S.is_regular file) },
     ghost doubts: { IsTrue S.tells → (file : FileId) → IsTrue ((S.state folder.system).is_doubtful file) → IsTrue (is_lost table.files file) },
 }
@@ -57,50 +56,41 @@ impl<S: SystemCalls + Drop> FolderHost<S> {
         requires calm { IsTrue S.tells → NoSyncRefused (S.state system) }
         requires path { IsTrue S.tells → S.leads ≡ path_of folder.now }
         ensures system { IfOk result (λ host. host.folder.system ≡ system) }
-        ensures faults { IfOk result (λ host. (channel : Channel)
-            → counts_of host.input_faults host.output_faults host.table.files channel ≡ 0) }
+        ensures faults { IfOk result (λ host. (channel : Channel) → counts_in host.table channel ≡ 0) }
     {
         let table = Table::new(alloc)?;
         let path = path_to(alloc, folder)?;
-        Ok(FolderHost {
-            folder: Folder::new(system, path),
-            table,
-            input_faults: 0,
-            output_faults: 0,
-        })
+        let folder = Folder::new(alloc, system, path)?;
+        Ok(FolderHost { folder, table })
     }
 
     /// How often calls on this channel have failed, up to the last value of a `u64`.
     pub fn fault_count(&self, channel: Channel) -> u64
-        ensures { result ≡ counts_of self.now.input_faults self.now.output_faults self.now.table.files channel }
+        ensures { result ≡ counts_in self.now.table channel }
     {
-        match channel {
-            Channel::Input => self.input_faults,
-            Channel::Output => self.output_faults,
-            Channel::File(file) => self.table.faults(file),
-        }
+        self.table.faults(channel)
     }
 }
 
 impl<S: SystemCalls + Drop> Host for FolderHost<S> {
-    ghost use Rattle.std.specs.Prelude.{◌≡◌, ◌≢◌, ◌+◌, ◌^◌, ◌<◌, ◌≤◌, ℕ, false, length, is_ok, is_some, IsTrue, IsOk, IsErr, IfOk, OnOk, OnErr};
+    ghost use Rattle.std.specs.Prelude.{◌≡◌, ◌≢◌, ◌+◌, ◌^◌, ◌<◌, ◌≤◌, ℕ, false, length, is_ok, is_some, IsTrue, IsOk, IfOk, OnOk, OnErr};
     ghost use Rattle.host_trait.specs.Disk.{Overwrote};
     ghost use Rattle.host_trait.specs.Files.{HasSlot, MayAsk, StaysReady};
     ghost use Rattle.host_trait.specs.World.{Asked, Pulled, Emitted, Filled, Written, Synced};
-    ghost use Rattle.host_trait.specs.Faults.{Counted};
     ghost use Rattle.host_trait.specs.declared.channels.FileId.{FileId};
     ghost use Rattle.host_trait.specs.declared.channels.Channel.{Channel};
     ghost use Rattle.host_trait.specs.declared.channels.Channel.TheVariants.{Input, Output, File};
-    ghost use Rattle.host_files.specs.Table.{is_known, is_lost, had_bytes_in, counts_of, SameLost};
-    ghost use Rattle.host_files.specs.UnfailingCalls.{WentWell, IsInPlace};
+    ghost use Rattle.host_files.specs.Table.{is_lost, had_bytes_in, SameLost, IsInOrder};
+    ghost use Rattle.host_files.specs.CountedCalls.{counts_in, ready_in, CountsCall};
+    ghost use Rattle.host_files.specs.UnfailingCalls.{WentWell, EndsOnFile};
 
     ghost tells = { S.tells };
 
     ghost world = { λ host. (S.state host.folder.system).world };
 
-    ghost faults = { λ host. counts_of host.input_faults host.output_faults host.table.files };
+    ghost faults = { λ host. counts_in host.table };
 
-    ghost is_ready = { λ host. is_known host.table.files };
+    ghost is_ready = { λ host. ready_in host.table };
 
     ghost seen_may_stay = { λ host file told. S.seen_may_stay host.folder.system file told };
 
@@ -108,58 +98,41 @@ impl<S: SystemCalls + Drop> Host for FolderHost<S> {
         ensures bound { IfOk result (λ n. n ≤ length into.old) }
         ensures ok { IfOk result (λ n. IsTrue S.tells → Pulled n into.new (S.state self.old.folder.system).world (S.state self.new.folder.system).world) }
         ensures err { OnErr result (IsTrue S.tells → Asked (S.state self.old.folder.system).world (S.state self.new.folder.system).world) }
-        ensures faults { Counted Input result (counts_of self.old.input_faults self.old.output_faults self.old.table.files)
-            (counts_of self.new.input_faults self.new.output_faults self.new.table.files) }
-        ensures ready { StaysReady (is_known self.old.table.files) (is_known self.new.table.files) }
+        ensures counts { CountsCall Input result self.old.table self.new.table }
         ensures believed { SameLost self.old.table.files self.new.table.files }
         ensures calm { OnOk result (IsTrue S.tells → (S.answered self.new.folder.system).refusals ≡ (S.answered self.old.folder.system).refusals) }
         ensures fine { IsTrue S.tells → WentWell (S.answered self.old.folder.system) (S.answered self.new.folder.system) → IsOk result }
     {
-        match self.folder.pull(into) {
-            Ok(count) => Ok(count),
-            Err(_) => {
-                self.input_faults = self.input_faults.saturating_add(1);
-                Err(Failed)
-            }
-        }
+        let answer = self.folder.pull(into);
+        let count = self.table.count_input(answer)?;
+        Ok(count)
     }
 
     fn emit(&mut self, bytes: &[u8]) -> Result<(), Failed>
         ensures ok { OnOk result (IsTrue S.tells
             → Emitted (length bytes.now) bytes.now (S.state self.old.folder.system).world (S.state self.new.folder.system).world) }
         ensures part { IsTrue S.tells → ((n : ℕ) × Emitted n bytes.now (S.state self.old.folder.system).world (S.state self.new.folder.system).world) }
-        ensures faults { Counted Output result (counts_of self.old.input_faults self.old.output_faults self.old.table.files)
-            (counts_of self.new.input_faults self.new.output_faults self.new.table.files) }
-        ensures ready { StaysReady (is_known self.old.table.files) (is_known self.new.table.files) }
+        ensures counts { CountsCall Output result self.old.table self.new.table }
         ensures believed { SameLost self.old.table.files self.new.table.files }
         ensures calm { OnOk result (IsTrue S.tells → (S.answered self.new.folder.system).refusals ≡ (S.answered self.old.folder.system).refusals) }
         ensures fine { IsTrue S.tells → WentWell (S.answered self.old.folder.system) (S.answered self.new.folder.system) → IsOk result }
     {
-        match self.folder.emit(bytes) {
-            Ok(()) => Ok(()),
-            Err(_) => {
-                self.output_faults = self.output_faults.saturating_add(1);
-                Err(Failed)
-            }
-        }
+        let answer = self.folder.emit(bytes);
+        self.table.count_output(answer)?;
+        Ok(())
     }
 
     fn length(&mut self, file: FileId) -> Result<u64, Failed>
-        requires { MayAsk (is_known self.old.table.files) file }
+        requires { MayAsk (ready_in self.old.table) file }
         ensures told { IsTrue S.tells → Asked (S.state self.old.folder.system).world (S.state self.new.folder.system).world }
         ensures len { IfOk result (λ n. IsTrue S.tells → n ≡ length ((S.state self.old.folder.system).world.disk file).seen) }
         ensures bound { IfOk result (λ n. n < 2 ^ 63) }
-        ensures faults { Counted (File file) result (counts_of self.old.input_faults self.old.output_faults self.old.table.files)
-            (counts_of self.new.input_faults self.new.output_faults self.new.table.files) }
-        ensures ready { StaysReady (is_known self.old.table.files) (is_known self.new.table.files) }
+        ensures counts { CountsCall (File file) result self.old.table self.new.table }
         ensures believed { SameLost self.old.table.files self.new.table.files }
-        ensures calm { OnOk result (IsTrue S.tells → (S.answered self.new.folder.system).refusals ≡ (S.answered self.old.folder.system).refusals) }
-        ensures fine { IsTrue S.tells → WentWell (S.answered self.old.folder.system) (S.answered self.new.folder.system)
-            → IsInPlace (is_lost self.old.table.files file) (had_bytes_in self.old.table.files file) (S.is_regular file)
-            ((S.state self.old.folder.system).world.disk file).seen
-            → length ((S.state self.old.folder.system).world.disk file).seen < 2 ^ 63
-            → IsOk result }
-        ensures lost { IsTrue (is_lost self.old.table.files file) → IsErr result }
+        ensures ends { EndsOnFile S.tells (is_lost self.old.table.files file) (is_ok result)
+            (S.answered self.old.folder.system) (S.answered self.new.folder.system)
+            (IsInOrder self.old.table.files S.is_regular (S.state self.old.folder.system) file
+            × (length ((S.state self.old.folder.system).world.disk file).seen < 2 ^ 63)) }
         ensures regular { IfOk result (λ n. IsTrue S.tells → 0 < n → IsTrue (S.is_regular file)) }
         ensures noted { IfOk result (λ n. 0 < n → IsTrue (had_bytes_in self.new.table.files file)) }
         ensures open { OnOk result (IsTrue (had_bytes_in self.old.table.files file) → IsTrue (is_some self.new.folder.reader)) }
@@ -172,20 +145,15 @@ impl<S: SystemCalls + Drop> Host for FolderHost<S> {
     }
 
     fn read_at(&mut self, file: FileId, at: u64, into: &mut [u8]) -> Result<usize, Failed>
-        requires { MayAsk (is_known self.old.table.files) file }
+        requires { MayAsk (ready_in self.old.table) file }
         ensures told { IsTrue S.tells → Asked (S.state self.old.folder.system).world (S.state self.new.folder.system).world }
         ensures bytes { IfOk result (λ n. IsTrue S.tells → Filled n at ((S.state self.old.folder.system).world.disk file).seen into.old into.new) }
         ensures bound { IfOk result (λ n. n ≤ length into.old) }
-        ensures faults { Counted (File file) result (counts_of self.old.input_faults self.old.output_faults self.old.table.files)
-            (counts_of self.new.input_faults self.new.output_faults self.new.table.files) }
-        ensures ready { StaysReady (is_known self.old.table.files) (is_known self.new.table.files) }
+        ensures counts { CountsCall (File file) result self.old.table self.new.table }
         ensures believed { SameLost self.old.table.files self.new.table.files }
-        ensures calm { OnOk result (IsTrue S.tells → (S.answered self.new.folder.system).refusals ≡ (S.answered self.old.folder.system).refusals) }
-        ensures fine { IsTrue S.tells → WentWell (S.answered self.old.folder.system) (S.answered self.new.folder.system)
-            → IsInPlace (is_lost self.old.table.files file) (had_bytes_in self.old.table.files file) (S.is_regular file)
-            ((S.state self.old.folder.system).world.disk file).seen
-            → IsOk result }
-        ensures lost { IsTrue (is_lost self.old.table.files file) → IsErr result }
+        ensures ends { EndsOnFile S.tells (is_lost self.old.table.files file) (is_ok result)
+            (S.answered self.old.folder.system) (S.answered self.new.folder.system)
+            (IsInOrder self.old.table.files S.is_regular (S.state self.old.folder.system) file) }
         ensures regular { IfOk result (λ n. IsTrue S.tells → 0 < n → IsTrue (S.is_regular file)) }
         ensures noted { IfOk result (λ n. 0 < n → IsTrue (had_bytes_in self.new.table.files file)) }
         ensures open { OnOk result (IsTrue (had_bytes_in self.old.table.files file) → IsTrue (is_some self.new.folder.reader)) }
@@ -200,23 +168,18 @@ impl<S: SystemCalls + Drop> Host for FolderHost<S> {
     }
 
     fn write_at(&mut self, file: FileId, at: u64, bytes: &[u8]) -> Result<(), Failed>
-        requires file { MayAsk (is_known self.old.table.files) file }
+        requires file { MayAsk (ready_in self.old.table) file }
         requires place { IsTrue S.tells → at ≤ length ((S.state self.old.folder.system).world.disk file).seen }
         ensures told { IsTrue S.tells → Written file at (length bytes.now) (S.state self.old.folder.system).world (S.state self.new.folder.system).world }
         ensures ok { OnOk result (IsTrue S.tells
             → Overwrote at bytes.now ((S.state self.old.folder.system).world.disk file) ((S.state self.new.folder.system).world.disk file)) }
         ensures bound { OnOk result (at + length bytes.now < 2 ^ 63) }
-        ensures faults { Counted (File file) result (counts_of self.old.input_faults self.old.output_faults self.old.table.files)
-            (counts_of self.new.input_faults self.new.output_faults self.new.table.files) }
-        ensures ready { StaysReady (is_known self.old.table.files) (is_known self.new.table.files) }
+        ensures counts { CountsCall (File file) result self.old.table self.new.table }
         ensures believed { SameLost self.old.table.files self.new.table.files }
-        ensures calm { OnOk result (IsTrue S.tells → (S.answered self.new.folder.system).refusals ≡ (S.answered self.old.folder.system).refusals) }
-        ensures fine { IsTrue S.tells → WentWell (S.answered self.old.folder.system) (S.answered self.new.folder.system)
-            → IsInPlace (is_lost self.old.table.files file) (had_bytes_in self.old.table.files file) (S.is_regular file)
-            ((S.state self.old.folder.system).world.disk file).seen
-            → self.new.folder.claim.is_missing ≡ false → at + length bytes.now < 2 ^ 63
-            → IsOk result }
-        ensures lost { IsTrue (is_lost self.old.table.files file) → IsErr result }
+        ensures ends { EndsOnFile S.tells (is_lost self.old.table.files file) (is_ok result)
+            (S.answered self.old.folder.system) (S.answered self.new.folder.system)
+            (IsInOrder self.old.table.files S.is_regular (S.state self.old.folder.system) file
+            × (self.new.folder.claim.is_missing ≡ false) × (at + length bytes.now < 2 ^ 63)) }
         ensures regular { OnOk result (IsTrue S.tells → IsTrue (S.is_regular file)) }
         ensures noted { OnOk result (0 < length bytes.now → IsTrue (had_bytes_in self.new.table.files file)) }
     {
@@ -231,10 +194,9 @@ impl<S: SystemCalls + Drop> Host for FolderHost<S> {
     fn ready(&mut self, file: FileId) -> Result<(), AllocError>
         requires { HasSlot file }
         ensures told { IsTrue S.tells → (S.state self.new.folder.system).world ≡ (S.state self.old.folder.system).world }
-        ensures ok { OnOk result (IsTrue (is_known self.new.table.files file)) }
-        ensures faults { (channel : Channel) → counts_of self.new.input_faults self.new.output_faults self.new.table.files channel
-            ≡ counts_of self.old.input_faults self.old.output_faults self.old.table.files channel }
-        ensures ready { StaysReady (is_known self.old.table.files) (is_known self.new.table.files) }
+        ensures ok { OnOk result (IsTrue (ready_in self.new.table file)) }
+        ensures faults { (channel : Channel) → counts_in self.new.table channel ≡ counts_in self.old.table channel }
+        ensures ready { StaysReady (ready_in self.old.table) (ready_in self.new.table) }
         ensures believed { SameLost self.old.table.files self.new.table.files }
     {
         self.table.ready(file)?;
@@ -242,21 +204,16 @@ impl<S: SystemCalls + Drop> Host for FolderHost<S> {
     }
 
     fn sync(&mut self, file: FileId) -> Result<(), Failed>
-        requires { MayAsk (is_known self.old.table.files) file }
+        requires { MayAsk (ready_in self.old.table) file }
         ensures told { IsTrue S.tells → Synced file (is_ok result) (S.state self.old.folder.system).world (S.state self.new.folder.system).world }
         ensures count { OnOk result (IsTrue S.tells → (S.state self.new.folder.system).world.syncs ≡ (S.state self.old.folder.system).world.syncs + 1) }
-        ensures faults { Counted (File file) result (counts_of self.old.input_faults self.old.output_faults self.old.table.files)
-            (counts_of self.new.input_faults self.new.output_faults self.new.table.files) }
-        ensures ready { StaysReady (is_known self.old.table.files) (is_known self.new.table.files) }
+        ensures counts { CountsCall (File file) result self.old.table self.new.table }
         ensures believed { OnOk result (SameLost self.old.table.files self.new.table.files) }
         ensures others { (other : FileId) → other ≢ file → is_lost self.new.table.files other ≡ is_lost self.old.table.files other }
-        ensures calm { OnOk result (IsTrue S.tells → (S.answered self.new.folder.system).refusals ≡ (S.answered self.old.folder.system).refusals) }
-        ensures fine { IsTrue S.tells → WentWell (S.answered self.old.folder.system) (S.answered self.new.folder.system)
-            → IsInPlace (is_lost self.old.table.files file) (had_bytes_in self.old.table.files file) (S.is_regular file)
-            ((S.state self.old.folder.system).world.disk file).seen
-            → self.new.folder.claim.is_missing ≡ false → (S.answered self.old.folder.system).has_lost_entries ≡ false
-            → IsOk result }
-        ensures lost { IsTrue (is_lost self.old.table.files file) → IsErr result }
+        ensures ends { EndsOnFile S.tells (is_lost self.old.table.files file) (is_ok result)
+            (S.answered self.old.folder.system) (S.answered self.new.folder.system)
+            (IsInOrder self.old.table.files S.is_regular (S.state self.old.folder.system) file
+            × (self.new.folder.claim.is_missing ≡ false) × ((S.answered self.old.folder.system).has_lost_entries ≡ false)) }
         ensures regular { OnOk result (IsTrue S.tells → IsTrue (S.is_regular file)) }
     {
         let name = name_of(file);

@@ -13,6 +13,7 @@ mod claim;
 mod file_names;
 mod folder;
 mod host;
+mod kept;
 mod pieces;
 mod table;
 

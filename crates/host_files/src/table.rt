@@ -1,12 +1,12 @@
-// The files that are ready: how often calls on each have failed, whether a sync of it has, and whether it was seen to have bytes.
-ghost use Rattle.std.specs.Prelude.{◌≡◌, ◌≢◌, ◌≤◌, ℕ, Ok, is_ok, false, IsTrue, IfOk, OnOk, OnErr};
-ghost use Rattle.host_trait.specs.Files.{HasSlot, MayAsk, StaysReady};
-ghost use Rattle.host_trait.specs.Faults.{Rose, Counted};
+// How often calls on each channel have failed; and of the files that are ready, whether a sync of each has, and whether it was seen to
+// have bytes.
+ghost use Rattle.std.specs.Prelude.{◌≡◌, ◌≢◌, ◌≤◌, false, IsTrue, IfOk, OnOk};
+ghost use Rattle.host_trait.specs.Files.{StaysReady};
+ghost use Rattle.host_trait.specs.Faults.{Rose};
 ghost use Rattle.host_trait.specs.declared.channels.FileId.{FileId};
-ghost use Rattle.host_trait.specs.declared.channels.Channel.TheVariants.{File};
-ghost use Rattle.host_files.specs.Table.{faults_in, is_lost, is_known, had_bytes_in, counts_of, AreAlwaysKnown, SameFiles, SameLost, SameHadBytes, StayLost};
+ghost use Rattle.host_files.specs.Table.{faults_in, is_lost, is_known, had_bytes_in, AreAlwaysKnown, SameFiles, SameHadBytes, StayLost};
 
-use host_trait::{Failed, FileId};
+use host_trait::{Channel, Failed, FileId};
 use std::alloc::{AllocError, Global};
 use std::collections::BTreeMap;
 use system_calls::Refused;
@@ -117,21 +117,36 @@ fn first_files(alloc: Global) -> Result<BTreeMap<FileId, Known>, AllocError>
     Ok(files)
 }
 
-/// The files of a folder that are ready. The program and manager files of both slots always are.
+/// How often calls on the streams have failed, and the files of a folder that are ready. The program and manager files of both slots
+/// always are.
 #[derive(Drop)]
 pub struct Table {
+    input_faults: u64,
+    output_faults: u64,
     files: BTreeMap<FileId, Known>,
     ghost always: { AreAlwaysKnown files },
 }
 
 impl Table {
+    ghost use Rattle.std.specs.Prelude.{◌≡◌, ◌≢◌, Ok, is_ok, false, IsTrue, IfOk, OnOk, OnErr};
+    ghost use Rattle.host_trait.specs.Files.{MayAsk, StaysReady};
+    ghost use Rattle.host_trait.specs.declared.channels.FileId.{FileId};
+    ghost use Rattle.host_trait.specs.declared.channels.Channel.{Channel};
+    ghost use Rattle.host_trait.specs.declared.channels.Channel.TheVariants.{Input, Output, File};
+    ghost use Rattle.host_files.specs.Table.{is_lost, had_bytes_in, SameLost, SameHadBytes, StayLost};
+    ghost use Rattle.host_files.specs.CountedCalls.{counts_in, ready_in, CountsCall};
+
     /// No grain file, and no faults.
     pub fn new(alloc: Global) -> Result<Table, AllocError>
-        ensures faults { IfOk result (λ table. (file : FileId) → faults_in table.files file ≡ 0) }
+        ensures faults { IfOk result (λ table. (channel : Channel) → counts_in table channel ≡ 0) }
         ensures bytes { IfOk result (λ table. (file : FileId) → had_bytes_in table.files file ≡ false) }
     {
         let files = first_files(alloc)?;
-        Ok(Table { files })
+        Ok(Table {
+            input_faults: 0,
+            output_faults: 0,
+            files,
+        })
     }
 
     // Whether a sync of a file has failed.
@@ -169,26 +184,64 @@ impl Table {
         }
     }
 
-    /// How often calls on a file have failed; 0 for a file that isn't ready.
-    pub fn faults(&self, file: FileId) -> u64
-        ensures { result ≡ faults_in self.now.files file }
+    /// How often calls on a channel have failed; 0 for a file that isn't ready.
+    pub fn faults(&self, channel: Channel) -> u64
+        ensures { result ≡ counts_in self.now channel }
     {
-        match self.files.get(&file) {
-            Some(known) => known.faults,
-            None => 0,
+        match channel {
+            Channel::Input => self.input_faults,
+            Channel::Output => self.output_faults,
+            Channel::File(file) => match self.files.get(&file) {
+                Some(known) => known.faults,
+                None => 0,
+            },
         }
     }
 
     /// Makes a file ready. Without memory all stays as it was.
     pub fn ready(&mut self, file: FileId) -> Result<(), AllocError>
-        ensures known { OnOk result (IsTrue (is_known self.new.files file)) }
-        ensures stays { StaysReady (is_known self.old.files) (is_known self.new.files) }
-        ensures faults { (other : FileId) → faults_in self.new.files other ≡ faults_in self.old.files other }
+        ensures known { OnOk result (IsTrue (ready_in self.new file)) }
+        ensures stays { StaysReady (ready_in self.old) (ready_in self.new) }
+        ensures faults { (channel : Channel) → counts_in self.new channel ≡ counts_in self.old channel }
         ensures lost { (other : FileId) → is_lost self.new.files other ≡ is_lost self.old.files other }
         ensures bytes { SameHadBytes self.old.files self.new.files }
     {
         enter(&mut self.files, file)?;
         Ok(())
+    }
+
+    /// Passes on what a call on the input answered, and counts it where it failed.
+    pub fn count_input<T>(&mut self, answer: Result<T, Refused>) -> Result<T, Failed>
+        ensures ok { IfOk result (λ value. answer ≡ Ok value) }
+        ensures answer { is_ok result ≡ is_ok answer }
+        ensures counts { CountsCall Input result self.old self.new }
+        ensures lost { SameLost self.old.files self.new.files }
+        ensures bytes { SameHadBytes self.old.files self.new.files }
+    {
+        match answer {
+            Ok(value) => Ok(value),
+            Err(_) => {
+                self.input_faults = one_more(self.input_faults);
+                Err(Failed)
+            }
+        }
+    }
+
+    /// Passes on what a call on the output answered, and counts it where it failed.
+    pub fn count_output<T>(&mut self, answer: Result<T, Refused>) -> Result<T, Failed>
+        ensures ok { IfOk result (λ value. answer ≡ Ok value) }
+        ensures answer { is_ok result ≡ is_ok answer }
+        ensures counts { CountsCall Output result self.old self.new }
+        ensures lost { SameLost self.old.files self.new.files }
+        ensures bytes { SameHadBytes self.old.files self.new.files }
+    {
+        match answer {
+            Ok(value) => Ok(value),
+            Err(_) => {
+                self.output_faults = one_more(self.output_faults);
+                Err(Failed)
+            }
+        }
     }
 
     /// Passes on what a call on a file answered, and counts it where it failed. Where it showed that the file has bytes, that is
@@ -199,7 +252,7 @@ impl Table {
         answer: Result<T, Refused>,
         has_bytes: bool,
     ) -> Result<T, Failed>
-        requires { MayAsk (is_known self.old.files) file }
+        requires { MayAsk (ready_in self.old) file }
         ensures ok { IfOk result (λ value. answer ≡ Ok value) }
         ensures answer { is_ok result ≡ is_ok answer }
         ensures noted { OnOk result (IsTrue has_bytes → IsTrue (had_bytes_in self.new.files file)) }
@@ -207,10 +260,8 @@ impl Table {
         ensures failed { OnErr result (SameHadBytes self.old.files self.new.files) }
         ensures others { (other : FileId) → other ≢ file → had_bytes_in self.new.files other ≡ had_bytes_in self.old.files other }
         ensures lost { SameLost self.old.files self.new.files }
-        ensures faults { (input output : ℕ) → Counted (File file) result
-            (counts_of input output self.old.files) (counts_of input output self.new.files) }
+        ensures counts { CountsCall (File file) result self.old self.new }
         ensures stay { StayLost self.old.files self.new.files }
-        ensures stays { StaysReady (is_known self.old.files) (is_known self.new.files) }
     {
         match answer {
             Ok(value) => {
@@ -228,16 +279,14 @@ impl Table {
 
     /// Passes on what a sync of a file answered. Where it failed, that is counted, and the file is lost.
     pub fn count_sync(&mut self, file: FileId, answer: Result<(), Refused>) -> Result<(), Failed>
-        requires { MayAsk (is_known self.old.files) file }
+        requires { MayAsk (ready_in self.old) file }
         ensures answer { is_ok result ≡ is_ok answer }
-        ensures faults { (input output : ℕ) → Counted (File file) result
-            (counts_of input output self.old.files) (counts_of input output self.new.files) }
+        ensures counts { CountsCall (File file) result self.old self.new }
         ensures lost { OnErr result (IsTrue (is_lost self.new.files file)) }
         ensures calm { OnOk result (SameLost self.old.files self.new.files) }
         ensures others { (other : FileId) → other ≢ file → is_lost self.new.files other ≡ is_lost self.old.files other }
         ensures bytes { SameHadBytes self.old.files self.new.files }
         ensures stay { StayLost self.old.files self.new.files }
-        ensures stays { StaysReady (is_known self.old.files) (is_known self.new.files) }
     {
         match answer {
             Ok(()) => Ok(()),

@@ -87,7 +87,7 @@ pub record IsLastPending (at size : ℕ) (file : FileState) : Type 0 where
 
 -- A write of so many bytes at this offset may go on at this place of its own: the file reaches up to there, and behind the write's
 -- begin its range is pending.
-pub record MayGoOn (from at size : ℕ) (file : FileState) : Type 0 where
+pub record MayWriteOn (from at size : ℕ) (file : FileState) : Type 0 where
   pub reach : at + from ≤ length file.seen
   pub pending : 0 < from → IsLastPending at size file
 

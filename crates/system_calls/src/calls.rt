@@ -3,7 +3,7 @@ ghost use Rattle.host_trait.specs.Files.{name_of};
 ghost use Rattle.host_trait.specs.Disk.{MayLeave};
 ghost use Rattle.host_trait.specs.World.{Pulled};
 ghost use Rattle.host_trait.specs.declared.channels.FileId.{FileId};
-ghost use Rattle.system_calls.specs.System.{System, MayBeFound, HasNoBytes, MakesFile, EntersAll, SyncsData, SameEntries, IsReadPart, AppendsPart, MayGoOn, WritesPart, FailsPart};
+ghost use Rattle.system_calls.specs.System.{System, MayBeFound, HasNoBytes, MakesFile, EntersAll, SyncsData, SameEntries, IsReadPart, AppendsPart, MayWriteOn, WritesPart, FailsPart};
 ghost use Rattle.system_calls.specs.Answers.{AnswerCounts, DoesOrRefuses, TakesOrFails, GivesOrFails, WasRefused, stood_in_once};
 ghost use Rattle.system_calls.specs.declared.calls.Access.{Access};
 
@@ -202,7 +202,7 @@ pub trait SystemCalls {
         requires fits { at + length bytes.now < 2 ^ 63 }
         requires regular { IsTrue tells → IsTrue (is_regular (Self.File.file opened.now)) }
         requires calm { IsTrue tells → (state self.old).is_doubtful (Self.File.file opened.now) ≡ false }
-        requires place { IsTrue tells → MayGoOn from at (length bytes.now) ((state self.old).world.disk (Self.File.file opened.now)) }
+        requires place { IsTrue tells → MayWriteOn from at (length bytes.now) ((state self.old).world.disk (Self.File.file opened.now)) }
         ensures bound { IfOk result (λ n. n ≤ length bytes.now - from) }
         ensures ok { IfOk result (λ n. IsTrue tells
             → WritesPart n from (Self.File.file opened.now) at bytes.now (state self.old) (state self.new)) }
@@ -245,6 +245,9 @@ pub trait SystemCalls {
         ensures ok { IfOk result (λ n. IsTrue tells → AppendsPart n from bytes.now (state self.old) (state self.new)) }
         ensures answers { IsTrue tells → GivesOrFails from (length bytes.now) result (answered self.old) (answered self.new) }
         ensures err { OnErr result (IsTrue tells → state self.new ≡ state self.old) };
+
+    /// How many handles the process may have at once, those of its standard streams among them.
+    fn handle_limit(&self) -> u64;
 
     /// What a read gives is among what a crash may leave.
     ghost seen_may_stay: { (system : Self) (file : FileId) → IsTrue tells

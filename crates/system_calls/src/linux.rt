@@ -65,6 +65,18 @@ fn path_in(folder: &File, name: &str) -> Result<ArrayString<128>, Refused> {
     }
 }
 
+// How many files may be open by these rows of limits, where they tell it as a number: `Max open files SOFT HARD files`.
+fn soft_limit_of_files(limits: &str) -> Option<u64> {
+    for row in limits.lines() {
+        let Some(numbers) = row.strip_prefix("Max open files") else {
+            continue;
+        };
+        let soft = numbers.split_whitespace().next()?;
+        return soft.parse::<u64>().ok();
+    }
+    None
+}
+
 fn look_of(found: &Metadata) -> Look {
     Look {
         is_regular: found.is_file(),
@@ -229,6 +241,13 @@ impl<'a, R: Read, W: Write> SystemCalls for Linux<'a, R, W> {
         match self.writer.write(&bytes[from..]) {
             Ok(count) => Ok(count),
             Err(error) => Err(refused(error)),
+        }
+    }
+
+    fn handle_limit(&self) -> u64 {
+        match fs::read_to_string(self.rt, "/proc/self/limits") {
+            Ok(limits) => soft_limit_of_files(&limits).unwrap_or(0),
+            Err(_) => 0,
         }
     }
 }

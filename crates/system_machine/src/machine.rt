@@ -57,6 +57,7 @@ pub struct Machine {
     calls: Cell<u64>,
     failing: Cell<u64>,
     fault: Cell<Fault>,
+    limit: Cell<u64>,
 }
 
 // The place of a file among these.
@@ -101,6 +102,7 @@ impl Machine {
             calls: Cell::new(0),
             failing: Cell::new(0),
             fault: Cell::new(Fault::None),
+            limit: Cell::new(1024),
         }
     }
 
@@ -111,6 +113,11 @@ impl Machine {
         self.failing.set(0);
         let _ = self.text.try_replace(String::new(self.alloc));
         let _ = self.files.try_replace(Vec::new(self.alloc));
+    }
+
+    /// A host that begins from here on may have so many handles.
+    pub fn allow(&self, limit: u64) {
+        self.limit.set(limit);
     }
 
     /// The nth call from here on is answered so, and where n is 0 each one.
@@ -634,5 +641,9 @@ impl<'a> SystemCalls for OnMachine<'a> {
         let count = moved(fault, rest.len());
         self.0.emit(&rest[..count])?;
         Ok(count)
+    }
+
+    fn handle_limit(&self) -> u64 {
+        self.0.limit.get()
     }
 }

@@ -7,7 +7,7 @@ use Rattle.host_trait.specs.Disk.{FileState, Untouched, MayLeave, Tears, overlai
 use Rattle.host_trait.specs.World.{World, Moment, Disk, moment_of}
 use Rattle.host_trait.proofs.Names.{same_file-refl, other_file, cases_file}
 use Rattle.host_trait.proofs.Crashes.{Tears-wider, Tears-overlaid, Tears-at, torn_may_stay}
-use Rattle.system_calls.specs.System.{System, SameEntries, SameBeside, MakesFile, EntersAll, SyncsData, AppendsPart, KeepsTime, MayGoOn, IsLastPending, PendsFrom, WritesPart, TearsFrom, FailsPart}
+use Rattle.system_calls.specs.System.{System, SameEntries, SameBeside, MakesFile, EntersAll, SyncsData, AppendsPart, KeepsTime, MayWriteOn, IsLastPending, PendsFrom, WritesPart, TearsFrom, FailsPart}
 use Rattle.system_memory.specs.declared.events.Event.{Event}
 use Rattle.system_memory.specs.MemoryState.{MemoryState, nothing, timed, part_written, disk_with, flag_with, put_out, write_part, sync_file, doubt_file, make_file, enter_all, lose_entries, after_event, after_events, held_of, system_of, AllStay, BareUnentered}
 
@@ -99,7 +99,7 @@ tears_from zero file at size old new same pends seen time = record {
 tears_from (suc from) file at size old new same pends seen time = (pends, seen, time)
 
 -- a part of a write, after which the call is refused
-pub fails : (from : ℕ) (file : FileId) (at size : ℕ) (part input : List ℕ) (h : MemoryState) → MayGoOn from at size (h.disk file) → from + length part ≤ size
+pub fails : (from : ℕ) (file : FileId) (at size : ℕ) (part input : List ℕ) (h : MemoryState) → MayWriteOn from at size (h.disk file) → from + length part ≤ size
     → FailsPart from file at size (system_of input h) (system_of input (write_part file at size from (at + from) part h))
 fails from file at size part input h goes fits =
     let change = part_written from at size (at + from) part in
@@ -205,7 +205,7 @@ goes_stays at size s new last stay tears = record {
       Tears-at at size s.seen new tears i apart.0 ∙ stay.same i low untouched;
 }
 
-part_stays : (from at size : ℕ) (part : List ℕ) (s : FileState) → MayGoOn from at size s → from + length part ≤ size → MayLeave s s.seen
+part_stays : (from at size : ℕ) (part : List ℕ) (s : FileState) → MayWriteOn from at size s → from + length part ≤ size → MayLeave s s.seen
     → MayLeave (part_written from at size (at + from) part s) (part_written from at size (at + from) part s).seen
 part_stays zero at size part s goes fits stay =
     torn_may_stay at size s (part_written zero at size (at + zero) part s) (record { base = refl; ranges = refl; longest = refl }) s.seen (overlaid s.seen (at + zero) part) stay
@@ -214,7 +214,7 @@ part_stays (suc from) at size part s goes fits stay =
     let left = goes_stays at size s (overlaid s.seen (at + suc from) part) (goes.pending (omega arith)) stay (part_tears at size (suc from) part s.seen goes.reach fits) in
     record { no_shorter = left.no_shorter; no_longer = left.no_longer; same = left.same }
 
-pub write_stays : (file : FileId) (at size from : ℕ) (part : List ℕ) (h : MemoryState) → MayGoOn from at size (h.disk file) → from + length part ≤ size → AllStay h → AllStay (write_part file at size from (at + from) part h)
+pub write_stays : (file : FileId) (at size from : ℕ) (part : List ℕ) (h : MemoryState) → MayWriteOn from at size (h.disk file) → from + length part ≤ size → AllStay h → AllStay (write_part file at size from (at + from) part h)
 write_stays file at size from part h goes fits stay = here_stays file (part_written from at size (at + from) part) h.disk (part_stays from at size part (h.disk file) goes fits (stay file)) stay
 
 pub write_bare : (file : FileId) (at size from : ℕ) (part : List ℕ) (h : MemoryState) → BareUnentered h → BareUnentered (write_part file at size from (at + from) part h)

@@ -1,5 +1,5 @@
 ghost use Rattle.std.specs.Prelude.{◌≡◌, ◌∷◌, ◌++◌, ◌+◌, ◌-◌, ◌^◌, ◌<◌, ◌≤◌, ℕ, List, [], length, is_ok, true, false, IsTrue, take, drop, IfOk, OnOk, OnErr};
-ghost use Rattle.system_calls.specs.System.{AppendsPart, WritesPart, FailsPart, MayGoOn, SyncsData, MakesFile, EntersAll};
+ghost use Rattle.system_calls.specs.System.{AppendsPart, WritesPart, FailsPart, MayWriteOn, SyncsData, MakesFile, EntersAll};
 ghost use Rattle.system_memory.specs.MemoryState.{after_event, held_of, system_of, IsKeepable};
 
 use host_trait::FileId;
@@ -87,7 +87,7 @@ pub fn note_wrote(
 ) -> Result<(), AllocError>
     requires from { from ≤ length bytes.now }
     requires fits { at + length bytes.now < 2 ^ 63 }
-    requires place { MayGoOn from at (length bytes.now) ((held_of events.old.items).disk file) }
+    requires place { MayWriteOn from at (length bytes.now) ((held_of events.old.items).disk file) }
     requires some { count ≡ 0 → length bytes.now ≡ 0 }
     requires within { count ≤ length bytes.now - from }
     ensures ok { OnOk result ((input : List ℕ)

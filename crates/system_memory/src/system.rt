@@ -427,4 +427,8 @@ impl SystemCalls for MemorySystem {
             Err(_) => Err(self.refuse()),
         }
     }
+
+    fn handle_limit(&self) -> u64 {
+        1024
+    }
 }
