@@ -9,7 +9,7 @@ use Rattle.commit_log.specs.declared.records.Written.{Written}
 use Rattle.host_trait.specs.declared.channels.FileId.{FileId}
 use Rattle.host_trait.specs.declared.channels.FileId.TheVariants.{Manager}
 use Rattle.log_reading.specs.Blocks.{LogBase, LogRead, behind_base, log_in_file}
-use Rattle.log_reading.specs.Steps.{next_in, records_from, with_records, Follows}
+use Rattle.log_reading.specs.Steps.{next_in, records_from, with_records, IsFollowedBy}
 use Rattle.log_reading.specs.declared.faults.FolderFault.{FolderFault}
 use Rattle.log_reading.proofs.LogBlocks.{follows_on, follows_ends}
 use Rattle.log_reading.proofs.Errors.{failed}
@@ -18,14 +18,14 @@ use Rattle.log_audit.specs.RereadFaults.{IsLogFault}
 use Rattle.log_audit.proofs.GrainOrder.{grains_added-append}
 
 -- where the log ends, its beginning and all of its records were read
-pub all_read : (shape : Shape) (file : List ℕ) (base : LogBase) (done : List CommitRecord) (gate : ℕ) → Follows One shape file base done gate → next_in One shape gate file ≡ Ok None
+pub all_read : (shape : Shape) (file : List ℕ) (base : LogBase) (done : List CommitRecord) (gate : ℕ) → IsFollowedBy One shape file base done gate → next_in One shape gate file ≡ Ok None
     → (log : LogRead) → log_in_file One shape file ≡ Ok log → (base ≡ log.base) × (done ≡ log.records)
 all_read shape file base done gate f end log is =
     let same : record { base = base; records = done } ≡ log = (let both : Ok (record { base = base; records = done }) ≡ Ok log = sym (follows_ends One shape file base done gate f end).0 ∙ is in cc both) in
     (ap (λ (l : LogRead). l.base) same, ap (λ (l : LogRead). l.records) same)
 
 -- what the log begins with was read, and what is left behind the records that were
-pub rest_of : (shape : Shape) (file : List ℕ) (base : LogBase) (done : List CommitRecord) (gate : ℕ) → Follows One shape file base done gate → (log : LogRead) → log_in_file One shape file ≡ Ok log
+pub rest_of : (shape : Shape) (file : List ℕ) (base : LogBase) (done : List CommitRecord) (gate : ℕ) → IsFollowedBy One shape file base done gate → (log : LogRead) → log_in_file One shape file ≡ Ok log
     → (base ≡ log.base) × ((rest : List CommitRecord) × (log.records ≡ done ++ rest))
 rest_of shape file base done gate f log is = by (records_from One shape f.fuel gate file) (f.rest ∙ is)
   where
@@ -39,11 +39,11 @@ rest_of shape file base done gate f log is = by (records_from One shape f.fuel g
 pub record HasGrains (shape : Shape) (file : List ℕ) (gate : ℕ) (kept : List GrainId) : Type 0 where
   pub base : LogBase
   pub records : List CommitRecord
-  pub follows : Follows One shape file base records gate
+  pub follows : IsFollowedBy One shape file base records gate
   pub are : kept ≡ grains_added [] (grains_of_log (record { base = base; records = records }))
 
 module _ (shape : Shape) (file : List ℕ) where
-  pub grains_begun : (base : LogBase) (gate : ℕ) (kept : List GrainId) → Follows One shape file base [] gate → kept ≡ grains_added [] (map (λ w. w.grain) base.writes) → HasGrains shape file gate kept
+  pub grains_begun : (base : LogBase) (gate : ℕ) (kept : List GrainId) → IsFollowedBy One shape file base [] gate → kept ≡ grains_added [] (map (λ w. w.grain) base.writes) → HasGrains shape file gate kept
   grains_begun base gate kept begins are = record { base = base; records = []; follows = begins; are = are ∙ ap (grains_added []) (sym (append-nil (map (λ (w : Written). w.grain) base.writes))) }
 
   pub grains_more : (gate : ℕ) (kept : List GrainId) → HasGrains shape file gate kept → (more : List CommitRecord) (behind : ℕ) (new : List GrainId) → new ≡ grains_added kept (grains_recorded more)

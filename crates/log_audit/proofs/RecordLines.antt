@@ -7,7 +7,7 @@ use Rattle.host_trait.specs.Runs.{OnlyAsked}
 use Rattle.field_codec.specs.declared.formats.Format.TheVariants.{One}
 use Rattle.commit_log.specs.declared.records.CommitRecord.{CommitRecord}
 use Rattle.log_reading.specs.Blocks.{LogBase, LogRead, log_in_file}
-use Rattle.log_reading.specs.Steps.{next_in, Follows}
+use Rattle.log_reading.specs.Steps.{next_in, IsFollowedBy}
 use Rattle.log_reading.proofs.LogBlocks.{follows_on, follows_breaks}
 use Rattle.script_tree.specs.Programs.{ProgramTree}
 use Rattle.promise_spec.specs.Reports.{line_of}
@@ -24,13 +24,13 @@ module _ (shape : Shape) (types : ProgramTree) (file : List ℕ) where
   pub record HasCopied (gate : ℕ) (old now : World) : Type 0 where
     pub base : LogBase
     pub records : List CommitRecord
-    pub follows : Follows One shape file base records gate
+    pub follows : IsFollowedBy One shape file base records gate
     pub puts : PutsOut (record_lines shape types records) old now
 
   lines_both : (a b : List CommitRecord) → record_lines shape types (a ++ b) ≡ record_lines shape types a ++ record_lines shape types b
   lines_both a b = flat_map-append (λ (r : CommitRecord). line_of (record_data shape types r)) a b
 
-  pub copied_none : (base : LogBase) (gate : ℕ) (old new : World) → Follows One shape file base [] gate → OnlyAsked old new → HasCopied gate old new
+  pub copied_none : (base : LogBase) (gate : ℕ) (old new : World) → IsFollowedBy One shape file base [] gate → OnlyAsked old new → HasCopied gate old new
   copied_none base gate old new begins asked = record { base = base; records = []; follows = begins; puts = asked_puts old new asked }
 
   module _ (gate : ℕ) (old mid read new : World) (h : HasCopied gate old mid) (asked : OnlyAsked mid read) where
@@ -66,7 +66,7 @@ module _ (shape : Shape) (types : ProgramTree) (file : List ℕ) where
         (ap (record_lines shape types) rest.1 ∙ lines_both h.records rest.0)
 
   -- a block that couldn't be read ends a report with a part of its text
-  pub block_ends : (gate : ℕ) (base : LogBase) (done : List CommitRecord) → Follows One shape file base done gate → (e : ReportFault) → IsBlockFault shape gate file e → (log : LogRead) → log_in_file One shape file ≡ Ok log
+  pub block_ends : (gate : ℕ) (base : LogBase) (done : List CommitRecord) → IsFollowedBy One shape file base done gate → (e : ReportFault) → IsBlockFault shape gate file e → (log : LogRead) → log_in_file One shape file ≡ Ok log
       → MayEnd (report_ending {A = Unit {0}} (Err e))
   block_ends gate base done f ReportFault.NotASilo none log is = absurd none
   block_ends gate base done f (ReportFault.Damaged at place) here log is = absurd (let no : Err place ≡ Ok log = sym (follows_breaks One shape file base done gate f place here) ∙ is in cc)

@@ -21,7 +21,7 @@ use Rattle.core_model.specs.Equality.{same_list, same_text, same_value, same_sta
 use Rattle.core_laws.proofs.Basics.{same_list-true, same_state-true, same_outcome-true}
 use Rattle.log_reading.specs.Steps.{next_in}
 use Rattle.log_reading.specs.Blocks.{LogBase, LogRead, log_in_file}
-use Rattle.log_reading.specs.Steps.{Follows}
+use Rattle.log_reading.specs.Steps.{IsFollowedBy}
 use Rattle.log_reading.proofs.LogBlocks.{follows_on}
 use Rattle.script_tree.specs.Programs.{ProgramTree}
 use Rattle.script_meaning.specs.Play.{Played, found_in, initial_of, play}
@@ -210,11 +210,11 @@ module _ (types : ProgramTree) (live : ℕ) (shape : Shape) (image : Image) (fil
   pub record HasAudited (gate : ℕ) (now : States) : Type 0 where
     pub base : LogBase
     pub records : List CommitRecord
-    pub follows : Follows One shape file base records gate
+    pub follows : IsFollowedBy One shape file base records gate
     pub serial : IsSerial types (start_of base) (as_commits live shape image records)
     pub states : now ≡ states_after (start_of base) (as_commits live shape image records)
 
-  pub audit_begun : (base : LogBase) (gate : ℕ) (now : States) → Follows One shape file base [] gate → now ≡ start_of base → HasAudited gate now
+  pub audit_begun : (base : LogBase) (gate : ℕ) (now : States) → IsFollowedBy One shape file base [] gate → now ≡ start_of base → HasAudited gate now
   audit_begun base gate now begins is = record { base = base; records = []; follows = begins; serial = tt; states = is }
 
   pub audit_more : (gate : ℕ) (now new : States) (more : List CommitRecord) (behind : ℕ) → HasAudited gate now → next_in One shape gate file ≡ Ok (Some (more, behind))

@@ -15,7 +15,7 @@ use Rattle.commit_log.specs.declared.records.Named.{Named}
 use Rattle.commit_log.specs.declared.records.Written.{Written}
 use Rattle.core_model.specs.CoreState.{Member}
 use Rattle.log_reading.specs.Versions.{named_by, version_named, missing_or, first_missing, state_of}
-use Rattle.log_reading.specs.Sums.{StopsAt}
+use Rattle.log_reading.specs.Sums.{StopsAt, AreUnread}
 use Rattle.log_reading.specs.declared.faults.FolderFault.{FolderFault}
 use Rattle.log_reading.proofs.Errors.{failed}
 use Rattle.promise_spec.proofs.Lists.{in_append}
@@ -90,9 +90,7 @@ module _ (live : ℕ) (shape : Shape) (image : Image) where
   stopped_one named at s = (s.here, subst (λ (l : List Named). Member s.here l) (sym s.are) (in_append s.here s.front (s.here ∷ s.back) (inr (inl refl))), s.is)
 
   -- a fault of reading versions one after another
-  pub versions_fault : {A : Type 0} (named : List Named) (e : FolderFault)
-      → ((at : FileId) (place : ℕ) → failed {A = A} e ≡ failed (FolderFault.Damaged at place) → first_missing live One shape image named ≡ Some (at, place))
-      → ((at : FileId) → failed {A = A} e ≡ failed (FolderFault.Failed at) → StopsAt live One shape image named at) → IsVersionFault live shape image named e
-  versions_fault named (FolderFault.Damaged at place) damaged fails = missing_one named at place (damaged at place refl)
-  versions_fault named (FolderFault.Failed at) damaged fails = stopped_one named at (fails at refl)
-  versions_fault named FolderFault.Memory damaged fails = tt
+  pub versions_fault : (named : List Named) (e : FolderFault) → AreUnread live One shape image named e → IsVersionFault live shape image named e
+  versions_fault named (FolderFault.Damaged at place) unread = missing_one named at place unread
+  versions_fault named (FolderFault.Failed at) unread = stopped_one named at unread
+  versions_fault named FolderFault.Memory unread = tt

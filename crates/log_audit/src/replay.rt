@@ -20,7 +20,7 @@ ghost use Rattle.promise_spec.specs.Openings.{commit_of};
 ghost use Rattle.log_audit.specs.RereadFaults.{IsVersionFault, IsRereadFault};
 ghost use Rattle.log_audit.specs.Replays.{same_write, agree, base_states, as_commits, ReplaysTo, AllReplayTo, IsFirstFailure};
 
-use base_types::{Ends, GrainId, List, Outcome, Shape, State, Store, UnitNo};
+use base_types::{Ends, GrainId, List, Outcome, Places, Shape, State, Store, UnitNo};
 use commit_log::{CommitRecord, Named, Written};
 use core_parts::Same;
 use field_codec::Format;
@@ -209,6 +209,7 @@ fn saved_store<H: Host>(
 {
     let named = saved_names(alloc, saved)?;
     let mut store = Store::new(alloc);
+    let mut places = Places::new(alloc);
     let mut ends = Ends::new(alloc);
     read_versions(
         alloc,
@@ -218,6 +219,7 @@ fn saved_store<H: Host>(
         Format::One,
         named.as_slice(),
         &mut store,
+        &mut places,
         &mut ends,
     )?;
     Ok(store)

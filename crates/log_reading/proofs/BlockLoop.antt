@@ -11,7 +11,7 @@ use Rattle.commit_log.specs.declared.records.Named.{Named}
 use Rattle.log_reading.specs.declared.log.ReadLog.{ReadLog}
 use Rattle.log_reading.specs.Blocks.{LogBase, LogRead, log_in_file}
 use Rattle.log_reading.specs.Versions.{named_by, named_of_base, named_in}
-use Rattle.log_reading.specs.Steps.{next_in, Follows}
+use Rattle.log_reading.specs.Steps.{next_in, IsFollowedBy}
 use Rattle.log_reading.specs.Sums.{next_after, IsReadAs}
 use Rattle.log_reading.proofs.LogBlocks.{none_shut, follows_on, follows_ends, follows_breaks}
 use Rattle.log_reading.proofs.RecordSums.{named_by-append, next_after-append, both_parts}
@@ -22,10 +22,10 @@ pub record HasRead (tells : Bool) (format : Format) (shape : Shape) (file : List
   pub next_is : next ≡ next_after log.base.next log.records
   pub named_is : named ≡ named_in log
   pub fit : AllByRecursion (IsRecordIn format Logged shape) log.records
-  pub follows : IsTrue tells → Follows format shape file log.base log.records gate
+  pub follows : IsTrue tells → IsFollowedBy format shape file log.base log.records gate
 
 module _ (tells : Bool) (format : Format) (shape : Shape) (file : List ℕ) where
-  pub has_begun : (base : LogBase) (gate : ℕ) (named : List Named) → named ≡ named_of_base base → (IsTrue tells → Follows format shape file base [] gate) → HasRead tells format shape file base.count base.next gate named
+  pub has_begun : (base : LogBase) (gate : ℕ) (named : List Named) → named ≡ named_of_base base → (IsTrue tells → IsFollowedBy format shape file base [] gate) → HasRead tells format shape file base.count base.next gate named
   has_begun base gate named names begins = record {
     log = record { base = base; records = [] };
     count_is = omega arith;

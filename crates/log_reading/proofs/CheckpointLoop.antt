@@ -13,7 +13,7 @@ use Rattle.commit_log.specs.declared.records.Written.{Written}
 use Rattle.commit_log.specs.Checkpoints.{piece_body_in}
 use Rattle.commit_log.specs.Orders.{grain_after}
 use Rattle.log_reading.specs.Blocks.{LogBase, LogRead, no_more, behind_base, no_piece, and_piece, saved_behind, log_in_file}
-use Rattle.log_reading.specs.Steps.{records_from, BeginsSaved, and_next, piece_of, next_piece_in, Follows}
+use Rattle.log_reading.specs.Steps.{records_from, BeginsSaved, and_next, piece_of, next_piece_in, IsFollowedBy}
 use Rattle.log_reading.proofs.LogBlocks.{past_shut, clean_log, follows_at}
 
 -- the last grain of these writes, none where there are none
@@ -126,7 +126,7 @@ module _ (format : Format) (shape : Shape) (file : List ℕ) (first : Option Che
 
   -- and behind the last one
   pub pieces_end : FollowsPieces format shape file first before gate → (piece : CheckpointPiece) (next : ℕ) → next_piece_in shape first (last_of before) gate file ≡ Ok (piece, next) → piece.more ≡ false
-      → Follows format shape file (record { count = piece.head.count; next = piece.head.next_unit.0; writes = before ++ piece.writes }) [] next
+      → IsFollowedBy format shape file (record { count = piece.head.count; next = piece.head.next_unit.0; writes = before ++ piece.writes }) [] next
   pieces_end f piece next e more =
       let s = step_by f.fuel f.enough f.rest f.last piece next e in
       let either : Bool → Result LogRead ℕ = λ b. if b then saved_from format shape file s.0 next (Some piece.head) (before ++ piece.writes) else behind_base (base_by before piece) (records_from format shape s.0 next file) in

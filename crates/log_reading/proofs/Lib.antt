@@ -9,3 +9,4 @@ pub mod GrainVersions
 pub mod LatestVersions
 pub mod StepFaults
 pub mod FilePieces
+pub mod PlacedVersions

@@ -11,7 +11,7 @@ use Rattle.gate_block.proofs.Logs.{closed_shut}
 use Rattle.commit_log.specs.declared.records.CommitRecord.{CommitRecord}
 use Rattle.commit_log.specs.Fields.{body_in}
 use Rattle.log_reading.specs.Blocks.{LogBase, LogRead, fresh_base, header_damage, behind_header, and_records, no_more, records_behind, behind_base, log_as, log_in_file}
-use Rattle.log_reading.specs.Steps.{and_gate, next_of, next_in, records_from, with_records, Follows}
+use Rattle.log_reading.specs.Steps.{and_gate, next_of, next_in, records_from, with_records, IsFollowedBy}
 
 abbrev Records : Type 0
 Records = List CommitRecord
@@ -112,7 +112,7 @@ twice a b (Err place) = refl
 
 -- a log begins with its records at a gate, where this is what is read from there on
 pub follows_at : (format : Format) (shape : Shape) (file : List ℕ) (base : LogBase) (gate fuel : ℕ) → length file < gate + fuel → behind_base base (records_from format shape fuel gate file) ≡ log_in_file format shape file
-    → gate_from fuel gate file ≡ gate_of file → Follows format shape file base [] gate
+    → gate_from fuel gate file ≡ gate_of file → IsFollowedBy format shape file base [] gate
 follows_at format shape file base gate fuel enough rest last = record { fuel = fuel; enough = enough; rest = ap (behind_base base) (none_more (records_from format shape fuel gate file)) ∙ rest; last = last }
 
 -- what is read behind a header that isn't damaged
@@ -123,7 +123,7 @@ clean_log format shape file clean begins is =
     ap (λ (d : Option ℕ). behind_header d (read (eqb (slice_index file 13) 1))) clean ∙ ap read is
 
 -- behind a header that isn't damaged, and says that no checkpoint follows, nothing is read yet
-pub follows_begins : (format : Format) (shape : Shape) (file : List ℕ) → header_damage file ≡ None → eqb (slice_index file 13) 1 ≡ false → Follows format shape file fresh_base [] first_gate
+pub follows_begins : (format : Format) (shape : Shape) (file : List ℕ) → header_damage file ≡ None → eqb (slice_index file 13) 1 ≡ false → IsFollowedBy format shape file fresh_base [] first_gate
 follows_begins format shape file clean fresh = follows_at format shape file fresh_base first_gate (length file) (omega arith) (sym (clean_log format shape file clean false fresh)) refl
 
 module _ (format : Format) (shape : Shape) (file : List ℕ) (base : LogBase) (records : List CommitRecord) (gate : ℕ) where
@@ -131,7 +131,7 @@ module _ (format : Format) (shape : Shape) (file : List ℕ) (base : LogBase) (r
   whole_log rest = behind_base base (with_records records rest)
 
   on_by : (fuel : ℕ) → length file < gate + fuel → whole_log (records_from format shape fuel gate file) ≡ log_in_file format shape file → gate_from fuel gate file ≡ gate_of file
-      → (more : Records) (next : ℕ) → next_in format shape gate file ≡ Ok (Some (more, next)) → Follows format shape file base (records ++ more) next
+      → (more : Records) (next : ℕ) → next_in format shape gate file ≡ Ok (Some (more, next)) → IsFollowedBy format shape file base (records ++ more) next
   on_by zero enough rest last more next e = let none = nothing format shape file gate enough in absurd cc
   on_by (suc m) enough rest last more next e =
       let t = further_by format shape file m gate (found_at gate file) refl more next e in record {
@@ -141,7 +141,7 @@ module _ (format : Format) (shape : Shape) (file : List ℕ) (base : LogBase) (r
         last = sym t.1 ∙ last;
       }
 
-  pub follows_on : Follows format shape file base records gate → (more : Records) (next : ℕ) → next_in format shape gate file ≡ Ok (Some (more, next)) → Follows format shape file base (records ++ more) next
+  pub follows_on : IsFollowedBy format shape file base records gate → (more : Records) (next : ℕ) → next_in format shape gate file ≡ Ok (Some (more, next)) → IsFollowedBy format shape file base (records ++ more) next
   follows_on f more next e = on_by f.fuel f.enough f.rest f.last more next e
 
   ends_by : (fuel : ℕ) → length file < gate + fuel → whole_log (records_from format shape fuel gate file) ≡ log_in_file format shape file → gate_from fuel gate file ≡ gate_of file
@@ -154,7 +154,7 @@ module _ (format : Format) (shape : Shape) (file : List ℕ) (base : LogBase) (r
       let t = end_by format shape file m gate (found_at gate file) refl e in
       (sym rest ∙ ap whole_log t.0 ∙ ap (λ (l : Records). behind_base base (Ok l)) (append-nil records), sym last ∙ t.1)
 
-  pub follows_ends : Follows format shape file base records gate → next_in format shape gate file ≡ Ok None → (log_in_file format shape file ≡ Ok (record { base = base; records = records })) × (gate_of file ≡ gate)
+  pub follows_ends : IsFollowedBy format shape file base records gate → next_in format shape gate file ≡ Ok None → (log_in_file format shape file ≡ Ok (record { base = base; records = records })) × (gate_of file ≡ gate)
   follows_ends f e = ends_by f.fuel f.enough f.rest f.last e
 
   breaks_by : (fuel : ℕ) → length file < gate + fuel → whole_log (records_from format shape fuel gate file) ≡ log_in_file format shape file
@@ -162,5 +162,5 @@ module _ (format : Format) (shape : Shape) (file : List ℕ) (base : LogBase) (r
   breaks_by zero enough rest place e = let none = nothing format shape file gate enough in absurd cc
   breaks_by (suc m) enough rest place e = sym rest ∙ ap whole_log (break_by format shape file m gate (found_at gate file) refl place e)
 
-  pub follows_breaks : Follows format shape file base records gate → (place : ℕ) → next_in format shape gate file ≡ Err place → log_in_file format shape file ≡ Err place
+  pub follows_breaks : IsFollowedBy format shape file base records gate → (place : ℕ) → next_in format shape gate file ≡ Err place → log_in_file format shape file ≡ Err place
   follows_breaks f place e = breaks_by f.fuel f.enough f.rest place e

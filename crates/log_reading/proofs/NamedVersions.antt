@@ -5,14 +5,15 @@ use Rattle.base_types.specs.declared.calls.GrainId.{GrainId}
 use Rattle.base_types.specs.declared.calls.Value.{Value}
 use Rattle.base_types.specs.declared.shapes.Shape.{Shape}
 use Rattle.base_types.specs.declared.stores.Version.{Version}
+use Rattle.base_types.specs.declared.places.Placed.{Placed}
 use Rattle.host_trait.specs.declared.channels.FileId.{FileId}
 use Rattle.host_trait.specs.declared.channels.FileId.TheVariants.{Grain}
 use Rattle.host_trait.specs.World.{Image}
 use Rattle.field_codec.specs.declared.formats.Format.{Format}
 use Rattle.commit_log.specs.declared.records.Named.{Named}
 use Rattle.host_trait.specs.Files.{same_grain}
-use Rattle.log_reading.specs.Versions.{version_named, missing_or, first_missing, state_of}
-use Rattle.log_reading.specs.Sums.{state_after, end_after, greater_end, StopsAt}
+use Rattle.log_reading.specs.Versions.{version_named, version_found, missing_or, first_missing, state_of}
+use Rattle.log_reading.specs.Sums.{state_after, placed_as, placed_after, end_after, greater_end, StopsAt}
 
 -- ---- one after the other
 
@@ -68,6 +69,16 @@ module _ (live : ℕ) (format : Format) (shape : Shape) (image : Image) where
       ap (λ (s : Option (List Value)). state_after live format shape image s rest g) is
       ∙ ap (λ (r : Result Version ℕ). state_after live format shape image (if same_grain x.written.grain g then Some (state_of r) else old) rest g) (sym found)
       ∙ ap (λ (l : List Named). state_after live format shape image old l g) (sym are) ∙ so_far
+
+  pub place_more : (x : Named) (rest items : List Named) (g : GrainId) (v : Version) (old new all : Option Placed) → items ≡ x ∷ rest → version_named live format shape image x ≡ Ok v
+      → new ≡ (if same_grain x.written.grain g then Some (placed_as x.written.place v) else old) → placed_after live format shape image old items g ≡ all → placed_after live format shape image new rest g ≡ all
+  place_more x rest items g v old new all are found is so_far =
+      ap (λ (p : Option Placed). placed_after live format shape image p rest g) is
+      ∙ ap (λ (r : Result Version ℕ). placed_after live format shape image (if same_grain x.written.grain g then Some (placed_as x.written.place (version_found r)) else old) rest g) (sym found)
+      ∙ ap (λ (l : List Named). placed_after live format shape image old l g) (sym are) ∙ so_far
+
+  pub place_all : (items : List Named) (g : GrainId) (old all : Option Placed) → items ≡ [] → placed_after live format shape image old items g ≡ all → old ≡ all
+  place_all items g old all are so_far = ap (λ (l : List Named). placed_after live format shape image old l g) (sym are) ∙ so_far
 
   pub state_all : (items : List Named) (g : GrainId) (old all : Option (List Value)) → items ≡ [] → state_after live format shape image old items g ≡ all → old ≡ all
   state_all items g old all are so_far = ap (λ (l : List Named). state_after live format shape image old l g) (sym are) ∙ so_far

@@ -1,14 +1,15 @@
 -- What the faults of the steps say of the folder.
-use Rattle.std.proofs.Common.{◌≡◌, inl, inr, ℕ, Some, Ok, Err, refl}
+use Rattle.std.proofs.Common.{◌≡◌, inl, inr, ℕ, List, Some, Ok, Err, refl}
 use Rattle.base_types.specs.declared.shapes.Shape.{Shape}
 use Rattle.host_trait.specs.declared.channels.FileId.{FileId}
 use Rattle.host_trait.specs.declared.channels.FileId.TheVariants.{Manager}
 use Rattle.host_trait.specs.World.{Image}
 use Rattle.field_codec.specs.declared.formats.Format.{Format}
+use Rattle.commit_log.specs.declared.records.Named.{Named}
 use Rattle.log_reading.specs.declared.faults.FolderFault.{FolderFault}
 use Rattle.log_reading.specs.Blocks.{LogRead, log_in_file}
 use Rattle.log_reading.specs.Versions.{named_in, named_by_grain, first_missing}
-use Rattle.log_reading.specs.Sums.{StopsAt}
+use Rattle.log_reading.specs.Sums.{StopsAt, AreUnread}
 use Rattle.log_reading.specs.Contents.{IsUnread}
 use Rattle.log_reading.proofs.Errors.{failed}
 
@@ -20,10 +21,17 @@ read_refused live format shape image (FolderFault.Damaged file place) damaged st
 read_refused live format shape image (FolderFault.Failed file) damaged stopped = inl (stopped file refl)
 read_refused live format shape image FolderFault.Memory damaged stopped = tt
 
--- what a fault of reading the versions says
-pub versions_refused : {A : Type 0} (live : ℕ) (format : Format) (shape : Shape) (image : Image) (log : LogRead) → log_in_file format shape (image (Manager live)) ≡ Ok log → (fault : FolderFault)
-    → ((file : FileId) (place : ℕ) → failed {A = A} fault ≡ failed (FolderFault.Damaged file place) → first_missing live format shape image (named_by_grain (named_in log)) ≡ Some (file, place))
-    → ((file : FileId) → failed {A = A} fault ≡ failed (FolderFault.Failed file) → StopsAt live format shape image (named_by_grain (named_in log)) file) → IsUnread live format shape image fault
-versions_refused live format shape image log read (FolderFault.Damaged file place) damaged stopped = inr (log, read, damaged file place refl)
-versions_refused live format shape image log read (FolderFault.Failed file) damaged stopped = inr (log, read, stopped file refl)
-versions_refused live format shape image log read FolderFault.Memory damaged stopped = tt
+-- what a fault of reading the versions says, by what each of its cases says
+pub versions_unread : (live : ℕ) (format : Format) (shape : Shape) (image : Image) (named : List Named) (fault : FolderFault)
+    → ((file : FileId) (place : ℕ) → fault ≡ FolderFault.Damaged file place → first_missing live format shape image named ≡ Some (file, place))
+    → ((file : FileId) → fault ≡ FolderFault.Failed file → StopsAt live format shape image named file) → AreUnread live format shape image named fault
+versions_unread live format shape image named (FolderFault.Damaged file place) damaged stopped = damaged file place refl
+versions_unread live format shape image named (FolderFault.Failed file) damaged stopped = stopped file refl
+versions_unread live format shape image named FolderFault.Memory damaged stopped = tt
+
+-- it is a fault of the folder, where the log that names them was read
+pub versions_refused : (live : ℕ) (format : Format) (shape : Shape) (image : Image) (log : LogRead) → log_in_file format shape (image (Manager live)) ≡ Ok log → (fault : FolderFault)
+    → AreUnread live format shape image (named_by_grain (named_in log)) fault → IsUnread live format shape image fault
+versions_refused live format shape image log read (FolderFault.Damaged file place) unread = inr (log, read, unread)
+versions_refused live format shape image log read (FolderFault.Failed file) unread = inr (log, read, unread)
+versions_refused live format shape image log read FolderFault.Memory unread = tt

@@ -5,3 +5,4 @@ pub mod Steps
 pub mod Counts
 pub mod Contents
 pub mod Pieces
+pub mod PlacedVersions

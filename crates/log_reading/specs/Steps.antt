@@ -1,5 +1,5 @@
 -- What is read behind a gate, and what is left of a log there.
-use Rattle.std.specs.Prelude.{◌≡◌, ℕ, ◌+◌, ◌<◌, ◌==◌, true, List, ◌++◌, length, slice_index, Option, Some, None, Result, Ok, Err}
+use Rattle.std.specs.Prelude.{◌≡◌, ℕ, ◌+◌, ◌<◌, ◌≤◌, ◌^◌, ◌==◌, true, List, ◌++◌, length, slice_index, Option, Some, None, Result, Ok, Err}
 use Rattle.base_types.specs.declared.calls.GrainId.{GrainId}
 use Rattle.base_types.specs.declared.shapes.Shape.{Shape}
 use Rattle.host_trait.specs.World.{Disk, Image}
@@ -53,7 +53,7 @@ placed start (Err fault) = Err (start + place_of fault)
 
 -- These records were read of a log that begins so, and those from this gate on are the others of the file: of at most so many blocks,
 -- which are enough. And the log ends where it does from that gate on.
-pub record Follows (format : Format) (shape : Shape) (file : List ℕ) (base : LogBase) (records : List CommitRecord) (gate : ℕ) : Type 0 where
+pub record IsFollowedBy (format : Format) (shape : Shape) (file : List ℕ) (base : LogBase) (records : List CommitRecord) (gate : ℕ) : Type 0 where
   pub fuel : ℕ
   pub enough : length file < gate + fuel
   pub rest : behind_base base (with_records records (records_from format shape fuel gate file)) ≡ log_in_file format shape file
@@ -79,5 +79,12 @@ abbrev pub next_piece_in : Shape → Option CheckpointHead → Option GrainId �
 next_piece_in shape first last gate file = piece_of shape first last gate (found_at gate file)
 
 -- what a log begins with, as it was read
-abbrev pub base_of : Base → LogBase
-base_of b = record { count = b.count; next = b.next_unit.0; writes = b.saved }
+abbrev pub log_base_of : Base → LogBase
+log_base_of b = record { count = b.count; next = b.next_unit.0; writes = b.saved }
+
+-- what a log begins with has as many records and as high a next unit as a checkpoint may have, and its gate lies below 2^63
+pub record IsBaseInBounds (b : Base) : Type 0 where
+  pub gate : b.gate_at < 2 ^ 63
+  pub count : b.count < 2 ^ 63
+  pub some : 0 < b.next_unit.0
+  pub next : b.next_unit.0 ≤ 2 ^ 63

@@ -1,11 +1,17 @@
 -- What is kept of the records and versions that are read.
-use Rattle.std.specs.Prelude.{◌≡◌, ℕ, ◌+◌, ◌<◌, ◌^◌, max, Bool, IsTrue, if◌then◌else◌, List, [], ◌∷◌, ◌++◌, length, fold, Option, Some, None, unwrap_or, Ok}
+use Rattle.std.specs.Prelude.{◌≡◌, ℕ, ◌+◌, ◌<◌, ◌^◌, max, Bool, false, IsTrue, if◌then◌else◌, List, [], ◌∷◌, ◌++◌, length, fold, Option, Some, None, unwrap_or, Ok, ⊤}
 use Rattle.std.specs.List.{AllByRecursion}
 use Rattle.base_types.specs.declared.calls.GrainId.{GrainId}
 use Rattle.base_types.specs.declared.calls.Value.{Value}
 use Rattle.base_types.specs.declared.shapes.Shape.{Shape}
 use Rattle.base_types.specs.declared.stores.Ends.{Ends}
-use Rattle.base_types.specs.Stores.{end_in}
+use Rattle.base_types.specs.declared.stores.Store.{Store}
+use Rattle.base_types.specs.Stores.{state_in, end_in}
+use Rattle.base_types.specs.declared.stores.Place.{Place}
+use Rattle.base_types.specs.declared.stores.Version.{Version}
+use Rattle.base_types.specs.declared.places.Placed.{Placed}
+use Rattle.base_types.specs.declared.places.Places.{Places}
+use Rattle.base_types.specs.Places.{placed_in}
 use Rattle.host_trait.specs.World.{Image}
 use Rattle.host_trait.specs.declared.channels.FileId.{FileId}
 use Rattle.host_trait.specs.declared.channels.FileId.TheVariants.{Grain}
@@ -17,9 +23,10 @@ use Rattle.commit_log.specs.declared.records.CommitRecord.{CommitRecord}
 use Rattle.commit_log.specs.Bodies.{IsRecordIn}
 use Rattle.commit_log.specs.declared.records.Named.{Named}
 use Rattle.log_reading.specs.declared.log.ReadLog.{ReadLog}
+use Rattle.log_reading.specs.declared.faults.FolderFault.{FolderFault}
 use Rattle.host_trait.specs.Files.{same_grain}
 use Rattle.log_reading.specs.Blocks.{LogRead, log_in_file}
-use Rattle.log_reading.specs.Versions.{named_in, version_named, state_of, first_missing}
+use Rattle.log_reading.specs.Versions.{named_in, version_named, version_found, state_of, first_missing}
 
 -- the number of the next unit after these records
 abbrev pub next_after : ℕ → List CommitRecord → ℕ
@@ -42,6 +49,17 @@ abbrev pub state_after : ℕ → Format → Shape → Image → Option (List Val
 state_after live format shape image state [] grain = state
 state_after live format shape image state (n ∷ named) grain =
     state_after live format shape image (if same_grain n.written.grain grain then Some (state_of (version_named live format shape image n)) else state) named grain
+
+-- a version that was found at a place of the log that is opened
+abbrev pub placed_as : Place → Version → Placed
+placed_as place version = record { place = place; is_new = false; known = record { version = version } }
+
+-- where a grain's last version stands after these versions, from a place of before
+abbrev pub placed_after : ℕ → Format → Shape → Image → Option Placed → List Named → GrainId → Option Placed
+placed_after live format shape image placed [] grain = placed
+placed_after live format shape image placed (n ∷ named) grain =
+    placed_after live format shape image (if same_grain n.written.grain grain then Some
+    (placed_as n.written.place (version_found (version_named live format shape image n))) else placed) named grain
 
 -- the greater of an end and one that may be missing
 abbrev pub greater_end : Option ℕ → ℕ → Option ℕ
@@ -66,3 +84,16 @@ pub record StopsAt (live : ℕ) (format : Format) (shape : Shape) (image : Image
   pub are : named ≡ front ++ (here ∷ back)
   pub whole : first_missing live format shape image front ≡ None
   pub is : file ≡ Grain live here.written.grain
+
+-- All of these versions are there, and what is kept of them goes on from what was kept before: the last state of each grain, and where
+-- its last version stands.
+pub record AreKept (live : ℕ) (format : Format) (shape : Shape) (image : Image) (named : List Named) (old new : Store) (before after : Places) : Type 0 where
+  pub whole : first_missing live format shape image named ≡ None
+  pub states : (grain : GrainId) → state_in new grain ≡ state_after live format shape image (state_in old grain) named grain
+  pub places : (grain : GrainId) → placed_in after grain ≡ placed_after live format shape image (placed_in before grain) named grain
+
+-- what a fault says of versions that are read one after the other: where the first is that isn't there, or whose file failed
+abbrev pub AreUnread : ℕ → Format → Shape → Image → List Named → FolderFault → Type 0
+AreUnread live format shape image named (FolderFault.Damaged file place) = first_missing live format shape image named ≡ Some (file, place)
+AreUnread live format shape image named (FolderFault.Failed file) = StopsAt live format shape image named file
+AreUnread live format shape image named FolderFault.Memory = ⊤

@@ -70,6 +70,11 @@ first_missing live format shape image [] = None
 first_missing live format shape image (n ∷ named) =
     missing_or live n.written.grain (version_named live format shape image n) (first_missing live format shape image named)
 
+-- the version that was found, nobody's without fields where none was
+abbrev pub version_found : Result Version ℕ → Version
+version_found (Ok version) = version
+version_found (Err place) = record { unit = record { 0 = 0 }; state = [] }
+
 -- a version's state
 abbrev pub state_of : Result Version ℕ → List Value
 state_of (Ok version) = version.state

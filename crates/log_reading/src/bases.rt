@@ -10,7 +10,7 @@ ghost use Rattle.commit_log.specs.Orders.{grain_after};
 ghost use Rattle.log_reading.specs.declared.faults.FolderFault.{FolderFault};
 ghost use Rattle.log_reading.specs.Blocks.{log_in_file};
 ghost use Rattle.log_reading.specs.Counts.{ReadFaulted};
-ghost use Rattle.log_reading.specs.Steps.{placed, next_piece_in, base_of, BeginsSaved, Follows};
+ghost use Rattle.log_reading.specs.Steps.{placed, next_piece_in, log_base_of, IsBaseInBounds, BeginsSaved, IsFollowedBy};
 
 use crate::blocks::in_file;
 use crate::faults::FolderFault;
@@ -136,8 +136,8 @@ fn read_checkpoint<H: Host>(
 ) -> Result<Base, FolderFault>
     requires slot { slot ≤ 1 }
     ensures begins { IfOk result (λ b. IsTrue H.tells → (format : Format) → BeginsSaved ((H.world host.old).disk (Manager slot)).seen
-        → Follows format shape.now ((H.world host.old).disk (Manager slot)).seen (base_of b) [] b.gate_at) }
-    ensures bound { IfOk result (λ b. (b.gate_at < 2 ^ 63) × ((b.count < 2 ^ 63) × ((0 < b.next_unit.0) × (b.next_unit.0 ≤ 2 ^ 63)))) }
+        → IsFollowedBy format shape.now ((H.world host.old).disk (Manager slot)).seen (log_base_of b) [] b.gate_at) }
+    ensures bound { IfOk result (λ b. IsBaseInBounds b) }
     ensures damaged { (file : FileId) (place : ℕ) → IsErrOf result (FolderFault.Damaged file place) → IsTrue H.tells
         → BeginsSaved ((H.world host.old).disk (Manager slot)).seen
         → (format : Format) → log_in_file format shape.now ((H.world host.old).disk (Manager slot)).seen ≡ Err place }
@@ -179,8 +179,8 @@ pub fn read_base<H: Host>(
 ) -> Result<Base, FolderFault>
     requires slot { slot ≤ 1 }
     ensures begins { IfOk result (λ b. IsTrue H.tells → (format : Format)
-        → Follows format shape.now ((H.world host.old).disk (Manager slot)).seen (base_of b) [] b.gate_at) }
-    ensures bound { IfOk result (λ b. (b.gate_at < 2 ^ 63) × ((b.count < 2 ^ 63) × ((0 < b.next_unit.0) × (b.next_unit.0 ≤ 2 ^ 63)))) }
+        → IsFollowedBy format shape.now ((H.world host.old).disk (Manager slot)).seen (log_base_of b) [] b.gate_at) }
+    ensures bound { IfOk result (λ b. IsBaseInBounds b) }
     ensures damaged { (file : FileId) (place : ℕ) → IsErrOf result (FolderFault.Damaged file place) → IsTrue H.tells
         → (format : Format) → log_in_file format shape.now ((H.world host.old).disk (Manager slot)).seen ≡ Err place }
     ensures file { (file : FileId) (place : ℕ) → IsErrOf result (FolderFault.Damaged file place) → file ≡ Manager slot }

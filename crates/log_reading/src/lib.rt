@@ -13,6 +13,7 @@ mod latest;
 mod laws;
 mod log;
 mod pieces;
+mod placed;
 mod versions;
 
 pub use bases::{Base, read_base};
@@ -22,4 +23,5 @@ pub use faults::FolderFault;
 pub use latest::read_latest;
 pub use laws::{faults_in_order, latest_states_stand};
 pub use log::{ReadLog, read_log};
+pub use placed::read_states;
 pub use versions::{named_version, read_versions};

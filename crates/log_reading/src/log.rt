@@ -11,7 +11,7 @@ ghost use Rattle.log_reading.specs.declared.faults.FolderFault.{FolderFault};
 ghost use Rattle.log_reading.specs.Counts.{ReadFaulted};
 ghost use Rattle.log_reading.specs.Blocks.{log_in_file};
 ghost use Rattle.log_reading.specs.Versions.{named_by, named_of_base, named_by_grain};
-ghost use Rattle.log_reading.specs.Steps.{base_of};
+ghost use Rattle.log_reading.specs.Steps.{log_base_of};
 ghost use Rattle.log_reading.specs.Sums.{next_after, IsReadAs};
 
 use crate::bases::{Base, read_base};
@@ -59,7 +59,7 @@ fn add_named(
 
 // The versions that a checkpoint names, which a log begins with.
 fn base_named(alloc: Global, base: &Base) -> Result<List<Named>, AllocError>
-    ensures { IfOk result (λ named. named ≡ named_of_base (base_of base.now)) }
+    ensures { IfOk result (λ named. named ≡ named_of_base (log_base_of base.now)) }
 {
     let mut named = List::new(alloc);
     add_named(&mut named, None, base.saved.as_slice())?;

@@ -2,6 +2,7 @@ ghost use Rattle.std.specs.Prelude.{◌≡◌, ◌+◌, ◌^◌, ◌<◌, ◌≤
 ghost use Rattle.std.specs.Int.{w64, to_le_bytes};
 ghost use Rattle.base_types.specs.declared.calls.GrainId.{GrainId};
 ghost use Rattle.base_types.specs.Stores.{state_in, end_in};
+ghost use Rattle.base_types.specs.Places.{placed_in};
 ghost use Rattle.host_trait.specs.Files.{MayAsk, StaysReady};
 ghost use Rattle.host_trait.specs.Faults.{Counted, NoneFailed};
 ghost use Rattle.host_trait.specs.Runs.{OnlyAsked};
@@ -13,12 +14,12 @@ ghost use Rattle.log_reading.specs.Counts.{ReadFaulted};
 ghost use Rattle.log_reading.specs.Steps.{seen_in};
 ghost use Rattle.host_trait.specs.Files.{same_grain};
 ghost use Rattle.log_reading.specs.Pieces.{IsPieceOf};
-ghost use Rattle.log_reading.specs.Versions.{version_named, first_missing};
-ghost use Rattle.log_reading.specs.Sums.{state_after, end_after, greater_end, AreNear, StopsAt};
+ghost use Rattle.log_reading.specs.Versions.{version_named};
+ghost use Rattle.log_reading.specs.Sums.{placed_as, end_after, greater_end, AreNear, AreKept, AreUnread};
 
 use crate::faults::FolderFault;
 use crate::pieces::{Piece, no_piece, refill, text_in, version_of};
-use base_types::{Ends, Shape, Store, Version};
+use base_types::{Ends, KnownVersion, Place, Placed, Places, Shape, Store, Version};
 use commit_log::Named;
 use field_codec::Format;
 use grain_log::{VersionFault, read_named};
@@ -105,9 +106,21 @@ fn greater_end(last: Option<u64>, end: u64) -> u64
     }
 }
 
-// Gives a grain a version's state, and its file the later end.
+// That a version stands at a place which the log that is opened names.
+fn placed_as(place: Place, version: &Version) -> Placed
+    ensures { result ≡ placed_as place version.now }
+{
+    Placed {
+        place,
+        is_new: false,
+        known: KnownVersion::of(version),
+    }
+}
+
+// Gives a grain a version's state and its place, and its file the later end.
 fn keep(
     store: &mut Store,
+    places: &mut Places,
     ends: &mut Ends,
     named: Named,
     version: Version,
@@ -115,6 +128,9 @@ fn keep(
     requires { named.written.place.offset + named.written.place.len < 2 ^ 63 }
     ensures states { OnOk result ((grain : GrainId)
         → state_in store.new grain ≡ (if same_grain named.written.grain grain then Some version.state else state_in store.old grain)) }
+    ensures places { OnOk result ((grain : GrainId)
+        → placed_in places.new grain ≡ (if same_grain named.written.grain grain then Some (placed_as named.written.place version)
+        else placed_in places.old grain)) }
     ensures ends { OnOk result ((grain : GrainId)
         → end_in ends.new grain ≡ (if same_grain named.written.grain grain then greater_end (end_in ends.old grain)
         (named.written.place.offset + named.written.place.len) else end_in ends.old grain)) }
@@ -122,14 +138,16 @@ fn keep(
 {
     let grain = named.written.grain;
     let place = named.written.place;
+    places.put(grain, placed_as(place, &version))?;
     store.put(grain, version.state)?;
     let end = greater_end(ends.get(grain), place.offset + place.len as u64);
     ends.put(grain, end)?;
     Ok(())
 }
 
-/// Reads these versions one by one, in pieces of a slot's files, and keeps the last state of each grain and the greatest end
-/// in its file, which lies below 2^63. `Damaged` names the first that isn't there.
+/// Reads these versions one by one, in pieces of a slot's files, and keeps the last state of each grain, where its version stands, and
+/// the greatest end in its file, which lies below 2^63. `Damaged` names the first that isn't there, and `Failed` the file of one before
+/// which all are there.
 pub fn read_versions<H: Host>(
     alloc: Global,
     host: &mut H,
@@ -138,18 +156,15 @@ pub fn read_versions<H: Host>(
     format: Format,
     named: &[Named],
     store: &mut Store,
+    places: &mut Places,
     ends: &mut Ends,
 ) -> Result<(), FolderFault>
     requires slot { slot ≤ 1 }
-    ensures found { OnOk result (IsTrue H.tells → first_missing slot format shape.now (seen_in (H.world host.old).disk) named.now ≡ None) }
-    ensures states { OnOk result (IsTrue H.tells → (grain : GrainId)
-        → state_in store.new grain ≡ state_after slot format shape.now (seen_in (H.world host.old).disk) (state_in store.old grain) named.now grain) }
+    ensures kept { OnOk result (IsTrue H.tells
+        → AreKept slot format shape.now (seen_in (H.world host.old).disk) named.now store.old store.new places.old places.new) }
     ensures ends { OnOk result ((grain : GrainId) → end_in ends.new grain ≡ end_after (end_in ends.old grain) named.now grain) }
     ensures near { OnOk result (AreNear ends.old → AreNear ends.new) }
-    ensures damaged { (file : FileId) (place : ℕ) → IsErrOf result (FolderFault.Damaged file place) → IsTrue H.tells
-        → first_missing slot format shape.now (seen_in (H.world host.old).disk) named.now ≡ Some (file, place) }
-    ensures failed { (file : FileId) → IsErrOf result (FolderFault.Failed file) → IsTrue H.tells
-        → StopsAt slot format shape.now (seen_in (H.world host.old).disk) named.now file }
+    ensures unread { IfErr result (λ e. IsTrue H.tells → AreUnread slot format shape.now (seen_in (H.world host.old).disk) named.now e) }
     ensures asked { IsTrue H.tells → OnlyAsked (H.world host.old) (H.world host.new) }
     ensures calm { OnOk result (NoneFailed (H.faults host.old) (H.faults host.new)) }
     ensures fault { IfErr result (λ e. ReadFaulted e (H.faults host.old) (H.faults host.new)) }
@@ -160,7 +175,7 @@ pub fn read_versions<H: Host>(
     for one in named {
         refill(alloc, host, slot, &mut piece, *one, &named[at..])?;
         let version = next_version(alloc, host, slot, shape, format, &piece, *one)?;
-        keep(store, ends, *one, version)?;
+        keep(store, places, ends, *one, version)?;
         at += 1;
     }
     Ok(())

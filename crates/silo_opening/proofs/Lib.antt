@@ -10,6 +10,7 @@ pub mod WholeReadings
 pub mod FileEnds
 pub mod Gates
 pub mod OpeningSteps
+pub mod PlacedStates
 pub mod LatestStates
 pub mod ProgramRefusals
 pub mod InitSteps

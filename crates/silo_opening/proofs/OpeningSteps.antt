@@ -24,7 +24,7 @@ use Rattle.silo_opening.proofs.Gates.{closed_at}
 -- what was read, as an opened silo
 pub is_opened : (image : Image) (o : Opened) → live_in image ≡ Some o.slot → generation (image (Manager o.slot)) ≡ o.generation → is_silo (image (Manager o.slot)) ≡ true
     → program_in_file (image (ProgramFile o.slot)) ≡ Ok (program_in o)
-    → HasContents o.slot One (shape_in (program_in o)) image (record { count = o.count; next_unit = o.next_unit; gate_at = o.gate_at; store = o.store; ends = o.ends }) → IsOpenedFrom image o
+    → HasContents o.slot One (shape_in (program_in o)) image (record { count = o.count; next_unit = o.next_unit; gate_at = o.gate_at; store = o.store; places = o.places; ends = o.ends }) → IsOpenedFrom image o
 is_opened image o found generation_is silo program h =
     let slot : ℕ = o.slot in
     let p : Program = program_in o in
@@ -43,6 +43,7 @@ is_opened image o found generation_is silo program h =
       read_as = h.read;
       log_is = refl;
       whole = h.whole;
+      places = h.places;
       ends = h.ends;
       within = λ grain end is. end_lies (length (image (Grain slot grain))) end _ (end_in o.ends grain) (h.ends grain) (ends_lie slot shape image (named_by_grain (named_in h.log)) h.whole grain None tt) is;
       gate = h.gate;

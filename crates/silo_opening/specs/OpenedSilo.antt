@@ -3,7 +3,9 @@ use Rattle.std.specs.Prelude.{◌≡◌, ℕ, ◌+◌, ◌^◌, ◌<◌, ◌≤�
 use Rattle.std.specs.List.{list_any, AllByRecursion}
 use Rattle.base_types.specs.declared.calls.GrainId.{GrainId}
 use Rattle.base_types.specs.declared.stores.Version.{Version}
+use Rattle.base_types.specs.declared.stores.Store.{Store}
 use Rattle.base_types.specs.Stores.{state_in, end_in}
+use Rattle.base_types.specs.Places.{placed_in}
 use Rattle.host_trait.specs.declared.channels.FileId.TheVariants.{Manager, Program as ProgramFile, Grain}
 use Rattle.host_trait.specs.Files.{same_grain}
 use Rattle.host_trait.specs.Disk.{settled}
@@ -17,7 +19,7 @@ use Rattle.log_reading.specs.declared.faults.FolderFault.{FolderFault}
 use Rattle.log_reading.specs.Blocks.{LogRead, log_in_file}
 use Rattle.log_reading.specs.Versions.{named_in, named_by_grain, version_named, first_missing, latest_of}
 use Rattle.log_reading.specs.Steps.{seen_in}
-use Rattle.log_reading.specs.Sums.{end_after, AreNear}
+use Rattle.log_reading.specs.Sums.{placed_after, end_after, AreNear}
 use Rattle.program_file.specs.declared.faults.ProgramFileFault.{ProgramFileFault}
 use Rattle.script_tree.specs.Programs.{program_tree}
 use Rattle.silo_spec.specs.Slots.{generation}
@@ -54,10 +56,15 @@ live_header (Some first) (Some other) = if nat_lt first other then Some (1, othe
 abbrev pub program_in : Opened → Program
 program_in o = record { text = o.text; types = program_tree o.checked }
 
+-- the states of this store, where a grain that isn't there has its type's initial fields, are those for which a log stands
+abbrev pub AreStates : Program → Store → Log → Type 0
+AreStates p store log = (grain : GrainId) → unwrap_or (state_in store grain) (initial_states p grain) ≡ (standing_of log).states grain
+
 -- The folder reads as a silo with this live slot, of this generation, and a log, whose program is this. The log's standing is kept:
 -- how many entries there are, the number of the next unit, and each grain's state, which is its type's initial fields where it isn't
--- kept. The ends are the greatest of the places that the log names in each grain's file, those that it begins with too, and lie in the
--- file. The gate is that at which the log ends, and closed.
+-- kept. Each grain's place is the last that the log names, with the version that stands there. The ends are the greatest of the places
+-- that it names in each grain's file, those that it begins with too, and lie in the file. The gate is that at which the log ends, and
+-- closed.
 pub record IsOpenedFrom (image : Image) (o : Opened) : Type 0 where
   pub log : Log
   pub reads : opened_as image ≡ Reads o.slot log
@@ -65,11 +72,12 @@ pub record IsOpenedFrom (image : Image) (o : Opened) : Type 0 where
   pub program : (standing_of log).program ≡ program_in o
   pub count : o.count ≡ (standing_of log).count
   pub next : o.next_unit.0 ≡ (standing_of log).next
-  pub states : (grain : GrainId) → unwrap_or (state_in o.store grain) (initial_states (program_in o) grain) ≡ (standing_of log).states grain
+  pub states : AreStates (program_in o) o.store log
   pub read : LogRead
   pub read_as : log_in_file One (shape_in (program_in o)) (image (Manager o.slot)) ≡ Ok read
   pub log_is : log ≡ log_of o.slot (program_in o) image read
   pub whole : first_missing o.slot One (shape_in (program_in o)) image (named_by_grain (named_in read)) ≡ None
+  pub places : (grain : GrainId) → placed_in o.places grain ≡ placed_after o.slot One (shape_in (program_in o)) image None (named_by_grain (named_in read)) grain
   pub ends : (grain : GrainId) → end_in o.ends grain ≡ end_after None (named_by_grain (named_in read)) grain
   pub within : (grain : GrainId) (end : ℕ) → end_in o.ends grain ≡ Some end → end ≤ length (image (Grain o.slot grain))
   pub gate : gate_of (image (Manager o.slot)) ≡ o.gate_at

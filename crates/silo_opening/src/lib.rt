@@ -6,10 +6,12 @@ mod faults;
 mod input;
 mod latest;
 mod opened_silo;
+mod placed_states;
 mod silo_init;
 
 pub use creation::{create, write_program};
 pub use faults::{CreateFault, OpenFault};
 pub use latest::latest_versions;
 pub use opened_silo::{Opened, open_silo};
+pub use placed_states::states;
 pub use silo_init::{InitFault, init};

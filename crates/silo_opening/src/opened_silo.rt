@@ -17,7 +17,7 @@ ghost use Rattle.silo_opening.specs.Counts.{OpenFaulted};
 ghost use Rattle.silo_opening.specs.OpenedSilo.{is_header, header_in, live_header, in_program_file, in_folder, ending_of, LeavesOpened, IsOpenedInBounds};
 
 use crate::faults::OpenFault;
-use base_types::{Ends, List, Store, UnitNo};
+use base_types::{Ends, List, Places, Store, UnitNo};
 use field_codec::Format;
 use host_trait::{Failed, FileId, Host, read_full};
 use log_reading::{FolderFault, read_contents};
@@ -26,8 +26,8 @@ use script_check::Checked;
 use std::alloc::{AllocError, Global};
 
 /// An opened silo: the slot that is live and its generation, its program with the text, how many records its log has, those before the
-/// log's beginning too, the state of each grain that has a version, the greatest end among the places that are named in each grain's
-/// file, the number of the next unit, and the place of the gate at which the log ends.
+/// log's beginning too, the state of each grain that has a version and where its last one stands, the greatest end among the places that
+/// are named in each grain's file, the number of the next unit, and the place of the gate at which the log ends.
 #[derive(Drop)]
 pub struct Opened {
     pub slot: u8,
@@ -36,6 +36,7 @@ pub struct Opened {
     pub checked: Checked,
     pub count: u64,
     pub store: Store,
+    pub places: Places,
     pub ends: Ends,
     pub next_unit: UnitNo,
     pub gate_at: u64,
@@ -254,6 +255,7 @@ pub fn open_silo<H: Host>(alloc: Global, host: &mut H) -> Result<Opened, OpenFau
             checked,
             count: contents.count,
             store: contents.store,
+            places: contents.places,
             ends: contents.ends,
             next_unit: contents.next_unit,
             gate_at: contents.gate_at,

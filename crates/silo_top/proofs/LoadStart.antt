@@ -1,11 +1,13 @@
 -- What a load begins with: a silo of the bank program with an empty log.
 use Rattle.std.proofs.Common.{◌≡◌, None, Ok, sym, ap, ◌∙◌, subst, lit≤, unwrap_or}
 use Rattle.base_types.specs.Stores.{state_in}
+use Rattle.base_types.specs.Places.{placed_in}
 use Rattle.base_types.specs.declared.calls.GrainId.{GrainId}
 use Rattle.host_trait.specs.declared.channels.FileId.TheVariants.{Manager}
 use Rattle.host_trait.specs.World.{World, Image}
 use Rattle.field_codec.specs.declared.formats.Format.TheVariants.{One}
 use Rattle.log_reading.specs.Steps.{seen_in}
+use Rattle.log_reading.specs.Sums.{placed_after}
 use Rattle.program_file.specs.Programs.{program_in}
 use Rattle.script_tree.specs.Programs.{ProgramTree, program_tree}
 use Rattle.silo_spec.specs.Silos.{IsNewSilo}
@@ -53,7 +55,7 @@ module _ (types : ProgramTree) (reads : program_in bank_text ≡ Ok types) where
 
 -- an opened silo, with another copy of its program
 abbrev pub with_checked : Opened → Tree → Opened
-with_checked x bank = record { slot = x.slot; generation = x.generation; text = x.text; checked = bank; count = x.count; store = x.store; ends = x.ends; next_unit = x.next_unit; gate_at = x.gate_at }
+with_checked x bank = record { slot = x.slot; generation = x.generation; text = x.text; checked = bank; count = x.count; store = x.store; places = x.places; ends = x.ends; next_unit = x.next_unit; gate_at = x.gate_at }
 
 pub same_opened : (x : Opened) (bank : Tree) (seen : Image) → program_tree x.checked ≡ program_tree bank → IsOpenedFrom seen x → IsOpenedFrom seen (with_checked x bank)
 same_opened x bank seen same is = record {
@@ -68,6 +70,7 @@ same_opened x bank seen same is = record {
   read_as = subst (λ (p : Program). log_in_file One (shape_in p) (seen (Manager x.slot)) ≡ Ok is.read) there is.read_as;
   log_is = is.log_is ∙ ap (λ (p : Program). log_of x.slot p seen is.read) there;
   whole = subst (λ (p : Program). first_missing x.slot One (shape_in p) seen (named_by_grain (named_in is.read)) ≡ None) there is.whole;
+  places = subst (λ (p : Program). (grain : GrainId) → placed_in x.places grain ≡ placed_after x.slot One (shape_in p) seen None (named_by_grain (named_in is.read)) grain) there is.places;
   ends = is.ends;
   within = is.within;
   gate = is.gate;

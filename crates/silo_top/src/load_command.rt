@@ -135,6 +135,7 @@ fn begin_load<H: Host>(
             checked: bank,
             count: opened.count,
             store: opened.store,
+            places: opened.places,
             ends: opened.ends,
             next_unit: opened.next_unit,
             gate_at: opened.gate_at,

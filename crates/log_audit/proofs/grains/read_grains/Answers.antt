@@ -6,7 +6,7 @@ use Rattle.host_trait.proofs.Counts.{none_then}
 use Rattle.field_codec.specs.declared.formats.Format.TheVariants.{One}
 use Rattle.commit_log.specs.declared.records.CommitRecord.{CommitRecord}
 use Rattle.host_trait.specs.declared.channels.FileId.TheVariants.{Manager}
-use Rattle.log_reading.specs.Steps.{base_of, next_in}
+use Rattle.log_reading.specs.Steps.{log_base_of, next_in}
 use Rattle.log_reading.proofs.LogBlocks.{follows_breaks}
 use Rattle.log_audit.specs.WrittenGrains.{grains_recorded, grains_added}
 use Rattle.log_audit.proofs.GrainLists.{grains_begun, grains_more, grains_ended, log_fault}
@@ -14,8 +14,8 @@ use Rattle.log_audit.proofs.grains.read_grains.Goals as goal
 
 pub loop-grains-init : goal.loop-grains-init
 loop-grains-init g c = record {
-  bound = c.in_ok-base.ensures.bound.0;
-  has = λ told. grains_begun c.args.shape.now ((g.H.Host.world c.args.host.now).disk (Manager c.args.slot)).seen (base_of c.in_ok-base.base) c.in_ok-base.base.gate_at _ (c.in_ok-base.ensures.begins told One)
+  bound = c.in_ok-base.ensures.bound.gate;
+  has = λ told. grains_begun c.args.shape.now ((g.H.Host.world c.args.host.now).disk (Manager c.args.slot)).seen (log_base_of c.in_ok-base.base) c.in_ok-base.base.gate_at _ (c.in_ok-base.ensures.begins told One)
       (c.in_ok-add_written.ensures ∙ (λ i. grains_added (c.new-grains.ensures.empty i) (map (λ w. w.grain) (c.as_slice.ensures i))));
   asked = c.read_base.ensures.asked;
   calm = c.in_ok-base.ensures.calm;

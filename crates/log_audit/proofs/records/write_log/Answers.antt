@@ -5,7 +5,7 @@ use Rattle.host_trait.proofs.Counts.{none_then}
 use Rattle.field_codec.specs.declared.formats.Format.TheVariants.{One}
 use Rattle.commit_log.specs.declared.records.CommitRecord.{CommitRecord}
 use Rattle.host_trait.specs.declared.channels.FileId.TheVariants.{Manager}
-use Rattle.log_reading.specs.Steps.{base_of, next_in}
+use Rattle.log_reading.specs.Steps.{log_base_of, next_in}
 use Rattle.script_tree.specs.Programs.{program_tree}
 use Rattle.log_audit.specs.Lines.{record_lines}
 use Rattle.log_audit.specs.RereadFaults.{IsBlockFault}
@@ -22,8 +22,8 @@ use Rattle.log_audit.proofs.records.write_log.Goals as goal
 
 pub loop-base-init : goal.loop-base-init
 loop-base-init g c = record {
-  bound = c.in-Ok.ensures.bound.0;
-  puts = λ told. copied_none c.args.shape.now (program_tree c.args.checked.now) ((g.H.Host.world c.args.host.now).disk (Manager c.args.slot)).seen (base_of c.in-Ok.base) c.in-Ok.base.gate_at (g.H.Host.world c.args.host.now) (g.H.Host.world c.read_base.new.host)
+  bound = c.in-Ok.ensures.bound.gate;
+  puts = λ told. copied_none c.args.shape.now (program_tree c.args.checked.now) ((g.H.Host.world c.args.host.now).disk (Manager c.args.slot)).seen (log_base_of c.in-Ok.base) c.in-Ok.base.gate_at (g.H.Host.world c.args.host.now) (g.H.Host.world c.read_base.new.host)
       (c.in-Ok.ensures.begins told One) (c.read_base.ensures.asked told);
   calm = c.in-Ok.ensures.calm;
   ready = c.read_base.ensures.ready;

@@ -8,7 +8,7 @@ use Rattle.field_codec.specs.declared.formats.Format.TheVariants.{One}
 use Rattle.commit_log.specs.declared.records.CommitRecord.{CommitRecord}
 use Rattle.commit_log.specs.declared.records.Written.{Written}
 use Rattle.host_trait.specs.declared.channels.FileId.TheVariants.{Manager}
-use Rattle.log_reading.specs.Steps.{base_of, next_in, seen_in}
+use Rattle.log_reading.specs.Steps.{log_base_of, next_in, seen_in}
 use Rattle.log_reading.proofs.LogBlocks.{follows_on, follows_breaks}
 use Rattle.script_tree.specs.Programs.{program_tree}
 use Rattle.script_meaning.specs.Play.{found_in}
@@ -27,11 +27,11 @@ pub loop-store-init : goal.loop-store-init
 loop-store-init g c =
     let types = program_tree c.args.checked.now in
     record {
-      bound = c.in_ok-base.ensures.bound.0;
+      bound = c.in_ok-base.ensures.bound.gate;
       audited = λ told.
           let image = seen_in (g.H.Host.world c.args.host.now).disk in
           let same : seen_in (g.H.Host.world c.read_base.new.host).disk ≡ image = ap seen_in (c.read_base.ensures.asked told).disk in
-          audit_begun types c.args.slot c.args.shape.now image ((g.H.Host.world c.args.host.now).disk (Manager c.args.slot)).seen (base_of c.in_ok-base.base) c.in_ok-base.base.gate_at _ (c.in_ok-base.ensures.begins told One)
+          audit_begun types c.args.slot c.args.shape.now image ((g.H.Host.world c.args.host.now).disk (Manager c.args.slot)).seen (log_base_of c.in_ok-base.base) c.in_ok-base.base.gate_at _ (c.in_ok-base.ensures.begins told One)
           (saved_states types c.args.slot c.args.shape.now image c.in_ok-base.base.saved c.in_ok-store.store
           (λ grain. c.in_ok-store.ensures.states told grain ∙ (λ i. state_after c.args.slot One c.args.shape.now (same i) None (map (λ w. record { unit = None; written = w }) (c.as_slice.ensures i)) grain)));
       asked = λ told. asked_then _ _ _ (c.read_base.ensures.asked told) (c.saved_store.ensures.asked told);
@@ -55,9 +55,9 @@ returns-in_err-store-clause-unread g c =
     let e = c.in_err-store.field-0.0 in
     rw (p.1, p.2) λ told log is.
     let same : seen_in (g.H.Host.world c.read_base.new.host).disk ≡ image = ap seen_in (c.read_base.ensures.asked told).disk in
-    let base = (rest_of shape ((g.H.Host.world c.args.host.now).disk (Manager c.args.slot)).seen (base_of b) [] b.gate_at (c.in_ok-base.ensures.begins told One) log is).0 in
-    let here : IsVersionFault c.args.slot shape image (named_of_base (base_of b)) e =
-    subst (λ (im : Image). IsVersionFault c.args.slot shape im (named_of_base (base_of b)) e) same
+    let base = (rest_of shape ((g.H.Host.world c.args.host.now).disk (Manager c.args.slot)).seen (log_base_of b) [] b.gate_at (c.in_ok-base.ensures.begins told One) log is).0 in
+    let here : IsVersionFault c.args.slot shape image (named_of_base (log_base_of b)) e =
+    subst (λ (im : Image). IsVersionFault c.args.slot shape im (named_of_base (log_base_of b)) e) same
     (subst (λ (ws : List Written). IsVersionFault c.args.slot shape (seen_in (g.H.Host.world c.read_base.new.host).disk) (map (λ w. record { unit = None; written = w }) ws) e) c.as_slice.ensures (c.in_err-store.ensures.unread told)) in
     inr (fault_of_base c.args.slot shape image log e (subst (λ (l : LogBase). IsVersionFault c.args.slot shape image (named_of_base l) e) base here))
 

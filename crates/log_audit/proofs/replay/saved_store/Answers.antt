@@ -1,10 +1,9 @@
-use Rattle.std.proofs.Common.{◌≡◌, List, None, map, sym, ◌∙◌, ap, subst}
+use Rattle.std.proofs.Common.{◌≡◌, List, None, map, ◌∙◌, subst}
 use Rattle.std.proofs.lemmas.Result.{err_from_is_err_and}
 use Rattle.field_codec.specs.declared.formats.Format.TheVariants.{One}
 use Rattle.commit_log.specs.declared.records.Named.{Named}
 use Rattle.log_reading.specs.Steps.{seen_in}
-use Rattle.log_reading.specs.Versions.{first_missing}
-use Rattle.log_reading.specs.Sums.{state_after, StopsAt}
+use Rattle.log_reading.specs.Sums.{state_after, AreUnread}
 use Rattle.log_audit.proofs.Versions.{versions_fault}
 use Rattle.log_audit.proofs.replay.saved_store.Goals as goal
 
@@ -16,9 +15,8 @@ returns-in_err-read_versions-clause-unread g c =
     let names : List Named = map (λ w. record { unit = None; written = w }) c.args.saved.now in
     let order : c.as_slice.result.now ≡ names = c.as_slice.ensures ∙ c.in_ok-named.ensures in
     rw (p.1, p.2) λ told.
-    versions_fault c.args.slot shape image names c.in_err-read_versions.field-0.0
-    (λ at place is. sym (ap (first_missing c.args.slot One shape image) order) ∙ c.in_err-read_versions.ensures.damaged at place is told)
-    (λ at is. subst (λ (ns : List Named). StopsAt c.args.slot One shape image ns at) order (c.in_err-read_versions.ensures.failed at is told))
+    let e = c.in_err-read_versions.field-0.0 in
+    versions_fault c.args.slot shape image names e (subst (λ (ns : List Named). AreUnread c.args.slot One shape image ns e) order (c.in_err-read_versions.ensures.unread told))
 
 pub returns-clause-states : goal.returns-clause-states
 returns-clause-states g c told grain =
@@ -26,4 +24,4 @@ returns-clause-states g c told grain =
     let image = seen_in (g.H.Host.world c.args.host.now).disk in
     let names : List Named = map (λ w. record { unit = None; written = w }) c.args.saved.now in
     let order : c.as_slice.result.now ≡ names = c.as_slice.ensures ∙ c.in_ok-named.ensures in
-    c.in_ok-read_versions.ensures.states told grain ∙ (λ i. state_after c.args.slot One shape image (c.new-store.ensures grain i) (order i) grain)
+    (c.in_ok-read_versions.ensures.kept told).states grain ∙ (λ i. state_after c.args.slot One shape image (c.new-store.ensures grain i) (order i) grain)

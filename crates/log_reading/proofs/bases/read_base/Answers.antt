@@ -10,7 +10,7 @@ use Rattle.host_trait.proofs.Counts.{none_then}
 use Rattle.commit_log.specs.declared.records.Written.{Written}
 use Rattle.log_reading.specs.declared.faults.FolderFault.{FolderFault}
 use Rattle.log_reading.specs.Blocks.{header_damage, behind_header, log_as, log_in_file}
-use Rattle.log_reading.specs.Steps.{BeginsSaved, Follows, base_of}
+use Rattle.log_reading.specs.Steps.{BeginsSaved, IsFollowedBy, log_base_of}
 use Rattle.log_reading.proofs.Errors.{other_value}
 use Rattle.log_reading.proofs.LogBlocks.{follows_begins}
 use Rattle.log_reading.proofs.bases.read_base.Goals as goal
@@ -29,10 +29,10 @@ returns-then-not-saved-clause-begins g c told format =
     let seen = ((g.H.Host.world c.args.host.now).disk (Manager c.args.slot)).seen in
     let none : c.in-Ok.saved ≡ false = search rules in
     let fresh : eqb (slice_index seen 13) 1 ≡ false = sym (c.in-Ok.ensures.begins told) ∙ none in
-    subst (λ (l : List Written). Follows format c.args.shape.now seen (record { count = 0; next = 1; writes = l }) [] 15) (sym c.new.ensures) (follows_begins format c.args.shape.now seen (c.in-Ok.ensures.whole told) fresh)
+    subst (λ (l : List Written). IsFollowedBy format c.args.shape.now seen (record { count = 0; next = 1; writes = l }) [] 15) (sym c.new.ensures) (follows_begins format c.args.shape.now seen (c.in-Ok.ensures.whole told) fresh)
 
 pub returns-then-not-saved-clause-bound : goal.returns-then-not-saved-clause-bound
-returns-then-not-saved-clause-bound g c = (omega arith, (omega arith, (omega arith, omega arith)))
+returns-then-not-saved-clause-bound g c = record { gate = omega arith; count = omega arith; some = omega arith; next = omega arith }
 
 -- the checkpoint
 pub returns-in-Ok-read_checkpoint-clause-begins : goal.returns-in-Ok-read_checkpoint-clause-begins
@@ -42,7 +42,7 @@ returns-in-Ok-read_checkpoint-clause-begins g c told format =
     let is : c.in-Ok.saved ≡ true = search rules in
     let begins : BeginsSaved (seen (g.H.Host.world c.args.host.now).disk) = (c.in-Ok.ensures.whole told, sym (c.in-Ok.ensures.begins told) ∙ is) in
     let base = c.in-Ok-read_checkpoint.base in
-    subst (λ (d : Disk). Follows format c.args.shape.now (seen d) (base_of base) [] base.gate_at) same (c.in-Ok-read_checkpoint.ensures.begins told format (subst (λ (d : Disk). BeginsSaved (seen d)) (sym same) begins))
+    subst (λ (d : Disk). IsFollowedBy format c.args.shape.now (seen d) (log_base_of base) [] base.gate_at) same (c.in-Ok-read_checkpoint.ensures.begins told format (subst (λ (d : Disk). BeginsSaved (seen d)) (sym same) begins))
 
 pub returns-in-Ok-read_checkpoint-clause-asked : goal.returns-in-Ok-read_checkpoint-clause-asked
 returns-in-Ok-read_checkpoint-clause-asked g c told = asked_then _ _ _ (c.check_header.ensures.asked told) (c.read_checkpoint.ensures.asked told)

@@ -8,7 +8,7 @@ use Rattle.host_trait.proofs.Counts.{none_then}
 use Rattle.commit_log.specs.declared.records.Written.{Written}
 use Rattle.commit_log.specs.Orders.{grain_after}
 use Rattle.log_reading.specs.declared.faults.FolderFault.{FolderFault}
-use Rattle.log_reading.specs.Steps.{next_piece_in, Follows}
+use Rattle.log_reading.specs.Steps.{next_piece_in, IsFollowedBy}
 use Rattle.log_reading.proofs.Errors.{other_value}
 use Rattle.log_reading.proofs.CheckpointLoop.{last_of, last_more, FollowsPieces, pieces_begin, pieces_on, pieces_end, pieces_break}
 use Rattle.log_reading.proofs.bases.read_checkpoint.Goals as goal
@@ -84,10 +84,15 @@ returns-then-not-piece-clause-begins g c =
     let here : next_piece_in shape first c.loop-saved.last gate ((g.H.Host.world c.loop-saved.host).disk (Manager c.args.slot)).seen ≡ Ok (piece, behind) = c.in_ok-piece.ensures.found told in
     let there : next_piece_in shape first c.loop-saved.last gate seen ≡ Ok (piece, behind) = subst (λ (d : Disk). next_piece_in shape first c.loop-saved.last gate (d (Manager c.args.slot)).seen ≡ Ok (piece, behind)) (inv.asked told).disk here in
     let at_last : next_piece_in shape first (last_of before) gate seen ≡ Ok (piece, behind) = subst (λ (l : Option GrainId). next_piece_in shape first l gate seen ≡ Ok (piece, behind)) inv.last there in
-    subst (λ (l : List Written). Follows format shape seen (record { count = piece.head.count; next = piece.head.next_unit.0; writes = l }) [] behind) (sym saved) (pieces_end format shape seen first before gate (inv.pieces told format begins) piece behind at_last more)
+    subst (λ (l : List Written). IsFollowedBy format shape seen (record { count = piece.head.count; next = piece.head.next_unit.0; writes = l }) [] behind) (sym saved) (pieces_end format shape seen first before gate (inv.pieces told format begins) piece behind at_last more)
 
 pub returns-then-not-piece-clause-bound : goal.returns-then-not-piece-clause-bound
-returns-then-not-piece-clause-bound g c = (c.in_ok-piece.ensures.further.1, (c.in_ok-piece.ensures.fits.count, c.in_ok-piece.ensures.fits.next))
+returns-then-not-piece-clause-bound g c = record {
+  gate = c.in_ok-piece.ensures.further.1;
+  count = c.in_ok-piece.ensures.fits.count;
+  some = c.in_ok-piece.ensures.fits.next.0;
+  next = c.in_ok-piece.ensures.fits.next.1;
+}
 
 pub returns-then-not-piece-clause-asked : goal.returns-then-not-piece-clause-asked
 returns-then-not-piece-clause-asked g c told = asked_then _ _ _ (c.loop-saved.invariant.asked told) (c.next_piece.ensures.asked told)

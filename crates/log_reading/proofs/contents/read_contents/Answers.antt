@@ -5,7 +5,7 @@ use Rattle.host_trait.proofs.Runs.{asked_then}
 use Rattle.commit_log.specs.declared.records.Named.{Named}
 use Rattle.log_reading.specs.Steps.{seen_in}
 use Rattle.log_reading.specs.Versions.{named_in, named_by_grain, first_missing}
-use Rattle.log_reading.specs.Sums.{state_after, end_after, StopsAt}
+use Rattle.log_reading.specs.Sums.{state_after, placed_after, end_after, AreUnread}
 use Rattle.log_reading.proofs.StepFaults.{read_refused, versions_refused}
 use Rattle.log_reading.proofs.contents.read_contents.Goals as goal
 
@@ -18,13 +18,15 @@ returns-in-Ok-read_versions-clause-opened g c told =
     let same : seen_in (g.H.Host.world c.read_log.new.host).disk ≡ image = ap seen_in (c.read_log.ensures.asked told).disk in
     let order : c.as_slice.result.now ≡ named_by_grain (named_in l.log) = c.as_slice.ensures.value ∙ c.in-Ok-sort_by_grain.ensures ∙ ap named_by_grain (c.into_vec-named.ensures ∙ l.named) in
     let v = c.in-Ok-read_versions.ensures in
+    let kept = v.kept told in
     record {
       log = l.log;
       read = l.read told;
-      whole = sym (λ i. first_missing c.args.slot format shape (same i) (order i)) ∙ v.found told;
+      whole = sym (λ i. first_missing c.args.slot format shape (same i) (order i)) ∙ kept.whole;
       count = l.count;
       next = l.next;
-      states = λ grain. v.states told grain ∙ (λ i. state_after c.args.slot format shape (same i) (c.new-store.ensures grain i) (order i) grain);
+      states = λ grain. kept.states grain ∙ (λ i. state_after c.args.slot format shape (same i) (c.new-store.ensures grain i) (order i) grain);
+      places = λ grain. kept.places grain ∙ (λ i. placed_after c.args.slot format shape (same i) (c.new-places.ensures grain i) (order i) grain);
       ends = λ grain. v.ends grain ∙ (λ i. end_after (c.new-ends.ensures grain i) (order i) grain);
       gate = l.gate told;
       closed = l.closed told;
@@ -54,7 +56,7 @@ returns-clause-refused g c told =
     let l = c.in-Ok.ensures.log in
     let same : seen_in (g.H.Host.world c.read_log.new.host).disk ≡ image = ap seen_in (c.read_log.ensures.asked told).disk in
     let order : c.as_slice.result.now ≡ named_by_grain (named_in l.log) = c.as_slice.ensures.value ∙ c.in-Ok-sort_by_grain.ensures ∙ ap named_by_grain (c.into_vec-named.ensures ∙ l.named) in
-    let v = c.in-Err-read_versions.ensures in
-    versions_refused c.args.slot format shape image l.log (l.read told) c.in-Err-read_versions.fault
-    (λ file place is. sym (λ i. first_missing c.args.slot format shape (same i) (order i)) ∙ v.damaged file place is told)
-    (λ file is. subst (λ (im : Image). StopsAt c.args.slot format shape im (named_by_grain (named_in l.log)) file) same (subst (λ (ns : List Named). StopsAt c.args.slot format shape (seen_in (g.H.Host.world c.read_log.new.host).disk) ns file) order (v.failed file is told)))
+    let fault = c.in-Err-read_versions.fault in
+    let unread = c.in-Err-read_versions.ensures.unread told in
+    versions_refused c.args.slot format shape image l.log (l.read told) fault
+    (subst (λ (im : Image). AreUnread c.args.slot format shape im (named_by_grain (named_in l.log)) fault) same (subst (λ (ns : List Named). AreUnread c.args.slot format shape (seen_in (g.H.Host.world c.read_log.new.host).disk) ns fault) order unread))

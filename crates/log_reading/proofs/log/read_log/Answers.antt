@@ -10,7 +10,7 @@ use Rattle.commit_log.specs.declared.records.CommitRecord.{CommitRecord}
 use Rattle.commit_log.specs.Bodies.{IsRecordIn}
 use Rattle.log_reading.specs.declared.faults.FolderFault.{FolderFault}
 use Rattle.log_reading.specs.Versions.{named_by}
-use Rattle.log_reading.specs.Steps.{next_in, base_of}
+use Rattle.log_reading.specs.Steps.{next_in, log_base_of}
 use Rattle.log_reading.specs.Sums.{next_after}
 use Rattle.log_reading.proofs.Errors.{other_value}
 use Rattle.log_reading.proofs.RecordSums.{weaker_all, low_unit, low_next, high_next}
@@ -22,13 +22,13 @@ loop-named-init g c =
     let seen = ((g.H.Host.world c.args.host.now).disk (Manager c.args.slot)).seen in
     let base = c.in-Ok.base in
     let bound = c.in-Ok.ensures.bound in
-    let count = bound.1.0 in
+    let count = bound.count in
     record {
-      bound = bound.0;
+      bound = bound.gate;
       few = omega (arith, count);
-      high = bound.1.1.0;
-      low = bound.1.1.1;
-      read = has_begun g.H.Host.tells c.args.format c.args.shape.now seen (base_of base) base.gate_at c.in_ok-named.named c.in_ok-named.ensures (λ told. c.in-Ok.ensures.begins told c.args.format);
+      high = bound.some;
+      low = bound.next;
+      read = has_begun g.H.Host.tells c.args.format c.args.shape.now seen (log_base_of base) base.gate_at c.in_ok-named.named c.in_ok-named.ensures (λ told. c.in-Ok.ensures.begins told c.args.format);
       asked = c.read_base.ensures.asked;
       calm = c.in-Ok.ensures.calm;
       ready = c.read_base.ensures.ready;

@@ -5,14 +5,14 @@ use Rattle.host_trait.specs.declared.channels.FileId.TheVariants.{Grain}
 use Rattle.host_trait.specs.World.{Disk}
 use Rattle.host_trait.proofs.Runs.{asked_then}
 use Rattle.host_trait.proofs.Counts.{none_then}
-use Rattle.log_reading.specs.declared.faults.FolderFault.{FolderFault}
 use Rattle.commit_log.specs.declared.records.Named.{Named}
 use Rattle.log_reading.specs.Steps.{seen_in}
 use Rattle.log_reading.specs.Versions.{version_named}
-use Rattle.log_reading.proofs.Errors.{other_value}
+use Rattle.log_reading.proofs.Errors.{failed}
 use Rattle.log_reading.proofs.FilePieces.{still_piece}
 use Rattle.log_reading.proofs.RecordSums.{next_default, no_item}
-use Rattle.log_reading.proofs.NamedVersions.{passed_none, passed_more, passed_all, passed_here, stops_here, state_more, state_all, end_more, end_all, near_more}
+use Rattle.log_reading.proofs.StepFaults.{versions_unread}
+use Rattle.log_reading.proofs.NamedVersions.{passed_none, passed_more, passed_all, passed_here, stops_here, state_more, state_all, place_more, place_all, end_more, end_all, near_more}
 use Rattle.log_reading.proofs.versions.read_versions.Goals as goal
 
 abbrev no_name : Named
@@ -24,6 +24,7 @@ loop-one-init g c = record {
   piece = c.no_piece-piece.ensures _ _ _;
   passed = λ told. passed_none _ _ _ _ c.args.named.now;
   states = λ told grain. refl;
+  places = λ told grain. refl;
   ends = λ grain. refl;
   near = λ was. was;
   asked = search rules;
@@ -34,13 +35,8 @@ loop-one-init g c = record {
 pub refill-requires-clause-piece : goal.refill-requires-clause-piece
 refill-requires-clause-piece g c = still_piece _ _ _ _ _ (λ told. ap seen_in (sym (c.loop-one.invariant.asked told).disk)) c.loop-one.invariant.piece
 
-pub returns-in_err-refill-clause-damaged : goal.returns-in_err-refill-clause-damaged
-returns-in_err-refill-clause-damaged g c =
-    let p = err_from_is_err_and c.from_residual.result c.from_residual.ensures.1 in
-    rw (p.1, p.2) λ file place is told. absurd (c.in_err-refill.ensures.quiet file place (other_value _ (FolderFault.Damaged file place) is))
-
-pub returns-in_err-refill-clause-failed : goal.returns-in_err-refill-clause-failed
-returns-in_err-refill-clause-failed g c =
+pub returns-in_err-refill-clause-unread : goal.returns-in_err-refill-clause-unread
+returns-in_err-refill-clause-unread g c =
     let p = err_from_is_err_and c.from_residual.result c.from_residual.ensures.1 in
     let inv = c.loop-one.invariant in
     let format = c.args.format in
@@ -48,9 +44,12 @@ returns-in_err-refill-clause-failed g c =
     let i = c.loop-one.one-index in
     let xs = c.args.named.now in
     let x : Named = get_or xs i no_name in
-    rw (p.1, p.2) λ file is told.
-    let at : file ≡ Grain c.args.slot x.written.grain = c.in_err-refill.ensures.failed file (other_value _ (FolderFault.Failed file) is) in
-    stops_here c.args.slot format shape _ xs (drop i xs) (inv.passed told) x (drop (i + 1) xs) (next_default i xs no_name c.loop-one-test.true) file at
+    rw (p.1, p.2) λ told.
+    versions_unread c.args.slot format shape (seen_in (g.H.Host.world c.args.host.now).disk) xs c.in_err-refill.field-0.0
+    (λ file place is. absurd (c.in_err-refill.ensures.quiet file place (ap failed is)))
+    (λ file is.
+    let at : file ≡ Grain c.args.slot x.written.grain = c.in_err-refill.ensures.failed file (ap failed is) in
+    stops_here c.args.slot format shape _ xs (drop i xs) (inv.passed told) x (drop (i + 1) xs) (next_default i xs no_name c.loop-one-test.true) file at)
 
 pub returns-in_err-refill-clause-asked : goal.returns-in_err-refill-clause-asked
 returns-in_err-refill-clause-asked g c told = asked_then _ _ _ (c.loop-one.invariant.asked told) (c.refill.ensures.asked told)
@@ -59,8 +58,8 @@ pub next_version-requires-clause-piece : goal.next_version-requires-clause-piece
 next_version-requires-clause-piece g c =
     still_piece _ _ _ _ _ (λ told. ap seen_in (sym (c.refill.ensures.asked told).disk)) c.in_ok-refill.ensures.piece
 
-pub returns-in_err-version-clause-damaged : goal.returns-in_err-version-clause-damaged
-returns-in_err-version-clause-damaged g c =
+pub returns-in_err-version-clause-unread : goal.returns-in_err-version-clause-unread
+returns-in_err-version-clause-unread g c =
     let p = err_from_is_err_and c.from_residual-in_err-version.result c.from_residual-in_err-version.ensures.1 in
     let inv = c.loop-one.invariant in
     let format = c.args.format in
@@ -68,27 +67,18 @@ returns-in_err-version-clause-damaged g c =
     let i = c.loop-one.one-index in
     let xs = c.args.named.now in
     let x : Named = get_or xs i no_name in
-    rw (p.1, p.2) λ file place is told.
-    let err = other_value _ (FolderFault.Damaged file place) is in
+    let next = next_default i xs no_name c.loop-one-test.true in
+    rw (p.1, p.2) λ told.
     let mid = asked_then _ _ _ (inv.asked told) (c.refill.ensures.asked told) in
-    let here : version_named c.args.slot format shape (seen_in (g.H.Host.world c.refill.new.host).disk) x ≡ Err place = c.in_err-version.ensures.damaged file place err told in
+    versions_unread c.args.slot format shape (seen_in (g.H.Host.world c.args.host.now).disk) xs c.in_err-version.field-0.0
+    (λ file place is.
+    let here : version_named c.args.slot format shape (seen_in (g.H.Host.world c.refill.new.host).disk) x ≡ Err place = c.in_err-version.ensures.damaged file place (ap failed is) told in
     let there : version_named c.args.slot format shape (seen_in (g.H.Host.world c.args.host.now).disk) x ≡ Err place = subst (λ (d : Disk). version_named c.args.slot format shape (seen_in d) x ≡ Err place) mid.disk here in
-    let at : file ≡ Grain c.args.slot x.written.grain = c.in_err-version.ensures.file file place err in
-    passed_here c.args.slot format shape _ xs (drop i xs) (inv.passed told) x (drop (i + 1) xs) (next_default i xs no_name c.loop-one-test.true) place there
-    ∙ ap (λ (f : FileId). Some (f, place)) (sym at)
-
-pub returns-in_err-version-clause-failed : goal.returns-in_err-version-clause-failed
-returns-in_err-version-clause-failed g c =
-    let p = err_from_is_err_and c.from_residual-in_err-version.result c.from_residual-in_err-version.ensures.1 in
-    let inv = c.loop-one.invariant in
-    let format = c.args.format in
-    let shape = c.args.shape.now in
-    let i = c.loop-one.one-index in
-    let xs = c.args.named.now in
-    let x : Named = get_or xs i no_name in
-    rw (p.1, p.2) λ file is told.
-    let at : file ≡ Grain c.args.slot x.written.grain = c.in_err-version.ensures.failed file (other_value _ (FolderFault.Failed file) is) in
-    stops_here c.args.slot format shape _ xs (drop i xs) (inv.passed told) x (drop (i + 1) xs) (next_default i xs no_name c.loop-one-test.true) file at
+    let at : file ≡ Grain c.args.slot x.written.grain = c.in_err-version.ensures.file file place (ap failed is) in
+    passed_here c.args.slot format shape _ xs (drop i xs) (inv.passed told) x (drop (i + 1) xs) next place there ∙ ap (λ (f : FileId). Some (f, place)) (sym at))
+    (λ file is.
+    let at : file ≡ Grain c.args.slot x.written.grain = c.in_err-version.ensures.failed file (ap failed is) in
+    stops_here c.args.slot format shape _ xs (drop i xs) (inv.passed told) x (drop (i + 1) xs) next file at)
 
 pub returns-in_err-version-clause-asked : goal.returns-in_err-version-clause-asked
 returns-in_err-version-clause-asked g c told = asked_then _ _ _ (asked_then _ _ _ (c.loop-one.invariant.asked told) (c.refill.ensures.asked told)) (c.next_version.ensures.asked told)
@@ -115,6 +105,7 @@ loop-one-preserved g c =
       piece = still_piece _ _ _ _ _ (λ told. ap seen_in (inv.asked told).disk) c.in_ok-refill.ensures.piece;
       passed = λ told. passed_more c.args.slot format shape image xs (drop i xs) (inv.passed told) x (drop (i + 1) xs) next v (found told);
       states = λ told grain. state_more c.args.slot format shape image x (drop (i + 1) xs) (drop i xs) grain v _ _ _ next (found told) (c.in_ok-keep.ensures.states grain) (inv.states told grain);
+      places = λ told grain. place_more c.args.slot format shape image x (drop (i + 1) xs) (drop i xs) grain v _ _ _ next (found told) (c.in_ok-keep.ensures.places grain) (inv.places told grain);
       ends = λ grain. end_more x (drop (i + 1) xs) (drop i xs) grain _ _ _ next (c.in_ok-keep.ensures.ends grain) (inv.ends grain);
       near = λ was grain. near_more x grain _ _ (c.in_ok-version.ensures.near) (c.in_ok-keep.ensures.ends grain) (inv.near was grain);
       asked = λ told. asked_then _ _ _ (asked_then _ _ _ (inv.asked told) (c.refill.ensures.asked told)) (c.next_version.ensures.asked told);
@@ -122,11 +113,18 @@ loop-one-preserved g c =
       ready = λ file was. c.next_version.ensures.ready file (c.refill.ensures.ready file (inv.ready file was));
     }
 
-pub returns-clause-found : goal.returns-clause-found
-returns-clause-found g c told = passed_all c.args.slot c.args.format c.args.shape.now _ c.args.named.now (drop c.loop-one.one-index c.args.named.now) (c.loop-one.invariant.passed told) (no_item c.loop-one.one-index c.args.named.now c.loop-one-test.false)
-
-pub returns-clause-states : goal.returns-clause-states
-returns-clause-states g c told grain = state_all c.args.slot c.args.format c.args.shape.now (seen_in (g.H.Host.world c.args.host.now).disk) (drop c.loop-one.one-index c.args.named.now) grain _ _ (no_item c.loop-one.one-index c.args.named.now c.loop-one-test.false) (c.loop-one.invariant.states told grain)
+pub returns-clause-kept : goal.returns-clause-kept
+returns-clause-kept g c told =
+    let format = c.args.format in
+    let shape = c.args.shape.now in
+    let image = seen_in (g.H.Host.world c.args.host.now).disk in
+    let rest = drop c.loop-one.one-index c.args.named.now in
+    let none = no_item c.loop-one.one-index c.args.named.now c.loop-one-test.false in
+    record {
+      whole = passed_all c.args.slot format shape _ c.args.named.now rest (c.loop-one.invariant.passed told) none;
+      states = λ grain. state_all c.args.slot format shape image rest grain _ _ none (c.loop-one.invariant.states told grain);
+      places = λ grain. place_all c.args.slot format shape image rest grain _ _ none (c.loop-one.invariant.places told grain);
+    }
 
 pub returns-clause-ends : goal.returns-clause-ends
 returns-clause-ends g c grain = end_all (drop c.loop-one.one-index c.args.named.now) grain _ _ (no_item c.loop-one.one-index c.args.named.now c.loop-one-test.false) (c.loop-one.invariant.ends grain)

@@ -1,0 +1,51 @@
+-- The versions that stand at places which are kept, and the states that are read there.
+use Rattle.std.specs.Prelude.{◌≡◌, ℕ, if◌then◌else◌, List, [], ◌∷◌, Option, Some, None, Result, Err, slice_get, ⊤}
+use Rattle.base_types.specs.declared.calls.GrainId.{GrainId}
+use Rattle.base_types.specs.declared.calls.Value.{Value}
+use Rattle.base_types.specs.declared.shapes.Shape.{Shape}
+use Rattle.base_types.specs.declared.stores.Place.{Place}
+use Rattle.base_types.specs.declared.stores.Version.{Version}
+use Rattle.base_types.specs.declared.places.Placed.{Placed}
+use Rattle.base_types.specs.declared.places.Places.{Places}
+use Rattle.base_types.specs.Places.{placed_in}
+use Rattle.host_trait.specs.World.{Image}
+use Rattle.host_trait.specs.Files.{same_grain}
+use Rattle.host_trait.specs.declared.channels.FileId.TheVariants.{Grain}
+use Rattle.field_codec.specs.declared.formats.Format.{Format}
+use Rattle.grain_log.specs.Reads.{fields_of, version_at_place}
+use Rattle.grain_log.specs.declared.faults.VersionFault.{VersionFault}
+use Rattle.log_reading.specs.Versions.{state_of}
+use Rattle.log_reading.specs.declared.faults.FolderFault.{FolderFault}
+
+-- the version that stands at a place of a grain's live file, whoever's it is, or where the file is damaged
+abbrev pub version_placed : ℕ → Format → Shape → Image → GrainId → Place → Result Version ℕ
+version_placed live format shape image grain place = version_at_place format (fields_of (slice_get shape.types grain.kind)) place (image (Grain live grain))
+
+-- the state of the version that stands at a grain's place, or the one of before where the grain has no place
+abbrev pub state_placed : ℕ → Format → Shape → Image → GrainId → Option Placed → Option (List Value) → Option (List Value)
+state_placed live format shape image grain None old = old
+state_placed live format shape image grain (Some p) old = Some (state_of (version_placed live format shape image grain p.place))
+
+-- a grain's state after one grain's version was read at its place, from the state of before
+abbrev pub state_reread : ℕ → Format → Shape → Image → Places → Option (List Value) → GrainId → GrainId → Option (List Value)
+state_reread live format shape image places old grain other =
+    if same_grain grain other then state_placed live format shape image grain (placed_in places grain) old else old
+
+-- a grain's state after these grains' versions were read, from the state of before
+abbrev pub states_reread : ℕ → Format → Shape → Image → Places → Option (List Value) → List GrainId → GrainId → Option (List Value)
+states_reread live format shape image places old [] other = old
+states_reread live format shape image places old (grain ∷ grains) other =
+    states_reread live format shape image places (state_reread live format shape image places old grain other) grains other
+
+-- the fault of a version of a grain's file
+abbrev pub fault_of : ℕ → GrainId → VersionFault → FolderFault
+fault_of slot grain (VersionFault.Damaged place) = FolderFault.Damaged (Grain slot grain) place
+fault_of slot grain VersionFault.Failed = FolderFault.Failed (Grain slot grain)
+fault_of slot grain VersionFault.Memory = FolderFault.Memory
+
+-- what a fault says of reading a grain's version at its place: no version stands there, or a call on its file failed
+abbrev pub IsUnreadAt : ℕ → Format → Shape → Image → GrainId → Option Placed → FolderFault → Type 0
+IsUnreadAt live format shape image grain placed (FolderFault.Damaged file at) =
+    (file ≡ Grain live grain) × ((p : Placed) × (placed ≡ Some p) × (version_placed live format shape image grain p.place ≡ Err at))
+IsUnreadAt live format shape image grain placed (FolderFault.Failed file) = file ≡ Grain live grain
+IsUnreadAt live format shape image grain placed FolderFault.Memory = ⊤

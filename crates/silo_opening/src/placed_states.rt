@@ -1,0 +1,53 @@
+ghost use Rattle.std.specs.Prelude.{◌≡◌, ◌⊎◌, ◌≤◌, IsTrue, OnOk, IfOk, IfErr, IsErrOf};
+ghost use Rattle.base_types.specs.declared.calls.GrainId.{GrainId as AGrain};
+ghost use Rattle.host_trait.specs.Files.{StaysReady};
+ghost use Rattle.host_trait.specs.Faults.{NoneFailed};
+ghost use Rattle.host_trait.specs.Runs.{OnlyAsked};
+ghost use Rattle.host_trait.specs.declared.channels.FileId.TheVariants.{Grain};
+ghost use Rattle.log_reading.specs.Steps.{seen_in};
+ghost use Rattle.silo_opening.specs.declared.faults.OpenFault.{OpenFault};
+ghost use Rattle.silo_opening.specs.Counts.{OpenFaulted};
+ghost use Rattle.silo_opening.specs.OpenedSilo.{program_in, AreStates, IsOpenedFrom};
+
+use crate::faults::OpenFault;
+use crate::opened_silo::{Opened, folder_fault};
+use base_types::Store;
+use field_codec::Format;
+use host_trait::Host;
+use log_reading::read_states;
+use std::alloc::{AllocError, Global};
+
+/// The states of an opened silo: that of each grain that has a version, by one read at its place. A grain that isn't in the store has its
+/// type's initial fields. The folder must read as it did when it was opened.
+///
+/// # Errors
+///
+/// `DiskFault` where a call on a grain's file failed, and `Memory`.
+pub fn states<H: Host>(alloc: Global, host: &mut H, opened: &Opened) -> Result<Store, OpenFault>
+    requires slot { opened.now.slot ≤ 1 }
+    ensures stand { IfOk result (λ store. IsTrue H.tells → (o : IsOpenedFrom (seen_in (H.world host.old).disk) opened.now)
+        → AreStates (program_in opened.now) store o.log) }
+    ensures refused { IfErr result (λ e. IsTrue H.tells → IsOpenedFrom (seen_in (H.world host.old).disk) opened.now
+        → (e ≡ OpenFault.Memory) ⊎ ((grain : AGrain) × (e ≡ OpenFault.DiskFault (Grain opened.now.slot grain)))) }
+    ensures not_last { IsErrOf result OpenFault.LastGeneration → ⊥ }
+    ensures asked { IsTrue H.tells → OnlyAsked (H.world host.old) (H.world host.new) }
+    ensures calm { OnOk result (NoneFailed (H.faults host.old) (H.faults host.new)) }
+    ensures fault { IfErr result (λ e. OpenFaulted e (H.faults host.old) (H.faults host.new)) }
+    ensures ready { StaysReady (H.is_ready host.old) (H.is_ready host.new) }
+{
+    let shape = match opened.checked.shape() {
+        Ok(shape) => shape,
+        Err(AllocError) => return Err(OpenFault::Memory),
+    };
+    match read_states(
+        alloc,
+        host,
+        opened.slot,
+        &shape,
+        Format::One,
+        &opened.places,
+    ) {
+        Ok(store) => Ok(store),
+        Err(fault) => Err(folder_fault(fault)),
+    }
+}
