@@ -17,18 +17,10 @@ from places import CRATES, crates, files_of
 LINE = 160
 CONTRACT = 1_200
 
-# Longer ones. A law that is a table: a clause is a row of it.
-TABLES = {
+# Longer ones: a law that is a table, of which a clause is a row.
+LONGER = {
     "promise_spec": ["words_are_read"],
 }
-# Functions with a clause for each answer and for each image of the disk: a record only moved them.
-ANSWERS = {
-    "gate_block": ["open_gate"],
-    "grain_log": ["read_version", "write_versions"],
-    "log_reading": ["read_checkpoint", "read_versions"],
-    "host_files": ["find", "find_regular", "length", "read_at", "write_at", "sync"],
-}
-LONGER = TABLES | ANSWERS
 
 HEAD = re.compile(r"^[ \t]*(?:pub(?:\([a-z]+\))? )?(?:const )?(?:unsafe )?fn (\w+)", re.M)
 CLAUSE = re.compile(r"^[ \t]*(?:requires|ensures)\b", re.M)

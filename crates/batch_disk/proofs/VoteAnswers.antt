@@ -7,15 +7,15 @@ use Rattle.base_types.specs.declared.stores.Version.{Version}
 use Rattle.host_trait.specs.declared.channels.Channel.{Channel}
 use Rattle.host_trait.specs.declared.channels.Channel.TheVariants.{File}
 use Rattle.host_trait.specs.declared.channels.FileId.TheVariants.{Grain}
-use Rattle.host_trait.specs.Disk.{MayLeave, Tears}
+use Rattle.host_trait.specs.Disk.{Tears}
 use Rattle.host_trait.specs.Faults.{NoneFailed, FailedOn}
 use Rattle.host_trait.specs.World.{World}
 use Rattle.host_trait.specs.Runs.{RunsOnFile}
 use Rattle.field_codec.specs.declared.formats.Format.TheVariants.{One}
 use Rattle.field_codec.specs.Spelling.{VersionFits}
-use Rattle.grain_log.specs.Places.{spelling_of_versions, VersionsStand}
+use Rattle.grain_log.specs.Places.{spelling_of_versions, WroteVersions}
 use Rattle.batch_disk.specs.Writers.{file_end, kept_of, voted_of, HasSameEnds}
-use Rattle.batch_disk.specs.VoteAnswers.{IsOnDisk, KeepsImages, VotesOn, LacksRoom}
+use Rattle.batch_disk.specs.VoteAnswers.{KeepsImages, VotesOn, LacksRoom}
 use Rattle.batch_disk.specs.declared.writer.BatchWriter.{BatchWriter}
 use Rattle.batch_disk.proofs.WriterState.{IsReadyFor, KeepsMore, voted_is, keeps_no, keeps_yes, vote_keeps_log}
 
@@ -52,10 +52,10 @@ module _ {H : Type 0} (tells : Bool) (world : H → World) (faults : H → Chann
   }
 
   -- a vote of yes
-  pub votes_yes : KeepsMore n g (file_end a g) versions a b → NoneFailed (faults old) (faults new) → (IsTrue tells → IsOnDisk a.slot g (file_end a g) versions (world old) (world new))
-      → (IsTrue tells → (image : List ℕ) → MayLeave ((world new).disk (Grain a.slot g)) image → VersionsStand image (file_end a g) versions) → AllByRecursion (VersionFits One) versions
+  pub votes_yes : KeepsMore n g (file_end a g) versions a b → NoneFailed (faults old) (faults new) → (IsTrue tells → WroteVersions (Grain a.slot g) (file_end a g) versions (world old) (world new))
+      → AllByRecursion (VersionFits One) versions
       → file_end a g + length (spelling_of_versions versions) < 2 ^ 63 → VotesOn tells world faults a.slot n g true versions a b old new
-  votes_yes more calm there stand fits low = record {
+  votes_yes more calm there fits low = record {
     cause = calm;
     run = run;
     there = λ told is. there told;
@@ -64,6 +64,6 @@ module _ {H : Type 0} (tells : Bool) (world : H → World) (faults : H → Chann
     same = more.same;
     images = λ told. record {
       still = λ shape head log bodies fresh keeps. vote_keeps_log a.slot shape head log bodies a n g (length (spelling_of_versions versions)) (world old) (world new) fresh keeps (run told);
-      keeps = λ shape head log bodies fresh typed keeps. keeps_yes a.slot shape head log bodies a n g versions (world old) (world new) fresh keeps (run told) b more.same more.kept (stand told) typed fits low;
+      keeps = λ shape head log bodies fresh typed keeps. keeps_yes a.slot shape head log bodies a n g versions (world old) (world new) fresh keeps (run told) b more.same more.kept (there told).stand typed fits low;
     };
   }

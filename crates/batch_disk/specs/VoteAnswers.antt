@@ -1,17 +1,17 @@
 -- What a vote on a grain leaves of the host, of the disk and of what is kept, by its answer. The slot of the writer is the first that
 -- each is told.
-use Rattle.std.specs.Prelude.{◌≡◌, ◌+◌, ◌++◌, ℕ, List, length, Bool, true, false, IsTrue}
+use Rattle.std.specs.Prelude.{◌≡◌, ◌++◌, ℕ, List, length, Bool, true, false, IsTrue}
 use Rattle.base_types.specs.declared.calls.GrainId.{GrainId}
 use Rattle.base_types.specs.declared.shapes.Shape.{Shape}
 use Rattle.base_types.specs.declared.stores.Version.{Version}
 use Rattle.host_trait.specs.declared.channels.Channel.{Channel}
 use Rattle.host_trait.specs.declared.channels.Channel.TheVariants.{File}
 use Rattle.host_trait.specs.declared.channels.FileId.TheVariants.{Grain}
-use Rattle.host_trait.specs.Disk.{Tears, settled, overlaid}
+use Rattle.host_trait.specs.Disk.{Tears}
 use Rattle.host_trait.specs.Faults.{NoneFailed, FailedOn}
 use Rattle.host_trait.specs.World.{World, Passes}
 use Rattle.host_trait.specs.Runs.{RunsOnFile}
-use Rattle.grain_log.specs.Places.{spelling_of_versions}
+use Rattle.grain_log.specs.Places.{spelling_of_versions, WroteVersions}
 use Rattle.promise_spec.specs.Entries.{Log}
 use Rattle.batch_disk.specs.ImagesAtRest.{NotAmong, AreOfType, voted_from}
 use Rattle.batch_disk.specs.Moments.{KeepsLog}
@@ -28,11 +28,6 @@ abbrev pub KeepsVotes : Bool → ℕ → GrainId → List Version → BatchWrite
 KeepsVotes true n g versions before after = voted_of n after ≡ voted_of n before ++ voted_from g (file_end before g) versions
 KeepsVotes false n g versions before after = voted_of n after ≡ voted_of n before
 
--- With a vote of yes the versions are on disk, by one sync.
-pub record IsOnDisk (live : ℕ) (g : GrainId) (at : ℕ) (versions : List Version) (old new : World) : Type 0 where
-  pub file : new.disk (Grain live g) ≡ settled (overlaid (old.disk (Grain live g)).seen at (spelling_of_versions versions))
-  pub once : new.syncs ≡ old.syncs + 1
-
 -- What the images keep while a grain's versions are written, and after it: the log that they had, and the places.
 pub record KeepsImages (live n : ℕ) (g : GrainId) (versions : List Version) (before after : BatchWriter) (old new : World) : Type 0 where
   pub still : (shape : Shape) (head : List ℕ) (log : Log) (bodies : List (List ℕ)) → NotAmong g (voted_of n before)
@@ -46,7 +41,7 @@ module _ {H : Type 0} (tells : Bool) (world : H → World) (faults : H → Chann
   pub record VotesOn (live n : ℕ) (g : GrainId) (said : Bool) (versions : List Version) (before after : BatchWriter) (old new : H) : Type 0 where
     pub cause : HasVoteCause live g said (faults old) (faults new)
     pub run : IsTrue tells → RunsOnFile (Grain live g) (Tears (file_end before g) (length (spelling_of_versions versions))) 1 (world old) (world new)
-    pub there : IsTrue tells → said ≡ true → IsOnDisk live g (file_end before g) versions (world old) (world new)
+    pub there : IsTrue tells → said ≡ true → WroteVersions (Grain live g) (file_end before g) versions (world old) (world new)
     pub kept : KeepsVotes said n g versions before after
     pub batch : after.batch ≡ n
     pub same : HasSameEnds before after

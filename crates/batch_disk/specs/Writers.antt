@@ -1,10 +1,10 @@
 -- What a writer of batches stands for.
-use Rattle.std.specs.Prelude.{◌≡◌, ℕ, ◌==◌, ◌<◌, ◌≤◌, ◌^◌, if◌then◌else◌, true, false, List, [], length, map, unwrap_or}
+use Rattle.std.specs.Prelude.{◌≡◌, ℕ, ◌==◌, ◌<◌, ◌≤◌, ◌^◌, if◌then◌else◌, Bool, true, false, IsTrue, List, [], length, map, unwrap_or}
 use Rattle.std.specs.List.{AllByRecursion}
 use Rattle.base_types.specs.Stores.{end_in, has_room}
 use Rattle.base_types.specs.declared.calls.GrainId.{GrainId}
 use Rattle.base_types.specs.declared.shapes.Shape.{Shape}
-use Rattle.host_trait.specs.World.{Disk}
+use Rattle.host_trait.specs.World.{World, Disk}
 use Rattle.gate_block.specs.Gates.{IsClosedAt}
 use Rattle.host_trait.specs.declared.channels.FileId.TheVariants.{Manager, Grain}
 use Rattle.promise_spec.specs.Entries.{Log}
@@ -49,6 +49,11 @@ pub record FitsSlot (live : ℕ) (writer : BatchWriter) (disk : Disk) : Type 0 w
 -- so do the files of the writer's own slot
 abbrev pub FitsDisk : BatchWriter → Disk → Type 0
 FitsDisk writer disk = FitsSlot writer.slot writer disk
+
+-- The writer can go on: it is within its bounds, and over a host that tells it fits the disk.
+pub record IsSafe (tells : Bool) (writer : BatchWriter) (now : World) : Type 0 where
+  pub bounds : IsInBounds writer
+  pub fits : IsTrue tells → FitsDisk writer now.disk
 
 -- What the writer keeps of the folder, where this slot is live: its gate and its ends are those of this log, whose blocks have these
 -- bodies, in each image, where what the votes wrote stands.

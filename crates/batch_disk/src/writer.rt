@@ -4,7 +4,7 @@ ghost use Rattle.base_types.specs.Stores.{end_in, has_room, KeepsRoom};
 ghost use Rattle.base_types.specs.declared.calls.GrainId.{GrainId as AGrain};
 ghost use Rattle.host_trait.specs.Files.{StaysReady};
 ghost use Rattle.batch_disk.specs.ImagesAtRest.{write_end, raised_ends, voted_at};
-ghost use Rattle.batch_disk.specs.Writers.{file_end, voted_by, kept_of, voted_of, IsInBounds, FitsDisk, HasSameEnds};
+ghost use Rattle.batch_disk.specs.Writers.{file_end, voted_by, kept_of, voted_of, IsInBounds, IsSafe, HasSameEnds};
 ghost use Rattle.batch_disk.specs.Records.{AreRecordsFor, IsSealable};
 ghost use Rattle.batch_disk.specs.VoteAnswers.{VotesOn, LacksRoom};
 ghost use Rattle.batch_disk.specs.Seals.{SealsWork};
@@ -172,8 +172,7 @@ impl BatchWriter {
         grain: GrainId,
         versions: &List<Version>,
     ) -> Result<bool, AllocError>
-        requires bounds { IsInBounds self.old }
-        requires fits { IsTrue H.tells → FitsDisk self.old (H.world host.old).disk }
+        requires safe { IsSafe H.tells self.old (H.world host.old) }
 
         // The vote, and what it leaves of the host, of the disk and of what is kept.
         ensures voted { IfOk result (λ yes. VotesOn H.tells H.world H.faults self.old.slot batch grain yes versions.now self.old self.new
@@ -183,8 +182,7 @@ impl BatchWriter {
         ensures lacked { OnErr result (LacksRoom H.tells H.world H.faults self.old.slot batch grain versions.now self.old self.new
             host.old host.new) }
 
-        ensures bounds { IsInBounds self.new }
-        ensures fits { IsTrue H.tells → FitsDisk self.new (H.world host.new).disk }
+        ensures safe { IsSafe H.tells self.new (H.world host.new) }
         ensures ready { StaysReady (H.is_ready host.old) (H.is_ready host.new) }
     {
         let alloc = *self.kept.allocator();
@@ -262,16 +260,14 @@ impl BatchWriter {
     /// Sealed, the next gate and the ends move on. In each case the places of the votes are forgotten, unless the batch is in
     /// doubt: then nothing may be sealed any more.
     pub fn seal<H: Host>(&mut self, host: &mut H, work: SealWork) -> Sealing
-        requires bounds { IsInBounds self.old }
-        requires fits { IsTrue H.tells → FitsDisk self.old (H.world host.old).disk }
+        requires safe { IsSafe H.tells self.old (H.world host.old) }
         requires sure { self.old.in_doubt ≡ false }
         requires work { IsSealable self.old work }
 
         // What it leaves of the host, of the disk and of the writer, by the answer.
         ensures seals { SealsWork H.tells H.world H.faults self.old.slot work result self.old self.new host.old host.new }
 
-        ensures bounds { IsInBounds self.new }
-        ensures fits { IsTrue H.tells → FitsDisk self.new (H.world host.new).disk }
+        ensures safe { IsSafe H.tells self.new (H.world host.new) }
         ensures ready { StaysReady (H.is_ready host.old) (H.is_ready host.new) }
     {
         match seal(host, self.slot, self.gate_at, work.block.as_slice()) {

@@ -22,7 +22,7 @@ use Rattle.commit_log.specs.declared.records.Named.{Named}
 use Rattle.commit_log.specs.Orders.{IsAscending}
 use Rattle.log_reading.specs.Steps.{seen_in}
 use Rattle.log_reading.specs.Versions.{version_named}
-use Rattle.log_reading.proofs.Orders.{Before, to_before, irref, chain}
+use Rattle.base_types.proofs.GrainOrder.{Before, to_before, irref, chain}
 use Rattle.checkpoint.specs.Steps.{IsInCopying, OnlyCopies}
 use Rattle.checkpoint.specs.Copies.{StandsFirst, IsCopied}
 

@@ -75,6 +75,13 @@ EachClosed gate file disk = (c : List ℕ) → MayLeave (disk file) c → IsClos
 abbrev pub EachOpen : ℕ → FileId → Disk → Type 0
 EachOpen gate file disk = (c : List ℕ) → MayLeave (disk file) c → IsTrue (is_open_at gate c)
 
+-- The gate's byte was written, by one sync: the file is as it was but for that byte, nothing is pending, and the gate is open in each
+-- image.
+pub record IsOpened (gate : ℕ) (file : FileId) (old new : World) : Type 0 where
+  pub there : new.disk file ≡ settled (overlaid (old.disk file).seen gate (1 ∷ []))
+  pub each : EachOpen gate file new.disk
+  pub once : new.syncs ≡ old.syncs + 1
+
 -- each image of this file has this log, which ends at this gate
 abbrev pub EachLogs : List (List ℕ) → ℕ → FileId → Disk → Type 0
 EachLogs bodies gate file disk = (c : List ℕ) → MayLeave (disk file) c → LogsUpTo bodies gate c

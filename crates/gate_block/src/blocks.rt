@@ -8,7 +8,7 @@ ghost use Rattle.host_trait.specs.declared.channels.Channel.TheVariants.{File};
 ghost use Rattle.gate_block.specs.Gates.{IsClosedAt, is_open_at};
 ghost use Rattle.gate_block.specs.Blocks.{found_at, bad, block_at, IsFoundAt};
 ghost use Rattle.gate_block.specs.Counts.{BlockFaulted};
-ghost use Rattle.gate_block.specs.Log.{EachClosed, EachOpen, EachLogs, StaysTrue, MayLogMore, LogsMore, IsLeftOrLogsMore};
+ghost use Rattle.gate_block.specs.Log.{EachClosed, EachLogs, IsOpened, StaysTrue, MayLogMore, LogsMore, IsLeftOrLogsMore};
 ghost use Rattle.gate_block.specs.declared.faults.BlockFault.{BlockFault};
 
 use crate::faults::BlockFault;
@@ -65,12 +65,8 @@ pub fn open_gate<H: Host>(host: &mut H, file: FileId, gate_at: u64) -> Result<()
     ensures run { IsTrue H.tells
         → RunsOnFile file (Tears gate_at 1) 1 (H.world host.old) (H.world host.new) }
 
-    // Once it is done the gate is open in every image.
-    ensures ok { OnOk result (IsTrue H.tells
-        → (H.world host.new).disk file ≡ settled (overlaid ((H.world host.old).disk file).seen gate_at (1 ∷ []))) }
-    ensures opened { OnOk result (IsTrue H.tells → EachOpen gate_at file (H.world host.new).disk) }
-    ensures count { OnOk result (IsTrue H.tells
-        → (H.world host.new).syncs ≡ (H.world host.old).syncs + 1) }
+    // Once it is done the gate is open in every image, by one sync.
+    ensures opened { OnOk result (IsTrue H.tells → IsOpened gate_at file (H.world host.old) (H.world host.new)) }
     ensures bound { OnOk result (gate_at + 1 < 2 ^ 63) }
 
     // Behind a closed gate that ends a log, where a block lasts: at each moment each image has this log, or it with the block's

@@ -18,7 +18,7 @@ use Rattle.field_codec.proofs.Counts.{reads64, field_limit_small}
 use Rattle.field_codec.proofs.Things.{ValuesFitExactly, exactly_reads}
 use Rattle.field_codec.proofs.Wholes.{whole_within, whole_takes, whole_again}
 use Rattle.grain_log.specs.declared.faults.VersionFault.{VersionFault}
-use Rattle.grain_log.specs.Reads.{version_in, version_of, in_file, damage_at, is_beyond, text_in, version_at_place, GivesVersion}
+use Rattle.grain_log.specs.Reads.{version_in, version_of, in_file, damage_at, is_beyond, text_in, version_at_place, GivesVersion, IsReadAt}
 use Rattle.grain_log.specs.Places.{IsVersionOf, IsVersionAt}
 use Rattle.field_codec.proofs.Lengths.{version_short}
 
@@ -94,3 +94,17 @@ only_at format o place file result gives fields v some low is =
     let read : version_of format fields text ≡ Ok v = whole_again spelling_of_version (FitsWith format fields) (version_in format fields) (version_reads format fields 0) text v (is.version_is.fits, is.version_is.count) is.here in
     let there : version_at_place format o place file ≡ Ok v = rw (some, near, small, within, read) refl in
     subst (λ (r : Result Version ℕ). GivesVersion result r) there gives
+
+-- what is answered of a place, where what was read of it are bytes
+pub read_at : (T : Type 0) (format : Format) (o : Option ℕ) (place : Place) (file : List ℕ) (result : Result Version VersionFault) → T → (T → GivesVersion result (version_at_place format o place file)) → IfOk result (λ v. T → AreBytes (cut place file))
+    → IsReadAt format o place file result
+read_at T format o place file (Ok v) told gives are = record {
+  found = found_when T format o place file (Ok v) gives are told;
+  only = only_at format o place file (Ok v) (gives told);
+  exact = gives told;
+}
+read_at T format o place file (Err fault) told gives are = record {
+  found = tt;
+  only = only_at format o place file (Err fault) (gives told);
+  exact = gives told;
+}

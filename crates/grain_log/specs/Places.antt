@@ -3,7 +3,9 @@ use Rattle.std.specs.Prelude.{◌≡◌, ℕ, ◌+◌, List, [], ◌∷◌, leng
 use Rattle.std.specs.List.{flat_map}
 use Rattle.base_types.specs.declared.stores.Place.{Place}
 use Rattle.base_types.specs.declared.stores.Version.{Version}
-use Rattle.host_trait.specs.Disk.{FileState, MayLeave, overlaid, settled}
+use Rattle.host_trait.specs.declared.channels.FileId.{FileId}
+use Rattle.host_trait.specs.Disk.{MayLeave, overlaid, settled}
+use Rattle.host_trait.specs.World.{World}
 use Rattle.field_codec.specs.declared.formats.Format.{Format}
 use Rattle.field_codec.specs.Spelling.{Stands, spelling_of_version, VersionFits}
 
@@ -38,18 +40,10 @@ pub record IsVersionAt (format : Format) (fields : ℕ) (place : Place) (file : 
   pub version_is : IsVersionOf format fields place.len version
   pub here : take place.len (drop place.offset file) ≡ spelling_of_version version
 
--- these versions were written from this offset on, and nothing is pending
-abbrev pub HasVersions : ℕ → List Version → FileState → FileState → Type 0
-HasVersions at versions old new = new ≡ settled (overlaid old.seen at (spelling_of_versions versions))
-
--- each image of a file has them there
-abbrev pub VersionsLast : ℕ → List Version → FileState → Type 0
-VersionsLast at versions new = (image : List ℕ) → MayLeave new image → VersionsStand image at versions
-
--- each image of it keeps what stood before that offset
-abbrev pub KeepsFront : ℕ → FileState → FileState → Type 0
-KeepsFront at old new = (image : List ℕ) → MayLeave new image → take at image ≡ take at old.seen
-
--- there are so many fields, and this version stands at this place of the file
-abbrev pub StandsWith : Format → Option ℕ → Place → List ℕ → Version → Type 0
-StandsWith format fields place file version = (count : ℕ) × (fields ≡ Some count) × IsVersionAt format count place file version
+-- These versions were written from this offset of a file on, by one sync. Nothing is pending in it, and each of its images has them
+-- there, and keeps what stood before.
+pub record WroteVersions (file : FileId) (at : ℕ) (versions : List Version) (old new : World) : Type 0 where
+  pub there : new.disk file ≡ settled (overlaid (old.disk file).seen at (spelling_of_versions versions))
+  pub once : new.syncs ≡ old.syncs + 1
+  pub stand : (image : List ℕ) → MayLeave (new.disk file) image → VersionsStand image at versions
+  pub front : (image : List ℕ) → MayLeave (new.disk file) image → take at image ≡ take at (old.disk file).seen

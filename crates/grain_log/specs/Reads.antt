@@ -1,5 +1,5 @@
 -- What is read at a place of a grain's file: the version, or the offset at which the file is damaged.
-use Rattle.std.specs.Prelude.{◌≡◌, ℕ, ◌+◌, ◌-◌, ◌≤◌, List, length, take, drop, Bool, true, Option, Some, None, Result, Ok, Err, nat_lt, ◌||◌, if◌then◌else◌, slice_get, bytes_eq}
+use Rattle.std.specs.Prelude.{◌≡◌, ℕ, ◌+◌, ◌-◌, ◌^◌, ◌<◌, ◌≤◌, IfOk, List, length, take, drop, Bool, true, Option, Some, None, Result, Ok, Err, nat_lt, ◌||◌, if◌then◌else◌, slice_get, bytes_eq}
 use Rattle.std.specs.Int.{w64, to_le_bytes, from_le_bytes}
 use Rattle.base_types.specs.declared.calls.UnitNo.{UnitNo}
 use Rattle.base_types.specs.declared.shapes.Shape.{Shape}
@@ -16,6 +16,7 @@ use Rattle.field_codec.specs.Readers.{Reader, whole_text, whole, field, number_a
 use Rattle.field_codec.specs.Fields.{exactly_at}
 use Rattle.field_codec.specs.Results.{place_of}
 use Rattle.field_codec.specs.Units.{may_be_unit}
+use Rattle.grain_log.specs.Places.{IsVersionAt}
 use Rattle.grain_log.specs.declared.faults.VersionFault.{VersionFault}
 use Rattle.grain_log.specs.declared.faults.VersionFault.TheVariants.{Failed, Damaged, Memory}
 
@@ -100,6 +101,13 @@ GivesVersion (Ok version) found = found ≡ Ok version
 GivesVersion (Err (Damaged place)) found = found ≡ Err place
 GivesVersion (Err Failed) found = Unit {0}
 GivesVersion (Err Memory) found = Unit {0}
+
+-- What is answered of a place of a file: a version only where it stands there, with the type's fields, each that stands there below 2 to
+-- the 63, and else the first place that is damaged.
+pub record IsReadAt (format : Format) (fields : Option ℕ) (place : Place) (file : List ℕ) (result : Result Version VersionFault) : Type 0 where
+  pub found : IfOk result (λ version. (count : ℕ) × (fields ≡ Some count) × IsVersionAt format count place file version)
+  pub only : (count : ℕ) (version : Version) → fields ≡ Some count → place.offset < 2 ^ 63 → IsVersionAt format count place file version → GivesVersion result (Ok version)
+  pub exact : GivesVersion result (version_at_place format fields place file)
 
 -- there can be no version of the program there
 abbrev pub IsImpossible : Format → Option ℕ → Place → Type 0

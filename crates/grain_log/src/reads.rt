@@ -6,13 +6,12 @@ ghost use Rattle.host_trait.specs.Files.{HasSlot, StaysReady};
 ghost use Rattle.host_trait.specs.Runs.{OnlyAsked};
 ghost use Rattle.field_codec.specs.Results.{GivesRead, named_place, place_of};
 ghost use Rattle.grain_log.specs.Counts.{VersionReadFaulted};
-ghost use Rattle.grain_log.specs.Places.{IsVersionOf, IsVersionIn, IsVersionAt, StandsWith};
-ghost use Rattle.grain_log.specs.Reads.{fields_in, version_in, version_of, is_beyond, in_file, damage_at, version_at_place, version_by_owner, BeginsBy, IsTextAt, GivesVersion, IsImpossible};
+ghost use Rattle.grain_log.specs.Places.{IsVersionOf, IsVersionIn};
+ghost use Rattle.grain_log.specs.Reads.{fields_in, version_in, version_of, is_beyond, in_file, damage_at, version_at_place, version_by_owner, BeginsBy, IsTextAt, GivesVersion, IsReadAt, IsImpossible};
 ghost use Rattle.field_codec.specs.Readers.{AreBytes};
 ghost use Rattle.field_codec.specs.Units.{may_be_unit};
 ghost use Rattle.field_codec.specs.declared.units.Numbers.TheVariants.{Logged};
 ghost use Rattle.grain_log.specs.declared.faults.VersionFault.{VersionFault as Fault};
-ghost use Rattle.base_types.specs.declared.stores.Version.{Version as AVersion};
 
 use crate::faults::VersionFault;
 use base_types::{List, Place, Shape, State, UnitNo, Version};
@@ -282,14 +281,8 @@ pub fn read_version<H: Host>(
 ) -> Result<Version, VersionFault>
     requires { HasSlot file }
 
-    // It answers a version exactly where one of the grain's type stands at the place.
-    ensures found { IfOk result (λ version. IsTrue H.tells
-        → StandsWith format (fields_in shape.now file) place ((H.world host.old).disk file).seen version) }
-    ensures only { IsTrue H.tells → (fields : ℕ) (version : AVersion) → fields_in shape.now file ≡ Some fields → place.offset < 2 ^ 63
-        → IsVersionAt format fields place ((H.world host.old).disk file).seen version → GivesVersion result (Ok version) }
-
-    // Else the fault names the first place that is damaged.
-    ensures exact { IsTrue H.tells → GivesVersion result (version_at_place format (fields_in shape.now file) place ((H.world host.old).disk file).seen) }
+    // It answers a version exactly where one of the grain's type stands at the place, and else the first place that is damaged.
+    ensures read { IsTrue H.tells → IsReadAt format (fields_in shape.now file) place ((H.world host.old).disk file).seen result }
 
     // Where no version can stand there it is damaged at its offset, and the host is as before.
     ensures impossible { IsImpossible format (fields_in shape.now file) place → host.new ≡ host.old }

@@ -1,13 +1,13 @@
-ghost use Rattle.std.specs.Prelude.{◌≡◌, ◌+◌, ◌^◌, ◌<◌, ◌≤◌, ℕ, List, IsTrue, length, take, IfOk, IfErr, OnOk, IsErrOf};
+ghost use Rattle.std.specs.Prelude.{◌≡◌, ◌+◌, ◌^◌, ◌<◌, ◌≤◌, IsTrue, length, IfOk, IfErr, OnOk, IsErrOf};
 ghost use Rattle.std.specs.List.{AllByRecursion};
-ghost use Rattle.host_trait.specs.Disk.{MayLeave, Tears, overlaid, settled};
+ghost use Rattle.host_trait.specs.Disk.{Tears};
 ghost use Rattle.host_trait.specs.Faults.{NoneFailed};
 ghost use Rattle.host_trait.specs.Files.{HasSlot, StaysReady};
 ghost use Rattle.host_trait.specs.Runs.{RunsOnFile};
 ghost use Rattle.field_codec.specs.declared.formats.Format.TheVariants.{One};
 ghost use Rattle.field_codec.specs.Spelling.{VersionFits};
 ghost use Rattle.grain_log.specs.Counts.{WriteFaulted};
-ghost use Rattle.grain_log.specs.Places.{spelling_of_versions, places_from, HasVersions, VersionsLast, KeepsFront};
+ghost use Rattle.grain_log.specs.Places.{spelling_of_versions, places_from, WroteVersions};
 ghost use Rattle.grain_log.specs.declared.faults.LogFault.{LogFault};
 
 use crate::faults::LogFault;
@@ -57,12 +57,8 @@ pub fn write_versions<H: Host>(
         → RunsOnFile file (Tears at (length (spelling_of_versions versions.now))) 1 (H.world host.old) (H.world host.new) }
 
     // Once it is done the versions last, each at its place.
-    ensures ok { OnOk result (IsTrue H.tells → HasVersions at versions.now ((H.world host.old).disk file) ((H.world host.new).disk file)) }
-    ensures count { OnOk result (IsTrue H.tells
-        → (H.world host.new).syncs ≡ (H.world host.old).syncs + 1) }
+    ensures wrote { OnOk result (IsTrue H.tells → WroteVersions file at versions.now (H.world host.old) (H.world host.new)) }
     ensures places { IfOk result (λ places. places ≡ places_from at versions.now) }
-    ensures stand { OnOk result (IsTrue H.tells → VersionsLast at versions.now ((H.world host.new).disk file)) }
-    ensures before { OnOk result (IsTrue H.tells → KeepsFront at ((H.world host.old).disk file) ((H.world host.new).disk file)) }
     ensures fits { OnOk result (AllByRecursion (VersionFits One) versions.now) }
     ensures bound { OnOk result (at + length (spelling_of_versions versions.now) < 2 ^ 63) }
 

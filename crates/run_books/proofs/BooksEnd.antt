@@ -13,7 +13,7 @@ use Rattle.core_model.specs.declared.events.CoreEvent.TheVariants as event
 use Rattle.core_model.specs.Laws.{extended}
 use Rattle.core_model.specs.LegalRuns.{Run, ends}
 use Rattle.core_model.specs.SerialOrder.{chosen}
-use Rattle.core_model.specs.Settler.{Step, Votes, Decides, Seals as SealStep, Learns, Writes, Takes, Rests, MakesEvent, settler_step, to_commit}
+use Rattle.core_model.specs.Settler.{Step, Votes, Decides, Seals as SealStep, Learns, Writes, Loads, Takes, Rests, MakesEvent, settler_step, to_commit}
 use Rattle.promise_spec.proofs.Standings.{grown_twice}
 use Rattle.promise_spec.specs.Entries.{Log, grown}
 use Rattle.promise_spec.specs.Programs.{shape_in}
@@ -60,6 +60,7 @@ seals-step n (SealStep k) (inr (inl m)) = absurd (cc m)
 seals-step n (SealStep k) (inr (inr m)) = (let q : n ≡ k = cc in ap SealStep (sym q))
 seals-step n (Learns u g) m = absurd (cc m)
 seals-step n Writes m = absurd (cc m)
+seals-step n (Loads g) m = absurd (let q = m.2 in cc q)
 seals-step n Takes m = absurd (cc m)
 seals-step n Rests m = absurd m
 

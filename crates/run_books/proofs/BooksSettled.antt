@@ -19,7 +19,7 @@ use Rattle.core_model.specs.declared.events.CoreReply.{CoreReply}
 use Rattle.core_model.specs.Events.{applies, is_after_halt}
 use Rattle.core_model.specs.Laws.{extended}
 use Rattle.core_model.specs.LegalRuns.{Run, ends}
-use Rattle.core_model.specs.Settler.{versions_to_write, Step, Votes, Decides, Seals as SealStep, Learns, Writes, Takes, Rests, MakesEvent, settler_step}
+use Rattle.core_model.specs.Settler.{versions_to_write, Step, Votes, Decides, Seals as SealStep, Learns, Writes, Loads, Takes, Rests, IsLoadOf, MakesEvent, settler_step}
 use Rattle.core_laws.proofs.SettlerSteps.{step-applies}
 use Rattle.core_access.specs.OneHolder.{none_comes, own_sight}
 use Rattle.core_access.specs.Sights.{Sight, run_seen, Looks}
@@ -35,7 +35,7 @@ use Rattle.batch_disk.specs.Writers.{KeepsDisk}
 use Rattle.promise_spec.specs.UnitRule.{KeepsUnitRule}
 use Rattle.promise_spec.specs.Journals.{CutAt, entries_of}
 use Rattle.promise_spec.proofs.Doubts.{doubt_left}
-use Rattle.settle_loop.specs.ShownWork.{tells_entry, tells_doubt, has_applied, counted_up}
+use Rattle.settle_loop.specs.ShownWork.{LeavesUndone, tells_entry, tells_doubt, has_applied, counted_up}
 use Rattle.batch_disk.specs.VoteAnswers.{LacksRoom}
 use Rattle.settle_loop.specs.HostSteps.{WritesEntry, CutsEntry, DoesFor, MakesNoCall}
 use Rattle.settle_loop.specs.SettlerStep.{state_shown, has_unwritten, LooksOn, PutsNext, IsBrokenOff, LacksForVote, IsNotTaken, TurnsAs}
@@ -68,6 +68,7 @@ is_of_batch (Decides n) = true
 is_of_batch (SealStep n) = true
 is_of_batch (Learns u g) = false
 is_of_batch Writes = false
+is_of_batch (Loads g) = false
 is_of_batch Takes = false
 is_of_batch Rests = false
 
@@ -149,6 +150,7 @@ module _ {H : Type 0} (tells : Bool) (world : H → World) (faults : H → Chann
   done (SealStep n) e q (inr (inr m)) = subst Todo (sym m) (λ does c. by-doubt tells world faults o b r before after old new can even k n (made (SealStep n) (event.Doubt n) (q refl) (inr (inr refl))) does c)
   done (Learns u g) e q m = subst Todo (sym m) (λ does c. by-learn tells world faults o b r before after old new can even k u g does c)
   done Writes e q m = subst Todo (sym m) (λ does c. by-write before.quiet refl does c)
+  done (Loads g) e q m = subst Todo (sym m.2) (λ does c. absurd does)
   done Takes e q m = subst Todo (sym m) (λ does c. by-take tells world faults o b r before after old new can even k does c)
   done Rests e q m = absurd m
 
@@ -242,17 +244,18 @@ module _ {H : Type 0} (tells : Bool) (world : H → World) (faults : H → Chann
         g.1.rest,
       )
 
-  -- an event that the core didn't take made no host call
-  pub spared : (s : Step) (e : CoreEvent) → MakesEvent s e → has_room e ≡ false → e ≡ event.Take
-  spared (Votes n g) e m q = absurd (let z : true ≡ false = sym (ap has_room m.1) ∙ q in cc)
-  spared (Decides n) e m q = absurd (let z : true ≡ false = sym (ap has_room m) ∙ q in cc)
-  spared (SealStep n) e (inl m) q = absurd (let z : true ≡ false = sym (ap has_room m) ∙ q in cc)
-  spared (SealStep n) e (inr (inl m)) q = absurd (let z : true ≡ false = sym (ap has_room m) ∙ q in cc)
-  spared (SealStep n) e (inr (inr m)) q = absurd (let z : true ≡ false = sym (ap has_room m) ∙ q in cc)
-  spared (Learns u g) e m q = absurd (let z : true ≡ false = sym (ap has_room m) ∙ q in cc)
-  spared Writes e m q = absurd (let z : true ≡ false = sym (ap has_room m) ∙ q in cc)
-  spared Takes e m q = m
-  spared Rests e m q = absurd m
+  -- an event that the core didn't take, and that is no load, made no host call
+  pub spared : (s : Step) (e : CoreEvent) → MakesEvent s e → has_room e ≡ false → ((g : GrainId) → IsLoadOf g e → ⊥) → e ≡ event.Take
+  spared (Votes n g) e m q none = absurd (let z : true ≡ false = sym (ap has_room m.1) ∙ q in cc)
+  spared (Decides n) e m q none = absurd (let z : true ≡ false = sym (ap has_room m) ∙ q in cc)
+  spared (SealStep n) e (inl m) q none = absurd (let z : true ≡ false = sym (ap has_room m) ∙ q in cc)
+  spared (SealStep n) e (inr (inl m)) q none = absurd (let z : true ≡ false = sym (ap has_room m) ∙ q in cc)
+  spared (SealStep n) e (inr (inr m)) q none = absurd (let z : true ≡ false = sym (ap has_room m) ∙ q in cc)
+  spared (Learns u g) e m q none = absurd (let z : true ≡ false = sym (ap has_room m) ∙ q in cc)
+  spared Writes e m q none = absurd (let z : true ≡ false = sym (ap has_room m) ∙ q in cc)
+  spared (Loads g) e m q none = absurd (none g m)
+  spared Takes e m q none = m
+  spared Rests e m q none = absurd m
 
   and-not : (x y : Bool) → x ≡ true → (x && y) ≡ false → y ≡ false
   and-not true y p q = q
@@ -270,7 +273,8 @@ module _ {H : Type 0} (tells : Bool) (world : H → World) (faults : H → Chann
       let makes : MakesEvent (settler_step (ends r)) e = subst (λ (y : Run). MakesEvent (settler_step (ends y)) e) here x.acts.makes in
       let applied : applies (ends r) e ≡ true = step-applies r e makes ∙ open-still (ends r).units.halt (is_after_halt e) can.unstopped in
       let lacks : (applies (ends r) e && has_room e) ≡ false = ap (λ (y : Run). is_spared y e) (sym same ∙ sym (own-run r')) ∙ x.unspared in
-      let take : e ≡ event.Take = spared (settler_step (ends r)) e makes (and-not (applies (ends r) e) (has_room e) applied lacks) in
+      let take : e ≡ event.Take = spared (settler_step (ends r)) e makes (and-not (applies (ends r) e) (has_room e) applied lacks)
+      (λ g load. subst (λ (y : CoreEvent). DoesFor tells world faults before.writer.slot y before.quiet (shape_in o.program) (state_shown x.acts.seen) before.writer after.writer old new) load.2 x.acts.does) in
       let does : MakesNoCall tells world faults before.writer after.writer old new =
       subst (λ (y : CoreEvent). DoesFor tells world faults before.writer.slot y before.quiet (shape_in o.program) (state_shown x.acts.seen) before.writer after.writer old new) take x.acts.does in
       unchanged r' after new same (x.settler ∙ ap (λ w. record before { writer = w }) does.writer) does.host
@@ -425,7 +429,7 @@ module _ {H : Type 0} (tells : Bool) (world : H → World) (faults : H → Chann
   answered r' after new (Ok Nothing) units x =
       let same : r' ≡ r = same-run r r' (own_sight r) x.looked refl in
       let g = unchanged r' after new same x.settler x.host in
-      (g.0, (g.1, ap (λ (y : Run). settler_step (ends y)) (sym (own-run r')) ∙ x.rests))
+      (g.0, (g.1, subst (λ (y : Run). LeavesUndone (settler_step (ends y))) (own-run r') x.rests))
   answered r' after new (Ok (Stop InDoubt)) units x =
       let g = put-went r' after new x.e x.r x.mid units x.put (looks-alone x.mid (own_sight r') x.looked) in
       (g.0, in-doubt r' after new g x.doubts (ap (λ (y : Run). has_unwritten (ends y)) (sym (own-run r')) ∙ x.written))

@@ -18,7 +18,7 @@ use Rattle.core_model.specs.Events.{applies, can, is_allowed, is_after_halt}
 use Rattle.core_model.specs.Laws.{extended}
 use Rattle.core_model.specs.LegalRuns.{Run, ends}
 use Rattle.core_model.specs.Lines.{EntriesAreOnce}
-use Rattle.core_model.specs.Settler.{versions_to_write, Step, Votes, Decides, Seals as SealStep, Learns, Writes, Takes, Rests, MakesEvent, settler_step}
+use Rattle.core_model.specs.Settler.{versions_to_write, Step, Votes, Decides, Seals as SealStep, Learns, Writes, Loads, Takes, Rests, MakesEvent, settler_step}
 use Rattle.core_laws.proofs.LineEntries.{once-ends}
 use Rattle.core_laws.proofs.Replies.{reply-tells}
 use Rattle.core_laws.proofs.SettlerSteps.{step-applies}
@@ -131,6 +131,7 @@ module _ {H : Type 0} (tells : Bool) (world : H → World) (faults : H → Chann
   idle-event Writes e q m none =
       subst (λ (x : CoreEvent). is_spared r x ≡ false → Does x → IsIdleEvent x) (sym m)
       (λ lacks does. absurd (spares event.Emitted (entry-applies (ends r) does.entry does.next) refl lacks)) none
+  idle-event (Loads g) e q m none = subst (λ (x : CoreEvent). Does x → IsIdleEvent x) (sym m.2) (λ does. absurd does)
   idle-event Takes e q m none = subst (λ (x : CoreEvent). Does x → IsIdleEvent x) (sym m) (λ does. (does, record { no = λ h. refl; unsealed = refl; vote = refl; sealed = refl; vote_of = λ h. refl }))
   idle-event Rests e q m none = absurd m
 

@@ -21,7 +21,7 @@ use Rattle.core_model.specs.LegalRuns.{Run}
 use Rattle.core_model.specs.Settler.{to_commit, versions_to_write}
 use Rattle.core_model.specs.declared.effects.Effect.{Effect}
 use Rattle.core_model.specs.declared.events.CoreEvent.{CoreEvent}
-use Rattle.core_model.specs.declared.events.CoreEvent.TheVariants.{Vote, Sealed, NotSealed, Doubt, Emitted}
+use Rattle.core_model.specs.declared.events.CoreEvent.TheVariants.{Vote, Sealed, NotSealed, Doubt, Emitted, Load}
 use Rattle.core_access.specs.Sights.{Sight}
 use Rattle.batch_disk.specs.declared.writer.BatchWriter.{BatchWriter}
 use Rattle.batch_disk.specs.VoteAnswers.{HasVoteCause, VotesOn}
@@ -160,6 +160,7 @@ module _ {H : Type 0} (hush tells : Bool) (world : H → World) (faults : H → 
   does-leave live (Doubt n) quiet is shape w before after (inl d) = seals-leave live n (Doubt n) (to_commit w w.manager.batch) before after d
   does-leave live (Doubt n) quiet is shape w before after (inr d) = leaves-none d.none.host
   does-leave live Emitted quiet is shape w before after d = writes-leave quiet is shape w before after d
+  does-leave live (Load g u state) quiet is shape w before after d = absurd d
   does-leave live _ quiet is shape w before after d = leaves-none d.host
 
 -- ---- a step

@@ -13,10 +13,11 @@ use Rattle.core_model.specs.declared.events.CoreEvent.{CoreEvent}
 use Rattle.core_model.specs.declared.events.CoreEvent.TheVariants as event
 use Rattle.core_model.specs.Events.{applies}
 use Rattle.core_model.specs.LearnQueue.{next_learn}
+use Rattle.core_model.specs.WantedGrains.{next_wanted}
 use Rattle.core_model.specs.Laws.{extended}
 use Rattle.core_model.specs.LegalRuns.{Run, ends}
 use Rattle.core_model.specs.Replies.{OnlyExtends}
-use Rattle.core_model.specs.Settler.{Writes, Takes, Rests, settler_step, batch_step, later_step, last_step, learn_step, to_commit, versions_to_write}
+use Rattle.core_model.specs.Settler.{Writes, Takes, Rests, settler_step, batch_step, later_step, load_step, last_step, learn_step, to_commit, versions_to_write}
 use Rattle.core_laws.proofs.Replies.{extends-ends}
 use Rattle.core_access.specs.Histories.{Told, run_after}
 use Rattle.core_access.specs.SettlerEvents.{is_settling, leaves_settling, LeavesBatches}
@@ -78,20 +79,31 @@ stays-all s (x ∷ rest) r above keeps all =
 
 -- ---- the step
 
-last-none : (a c : Bool) → is_of_batch (if a then Writes else (if c then Takes else Rests)) ≡ false
-last-none true c = refl
-last-none false true = refl
-last-none false false = refl
+load-none : (w : CoreState) (x : Option GrainId) → is_of_batch (load_step w x) ≡ false
+load-none w None = by (applies w event.Take)
+  where
+    by : (takes : Bool) → is_of_batch (if takes then Takes else Rests) ≡ false
+    by true = refl
+    by false = refl
+load-none w (Some g) = refl
+
+last-none : (w : CoreState) (may : Bool) → is_of_batch (last_step w may) ≡ false
+last-none w may = by (nat_lt w.manager.emitted (length w.manager.settled)) (may && not w.units.halt)
+  where
+    by : (a c : Bool) → is_of_batch (if a then Writes else (if c then load_step w (next_wanted w) else Rests)) ≡ false
+    by true c = refl
+    by false true = load-none w (next_wanted w)
+    by false false = refl
 
 learn-none : (w : CoreState) (x : Option (UnitNo × GrainId)) → is_of_batch (learn_step w x) ≡ false
-learn-none w None = last-none (nat_lt w.manager.emitted (length w.manager.settled)) _
+learn-none w None = last-none w true
 learn-none w (Some x) = refl
 
 later-none : (w : CoreState) → is_of_batch (later_step w) ≡ false
 later-none w = by (is_some w.manager.doubt)
   where
     by : (b : Bool) → is_of_batch (if b then last_step w false else learn_step w (next_learn w)) ≡ false
-    by true = last-none (nat_lt w.manager.emitted (length w.manager.settled)) (false && applies w event.Take)
+    by true = last-none w false
     by false = learn-none w (next_learn w)
 
 -- a step of the open batch stays the step
@@ -132,4 +144,4 @@ module _ {H : Type 0} (tells : Bool) (world : H → World) (faults : H → Chann
   does-on (event.Release u g) d = d
   does-on event.Halt d = d
   does-on (event.Want u g) d = d
-  does-on (event.Load g u state) d = d
+  does-on (event.Load g u state) d = absurd d

@@ -6,11 +6,12 @@ use Rattle.host_trait.specs.declared.channels.Channel.TheVariants.{Output}
 use Rattle.host_trait.specs.Faults.{Rose}
 use Rattle.core_model.specs.CoreState.{CoreState}
 use Rattle.core_model.specs.LegalRuns.{Run, ends}
-use Rattle.core_model.specs.Settler.{settler_step, Rests}
+use Rattle.core_model.specs.Settler.{settler_step}
 use Rattle.script_check.specs.AcceptedPrograms.{IsAcceptedProgram}
 use Rattle.promise_spec.specs.Programs.{shape_in}
 use Rattle.promise_spec.specs.UnitRule.{KeepsUnitRule}
 use Rattle.promise_spec.specs.Journals.{entries_of}
+use Rattle.settle_loop.specs.ShownWork.{LeavesUndone}
 use Rattle.settle_loop.specs.declared.settler.Turned.{Turned}
 use Rattle.settle_loop.specs.declared.settler.Turned.TheVariants.{Stepped, Nothing, Stop}
 use Rattle.settle_loop.specs.declared.settler.StopCause.TheVariants.{InDoubt, WriteFault}
@@ -47,7 +48,7 @@ pub record CanSettle (o : Outset) (shape : Shape) (r : Run) : Type 0 where
 -- what the answer of a step says of the run
 abbrev pub SaysOfStep : Outset → Books → Stage → {E : Type 0} → Result Turned E → Type 0
 SaysOfStep o b s (Ok Stepped) = AreEven s.settler.quiet b (ends s.run)
-SaysOfStep o b s (Ok Nothing) = AreEven s.settler.quiet b (ends s.run) × (settler_step (ends s.run) ≡ Rests)
+SaysOfStep o b s (Ok Nothing) = AreEven s.settler.quiet b (ends s.run) × LeavesUndone (settler_step (ends s.run))
 SaysOfStep o b s (Ok (Stop InDoubt)) = HasDoubted o s.run s.faults × (b.rest ≡ [])
 SaysOfStep o b s (Ok (Stop WriteFault)) = Rose (o.faults Output) (s.faults Output)
 SaysOfStep o b s (Err lack) = b.rest ≡ []

@@ -1,10 +1,9 @@
 -- Where a run stands: what a call finds, and what it leaves.
-use Rattle.std.specs.Prelude.{ℕ, Bool, IsTrue}
+use Rattle.std.specs.Prelude.{ℕ}
 use Rattle.host_trait.specs.declared.channels.Channel.{Channel}
 use Rattle.host_trait.specs.World.{World}
 use Rattle.core_model.specs.LegalRuns.{Run}
-use Rattle.batch_disk.specs.Writers.{IsInBounds, FitsDisk}
-use Rattle.batch_disk.specs.declared.writer.BatchWriter.{BatchWriter}
+pub use Rattle.batch_disk.specs.Writers.{IsSafe}
 use Rattle.settle_loop.specs.declared.settler.Settler.{Settler}
 
 -- what stands beside the core: the settler, the host's counts of faults, and the host's world
@@ -39,8 +38,3 @@ side_of world faults settler host = record { settler = settler; faults = faults 
 -- the stage of a run, where a host shows this world and these counts
 abbrev pub stage_of : {H : Type 0} → (H → World) → (H → Channel → ℕ) → Run → Settler → H → Stage
 stage_of world faults r settler host = record { run = r; settler = settler; faults = faults host; world = world host }
-
--- The settler's writer can go on: it is within its bounds, and over a host that tells it fits the disk.
-pub record IsSafe (tells : Bool) (writer : BatchWriter) (now : World) : Type 0 where
-  pub bounds : IsInBounds writer
-  pub fits : IsTrue tells → FitsDisk writer now.disk

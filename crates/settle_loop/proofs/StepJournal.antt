@@ -13,7 +13,7 @@ use Rattle.core_model.specs.CoreState.{CoreState}
 use Rattle.core_model.specs.declared.effects.Effect.{Effect}
 use Rattle.core_model.specs.declared.events.CoreEvent.{CoreEvent}
 use Rattle.core_model.specs.declared.events.CoreEvent.TheVariants as event
-use Rattle.core_model.specs.Settler.{Step, Votes, Decides, Seals as SealStep, Learns, Writes, Takes, Rests, MakesEvent, settler_step, versions_to_write, to_commit}
+use Rattle.core_model.specs.Settler.{Step, Votes, Decides, Seals as SealStep, Learns, Writes, Loads, Takes, Rests, MakesEvent, settler_step, versions_to_write, to_commit}
 use Rattle.promise_spec.specs.Programs.{Program, shape_in}
 use Rattle.promise_spec.specs.Records.{Commit}
 use Rattle.promise_spec.specs.Entries.{Log, grown}
@@ -175,6 +175,9 @@ module _ {H : Type 0} (tells : Bool) (told : tells ≡ true) (world : H → Worl
   journals quiet Writes e is m does =
       subst (Journal quiet)
       (sym m) (λ x. by_write quiet x) does
+  journals quiet (Loads g) e is m does =
+      subst (Journal quiet)
+      (sym m.2) (λ none. absurd none) does
   journals quiet Takes e is m does =
       subst (Journal quiet)
       (sym m) (λ none. by_none none) does

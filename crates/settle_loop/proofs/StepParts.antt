@@ -8,11 +8,11 @@ use Rattle.core_model.specs.declared.events.CoreEvent.{CoreEvent}
 use Rattle.core_model.specs.declared.events.CoreReply.{CoreReply}
 use Rattle.core_access.specs.Sights.{Sight, Looks}
 use Rattle.batch_disk.specs.declared.writer.BatchWriter.{BatchWriter}
-use Rattle.settle_loop.specs.ShownWork.{has_applied, counted_up}
+use Rattle.settle_loop.specs.ShownWork.{LeavesUndone, has_applied, counted_up}
 use Rattle.settle_loop.specs.HostSteps.{CutsEntry, DoesFor}
 use Rattle.settle_loop.specs.SettlerStep.{state_shown, written_after, doubted_after, ActsNext, PutsNext, IsLacking, LacksForVote, IsNotTaken, IsUnseen, TurnsAs}
 use Rattle.core_model.specs.CoreState.{CoreState}
-use Rattle.core_model.specs.Settler.{settler_step, Rests, Writes}
+use Rattle.core_model.specs.Settler.{settler_step, Writes}
 use Rattle.settle_loop.specs.declared.cases.Made.{Made}
 use Rattle.settle_loop.specs.declared.cases.Made.TheVariants.{Event, Idle, Cut}
 use Rattle.settle_loop.specs.StepParts.{with_writer, counting, IsToTell, MadeAs, IsTold, IsUnput, ToldAs}
@@ -71,7 +71,7 @@ module _ {H : Type 0} (tells : Bool) (world : H → World) (faults : H → Chann
   pub acted_event : (e : CoreEvent) (writes doubts : Bool) → m ≡ Event e writes doubts → IsToTell tells world faults shape w before mid old new e writes doubts
   acted_event e writes doubts is = subst (λ (x : Result Made E). MadeAs tells world faults shape w before mid old new x) (ok ∙ ap (λ (x : Made). Ok x) is) made
 
-  pub acted_idle : m ≡ Idle → (settler_step w ≡ Rests) × ((new ≡ old) × (mid ≡ before))
+  pub acted_idle : m ≡ Idle → LeavesUndone (settler_step w) × ((new ≡ old) × (mid ≡ before))
   acted_idle is = subst (λ (x : Result Made E). MadeAs tells world faults shape w before mid old new x) (ok ∙ ap (λ (x : Made). Ok x) is) made
 
   pub acted_cut : m ≡ Cut → (settler_step w ≡ Writes) × (CutsEntry tells world faults before.quiet shape w before.writer mid.writer old new × (mid ≡ before))

@@ -13,7 +13,7 @@ use Rattle.request_wire.specs.Reply.{reply_line}
 use Rattle.core_model.specs.CoreState.{CoreState}
 use Rattle.core_model.specs.declared.effects.Effect.{Effect}
 use Rattle.core_model.specs.declared.events.CoreEvent.{CoreEvent}
-use Rattle.core_model.specs.declared.events.CoreEvent.TheVariants.{Vote, Sealed, NotSealed, Doubt, Emitted}
+use Rattle.core_model.specs.declared.events.CoreEvent.TheVariants.{Vote, Sealed, NotSealed, Doubt, Emitted, Load}
 use Rattle.core_model.specs.Settler.{versions_to_write, to_commit}
 use Rattle.promise_spec.specs.Records.{Commit}
 use Rattle.batch_disk.specs.Writers.{voted_of}
@@ -69,13 +69,15 @@ module _ {H : Type 0} (tells : Bool) (world : H → World) (faults : H → Chann
     pub fault : FailedOn Output (faults old) (faults new)
     pub writer : after ≡ before
 
-  -- What was done to the host where the step makes this event: the host calls that belong to it, and no others.
+  -- What was done to the host where the step makes this event: the host calls that belong to it, and no others. No step brings a
+  -- grain into memory.
   abbrev pub DoesFor : ℕ → CoreEvent → Bool → Shape → CoreState → BatchWriter → BatchWriter → H → H → Type 0
   DoesFor live (Vote n g said) quiet shape w before after old new = VotesOn tells world faults live n g said (versions_to_write w w.manager.batch g) before after old new
   DoesFor live (Sealed n) quiet shape w before after old new = SealsUnits live n (Sealed n) (to_commit w w.manager.batch) before after old new
   DoesFor live (NotSealed n) quiet shape w before after old new = SealsUnits live n (NotSealed n) (to_commit w w.manager.batch) before after old new
   DoesFor live (Doubt n) quiet shape w before after old new = SealsUnits live n (Doubt n) (to_commit w w.manager.batch) before after old new ⊎ DoubtsAgain before after old new
   DoesFor live Emitted quiet shape w before after old new = WritesEntry quiet shape w before after old new
+  DoesFor live (Load g u state) quiet shape w before after old new = ⊥
   DoesFor live _ quiet shape w before after old new = MakesNoCall before after old new
 
   -- the batch that was to be sealed, as its records were made: none by any other event

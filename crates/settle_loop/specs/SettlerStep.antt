@@ -8,10 +8,10 @@ use Rattle.core_model.specs.CoreState.{CoreState}
 use Rattle.core_model.specs.LegalRuns.{ends}
 use Rattle.core_model.specs.declared.events.CoreEvent.{CoreEvent}
 use Rattle.core_model.specs.declared.events.CoreReply.{CoreReply}
-use Rattle.core_model.specs.Settler.{settler_step, MakesEvent, Votes, Writes, Rests, versions_to_write}
+use Rattle.core_model.specs.Settler.{settler_step, MakesEvent, Votes, Writes, versions_to_write}
 use Rattle.core_access.specs.Sights.{Sight, run_seen, Looks, Tells}
 use Rattle.core_access.specs.CallsWithoutMemory.{is_spared}
-use Rattle.settle_loop.specs.ShownWork.{tells_entry, tells_doubt, has_applied, counted_up}
+use Rattle.settle_loop.specs.ShownWork.{LeavesUndone, tells_entry, tells_doubt, has_applied, counted_up}
 use Rattle.batch_disk.specs.VoteAnswers.{LacksRoom}
 use Rattle.settle_loop.specs.HostSteps.{CutsEntry, DoesFor}
 use Rattle.settle_loop.specs.declared.settler.Settler.{Settler}
@@ -58,10 +58,10 @@ module _ {H : Type 0} (tells : Bool) (world : H → World) (faults : H → Chann
       doubted = doubted_after e r before.doubted;
     }
 
-  -- It looked, no case applied, and it did nothing.
+  -- It looked, no case applied but that it leaves undone, and it did nothing.
   pub record IsIdle (before after : Settler) (s t : Sight) (old new : H) : Type 0 where
     pub looked : Looks may_come s t
-    pub rests : settler_step (state_shown t) ≡ Rests
+    pub rests : LeavesUndone (settler_step (state_shown t))
     pub host : new ≡ old
     pub settler : after ≡ before
 

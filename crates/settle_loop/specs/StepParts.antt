@@ -7,10 +7,10 @@ use Rattle.host_trait.specs.World.{World}
 use Rattle.core_model.specs.CoreState.{CoreState}
 use Rattle.core_model.specs.declared.events.CoreEvent.{CoreEvent}
 use Rattle.core_model.specs.declared.events.CoreReply.{CoreReply}
-use Rattle.core_model.specs.Settler.{settler_step, MakesEvent, Votes, Writes, Rests, versions_to_write}
+use Rattle.core_model.specs.Settler.{settler_step, MakesEvent, Votes, Writes, versions_to_write}
 use Rattle.core_access.specs.Sights.{Sight, run_seen, Looks, Tells}
 use Rattle.core_access.specs.CallsWithoutMemory.{is_spared}
-use Rattle.settle_loop.specs.ShownWork.{tells_entry, tells_doubt, has_applied, counted_up}
+use Rattle.settle_loop.specs.ShownWork.{LeavesUndone, tells_entry, tells_doubt, has_applied, counted_up}
 use Rattle.batch_disk.specs.VoteAnswers.{LacksRoom}
 use Rattle.settle_loop.specs.HostSteps.{CutsEntry, DoesFor}
 use Rattle.settle_loop.specs.SettlerStep.{state_shown, has_unwritten, LooksOn}
@@ -52,7 +52,7 @@ module _ {H : Type 0} (tells : Bool) (world : H → World) (faults : H → Chann
   -- what is made of the host's answers
   abbrev pub MadeAs : {E : Type 0} → Result Made E → Type 0
   MadeAs (Ok (Event e writes doubts)) = IsToTell e writes doubts
-  MadeAs (Ok Idle) = (settler_step w ≡ Rests) × ((new ≡ old) × (after ≡ before))
+  MadeAs (Ok Idle) = LeavesUndone (settler_step w) × ((new ≡ old) × (after ≡ before))
   MadeAs (Ok Cut) = (settler_step w ≡ Writes) × (CutsEntry tells world faults before.quiet shape w before.writer after.writer old new × (after ≡ before))
   MadeAs (Err lack) = ((new ≡ old) × (after ≡ before)) ⊎ LacksVersions
 

@@ -4,7 +4,7 @@ ghost use Rattle.host_trait.specs.Files.{StaysReady};
 ghost use Rattle.core_model.specs.CoreState.{CoreState};
 ghost use Rattle.core_model.specs.Settler.{settler_step};
 ghost use Rattle.core_model.specs.declared.questions.SettlerWork.TheVariants as shown;
-ghost use Rattle.batch_disk.specs.Writers.{IsInBounds, FitsDisk};
+ghost use Rattle.batch_disk.specs.Writers.{IsSafe};
 ghost use Rattle.settle_loop.specs.ShownWork.{ShowsWork};
 ghost use Rattle.settler_rules.specs.Entries.{IsSaidInRange};
 ghost use Rattle.settle_loop.specs.StepParts.{MadeAs};
@@ -27,7 +27,7 @@ pub(crate) enum Made {
         writes: bool,
         doubts: bool,
     },
-    /// There was nothing to do.
+    /// There was nothing to do, or nothing that it does.
     Idle,
     /// The output failed.
     Cut,
@@ -83,12 +83,10 @@ impl Settler {
         grain: GrainId,
         versions: List<Version>,
     ) -> Result<Made, AllocError>
-        requires bounds { IsInBounds self.old.writer }
-        requires fits { IsTrue H.tells → FitsDisk self.old.writer (H.world host.old).disk }
+        requires safe { IsSafe H.tells self.old.writer (H.world host.old) }
         ensures made { (shape : AShape) (w : CoreState) → ShowsWork w (settler_step w) (shown.Vote batch grain versions)
             → MadeAs H.tells H.world H.faults shape w self.old self.new host.old host.new result }
-        ensures bounds { IsInBounds self.new.writer }
-        ensures fits { IsTrue H.tells → FitsDisk self.new.writer (H.world host.new).disk }
+        ensures safe { IsSafe H.tells self.new.writer (H.world host.new) }
         ensures ready { StaysReady (H.is_ready host.old) (H.is_ready host.new) }
     {
         let kept = self.writer.write_work(host, batch, grain, &versions)?;
@@ -111,12 +109,10 @@ impl Settler {
         batch: u64,
         effects: List<Effect>,
     ) -> Result<Made, AllocError>
-        requires bounds { IsInBounds self.old.writer }
-        requires fits { IsTrue H.tells → FitsDisk self.old.writer (H.world host.old).disk }
+        requires safe { IsSafe H.tells self.old.writer (H.world host.old) }
         ensures made { (shape : AShape) (w : CoreState) → ShowsWork w (settler_step w) (shown.Seal batch effects)
             → MadeAs H.tells H.world H.faults shape w self.old self.new host.old host.new result }
-        ensures bounds { IsInBounds self.new.writer }
-        ensures fits { IsTrue H.tells → FitsDisk self.new.writer (H.world host.new).disk }
+        ensures safe { IsSafe H.tells self.new.writer (H.world host.new) }
         ensures ready { StaysReady (H.is_ready host.old) (H.is_ready host.new) }
     {
         if self.writer.in_doubt() {
@@ -183,12 +179,10 @@ impl Settler {
         gate: &G,
         work: SettlerWork,
     ) -> Result<Made, AllocError>
-        requires bounds { IsInBounds self.old.writer }
-        requires fits { IsTrue H.tells → FitsDisk self.old.writer (H.world host.old).disk }
+        requires safe { IsSafe H.tells self.old.writer (H.world host.old) }
         ensures made { (w : CoreState) → ShowsWork w (settler_step w) work
             → MadeAs H.tells H.world H.faults shape.now w self.old self.new host.old host.new result }
-        ensures bounds { IsInBounds self.new.writer }
-        ensures fits { IsTrue H.tells → FitsDisk self.new.writer (H.world host.new).disk }
+        ensures safe { IsSafe H.tells self.new.writer (H.world host.new) }
         ensures ready { StaysReady (H.is_ready host.old) (H.is_ready host.new) }
     {
         match work {
@@ -209,6 +203,8 @@ impl Settler {
                 doubts: false,
             }),
             SettlerWork::Write { entry } => self.write(shape, host, entry),
+            // It keeps no places of versions.
+            SettlerWork::Load { .. } => Ok(Made::Idle),
             SettlerWork::Take => Ok(Made::Event {
                 event: CoreEvent::Take,
                 writes: false,

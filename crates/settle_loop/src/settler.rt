@@ -5,7 +5,7 @@ ghost use Rattle.host_trait.specs.Files.{StaysReady};
 ghost use Rattle.core_model.specs.Settler.{settler_step, has_step, step_of};
 ghost use Rattle.core_access.specs.FitAccess.{StaysFit};
 ghost use Rattle.core_access.specs.Sights.{Looks};
-ghost use Rattle.batch_disk.specs.Writers.{file_end, kept_of, IsInBounds, FitsDisk};
+ghost use Rattle.batch_disk.specs.Writers.{file_end, kept_of, IsInBounds, IsSafe};
 ghost use Rattle.settle_loop.specs.ShownWork.{counted_up};
 ghost use Rattle.settle_loop.specs.SettlerStep.{state_shown, TurnsAs};
 ghost use Rattle.settle_loop.specs.StepParts.{ToldAs};
@@ -34,7 +34,8 @@ pub enum StopCause {
 pub enum Turned {
     /// The event of the first case that applies was put.
     Stepped,
-    /// No case applies.
+    /// No case applies, or only the one that brings a grain into memory: the settler keeps no places of versions, and no core
+    /// whose memory has no limit asks for it.
     Nothing,
     Stop(StopCause),
 }
@@ -166,16 +167,14 @@ impl Settler {
         gate: &G,
     ) -> Result<Turned, AllocError>
         requires fit { A.is_fit access.old }
-        requires bounds { IsInBounds self.old.writer }
-        requires fits { IsTrue H.tells → FitsDisk self.old.writer (H.world host.old).disk }
+        requires safe { IsSafe H.tells self.old.writer (H.world host.old) }
         ensures kept { StaysFit (A.is_fit access.new) (A.aside access.old) (A.aside access.new) }
 
         // What it did to the core and to the host, for each answer and for want of memory.
         ensures turns { TurnsAs H.tells H.world H.faults A.may_come shape.now self.old self.new (A.sight access.old) (A.sight access.new) host.old
             host.new result }
 
-        ensures bounds { IsInBounds self.new.writer }
-        ensures fits { IsTrue H.tells → FitsDisk self.new.writer (H.world host.new).disk }
+        ensures safe { IsSafe H.tells self.new.writer (H.world host.new) }
         ensures ready { StaysReady (H.is_ready host.old) (H.is_ready host.new) }
     {
         let work = look(access)?;
@@ -205,6 +204,7 @@ fn is_some_work(work: &SettlerWork) -> bool
         SettlerWork::Seal { .. } => true,
         SettlerWork::Learn { .. } => true,
         SettlerWork::Write { .. } => true,
+        SettlerWork::Load { .. } => true,
         SettlerWork::Take => true,
         SettlerWork::Nothing => false,
     }

@@ -11,8 +11,9 @@ use Rattle.core_model.specs.Events.{applies, can, does, is_allowed, is_open, ste
 use Rattle.core_model.specs.declared.events.CoreEvent.TheVariants.{Take, Vote}
 use Rattle.core_model.specs.Laws.{extended}
 use Rattle.core_model.specs.LearnQueue.{next_learn}
+use Rattle.core_model.specs.WantedGrains.{next_wanted}
 use Rattle.core_model.specs.LegalRuns.{Run, ends}
-use Rattle.core_model.specs.Settler.{Step, Votes, Decides, Seals, Learns, Writes, Takes, Rests, settler_step, batch_step, undecided_step, later_step, learn_step, last_step, first_unvoted, versions_to_write}
+use Rattle.core_model.specs.Settler.{Step, Votes, Decides, Seals, Learns, Writes, Loads, Takes, Rests, settler_step, batch_step, undecided_step, later_step, learn_step, load_step, last_step, first_unvoted, versions_to_write}
 use Rattle.core_laws.proofs.LoadlessLaws.{holds-ends}
 use Rattle.core_laws.proofs.SettlerSteps.{find-some, shows-versions}
 use Rattle.core_laws.proofs.Votes.{Member-drop}
@@ -28,13 +29,18 @@ vote_of (Decides n) = None
 vote_of (Seals n) = None
 vote_of (Learns u g) = None
 vote_of Writes = None
+vote_of (Loads g) = None
 vote_of Takes = None
 vote_of Rests = None
 
+load-none : (w : CoreState) (o : Option GrainId) → vote_of (load_step w o) ≡ None
+load-none w None = cond_both (applies w Take) Takes Rests (λ s. vote_of s ≡ None) (λ f. refl) (λ f. refl)
+load-none w (Some g) = refl
+
 last-none : (w : CoreState) (may : Bool) → vote_of (last_step w may) ≡ None
-last-none w may = cond_both (nat_lt w.manager.emitted (length w.manager.settled)) Writes (if (may && applies w Take) then Takes else Rests) (λ s. vote_of s ≡ None)
+last-none w may = cond_both (nat_lt w.manager.emitted (length w.manager.settled)) Writes (if may && not w.units.halt then load_step w (next_wanted w) else Rests) (λ s. vote_of s ≡ None)
     (λ e. refl)
-    (λ e. cond_both (may && applies w Take) Takes Rests (λ s. vote_of s ≡ None) (λ f. refl) (λ f. refl))
+    (λ e. cond_both (may && not w.units.halt) (load_step w (next_wanted w)) Rests (λ s. vote_of s ≡ None) (λ f. load-none w (next_wanted w)) (λ f. refl))
 
 learn-none : (w : CoreState) (o : Option (UnitNo × GrainId)) → vote_of (learn_step w o) ≡ None
 learn-none w None = last-none w true

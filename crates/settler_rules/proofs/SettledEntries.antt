@@ -18,7 +18,7 @@ use Rattle.core_model.specs.declared.questions.SettlerWork.{SettlerWork}
 use Rattle.core_model.specs.declared.questions.SettlerWork.TheVariants as work
 use Rattle.core_model.specs.LegalRuns.{Run, ends}
 use Rattle.core_model.specs.ProperEntries.{HasUnitOf, MaySettle, IsProperEntry}
-use Rattle.core_model.specs.Settler.{Step, Votes, Decides, Seals, Learns, Writes, Takes, Rests, settler_step, work_in, write_work}
+use Rattle.core_model.specs.Settler.{Step, Votes, Decides, Seals, Learns, Writes, Loads, Takes, Rests, settler_step, work_in, write_work}
 use Rattle.core_laws.proofs.Proper.{proper-ends}
 use Rattle.promise_laws.specs.Legality.{is_play, applied_run}
 use Rattle.promise_laws.proofs.LegalRuns.{ends_alike, legal}
@@ -102,6 +102,7 @@ entry-shown w x is = by_step (settler_step w) is
     entry_of (work.Seal n effects) = None
     entry_of (work.Learn u g) = None
     entry_of (work.Write entry) = Some entry
+    entry_of (work.Load g) = None
     entry_of work.Take = None
     entry_of work.Nothing = None
 
@@ -119,5 +120,6 @@ entry-shown w x is = by_step (settler_step w) is
     by_step (Seals n) e = nothing (ap entry_of e)
     by_step (Learns u g) e = nothing (ap entry_of e)
     by_step Writes e = by_entry (slice_get w.manager.settled w.manager.emitted) refl e
+    by_step (Loads g) e = nothing (ap entry_of e)
     by_step Takes e = nothing (ap entry_of e)
     by_step Rests e = nothing (ap entry_of e)

@@ -5,13 +5,13 @@ use Rattle.base_types.specs.declared.shapes.Shape.{Shape}
 use Rattle.host_trait.specs.declared.channels.Channel.{Channel}
 use Rattle.host_trait.specs.World.{World}
 use Rattle.core_model.specs.declared.events.CoreEvent.{CoreEvent}
-use Rattle.core_model.specs.declared.events.CoreEvent.TheVariants.{Halt}
+use Rattle.core_model.specs.declared.events.CoreEvent.TheVariants.{Halt, Load}
 use Rattle.core_model.specs.declared.events.CoreReply.{CoreReply}
-use Rattle.core_model.specs.CoreState.{CoreState}
+use Rattle.core_model.specs.CoreState.{UnitNo, GrainId, Value, CoreState}
 use Rattle.core_model.specs.Events.{applies}
 use Rattle.core_model.specs.Laws.{extended}
 use Rattle.core_model.specs.LegalRuns.{Run, ends}
-use Rattle.core_model.specs.Settler.{MakesEvent, Step, Votes, Decides, Seals, Learns, Writes, Takes, Rests, settler_step}
+use Rattle.core_model.specs.Settler.{MakesEvent, Step, Votes, Decides, Seals, Learns, Writes, Loads, Takes, Rests, settler_step}
 use Rattle.turn_cell.specs.History.{entry}
 use Rattle.core_access.specs.Histories.{Told, run_after}
 use Rattle.core_access.specs.SettlerEvents.{is_settling}
@@ -22,6 +22,7 @@ use Rattle.promise_spec.specs.UnitRule.{Basis}
 use Rattle.worker_rules.specs.UnitOwnership.{KeepsPromise}
 use Rattle.worker_rules.specs.Work.{is_work}
 use Rattle.worker_rules.proofs.CallPromises.{looks-promise, tells-promise, settles-promise}
+use Rattle.settle_loop.specs.HostSteps.{DoesFor}
 use Rattle.settle_loop.specs.ShownWork.{has_applied}
 use Rattle.settle_loop.specs.SettlerStep.{TurnsAs, LooksOn, PutsNext, state_shown}
 use Rattle.settle_loop.specs.declared.settler.Settler.{Settler}
@@ -35,28 +36,32 @@ use Rattle.shared_settling.specs.SharedSettler.{SettlesAmong}
 
 -- ---- the calls of a step
 
--- the events of its steps are the settler's
-makes-settling : (x : Step) (e : CoreEvent) → MakesEvent x e → is_settling e ≡ true
-makes-settling (Votes n g) e m = ap is_settling m.1
-makes-settling (Decides n) e m = ap is_settling m
-makes-settling (Seals n) e (inl m) = ap is_settling m
-makes-settling (Seals n) e (inr (inl m)) = ap is_settling m
-makes-settling (Seals n) e (inr (inr m)) = ap is_settling m
-makes-settling (Learns u g) e m = ap is_settling m
-makes-settling Writes e m = ap is_settling m
-makes-settling Takes e m = ap is_settling m
-makes-settling Rests e m = absurd m
+-- the events of its steps are the settler's, but for a load, which isn't put
+makes-settling : (x : Step) (e : CoreEvent) → ((g : GrainId) (u : UnitNo) (state : List Value) → e ≡ Load g u state → ⊥) → MakesEvent x e → is_settling e ≡ true
+makes-settling (Votes n g) e unloaded m = ap is_settling m.1
+makes-settling (Decides n) e unloaded m = ap is_settling m
+makes-settling (Seals n) e unloaded (inl m) = ap is_settling m
+makes-settling (Seals n) e unloaded (inr (inl m)) = ap is_settling m
+makes-settling (Seals n) e unloaded (inr (inr m)) = ap is_settling m
+makes-settling (Learns u g) e unloaded m = ap is_settling m
+makes-settling Writes e unloaded m = ap is_settling m
+makes-settling (Loads g) e unloaded m = absurd (unloaded g m.0 m.1 m.2)
+makes-settling Takes e unloaded m = ap is_settling m
+makes-settling Rests e unloaded m = absurd m
 
 -- what stays by each look, and by the event of a step that is put, stays by the whole step
 module _ (may : CoreEvent → Bool) (P : Sight → Type 0) (looks : (s t : Sight) → Looks may s t → P s → P t)
-    (tells : (s t : Sight) (e : CoreEvent) (r : CoreReply) → Tells may s e r t → MakesEvent (settler_step (state_shown s)) e → P s → P t) where
+    (tells : (s t : Sight) (e : CoreEvent) (r : CoreReply) → Tells may s e r t → is_settling e ≡ true → P s → P t) where
   looks-last : (b : Bool) (s t : Sight) → LooksOn may b s t → P s → P t
   looks-last true s t l p = looks s t l.0 p
   looks-last false s t l p = subst P (sym l) p
 
   module _ {H : Type 0} (told_world : Bool) (world : H → World) (faults : H → Channel → ℕ) (shape : Shape) (before after : Settler) (s : Sight) (old new : H) (p : P s) where
     puts : (e : CoreEvent) (r : CoreReply) (mid : Sight) → PutsNext told_world world faults may shape before after s e r mid old new → P mid
-    puts e r mid u = tells u.acts.seen mid e r u.told u.acts.makes (looks s u.acts.seen u.acts.looked p)
+    puts e r mid u = tells u.acts.seen mid e r u.told (makes-settling (settler_step (state_shown u.acts.seen)) e unloaded u.acts.makes) (looks s u.acts.seen u.acts.looked p)
+      where
+        unloaded : (g : GrainId) (v : UnitNo) (state : List Value) → e ≡ Load g v state → ⊥
+        unloaded g v state is = subst (λ (x : CoreEvent). DoesFor told_world world faults before.writer.slot x before.quiet shape (state_shown u.acts.seen) before.writer after.writer old new) is u.acts.does
 
     pub turns-keep : {E : Type 0} (t : Sight) (result : Result Turned E) → TurnsAs told_world world faults may shape before after s t old new result → P t
     turns-keep t (Ok Stepped) u = looks-last (after.doubted && has_applied u.r) u.mid t u.looked (puts u.e u.r u.mid u.put)
@@ -158,19 +163,19 @@ module _ {H E : Type 0} (told_world : Bool) (world : H → World) (faults : H �
   -- what it put
   pub step-among : SettlesAmong s t
   step-among =
-      turns-keep may (SettlesAmong s) (λ x y l p. among-both s x y p (among-look may x y l)) (λ x y e r l m p. among-both s x y p (among-tell may x y e r l (makes-settling (settler_step (state_shown x)) e m)))
+      turns-keep may (SettlesAmong s) (λ x y l p. among-both s x y p (among-look may x y l)) (λ x y e r l m p. among-both s x y p (among-tell may x y e r l m))
       told_world world faults shape before after s old new (among-none s) t result turns
 
   -- what is promised
   pub step-promise : (b : Basis) → KeepsPromise b s → KeepsPromise b t
   step-promise b p =
-      turns-keep may (KeepsPromise b) (λ x y l k. looks-promise b may x y l k) (λ x y e r l m k. settles-promise b may x y e r l (makes-settling (settler_step (state_shown x)) e m) k)
+      turns-keep may (KeepsPromise b) (λ x y l k. looks-promise b may x y l k) (λ x y e r l m k. settles-promise b may x y e r l m k)
       told_world world faults shape before after s old new p t result turns
 
   -- and there is no stop
   pub step-going : Counts s → (ends (run_seen s)).units.halt ≡ false → IsAlone is_work t → (ends (run_seen t)).units.halt ≡ false
   step-going counts going alone =
-      (turns-keep may GoesAlone (λ x y l p. goes-look may x y l p) (λ x y e r l m p. goes-tell may x y e r l (makes-settling (settler_step (state_shown x)) e m) p)
+      (turns-keep may GoesAlone (λ x y l p. goes-look may x y l p) (λ x y e r l m p. goes-tell may x y e r l m p)
       told_world world faults shape before after s old new (counts, λ a. going) t result turns).1 alone
 
 -- ---- a stop

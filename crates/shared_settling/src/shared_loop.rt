@@ -1,8 +1,9 @@
 ghost use Rattle.std.specs.Prelude.{◌≡◌, IfOk};
 ghost use Rattle.host_trait.specs.Files.{StaysReady};
-ghost use Rattle.core_model.specs.Settler.{settler_step, Rests};
+ghost use Rattle.core_model.specs.Settler.{settler_step};
 ghost use Rattle.core_access.specs.FitAccess.{StaysFit};
 ghost use Rattle.core_access.specs.Sights.{run_seen};
+ghost use Rattle.settle_loop.specs.ShownWork.{LeavesUndone};
 ghost use Rattle.settle_loop.specs.SettlerStep.{state_shown};
 ghost use Rattle.run_books.specs.SharedSteps.{SeesOn};
 ghost use Rattle.shared_settling.specs.SharedSettler.{EndsAmong, HasToStop, MayStop, EndsOthers, LeavesStopped, LeavesBeside};
@@ -85,7 +86,7 @@ pub fn settle_beside<A: Access, H: Host, G: Gate, R: Wait>(
     ensures stopped { LeavesStopped settler.old (A.sight access.old) (A.sight access.new) result }
 
     // Where all is well the last that it saw left it nothing to do.
-    ensures rests { IfOk result (λ _. settler_step (state_shown (A.sight access.new)) ≡ Rests) }
+    ensures rests { IfOk result (λ _. LeavesUndone (settler_step (state_shown (A.sight access.new)))) }
 
     // The run's books, once it is known that others put events of lines and units alone, and what it leaves beside them.
     ensures leaves { LeavesBeside H.tells shape.now (side_of H.world H.faults settler.old host.old)

@@ -103,27 +103,3 @@ returns-in-Stop-WriteFault-clause-leaves g c = record {
 
 pub returns-in-Stop-WriteFault-clause-knows : goal.returns-in-Stop-WriteFault-clause-knows
 returns-in-Stop-WriteFault-clause-knows g c = λ truly. step-knows g.H.Host.tells g.H.Host.world g.H.Host.faults g.A.Access.may_come c.args.shape.now c.args.settler.now c.step.new.self (g.A.Access.sight c.args.access.now) (g.A.Access.sight c.step.new.access) c.args.host.now c.step.new.host truly c.step.result c.step.ensures.turns
-
-pub step-requires-clause-bounds : goal.step-requires-clause-bounds
-step-requires-clause-bounds g c = c.requires.safe.bounds
-
-pub step-requires-clause-fits : goal.step-requires-clause-fits
-step-requires-clause-fits g c = c.requires.safe.fits
-
-pub returns-in_err-step-clause-safe : goal.returns-in_err-step-clause-safe
-returns-in_err-step-clause-safe g c = record { bounds = c.step.ensures.bounds; fits = c.step.ensures.fits }
-
-pub returns-then-doubted-clause-safe : goal.returns-then-doubted-clause-safe
-returns-then-doubted-clause-safe g c = record { bounds = c.step.ensures.bounds; fits = c.step.ensures.fits }
-
-pub returns-in-Stepped-clause-safe : goal.returns-in-Stepped-clause-safe
-returns-in-Stepped-clause-safe g c = record { bounds = c.step.ensures.bounds; fits = c.step.ensures.fits }
-
-pub returns-else-doubted-clause-safe : goal.returns-else-doubted-clause-safe
-returns-else-doubted-clause-safe g c = record { bounds = c.step.ensures.bounds; fits = c.step.ensures.fits }
-
-pub returns-in-Stop-InDoubt-clause-safe : goal.returns-in-Stop-InDoubt-clause-safe
-returns-in-Stop-InDoubt-clause-safe g c = record { bounds = c.step.ensures.bounds; fits = c.step.ensures.fits }
-
-pub returns-in-Stop-WriteFault-clause-safe : goal.returns-in-Stop-WriteFault-clause-safe
-returns-in-Stop-WriteFault-clause-safe g c = record { bounds = c.step.ensures.bounds; fits = c.step.ensures.fits }

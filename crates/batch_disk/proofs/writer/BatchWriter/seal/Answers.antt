@@ -11,7 +11,7 @@ use Rattle.commit_log.specs.SealImages.{SealHasCause}
 use Rattle.commit_log.specs.Spelling.{spelling_of_body, spelling_of_block}
 use Rattle.promise_spec.specs.Blocks.{Records, body_of}
 use Rattle.batch_disk.specs.ImagesAtRest.{raised_ends}
-use Rattle.batch_disk.specs.Writers.{file_end, voted_by, kept_of, HasSameEnds}
+use Rattle.batch_disk.specs.Writers.{file_end, voted_by, kept_of, CanCount, HasSameEnds}
 use Rattle.batch_disk.specs.declared.writer.BatchWriter.{BatchWriter}
 use Rattle.batch_disk.specs.Records.{commits_by}
 use Rattle.batch_disk.proofs.SealSteps.{WriteCanCount, records_can_count, fits_sealed, fits_unsealed, fits_in_doubt, is_next, seals_as, stands_sealed, stands_unsealed, stands_in_doubt}
@@ -25,7 +25,7 @@ pub count_records-requires-clause-can : goal.count_records-requires-clause-can
 count_records-requires-clause-can g c =
     let a = c.args.self.now in
     subst (λ (rs : List CommitRecord). AllByRecursion (λ r. AllByRecursion (WriteCanCount a) r.writes) rs) (sym c.as_slice-in-Sealed.ensures)
-    (records_can_count a c.args.work.records c.requires.bounds.kept c.requires.work.kept)
+    (records_can_count a c.args.work.records c.requires.safe.bounds.kept c.requires.work.kept)
 
 pub returns-in-Sealed-clause-seals : goal.returns-in-Sealed-clause-seals
 returns-in-Sealed-clause-seals g c =
@@ -53,8 +53,8 @@ returns-in-Sealed-clause-seals g c =
       cause = subst (λ (l : List ℕ). SealHasCause a.slot (Sealed c.in-Sealed.next_gate) a.gate_at (length l) (g.H.Host.faults c.args.host.now) (g.H.Host.faults c.seal.new.host)) c.as_slice.ensures c.in-Sealed.ensures.cause;
     }
 
-pub returns-in-Sealed-clause-fits : goal.returns-in-Sealed-clause-fits
-returns-in-Sealed-clause-fits g c =
+pub returns-in-Sealed-clause-safe : goal.returns-in-Sealed-clause-safe
+returns-in-Sealed-clause-safe g c =
     let a = c.args.self.now in
     let rs = c.args.work.records in
     let block = c.as_slice.result.now in
@@ -65,8 +65,11 @@ returns-in-Sealed-clause-fits g c =
     let ends : (q : GrainId) → file_end d q ≡ raised_ends (file_end a) (flat_map (λ r. r.writes) rs) q =
     λ q. c.count_records.ensures.ends q ∙ ap (λ (l : List CommitRecord). raised_ends (file_end a) (flat_map (λ r. r.writes) l) q) c.as_slice-in-Sealed.ensures in
     let none : kept_of d ≡ [] = ap (map voted_by) c.clear.ensures.items in
-    λ told. own_fits a d w2.disk c.count_records.ensures.slot (fits_sealed a.slot a d (length block + 1) 2 w0 w2 (c.seal.ensures.run told) (c.requires.fits told) c.in-Sealed.next_gate rs block c.requires.sure is c.requires.work.kept (c.in-Sealed.ensures.end told).0 c.in-Sealed.ensures.cause.0
-    c.count_records.ensures.gate none ends)
+    record {
+      bounds = record { slot = c.count_records.ensures.bounds.slot; gate = c.count_records.ensures.bounds.gate; ends = c.count_records.ensures.bounds.ends; kept = subst (AllByRecursion (CanCount d)) (sym none) tt };
+      fits = λ told. own_fits a d w2.disk c.count_records.ensures.slot (fits_sealed a.slot a d (length block + 1) 2 w0 w2 (c.seal.ensures.run told) (c.requires.safe.fits told) c.in-Sealed.next_gate rs block c.requires.sure is c.requires.work.kept (c.in-Sealed.ensures.end told).0 c.in-Sealed.ensures.cause.0
+          c.count_records.ensures.gate none ends);
+    }
 
 pub returns-in-NotSealed-clause-seals : goal.returns-in-NotSealed-clause-seals
 returns-in-NotSealed-clause-seals g c =
@@ -93,8 +96,8 @@ returns-in-NotSealed-clause-seals g c =
       cause = subst (λ (l : List ℕ). SealHasCause a.slot NotSealed a.gate_at (length l) (g.H.Host.faults c.args.host.now) (g.H.Host.faults c.seal.new.host)) c.as_slice.ensures c.in-NotSealed.ensures.cause;
     }
 
-pub returns-in-NotSealed-clause-fits : goal.returns-in-NotSealed-clause-fits
-returns-in-NotSealed-clause-fits g c =
+pub returns-in-NotSealed-clause-safe : goal.returns-in-NotSealed-clause-safe
+returns-in-NotSealed-clause-safe g c =
     let a = c.args.self.now in
     let rs = c.args.work.records in
     let block = c.as_slice.result.now in
@@ -104,7 +107,10 @@ returns-in-NotSealed-clause-fits g c =
     let d : BatchWriter = record { slot = a.slot; gate_at = a.gate_at; ends = a.ends; batch = a.batch; kept = c.clear-in-NotSealed.new.self; in_doubt = a.in_doubt } in
     let same : HasSameEnds a d = record { slot = refl; gate = refl; ends = λ q. refl; doubt = refl } in
     let none : kept_of d ≡ [] = ap (map voted_by) c.clear-in-NotSealed.ensures.items in
-    λ told. fits_unsealed a.slot a d (length block + 1) 2 w0 w2 (c.seal.ensures.run told) (c.requires.fits told) (length block) c.requires.sure (c.in-NotSealed.ensures.end told).seen same none
+    record {
+      bounds = record { slot = c.requires.safe.bounds.slot; gate = c.requires.safe.bounds.gate; ends = c.requires.safe.bounds.ends; kept = subst (AllByRecursion (CanCount d)) (sym none) tt };
+      fits = λ told. fits_unsealed a.slot a d (length block + 1) 2 w0 w2 (c.seal.ensures.run told) (c.requires.safe.fits told) (length block) c.requires.sure (c.in-NotSealed.ensures.end told).seen same none;
+    }
 
 pub returns-clause-seals : goal.returns-clause-seals
 returns-clause-seals g c =
@@ -129,8 +135,8 @@ returns-clause-seals g c =
       cause = subst (λ (l : List ℕ). SealHasCause a.slot InDoubt a.gate_at (length l) (g.H.Host.faults c.args.host.now) (g.H.Host.faults c.seal.new.host)) c.as_slice.ensures c.in-InDoubt.ensures.cause;
     }
 
-pub returns-clause-fits : goal.returns-clause-fits
-returns-clause-fits g c =
+pub returns-clause-safe : goal.returns-clause-safe
+returns-clause-safe g c =
     let a = c.args.self.now in
     let rs = c.args.work.records in
     let block = c.as_slice.result.now in
@@ -138,4 +144,7 @@ returns-clause-fits g c =
     let w0 = g.H.Host.world c.args.host.now in
     let w2 = g.H.Host.world c.seal.new.host in
     let d : BatchWriter = record { slot = a.slot; gate_at = a.gate_at; ends = a.ends; batch = a.batch; kept = a.kept; in_doubt = true } in
-    λ told. fits_in_doubt a.slot a d (length block + 1) 2 w0 w2 (c.seal.ensures.run told) (c.requires.fits told) refl
+    record {
+      bounds = record { slot = c.requires.safe.bounds.slot; gate = c.requires.safe.bounds.gate; ends = c.requires.safe.bounds.ends; kept = c.requires.safe.bounds.kept };
+      fits = λ told. fits_in_doubt a.slot a d (length block + 1) 2 w0 w2 (c.seal.ensures.run told) (c.requires.safe.fits told) refl;
+    }

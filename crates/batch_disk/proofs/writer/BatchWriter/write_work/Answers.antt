@@ -3,11 +3,11 @@ use Rattle.std.specs.Prelude.{IsTrue, Err}
 use Rattle.std.proofs.lemmas.Result.{MatchResult-from_err}
 use Rattle.base_types.specs.Stores.{has_room}
 use Rattle.host_trait.specs.declared.channels.FileId.TheVariants.{Grain}
-use Rattle.host_trait.specs.Disk.{Tears, settled, overlaid}
+use Rattle.host_trait.specs.Disk.{Tears}
 use Rattle.host_trait.specs.Runs.{RunsOnFile}
 use Rattle.grain_log.specs.declared.faults.LogFault.{LogFault}
 use Rattle.grain_log.specs.Counts.{WriteFaulted}
-use Rattle.grain_log.specs.Places.{spelling_of_versions, places_from, VersionsStand}
+use Rattle.grain_log.specs.Places.{spelling_of_versions, places_from, WroteVersions}
 use Rattle.batch_disk.specs.ImagesAtRest.{voted_at}
 use Rattle.batch_disk.specs.VoteAnswers.{LacksRoom}
 use Rattle.batch_disk.specs.Writers.{file_end, kept_of}
@@ -79,14 +79,10 @@ returns-in-Ok-clause-voted g c =
     let k : KeepsMore batch grain (file_end a grain) vs a d = keeps_more batch grain (file_end a grain) vs c.in-Ok.places a b d r
     (c.in-Ok.ensures.places ∙ ap (λ (n : ℕ). places_from n vs) c.file_end-at.ensures) (c.keep.ensures.kept ∙ (λ i. kept_of b ++ voted_at grain (c.as_slice-placed.ensures i) (c.as_slice-written.ensures i))) c.keep.ensures.slot c.keep.ensures.gate c.keep.ensures.doubt c.keep.ensures.batch c.keep.ensures.ends in
     votes_yes g.H.Host.tells g.H.Host.world g.H.Host.faults batch grain vs a d c.args.host.now c.write_versions.new.host run k c.in-Ok.ensures.calm
-    (λ told. record {
-      file = subst (λ (n : ℕ). (w2.disk (Grain a.slot grain)) ≡ settled (overlaid (w0.disk (Grain a.slot grain)).seen n (spelling_of_versions vs))) c.file_end-at.ensures (c.in-Ok.ensures.ok told);
-      once = c.in-Ok.ensures.count told;
-    })
-    (λ told image left. subst (λ (n : ℕ). VersionsStand image n vs) c.file_end-at.ensures (c.in-Ok.ensures.stand told image left)) c.in-Ok.ensures.fits (subst (λ (n : ℕ). n + size < 2 ^ 63) c.file_end-at.ensures c.in-Ok.ensures.bound)
+    (λ told. subst (λ (n : ℕ). WroteVersions (Grain a.slot grain) n vs w0 w2) c.file_end-at.ensures (c.in-Ok.ensures.wrote told)) c.in-Ok.ensures.fits (subst (λ (n : ℕ). n + size < 2 ^ 63) c.file_end-at.ensures c.in-Ok.ensures.bound)
 
-pub returns-in_err-make_room-clause-bounds : goal.returns-in_err-make_room-clause-bounds
-returns-in_err-make_room-clause-bounds g c =
+pub returns-in_err-make_room-clause-safe : goal.returns-in_err-make_room-clause-safe
+returns-in_err-make_room-clause-safe g c =
     let batch = c.args.batch in
     let grain = c.args.grain in
     let vs = c.args.versions.now in
@@ -95,22 +91,14 @@ returns-in_err-make_room-clause-bounds g c =
     let m = c.go_to.new.self in
     let b = c.make_room.new.self in
     let r : IsReadyFor batch a b = ready_for batch a m b c.go_to.ensures.same c.go_to.ensures.kept c.go_to.ensures.batch c.go_to.ensures.ends c.make_room.ensures.same c.make_room.ensures.kept c.make_room.ensures.batch c.make_room.ensures.room in
-    bounds_some a b batch r.same r.kept r.room c.requires.bounds
+    let w0 = g.H.Host.world c.args.host.now in
+    record {
+      bounds = bounds_some a b batch r.same r.kept r.room c.requires.safe.bounds;
+      fits = λ told. own_fits a b w0.disk r.same.slot (fits_some a.slot grain (file_end a grain) size 1 w0 w0 (no_run (Grain a.slot grain) (file_end a grain) size w0) a b batch r.same r.kept (c.requires.safe.fits told));
+    }
 
-pub returns-in-Err-Failed-clause-bounds : goal.returns-in-Err-Failed-clause-bounds
-returns-in-Err-Failed-clause-bounds g c =
-    let batch = c.args.batch in
-    let grain = c.args.grain in
-    let vs = c.args.versions.now in
-    let size = length (spelling_of_versions vs) in
-    let a = c.args.self.now in
-    let m = c.go_to.new.self in
-    let b = c.make_room.new.self in
-    let r : IsReadyFor batch a b = ready_for batch a m b c.go_to.ensures.same c.go_to.ensures.kept c.go_to.ensures.batch c.go_to.ensures.ends c.make_room.ensures.same c.make_room.ensures.kept c.make_room.ensures.batch c.make_room.ensures.room in
-    bounds_some a b batch r.same r.kept r.room c.requires.bounds
-
-pub returns-in-Err-Failed-clause-fits : goal.returns-in-Err-Failed-clause-fits
-returns-in-Err-Failed-clause-fits g c =
+pub returns-in-Err-Failed-clause-safe : goal.returns-in-Err-Failed-clause-safe
+returns-in-Err-Failed-clause-safe g c =
     let batch = c.args.batch in
     let grain = c.args.grain in
     let vs = c.args.versions.now in
@@ -121,10 +109,13 @@ returns-in-Err-Failed-clause-fits g c =
     let r : IsReadyFor batch a b = ready_for batch a m b c.go_to.ensures.same c.go_to.ensures.kept c.go_to.ensures.batch c.go_to.ensures.ends c.make_room.ensures.same c.make_room.ensures.kept c.make_room.ensures.batch c.make_room.ensures.room in
     let w0 = g.H.Host.world c.args.host.now in
     let w2 = g.H.Host.world c.write_versions.new.host in
-    λ told. own_fits a b w2.disk r.same.slot (fits_some a.slot grain (file_end a grain) size 1 w0 w2 (run_at a.slot grain c.file_end-at.result (file_end a grain) size w0 w2 c.file_end-at.ensures (c.write_versions.ensures.run told)) a b batch r.same r.kept (c.requires.fits told))
+    record {
+      bounds = bounds_some a b batch r.same r.kept r.room c.requires.safe.bounds;
+      fits = λ told. own_fits a b w2.disk r.same.slot (fits_some a.slot grain (file_end a grain) size 1 w0 w2 (run_at a.slot grain c.file_end-at.result (file_end a grain) size w0 w2 c.file_end-at.ensures (c.write_versions.ensures.run told)) a b batch r.same r.kept (c.requires.safe.fits told));
+    }
 
-pub returns-in-Err-Memory-clause-bounds : goal.returns-in-Err-Memory-clause-bounds
-returns-in-Err-Memory-clause-bounds g c =
+pub returns-in-Err-Memory-clause-safe : goal.returns-in-Err-Memory-clause-safe
+returns-in-Err-Memory-clause-safe g c =
     let batch = c.args.batch in
     let grain = c.args.grain in
     let vs = c.args.versions.now in
@@ -133,25 +124,15 @@ returns-in-Err-Memory-clause-bounds g c =
     let m = c.go_to.new.self in
     let b = c.make_room.new.self in
     let r : IsReadyFor batch a b = ready_for batch a m b c.go_to.ensures.same c.go_to.ensures.kept c.go_to.ensures.batch c.go_to.ensures.ends c.make_room.ensures.same c.make_room.ensures.kept c.make_room.ensures.batch c.make_room.ensures.room in
-    bounds_some a b batch r.same r.kept r.room c.requires.bounds
+    let w0 = g.H.Host.world c.args.host.now in
+    let w2 = g.H.Host.world c.write_versions.new.host in
+    record {
+      bounds = bounds_some a b batch r.same r.kept r.room c.requires.safe.bounds;
+      fits = λ told. own_fits a b w2.disk r.same.slot (fits_some a.slot grain (file_end a grain) size 1 w0 w2 (run_at a.slot grain c.file_end-at.result (file_end a grain) size w0 w2 c.file_end-at.ensures (c.write_versions.ensures.run told)) a b batch r.same r.kept (c.requires.safe.fits told));
+    }
 
-pub returns-in-Ok-clause-bounds : goal.returns-in-Ok-clause-bounds
-returns-in-Ok-clause-bounds g c =
-    let batch = c.args.batch in
-    let grain = c.args.grain in
-    let vs = c.args.versions.now in
-    let size = length (spelling_of_versions vs) in
-    let a = c.args.self.now in
-    let m = c.go_to.new.self in
-    let b = c.make_room.new.self in
-    let r : IsReadyFor batch a b = ready_for batch a m b c.go_to.ensures.same c.go_to.ensures.kept c.go_to.ensures.batch c.go_to.ensures.ends c.make_room.ensures.same c.make_room.ensures.kept c.make_room.ensures.batch c.make_room.ensures.room in
-    let d = c.keep.new.self in
-    let k : KeepsMore batch grain (file_end a grain) vs a d = keeps_more batch grain (file_end a grain) vs c.in-Ok.places a b d r
-    (c.in-Ok.ensures.places ∙ ap (λ (n : ℕ). places_from n vs) c.file_end-at.ensures) (c.keep.ensures.kept ∙ (λ i. kept_of b ++ voted_at grain (c.as_slice-placed.ensures i) (c.as_slice-written.ensures i))) c.keep.ensures.slot c.keep.ensures.gate c.keep.ensures.doubt c.keep.ensures.batch c.keep.ensures.ends in
-    bounds_more a d batch grain (file_end a grain) vs k.same k.kept k.room (subst (λ e. has_room e grain ≡ true) (sym c.keep.ensures.ends) c.in_ok-make_room.ensures.made) (subst (λ (n : ℕ). n + size < 2 ^ 63) c.file_end-at.ensures c.in-Ok.ensures.bound) c.requires.bounds
-
-pub returns-in-Ok-clause-fits : goal.returns-in-Ok-clause-fits
-returns-in-Ok-clause-fits g c =
+pub returns-in-Ok-clause-safe : goal.returns-in-Ok-clause-safe
+returns-in-Ok-clause-safe g c =
     let batch = c.args.batch in
     let grain = c.args.grain in
     let vs = c.args.versions.now in
@@ -165,8 +146,11 @@ returns-in-Ok-clause-fits g c =
     let d = c.keep.new.self in
     let k : KeepsMore batch grain (file_end a grain) vs a d = keeps_more batch grain (file_end a grain) vs c.in-Ok.places a b d r
     (c.in-Ok.ensures.places ∙ ap (λ (n : ℕ). places_from n vs) c.file_end-at.ensures) (c.keep.ensures.kept ∙ (λ i. kept_of b ++ voted_at grain (c.as_slice-placed.ensures i) (c.as_slice-written.ensures i))) c.keep.ensures.slot c.keep.ensures.gate c.keep.ensures.doubt c.keep.ensures.batch c.keep.ensures.ends in
-    λ told. own_fits a d w2.disk k.same.slot (fits_more a.slot grain (file_end a grain) size 1 w0 w2 (run_at a.slot grain c.file_end-at.result (file_end a grain) size w0 w2 c.file_end-at.ensures (c.write_versions.ensures.run told)) a d batch vs k.same k.kept ((c.requires.fits told).long grain)
-    (subst (λ (n : ℕ). (w2.disk (Grain a.slot grain)) ≡ settled (overlaid (w0.disk (Grain a.slot grain)).seen n (spelling_of_versions vs))) c.file_end-at.ensures (c.in-Ok.ensures.ok told)) (c.requires.fits told))
+    record {
+      bounds = bounds_more a d batch grain (file_end a grain) vs k.same k.kept k.room (subst (λ e. has_room e grain ≡ true) (sym c.keep.ensures.ends) c.in_ok-make_room.ensures.made) (subst (λ (n : ℕ). n + size < 2 ^ 63) c.file_end-at.ensures c.in-Ok.ensures.bound) c.requires.safe.bounds;
+      fits = λ told. own_fits a d w2.disk k.same.slot (fits_more a.slot grain (file_end a grain) size 1 w0 w2 (run_at a.slot grain c.file_end-at.result (file_end a grain) size w0 w2 c.file_end-at.ensures (c.write_versions.ensures.run told)) a d batch vs k.same k.kept ((c.requires.safe.fits told).long grain)
+          (subst (λ (n : ℕ). WroteVersions (Grain a.slot grain) n vs w0 w2) c.file_end-at.ensures (c.in-Ok.ensures.wrote told)).there (c.requires.safe.fits told));
+    }
 
 pub keep-requires-clause-each : goal.keep-requires-clause-each
 keep-requires-clause-each g c =
