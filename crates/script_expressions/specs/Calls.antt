@@ -1,6 +1,7 @@
 -- Calls, read from the left.
 use Rattle.std.specs.Prelude.{ℕ, zero, suc, List, [], ◌∷◌, length, Ok, Err, Option, Some, None}
 use Rattle.script_tree.specs.declared.expressions.Literal.TheVariants as literal
+use Rattle.script_tree.specs.declared.expressions.Name.{Name}
 use Rattle.script_tree.specs.Exprs.{ExprTree, Constant, Variable, TheKey, CallTree}
 use Rattle.script_lexer.specs.declared.faults.ParseFault.{ParseFault}
 use Rattle.script_lexer.specs.declared.faults.ParseFault.TheVariants.{TooDeep}
@@ -77,13 +78,18 @@ module _ (stop : ParseFault) where
   unfoldable pub arguments : ℕ → Read (List ExprTree)
   arguments depth ts = expected stop symbol.LeftParen ts >>= λ o. arguments_in depth o.0 o.1
 
+  -- the method of a call and its arguments, behind its type and its key
+  abbrev pub called_at : ℕ → Name → ExprTree → Read CallTree
+  called_at depth target place ts = do
+    dot ← expected stop symbol.Dot ts
+    method ← name_at stop dot.1
+    args ← arguments depth method.1
+    Ok (record { target = target; place = place; method = method.0; args = args.0 }, args.1)
+
   -- a call, behind its first word
   unfoldable pub call_at : ℕ → Read CallTree
   call_at depth ts = do
     target ← name_at stop ts
     slash ← expected stop symbol.Slash target.1
     place ← place_at depth slash.1
-    dot ← expected stop symbol.Dot place.1
-    method ← name_at stop dot.1
-    args ← arguments depth method.1
-    Ok (record { target = target.0; place = place.0; method = method.0; args = args.0 }, args.1)
+    called_at depth target.0 place.0 place.1

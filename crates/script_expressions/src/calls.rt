@@ -3,7 +3,7 @@ ghost use Rattle.std.specs.Prelude.{◌≡◌, map, length};
 ghost use Rattle.script_tree.specs.Exprs.{expr_tree, call_tree};
 ghost use Rattle.script_expressions.specs.TokenReaders.{GivesPart};
 ghost use Rattle.script_expressions.specs.Expressions.{expression};
-ghost use Rattle.script_expressions.specs.Calls.{place_at, parenthesised, listed, arguments_in, arguments, call_at};
+ghost use Rattle.script_expressions.specs.Calls.{place_at, parenthesised, listed, arguments_in, arguments, called_at, call_at};
 
 use crate::cursor::Cursor;
 use script_lexer::{ParseFault, Symbol, Token, Word};
@@ -22,6 +22,21 @@ impl<'a> Cursor<'a> {
         let target = self.name()?;
         self.expect(Symbol::Slash)?;
         let place = self.place(alloc, depth)?;
+        self.called(alloc, depth, target, place)
+    }
+
+    // The method of a call and its arguments, behind its type and its key.
+    fn called(
+        &mut self,
+        alloc: Global,
+        depth: u8,
+        target: Name,
+        place: Expr,
+    ) -> Result<CallExpr, ParseFault>
+        ensures read { GivesPart call_tree result self.new.tokens.now
+            (called_at self.old.stop depth target (expr_tree place) self.old.tokens.now) }
+        ensures stop { self.new.stop ≡ self.old.stop }
+    {
         self.expect(Symbol::Dot)?;
         let method = self.name()?;
         let args = self.arguments(alloc, depth)?;

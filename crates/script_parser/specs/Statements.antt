@@ -1,6 +1,7 @@
 -- Statements, read from the left. Each stands behind its first word, or its first name.
 use Rattle.std.specs.Prelude.{ℕ, zero, suc, List, [], ◌∷◌, length, Ok, Err, Option, Some, None}
 use Rattle.script_tree.specs.declared.expressions.Name.{Name}
+use Rattle.script_tree.specs.Exprs.{CallTree}
 use Rattle.script_tree.specs.Stmts.{SourceTree, Computed, Called, StmtTree, Bind, Rebind, SetField, Perform, Choose, Repeat, Give, FailWith, Try, ElseTree, NoElse, Else, block_tree}
 use Rattle.script_lexer.specs.declared.faults.ParseFault.{ParseFault}
 use Rattle.script_lexer.specs.declared.faults.ParseFault.TheVariants.{Unexpected, TooDeep}
@@ -96,17 +97,22 @@ module _ (stop : ParseFault) where
     body ← blocks test.1
     Ok (Repeat test.0 (block_tree body.0), body.1)
 
-  -- a call whose fault is caught, behind its word at this place: a block for its value, and one for the fault
+  -- an attempt at this place behind its call: a block for the call's value, and one for its fault
+  abbrev pub attempt_from : Read (List StmtTree) → ℕ → Name → CallTree → Read StmtTree
+  attempt_from blocks at name call ts = do
+    first ← blocks ts
+    others ← expected_word stop word.Else first.1
+    other ← blocks others.1
+    Ok (Try at name call (block_tree first.0) (block_tree other.0), other.1)
+
+  -- a call whose fault is caught, behind its word at this place
   unfoldable pub attempt_at : ℕ → Read (List StmtTree) → ℕ → Read StmtTree
   attempt_at depth blocks at ts = do
     name ← name_at stop ts
     assign ← expected stop symbol.Assign name.1
     asks ← expected_word stop word.Call assign.1
     call ← call_at stop depth asks.1
-    first ← blocks call.1
-    others ← expected_word stop word.Else first.1
-    other ← blocks others.1
-    Ok (Try at name.0 call.0 (block_tree first.0) (block_tree other.0), other.1)
+    attempt_from blocks at name.0 call.0 call.1
 
   -- a statement that begins with a word, which stands at this place
   abbrev pub word_begins : ℕ → Read (List StmtTree) → Word → ℕ → Read StmtTree

@@ -1,12 +1,13 @@
 // Statements and their blocks, read from tokens.
 ghost use Rattle.std.specs.Prelude.{◌≡◌, length};
+ghost use Rattle.script_tree.specs.Exprs.{call_tree};
 ghost use Rattle.script_tree.specs.Stmts.{source_tree, stmt_tree, stmt_trees, else_tree};
 ghost use Rattle.script_expressions.specs.TokenReaders.{GivesPart};
-ghost use Rattle.script_parser.specs.Statements.{source_at, let_at, assign_at, set_at, call_statement_at, if_at, else_at, while_at, return_at, fail_at, attempt_at, statement_over, statements, block};
+ghost use Rattle.script_parser.specs.Statements.{source_at, let_at, assign_at, set_at, call_statement_at, if_at, else_at, while_at, return_at, fail_at, attempt_from, attempt_at, statement_over, statements, block};
 
 use script_expressions::Cursor;
 use script_lexer::{ParseFault, Symbol, Token, Word};
-use script_tree::{Items, Name, Source, Stmt};
+use script_tree::{CallExpr, Items, Name, Source, Stmt};
 use std::alloc::Global;
 
 // What a local is given: a call's answer, or an expression's value.
@@ -156,6 +157,23 @@ fn attempt(alloc: Global, cursor: &mut Cursor<'_>, depth: u8, at: u32) -> Result
     cursor.expect(Symbol::Assign)?;
     cursor.expect_word(Word::Call)?;
     let call = cursor.call(alloc, depth)?;
+    attempt_blocks(alloc, cursor, depth, at, name, call)
+}
+
+// The two blocks of an attempt at this place, behind its call.
+#[cycle(block)]
+fn attempt_blocks(
+    alloc: Global,
+    cursor: &mut Cursor<'_>,
+    depth: u8,
+    at: u32,
+    name: Name,
+    call: CallExpr,
+) -> Result<Stmt, ParseFault>
+    ensures read { GivesPart stmt_tree result cursor.new.tokens.now
+        (attempt_from cursor.old.stop (block cursor.old.stop depth) at name (call_tree call) cursor.old.tokens.now) }
+    ensures stop { cursor.new.stop ≡ cursor.old.stop }
+{
     let then = read_block(alloc, cursor, depth)?;
     cursor.expect_word(Word::Else)?;
     let other = read_block(alloc, cursor, depth)?;

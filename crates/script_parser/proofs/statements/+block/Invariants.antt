@@ -17,7 +17,10 @@ abbrev pub decreases-repetition : goal.decreases-repetition
 decreases-repetition l = 5 * l.depth + 1
 
 abbrev pub decreases-attempt : goal.decreases-attempt
-decreases-attempt l = 5 * l.depth + 1
+decreases-attempt l = 5 * l.depth + 2
+
+abbrev pub decreases-attempt_blocks : goal.decreases-attempt_blocks
+decreases-attempt_blocks l = 5 * l.depth + 1
 
 abbrev pub decreases-statement : goal.decreases-statement
 decreases-statement l = 5 * l.depth + 3
