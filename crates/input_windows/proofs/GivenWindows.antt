@@ -1,18 +1,18 @@
 -- What is given of an input, window by window.
-use Rattle.std.proofs.Common.{◌≡◌, ◌⊎◌, inl, inr, ℕ, zero, suc, ◌+◌, ◌*◌, ◌/◌, ◌%◌, ◌<◌, ◌≤◌, ◌==◌, Bool, true, false, IsTrue, if◌then◌else◌, List, [], ◌∷◌, ◌++◌, length, take, Option, Some, None, refl, sym, ap, subst, ◌∙◌, arith, append-nil, append_assoc, length-append, take_all}
+use Rattle.std.proofs.Common.{◌≡◌, ◌⊎◌, inl, inr, ℕ, ◌+◌, ◌%◌, ◌<◌, ◌≤◌, ◌==◌, Bool, true, false, IsTrue, if◌then◌else◌, List, [], ◌∷◌, ◌++◌, length, take, Option, Some, None, refl, sym, ap, subst, ◌∙◌, arith, append-nil, append_assoc, length-append, take_all}
 use Rattle.std.proofs.Math.Seq.{take-append_seam}
 use Rattle.std.proofs.lemmas.List.Sums.{sum_by-append}
 use Rattle.host_trait.specs.World.{World}
 use Rattle.request_wire.specs.Lines.{lines_of}
 use Rattle.promise_spec.specs.Endings as ending
-use Rattle.promise_spec.specs.Windows.{feeds, is_bad, first_bad, before_bad, in_windows, before_first, told_number, whole_windows}
+use Rattle.promise_spec.specs.Windows.{feeds, is_bad, first_bad, before_bad, in_windows, before_first, whole_windows}
 use Rattle.input_windows.specs.Lines.{IsFull}
 use Rattle.input_windows.specs.Pulls.{Took}
-use Rattle.input_windows.specs.Scans.{HasBadLine, HasNoEnd}
+use Rattle.input_windows.specs.Scans.{HasNoEnd}
 use Rattle.input_windows.specs.declared.windows.InputWindows.{InputWindows}
 use Rattle.input_windows.specs.declared.windows.WindowFault.{WindowFault}
 use Rattle.input_windows.specs.Windows.{window_in, left_in, before_in, given_in, is_last_in, input_behind, InputHasEnded, EndsBy, GaveWindow, GaveEnd, Refused}
-use Rattle.input_windows.specs.GivenWindows.{AreWhole, GivenTo, HasGiven, HasNext, IsAll, IsGood, HasBad, InputEndsAs, InputEnds, input_ending}
+use Rattle.input_windows.specs.GivenWindows.{AreWhole, GivenTo, HasGiven, HasNext, IsGood, InputEndsAs, InputEnds, input_ending}
 use Rattle.input_windows.proofs.Cuts.{bad_behind, fed_lines}
 use Rattle.input_windows.proofs.Following.{full_seam, before_is}
 

@@ -6,7 +6,7 @@ use Rattle.promise_spec.specs.Endings as ending
 use Rattle.promise_spec.specs.Windows.{feeds, first_bad, before_bad, told_number, whole_windows}
 use Rattle.input_windows.specs.declared.windows.InputWindows.{InputWindows}
 use Rattle.input_windows.specs.declared.windows.WindowFault.{WindowFault}
-use Rattle.input_windows.specs.Windows.{window_in, left_in, before_in, given_in, is_last_in, input_behind, InputHasEnded}
+use Rattle.input_windows.specs.Windows.{window_in, before_in, given_in, is_last_in, input_behind, InputHasEnded}
 
 -- The windows so far, with these lines, are whole: they have a line feed for each line, and 4,096 lines each; and what follows begins
 -- with a line of its own.

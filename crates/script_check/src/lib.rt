@@ -12,6 +12,6 @@ mod shapes;
 
 pub use checked_program::{Checked, check};
 pub use laws::each_name_is_mentioned;
-pub use programs::{FIELD_LIMIT, METHOD_LIMIT, PARAM_LIMIT, TYPE_LIMIT};
+pub use programs::{METHOD_LIMIT, PARAM_LIMIT, TYPE_LIMIT};
 pub use script_scopes::CheckFault;
 pub use shapes::{fitted, initial_state, value_of};

@@ -3,15 +3,13 @@ ghost use Rattle.script_tree.specs.Programs.{method_tree, type_tree, program_tre
 ghost use Rattle.script_scopes.specs.FirstFaults.{Answers, Gives};
 ghost use Rattle.script_check.specs.Programs.{option_fault, transaction_fault, each_fault, declared_fault, field_fault, parameter_fault, parameters_fault, method_fault, field_names, type_fault, program_fault};
 
+use base_types::STATE_LIMIT;
 use script_scopes::{CheckFault, InScope, Setting, check_block, check_free, check_room};
 use script_tree::{Chars, FieldDecl, Method, MethodKind, Name, TxnOption, TypeDecl};
 use std::alloc::Global;
 
 /// The most types that a program may have.
 pub const TYPE_LIMIT: usize = 64;
-
-/// The most fields that a type may have.
-pub const FIELD_LIMIT: usize = 16;
 
 /// The most methods that a type may have.
 pub const METHOD_LIMIT: usize = 64;
@@ -34,7 +32,7 @@ fn check_fields<'a>(alloc: Global, fields: &'a [FieldDecl]) -> Result<Vec<&'a Ch
 {
     let mut names = Vec::new(alloc);
     for field in fields {
-        check_declared(FIELD_LIMIT, names.as_slice(), &field.name)?;
+        check_declared(STATE_LIMIT, names.as_slice(), &field.name)?;
         names.push(&field.name.text)?;
     }
     Ok(names)
