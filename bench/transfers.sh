@@ -16,7 +16,7 @@
 #   20,000 are the standard library, without trees, 16,000 look grains up in trees, 15,000 allocate and free, about 60 times, 8,000 copy
 #   14,000 run the script, 10,000 read the line and write the reply, 7,000 are the agents, 6,000 the settler, the log and
 #   the host's calls, 5,000 the choice of who moves
-# By samples a seventh of the time is the system's, half of that to open and close the file of each grain that a batch wrote.
+# By samples a seventh of the time is the system's: the file of each grain that a batch wrote is looked for by its name, written and synced.
 top=$(cd "$(dirname "${BASH_SOURCE[0]}")/.." && pwd)
 [ -n "${SILO:-}" ] || "$top/silo" </dev/null >/dev/null 2>&1
 exec python3 - "$top" "${SILO:-$top/crates/silo/out/silo}" "$@" <<'END'
