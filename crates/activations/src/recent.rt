@@ -1,4 +1,4 @@
-ghost use Rattle.std.specs.Prelude.{◌≡◌, [], ◌∷◌, Some, slice_get, IfOk, OnOk, OnErr};
+ghost use Rattle.std.specs.Prelude.{◌≡◌, [], ◌∷◌, Some, true, slice_get, IsOk, IfOk, OnOk, OnErr};
 ghost use Rattle.std.specs.NonZero.{non_zero_usize_get};
 ghost use Rattle.core_model.specs.Tests.{any};
 ghost use Rattle.core_model.specs.Changes.{touched};
@@ -50,7 +50,9 @@ impl Recent {
         ensures left { IfOk result (λ left. left ≡ slice_get (grain ∷ others grain self.old.grains) self.old.limit) }
         ensures limit { self.new.limit ≡ self.old.limit }
         ensures kept { OnErr result (self.new.grains ≡ self.old.grains) }
+        ensures sure { any (same_grain grain) self.old.grains ≡ true → IsOk result }
     {
+        // Contracts learn here that no grain stands twice.
         let _ = self.cache.len();
         let Some((left, ())) = self.cache.push(grain, ())? else {
             return Ok(None);
