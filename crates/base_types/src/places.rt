@@ -1,6 +1,7 @@
 ghost use Rattle.std.specs.Prelude.{◌≡◌, true, None, IfOk, OnOk, OnErr};
 ghost use Rattle.std.specs.Ordering.{eq_by_cmp};
 ghost use Rattle.std.specs.Set.{is_member};
+ghost use Rattle.std.specs.List.Sorted.{IsStrictlySortedBy};
 ghost use Rattle.std.specs.Option.{option_copied};
 ghost use Rattle.base_types.specs.Places.{placed_in, has_seat, PutsPlaced, KeepsSeats};
 ghost use Rattle.base_types.specs.Stores.{grain_cmp};
@@ -65,6 +66,7 @@ impl Places {
     /// The grains that have a place or room for one, in ascending order, each once.
     pub fn grains(&self, alloc: Global) -> Result<Vec<GrainId>, AllocError>
         ensures listed { IfOk result (λ grains. (grain : GrainId) → is_member (eq_by_cmp grain_cmp) grains.items grain ≡ has_seat self.now grain) }
+        ensures ordered { IfOk result (λ grains. IsStrictlySortedBy grain_cmp grains.items) }
     {
         let mut grains = Vec::with_capacity(alloc, self.places.len())?;
         for grain in self.places.keys() {
