@@ -131,7 +131,7 @@ module _ (p : Program) (r : Observed) (c : Course) (is : IsExplained p r c) (che
 
   serial : model.IsSerialOrder (is_play p.types) (standing_of c.opening).states (model.committed (core_end p c))
   serial = subst (λ w. model.IsSerialOrder (is_play p.types) (standing_of c.opening).states (model.committed w)) (ends_alike (core_run p c))
-      (serial-ends (is_play p.types) (applied_run (core_run p c)) (legal (basis p r c) (core_run p c) above is.units))
+      (serial-ends (is_play p.types) (applied_run (core_run p c)) (legal (basis p r c) (core_run p c) above is.loads is.units))
 
   -- a grain's state by the order is what its last committed writer wrote, or else the opening state
   state_is : (g : GrainId) → (standing_of (order c)).states g ≡ unwrap_or (last_state (core_end p c) g) ((standing_of c.opening).states g)
@@ -140,7 +140,7 @@ module _ (p : Program) (r : Observed) (c : Course) (is : IsExplained p r c) (che
       ∙ (λ i. written_there (standing_of c.opening) c.added i g)
       ∙ sym (states_same p.types (standing_of c.opening).states (standing_of c.opening).states (model.committed (core_end p c)) c.added (λ x. refl) serial records g)
       ∙ last_written (core_end p c) (standing_of c.opening).states (standing_of c.opening).states g (core_end p c).manager.order None refl
-      ∙ ap (λ (s : Option (List Value)). unwrap_or s ((standing_of c.opening).states g)) (last_of_all (core_end p c) (core_run p c, above, refl, refl) g)
+      ∙ ap (λ (s : Option (List Value)). unwrap_or s ((standing_of c.opening).states g)) (last_of_all (core_end p c) (core_run p c, above, refl) g)
 
   empty : (k : ℕ) → balance_in ((standing_of c.opening).states (account k)) ≡ pos 0
   empty k = ap balance_in (ap (λ (l : Log). (standing_of l).states (account k)) opening ∙ bank_is_empty p k checked text)

@@ -61,26 +61,26 @@ module _ (lines : List (List ℕ)) (asks : AskDeposits lines) where
 batch_turns : Each (TurnAt 2 2 [] core) 0 batch_events
 unfolding put put_grain unit next play_over
 batch_turns = (
-  refl,
+  record { whose = refl; made = tt },
   (
-    refl,
+    record { whose = refl; made = tt },
     (
-      (refl, refl),
+      record { whose = refl; made = tt },
       (
-        (refl, refl),
+        record { whose = refl; made = tt },
         (
-          (refl, refl),
+          record { whose = refl; made = tt },
           (
-            (refl, refl),
+            record { whose = refl; made = tt },
             (
-              (refl, refl),
+              record { whose = refl; made = tt },
               (
-                (refl, refl),
+                record { whose = refl; made = tt },
                 (
-                  (refl, refl, refl),
+                  record { whose = refl; made = refl },
                   (
-                    (refl, refl, (true, refl)),
-                    ((refl, refl, refl), ((refl, refl, inl refl), ((refl, refl, refl), ((refl, refl, refl), ((refl, refl, refl), ((refl, refl, refl), tt)))))),
+                    record { whose = refl; made = (true, refl) },
+                    (record { whose = refl; made = refl }, (record { whose = refl; made = inl refl }, (record { whose = refl; made = refl }, (record { whose = refl; made = refl }, (record { whose = refl; made = refl }, (record { whose = refl; made = refl }, tt)))))),
                   ),
                 ),
               ),

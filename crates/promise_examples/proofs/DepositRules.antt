@@ -15,10 +15,10 @@ use Rattle.core_model.specs.Tests.{is_before}
 use Rattle.core_model.specs.CoreState.{same_grain, put, put_grain}
 use Rattle.script_meaning.specs.Play.{unit, next, play_over, IsTransaction}
 use Rattle.promise_spec.specs.Lines.{IsLineCall}
-use Rattle.promise_spec.specs.Cores.{state_before}
+use Rattle.promise_spec.specs.Cores.{state_before, applied_from}
 use Rattle.promise_spec.specs.UnitAnswers.{got_from}
 use Rattle.promise_spec.specs.UnitRule.{IsDue, KeepsUnitRule}
-use Rattle.promise_spec.specs.TurnRule.{Mover, OfLine, OfUnit, OfSettler, IsTurn, KeepsTurnRule, line_can_begin, picked, movers, picks_used, mover_of}
+use Rattle.promise_spec.specs.TurnRule.{Mover, OfLine, OfWant, OfLoad, OfUnit, OfSettler, IsTurnOf, KeepsTurnRule, lock_asked, movers, next_wish, passed, picks_used, units_of}
 use Rattle.promise_examples.specs.Examples.{accounts, account_1, deposit_call, unit_no, deposit_events, conflict_events, conflict_entries, account_run, account_basis, AskDeposits, vote_events, vote_entries, AskBoth}
 use Rattle.promise_spec.proofs.Lists.{none_at, some_is}
 
@@ -41,7 +41,9 @@ DueAt lines r at e = IsDue (account_basis lines) (state_before r at) (got_from (
 
 abbrev pub TurnAt : ℕ → ℕ → List ℕ → Run → ℕ → CoreEvent → Type 0
 TurnAt lines width picks r at e =
-    IsTurn (line_can_begin true width lines r (state_before r at) (movers accounts r (state_before r at) (got_from (begins r) (take at r.events)))) (picked (movers accounts r (state_before r at) (got_from (begins r) (take at r.events))) (get_or picks (picks_used r at) 0)) (state_before r at) e (mover_of e)
+    IsTurnOf true lines width r (state_before r at)
+    (next_wish (state_before r at) (units_of r (state_before r at)) (lock_asked accounts (state_before r at) (got_from (begins r) (take at r.events))) (passed (applied_from (begins r) (take at r.events))))
+    (movers accounts r (state_before r at) (got_from (begins r) (take at r.events))) (get_or picks (picks_used r at) 0) e
 
 -- a deposit is a transaction
 pub is_transaction : (n : ℕ) → (false ≡ false) ↔ IsTransaction accounts (record { grain = account_1; method = 0; args = Int (pos n) ∷ [] })
@@ -93,14 +95,14 @@ module _ (lines : List (List ℕ)) (asks : AskDeposits lines) where
 
 one_turns : Each (TurnAt 1 1 [] (account_run deposit_events)) 0 deposit_events
 unfolding put put_grain unit next play_over
-one_turns = (refl, ((refl, refl), ((refl, refl), ((refl, refl), ((refl, refl, refl), ((refl, refl, (true, refl)), ((refl, refl, refl), ((refl, refl, inl refl), ((refl, refl, refl), ((refl, refl, refl), tt))))))))))
+one_turns = (record { whose = refl; made = tt }, (record { whose = refl; made = tt }, (record { whose = refl; made = tt }, (record { whose = refl; made = tt }, (record { whose = refl; made = refl }, (record { whose = refl; made = (true, refl) }, (record { whose = refl; made = refl }, (record { whose = refl; made = inl refl }, (record { whose = refl; made = refl }, (record { whose = refl; made = refl }, tt))))))))))
 
 pub one_turn_rule : KeepsTurnRule accounts true 1 1 [] (account_run deposit_events)
 one_turn_rule at e is = each_from_0 (TurnAt 1 1 [] (account_run deposit_events)) deposit_events at e one_turns is.there
 
 two_turns : Each (TurnAt 2 2 (0 ∷ 1 ∷ 1 ∷ []) (account_run conflict_events)) 0 conflict_events
 unfolding put put_grain unit next play_over
-two_turns = (refl, (refl, ((refl, refl), ((refl, refl), ((refl, refl, refl), ((refl, refl), ((refl, refl), ((refl, refl, refl), ((refl, refl, (true, refl)), ((refl, refl, refl), ((refl, refl, inr (inr refl)), ((refl, refl, refl), tt))))))))))))
+two_turns = (record { whose = refl; made = tt }, (record { whose = refl; made = tt }, (record { whose = refl; made = tt }, (record { whose = refl; made = tt }, (record { whose = refl; made = refl }, (record { whose = refl; made = tt }, (record { whose = refl; made = tt }, (record { whose = refl; made = refl }, (record { whose = refl; made = (true, refl) }, (record { whose = refl; made = refl }, (record { whose = refl; made = inr (inr refl) }, (record { whose = refl; made = refl }, tt))))))))))))
 
 pub two_turn_rule : KeepsTurnRule accounts true 2 2 (0 ∷ 1 ∷ 1 ∷ []) (account_run conflict_events)
 two_turn_rule at e is = each_from_0 (TurnAt 2 2 (0 ∷ 1 ∷ 1 ∷ []) (account_run conflict_events)) conflict_events at e two_turns is.there
@@ -113,6 +115,8 @@ two_settled = refl
 abbrev number_of : Option Mover → ℕ
 number_of None = 0
 number_of (Some OfLine) = 0
+number_of (Some (OfWant u)) = 0
+number_of (Some OfLoad) = 0
 number_of (Some OfSettler) = 0
 number_of (Some (OfUnit u)) = u.0
 
@@ -122,12 +126,12 @@ not_second same = let numbers : 1 ≡ 2 = ap number_of same in omega (arith, num
 -- with other picks the second unit's turn isn't there
 pub other_picks : KeepsTurnRule accounts true 2 2 [] (account_run conflict_events) → ⊥
 unfolding put put_grain unit next play_over
-other_picks keeps = not_second (keeps 3 _ (record { there = refl; applied = refl })).1
+other_picks keeps = not_second (keeps 3 _ (record { there = refl; applied = refl })).whose
 
 -- one thread begins a line where it can
 pub narrow : KeepsTurnRule accounts true 2 1 (0 ∷ 1 ∷ 1 ∷ []) (account_run conflict_events) → ⊥
 unfolding put put_grain unit next play_over
-narrow keeps = let turn = keeps 1 _ (record { there = refl; applied = refl }) in absurd (cc turn)
+narrow keeps = let turn = (keeps 1 _ (record { there = refl; applied = refl })).whose in absurd (cc turn)
 
 -- ---- a vote of no, and a unit that read from the one that fails
 
@@ -162,7 +166,7 @@ module _ (lines : List (List ℕ)) (asks : AskBoth lines) where
 
 vote_turns : Each (TurnAt 2 2 [] (account_run vote_events)) 0 vote_events
 unfolding put put_grain unit next play_over
-vote_turns = (refl, (refl, ((refl, refl), ((refl, refl), ((refl, refl), ((refl, refl), ((refl, refl), ((refl, refl), ((refl, refl, refl), ((refl, refl, (false, refl)), ((refl, refl, refl), ((refl, refl, refl), ((refl, refl, refl), ((refl, refl, refl), tt))))))))))))))
+vote_turns = (record { whose = refl; made = tt }, (record { whose = refl; made = tt }, (record { whose = refl; made = tt }, (record { whose = refl; made = tt }, (record { whose = refl; made = tt }, (record { whose = refl; made = tt }, (record { whose = refl; made = tt }, (record { whose = refl; made = tt }, (record { whose = refl; made = refl }, (record { whose = refl; made = (false, refl) }, (record { whose = refl; made = refl }, (record { whose = refl; made = refl }, (record { whose = refl; made = refl }, (record { whose = refl; made = refl }, tt))))))))))))))
 
 pub vote_turn_rule : KeepsTurnRule accounts true 2 2 [] (account_run vote_events)
 vote_turn_rule at e is = each_from_0 (TurnAt 2 2 [] (account_run vote_events)) vote_events at e vote_turns is.there

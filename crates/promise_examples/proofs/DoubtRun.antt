@@ -24,6 +24,7 @@ use Rattle.host_trait.specs.declared.channels.FileId.TheVariants.{Manager, Grain
 use Rattle.host_trait.specs.World.{Moment, Image, IsImage, moment_of}
 use Rattle.silo_spec.specs.Silos.{manager, program_file, HasProgram}
 use Rattle.silo_spec.specs.OpenedDisks.{opening_syncs}
+use Rattle.core_laws.proofs.WithoutLimit.{loads-without-limit}
 use Rattle.promise_spec.specs.Programs.{shape_in}
 use Rattle.promise_spec.specs.Entries.{Log}
 use Rattle.promise_spec.specs.Records.{Commit, AreRecordsOf}
@@ -35,7 +36,7 @@ use Rattle.promise_spec.specs.TurnRule.{KeepsTurnRule}
 use Rattle.promise_spec.specs.Causes.{IsAbortedFor, NoneRose, RoseBy, RunHasDoubt, AreCaused, is_no, is_vote_of, is_unsealed, most_syncs_of}
 use Rattle.promise_spec.specs.Family.{IsUnitOf, IsReached, by_line}
 use Rattle.promise_spec.specs.Endings as ending
-use Rattle.promise_spec.specs.Courses.{Observed, Course, moments, lines, core_end, seen_at_entry}
+use Rattle.promise_spec.specs.Courses.{Observed, Course, moments, lines, core_run, core_end, seen_at_entry}
 use Rattle.promise_spec.specs.Orders.{IsOrdered}
 use Rattle.promise_spec.specs.Replies.{AreReplies, IsTrueOf, HasNoRecord}
 use Rattle.promise_spec.specs.Crashes.{HasOutcome, LeavesAlone, SurvivesCrashes, StaySound, HoldsReplies}
@@ -423,9 +424,10 @@ module _ (r : Observed) (opened : Moment) (told doubting : List Moment) (run : I
     records = records;
     units = two_unit_rule (lines r) run.asks;
     turns = λ single. turns;
+    loads = loads-without-limit (core_run account_program course) refl;
     caused = caused;
     faults = record { votes = votes; seals = seals };
-    doubted = λ file is. (file_is file is, has_doubt);
+    doubted = λ file is. inl (file_is file is, has_doubt);
     doubt_ends = λ doubt. may_doubt;
     unvoted = λ g m none there. apart m there g (λ same. voted_on g same none);
   }

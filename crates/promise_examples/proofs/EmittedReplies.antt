@@ -92,4 +92,4 @@ nothing_unwritten types windowed lines width picks r at keeps is unwritten =
     let turn = keeps at Take is in
     let able = and_parts (is_allowed w Take) (can w Take) is.applied in
     let none : w.manager.batch ≡ None = no_batch w.manager.batch (and_parts _ _ able.1).0 in
-    not_taken w unwritten (subst (λ (b : Option Batch). MakesEvent (batch_step w b) Take) none turn.2)
+    not_taken w unwritten (subst (λ (b : Option Batch). MakesEvent (batch_step w b) Take) none turn.made)

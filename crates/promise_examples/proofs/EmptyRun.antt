@@ -147,6 +147,7 @@ module _ (p : Program) (r : Observed) (opening : Log) (run : IsEmptyRun p r open
       records = inl tt;
       units = λ at e is. absurd (none_at at e is.there);
       turns = λ single at e is. absurd (none_at at e is.there);
+      loads = tt;
       caused = record { entries = λ x none. absurd none; units = λ u is. absurd (cc is) };
       faults = record { votes = λ g. no_fault _; seals = no_fault _ };
       doubted = λ file is. absurd (subst IsAllWritten is run.ending);

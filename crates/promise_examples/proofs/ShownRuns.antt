@@ -43,6 +43,7 @@ module _ (p : Program) (r : Observed) (c : Course) (keeps : Keeps p r c) where
     records = keeps.explained.records;
     units = keeps.explained.units;
     turns = keeps.explained.turns;
+    loads = keeps.explained.loads;
     faults = keeps.explained.faults;
     doubted = keeps.explained.doubted;
     ended = keeps.explained.doubt_ends;

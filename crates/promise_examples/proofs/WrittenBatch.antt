@@ -25,6 +25,7 @@ use Rattle.host_trait.specs.Disk.{Overwrote, settled}
 use Rattle.host_trait.specs.World.{Disk, Image, IsImage, Moment, moment_of}
 use Rattle.host_trait.proofs.Crashes.{settled_only}
 use Rattle.silo_spec.specs.Silos.{manager, program_file, IsSilo, HasProgram}
+use Rattle.core_laws.proofs.WithoutLimit.{loads-without-limit}
 use Rattle.promise_spec.specs.Programs.{shape_in}
 use Rattle.promise_spec.specs.Entries.{Log}
 use Rattle.promise_spec.specs.Records.{Commit}
@@ -369,6 +370,7 @@ explains = record {
   records = inl records_are;
   units = batch_unit_rule batched.asked asks;
   turns = λ single. batch_turn_rule;
+  loads = loads-without-limit (core_run account_program batch_course) refl;
   faults = record {
     votes = λ g. subst (λ n. RoseBy n 0 0) (sym (no_votes g)) (omega arith);
     seals = subst (λ n. RoseBy n 0 0) (sym no_seals) (omega arith);

@@ -15,6 +15,7 @@ use Rattle.core_model.specs.SerialOrder.{chosen}
 use Rattle.core_model.specs.CoreState.{GrainId, Member, put, put_grain}
 use Rattle.gate_block.specs.Log.{HasBlocks}
 use Rattle.silo_spec.specs.Silos.{manager, program_file, IsSilo}
+use Rattle.core_laws.proofs.WithoutLimit.{loads-without-limit}
 use Rattle.promise_spec.specs.Programs.{shape_in}
 use Rattle.promise_spec.specs.Entries.{Log}
 use Rattle.promise_spec.specs.Records.{AreRecordsOf}
@@ -223,11 +224,12 @@ explains = record {
   records = records;
   units = two_unit_rule unbegun.asked asks;
   turns = λ single. two_turn_rule;
+  loads = loads-without-limit (core_run account_program unbegun_course) refl;
   faults = record {
     votes = λ g. subst (λ n. RoseBy n 0 0) (sym (no_votes g)) (omega arith);
     seals = subst (λ n. RoseBy n 0 1) (sym one_seal) (omega arith);
   };
-  doubted = λ file is. (file_is file is, has_doubt);
+  doubted = λ file is. inl (file_is file is, has_doubt);
   ended = λ doubt. tt;
   unvoted = λ g m none there. apart m there g (λ same. voted_on g same none);
 }

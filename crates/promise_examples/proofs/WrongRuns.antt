@@ -3,8 +3,8 @@ use Rattle.silo_spec.specs.OpenedDisks.{opening_syncs, opened_disk}
 use Rattle.promise_spec.specs.Prefixes.{IsPrefixOf}
 use Rattle.promise_spec.proofs.Prefixes.{grown_front}
 use Rattle.promise_spec.proofs.Standings.{grown_none, grown_records}
-use Rattle.std.proofs.Common.{◌≡◌, ◌≢◌, inl, inr, ℕ, ◌+◌, ◌<◌, ◌≤◌, ◌^◌, Bool, true, false, true≢false, List, [], ◌∷◌, ◌++◌, length, map, take, drop, Some, Ok, eq-eqb, Result, refl, sym, ap, subst, ◌∙◌, arith, length-drop, slice_index}
-use Rattle.std.specs.Prelude.{◌%◌, ◌||◌, not, nat_lt, is_none, slice_get}
+use Rattle.std.proofs.Common.{◌≡◌, ◌≢◌, inl, inr, ℕ, ◌+◌, ◌<◌, ◌≤◌, ◌^◌, Bool, true, false, true≢false, List, [], ◌∷◌, ◌++◌, length, map, take, drop, Option, Some, None, Ok, eq-eqb, Result, refl, sym, ap, subst, ◌∙◌, arith, length-drop, slice_index}
+use Rattle.std.specs.Prelude.{◌%◌, ◌||◌, get_or, not, nat_lt, is_none, slice_get}
 use Rattle.std.proofs.lemmas.Bool.{and_parts, eqb-true}
 use Rattle.std.specs.Int.{w32, to_le_bytes, from_le_bytes}
 use Rattle.std.specs.List.{flat_map, AllByRecursion}
@@ -32,7 +32,7 @@ use Rattle.core_model.specs.Events.{applies, can, is_allowed, run, step}
 use Rattle.core_model.specs.LegalRuns.{begins, ends}
 use Rattle.core_model.specs.Lines.{DifferInLine}
 use Rattle.core_model.specs.SerialOrder.{committed, chosen}
-use Rattle.core_model.specs.CoreState.{Member, Mode}
+use Rattle.core_model.specs.CoreState.{Member, Mode, UnitNo}
 use Rattle.gate_block.proofs.Logs as blocks
 use Rattle.gate_block.specs.Log.{LogsUpTo, gate_of}
 use Rattle.host_trait.specs.declared.channels.FileId.{FileId}
@@ -53,8 +53,10 @@ use Rattle.promise_spec.specs.Lines.{ReadsLineAs, IsLineCall}
 use Rattle.promise_spec.specs.Outputs.{reply_lines}
 use Rattle.promise_spec.specs.Windows.{window_lines, first_bad, before_bad, whole_windows}
 use Rattle.promise_spec.specs.UnitAnswers.{got_from}
-use Rattle.promise_spec.specs.TurnRule.{Mover, at_seam, is_nobody, in_flight, line_can_begin, movers}
-use Rattle.promise_spec.specs.Cores.{AppliesAt, how_many, state_before, core_from}
+use Rattle.promise_spec.specs.TurnRule.{and_wish, at_seam, grain_due, in_flight, is_nobody, line_can_begin, lock_asked, Mover, movers, next_wish, passed, picks_used, units_of}
+use Rattle.promise_spec.proofs.PickedMovers.{line-begins, movers-take}
+use Rattle.promise_spec.proofs.WholeMemory.{never-unloaded}
+use Rattle.promise_spec.specs.Cores.{AppliesAt, how_many, state_before, core_from, applied_from}
 use Rattle.promise_spec.specs.Causes.{RunHasDoubt, NoneRose, is_vote_of, is_unsealed, syncs_of, most_syncs_of}
 use Rattle.promise_examples.specs.AliveUnits.{IsAlive}
 use Rattle.promise_spec.specs.Family.{states_after}
@@ -392,15 +394,26 @@ module _ (p : Program) (r : Observed) (c : Course) where
   begun_at_seam at n call plain keeps windowed single begins_it whole some =
       let w = state_before (core_run p c) at in
       let ms = movers p.types (core_run p c) w (got_from (begins (core_run p c)) (take at c.events)) in
-      let turn : line_can_begin r.windowed r.manner.width c.allowed (core_run p c) w ms ≡ true = keeps.explained.turns single at (event.Begin (Line (n + 1)) call plain) begins_it in
+      let wish = next_wish w (units_of (core_run p c) w) (lock_asked p.types w (got_from (begins (core_run p c)) (take at c.events))) (passed (applied_from (begins (core_run p c)) (take at c.events))) in
+      let turn : line_can_begin r.windowed r.manner.width c.allowed (core_run p c) w (and_wish wish ms) ≡ true =
+      line-begins ms (get_or r.manner.picks (picks_used (core_run p c) at) 0) (movers-take p.types (core_run p c) w (got_from (begins (core_run p c)) (take at c.events))) (grain_due w)
+      (line_can_begin r.windowed r.manner.width c.allowed (core_run p c) w (and_wish wish ms)) wish
+      (keeps.explained.turns single at (event.Begin (Line (n + 1)) call plain) begins_it).whose in
       let next : n + 1 ≡ w.units.lines + 1 = eqb-true (n + 1) (w.units.lines + 1) (and_parts (is_allowed w (event.Begin (Line (n + 1)) call plain)) (can w (event.Begin (Line (n + 1)) call plain)) begins_it.applied).1 in
       let same : w.units.lines ≡ n = omega (arith, next) in
       let opened = (and_parts (nat_lt w.units.lines c.allowed) _ (and_parts (nat_lt (in_flight (core_run p c) w) r.manner.width) _ (and_parts (is_none w.manager.doubt) _ turn).1).1).1 in
       let seam : at_seam r.windowed w.units.lines ≡ true = subst (λ (b : Bool). at_seam b w.units.lines ≡ true) (sym windowed) (eq-eqb (w.units.lines % window_lines) 0 (ap (λ (k : ℕ). k % window_lines) same ∙ whole)) in
-      some (nobody_left ms (subst (λ (b : Bool). (not b || is_nobody ms) ≡ true) seam opened))
+      some (nobody_wants wish ms (subst (λ (b : Bool). (not b || is_nobody (and_wish wish ms)) ≡ true) seam opened))
+    where
+      nobody_wants : (wish : Option UnitNo) (ms : List Mover) → is_nobody (and_wish wish ms) ≡ true → ms ≡ []
+      nobody_wants None ms e = nobody_left ms e
+      nobody_wants (Some u) ms e = absurd cc
 
   pub grain_fault : (slot : ℕ) (grain : GrainId) → Keeps p r c → r.ending ≡ ending.DiskFault (file.Grain slot grain) → ⊥
-  grain_fault slot grain keeps is = let same : file.Grain slot grain ≡ file.Manager c.live = (keeps.explained.doubted (file.Grain slot grain) is).0 in absurd (cc same)
+  grain_fault slot grain keeps is = elim (keeps.explained.doubted (file.Grain slot grain) is) [
+    | inl manager ↦ (let same : file.Grain slot grain ≡ file.Manager c.live = manager.0 in absurd (cc same))
+    | inr there ↦ (let unloaded = there.2 in absurd (never-unloaded (core_run p c) unloaded.0 there.0 refl unloaded.2))
+  ]
 
   pub done_in_doubt : Keeps p r c → RunHasDoubt (core_run p c) → r.ending ≡ ending.Done → ⊥
   done_in_doubt keeps doubt is = subst ending.EndingMayDoubt is (keeps.explained.doubt_ends doubt)

@@ -4,6 +4,7 @@ use Rattle.base_types.specs.declared.entries.Settled.{Settled}
 use Rattle.core_model.specs.CoreState.{UnitNo, CoreState}
 use Rattle.core_model.specs.declared.phases.Verdict.TheVariants.{Aborted}
 use Rattle.core_model.specs.Events.{applies, step}
+use Rattle.core_model.specs.SerialOrder.{AllLoadsTrue}
 use Rattle.core_model.specs.LegalRuns.{Run, begins, ends}
 use Rattle.core_model.specs.Causes.{HasCause}
 use Rattle.core_laws.proofs.AbortCauses.{StoppedFrom, stops-ends}
@@ -14,11 +15,11 @@ use Rattle.promise_laws.proofs.LegalRuns.{ends_alike, legal}
 use Rattle.promise_laws.proofs.SerialCauses.{PutBack, put_back, explained_causes}
 
 -- each unit that ended aborted was aborted by an event of the run, with its cause
-aborts_have_causes : (s : Basis) (r : Run) → 0 < r.base → KeepsUnitRule s r
+aborts_have_causes : (s : Basis) (r : Run) → 0 < r.base → AllLoadsTrue r.opening (begins r) r.events → KeepsUnitRule s r
     → (u : UnitNo) → (ends r).manager.verdict u ≡ Aborted → (why : Settled) × IsAbortedFor r u why
-aborts_have_causes s r above keeps u h =
+aborts_have_causes s r above loads keeps u h =
     let c : StoppedFrom (begins r) (applied_run r).events u =
-    stops-ends (is_play s.types) (applied_run r) (legal s r above keeps) u (ap (λ (w : CoreState). w.manager.verdict u) (ends_alike r) ∙ h) in
+    stops-ends (is_play s.types) (applied_run r) (legal s r above loads keeps) u (ap (λ (w : CoreState). w.manager.verdict u) (ends_alike r) ∙ h) in
     let back : PutBack (begins r) r.events c.0 c.1.0 = put_back (begins r) r.events c.0 c.1.1.0 c.1.0 c.1.1.1 in (
       c.1.1.3.0,
       record {
@@ -32,8 +33,8 @@ aborts_have_causes s r above keeps u h =
       },
     )
 
-pub explained_aborts : (s : Basis) (r : Run) → 0 < r.base → KeepsUnitRule s r → AreCaused r
-explained_aborts s r above keeps = record {
-  entries = explained_causes s r above keeps;
-  units = aborts_have_causes s r above keeps;
+pub explained_aborts : (s : Basis) (r : Run) → 0 < r.base → AllLoadsTrue r.opening (begins r) r.events → KeepsUnitRule s r → AreCaused r
+explained_aborts s r above loads keeps = record {
+  entries = explained_causes s r above loads keeps;
+  units = aborts_have_causes s r above loads keeps;
 }

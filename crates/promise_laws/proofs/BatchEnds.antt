@@ -19,23 +19,19 @@ use Rattle.core_model.specs.Batches.{sizes}
 use Rattle.core_model.specs.SerialOrder.{batch_begin, committed, chosen}
 use Rattle.core_model.specs.Changes.{new_unit, swept, swept_by}
 use Rattle.core_model.specs.Events.{applies, can, does, step, run, is_allowed, is_after_doubt}
-use Rattle.core_model.specs.LegalRuns.{Run, IsLegal, begins, ends}
+use Rattle.core_model.specs.LegalRuns.{Run, begins, ends}
 use Rattle.core_model.specs.Replies.{OnlyExtends}
 use Rattle.core_laws.proofs.Puts.{put-other}
 use Rattle.core_laws.proofs.EventCases.{Change, bad, begin, lock, raise, refuse, finish, end_plain, end_snapshot, release, take_batch, vote, decide_some, decide_none, seal_batch, spoil_batch, doubt_batch, learn, emit, halt_run, want, load, decode}
 use Rattle.core_laws.proofs.Orders.{in_take, in_drop}
-use Rattle.core_laws.proofs.KeptInvariant.{Kept, decided_size}
+use Rattle.core_laws.proofs.KeptInvariant.{decided_size}
 use Rattle.core_laws.proofs.Growth.{grows-step}
 use Rattle.core_laws.proofs.CommitOrder.{Split, no_doubt, split-order}
 use Rattle.core_model.specs.Laws.{extended}
 use Rattle.core_laws.proofs.FurtherLaws.{run-append}
 use Rattle.core_laws.proofs.Replies.{extends-ends}
-use Rattle.core_laws.proofs.Ends.{kept-ends}
-use Rattle.core_laws.proofs.Votes.{follows-ends}
 use Rattle.promise_spec.specs.Records.{Commit, AreRecordsOf}
 use Rattle.promise_spec.specs.UnitRule.{Basis, IsDue, KeepsUnitRule}
-use Rattle.promise_laws.specs.Legality.{is_play, applied_run}
-use Rattle.promise_laws.proofs.LegalRuns.{ends_alike, legal}
 use Rattle.host_trait.specs.World.{Moment, Passes}
 use Rattle.host_trait.proofs.Moments.{weaker}
 use Rattle.promise_spec.specs.UnitAnswers.{got_from}
@@ -44,8 +40,7 @@ use Rattle.promise_laws.specs.Closings.{AllEnd}
 use Rattle.promise_spec.specs.Explanation.{AreAdded}
 use Rattle.promise_spec.specs.Entries.{Log, grown}
 use Rattle.promise_spec.specs.Batches.{units_in, kept_by, EndsABatch}
-use Rattle.core_laws.proofs.LoadlessKept.{loadless-kept}
-use Rattle.core_laws.proofs.Invariant.{loadless-of}
+use Rattle.core_laws.proofs.LoadlessKept.{LoadlessKept, loadless-ends}
 use Rattle.core_laws.proofs.LoadlessRuns.{split-ends, prefix-ends}
 
 -- ---- what an event leaves of a finished unit
@@ -55,9 +50,9 @@ apart-running : (w : CoreState) (x u : UnitNo) → w.units.phase x ≡ Finished 
 apart-running w x u done running e = (let z : Finished ≡ Running = sym done ∙ ap w.units.phase e ∙ running in cc)
 
 -- its effect
-effect-change : (opening : GrainId → List Value) (w : CoreState) (e : CoreEvent) (w' : CoreState) → Change w e w' → Kept opening w → (x : UnitNo) → w.units.phase x ≡ Finished → effect_of w' x ≡ effect_of w x
-effect-change opening w e w' (bad line why q) k x done = refl
-effect-change opening w e w' (begin origin call plain c) k x done =
+effect-change : (w : CoreState) (e : CoreEvent) (w' : CoreState) → Change w e w' → LoadlessKept w → (x : UnitNo) → w.units.phase x ≡ Finished → effect_of w' x ≡ effect_of w x
+effect-change w e w' (bad line why q) k x done = refl
+effect-change w e w' (begin origin call plain c) k x done =
     let apart : x ≡ new_unit w → ⊥ = λ q. (let z : Finished ≡ Unborn = sym done ∙ ap w.units.phase q ∙ k.0.unborn (new_unit w) (omega arith) in cc) in
     let o : put w.units.origin (new_unit w) origin x ≡ w.units.origin x = put-other w.units.origin (new_unit w) origin x apart in
     let c : put w.units.call (new_unit w) call x ≡ w.units.call x = put-other w.units.call (new_unit w) call x apart in
@@ -70,11 +65,11 @@ effect-change opening w e w' (begin origin call plain c) k x done =
       writes = w.manager.writes x;
       result = w.manager.result x;
     }
-effect-change opening w e w' (lock u g mode running free first here) k x done =
+effect-change w e w' (lock u g mode running free first here) k x done =
     ap (λ (rs : List Read). record (effect_of w x) { reads = rs }) (put-other w.units.reads u _ x (apart-running w x u done running))
-effect-change opening w e w' (raise u g mode running free held here uncovered) k x done = refl
-effect-change opening w e w' (refuse u g mode why running q) k x done = refl
-effect-change opening w e w' (finish u effect running plain of_call reads alone) k x done =
+effect-change w e w' (raise u g mode running free held here uncovered) k x done = refl
+effect-change w e w' (refuse u g mode why running q) k x done = refl
+effect-change w e w' (finish u effect running plain of_call reads alone) k x done =
     let apart = apart-running w x u done running in
     let a : put w.manager.answers u effect.answers x ≡ w.manager.answers x = put-other w.manager.answers u effect.answers x apart in
     let s : put w.manager.writes u effect.writes x ≡ w.manager.writes x = put-other w.manager.writes u effect.writes x apart in
@@ -88,7 +83,7 @@ effect-change opening w e w' (finish u effect running plain of_call reads alone)
       writes = s i;
       result = r i;
     }
-effect-change opening w e w' (end_plain u effect running plain of_call bare) k x done =
+effect-change w e w' (end_plain u effect running plain of_call bare) k x done =
     let apart = apart-running w x u done running in
     let a : put w.manager.answers u effect.answers x ≡ w.manager.answers x = put-other w.manager.answers u effect.answers x apart in
     let r : put w.manager.result u effect.result x ≡ w.manager.result x = put-other w.manager.result u effect.result x apart in
@@ -101,7 +96,7 @@ effect-change opening w e w' (end_plain u effect running plain of_call bare) k x
       writes = w.manager.writes x;
       result = r i;
     }
-effect-change opening w e w' (end_snapshot u at outcome running plain kids answer) k x done =
+effect-change w e w' (end_snapshot u at outcome running plain kids answer) k x done =
     let apart = apart-running w x u done running in
     let a : put w.manager.answers u [] x ≡ w.manager.answers x = put-other w.manager.answers u [] x apart in
     let r : put w.manager.result u outcome x ≡ w.manager.result x = put-other w.manager.result u outcome x apart in
@@ -114,19 +109,19 @@ effect-change opening w e w' (end_snapshot u at outcome running plain kids answe
       writes = w.manager.writes x;
       result = r i;
     }
-effect-change opening w e w' (release u g over held) k x done = refl
-effect-change opening w e w' (take_batch none some) k x done = refl
-effect-change opening w e w' (vote n g kept b q number d planned fresh) k x done = refl
-effect-change opening w e w' (decide_some n b q number d voted some) k x done = refl
-effect-change opening w e w' (decide_none n b q number d voted none) k x done = refl
-effect-change opening w e w' (seal_batch n b ds q number d) k x done = refl
-effect-change opening w e w' (spoil_batch n b ds q number d) k x done = refl
-effect-change opening w e w' (doubt_batch n b ds q number d) k x done = refl
-effect-change opening w e w' (learn u g wrote final fresh) k x done = refl
-effect-change opening w e w' (emit q) k x done = refl
-effect-change opening w e w' (halt_run q) k x done = refl
-effect-change opening w e w' (want u g running free fresh) k x done = refl
-effect-change opening w e w' (load g u state gone wanted) k x done = refl
+effect-change w e w' (release u g over held) k x done = refl
+effect-change w e w' (take_batch none some) k x done = refl
+effect-change w e w' (vote n g kept b q number d planned fresh) k x done = refl
+effect-change w e w' (decide_some n b q number d voted some) k x done = refl
+effect-change w e w' (decide_none n b q number d voted none) k x done = refl
+effect-change w e w' (seal_batch n b ds q number d) k x done = refl
+effect-change w e w' (spoil_batch n b ds q number d) k x done = refl
+effect-change w e w' (doubt_batch n b ds q number d) k x done = refl
+effect-change w e w' (learn u g wrote final fresh) k x done = refl
+effect-change w e w' (emit q) k x done = refl
+effect-change w e w' (halt_run q) k x done = refl
+effect-change w e w' (want u g running free fresh) k x done = refl
+effect-change w e w' (load g u state gone wanted) k x done = refl
 
 -- after a doubt no verdict changes
 verdict-after : (w : CoreState) (e : CoreEvent) (w' : CoreState) → Change w e w' → is_after_doubt e ≡ true → w'.manager.verdict ≡ w.manager.verdict
@@ -194,187 +189,7 @@ sizes-sum : (bs : List Batch) → sum_by (λ (b : Batch). b.size) bs ≡ sizes b
 sizes-sum [] = refl
 sizes-sum (b ∷ bs) = sum_by-cons (λ (b : Batch). b.size) b bs ∙ ap (λ n. b.size + n) (sizes-sum bs)
 
--- ---- closed batches
-
--- what is needed of a state: closed batches are a first part of the finish order, and are decided but for one in doubt
-pub record AreClosed (opening : GrainId → List Value) (w : CoreState) : Type 0 where
-  pub kept : Kept opening w
-  pub count : sizes w.manager.past ≡ w.manager.closed
-  pub decided : (u : UnitNo) → w.units.phase u ≡ Finished → w.manager.place u ≤ batch_begin w.manager.doubt w.manager.closed → is_final (w.manager.verdict u) ≡ true
-  pub split : Split w
-
--- so it is at the end of a legal run
-pub closed-ends : (plays : Effect → Bool) (r : Run) → IsLegal plays r → AreClosed r.opening (ends r)
-closed-ends plays r l = record {
-  kept = kept-ends plays r l;
-  count = (follows-ends plays r l).count;
-  decided = (prefix-ends r l.above).decided;
-  split = split-ends r l.above;
-}
-
-module _ (opening : GrainId → List Value) (w : CoreState) (e : CoreEvent) (c : AreClosed opening w) (x : OnlyExtends w (step w e)) where
-  -- closed units are among those that finished
-  within : w.manager.closed ≤ length w.manager.order
-  within = (let k = c.kept.1 in omega (arith, k))
-
-  -- a unit of a closed batch stays to commit or not
-  good-stays : (u : UnitNo) → w.units.phase u ≡ Finished → w.manager.place u ≤ w.manager.closed → is_good ((step w e).manager.verdict u) ≡ is_good (w.manager.verdict u)
-  good-stays u done low = go w.manager.doubt refl
-    where
-      go : (o : Option ℕ) → w.manager.doubt ≡ o → is_good ((step w e).manager.verdict u) ≡ is_good (w.manager.verdict u)
-      go None none =
-          ap is_good ((grows-step w e (loadless-kept opening w c.kept)).1 u (c.decided u done (subst (λ (o : Option ℕ). w.manager.place u ≤ batch_begin o w.manager.closed) (sym none) low)))
-      go (Some b) some = cond_both (applies w e) (swept (does w e)) w (λ (v : CoreState). is_good (v.manager.verdict u) ≡ is_good (w.manager.verdict u))
-          (λ a. after a (is_after_doubt e) refl)
-          (λ a. refl)
-        where
-          after : applies w e ≡ true → (t : Bool) → is_after_doubt e ≡ t → is_good ((swept (does w e)).manager.verdict u) ≡ is_good (w.manager.verdict u)
-          after a true is =
-              let change = decode w e (and_parts (is_allowed w e) (can w e) a).1 in
-              ap (λ (f : UnitNo → Verdict). is_good (f u)) (swept-verdict (does w e) ∙ verdict-after w e (does w e) change is)
-          after a false is = (let z : Some b ≡ None = sym some ∙ no_doubt w e a is in cc)
-
-  -- the effect of a finished unit stays
-  effect-stays : (u : UnitNo) → w.units.phase u ≡ Finished → effect_of (step w e) u ≡ effect_of w u
-  effect-stays u done = cond_both (applies w e) (swept (does w e)) w (λ (v : CoreState). effect_of v u ≡ effect_of w u)
-      (λ a. swept-effect (does w e) u ∙ effect-change opening w e (does w e) (decode w e (and_parts (is_allowed w e) (can w e) a).1) c.kept u done)
-      (λ a. refl)
-
-  -- the first batches have no more units than are closed
-  few-units : (n : ℕ) → units_in w n ≤ w.manager.closed
-  few-units n =
-      let less : sum_by (λ (b : Batch). b.size) (take n w.manager.past) ≤ sum_by (λ (b : Batch). b.size) w.manager.past = sum_by-take-le (λ (b : Batch). b.size) w.manager.past n in
-      let all : sum_by (λ (b : Batch). b.size) w.manager.past ≡ w.manager.closed = sizes-sum w.manager.past ∙ c.count in
-      omega (arith, less, all)
-
-  -- the records of the first batches are what they were
-  kept-stays : (n : ℕ) → n ≤ length w.manager.past → kept_by (step w e) n ≡ kept_by w n
-  kept-stays n low =
-      let past : take n (step w e).manager.past ≡ take n w.manager.past = ap (take n) x.past.1 ∙ take-append-le n w.manager.past x.past.0 low in
-      let units : units_in (step w e) n ≡ units_in w n = ap (sum_by (λ (b : Batch). b.size)) past in
-      let k : ℕ = units_in w n in
-      let fits : k ≤ length w.manager.order = (let few = few-units n in omega (arith, few, within)) in
-      let order : take (units_in (step w e) n) (step w e).manager.order ≡ take k w.manager.order =
-      ap (λ m. take m (step w e).manager.order) units ∙ ap (take k) x.order.1 ∙ take-append-le k w.manager.order x.order.0 fits in
-      let place = λ (u : UnitNo) (m : Member u (take k w.manager.order)). in_take _ w (loadless-of opening _ w c.kept.0) k u m fits in
-      let good : filter (λ u. is_good ((step w e).manager.verdict u)) (take k w.manager.order) ≡ filter (λ u. is_good (w.manager.verdict u)) (take k w.manager.order) =
-      filter-same (λ u. is_good ((step w e).manager.verdict u)) (λ u. is_good (w.manager.verdict u)) (take k w.manager.order)
-      (λ u m. (let t = place u m in let few = few-units n in good-stays u t.0 (omega (arith, t.1, few)))) in
-      ap (λ (us : List UnitNo). map (effect_of (step w e)) (filter (λ u. is_good ((step w e).manager.verdict u)) us)) order
-      ∙ ap (map (effect_of (step w e))) good
-      ∙ map-same (effect_of (step w e)) (effect_of w) (filter (λ u. is_good (w.manager.verdict u)) (take k w.manager.order))
-      (λ u m. effect-stays u (place u (in-filter (λ u. is_good (w.manager.verdict u)) (take k w.manager.order) u m)).0)
-
-  -- as many batches as there are, where more are asked for
-  kept-all : (n : ℕ) → length w.manager.past < n → kept_by w n ≡ kept_by w (length w.manager.past)
-  kept-all n far =
-      ap (λ (bs : List Batch). map (effect_of w) (filter (λ u. is_good (w.manager.verdict u)) (take (sum_by (λ (b : Batch). b.size) bs) w.manager.order)))
-      (take_all n w.manager.past (omega (arith, far)) ∙ sym (take_all (length w.manager.past) w.manager.past (omega arith)))
-
-  -- so a log of whole batches stays one
-  pub ends-stay : (first log : Log) → EndsABatch w first log → EndsABatch (step w e) first log
-  ends-stay first log b = elim (cases_lt (length w.manager.past) b.batches) [
-    | inl far ↦ record {
-      batches = length w.manager.past;
-      more = b.more;
-      split = b.split;
-      records = subst (λ (es : List Effect). AreRecordsOf es b.more) (kept-all b.batches far ∙ sym (kept-stays (length w.manager.past) (omega arith))) b.records;
-    }
-    | inr low ↦ record {
-      batches = b.batches;
-      more = b.more;
-      split = b.split;
-      records = subst (λ (es : List Effect). AreRecordsOf es b.more) (sym (kept-stays b.batches low)) b.records;
-    }
-  ]
-
--- after a run that keeps the unit rule
-pub batch-stays : (s : Basis) (r : Run) (e : CoreEvent) (first log : Log) → 0 < r.base → KeepsUnitRule s r
-    → EndsABatch (ends r) first log → EndsABatch (step (ends r) e) first log
-batch-stays s r e first log above keeps b =
-    let same : ends (applied_run r) ≡ ends r = ends_alike r in
-    let c : AreClosed r.opening (ends r) = subst (AreClosed r.opening) same (closed-ends (is_play s.types) (applied_run r) (legal s r above keeps)) in
-    let x : OnlyExtends (ends r) (step (ends r) e) = subst (OnlyExtends (ends r)) (run-append (begins r) r.events (e ∷ [])) (extends-ends r (e ∷ [])) in
-    ends-stay r.opening (ends r) e c x first log b
-
--- the rule of a run is that of its first part
-get-front : {A : Type 0} (xs ys : List A) (at : ℕ) (x : A) → slice_get xs at ≡ Some x → (slice_get (xs ++ ys) at ≡ Some x) × (at ≤ length xs)
-get-front [] ys at x there = absurd (none_at at x there)
-get-front (z ∷ xs) ys zero x there = (there, omega arith)
-get-front (z ∷ xs) ys (suc at) x there = (let t = get-front xs ys at x there in (t.0, omega (arith, t.1)))
-
--- a first part of a run keeps the unit rule
-keeps-front : (s : Basis) (r : Run) (more : List CoreEvent) → KeepsUnitRule s (extended r more) → KeepsUnitRule s r
-keeps-front s r more keeps at e here =
-    let t = get-front r.events more at e here.there in
-    let same : take at (r.events ++ more) ≡ take at r.events = take-append-le at r.events more t.1 in
-    subst (λ (es : List CoreEvent). IsDue s (run (begins r) es) (got_from (begins r) es) e) same
-    (keeps at e (record { there = t.0; applied = subst (λ (es : List CoreEvent). applies (run (begins r) es) e ≡ true) (sym same) here.applied }))
-
--- whatever events come
-pub batch-stays-run : (s : Basis) (r : Run) (more : List CoreEvent) (first log : Log) → 0 < r.base → KeepsUnitRule s (extended r more)
-    → EndsABatch (ends r) first log → EndsABatch (ends (extended r more)) first log
-batch-stays-run s r [] first log above keeps b = subst (λ (es : List CoreEvent). EndsABatch (run (begins r) es) first log) (sym (append-nil r.events)) b
-batch-stays-run s r (e ∷ es) first log above keeps b =
-    let one : EndsABatch (ends (extended r (e ∷ []))) first log =
-    subst (λ (w : CoreState). EndsABatch w first log) (sym (run-append (begins r) r.events (e ∷ []))) (batch-stays s r e first log above (keeps-front s r (e ∷ es) keeps) b) in
-    let whole : (r.events ++ e ∷ []) ++ es ≡ r.events ++ (e ∷ es) = append_assoc r.events (e ∷ []) es in
-    subst (λ (fs : List CoreEvent). EndsABatch (run (begins r) fs) first log) whole
-    (batch-stays-run s (extended r (e ∷ [])) es first log above (subst (λ (fs : List CoreEvent). KeepsUnitRule s (record r { events = fs })) (sym whole) keeps) one)
-
--- ---- all closed batches
-
--- a test that all fail passes nothing
-filter-none : {A : Type 0} (p : A → Bool) (xs : List A) → ((x : A) → Member x xs → p x ≡ false) → filter p xs ≡ []
-filter-none p [] none = refl
-filter-none p (x ∷ xs) none = rw (none x (inl refl), filter-none p xs (λ y m. none y (inr m))) refl
-
--- a verdict that is final is to commit where it is committed
-good-final : (v : Verdict) → is_final v ≡ true → is_good v ≡ is_committed v
-good-final Open e = refl
-good-final Chosen e = cc e
-good-final Condemned e = refl
-good-final Committed e = refl
-good-final Aborted e = refl
-
-module _ (opening : GrainId → List Value) (w : CoreState) (c : AreClosed opening w) where
-  -- all closed batches have the closed units
-  all-units : units_in w (length w.manager.past) ≡ w.manager.closed
-  all-units = ap (sum_by (λ (b : Batch). b.size)) (take_all (length w.manager.past) w.manager.past (omega arith)) ∙ sizes-sum w.manager.past ∙ c.count
-
-  -- which are among those that finished
-  all-within : w.manager.closed ≤ length w.manager.order
-  all-within = (let k = c.kept.1 in omega (arith, k))
-
-  -- the unit is to commit, or committed
-  good : UnitNo → Bool
-  good u = is_good (w.manager.verdict u)
-
-  -- where no batch is open they have those to commit of a batch in doubt too
-  chosen-batches : w.manager.batch ≡ None → kept_by w (length w.manager.past) ≡ committed w ++ chosen w
-  unfolding good
-  chosen-batches none =
-      let n : ℕ = w.manager.closed in
-      let bound : w.manager.closed + decided_size w.manager.batch ≡ n = ap (λ (o : Option Batch). n + decided_size o) none ∙ omega arith in
-      let later : filter good (drop n w.manager.order) ≡ [] =
-      filter-none good (drop n w.manager.order)
-      (λ u m. (let t = in_drop _ w (loadless-of opening _ w c.kept.0) n u m in ap is_good (c.kept.0.late u t.0 (subst (λ k. k < w.manager.place u) (sym bound) t.1)))) in
-      let whole : filter good w.manager.order ≡ filter good (take n w.manager.order) =
-      ap (filter good) (sym (take-append-drop n w.manager.order)) ∙ filter-append good (take n w.manager.order) (drop n w.manager.order)
-      ∙ ap (λ (us : List UnitNo). filter good (take n w.manager.order) ++ us) later ∙ append-nil (filter good (take n w.manager.order)) in
-      ap (λ k. map (effect_of w) (filter good (take k w.manager.order))) all-units ∙ sym (ap (map (effect_of w)) whole) ∙ split-order w (loadless-kept opening w c.kept) c.split
-
--- so it is at the end of a run that keeps the unit rule
-closed-of : (s : Basis) (r : Run) → 0 < r.base → KeepsUnitRule s r → AreClosed r.opening (ends r)
-closed-of s r above keeps = subst (AreClosed r.opening) (ends_alike r) (closed-ends (is_play s.types) (applied_run r) (legal s r above keeps))
-
--- the moments of a run
-pub moments-stay : (live : ℕ) (s : Basis) (r : Run) (more : List CoreEvent) (first : Log) (old new : List Moment) → 0 < r.base → KeepsUnitRule s (extended r more)
-    → Passes (AllEnd live (ends r) first) old new → Passes (AllEnd live (ends (extended r more)) first) old new
-moments-stay live s r more first old new above keeps passes =
-    weaker (AllEnd live (ends r) first) (AllEnd live (ends (extended r more)) first) (λ m all image log left is. batch-stays-run s r more first log above keeps (all image log left is)) passes
-
--- ---- a batch in doubt is the last one
+-- ---- how many units the closed batches have
 
 -- the closed batches have so many units; where one is in doubt none is open, and it begins where the first so many end
 abbrev Tally : CoreState → Type 0
@@ -440,7 +255,183 @@ tally-run (e ∷ es) w t = tally-run es (step w e)
 tally-ends : (r : Run) → Tally (ends r)
 tally-ends r = tally-run r.events (begins r) (refl, λ from q. no-begin None from refl q)
 
-module _ (opening : GrainId → List Value) (w : CoreState) (c : AreClosed opening w) where
+-- ---- closed batches
+
+-- what is needed of a state: closed batches are a first part of the finish order, and are decided but for one in doubt
+pub record AreClosed (w : CoreState) : Type 0 where
+  pub kept : LoadlessKept w
+  pub count : sizes w.manager.past ≡ w.manager.closed
+  pub decided : (u : UnitNo) → w.units.phase u ≡ Finished → w.manager.place u ≤ batch_begin w.manager.doubt w.manager.closed → is_final (w.manager.verdict u) ≡ true
+  pub split : Split w
+
+-- so it is at the end of each run
+pub closed-ends : (r : Run) → 0 < r.base → AreClosed (ends r)
+closed-ends r above = record {
+  kept = loadless-ends r above;
+  count = (tally-ends r).0;
+  decided = (prefix-ends r above).decided;
+  split = split-ends r above;
+}
+
+module _ (w : CoreState) (e : CoreEvent) (c : AreClosed w) (x : OnlyExtends w (step w e)) where
+  -- closed units are among those that finished
+  within : w.manager.closed ≤ length w.manager.order
+  within = (let k = c.kept.1 in omega (arith, k))
+
+  -- a unit of a closed batch stays to commit or not
+  good-stays : (u : UnitNo) → w.units.phase u ≡ Finished → w.manager.place u ≤ w.manager.closed → is_good ((step w e).manager.verdict u) ≡ is_good (w.manager.verdict u)
+  good-stays u done low = go w.manager.doubt refl
+    where
+      go : (o : Option ℕ) → w.manager.doubt ≡ o → is_good ((step w e).manager.verdict u) ≡ is_good (w.manager.verdict u)
+      go None none =
+          ap is_good ((grows-step w e c.kept).1 u (c.decided u done (subst (λ (o : Option ℕ). w.manager.place u ≤ batch_begin o w.manager.closed) (sym none) low)))
+      go (Some b) some = cond_both (applies w e) (swept (does w e)) w (λ (v : CoreState). is_good (v.manager.verdict u) ≡ is_good (w.manager.verdict u))
+          (λ a. after a (is_after_doubt e) refl)
+          (λ a. refl)
+        where
+          after : applies w e ≡ true → (t : Bool) → is_after_doubt e ≡ t → is_good ((swept (does w e)).manager.verdict u) ≡ is_good (w.manager.verdict u)
+          after a true is =
+              let change = decode w e (and_parts (is_allowed w e) (can w e) a).1 in
+              ap (λ (f : UnitNo → Verdict). is_good (f u)) (swept-verdict (does w e) ∙ verdict-after w e (does w e) change is)
+          after a false is = (let z : Some b ≡ None = sym some ∙ no_doubt w e a is in cc)
+
+  -- the effect of a finished unit stays
+  effect-stays : (u : UnitNo) → w.units.phase u ≡ Finished → effect_of (step w e) u ≡ effect_of w u
+  effect-stays u done = cond_both (applies w e) (swept (does w e)) w (λ (v : CoreState). effect_of v u ≡ effect_of w u)
+      (λ a. swept-effect (does w e) u ∙ effect-change w e (does w e) (decode w e (and_parts (is_allowed w e) (can w e) a).1) c.kept u done)
+      (λ a. refl)
+
+  -- the first batches have no more units than are closed
+  few-units : (n : ℕ) → units_in w n ≤ w.manager.closed
+  few-units n =
+      let less : sum_by (λ (b : Batch). b.size) (take n w.manager.past) ≤ sum_by (λ (b : Batch). b.size) w.manager.past = sum_by-take-le (λ (b : Batch). b.size) w.manager.past n in
+      let all : sum_by (λ (b : Batch). b.size) w.manager.past ≡ w.manager.closed = sizes-sum w.manager.past ∙ c.count in
+      omega (arith, less, all)
+
+  -- the records of the first batches are what they were
+  kept-stays : (n : ℕ) → n ≤ length w.manager.past → kept_by (step w e) n ≡ kept_by w n
+  kept-stays n low =
+      let past : take n (step w e).manager.past ≡ take n w.manager.past = ap (take n) x.past.1 ∙ take-append-le n w.manager.past x.past.0 low in
+      let units : units_in (step w e) n ≡ units_in w n = ap (sum_by (λ (b : Batch). b.size)) past in
+      let k : ℕ = units_in w n in
+      let fits : k ≤ length w.manager.order = (let few = few-units n in omega (arith, few, within)) in
+      let order : take (units_in (step w e) n) (step w e).manager.order ≡ take k w.manager.order =
+      ap (λ m. take m (step w e).manager.order) units ∙ ap (take k) x.order.1 ∙ take-append-le k w.manager.order x.order.0 fits in
+      let place = λ (u : UnitNo) (m : Member u (take k w.manager.order)). in_take _ w c.kept.0 k u m fits in
+      let good : filter (λ u. is_good ((step w e).manager.verdict u)) (take k w.manager.order) ≡ filter (λ u. is_good (w.manager.verdict u)) (take k w.manager.order) =
+      filter-same (λ u. is_good ((step w e).manager.verdict u)) (λ u. is_good (w.manager.verdict u)) (take k w.manager.order)
+      (λ u m. (let t = place u m in let few = few-units n in good-stays u t.0 (omega (arith, t.1, few)))) in
+      ap (λ (us : List UnitNo). map (effect_of (step w e)) (filter (λ u. is_good ((step w e).manager.verdict u)) us)) order
+      ∙ ap (map (effect_of (step w e))) good
+      ∙ map-same (effect_of (step w e)) (effect_of w) (filter (λ u. is_good (w.manager.verdict u)) (take k w.manager.order))
+      (λ u m. effect-stays u (place u (in-filter (λ u. is_good (w.manager.verdict u)) (take k w.manager.order) u m)).0)
+
+  -- as many batches as there are, where more are asked for
+  kept-all : (n : ℕ) → length w.manager.past < n → kept_by w n ≡ kept_by w (length w.manager.past)
+  kept-all n far =
+      ap (λ (bs : List Batch). map (effect_of w) (filter (λ u. is_good (w.manager.verdict u)) (take (sum_by (λ (b : Batch). b.size) bs) w.manager.order)))
+      (take_all n w.manager.past (omega (arith, far)) ∙ sym (take_all (length w.manager.past) w.manager.past (omega arith)))
+
+  -- so a log of whole batches stays one
+  pub ends-stay : (first log : Log) → EndsABatch w first log → EndsABatch (step w e) first log
+  ends-stay first log b = elim (cases_lt (length w.manager.past) b.batches) [
+    | inl far ↦ record {
+      batches = length w.manager.past;
+      more = b.more;
+      split = b.split;
+      records = subst (λ (es : List Effect). AreRecordsOf es b.more) (kept-all b.batches far ∙ sym (kept-stays (length w.manager.past) (omega arith))) b.records;
+    }
+    | inr low ↦ record {
+      batches = b.batches;
+      more = b.more;
+      split = b.split;
+      records = subst (λ (es : List Effect). AreRecordsOf es b.more) (sym (kept-stays b.batches low)) b.records;
+    }
+  ]
+
+-- after a run that keeps the unit rule
+pub batch-stays : (s : Basis) (r : Run) (e : CoreEvent) (first log : Log) → 0 < r.base → KeepsUnitRule s r
+    → EndsABatch (ends r) first log → EndsABatch (step (ends r) e) first log
+batch-stays s r e first log above keeps b =
+    let x : OnlyExtends (ends r) (step (ends r) e) = subst (OnlyExtends (ends r)) (run-append (begins r) r.events (e ∷ [])) (extends-ends r (e ∷ [])) in
+    ends-stay (ends r) e (closed-ends r above) x first log b
+
+-- the rule of a run is that of its first part
+get-front : {A : Type 0} (xs ys : List A) (at : ℕ) (x : A) → slice_get xs at ≡ Some x → (slice_get (xs ++ ys) at ≡ Some x) × (at ≤ length xs)
+get-front [] ys at x there = absurd (none_at at x there)
+get-front (z ∷ xs) ys zero x there = (there, omega arith)
+get-front (z ∷ xs) ys (suc at) x there = (let t = get-front xs ys at x there in (t.0, omega (arith, t.1)))
+
+-- a first part of a run keeps the unit rule
+keeps-front : (s : Basis) (r : Run) (more : List CoreEvent) → KeepsUnitRule s (extended r more) → KeepsUnitRule s r
+keeps-front s r more keeps at e here =
+    let t = get-front r.events more at e here.there in
+    let same : take at (r.events ++ more) ≡ take at r.events = take-append-le at r.events more t.1 in
+    subst (λ (es : List CoreEvent). IsDue s (run (begins r) es) (got_from (begins r) es) e) same
+    (keeps at e (record { there = t.0; applied = subst (λ (es : List CoreEvent). applies (run (begins r) es) e ≡ true) (sym same) here.applied }))
+
+-- whatever events come
+pub batch-stays-run : (s : Basis) (r : Run) (more : List CoreEvent) (first log : Log) → 0 < r.base → KeepsUnitRule s (extended r more)
+    → EndsABatch (ends r) first log → EndsABatch (ends (extended r more)) first log
+batch-stays-run s r [] first log above keeps b = subst (λ (es : List CoreEvent). EndsABatch (run (begins r) es) first log) (sym (append-nil r.events)) b
+batch-stays-run s r (e ∷ es) first log above keeps b =
+    let one : EndsABatch (ends (extended r (e ∷ []))) first log =
+    subst (λ (w : CoreState). EndsABatch w first log) (sym (run-append (begins r) r.events (e ∷ []))) (batch-stays s r e first log above (keeps-front s r (e ∷ es) keeps) b) in
+    let whole : (r.events ++ e ∷ []) ++ es ≡ r.events ++ (e ∷ es) = append_assoc r.events (e ∷ []) es in
+    subst (λ (fs : List CoreEvent). EndsABatch (run (begins r) fs) first log) whole
+    (batch-stays-run s (extended r (e ∷ [])) es first log above (subst (λ (fs : List CoreEvent). KeepsUnitRule s (record r { events = fs })) (sym whole) keeps) one)
+
+-- ---- all closed batches
+
+-- a test that all fail passes nothing
+filter-none : {A : Type 0} (p : A → Bool) (xs : List A) → ((x : A) → Member x xs → p x ≡ false) → filter p xs ≡ []
+filter-none p [] none = refl
+filter-none p (x ∷ xs) none = rw (none x (inl refl), filter-none p xs (λ y m. none y (inr m))) refl
+
+-- a verdict that is final is to commit where it is committed
+good-final : (v : Verdict) → is_final v ≡ true → is_good v ≡ is_committed v
+good-final Open e = refl
+good-final Chosen e = cc e
+good-final Condemned e = refl
+good-final Committed e = refl
+good-final Aborted e = refl
+
+module _ (w : CoreState) (c : AreClosed w) where
+  -- all closed batches have the closed units
+  all-units : units_in w (length w.manager.past) ≡ w.manager.closed
+  all-units = ap (sum_by (λ (b : Batch). b.size)) (take_all (length w.manager.past) w.manager.past (omega arith)) ∙ sizes-sum w.manager.past ∙ c.count
+
+  -- which are among those that finished
+  all-within : w.manager.closed ≤ length w.manager.order
+  all-within = (let k = c.kept.1 in omega (arith, k))
+
+  -- the unit is to commit, or committed
+  good : UnitNo → Bool
+  good u = is_good (w.manager.verdict u)
+
+  -- where no batch is open they have those to commit of a batch in doubt too
+  chosen-batches : w.manager.batch ≡ None → kept_by w (length w.manager.past) ≡ committed w ++ chosen w
+  unfolding good
+  chosen-batches none =
+      let n : ℕ = w.manager.closed in
+      let bound : w.manager.closed + decided_size w.manager.batch ≡ n = ap (λ (o : Option Batch). n + decided_size o) none ∙ omega arith in
+      let later : filter good (drop n w.manager.order) ≡ [] =
+      filter-none good (drop n w.manager.order)
+      (λ u m. (let t = in_drop _ w c.kept.0 n u m in ap is_good (c.kept.0.late u t.0 (subst (λ k. k < w.manager.place u) (sym bound) t.1)))) in
+      let whole : filter good w.manager.order ≡ filter good (take n w.manager.order) =
+      ap (filter good) (sym (take-append-drop n w.manager.order)) ∙ filter-append good (take n w.manager.order) (drop n w.manager.order)
+      ∙ ap (λ (us : List UnitNo). filter good (take n w.manager.order) ++ us) later ∙ append-nil (filter good (take n w.manager.order)) in
+      ap (λ k. map (effect_of w) (filter good (take k w.manager.order))) all-units ∙ sym (ap (map (effect_of w)) whole) ∙ split-order w c.kept c.split
+
+-- the moments of a run
+pub moments-stay : (live : ℕ) (s : Basis) (r : Run) (more : List CoreEvent) (first : Log) (old new : List Moment) → 0 < r.base → KeepsUnitRule s (extended r more)
+    → Passes (AllEnd live (ends r) first) old new → Passes (AllEnd live (ends (extended r more)) first) old new
+moments-stay live s r more first old new above keeps passes =
+    weaker (AllEnd live (ends r) first) (AllEnd live (ends (extended r more)) first) (λ m all image log left is. batch-stays-run s r more first log above keeps (all image log left is)) passes
+
+-- ---- what a run adds
+
+module _ (w : CoreState) (c : AreClosed w) where
   -- the unit is committed
   sure-one : UnitNo → Bool
   sure-one u = is_committed (w.manager.verdict u)
@@ -453,9 +444,9 @@ module _ (opening : GrainId → List Value) (w : CoreState) (c : AreClosed openi
       let fits : m ≤ length w.manager.order = (let k = c.kept.1 in let low = c.split.2 in omega (arith, k, low)) in
       let alike : filter (λ u. is_good (w.manager.verdict u)) (take m w.manager.order) ≡ filter sure-one (take m w.manager.order) =
       filter-same (λ u. is_good (w.manager.verdict u)) sure-one (take m w.manager.order)
-      (λ u here. (let t = in_take _ w (loadless-of opening _ w c.kept.0) m u here fits in good-final (w.manager.verdict u) (c.decided u t.0 t.1))) in
+      (λ u here. (let t = in_take _ w c.kept.0 m u here fits in good-final (w.manager.verdict u) (c.decided u t.0 t.1))) in
       let later : filter sure-one (drop m w.manager.order) ≡ [] =
-      filter-none sure-one (drop m w.manager.order) (λ u here. (let t = in_drop _ w (loadless-of opening _ w c.kept.0) m u here in never (w.manager.verdict u) (c.split.1 u t.0 t.1))) in
+      filter-none sure-one (drop m w.manager.order) (λ u here. (let t = in_drop _ w c.kept.0 m u here in never (w.manager.verdict u) (c.split.1 u t.0 t.1))) in
       let whole : filter sure-one w.manager.order ≡ filter sure-one (take m w.manager.order) =
       ap (filter sure-one) (sym (take-append-drop m w.manager.order)) ∙ filter-append sure-one (take m w.manager.order) (drop m w.manager.order)
       ∙ ap (λ (us : List UnitNo). filter sure-one (take m w.manager.order) ++ us) later ∙ append-nil (filter sure-one (take m w.manager.order)) in
@@ -473,7 +464,7 @@ module _ (opening : GrainId → List Value) (w : CoreState) (c : AreClosed openi
   front-is t = go w.manager.doubt refl
     where
       go : (o : Option ℕ) → w.manager.doubt ≡ o → (n : ℕ) × (units_in w n ≡ batch_begin w.manager.doubt w.manager.closed)
-      go None none = (length w.manager.past, all-units opening w c ∙ sym (ap (λ (o : Option ℕ). batch_begin o w.manager.closed) none))
+      go None none = (length w.manager.past, all-units w c ∙ sym (ap (λ (o : Option ℕ). batch_begin o w.manager.closed) none))
       go (Some from) there = (let q = t.1 from there in (q.1.0, q.1.1 ∙ sym (ap (λ (o : Option ℕ). batch_begin o w.manager.closed) there)))
 
   -- what a run adds ends where a batch does
@@ -486,10 +477,10 @@ module _ (opening : GrainId → List Value) (w : CoreState) (c : AreClosed openi
         batches = length w.manager.past;
         more = more;
         split = refl;
-        records = subst (λ (es : List Effect). AreRecordsOf es more) (sym (chosen-batches opening w c (t.1 f.begins f.doubt).0)) f.records;
+        records = subst (λ (es : List Effect). AreRecordsOf es more) (sym (chosen-batches w c (t.1 f.begins f.doubt).0)) f.records;
       }
 
 -- what a run adds, with a batch in doubt or without, ends where a batch does
 pub records-end : (s : Basis) (r : Run) (first : Log) (more : List Commit) → 0 < r.base → KeepsUnitRule s r
     → AreAdded (ends r) more → EndsABatch (ends r) first (grown first more)
-records-end s r first more above keeps are = added-end r.opening (ends r) (closed-of s r above keeps) (tally-ends r) first more are
+records-end s r first more above keeps are = added-end (ends r) (closed-ends r above) (tally-ends r) first more are

@@ -1,6 +1,6 @@
 -- Where no count rises, nothing is aborted for a fault.
-use Rattle.std.proofs.Common.{◌≡◌, ◌<◌, ◌⊎◌, ℕ, List, [], ◌∷◌, ◌++◌, Bool, true, false, ◌&&◌, ◌||◌, not, Option, Some, None, inl, inr, refl, sym, ap, ◌∙◌, subst, arith, map, filter}
-use Rattle.std.specs.Prelude.{⊤, ◌^◌, ◌-◌, take}
+use Rattle.std.proofs.Common.{◌≡◌, ◌<◌, ◌⊎◌, ℕ, zero, suc, Some, List, [], ◌∷◌, ◌++◌, Bool, true, false, ◌&&◌, ◌||◌, not, Option, None, inl, inr, refl, sym, ap, ◌∙◌, subst, arith, map, filter}
+use Rattle.std.specs.Prelude.{⊤, ◌^◌, ◌-◌, take, slice_get}
 use Rattle.std.proofs.lemmas.Bool.{and_parts, and_right, cond_both, cases_Bool, not-true, not_from_true}
 use Rattle.base_types.specs.declared.entries.Entry.{Entry}
 use Rattle.base_types.specs.declared.entries.Settled.TheVariants as settled
@@ -20,9 +20,9 @@ use Rattle.core_model.specs.Tests.{is_bad, is_gone, is_vote_on, has_failed, fail
 use Rattle.core_model.specs.DeadUnits.{Dead}
 use Rattle.core_model.specs.Changes.{entry_for, entries_in, told, result_told, decisions_of, with_decisions, judged, verdict_of, closed, seal, swept, swept_by, refusal, new_unit}
 use Rattle.core_model.specs.declared.events.CoreEvent.{CoreEvent}
-use Rattle.core_model.specs.declared.events.CoreEvent.TheVariants.{Vote, NotSealed, Doubt, Load}
-use Rattle.core_model.specs.Events.{applies, can, does, step, is_allowed}
-use Rattle.core_model.specs.SerialOrder.{IsTrueLoad}
+use Rattle.core_model.specs.declared.events.CoreEvent.TheVariants.{Vote, NotSealed, Doubt}
+use Rattle.core_model.specs.Events.{applies, can, does, step, run, is_allowed}
+use Rattle.core_model.specs.SerialOrder.{IsTrueLoad, AllLoadsTrue}
 use Rattle.core_model.specs.LegalRuns.{begins}
 use Rattle.core_laws.proofs.Basics.{Dead-not}
 use Rattle.core_laws.proofs.Puts.{put-at, put-from, put-is, put-other}
@@ -39,16 +39,15 @@ use Rattle.promise_spec.specs.Causes.{NoneRose, RoseBy, is_no, is_unsealed, RunH
 use Rattle.promise_spec.specs.Courses.{Observed, Course, basis, core_run, core_end}
 use Rattle.promise_spec.specs.Explanation.{IsExplained}
 use Rattle.promise_spec.specs.Promise.{IsUndisturbed}
-use Rattle.promise_spec.proofs.Lists.{some_is}
+use Rattle.promise_spec.proofs.Lists.{none_at, some_is}
 use Rattle.promise_laws.proofs.SerialRecords.{above_entries}
 use Rattle.promise_laws.proofs.AppliedEvents.{AllFit, keeps-run, none-applies}
 
--- the event shows no fault, and isn't a load
+-- the event shows no fault
 abbrev IsQuiet : CoreEvent → Type 0
 IsQuiet (Vote number g kept) = kept ≡ true
 IsQuiet (NotSealed number) = ⊥
 IsQuiet (Doubt number) = ⊥
-IsQuiet (Load g u state) = ⊥
 IsQuiet _ = ⊤
 
 -- each unit of the batch commits
@@ -274,7 +273,7 @@ calm-change opening w e w' (learn u g wrote final fresh) quiet k dep s = s
 calm-change opening w e w' (emit q) quiet k dep s = s
 calm-change opening w e w' (halt_run q) quiet k dep s = s
 calm-change opening w e w' (want u g running free fresh) quiet k dep s = s
-calm-change opening w e w' (load g u state gone wanted) quiet k dep s = absurd quiet
+calm-change opening w e w' (load g u state gone wanted) quiet k dep s = s
 
 swept-calm : (w : CoreState) → IsCalm w → IsCalm (swept w)
 swept-calm w s = go w.cells.capacity
@@ -283,20 +282,16 @@ swept-calm w s = go w.cells.capacity
     go None = s
     go (Some m) = s
 
-quiet-load : (opening : GrainId → List Value) (w : CoreState) (e : CoreEvent) → IsQuiet e → IsTrueLoad opening w e
-quiet-load opening w (Load g u state) quiet = absurd quiet
-quiet-load opening w _ quiet = tt
-
 -- a calm state, with the core's invariant
 abbrev KeepsCalm : (GrainId → List Value) → CoreState → Type 0
 KeepsCalm opening w = Kept opening w × Depends w × IsCalm w
 
-calm-step : (opening : GrainId → List Value) (w : CoreState) (e : CoreEvent) → applies w e ≡ true → IsQuiet e → KeepsCalm opening w → KeepsCalm opening (step w e)
-calm-step opening w e a quiet k = (
-  kept-step opening w e (quiet-load opening w e quiet) k.0,
-  depends-step opening w e (quiet-load opening w e quiet) k.0 k.1,
+calm-step : (opening : GrainId → List Value) (w : CoreState) (e : CoreEvent) → applies w e ≡ true → IsQuiet e × IsTrueLoad opening w e → KeepsCalm opening w → KeepsCalm opening (step w e)
+calm-step opening w e a fits k = (
+  kept-step opening w e fits.1 k.0,
+  depends-step opening w e fits.1 k.0 k.1,
   cond_both (applies w e) (swept (does w e)) w IsCalm
-      (λ b. swept-calm (does w e) (calm-change opening w e (does w e) (decode w e (and_parts (is_allowed w e) (can w e) b).1) quiet k.0 k.1 k.2))
+      (λ b. swept-calm (does w e) (calm-change opening w e (does w e) (decode w e (and_parts (is_allowed w e) (can w e) b).1) fits.0 k.0 k.1 k.2))
       (λ b. k.2),
 )
 
@@ -319,14 +314,20 @@ quiet-events p r c is none at e there a = quiet e (record { there = there; appli
     quiet (Vote number g false) applied due = absurd (none-applies (is_no g) (core_run p c) (no_vote g) at (Vote number g false) applied (ap (λ b. b && true) (same_grain-is g g refl)))
     quiet (NotSealed number) applied due = none-applies is_unsealed (core_run p c) all_sealed at (NotSealed number) applied refl
     quiet (Doubt number) applied due = none-applies is_unsealed (core_run p c) all_sealed at (Doubt number) applied refl
-    quiet (Load g u state) applied due = due
     quiet _ applied due = tt
+
+-- each load that a list holds is true at its place
+true-at : (opening : GrainId → List Value) (events : List CoreEvent) (w : CoreState) → AllLoadsTrue opening w events → (at : ℕ) (e : CoreEvent) → slice_get events at ≡ Some e → IsTrueLoad opening (run w (take at events)) e
+true-at opening [] w all at e there = absurd (none_at at e there)
+true-at opening (x ∷ events) w all zero e there = subst (IsTrueLoad opening w) (some_is x e there) all.0
+true-at opening (x ∷ events) w all (suc at) e there = true-at opening events (step w x) all.1 at e there
 
 pub calm_undisturbed : (p : Program) (r : Observed) (c : Course) → 0 < c.opening.base.next → IsExplained p r c → NoneRose r.faults_before r.faults_after
     → (e : Entry) → Member e (core_end p c).manager.settled → IsUndisturbed e.what
 calm_undisturbed p r c based is none =
     let opening : GrainId → List Value = (core_run p c).opening in
-    (keeps-run (λ w e. IsQuiet e) (KeepsCalm opening) (calm-step opening) c.events (begins (core_run p c)) (quiet-events p r c is none) (
+    (keeps-run (λ w e. IsQuiet e × IsTrueLoad opening w e) (KeepsCalm opening) (calm-step opening) c.events (begins (core_run p c))
+    (λ at e there a. (quiet-events p r c is none at e there a, true-at opening c.events (begins (core_run p c)) is.loads at e there)) (
       kept-start (core_run p c).base (core_run p c).kinds (core_run p c).capacity opening (above_entries c.opening.base c.opening.entries based),
       ((λ u. tt), (λ u d m. absurd m)),
       record {

@@ -1,4 +1,4 @@
--- Where a run keeps the unit rule, the events that applied are a legal run of the core.
+-- Where a run keeps the unit rule and each load is true, the events that applied are a legal run of the core.
 use Rattle.std.proofs.Common.{◌≡◌, ◌<◌, ℕ, suc, List, [], ◌∷◌, length, map, Bool, true, Some, refl, sym, ap, ◌∙◌, subst, eqb-true, eq-eqb}
 use Rattle.std.specs.Prelude.{◌==◌, take, slice_get}
 use Rattle.std.specs.Cmp.{signed_Decides}
@@ -87,18 +87,16 @@ run-applied w (e ∷ events) =
 pub ends_alike : (r : Run) → ends (applied_run r) ≡ ends r
 ends_alike r = run-applied (begins r) r.events
 
--- what a legal run needs of an event that applies: its effect is a play, and it is no load
+-- what a legal run needs of the effect of an event that applies: it is a play
 abbrev Needs : ProgramTree → CoreEvent → Type 0
 Needs types (Finish u e) = IsPlayOf types e
 Needs types (EndPlain u e) = IsPlayOf types e
-Needs types (Load g u state) = ⊥
 Needs types _ = Unit {0}
 
 -- what is due has it
 due-needs : (s : Basis) (w : CoreState) (got : UnitNo → List Got) (e : CoreEvent) → IsDue s w got e → Needs s.types e
 due-needs s w got (Finish u e) d = d.1
 due-needs s w got (EndPlain u e) d = d.1
-due-needs s w got (Load g u state) d = d
 due-needs s w got _ d = tt
 
 -- each event of the list that applies has it
@@ -113,10 +111,6 @@ one-plays types (Finish u e) n = is_play-is types e n
 one-plays types (EndPlain u e) n = is_play-is types e n
 one-plays types _ n = tt
 
-one-true : (types : ProgramTree) (opening : GrainId → List Value) (w : CoreState) (e : CoreEvent) → (applies w e ≡ true → Needs types e) → IsTrueLoad opening w e
-one-true types opening w (Load g u state) n = λ a. absurd (n a)
-one-true types opening w _ n = tt
-
 -- the effects are plays
 plays-in : (types : ProgramTree) (w : CoreState) (events : List CoreEvent) → AllNeeded types w events → AllPlay (is_play types) (applied_from w events)
 plays-in types w [] all = tt
@@ -126,20 +120,35 @@ plays-in types w (e ∷ events) all =
     (λ a. (one-plays types e (all 0 e refl a), rest))
     (λ a. rest)
 
--- and nothing is loaded
-loads-in : (types : ProgramTree) (opening : GrainId → List Value) (w : CoreState) (events : List CoreEvent) → AllNeeded types w events → AllLoadsTrue opening w (applied_from w events)
-loads-in types opening w [] all = tt
-loads-in types opening w (e ∷ events) all =
-    let rest : AllLoadsTrue opening (step w e) (applied_from (step w e) events) = loads-in types opening (step w e) events (later-needed types w e events all) in
+-- and the loads that applied are true where each load is
+loads-in : (opening : GrainId → List Value) (w : CoreState) (events : List CoreEvent) → AllLoadsTrue opening w events → AllLoadsTrue opening w (applied_from w events)
+loads-in opening w [] all = tt
+loads-in opening w (e ∷ events) all =
+    let rest : AllLoadsTrue opening (step w e) (applied_from (step w e) events) = loads-in opening (step w e) events all.1 in
     cond_both (applies w e) (e ∷ applied_from (step w e) events) (applied_from (step w e) events) (AllLoadsTrue opening w)
-    (λ a. (one-true types opening w e (λ b. all 0 e refl b), rest))
+    (λ a. (all.0, rest))
     (λ a. subst (λ v. AllLoadsTrue opening v (applied_from (step w e) events)) (no-change w e a) rest)
 
-pub legal : (s : Basis) (r : Run) → 0 < r.base → KeepsUnitRule s r → IsLegal (is_play s.types) (applied_run r)
-legal s r above keeps =
+-- nothing is loaded where the unit rule is kept, since no load is due
+no-load : (s : Basis) (opening : GrainId → List Value) (w : CoreState) (got : UnitNo → List Got) (e : CoreEvent) → (applies w e ≡ true → IsDue s w got e) → IsTrueLoad opening w e
+no-load s opening w got (Load g u state) due = λ a. absurd (due a)
+no-load s opening w got _ due = tt
+
+true-from : (opening : GrainId → List Value) (w : CoreState) (events : List CoreEvent) → ((at : ℕ) (e : CoreEvent) → slice_get events at ≡ Some e → IsTrueLoad opening (run w (take at events)) e) → AllLoadsTrue opening w events
+true-from opening w [] each = tt
+true-from opening w (e ∷ events) each = (each 0 e refl, true-from opening (step w e) events (λ at f there. each (suc at) f there))
+
+-- so each load is true
+pub loads-by-rule : (s : Basis) (r : Run) → KeepsUnitRule s r → AllLoadsTrue r.opening (begins r) r.events
+loads-by-rule s r keeps =
+    true-from r.opening (begins r) r.events
+    (λ at e there. no-load s r.opening (state_before r at) (got_from (begins r) (take at r.events)) e (λ a. keeps at e (record { there = there; applied = a })))
+
+pub legal : (s : Basis) (r : Run) → 0 < r.base → AllLoadsTrue r.opening (begins r) r.events → KeepsUnitRule s r → IsLegal (is_play s.types) (applied_run r)
+legal s r above true_loads keeps =
     let all : AllNeeded s.types (begins r) r.events = λ at e there a. due-needs s (state_before r at) (got_from (begins r) (take at r.events)) e (keeps at e (record { there = there; applied = a })) in
     record {
       above = above;
       effects = plays-in s.types (begins r) r.events all;
-      loads = loads-in s.types r.opening (begins r) r.events all;
+      loads = loads-in r.opening (begins r) r.events true_loads;
     }

@@ -197,6 +197,7 @@ module _ (p : Program) (r s : Observed) (c : Course) (told : List Moment) (told_
     records = k.records;
     units = k.units;
     turns = k.turns;
+    loads = k.loads;
     caused = k.caused;
     faults = k.faults;
     doubted = k.doubted;

@@ -363,7 +363,7 @@ pub explained_family : (p : Program) (r : Observed) (c : Course) → 0 < c.openi
 explained_family p r c based is numbered =
     let above : 0 < (core_run p c).base = above_entries c.opening.base c.opening.entries based in
     let run : Run = applied_run (core_run p c) in
-    let lawful : IsLegal (is_play p.types) run = legal (basis p r c) (core_run p c) above is.units in
+    let lawful : IsLegal (is_play p.types) run = legal (basis p r c) (core_run p c) above is.loads is.units in
     let same : ends run ≡ core_end p c = ends_alike (core_run p c) in
     subst (λ (order : List Commit). IsFamily p.types (lines r) (core_end p c) (standing_of c.opening).states order c.added) (sym (grown_records c.opening c.added))
     (family p.types (lines r) (core_end p c) (standing_of c.opening).states (records_of c.opening) c.added (record {

@@ -1,5 +1,5 @@
 -- What a run answers, over any folder, and what it promises with what lasts.
-use Rattle.std.proofs.Common.{◌≡◌, inr, ℕ, ◌<◌, ◌≤◌, true, List, [], sym, subst, arith}
+use Rattle.std.proofs.Common.{◌≡◌, inl, inr, refl, ℕ, ◌<◌, ◌≤◌, true, List, [], sym, subst, arith}
 use Rattle.base_types.specs.declared.entries.Entry.{Entry}
 use Rattle.core_model.specs.CoreState.{Member}
 use Rattle.promise_spec.specs.Programs.{Program, shape_in}
@@ -7,9 +7,10 @@ use Rattle.promise_spec.specs.Images.{IsWholeFolder}
 use Rattle.promise_spec.specs.Outputs.{Grew}
 use Rattle.promise_spec.specs.Openings.{Reads, opened_as}
 use Rattle.promise_spec.specs.Endings as ending
-use Rattle.promise_spec.specs.Courses.{Observed, Course, seen_at_entry, program_in_force}
+use Rattle.promise_spec.specs.Courses.{Observed, Course, core_run, seen_at_entry, program_in_force}
 use Rattle.promise_spec.specs.Words.{Manner}
 use Rattle.promise_spec.specs.Promise.{Keeps, KeepsAnywhere, Promises}
+use Rattle.promise_spec.proofs.WholeMemory.{never-unloaded}
 use Rattle.promise_laws.specs.AnsweredRuns.{HasAnswered, HasOpened}
 use Rattle.promise_laws.specs.Obligations.{ShowsAnywhere, Lasts, Shows}
 use Rattle.promise_laws.proofs.Bases.{reads_above}
@@ -54,7 +55,10 @@ anywhere_opened r c k = record {
   openable = record { live = c.live; log = c.opening; reads = k.reads };
   carried = k.ended.carried;
   risen = k.ended.risen;
-  file = λ f is. (k.explained.doubted f is).0;
+  file = λ f is. elim (k.explained.doubted f is) [
+    | inl manager ↦ manager.0
+    | inr grain ↦ (let unloaded = grain.2 in absurd (never-unloaded (core_run (program_in_force c) c) unloaded.0 grain.0 refl unloaded.2))
+  ];
   given = k.ended.given;
   answered = has_answered (program_in_force c) r c k;
 }

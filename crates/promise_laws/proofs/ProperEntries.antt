@@ -21,6 +21,7 @@ use Rattle.core_model.specs.Causes.{HasCause, HasLine, IsCaused, decided_state}
 use Rattle.core_model.specs.Chains.{WroteGrain}
 use Rattle.core_model.specs.Changes.{new_unit, swept, swept_by}
 use Rattle.core_model.specs.Events.{applies, can, does, step, run, is_allowed}
+use Rattle.core_model.specs.SerialOrder.{AllLoadsTrue}
 use Rattle.core_model.specs.LegalRuns.{Run, IsLegal, begins, ends}
 use Rattle.core_model.specs.Laws.{extended}
 use Rattle.core_model.specs.Tests.{is_over, state_written}
@@ -246,10 +247,10 @@ module _ (types : ProgramTree) (lines : List (List ℕ)) (shape : Shape) (plays 
   proper-all = all_of (IsProper shape) (ends r).manager.settled proper-one
 
 -- so it is in a run that keeps the unit rule
-pub settled-proper : (s : Basis) (shape : Shape) (r : Run) → 0 < r.base → KeepsUnitRule s r → length s.lines < 2 ^ 32 → (ends r).units.next ≤ 2 ^ 64
+pub settled-proper : (s : Basis) (shape : Shape) (r : Run) → 0 < r.base → AllLoadsTrue r.opening (begins r) r.events → KeepsUnitRule s r → length s.lines < 2 ^ 32 → (ends r).units.next ≤ 2 ^ 64
     → AllByRecursion (IsEventIn shape) (applied_in r) → AllByRecursion (IsProper shape) (ends r).manager.settled
-settled-proper s shape r above keeps short few fit =
+settled-proper s shape r above loads keeps short few fit =
     let same : ends (applied_run r) ≡ ends r = ends_alike r in
     subst (λ (w : CoreState). AllByRecursion (IsProper shape) w.manager.settled) same
-    (proper-all s.types s.lines shape (is_play s.types) (applied_run r) (legal s r above keeps) (all_said s r keeps) short
+    (proper-all s.types s.lines shape (is_play s.types) (applied_run r) (legal s r above loads keeps) (all_said s r keeps) short
     (subst (λ (w : CoreState). w.units.next ≤ 2 ^ 64) (sym same) few) fit)

@@ -6,6 +6,7 @@ use Rattle.base_types.specs.declared.entries.Entry.{Entry}
 use Rattle.core_model.specs.CoreState.{Member, CoreState}
 use Rattle.core_model.specs.declared.events.CoreEvent.{CoreEvent}
 use Rattle.core_model.specs.Events.{applies, step, run}
+use Rattle.core_model.specs.SerialOrder.{AllLoadsTrue}
 use Rattle.core_model.specs.LegalRuns.{Run, begins, ends}
 use Rattle.core_model.specs.Causes.{HasCause, HasLine, IsCaused}
 use Rattle.core_laws.proofs.EntryCauses.{caused-ends}
@@ -53,11 +54,11 @@ put_back w (x ∷ events) before later event e =
           (put_back (step w x) events before later event (sym (ap (λ t. if t then x ∷ applied else applied) a) ∙ e))
     ]
 
-pub explained_causes : (s : Basis) (r : Run) → 0 < r.base → KeepsUnitRule s r
+pub explained_causes : (s : Basis) (r : Run) → 0 < r.base → AllLoadsTrue r.opening (begins r) r.events → KeepsUnitRule s r
     → (x : Entry) → Member x (ends r).manager.settled → IsCaused r x
-explained_causes s r above keeps x there =
+explained_causes s r above loads keeps x there =
     let cause : IsCaused (applied_run r) x =
-    caused-ends (is_play s.types) (applied_run r) (legal s r above keeps) x (subst (λ (w : CoreState). Member x w.manager.settled) (sym (ends_alike r)) there) in
+    caused-ends (is_play s.types) (applied_run r) (legal s r above loads keeps) x (subst (λ (w : CoreState). Member x w.manager.settled) (sym (ends_alike r)) there) in
     let back : PutBack (begins r) r.events cause.before cause.event = put_back (begins r) r.events cause.before cause.later cause.event cause.split in
     record {
       before = back.front;

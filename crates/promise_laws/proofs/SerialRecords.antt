@@ -125,7 +125,7 @@ above_entries before (Recorded c ∷ entries) above = above_entries (after_entry
 pub explained_serial : (p : Program) (r : Observed) (c : Course) → 0 < c.opening.base.next → IsExplained p r c → IsSerial p.types (standing_of c.opening).states c.added
 explained_serial p r c based is =
     let run : Run = applied_run (core_run p c) in
-    let lawful : IsLegal (is_play p.types) run = legal (basis p r c) (core_run p c) (above_entries c.opening.base c.opening.entries based) is.units in
+    let lawful : IsLegal (is_play p.types) run = legal (basis p r c) (core_run p c) (above_entries c.opening.base c.opening.entries based) is.loads is.units in
     let same : ends run ≡ core_end p c = ends_alike (core_run p c) in
     elim is.records [
       | inl all ↦

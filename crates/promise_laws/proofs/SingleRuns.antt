@@ -1,6 +1,6 @@
 -- Where one line at a time is in flight, and no unit asks for another, nothing meets a lock.
 use Rattle.std.proofs.Common.{◌≡◌, ◌+◌, ◌-◌, ◌<◌, ◌≤◌, ℕ, zero, suc, List, [], ◌∷◌, ◌++◌, true, false, ◌&&◌, ◌||◌, not, Option, Some, None, inl, inr, refl, sym, ap, ◌∙◌, subst, arith, nat_lt, is_none}
-use Rattle.std.specs.Prelude.{⊤, take}
+use Rattle.std.specs.Prelude.{⊤, get_or, take}
 use Rattle.std.proofs.lemmas.Bool.{and_parts, or_parts, cond_both, cases_Bool, not-true, not-false, ltb-true, cases_lt}
 use Rattle.base_types.specs.declared.calls.Origin.{Origin}
 use Rattle.base_types.specs.declared.calls.Origin.TheVariants.{Line, Child}
@@ -18,7 +18,7 @@ use Rattle.core_model.specs.CoreState.{UnitNo, GrainId, nobody, same_unit, put, 
 use Rattle.core_model.specs.Tests.{ask_answer, is_free, members}
 use Rattle.core_model.specs.Changes.{entry_for, entries_in, told, result_told, decisions_of, refusal, with_decisions, new_unit, swept, swept_by}
 use Rattle.core_model.specs.declared.events.CoreEvent.{CoreEvent}
-use Rattle.core_model.specs.declared.events.CoreEvent.TheVariants.{Begin, Load}
+use Rattle.core_model.specs.declared.events.CoreEvent.TheVariants.{Begin}
 use Rattle.core_model.specs.Events.{applies, can, does, step, is_allowed}
 use Rattle.core_model.specs.LegalRuns.{Run, begins}
 use Rattle.core_laws.proofs.Puts.{put-at, put-from, grain-from}
@@ -26,10 +26,11 @@ use Rattle.core_laws.proofs.EventCases.{Change, bad, begin, lock, raise, refuse,
 use Rattle.core_laws.proofs.EntryCauses.{entry-parts}
 use Rattle.core_laws.proofs.LineEntries.{Once, once-change}
 use Rattle.promise_spec.specs.Programs.{Program}
-use Rattle.promise_spec.specs.Cores.{AppliesAt, state_before}
+use Rattle.promise_spec.specs.Cores.{AppliesAt, applied_from, state_before}
 use Rattle.promise_spec.specs.UnitAnswers.{got_from}
 use Rattle.promise_spec.specs.UnitRule.{IsDue}
-use Rattle.promise_spec.specs.TurnRule.{is_line, is_settled, in_flight, units_from, units_of}
+use Rattle.promise_spec.specs.TurnRule.{and_wish, grain_due, is_line, is_settled, in_flight, line_can_begin, lock_asked, movers, next_wish, passed, picks_used, units_from, units_of}
+use Rattle.promise_spec.proofs.PickedMovers.{line-begins, movers-take}
 use Rattle.promise_spec.specs.Courses.{Observed, Course, basis, core_run, core_end}
 use Rattle.promise_spec.specs.Explanation.{IsExplained}
 use Rattle.promise_spec.specs.Promise.{HasNoChild, IsNoLock}
@@ -40,11 +41,10 @@ use Rattle.core_laws.proofs.Loadless.{LoadlessAt}
 use Rattle.core_model.specs.LoadlessLaws.{EachIsDecided}
 use Rattle.core_laws.proofs.EachDecided.{each-step}
 
--- a line begins only where none is in flight, no child begins, and nothing is loaded
+-- a line begins only where none is in flight, and no child begins
 abbrev IsSingle : Run → CoreState → CoreEvent → Type 0
 IsSingle r w (Begin (Line n) call plain) = in_flight r w ≡ 0
 IsSingle r w (Begin (Child parent index depth) call plain) = ⊥
-IsSingle r w (Load g u state) = ⊥
 IsSingle r w _ = ⊤
 
 -- Each unit that has begun is a line's, and has a number of the run. Who runs, or has a lock, has the last one. No
@@ -234,7 +234,7 @@ alone-change r w e w' (learn u g wrote final fresh) single k once s = s
 alone-change r w e w' (emit q) single k once s = s
 alone-change r w e w' (halt_run q) single k once s = s
 alone-change r w e w' (want u g running free fresh) single k once s = s
-alone-change r w e w' (load g u state gone wanted) single k once s = absurd single
+alone-change r w e w' (load g u state gone wanted) single k once s = s
 
 swept-alone : (base : ℕ) (w : CoreState) → IsAlone base w → IsAlone base (swept w)
 swept-alone base w s = go w.cells.capacity
@@ -274,11 +274,16 @@ single-events p r c is unthreaded one none at e there a = single e (record { the
 
     single : (e : CoreEvent) → AppliesAt (core_run p c) at e → IsDue (basis p r c) w (got_from (begins (core_run p c)) (take at c.events)) e → IsSingle (core_run p c) w e
     single (Begin (Line n) call plain) applied due =
-        let t = and_parts (is_none w.manager.doubt) _ (is.turns unthreaded at (Begin (Line n) call plain) applied) in
+        let got = got_from (begins (core_run p c)) (take at c.events) in
+        let ms = movers p.types (core_run p c) w got in
+        let wish = next_wish w (units_of (core_run p c) w) (lock_asked p.types w got) (passed (applied_from (begins (core_run p c)) (take at c.events))) in
+        let can : line_can_begin r.windowed r.manner.width c.allowed (core_run p c) w (and_wish wish ms) ≡ true =
+        line-begins ms (get_or r.manner.picks (picks_used (core_run p c) at) 0) (movers-take p.types (core_run p c) w got) (grain_due w) (line_can_begin r.windowed r.manner.width c.allowed (core_run p c) w (and_wish wish ms)) wish
+        (is.turns unthreaded at (Begin (Line n) call plain) applied).whose in
+        let t = and_parts (is_none w.manager.doubt) _ can in
         let few = ltb-true _ _ (and_parts (nat_lt (in_flight (core_run p c) w) r.manner.width) _ t.1).0 in
         omega (arith, few, one)
     single (Begin (Child parent index depth) call plain) applied due = none at parent index depth call (subst (λ b. AppliesAt (core_run p c) at (Begin (Child parent index depth) call b)) due.1 applied)
-    single (Load g u state) applied due = due
     single _ applied due = tt
 
 pub single_unlocked : (p : Program) (r : Observed) (c : Course) → 0 < c.opening.base.next → IsExplained p r c → r.manner.threaded ≡ false → r.manner.width ≡ 1

@@ -81,7 +81,7 @@ known-ends types lines r l said = record {
 pub known_of : (p : Program) (r : Observed) (c : Course) → 0 < c.opening.base.next → IsExplained p r c → Known p.types (lines r) (standing_of c.opening).states (standing_of c.opening).next (core_end p c)
 known_of p r c based is =
     subst (Known p.types (lines r) (standing_of c.opening).states (standing_of c.opening).next) (ends_alike (core_run p c))
-    (known-ends p.types (lines r) (applied_run (core_run p c)) (legal (basis p r c) (core_run p c) (above_entries c.opening.base c.opening.entries based) is.units) (all_said (basis p r c) (core_run p c) is.units))
+    (known-ends p.types (lines r) (applied_run (core_run p c)) (legal (basis p r c) (core_run p c) (above_entries c.opening.base c.opening.entries based) is.loads is.units) (all_said (basis p r c) (core_run p c) is.units))
 
 -- ---- the records are those of the units that meet a test
 

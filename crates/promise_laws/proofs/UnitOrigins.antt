@@ -17,7 +17,7 @@ use Rattle.core_model.specs.Changes.{new_unit, begun}
 use Rattle.core_model.specs.Events.{can_begin}
 use Rattle.core_laws.proofs.Basics.{is_running-true}
 use Rattle.core_laws.proofs.Puts.{put-from, put-same, put-is, put-other}
-use Rattle.core_laws.proofs.KeptInvariant.{Kept}
+use Rattle.core_laws.proofs.LoadlessKept.{LoadlessKept}
 use Rattle.core_laws.proofs.Children.{Kin}
 use Rattle.core_laws.proofs.Growth.{Grows, grows-outcome}
 use Rattle.script_tree.specs.Programs.{ProgramTree}
@@ -271,8 +271,8 @@ lock-cases (Some (WantUnit call depth)) g mode e = absurd (cc)
 lock-cases (Some (Over outcome)) g mode e = absurd (cc)
 
 -- who holds a grain has read it
-holder-read : (opening : GrainId → List Value) (w : CoreState) (u : UnitNo) (g : GrainId) → Kept opening w → holds_lock u (w.cells.holds g) ≡ true → (r : Read) × Member r (w.units.reads u) × (r.grain ≡ g)
-holder-read opening w u g k e =
+holder-read : (w : CoreState) (u : UnitNo) (g : GrainId) → LoadlessKept w → holds_lock u (w.cells.holds g) ≡ true → (r : Read) × Member r (w.units.reads u) × (r.grain ≡ g)
+holder-read w u g k e =
     let h = any-true (is_hold_of u) (w.cells.holds g) e in
     let of : h.0.unit ≡ u = same_unit-true h.0.unit u h.2 in
     let s = k.0.told g h.0 h.1 in
@@ -280,8 +280,8 @@ holder-read opening w u g k e =
     (r.0, subst (λ x. Member r.0 (w.units.reads x)) (s.2 ∙ of) r.1, r.2)
 
 -- and who has read it and runs holds it
-reader-holds : (opening : GrainId → List Value) (w : CoreState) (u : UnitNo) (r : Read) → Kept opening w → w.units.phase u ≡ Running → Member r (w.units.reads u) → holds_lock u (w.cells.holds r.grain) ≡ true
-reader-holds opening w u r k running m =
+reader-holds : (w : CoreState) (u : UnitNo) (r : Read) → LoadlessKept w → w.units.phase u ≡ Running → Member r (w.units.reads u) → holds_lock u (w.cells.holds r.grain) ≡ true
+reader-holds w u r k running m =
     let h = k.0.keeps u r running m in
     any-member (is_hold_of u) (w.cells.holds r.grain) h.0 h.1 (same_unit-is h.0.unit u h.2)
 
@@ -302,28 +302,28 @@ both-ways : (b : Bool) → b ≡ true → b ≡ false → ⊥
 both-ways b t f = (let z : true ≡ false = sym t ∙ f in cc)
 
 -- a grain that isn't held is locked for the first time
-pub first-lock : (types : ProgramTree) (opening : GrainId → List Value) (w : CoreState) (got : UnitNo → List Got) (u : UnitNo) (g : GrainId) (mode : Mode) → Kept opening w → Traced types w got →
+pub first-lock : (types : ProgramTree) (w : CoreState) (got : UnitNo → List Got) (u : UnitNo) (g : GrainId) (mode : Mode) → LoadlessKept w → Traced types w got →
     w.units.phase u ≡ Running → holds_lock u (w.cells.holds g) ≡ false → wanted_lock (wanted_by types w u (got u)) ≡ Some (g, mode) → wanted_by types w u (got u) ≡ Some (WantLock g mode)
-first-lock types opening w got u g mode k t running free due = elim (lock-cases (wanted_by types w u (got u)) g mode due) [
+first-lock types w got u g mode k t running free due = elim (lock-cases (wanted_by types w u (got u)) g mode due) [
   | inl e ↦ e
   | inr e ↦
       let s : Trailed types w got u (WantRaise g) = trailed types w got u (WantRaise g) t e in
       let missing : IsMissing types (depth_of (w.units.origin u)) s.trail (WantRaise g) = subst (λ (x : Want). IsMissing types (depth_of (w.units.origin u)) s.trail x) s.named
       (next_is_missing_lem types (w.units.call u) (depth_of (w.units.origin u)) s.trail s.is) in
       let read : (r : Read) × Member r (w.units.reads u) × (r.grain ≡ g) = read-there (w.units.reads u) (reads_of s.trail) g s.reads missing.0 in
-      let held : holds_lock u (w.cells.holds g) ≡ true = subst (λ h. holds_lock u (w.cells.holds h) ≡ true) read.2 (reader-holds opening w u read.0 k running read.1) in
+      let held : holds_lock u (w.cells.holds g) ≡ true = subst (λ h. holds_lock u (w.cells.holds h) ≡ true) read.2 (reader-holds w u read.0 k running read.1) in
       absurd (both-ways (holds_lock u (w.cells.holds g)) held free)
 ]
 
 -- a grain that is held is raised
-pub then-raise : (types : ProgramTree) (opening : GrainId → List Value) (w : CoreState) (got : UnitNo → List Got) (u : UnitNo) (g : GrainId) (mode : Mode) → Kept opening w → Traced types w got →
+pub then-raise : (types : ProgramTree) (w : CoreState) (got : UnitNo → List Got) (u : UnitNo) (g : GrainId) (mode : Mode) → LoadlessKept w → Traced types w got →
     holds_lock u (w.cells.holds g) ≡ true → wanted_lock (wanted_by types w u (got u)) ≡ Some (g, mode) → wanted_by types w u (got u) ≡ Some (WantRaise g)
-then-raise types opening w got u g mode k t held due = elim (lock-cases (wanted_by types w u (got u)) g mode due) [
+then-raise types w got u g mode k t held due = elim (lock-cases (wanted_by types w u (got u)) g mode due) [
   | inl e ↦
       let s : Trailed types w got u (WantLock g mode) = trailed types w got u (WantLock g mode) t e in
       let missing : IsMissing types (depth_of (w.units.origin u)) s.trail (WantLock g mode) = subst (λ (x : Want). IsMissing types (depth_of (w.units.origin u)) s.trail x) s.named
       (next_is_missing_lem types (w.units.call u) (depth_of (w.units.origin u)) s.trail s.is) in
-      let read : (r : Read) × Member r (w.units.reads u) × (r.grain ≡ g) = holder-read opening w u g k held in
+      let read : (r : Read) × Member r (w.units.reads u) × (r.grain ≡ g) = holder-read w u g k held in
       absurd (missing.0 (there-read (w.units.reads u) (reads_of s.trail) g read.0 s.reads read.1 read.2))
   | inr e ↦ e
 ]
@@ -365,8 +365,8 @@ traced-got types w w' got v f s g t running due no_kid others reads = record {
 
 -- ---- a unit begins
 
-stays-begun : (opening : GrainId → List Value) (w : CoreState) (origin : Origin) (call : Call) (plain : Bool) → Kept opening w → Grows w (begun w origin call plain) → Stays w (begun w origin call plain)
-stays-begun opening w origin call plain k g = record {
+stays-begun : (w : CoreState) (origin : Origin) (call : Call) (plain : Bool) → LoadlessKept w → Grows w (begun w origin call plain) → Stays w (begun w origin call plain)
+stays-begun w origin call plain k g = record {
   begun = λ u b z. b (sym (put-other w.units.phase (new_unit w) Running u (apart u b)) ∙ z);
   origin = λ u b. put-other w.units.origin (new_unit w) origin u (apart u b);
   call = λ u b. put-other w.units.call (new_unit w) call u (apart u b);
@@ -378,10 +378,10 @@ stays-begun opening w origin call plain k g = record {
     apart u b q = b (ap w.units.phase q ∙ k.0.unborn (new_unit w) (le_refl w.units.next))
 
 -- the new unit is a line's or a child's, as it must be
-known-begun : (types : ProgramTree) (lines : List (List ℕ)) (base : ℕ) (opening : GrainId → List Value) (w : CoreState) (origin : Origin) (call : Call) (plain : Bool) → Kept opening w → Grows w (begun w origin call plain) →
+known-begun : (types : ProgramTree) (lines : List (List ℕ)) (base : ℕ) (w : CoreState) (origin : Origin) (call : Call) (plain : Bool) → LoadlessKept w → Grows w (begun w origin call plain) →
     ((m : ℕ) → origin ≡ Line m → IsLineCall types lines m call) → ((p : UnitNo) (i d : ℕ) → origin ≡ Child p i d → (plain ≡ false) × Led types w call p i d) →
     Known types lines base w → Known types lines base (begun w origin call plain)
-known-begun types lines base opening w origin call plain k g of_line of_child s = record {
+known-begun types lines base w origin call plain k g of_line of_child s = record {
   above = omega (arith, s.above);
   numbered = λ u b. elim (cases_unit u n) [
     | inl q ↦ omega (arith, s.above, ap (λ (x : UnitNo). x.0) q)
@@ -411,16 +411,16 @@ known-begun types lines base opening w origin call plain k g of_line of_child s 
     n = new_unit w
 
     stays : Stays w (begun w origin call plain)
-    stays = stays-begun opening w origin call plain k g
+    stays = stays-begun w origin call plain k g
 
     old : (u : UnitNo) → (u ≡ new_unit w → ⊥) → HasBegun (begun w origin call plain) u → HasBegun w u
     old u a b z = b (put-other w.units.phase (new_unit w) Running u a ∙ z)
 
 -- what the others got keeps its names, and the new unit got nothing
-named-begun : (types : ProgramTree) (opening : GrainId → List Value) (w : CoreState) (got : UnitNo → List Got) (origin : Origin) (call : Call) (plain : Bool) → Kept opening w → Grows w (begun w origin call plain) →
+named-begun : (types : ProgramTree) (w : CoreState) (got : UnitNo → List Got) (origin : Origin) (call : Call) (plain : Bool) → LoadlessKept w → Grows w (begun w origin call plain) →
     Traced types w got → (u : UnitNo) →
     AreNamed (outcome_of (begun w origin call plain)) types (put w.units.call (new_unit w) call u) (depth_of (put w.units.origin (new_unit w) origin u)) [] (got u)
-named-begun types opening w got origin call plain k g t u = elim (cases_unit u (new_unit w)) [
+named-begun types w got origin call plain k g t u = elim (cases_unit u (new_unit w)) [
   | inl q ↦ subst (AreNamed (outcome_of (begun w origin call plain)) types (put w.units.call (new_unit w) call u) (depth_of (put w.units.origin (new_unit w) origin u)) [])
       (sym (t.fresh u (ap w.units.phase q ∙ k.0.unborn (new_unit w) (le_refl w.units.next)))) tt
   | inr a ↦
@@ -430,20 +430,20 @@ named-begun types opening w got origin call plain k g t u = elim (cases_unit u (
 ]
 
 -- a line's unit begins
-traced-line : (types : ProgramTree) (opening : GrainId → List Value) (w : CoreState) (got : UnitNo → List Got) (m : ℕ) (call : Call) (plain : Bool) → Kept opening w → Grows w (begun w (Line m) call plain) →
+traced-line : (types : ProgramTree) (w : CoreState) (got : UnitNo → List Got) (m : ℕ) (call : Call) (plain : Bool) → LoadlessKept w → Grows w (begun w (Line m) call plain) →
     Traced types w got → Traced types (begun w (Line m) call plain) got
-traced-line types opening w got m call plain k g t = record {
+traced-line types w got m call plain k g t = record {
   fresh = λ u e. put-from w.units.phase (new_unit w) Running (λ p. p ≡ Unborn) (got u ≡ []) u (λ q z. absurd (cc)) (λ q z. t.fresh u z) e;
   reads = t.reads;
   kids = t.kids;
-  named = named-begun types opening w got (Line m) call plain k g t;
+  named = named-begun types w got (Line m) call plain k g t;
 }
 
 -- a child begins
-traced-child : (types : ProgramTree) (opening : GrainId → List Value) (w : CoreState) (got : UnitNo → List Got) (p : UnitNo) (i d : ℕ) (call : Call) (plain : Bool) → Kept opening w → Grows w (begun w (Child p i d) call plain) →
+traced-child : (types : ProgramTree) (w : CoreState) (got : UnitNo → List Got) (p : UnitNo) (i d : ℕ) (call : Call) (plain : Bool) → LoadlessKept w → Grows w (begun w (Child p i d) call plain) →
     w.units.phase p ≡ Running → wanted_by types w p (got p) ≡ Some (WantUnit call d) → Traced types w got →
     Traced types (begun w (Child p i d) call plain) (λ u. got u ++ (if same_unit p u then GotChild call d (new_unit w) ∷ [] else []))
-traced-child types opening w got p i d call plain k g running due t = record {
+traced-child types w got p i d call plain k g running due t = record {
   fresh = λ u. got-at got p one (λ x l. put w.units.phase n Running x ≡ Unborn → l ≡ []) u
       (λ e. (let z : Unborn ≡ Running = sym e ∙ put-other w.units.phase n Running p apart ∙ running in absurd (cc)))
       (λ q e. put-from w.units.phase n Running (λ z. z ≡ Unborn) (got u ≡ []) u (λ h z. absurd (cc)) (λ h z. t.fresh u z) e);
@@ -455,7 +455,7 @@ traced-child types opening w got p i d call plain k g running due t = record {
       (λ q. t.kids u ∙ sym (put-other w.units.kids p (w.units.kids p ++ n ∷ []) u q));
   named = λ u. got-at got p one (λ x l. AreNamed (outcome_of w') types (put w.units.call n call x) (depth_of (put w.units.origin n (Child p i d) x)) [] l) u
       named-parent
-      (λ q. named-begun types opening w got (Child p i d) call plain k g t u);
+      (λ q. named-begun types w got (Child p i d) call plain k g t u);
 }
   where
     n : UnitNo
@@ -501,23 +501,23 @@ led-child types w got p i d call kin running at due t =
     }
 
 -- a unit that begins is due
-pub told-begun : (s : Basis) (base : ℕ) (opening : GrainId → List Value) (w : CoreState) (got : UnitNo → List Got) (origin : Origin) (call : Call) (plain : Bool) → Kept opening w → Kin w →
+pub told-begun : (s : Basis) (base : ℕ) (w : CoreState) (got : UnitNo → List Got) (origin : Origin) (call : Call) (plain : Bool) → LoadlessKept w → Kin w →
     Grows w (begun w origin call plain) → can_begin w origin ≡ true → IsDue s w got (Begin origin call plain) → Told s.types s.lines base w got →
     Told s.types s.lines base (begun w origin call plain) (λ u. got u ++ got_by w u (Begin origin call plain))
-told-begun s base opening w got (Line m) call plain k kin g c due t = (
-  known-begun s.types s.lines base opening w (Line m) call plain k g
+told-begun s base w got (Line m) call plain k kin g c due t = (
+  known-begun s.types s.lines base w (Line m) call plain k g
       (λ n e. (let same : m ≡ n = cc in subst (λ (x : ℕ). IsLineCall s.types s.lines x call) same due.0))
       (λ p i d e. absurd (cc)) t.0,
-  nothing_more s.types (begun w (Line m) call plain) got (traced-line s.types opening w got m call plain k g t.1),
+  nothing_more s.types (begun w (Line m) call plain) got (traced-line s.types w got m call plain k g t.1),
 )
-told-begun s base opening w got (Child q i0 d0) call plain k kin g c due t =
+told-begun s base w got (Child q i0 d0) call plain k kin g c due t =
     let tests = and_parts (is_running (w.units.phase q)) _ c in
     let running : w.units.phase q ≡ Running = is_running-true (w.units.phase q) tests.0 in
     let at : i0 ≡ length (w.units.kids q) = eqb-true _ _ (and_parts (i0 == length (w.units.kids q)) _ tests.1).0 in
     let led : Led s.types w call q i0 d0 = led-child s.types w got q i0 d0 call kin running at due.0 t.1 in (
-      known-begun s.types s.lines base opening w (Child q i0 d0) call plain k g
+      known-begun s.types s.lines base w (Child q i0 d0) call plain k g
           (λ n e. absurd (cc))
           (λ p i d e. (let parent : q ≡ p = cc in let index : i0 ≡ i = cc in let depth : d0 ≡ d = cc in
           (due.1, subst (λ (x : ℕ). Led s.types w call p i x) depth (subst (λ (x : ℕ). Led s.types w call p x d0) index (subst (λ (x : UnitNo). Led s.types w call x i0 d0) parent led))))) t.0,
-      traced-child s.types opening w got q i0 d0 call plain k g running due.0 t.1,
+      traced-child s.types w got q i0 d0 call plain k g running due.0 t.1,
     )

@@ -1,21 +1,21 @@
 -- A run of which whole windows were carried, with the next window's lines: it keeps the rules over these too.
-use Rattle.std.proofs.Common.{◌≡◌, ◌⊎◌, inl, inr, ℕ, zero, suc, ◌<◌, ◌≤◌, Bool, true, false, true≢false, List, [], ◌∷◌, ◌++◌, length, length-append, Some, refl, sym, ap, subst, ◌∙◌, arith}
+use Rattle.std.proofs.Common.{◌≡◌, ◌⊎◌, inl, inr, ℕ, zero, suc, ◌<◌, ◌≤◌, Bool, true, false, true≢false, List, [], ◌∷◌, ◌++◌, length, length-append, Option, Some, None, refl, sym, ap, subst, ◌∙◌, arith}
 use Rattle.std.specs.Prelude.{◌&&◌, ◌||◌, not, slice_get, nat_lt, take, is_none, get_or, Result}
 use Rattle.std.proofs.lemmas.Bool.{ltb-true, lt-ltb, cases_lt}
 use Rattle.base_types.specs.declared.calls.Call.{Call}
 use Rattle.base_types.specs.declared.calls.Origin.TheVariants.{Line, Child}
 use Rattle.base_types.specs.declared.entries.BadRequest.{BadRequest}
-use Rattle.core_model.specs.CoreState.{UnitNo, CoreState}
+use Rattle.core_model.specs.CoreState.{UnitNo, GrainId, CoreState}
 use Rattle.core_model.specs.declared.events.CoreEvent.{CoreEvent}
 use Rattle.core_model.specs.declared.events.CoreEvent.TheVariants.{Bad, Begin, Grant, Refuse, Finish, EndPlain, EndSnapshot, Release, Take, Vote, Decide, Sealed, NotSealed, Doubt, Learn, Emitted, Halt, Want, Load}
 use Rattle.core_model.specs.Events.{applies, run}
 use Rattle.core_model.specs.LegalRuns.{Run, begins, ends}
 use Rattle.script_tree.specs.Programs.{ProgramTree}
-use Rattle.promise_spec.specs.Cores.{state_before}
+use Rattle.promise_spec.specs.Cores.{state_before, applied_from}
 use Rattle.promise_spec.specs.UnitAnswers.{Got, got_from}
 use Rattle.promise_spec.specs.Lines.{ReadsLineAs}
 use Rattle.promise_spec.specs.UnitRule.{Basis, IsDue, KeepsUnitRule}
-use Rattle.promise_spec.specs.TurnRule.{Mover, OfLine, OfUnit, OfSettler, IsTurn, KeepsTurnRule, at_seam, is_nobody, line_can_begin, in_flight, movers, mover_of, picked, picks_used}
+use Rattle.promise_spec.specs.TurnRule.{Mover, OfLine, IsTurnOf, KeepsTurnRule, and_wish, at_seam, grain_due, is_nobody, line_can_begin, lock_asked, in_flight, movers, mover_of, next_wish, passed, picked, picks_used, turn_of, units_of}
 use Rattle.promise_laws.specs.Legality.{applied_run}
 use Rattle.promise_laws.proofs.UnitsByRule.{all_said, rule-run, rule-begins}
 use Rattle.promise_laws.proofs.LegalRuns.{ends_alike}
@@ -155,16 +155,34 @@ module _ (windowed : Bool) (width lines more : ℕ) (r : Run) (whole : at_seam w
                 true≢false (sym (subst (λ (b : Bool). (not b || is_nobody ms) ≡ true) seam open_) ∙ some))
           ]
 
-  turn-on : (pick : ℕ) (e : CoreEvent) (m : Mover) → w.units.lines ≤ lines → IsTurn (line_can_begin windowed width lines r w ms) (picked ms pick) w e m → IsTurn (line_can_begin windowed width more r w ms) (picked ms pick) w e m
-  turn-on pick e OfLine most t = still-can t
-  turn-on pick e (OfUnit u) most t = (still-cannot most (some-there ms pick (OfUnit u) t.1) t.0, t.1)
-  turn-on pick e OfSettler most t = (still-cannot most (some-there ms pick OfSettler t.1) t.0, t.1, t.2)
+module _ (windowed : Bool) (width lines more : ℕ) (r : Run) (whole : at_seam windowed lines ≡ true) (le : lines ≤ more) (w : CoreState) (most : w.units.lines ≤ lines)
+    (wish : Option UnitNo) (ms : List Mover) (pick : ℕ) where
+  -- a line can begin, of so many
+  abbrev begins_of : ℕ → Bool
+  begins_of n = line_can_begin windowed width n r w (and_wish wish ms)
+
+  -- somebody moves or wants a grain
+  by-mover : (m : Mover) (wants : Option UnitNo) → wish ≡ wants → begins_of lines ≡ false → turn_of None false wants (picked ms pick) ≡ Some m → begins_of more ≡ false
+  by-mover m (Some u) q c t = still-cannot windowed width lines more r whole le w (and_wish wish ms) most (ap (λ (o : Option UnitNo). is_nobody (and_wish o ms)) q) c
+  by-mover m None q c t = still-cannot windowed width lines more r whole le w (and_wish wish ms) most (ap (λ (o : Option UnitNo). is_nobody (and_wish o ms)) q ∙ some-there ms pick m t) c
+
+  -- a line that began, or whose turn it was, is so with more lines
+  whose-on : (m : Mover) (due : Option GrainId) → turn_of due (begins_of lines) wish (picked ms pick) ≡ Some m → turn_of due (begins_of more) wish (picked ms pick) ≡ Some m
+  whose-on m (Some g) t = t
+  whose-on m None t = elim (which (begins_of lines)) [
+    | inl can ↦ (subst (λ (b : Bool). turn_of None b wish (picked ms pick) ≡ Some m) (can ∙ sym (still-can windowed width lines more r whole le w (and_wish wish ms) can)) t)
+    | inr cannot ↦ subst (λ (b : Bool). turn_of None b wish (picked ms pick) ≡ Some m) (cannot ∙ sym (by-mover m wish refl cannot (subst (λ (b : Bool). turn_of None b wish (picked ms pick) ≡ Some m) cannot t))) t
+  ]
+
+  turn-on : (e : CoreEvent) → IsTurnOf windowed lines width r w wish ms pick e → IsTurnOf windowed more width r w wish ms pick e
+  turn-on e t = record { whose = whose-on (mover_of e) (grain_due w) t.whose; made = t.made }
 
 pub turns-on : (s : Basis) (more : List (List ℕ)) (windowed : Bool) (width : ℕ) (picks : List ℕ) (r : Run) → KeepsUnitRule s r → at_seam windowed (length s.lines) ≡ true → KeepsTurnRule s.types windowed (length s.lines) width picks r
     → KeepsTurnRule s.types windowed (length (s.lines ++ more)) width picks r
 turns-on s more windowed width picks r units whole keeps at e a =
-    turn-on windowed width (length s.lines) (length (s.lines ++ more)) r whole (let q = length-append s.lines more in omega (arith, q)) (state_before r at)
-    (movers s.types r (state_before r at) (got_from (begins r) (take at r.events))) (get_or picks (picks_used r at) 0) e (mover_of e) (few-before s r at units) (keeps at e a)
+    turn-on windowed width (length s.lines) (length (s.lines ++ more)) r whole (let q = length-append s.lines more in omega (arith, q)) (state_before r at) (few-before s r at units)
+    (next_wish (state_before r at) (units_of r (state_before r at)) (lock_asked s.types (state_before r at) (got_from (begins r) (take at r.events))) (passed (applied_from (begins r) (take at r.events))))
+    (movers s.types r (state_before r at) (got_from (begins r) (take at r.events))) (get_or picks (picks_used r at) 0) e (keeps at e a)
 
 -- ---- without windows
 

@@ -5,6 +5,8 @@ use Rattle.base_types.specs.declared.entries.Settled.TheVariants.{InDoubt}
 use Rattle.host_trait.specs.declared.channels.FileId.{FileId}
 use Rattle.host_trait.specs.World.{Moment, Image, IsImage, moment_of, last_of}
 use Rattle.core_model.specs.CoreState.{Member}
+use Rattle.core_model.specs.LegalRuns.{begins}
+use Rattle.core_model.specs.SerialOrder.{AllLoadsTrue}
 use Rattle.request_wire.specs.Lines.{lines_of}
 use Rattle.promise_spec.specs.Programs.{Program, shape_in}
 use Rattle.promise_spec.specs.Entries.{Log}
@@ -22,7 +24,7 @@ use Rattle.promise_spec.specs.Crashes.{LeavesAlone}
 use Rattle.promise_spec.specs.Batches.{EndsABatch}
 use Rattle.promise_spec.specs.Replies.{HasNoRecord}
 use Rattle.promise_spec.specs.Exits.{HasLogAtExit, IsNowhere, BlockInDoubt, EndsAsRead}
-use Rattle.promise_spec.specs.Explanation.{AreAdded, AreSettled, FileMayEndInDoubt, LeavesUnvoted}
+use Rattle.promise_spec.specs.Explanation.{AreAdded, AreSettled, FileMayEndRun, LeavesUnvoted}
 use Rattle.promise_spec.specs.Journals.{Settlement, commits_of, entries_of, KeepsJournal, AllLog, Backs}
 use Rattle.promise_spec.specs.Promise.{HasRead, IsAnswered}
 
@@ -58,15 +60,16 @@ pub record Journals (p : Program) (r : Observed) (c : Course) : Type 0 where
   pub longest : IsLog c.live last (order c)
   pub alone : (m : Moment) → Member m (moments r c) → LeavesAlone c.live r m
 
--- The records are those of the core's committed units. The events keep the unit rule, and on one thread the turn rule.
--- No more faults show than were counted. Of files the manager file alone may end a run, and only with a batch in doubt;
--- and a doubt ends the run. A grain's file is written for a vote alone.
+-- The records are those of the core's committed units. The events keep the unit rule, and on one thread the turn rule. Each grain
+-- that is brought into memory has its last committed version. No more faults show than were counted. A file's fault ends a run only
+-- where the file may; and a doubt ends the run. A grain's file is written for a vote alone.
 pub record ExplainsEvents (p : Program) (r : Observed) (c : Course) : Type 0 where
   pub records : AreAdded (core_end p c) c.added
   pub units : KeepsUnitRule (basis p r c) (core_run p c)
   pub turns : r.manner.threaded ≡ false → KeepsTurnRule p.types r.windowed c.allowed r.manner.width r.manner.picks (core_run p c)
+  pub loads : AllLoadsTrue (core_run p c).opening (begins (core_run p c)) (core_run p c).events
   pub faults : AreFaults c.live (core_run p c) r.faults_before r.faults_after
-  pub doubted : (file : FileId) → r.ending ≡ DiskFault file → FileMayEndInDoubt c.live (core_run p c) file
+  pub doubted : (file : FileId) → r.ending ≡ DiskFault file → FileMayEndRun c.live (core_run p c) file
   pub ended : RunHasDoubt (core_run p c) → EndingMayDoubt r.ending
   pub unvoted : LeavesUnvoted c.live p r c
 

@@ -3,7 +3,8 @@ ghost use Rattle.base_types.specs.declared.entries.Entry.{Entry};
 ghost use Rattle.core_model.specs.declared.effects.Effect.{Effect};
 ghost use Rattle.core_model.specs.CoreState.{Member};
 ghost use Rattle.core_model.specs.Causes.{IsCaused};
-ghost use Rattle.core_model.specs.LegalRuns.{Run, IsLegal, ends};
+ghost use Rattle.core_model.specs.SerialOrder.{AllLoadsTrue};
+ghost use Rattle.core_model.specs.LegalRuns.{Run, IsLegal, begins, ends};
 ghost use Rattle.script_tree.specs.Programs.{ProgramTree};
 ghost use Rattle.promise_spec.specs.Programs.{Program};
 ghost use Rattle.promise_spec.specs.SerialExecution.{IsSerial};
@@ -13,12 +14,13 @@ ghost use Rattle.promise_spec.specs.Entries.{standing_of};
 ghost use Rattle.promise_spec.specs.Explanation.{IsExplained};
 ghost use Rattle.promise_laws.specs.Legality.{is_play, applied_run};
 
-/// Where a run keeps the unit rule, the events that applied are a legal run of the core with the same end. So the
-/// core's laws speak of it.
+/// Where a run keeps the unit rule and each load is true, the events that applied are a legal run of the core with the same end.
+/// So the core's laws speak of it.
 pub fn runs_are_legal()
     ensures tests { (types : ProgramTree) (e : Effect) → (is_play types e ≡ true) ↔ IsPlayOf types e }
     ensures ends_alike { (r : Run) → ends (applied_run r) ≡ ends r }
-    ensures legal { (s : Basis) (r : Run) → 0 < r.base → KeepsUnitRule s r → IsLegal (is_play s.types) (applied_run r) }
+    ensures legal { (s : Basis) (r : Run) → 0 < r.base → AllLoadsTrue r.opening (begins r) r.events → KeepsUnitRule s r
+        → IsLegal (is_play s.types) (applied_run r) }
 {}
 
 /// What the causes clause explains is serial: where the records are those of the core's committed units, or of these and
@@ -29,8 +31,8 @@ pub fn explained_runs_are_serial()
         → IsSerial p.types (standing_of c.opening).states c.added }
 {}
 
-/// Where a run keeps the unit rule, each entry that it settles has its cause at an event of the run.
+/// Where a run keeps the unit rule and each load is true, each entry that it settles has its cause at an event of the run.
 pub fn explained_entries_have_causes()
-    ensures { (s : Basis) (r : Run) → 0 < r.base → KeepsUnitRule s r
+    ensures { (s : Basis) (r : Run) → 0 < r.base → AllLoadsTrue r.opening (begins r) r.events → KeepsUnitRule s r
         → (x : Entry) → Member x (ends r).manager.settled → IsCaused r x }
 {}

@@ -20,3 +20,5 @@ pub mod Words
 pub mod OpenedRuns
 pub mod CountedSyncs
 pub mod WholeFolders
+pub mod PickedMovers
+pub mod WholeMemory

@@ -1,5 +1,5 @@
 -- The core's events in a run, from where the opening log stands.
-use Rattle.std.specs.Prelude.{◌≡◌, ℕ, Bool, true, List, [], ◌∷◌, length, take, slice_get, count_by, if◌then◌else◌, Some, None}
+use Rattle.std.specs.Prelude.{◌≡◌, ℕ, Bool, true, List, [], ◌∷◌, length, take, slice_get, count_by, if◌then◌else◌, Option, Some, None}
 use Rattle.core_model.specs.declared.phases.Phase.TheVariants.{Unborn}
 use Rattle.core_model.specs.CoreState.{UnitNo, CoreState}
 use Rattle.core_model.specs.declared.events.CoreEvent.{CoreEvent}
@@ -8,11 +8,14 @@ use Rattle.core_model.specs.LegalRuns.{Run, begins}
 use Rattle.script_tree.specs.Programs.{ProgramTree}
 use Rattle.promise_spec.specs.Entries.{Standing}
 
--- the core's run: its units are numbered from the next number on, its grains have the states that the log stands for,
--- and every grain is in memory
+-- how many of the grains that were used last stay in memory: all
+abbrev pub memory_limit : Option ℕ
+memory_limit = None
+
+-- the core's run: its units are numbered from the next number on, and its grains have the states that the log stands for
 abbrev pub core_from : ProgramTree → Standing → List CoreEvent → Run
 core_from types standing events =
-    record { base = standing.next; kinds = length types; capacity = None; opening = standing.states; events = events }
+    record { base = standing.next; kinds = length types; capacity = memory_limit; opening = standing.states; events = events }
 
 -- the state before the event at an index
 abbrev pub state_before : Run → ℕ → CoreState

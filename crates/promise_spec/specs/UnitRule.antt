@@ -1,5 +1,6 @@
 -- The unit rule: each event of a unit is what its script asks for next.
 use Rattle.std.specs.Prelude.{◌≡◌, ◌↔◌, ℕ, true, false, List, length, map, take, Some, ⊤}
+use Rattle.base_types.specs.declared.calls.Mode.{Mode}
 use Rattle.base_types.specs.declared.calls.Origin.TheVariants.{Line, Child}
 use Rattle.cell_model.specs.Locks.{holds_lock}
 use Rattle.core_model.specs.declared.effects.Effect.{Effect}
@@ -42,7 +43,8 @@ IsLowestHeld w u g = (h : GrainId) → holds_lock u (w.cells.holds h) ≡ true �
 
 -- An event may be made of a unit or a line in this state, by what each unit got: a line's event is what the line
 -- reads as; each other one is what the unit's script asks for next, over what it was given, and at its end the whole
--- effect is the call's; locks go in ascending order. Events of the settler are no unit's.
+-- effect is the call's; locks go in ascending order. A unit wants the grain of the lock that its script asks for next to be in
+-- memory. Nothing is loaded, since every grain is in memory. Events of the settler are no unit's.
 abbrev pub IsDue : Basis → CoreState → (UnitNo → List Got) → CoreEvent → Type 0
 IsDue s w got (Bad n why) = IsBadLine s.types s.lines n why
 IsDue s w got (Begin (Line n) call plain) =
@@ -55,7 +57,7 @@ IsDue s w got (Finish u e) = (wanted_by s.types w u (got u) ≡ Some (Over e.res
 IsDue s w got (EndPlain u e) = (wanted_by s.types w u (got u) ≡ Some (Over e.result)) × IsPlayOf s.types e
 IsDue s w got (Release u g) = IsLowestHeld w u g
 IsDue s w got (EndSnapshot u at outcome) = ⊥
-IsDue s w got (Want u g) = ⊥
+IsDue s w got (Want u g) = (mode : Mode) × (wanted_lock (wanted_by s.types w u (got u)) ≡ Some (g, mode))
 IsDue s w got (Load g u state) = ⊥
 IsDue s w got _ = ⊤
 

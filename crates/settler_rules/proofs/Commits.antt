@@ -1,5 +1,5 @@
 -- What is committed by each event.
-use Rattle.std.proofs.Common.{◌≡◌, ℕ, ◌<◌, List, [], ◌∷◌, ◌++◌, drop, map, filter, Bool, true, false, ◌||◌, inl, inr, refl, sym, ap, ◌∙◌, subst, arith, Option, Some, None, is_some, is_none, append-nil}
+use Rattle.std.proofs.Common.{◌≡◌, ℕ, zero, suc, ◌+◌, ◌<◌, List, [], ◌∷◌, ◌++◌, drop, map, filter, Bool, true, false, ◌||◌, inl, inr, refl, sym, ap, ◌∙◌, subst, arith, Option, Some, None, is_some, is_none, append-nil, take-append-drop}
 use Rattle.std.specs.Prelude.{◌==◌, if◌then◌else◌}
 use Rattle.std.proofs.lemmas.Bool.{and_parts, cond_both, or_parts}
 use Rattle.std.proofs.lemmas.List.Elements.{filter-append}
@@ -18,28 +18,21 @@ use Rattle.core_model.specs.Answers.{effect_of}
 use Rattle.core_model.specs.Changes.{cleaned, new_unit, read_of, decisions_of, in_doubt, judged, on_decided, on_decisions, verdict_of, seal, spoil, leave, swept, swept_by}
 use Rattle.core_model.specs.Events.{applies, can, does, step, run, is_after_doubt, is_allowed, is_judged}
 use Rattle.core_model.specs.Laws.{extended}
-use Rattle.core_model.specs.LegalRuns.{Run, IsLegal, ends}
+use Rattle.core_model.specs.LegalRuns.{Run, ends}
 use Rattle.core_model.specs.SerialOrder.{batch_begin, committed, chosen}
 use Rattle.core_model.specs.Settler.{to_commit}
-use Rattle.core_model.specs.Tests.{any, is_committed, is_good, members}
+use Rattle.core_model.specs.Tests.{any, is_committed, is_good, members, waiting}
 use Rattle.core_model.specs.ToldOutcomes.{IsSteady, OnlyTheBatchIsJudged}
 use Rattle.core_laws.proofs.EventCases.{Change, bad, begin, lock, raise, refuse, finish, end_plain, end_snapshot, release, take_batch, vote, decide_some, decide_none, seal_batch, spoil_batch, doubt_batch, learn, emit, halt_run, want, load, decode}
-use Rattle.core_laws.proofs.Ends.{kept-ends}
-use Rattle.core_laws.proofs.KeptInvariant.{Kept, inv-open}
-use Rattle.core_laws.proofs.Orders.{Member-at, judged-other, members-open}
+use Rattle.core_laws.proofs.Orders.{Member-at, in_drop, judged-other, members-open}
 use Rattle.core_laws.proofs.Puts.{put-from, put-other}
 use Rattle.core_laws.proofs.LoadlessLaws.{holds-ends}
 use Rattle.core_laws.proofs.CommitOrder.{Split, no_doubt, split-order}
-use Rattle.core_laws.proofs.SettlerSteps.{shows-chosen}
 use Rattle.core_laws.proofs.Verdicts.{member-or-not}
-use Rattle.promise_laws.specs.Legality.{is_play, applied_run}
-use Rattle.promise_laws.proofs.LegalRuns.{ends_alike, legal}
-use Rattle.promise_spec.specs.UnitRule.{Basis, KeepsUnitRule}
 use Rattle.promise_spec.specs.Causes.{is_sealed}
 use Rattle.settler_rules.specs.CommittedUnits.{KeepsDoubt}
 use Rattle.settler_rules.proofs.StandingVotes.{ends-more}
-use Rattle.core_laws.proofs.LoadlessKept.{loadless-kept}
-use Rattle.core_laws.proofs.Invariant.{loadless-of}
+use Rattle.core_laws.proofs.LoadlessKept.{LoadlessKept, loadless-ends, open-at, judged-at}
 use Rattle.core_laws.proofs.LoadlessRuns.{split-ends}
 
 -- ---- verdicts
@@ -138,6 +131,12 @@ pub map-same : (f g : UnitNo → Effect) (xs : List UnitNo) → ((x : UnitNo) �
 map-same f g [] h = refl
 map-same f g (x ∷ xs) h = λ i. h x (inl refl) i ∷ map-same f g xs (λ y m. h y (inr m)) i
 
+drop-drop-sum : (m k : ℕ) (xs : List UnitNo) → drop k (drop m xs) ≡ drop (m + k) xs
+drop-drop-sum zero k xs = (let e : k ≡ 0 + k = omega arith in ap (λ z. drop z xs) e)
+drop-drop-sum (suc m) zero [] = (let e : suc m ≡ suc m + 0 = omega arith in ap (λ z. drop z []) e)
+drop-drop-sum (suc m) (suc k) [] = (let e : suc (m + suc k) ≡ suc m + suc k = omega arith in ap (λ z. drop z []) e)
+drop-drop-sum (suc m) k (x ∷ xs) = (let e : suc (m + k) ≡ suc m + k = omega arith in drop-drop-sum m k xs ∙ ap (λ z. drop z (x ∷ xs)) e)
+
 abbrev sure : CoreState → UnitNo → Bool
 sure w u = is_committed (w.manager.verdict u)
 
@@ -154,7 +153,7 @@ committed-same w w' extra order none same effects =
 
 -- ---- each event
 
-module _ (opening : GrainId → List Value) (w : CoreState) (k : Kept opening w) (s : Split w) (calm : w.manager.doubt ≡ None → OnlyTheBatchIsJudged w) where
+module _ (w : CoreState) (k : LoadlessKept w) (s : Split w) (calm : w.manager.doubt ≡ None → OnlyTheBatchIsJudged w) where
   finished-in : (x : UnitNo) → Member x w.manager.order → w.units.phase x ≡ Finished
   finished-in x m = (let t = Member-at x w.manager.order m in subst (λ (y : UnitNo). w.units.phase y ≡ Finished) t.2 (k.0.listed t.0 t.1).0)
 
@@ -169,7 +168,7 @@ module _ (opening : GrainId → List Value) (w : CoreState) (k : Kept opening w)
 
   -- a unit of the undecided batch isn't committed, now and then
   was-open : (b : Batch) → w.manager.batch ≡ Some b → b.decisions ≡ None → (x : UnitNo) → Member x (members w b) → w.manager.verdict x ≡ Open
-  was-open b q d x m = (members-open w b (loadless-of opening _ w (inv-open opening w b k q d)) x m).1
+  was-open b q d x m = (members-open w b (open-at w b k q d) x m).1
 
   committed-change : (e : CoreEvent) (w' : CoreState) → Change w e w' → applies w e ≡ true → committed w' ≡ (if is_sealed e then committed w ++ chosen w else committed w)
   committed-change e w' (bad line why q) a = refl
@@ -229,7 +228,7 @@ module _ (opening : GrainId → List Value) (w : CoreState) (k : Kept opening w)
           of None = y
           of (Some v) = v
   committed-change e w' (seal_batch n b ds q number d) a =
-      (λ i. map (effect_of w) (filter (λ u. seal-good (w.manager.verdict u) i) w.manager.order)) ∙ split-order w (loadless-kept opening w k) s
+      (λ i. map (effect_of w) (filter (λ u. seal-good (w.manager.verdict u) i) w.manager.order)) ∙ split-order w k s
   committed-change e w' (spoil_batch n b ds q number d) a = λ i. map (effect_of w) (filter (λ u. spoil-same (w.manager.verdict u) i) w.manager.order)
   committed-change e w' (doubt_batch n b ds q number d) a = λ i. map (effect_of w) (filter (λ u. leave-same (w.manager.verdict u) i) w.manager.order)
   committed-change e w' (learn u g wrote final fresh) a = refl
@@ -251,7 +250,7 @@ module _ (opening : GrainId → List Value) (w : CoreState) (k : Kept opening w)
       ∙ committed-swept (does w e)
       ∙ committed-change e (does w e) (decode w e (and_parts (is_allowed w e) (can w e) a).1) a
 
--- ---- a run that keeps the unit rule
+-- ---- a run
 
 judged-batch : (n : ℕ) (o : Option Batch) → is_judged n o ≡ true → (b : Batch) × (o ≡ Some b) × ((ds : List Decision) × (b.decisions ≡ Some ds))
 judged-batch n None e = absurd cc
@@ -261,24 +260,26 @@ judged-batch n (Some b) e = (b, refl, some-of b.decisions (and_parts (b.number =
     some-of None t = absurd cc
     some-of (Some ds) t = (ds, refl)
 
-module _ (s : Basis) (r : Run) (above : 0 < r.base) (keeps : KeepsUnitRule s r) where
-  lawful : IsLegal (is_play s.types) (applied_run r)
-  lawful = legal s r above keeps
-
+module _ (r : Run) (above : 0 < r.base) where
   by-rule : (e : CoreEvent) → applies (ends r) e ≡ true → committed (step (ends r) e) ≡ (if is_sealed e then committed (ends r) ++ chosen (ends r) else committed (ends r))
-  by-rule =
-      subst (λ (w : CoreState). (e : CoreEvent) → applies w e ≡ true → committed (step w e) ≡ (if is_sealed e then committed w ++ chosen w else committed w)) (ends_alike r)
-      (committed-step (applied_run r).opening (ends (applied_run r)) (kept-ends (is_play s.types) (applied_run r) lawful) (split-ends (applied_run r) lawful.above) (holds-ends (applied_run r) above).judged)
+  by-rule = committed-step (ends r) (loadless-ends r above) (split-ends r above) (holds-ends r above).judged
 
-  shown-is : (b : Batch) (ds : List Decision) → (ends r).manager.batch ≡ Some b → b.decisions ≡ Some ds → to_commit (ends r) (Some b) ≡ chosen (ends r)
-  shown-is =
-      subst (λ (w : CoreState). (b : Batch) (ds : List Decision) → w.manager.batch ≡ Some b → b.decisions ≡ Some ds → to_commit w (Some b) ≡ chosen w) (ends_alike r)
-      (λ b ds q d. shows-chosen (is_play s.types) (applied_run r) lawful b ds q d)
+  -- the effects that are shown for the seal are those to commit
+  shown-is : (ends r).manager.doubt ≡ None → (b : Batch) (ds : List Decision) → (ends r).manager.batch ≡ Some b → b.decisions ≡ Some ds → to_commit (ends r) (Some b) ≡ chosen (ends r)
+  shown-is none b ds q d =
+      let w = ends r in
+      let good : UnitNo → Bool = λ u. is_good (w.manager.verdict u) in
+      let rest : filter good (drop b.size (waiting w)) ≡ [] = filter-none good (drop b.size (waiting w)) (λ u m.
+      (let t = in_drop _ w (judged-at w b ds (loadless-ends r above) q d) (w.manager.closed + b.size) u (subst (Member u) (drop-drop-sum w.manager.closed b.size w.manager.order) m) in
+      ap is_good ((judged-at w b ds (loadless-ends r above) q d).late u t.0 t.1))) in
+      let whole : filter good (waiting w) ≡ filter good (members w b) =
+      ap (filter good) (sym (take-append-drop b.size (waiting w))) ∙ filter-append good (members w b) (drop b.size (waiting w)) ∙ ap (λ t. filter good (members w b) ++ t) rest ∙ append-nil (filter good (members w b)) in
+      ap (map (effect_of w)) (sym whole) ∙ ap (λ o. map (effect_of w) (filter good (drop (batch_begin o w.manager.closed) w.manager.order))) (sym none)
 
   pub sealed-commit : (n : ℕ) → applies (ends r) (Sealed n) ≡ true → committed (ends (extended r (Sealed n ∷ []))) ≡ committed (ends r) ++ to_commit (ends r) (ends r).manager.batch
   sealed-commit n a =
       let b = judged-batch n (ends r).manager.batch (and_parts (is_allowed (ends r) (Sealed n)) (can (ends r) (Sealed n)) a).1 in
-      let shown : to_commit (ends r) (ends r).manager.batch ≡ chosen (ends r) = ap (to_commit (ends r)) b.1 ∙ shown-is b.0 b.2.0 b.1 b.2.1 in
+      let shown : to_commit (ends r) (ends r).manager.batch ≡ chosen (ends r) = ap (to_commit (ends r)) b.1 ∙ shown-is (no_doubt (ends r) (Sealed n) a refl) b.0 b.2.0 b.1 b.2.1 in
       ap committed (ends-more r (Sealed n ∷ [])) ∙ by-rule (Sealed n) a ∙ ap (λ es. committed (ends r) ++ es) (sym shown)
 
   pub others-leave : (e : CoreEvent) → is_sealed e ≡ false → committed (ends (extended r (e ∷ []))) ≡ committed (ends r)
@@ -305,8 +306,8 @@ chosen-swept v = go v.cells.capacity
     go None = refl
     go (Some m) = refl
 
-pub doubt-chosen : (s : Basis) (r : Run) → 0 < r.base → KeepsUnitRule s r → (n : ℕ) → applies (ends r) (Doubt n) ≡ true → chosen (ends (extended r (Doubt n ∷ []))) ≡ to_commit (ends r) (ends r).manager.batch
-doubt-chosen s r above keeps n a =
+pub doubt-chosen : (r : Run) → 0 < r.base → (n : ℕ) → applies (ends r) (Doubt n) ≡ true → chosen (ends (extended r (Doubt n ∷ []))) ≡ to_commit (ends r) (ends r).manager.batch
+doubt-chosen r above n a =
     let w : CoreState = ends r in
     let b = judged-batch n w.manager.batch (and_parts (is_allowed w (Doubt n)) (can w (Doubt n)) a).1 in
     let does-is : does w (Doubt n) ≡ in_doubt w b.0 b.2.0 = ap (on_decided w (in_doubt w)) b.1 ∙ ap (on_decisions w (in_doubt w b.0)) b.2.1 in
@@ -315,7 +316,7 @@ doubt-chosen s r above keeps n a =
     ∙ chosen-swept (does w (Doubt n))
     ∙ ap chosen does-is
     ∙ chosen-doubted w b.0 b.2.0 (no_doubt w (Doubt n) a refl)
-    ∙ sym (ap (to_commit w) b.1 ∙ shown-is s r above keeps b.0 b.2.0 b.1 b.2.1)
+    ∙ sym (ap (to_commit w) b.1 ∙ shown-is r above (no_doubt w (Doubt n) a refl) b.0 b.2.0 b.1 b.2.1)
 
 same : (w : CoreState) → KeepsDoubt w w
 same w = record { doubt = refl; committed = refl; chosen = refl; settled = refl }

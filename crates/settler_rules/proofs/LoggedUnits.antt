@@ -20,6 +20,7 @@ use Rattle.core_model.specs.declared.effects.Read.{Read}
 use Rattle.core_model.specs.declared.phases.Phase.TheVariants.{Unborn, Finished}
 use Rattle.core_model.specs.Answers.{effect_of}
 use Rattle.core_model.specs.Chains.{WroteGrain}
+use Rattle.core_model.specs.SerialOrder.{AllLoadsTrue}
 use Rattle.core_model.specs.LegalRuns.{Run, begins, ends}
 use Rattle.core_model.specs.ProperEntries.{NeverAborts}
 use Rattle.core_model.specs.Settler.{to_commit, versions_to_write}
@@ -117,13 +118,13 @@ written-is x (y ∷ ys) w (inr m) =
 
 -- ---- a run that keeps the unit rule
 
-module _ (s : Basis) (r : Run) (above : 0 < r.base) (keeps : KeepsUnitRule s r) where
+module _ (s : Basis) (r : Run) (above : 0 < r.base) (loads : AllLoadsTrue r.opening (begins r) r.events) (keeps : KeepsUnitRule s r) where
   -- what a finished unit did is a play
   play-of : (u : UnitNo) → (ends r).units.phase u ≡ Finished → IsPlayOf s.types (effect_of (ends r) u)
   play-of u f =
       is_play-true s.types (effect_of (ends r) u)
       (subst (λ (w : CoreState). (v : UnitNo) → w.units.phase v ≡ Finished → is_play s.types (effect_of w v) ≡ true) (ends_alike r)
-      (consistent-ends (is_play s.types) (applied_run r) (legal s r above keeps)).effects_are_plays u f)
+      (consistent-ends (is_play s.types) (applied_run r) (legal s r above loads keeps)).effects_are_plays u f)
 
   -- the kinds of grains are the program's
   pub kinds-are : (ends r).units.kinds ≡ r.kinds

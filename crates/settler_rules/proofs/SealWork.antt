@@ -4,7 +4,7 @@ use Rattle.std.proofs.lemmas.Bool.{and_parts, cond_both}
 use Rattle.cell_model.proofs.Units.{filter-member}
 use Rattle.core_access.specs.SettlerEvents.{is_settling}
 use Rattle.core_access.proofs.SettlerEvents.{others-leave}
-use Rattle.core_model.specs.CoreState.{UnitNo, GrainId, put_grain, top, Member, Value, Batch, CoreState}
+use Rattle.core_model.specs.CoreState.{UnitNo, put_grain, top, Member, Batch, CoreState}
 use Rattle.core_model.specs.declared.events.CoreEvent.{CoreEvent}
 use Rattle.core_model.specs.declared.phases.Phase.TheVariants.{Unborn, Running, Finished}
 use Rattle.core_model.specs.declared.phases.Verdict.TheVariants.{Aborted}
@@ -16,16 +16,11 @@ use Rattle.core_model.specs.LegalRuns.{Run, ends}
 use Rattle.core_model.specs.Settler.{to_commit}
 use Rattle.core_model.specs.Tests.{is_good, members}
 use Rattle.core_laws.proofs.EventCases.{Change, bad, begin, lock, raise, refuse, finish, end_plain, end_snapshot, release, take_batch, vote, decide_some, decide_none, seal_batch, spoil_batch, doubt_batch, learn, emit, halt_run, want, load, decode}
-use Rattle.core_laws.proofs.Ends.{kept-ends}
-use Rattle.core_laws.proofs.KeptInvariant.{Kept, size-open}
+use Rattle.core_laws.proofs.LoadlessKept.{LoadlessKept, loadless-ends, size-at}
 use Rattle.core_laws.proofs.Puts.{put-other}
-use Rattle.core_laws.proofs.Reasons.{member-finished}
-use Rattle.promise_laws.specs.Legality.{is_play, applied_run}
-use Rattle.promise_laws.proofs.LegalRuns.{ends_alike, legal}
-use Rattle.promise_spec.specs.UnitRule.{Basis, KeepsUnitRule}
 use Rattle.settler_rules.proofs.Commits.{filter-same, map-same}
 use Rattle.settler_rules.proofs.StandingVotes.{ends-more}
-use Rattle.core_laws.proofs.Orders.{take-drop-push}
+use Rattle.core_laws.proofs.Orders.{in_part, take-drop-push}
 
 abbrev good : CoreState → UnitNo → Bool
 good w u = is_good (w.manager.verdict u)
@@ -38,12 +33,16 @@ effects-same w w' b us verdicts effects =
     ∙ ap (map (effect_of w')) (filter-same (good w') (good w) (members w b) (λ x m. ap is_good (verdicts x m)))
     ∙ map-same (effect_of w') (effect_of w) (filter (good w) (members w b)) (λ x m. effects x (filter-member (good w) (members w b) x m).0)
 
-module _ (opening : GrainId → List Value) (w : CoreState) (k : Kept opening w) (b : Batch) (q : w.manager.batch ≡ Some b) where
+module _ (w : CoreState) (k : LoadlessKept w) (b : Batch) (q : w.manager.batch ≡ Some b) where
+  -- a unit of the batch has finished
+  in-batch : (x : UnitNo) → Member x (members w b) → w.units.phase x ≡ Finished
+  in-batch x m = (in_part _ w k.0 w.manager.closed b.size x m).0
+
   other : (x u : UnitNo) → Member x (members w b) → w.units.phase u ≡ Running → x ≡ u → ⊥
-  other x u m running p = (let z : Finished ≡ Running = sym (member-finished opening w b k x m) ∙ ap w.units.phase p ∙ running in cc)
+  other x u m running p = (let z : Finished ≡ Running = sym (in-batch x m) ∙ ap w.units.phase p ∙ running in cc)
 
   not-new : (x : UnitNo) → Member x (members w b) → x ≡ new_unit w → ⊥
-  not-new x m p = (let z : Finished ≡ Unborn = sym (member-finished opening w b k x m) ∙ ap w.units.phase p ∙ k.0.unborn (new_unit w) (omega arith) in cc)
+  not-new x m p = (let z : Finished ≡ Unborn = sym (in-batch x m) ∙ ap w.units.phase p ∙ k.0.unborn (new_unit w) (omega arith) in cc)
 
   effects-change : (e : CoreEvent) (w' : CoreState) → Change w e w' → is_settling e ≡ false → (to_commit w' (Some b) ≡ to_commit w (Some b)) × (w'.manager.batch ≡ w.manager.batch)
   effects-change e w' (bad line why p) s = (refl, refl)
@@ -60,7 +59,7 @@ module _ (opening : GrainId → List Value) (w : CoreState) (k : Kept opening w)
   effects-change e w' (raise u g mode running free held here uncovered) s = (refl, refl)
   effects-change e w' (refuse u g mode why running p) s = (effects-same w w' b refl (λ x m. put-other w.manager.verdict u Aborted x (other x u m running)) (λ x m. refl), refl)
   effects-change e w' (finish u effect running plain of_call reads alone) s = (
-    effects-same w w' b (take-drop-push b.size w.manager.closed w.manager.order u (size-open opening w b k q)) (λ x m. refl)
+    effects-same w w' b (take-drop-push b.size w.manager.closed w.manager.order u (size-at w b k q)) (λ x m. refl)
         (λ x m i. record (effect_of w x) {
           answers = put-other w.manager.answers u effect.answers x (other x u m running) i;
           writes = put-other w.manager.writes u effect.writes x (other x u m running) i;
@@ -109,19 +108,15 @@ module _ (opening : GrainId → List Value) (w : CoreState) (k : Kept opening w)
       let t = effects-step e s in
       ap (to_commit (step w e)) (t.1 ∙ q) ∙ t.0 ∙ sym (ap (to_commit w) q)
 
--- in a run that keeps the unit rule
-pub shown-stay : (s : Basis) (r : Run) → 0 < r.base → KeepsUnitRule s r → (e : CoreEvent) → is_settling e ≡ false
+-- in a run
+pub shown-stay : (r : Run) → 0 < r.base → (e : CoreEvent) → is_settling e ≡ false
     → to_commit (ends (extended r (e ∷ []))) (ends (extended r (e ∷ []))).manager.batch ≡ to_commit (ends r) (ends r).manager.batch
-shown-stay s r above keeps e others =
-    ap (λ (v : CoreState). to_commit v v.manager.batch) (ends-more r (e ∷ []))
-    ∙ subst (λ (w : CoreState). to_commit (step w e) (step w e).manager.batch ≡ to_commit w w.manager.batch) (ends_alike r) (by_batch (ends q).manager.batch refl)
+shown-stay r above e others =
+    ap (λ (v : CoreState). to_commit v v.manager.batch) (ends-more r (e ∷ [])) ∙ by_batch (ends r).manager.batch refl
   where
-    q : Run
-    q = applied_run r
+    same-batch : (step (ends r) e).manager.batch ≡ (ends r).manager.batch
+    same-batch = ap (λ (v : CoreState). v.manager.batch) (sym (ends-more r (e ∷ []))) ∙ (others-leave r e others).batch
 
-    same-batch : (step (ends q) e).manager.batch ≡ (ends q).manager.batch
-    same-batch = ap (λ (v : CoreState). v.manager.batch) (sym (ends-more q (e ∷ []))) ∙ (others-leave q e others).batch
-
-    by_batch : (o : Option Batch) → (ends q).manager.batch ≡ o → to_commit (step (ends q) e) (step (ends q) e).manager.batch ≡ to_commit (ends q) (ends q).manager.batch
-    by_batch None none = ap (to_commit (step (ends q) e)) (same-batch ∙ none) ∙ sym (ap (to_commit (ends q)) none)
-    by_batch (Some b) is = effects-stay q.opening (ends q) (kept-ends (is_play s.types) q (legal s r above keeps)) b is e others
+    by_batch : (o : Option Batch) → (ends r).manager.batch ≡ o → to_commit (step (ends r) e) (step (ends r) e).manager.batch ≡ to_commit (ends r) (ends r).manager.batch
+    by_batch None none = ap (to_commit (step (ends r) e)) (same-batch ∙ none) ∙ sym (ap (to_commit (ends r)) none)
+    by_batch (Some b) is = effects-stay (ends r) (loadless-ends r above) b is e others

@@ -16,7 +16,8 @@ use Rattle.base_types.specs.declared.entries.Settled.TheVariants as settled
 use Rattle.core_model.specs.CoreState.{Member, CoreState}
 use Rattle.core_model.specs.declared.questions.SettlerWork.{SettlerWork}
 use Rattle.core_model.specs.declared.questions.SettlerWork.TheVariants as work
-use Rattle.core_model.specs.LegalRuns.{Run, ends}
+use Rattle.core_model.specs.SerialOrder.{AllLoadsTrue}
+use Rattle.core_model.specs.LegalRuns.{Run, begins, ends}
 use Rattle.core_model.specs.ProperEntries.{HasUnitOf, MaySettle, IsProperEntry}
 use Rattle.core_model.specs.Settler.{Step, Votes, Decides, Seals, Learns, Writes, Loads, Takes, Rests, settler_step, work_in, write_work}
 use Rattle.core_laws.proofs.Proper.{proper-ends}
@@ -59,19 +60,19 @@ member-of-slice {A} xs k x is = subst (λ (y : A). Member y xs) (get_or_from_sli
     go (y ∷ ys) zero low = inl refl
     go (y ∷ ys) (suc i) low = inr (go ys i (omega (arith, low)))
 
-module _ (s : Basis) (r : Run) (above : 0 < r.base) (keeps : KeepsUnitRule s r) (kinds : r.kinds ≡ length s.types) where
+module _ (s : Basis) (r : Run) (above : 0 < r.base) (loads : AllLoadsTrue r.opening (begins r) r.events) (keeps : KeepsUnitRule s r) (kinds : r.kinds ≡ length s.types) where
   by-core : (x : Entry) → Member x (ends r).manager.settled → IsProperEntry r.base (ends r) x
   by-core =
       subst (λ (w : CoreState). (x : Entry) → Member x w.manager.settled → IsProperEntry r.base w x) (ends_alike r)
-      (λ x m. proper-ends (is_play s.types) (applied_run r) (legal s r above keeps) (never-aborts s.types) x m)
+      (λ x m. proper-ends (is_play s.types) (applied_run r) (legal s r above loads keeps) (never-aborts s.types) x m)
 
   told : (x : Entry) → Member x (ends r).manager.settled → Tells s.types s.lines (ends r) x x.what
   told =
       subst (λ (w : CoreState). (x : Entry) → Member x w.manager.settled → Tells s.types s.lines w x x.what) (ends_alike r)
-      (λ x m. telling-ends (is_play s.types) s.types s.lines (applied_run r) (legal s r above keeps) (all_said s r keeps) x m)
+      (λ x m. telling-ends (is_play s.types) s.types s.lines (applied_run r) (legal s r above loads keeps) (all_said s r keeps) x m)
 
   in-shape : (k : ℕ) → k < (ends r).units.kinds → k < length (shape_with s.types).types
-  in-shape k low = (let same = kinds-are s r above keeps in let count = length-map s.types type_shape in omega (arith, low, same, kinds, count))
+  in-shape k low = (let same = kinds-are s r above loads keeps in let count = length-map s.types type_shape in omega (arith, low, same, kinds, count))
 
   may-say : (x : Entry) (what : Settled) → IsSaidInRange what → MaySettle (ends r) x.unit what → Tells s.types s.lines (ends r) x what → MaySay (shape_with s.types) what
   may-say x (settled.Done result) range may t = result-fits result range may

@@ -15,6 +15,7 @@ use Rattle.core_model.specs.declared.phases.Verdict.{Verdict}
 use Rattle.core_model.specs.declared.phases.Verdict.TheVariants.{Open, Chosen, Condemned, Committed, Aborted}
 use Rattle.core_model.specs.Events.{applies, step, run}
 use Rattle.core_model.specs.Laws.{extended}
+use Rattle.core_model.specs.SerialOrder.{AllLoadsTrue}
 use Rattle.core_model.specs.LegalRuns.{Run, IsLegal, begins, ends}
 use Rattle.core_model.specs.Tests.{is_final, is_over, outcome_in, outcome_of}
 use Rattle.core_laws.proofs.FurtherLaws.{grows-ends, legal-front}
@@ -124,11 +125,11 @@ applied-append w (e ∷ es) more = by_test (applied-append (step w e) es more) (
     by_test rest true = ap (λ xs. e ∷ xs) rest
     by_test rest false = rest
 
-pub told-by-then : (s : Basis) (r : Run) (more : List CoreEvent) → 0 < r.base → KeepsUnitRule s (extended r more) → TellsNoLater (ends r) (ends (extended r more))
-told-by-then s r more above keeps =
+pub told-by-then : (s : Basis) (r : Run) (more : List CoreEvent) → 0 < r.base → AllLoadsTrue r.opening (begins r) (extended r more).events → KeepsUnitRule s (extended r more) → TellsNoLater (ends r) (ends (extended r more))
+told-by-then s r more above loads keeps =
     let tail = applied_from (ends r) more in
     let same : applied_run (extended r more) ≡ extended (applied_run r) tail = λ i. record r { events = applied-append (begins r) r.events more i } in
-    let lawful : IsLegal (is_play s.types) (extended (applied_run r) tail) = subst (IsLegal (is_play s.types)) same (legal s (extended r more) above keeps) in
+    let lawful : IsLegal (is_play s.types) (extended (applied_run r) tail) = subst (IsLegal (is_play s.types)) same (legal s (extended r more) above loads keeps) in
     let last : ends (extended (applied_run r) tail) ≡ ends (extended r more) = ap ends (sym same) ∙ ends_alike (extended r more) in
     subst (λ (v : CoreState). TellsNoLater v (ends (extended r more))) (ends_alike r)
     (subst (λ (v : CoreState). TellsNoLater (ends (applied_run r)) v) last (tells-no-later (is_play s.types) (applied_run r) tail lawful))

@@ -7,7 +7,6 @@ ghost use Rattle.core_model.specs.Laws.{extended};
 ghost use Rattle.core_model.specs.LegalRuns.{Run, ends};
 ghost use Rattle.core_model.specs.Settler.{Votes, settler_step, to_commit, versions_to_write};
 ghost use Rattle.core_access.specs.SettlerEvents.{is_settling};
-ghost use Rattle.promise_spec.specs.UnitRule.{Basis, KeepsUnitRule};
 ghost use Rattle.settler_rules.specs.Votes.{IsUnvoted, VoteStands, HasLeft, IsOfVote};
 
 /// Where the settler's next step is a vote, it is on a grain of the open batch's plan that has no vote: none that was voted on
@@ -35,6 +34,6 @@ pub fn voted_versions_stay()
 
 /// What is shown for a seal stays what it was while others put their events.
 pub fn shown_effects_stay()
-    ensures { (s : Basis) (r : Run) → 0 < r.base → KeepsUnitRule s r → (e : CoreEvent) → is_settling e ≡ false
+    ensures { (r : Run) → 0 < r.base → (e : CoreEvent) → is_settling e ≡ false
         → to_commit (ends (extended r (e ∷ []))) (ends (extended r (e ∷ []))).manager.batch ≡ to_commit (ends r) (ends r).manager.batch }
 {}

@@ -11,8 +11,8 @@ use Rattle.script_tree.specs.Programs.{ProgramTree}
 use Rattle.promise_spec.specs.Cores.{applied_from}
 use Rattle.promise_spec.specs.UnitAnswers.{Got, got_from, got_in}
 use Rattle.promise_spec.specs.UnitRule.{Basis, IsDue, KeepsUnitRule}
-use Rattle.promise_spec.specs.TurnRule.{IsTurn, KeepsTurnRule, line_can_begin, movers, mover_of, takes_pick, picked}
-use Rattle.turn_rules.specs.NextEvent.{with_event, got_next, MayCome, IsNext, movers_in}
+use Rattle.promise_spec.specs.TurnRule.{IsTurnOf, KeepsTurnRule, lock_asked, movers, mover_of, next_wish, passed, takes_pick, units_of}
+use Rattle.turn_rules.specs.NextEvent.{with_event, got_next, MayCome, IsNext, movers_in, wish_in}
 use Rattle.promise_spec.proofs.Lists.{some_is}
 
 -- what stands in a list with one more stands in the list, or is the last
@@ -64,11 +64,13 @@ unit-grows s r e keeps may at f a =
 pub turn-grows : (types : ProgramTree) (windowed : Bool) (lines width : ℕ) (picks : List ℕ) (r : Run) (e : CoreEvent) → KeepsTurnRule types windowed lines width picks r → IsNext types windowed lines width picks r e →
     KeepsTurnRule types windowed lines width picks (with_event r e)
 turn-grows types windowed lines width picks r e keeps is at f a =
-    each-grows (λ before g. IsTurn (line_can_begin windowed width lines r (run (begins r) before) (movers types r (run (begins r) before) (got_from (begins r) before)))
-    (picked (movers types r (run (begins r) before) (got_from (begins r) before)) (get_or picks (count_by (λ x. takes_pick (mover_of x)) (applied_from (begins r) before)) 0))
-    (run (begins r) before) g (mover_of g)) (begins r) r.events e
+    each-grows (λ before g. IsTurnOf windowed lines width r (run (begins r) before)
+    (next_wish (run (begins r) before) (units_of r (run (begins r) before)) (lock_asked types (run (begins r) before) (got_from (begins r) before)) (passed (applied_from (begins r) before)))
+    (movers types r (run (begins r) before) (got_from (begins r) before))
+    (get_or picks (count_by (λ x. takes_pick (mover_of x)) (applied_from (begins r) before)) 0) g) (begins r) r.events e
     (λ i g there applied. keeps i g (record { there = there; applied = applied }))
-    (λ applied. subst (λ (l : List CoreEvent). IsTurn (line_can_begin windowed width lines r (ends r) (movers_in types r)) (picked (movers types r (ends r) (got_in r)) (get_or picks (count_by (λ x. takes_pick (mover_of x)) (applied_from (begins r) l)) 0)) (ends r) e (mover_of e))
+    (λ applied. subst (λ (l : List CoreEvent). IsTurnOf windowed lines width r (ends r) (wish_in types r) (movers_in types r)
+    (get_or picks (count_by (λ x. takes_pick (mover_of x)) (applied_from (begins r) l)) 0) e)
     (take-length r.events) (is applied))
     at f a.there a.applied
 

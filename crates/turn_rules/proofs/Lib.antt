@@ -11,5 +11,6 @@ pub mod AgentLinks
 pub mod OthersEvents
 pub mod Picks
 pub mod Settlers
+pub mod PlainTurns
 pub mod WithinWindows
 pub mod Turns

@@ -14,7 +14,8 @@ use Rattle.promise_spec.specs.Cores.{state_before}
 use Rattle.promise_spec.specs.UnitAnswers.{Got, got_from}
 use Rattle.promise_spec.specs.UnitRule.{Basis, IsDue}
 use Rattle.core_model.specs.Settler.{MakesEvent, Step, Votes, Decides, Seals, Learns, Writes, Loads, Takes, Rests, settler_step}
-use Rattle.promise_spec.specs.TurnRule.{OfSettler, IsTurn, KeepsTurnRule, line_can_begin, movers, mover_of, picked, picks_used}
+use Rattle.promise_spec.specs.Cores.{applied_from}
+use Rattle.promise_spec.specs.TurnRule.{OfSettler, IsTurnOf, KeepsTurnRule, lock_asked, movers, mover_of, next_wish, passed, picks_used, units_of}
 use Rattle.turn_rules.specs.NextEvent.{is_begin, is_own, with_event}
 use Rattle.turn_rules.proofs.Growth.{ends-more}
 
@@ -87,23 +88,25 @@ going-by r e other going = ap (λ (w : CoreState). w.units.halt) (ends-more r e)
 pub never-halted : (types : ProgramTree) (windowed : Bool) (lines width : ℕ) (picks : List ℕ) (r : Run) → KeepsTurnRule types windowed lines width picks r → (ends r).units.halt ≡ false
 never-halted types windowed lines width picks r keeps =
     halt-run r.events (begins r) (λ at e there a q.
-    no-halt-step (settler_step (state_before r at)) (subst (λ (x : CoreEvent). IsTurn (line_can_begin windowed width lines r (state_before r at) (movers types r (state_before r at) (got_from (begins r) (take at r.events)))) (picked (movers types r (state_before r at) (got_from (begins r) (take at r.events))) (get_or picks (picks_used r at) 0)) (state_before r at) x (mover_of x)) q
-    (keeps at e (record { there = there; applied = a }))).2)
+    no-halt-step (settler_step (state_before r at)) (subst (λ (x : CoreEvent). IsTurnOf windowed lines width r (state_before r at)
+    (next_wish (state_before r at) (units_of r (state_before r at)) (lock_asked types (state_before r at) (got_from (begins r) (take at r.events))) (passed (applied_from (begins r) (take at r.events))))
+    (movers types r (state_before r at) (got_from (begins r) (take at r.events))) (get_or picks (picks_used r at) 0) x) q
+    (keeps at e (record { there = there; applied = a }))).made)
 
--- the settler's events
-pub settlers : (s : Step) (e : CoreEvent) → MakesEvent s e → (mover_of e ≡ OfSettler) × (is_begin e ≡ false)
-settlers (Votes n g) e m = subst (λ (x : CoreEvent). (mover_of x ≡ OfSettler) × (is_begin x ≡ false)) (sym m.1) (refl, refl)
-settlers (Decides n) e m = subst (λ (x : CoreEvent). (mover_of x ≡ OfSettler) × (is_begin x ≡ false)) (sym m) (refl, refl)
-settlers (Seals n) e (inl m) = subst (λ (x : CoreEvent). (mover_of x ≡ OfSettler) × (is_begin x ≡ false)) (sym m) (refl, refl)
-settlers (Seals n) e (inr (inl m)) = subst (λ (x : CoreEvent). (mover_of x ≡ OfSettler) × (is_begin x ≡ false)) (sym m) (refl, refl)
-settlers (Seals n) e (inr (inr m)) = subst (λ (x : CoreEvent). (mover_of x ≡ OfSettler) × (is_begin x ≡ false)) (sym m) (refl, refl)
-settlers (Learns u g) e m = subst (λ (x : CoreEvent). (mover_of x ≡ OfSettler) × (is_begin x ≡ false)) (sym m) (refl, refl)
-settlers Writes e m = subst (λ (x : CoreEvent). (mover_of x ≡ OfSettler) × (is_begin x ≡ false)) (sym m) (refl, refl)
-settlers (Loads g) e m = subst (λ (x : CoreEvent). (mover_of x ≡ OfSettler) × (is_begin x ≡ false)) (sym m.2) (refl, refl)
-settlers Takes e m = subst (λ (x : CoreEvent). (mover_of x ≡ OfSettler) × (is_begin x ≡ false)) (sym m) (refl, refl)
-settlers Rests e m = absurd m
+-- the events of a settler that brings no grain into memory
+pub settlers : (s : Step) (e : CoreEvent) → ((g : GrainId) → s ≡ Loads g → ⊥) → MakesEvent s e → (mover_of e ≡ OfSettler) × (is_begin e ≡ false)
+settlers (Votes n g) e stays m = subst (λ (x : CoreEvent). (mover_of x ≡ OfSettler) × (is_begin x ≡ false)) (sym m.1) (refl, refl)
+settlers (Decides n) e stays m = subst (λ (x : CoreEvent). (mover_of x ≡ OfSettler) × (is_begin x ≡ false)) (sym m) (refl, refl)
+settlers (Seals n) e stays (inl m) = subst (λ (x : CoreEvent). (mover_of x ≡ OfSettler) × (is_begin x ≡ false)) (sym m) (refl, refl)
+settlers (Seals n) e stays (inr (inl m)) = subst (λ (x : CoreEvent). (mover_of x ≡ OfSettler) × (is_begin x ≡ false)) (sym m) (refl, refl)
+settlers (Seals n) e stays (inr (inr m)) = subst (λ (x : CoreEvent). (mover_of x ≡ OfSettler) × (is_begin x ≡ false)) (sym m) (refl, refl)
+settlers (Learns u g) e stays m = subst (λ (x : CoreEvent). (mover_of x ≡ OfSettler) × (is_begin x ≡ false)) (sym m) (refl, refl)
+settlers Writes e stays m = subst (λ (x : CoreEvent). (mover_of x ≡ OfSettler) × (is_begin x ≡ false)) (sym m) (refl, refl)
+settlers (Loads g) e stays m = absurd (stays g refl)
+settlers Takes e stays m = subst (λ (x : CoreEvent). (mover_of x ≡ OfSettler) × (is_begin x ≡ false)) (sym m) (refl, refl)
+settlers Rests e stays m = absurd m
 
--- and they are due, where no grain is brought into memory
+-- and they are due
 pub settlers-due : (around : Basis) (w : CoreState) (got : UnitNo → List Got) (s : Step) (e : CoreEvent) → ((g : GrainId) → s ≡ Loads g → ⊥) → MakesEvent s e → IsDue around w got e
 settlers-due around w got (Votes n g) e stays m = subst (IsDue around w got) (sym m.1) tt
 settlers-due around w got (Decides n) e stays m = subst (IsDue around w got) (sym m) tt

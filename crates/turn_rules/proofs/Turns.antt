@@ -15,8 +15,9 @@ use Rattle.promise_spec.specs.UnitAnswers.{got_in}
 use Rattle.promise_spec.specs.UnitRule.{Basis}
 use Rattle.promise_spec.specs.Windows.{window_lines}
 use Rattle.core_model.specs.Settler.{MakesEvent, settler_step}
-use Rattle.promise_spec.specs.TurnRule.{Mover, OfLine, OfUnit, OfSettler, IsTurn, line_can_begin, mover_of, takes_pick, picked, units_of, units_from}
+use Rattle.promise_spec.specs.TurnRule.{Mover, OfLine, OfUnit, OfSettler, line_can_begin, mover_of, takes_pick, picked, units_of, units_from}
 use Rattle.turn_rules.specs.NextEvent.{with_event, is_begin, MayCome, IsNext, movers_in, next_pick}
+use Rattle.turn_rules.proofs.PlainTurns.{IsPlainTurn, by-plain, nobody-waits}
 use Rattle.turn_rules.specs.CarriedUnits.{AreKept, movers_of, is_kept}
 use Rattle.turn_rules.specs.QuietRun.{HasRun}
 use Rattle.turn_rules.specs.Windows.{InWindow}
@@ -47,7 +48,12 @@ module _ (l : TurnLoop) (t : IsTurning l) where
 
   -- and it stays within its window by an event that keeps the turn rule
   window-stays : (e : CoreEvent) → (l.ruled ≡ true → IsNext l.basis.types l.windowed (length l.basis.lines) l.width l.picks l.run e) → l.ruled ≡ true → InWindow l.basis.types l.windowed (length l.basis.lines) (with_event l.run e)
-  window-stays e next ruled = stays l.basis.types l.windowed (length l.basis.lines) l.width l.picks l.run e (t.within ruled) (next ruled)
+  window-stays e next ruled = stays l.basis.types l.windowed (length l.basis.lines) l.width l.picks l.run e t.unlimited (t.within ruled) (next ruled)
+
+  -- the turn is a mover's whose event it is
+  at_turn : (m : Mover) (e : CoreEvent) → mover_of e ≡ m → IsPlainTurn (line_can_begin l.windowed l.width (length l.basis.lines) l.run (ends l.run) (movers_in l.basis.types l.run)) (picked (movers_in l.basis.types l.run) (next_pick l.picks l.run)) (ends l.run) e m → IsNext l.basis.types l.windowed (length l.basis.lines) l.width l.picks l.run e
+  at_turn m e is turn a = by-plain l.basis.types l.windowed (length l.basis.lines) l.width l.run t.unlimited (next_pick l.picks l.run) e
+      (subst (λ (o : Mover). IsPlainTurn (line_can_begin l.windowed l.width (length l.basis.lines) l.run (ends l.run) (movers_in l.basis.types l.run)) (picked (movers_in l.basis.types l.run) (next_pick l.picks l.run)) (ends l.run) e o) (sym is) turn)
 
   -- an event that doesn't apply
   pub turn-unapplied : (e : CoreEvent) → applies (ends l.run) e ≡ false → IsTurning (turned l e l.units l.used)
@@ -89,8 +95,8 @@ module _ (l : TurnLoop) (t : IsTurning l) where
     count = λ ruled. used-none l.run e l.used (t.count ruled) (ap takes_pick m);
   }
     where
-      no_mover : l.ruled ≡ true → applies (ends l.run) e ≡ true → IsTurn (line_can_begin l.windowed l.width (length l.basis.lines) l.run (ends l.run) (movers_in l.basis.types l.run)) (picked (movers_in l.basis.types l.run) (next_pick l.picks l.run)) (ends l.run) e (mover_of e)
-      no_mover ruled a = subst (λ (o : Mover). IsTurn (line_can_begin l.windowed l.width (length l.basis.lines) l.run (ends l.run) (movers_in l.basis.types l.run)) (picked (movers_in l.basis.types l.run) (next_pick l.picks l.run)) (ends l.run) e o) (sym m) (can-begin ruled ∙ can)
+      no_mover : l.ruled ≡ true → IsNext l.basis.types l.windowed (length l.basis.lines) l.width l.picks l.run e
+      no_mover ruled = at_turn OfLine e m (can-begin ruled ∙ can)
 
   -- a line that begins
   pub turn-line : (n : ℕ) (call : Call) (plain : Bool) → has_room l ≡ true → MayCome l.basis l.run (Begin (Line n) call plain) → applies (ends l.run) (Begin (Line n) call plain) ≡ true →
@@ -100,8 +106,8 @@ module _ (l : TurnLoop) (t : IsTurning l) where
     unlimited = t.unlimited;
     unit_rule = unit-grows l.basis l.run (Begin (Line n) call plain) t.unit_rule may;
     unstopped = going-by l.run (Begin (Line n) call plain) (no_stop (Begin (Line n) call plain) OfLine refl (λ q. absurd cc)) t.unstopped;
-    turn_rule = λ ruled. turn-grows l.basis.types l.windowed (length l.basis.lines) l.width l.picks l.run (Begin (Line n) call plain) (t.turn_rule ruled) (λ b. can-begin ruled ∙ can);
-    within = window-stays (Begin (Line n) call plain) (λ ruled b. can-begin ruled ∙ can);
+    turn_rule = λ ruled. turn-grows l.basis.types l.windowed (length l.basis.lines) l.width l.picks l.run (Begin (Line n) call plain) (t.turn_rule ruled) (at_turn OfLine (Begin (Line n) call plain) refl (can-begin ruled ∙ can));
+    within = window-stays (Begin (Line n) call plain) (λ ruled. at_turn OfLine (Begin (Line n) call plain) refl (can-begin ruled ∙ can));
     kept = kept-begun l.run (Line n) call plain l.units held (counted-ends l.run t.first).above a t.kept;
     older = older-last l.units (new_unit (ends l.run)) (λ v m. t.kept.below v m) t.older;
     count = λ ruled. used-none l.run (Begin (Line n) call plain) l.used (t.count ruled) refl;
@@ -116,15 +122,10 @@ module _ (l : TurnLoop) (t : IsTurning l) where
   none_begins : l.ruled ≡ true → has_room l ≡ false → line_can_begin l.windowed l.width (length l.basis.lines) l.run (ends l.run) (movers_in l.basis.types l.run) ≡ false
   none_begins ruled cannot = can-begin ruled ∙ cannot
 
-  -- the turn is a mover's whose event it is
-  at_turn : (m : Mover) (e : CoreEvent) → mover_of e ≡ m → IsTurn (line_can_begin l.windowed l.width (length l.basis.lines) l.run (ends l.run) (movers_in l.basis.types l.run)) (picked (movers_in l.basis.types l.run) (next_pick l.picks l.run)) (ends l.run) e m → IsNext l.basis.types l.windowed (length l.basis.lines) l.width l.picks l.run e
-  at_turn m e is turn a =
-      subst (λ (o : Mover). IsTurn (line_can_begin l.windowed l.width (length l.basis.lines) l.run (ends l.run) (movers_in l.basis.types l.run)) (picked (movers_in l.basis.types l.run) (next_pick l.picks l.run)) (ends l.run) e o) (sym is) turn
-
   -- the settler's step
   pub turn-settler : (e : CoreEvent) → IsPicked l OfSettler → MakesEvent (settler_step (ends l.run)) e → applies (ends l.run) e ≡ true → IsTurning (turned l e l.units (l.used + 1))
   turn-settler e turn makes a =
-      let s = settlers (settler_step (ends l.run)) e makes in
+      let s = settlers (settler_step (ends l.run)) e (no-load-step l.run t.unlimited) makes in
       record {
         first = t.first;
         unlimited = t.unlimited;
@@ -185,7 +186,7 @@ module _ (l : TurnLoop) (t : IsTurning l) where
   pub turn-ended : (ends l.run).manager.doubt ≡ None → movers_of l.basis.types l.run l.units ≡ [] → 0 < l.width → has_room l ≡ false →
       HasRun (length l.basis.lines) (ends l.run)
   turn-ended doubt none some cannot =
-      without-mover l.basis.types l.run l.width (length l.basis.lines) t.first doubt t.unstopped (movers-kept l.basis.types l.run l.units t.kept ∙ none) some (begins-kept l.width (length l.basis.lines) l.run l.units t.kept ∙ cannot)
+      without-mover l.basis.types l.run l.width (length l.basis.lines) t.first doubt t.unstopped (nobody-waits l.basis.types l.run t.unlimited) (movers-kept l.basis.types l.run l.units t.kept ∙ none) some (begins-kept l.width (length l.basis.lines) l.run l.units t.kept ∙ cannot)
 
 -- ---- the start
 

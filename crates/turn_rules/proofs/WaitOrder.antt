@@ -1,4 +1,4 @@
--- Without a mover every line is settled: each wait goes from an older unit to a younger one.
+-- Without a mover every line is settled, where nobody waits for a grain to be brought into memory: each wait goes from an older unit to a younger one.
 use Rattle.std.proofs.Common.{◌≡◌, ℕ, zero, suc, ◌+◌, ◌-◌, ◌≤◌, ◌<◌, Option, Some, None, List, [], ◌∷◌, length, Bool, true, false, inl, inr, refl, sym, ap, ◌∙◌, subst, arith, nat_lt, is_some, is_none}
 use Rattle.std.specs.Prelude.{filter, not, ◌&&◌, ◌||◌, if◌then◌else◌, drop, take}
 use Rattle.std.proofs.lemmas.List.{length-drop}
@@ -28,7 +28,7 @@ use Rattle.script_tree.specs.Programs.{ProgramTree}
 use Rattle.promise_spec.specs.UnitAnswers.{Got, wanted_by, got_in, kids_got}
 use Rattle.core_model.specs.Settler.{has_step, settler_step}
 use Rattle.promise_spec.specs.TurnRule.{OfSettler, can_move, in_flight, is_line, is_settled, is_unhindered, units_of}
-use Rattle.turn_rules.specs.NextEvent.{movers_in, line_has_place}
+use Rattle.turn_rules.specs.NextEvent.{movers_in, line_has_place, NobodyWaitsForLoad}
 use Rattle.turn_rules.specs.RunCounts.{IsCounted, HasEntry}
 use Rattle.turn_rules.specs.QuietRun.{IsQuiet, HasRun}
 use Rattle.turn_rules.proofs.SettlerRest.{Rested, no-doubt-list, no-step, rested}
@@ -69,7 +69,7 @@ module _ (types : ProgramTree) (r : Run) (above : 0 < r.base)
     (kids : (u : UnitNo) → kids_got (got_in r u) ≡ (ends r).units.kids u)
     (numbered : (u : UnitNo) → ((ends r).units.phase u ≡ Unborn → ⊥) → r.base ≤ u.0)
     (born : (u : UnitNo) → r.base ≤ u.0 → u.0 < (ends r).units.next → (ends r).units.phase u ≡ Unborn → ⊥)
-    (doubt : (ends r).manager.doubt ≡ None) (halt : (ends r).units.halt ≡ false) (none : movers_in types r ≡ []) where
+    (doubt : (ends r).manager.doubt ≡ None) (halt : (ends r).units.halt ≡ false) (calm : NobodyWaitsForLoad types r) (none : movers_in types r ≡ []) where
   kept : LoadlessKept (ends r)
   kept = loadless-ends r above
 
@@ -138,7 +138,7 @@ module _ (types : ProgramTree) (r : Run) (above : 0 < r.base)
 
   still : (n : ℕ) (u : UnitNo) → (ends r).units.next ≤ u.0 + n → (ends r).units.phase u ≡ Running → ⊥
   still zero u le q = (let t : Unborn ≡ Running = sym (kept.0.unborn u (omega (arith, le))) ∙ q in absurd cc)
-  still (suc n) u le q = elim (waiting-cases types (ends r) u (got_in r u) (runs-moves types (ends r) (got_in r) u q (idle u (not-unborn Running u q (λ e. absurd cc))))) [
+  still (suc n) u le q = elim (waiting-cases types (ends r) u (got_in r u) (runs-moves types (ends r) (got_in r) u q (idle u (not-unborn Running u q (λ e. absurd cc)))) (calm u)) [
     | inl t ↦ holder t.0 t.1 t.2 (λ run. still n t.0.unit (let less = t.3 in omega (arith, le, less)) run) ((ends r).units.phase t.0.unit) refl
     | inr t ↦
         let m : Member t.0 ((ends r).units.kids u) = subst (Member t.0) (kids u) t.1 in
@@ -189,16 +189,16 @@ module _ (types : ProgramTree) (r : Run) (above : 0 < r.base)
 
 -- ---- each line has its entry
 
--- Where nobody moves and no line can begin, all is quiet and each line has its entry.
-pub without-mover : (types : ProgramTree) (r : Run) (width count : ℕ) → 0 < r.base → (ends r).manager.doubt ≡ None → (ends r).units.halt ≡ false → movers_in types r ≡ [] →
+-- Where nobody moves or waits for a grain to be brought into memory, and no line can begin, all is quiet and each line has its entry.
+pub without-mover : (types : ProgramTree) (r : Run) (width count : ℕ) → 0 < r.base → (ends r).manager.doubt ≡ None → (ends r).units.halt ≡ false → NobodyWaitsForLoad types r → movers_in types r ≡ [] →
     0 < width → line_has_place width count r ≡ false → HasRun count (ends r)
-without-mover types r width count above doubt halt none some over = record { quiet = quiet; answered = answered }
+without-mover types r width count above doubt halt calm none some over = record { quiet = quiet; answered = answered }
   where
     counted : IsCounted r.base (ends r) (got_in r)
     counted = counted-ends r above
 
     quiet : IsQuiet (ends r)
-    quiet = all-quiet types r above (counted-ends r above).kids (counted-ends r above).numbered (counted-ends r above).born doubt halt none
+    quiet = all-quiet types r above (counted-ends r above).kids (counted-ends r above).numbered (counted-ends r above).born doubt halt calm none
 
     entry : (u : UnitNo) (n : ℕ) → ((ends r).units.phase u ≡ Unborn → ⊥) → (ends r).units.origin u ≡ Line n → (x : Entry) × Member x (ends r).manager.settled × (x.unit ≡ u) × (x.line ≡ n)
     entry u n b o = (once-ends r above).complete u n (b, o) (quiet.settled u b)

@@ -16,16 +16,19 @@ use Rattle.script_tree.specs.Programs.{ProgramTree}
 use Rattle.promise_spec.specs.Cores.{AppliesAt, applied_from}
 use Rattle.promise_spec.specs.UnitAnswers.{Got, got_from, got_in, got_by}
 use Rattle.promise_spec.specs.Windows.{window_lines}
-use Rattle.promise_spec.specs.TurnRule.{Mover, OfLine, OfUnit, OfSettler, IsTurn, KeepsTurnRule, at_seam, is_nobody, can_move, units_from, in_flight, line_can_begin, movers, mover_of, takes_pick, picked}
-use Rattle.turn_rules.specs.NextEvent.{with_event, IsNext, movers_in, next_pick, line_has_place}
+use Rattle.promise_spec.specs.TurnRule.{Mover, OfLine, OfWant, OfLoad, OfUnit, OfSettler, IsTurnOf, KeepsTurnRule, at_seam, is_nobody, can_move, units_from, in_flight, line_can_begin, movers, mover_of, takes_pick, picked}
+use Rattle.turn_rules.specs.NextEvent.{with_event, IsNext, movers_in, next_pick, line_has_place, wish_in}
 use Rattle.turn_rules.specs.Windows.{InWindow}
 use Rattle.turn_rules.proofs.Growth.{ends-more, got-event}
+use Rattle.turn_rules.proofs.PlainTurns.{IsPlainTurn, by-plain, is-plain}
 
 -- ---- how many lines have begun
 
 -- a line's event counts one
 abbrev lines_by : Mover → ℕ
 lines_by OfLine = 1
+lines_by (OfWant u) = 0
+lines_by OfLoad = 0
 lines_by (OfUnit u) = 0
 lines_by OfSettler = 0
 
@@ -137,11 +140,11 @@ nobody-tests windowed width lines r ms none =
 
 -- ---- turns
 
--- each turn stays within it
-pub stays : (types : ProgramTree) (windowed : Bool) (lines width : ℕ) (picks : List ℕ) (r : Run) (e : CoreEvent) → InWindow types windowed lines r → IsNext types windowed lines width picks r e
+-- each turn stays within it, where every grain is in memory
+pub stays : (types : ProgramTree) (windowed : Bool) (lines width : ℕ) (picks : List ℕ) (r : Run) (e : CoreEvent) → r.capacity ≡ None → InWindow types windowed lines r → IsNext types windowed lines width picks r e
     → InWindow types windowed lines (with_event r e)
-stays types windowed lines width picks r e w next = elim (cases_Bool (applies (ends r) e)) [
-  | inl a ↦ by (mover_of e) (lines-next r e a) (next a)
+stays types windowed lines width picks r e limit w next = elim (cases_Bool (applies (ends r) e)) [
+  | inl a ↦ by (mover_of e) (lines-next r e a) (is-plain types windowed lines width r limit (next_pick picks r) e (next a))
   | inr fails ↦
       let same : (ends (with_event r e)).units.lines ≡ (ends r).units.lines = ap (λ (x : CoreState). x.units.lines) (ends-more r e ∙ no-change (ends r) e fails) in
       let from = w.from in
@@ -165,7 +168,7 @@ stays types windowed lines width picks r e w next = elim (cases_Bool (applies (e
         }
 
     by : (m : Mover) → (ends (with_event r e)).units.lines ≡ (ends r).units.lines + lines_by m
-        → IsTurn (line_can_begin windowed width lines r (ends r) (movers_in types r)) (picked (movers_in types r) (next_pick picks r)) (ends r) e m → InWindow types windowed lines (with_event r e)
+        → IsPlainTurn (line_can_begin windowed width lines r (ends r) (movers_in types r)) (picked (movers_in types r) (next_pick picks r)) (ends r) e m → InWindow types windowed lines (with_event r e)
     by OfLine count turn =
         (let from = w.from in
         record {
@@ -176,6 +179,8 @@ stays types windowed lines width picks r e w next = elim (cases_Bool (applies (e
         })
     by (OfUnit u) count turn = moved (OfUnit u) count turn.1
     by OfSettler count turn = moved OfSettler count turn.1
+    by (OfWant u) count turn = absurd turn
+    by OfLoad count turn = absurd turn
 
 -- ---- where a window begins
 
@@ -234,8 +239,8 @@ next-front (x ∷ xs) (suc at) = elim (next-front xs at) [
 abbrev front_of : Run → List CoreEvent → Run
 front_of r events = record r { events = events }
 
-module _ (types : ProgramTree) (lines width : ℕ) (picks : List ℕ) (r : Run) (few : lines ≤ window_lines) where
-  -- whether a line can begin behind these events
+module _ (types : ProgramTree) (lines width : ℕ) (picks : List ℕ) (r : Run) (limit : r.capacity ≡ None) (few : lines ≤ window_lines) where
+  -- a line begins behind these events
   abbrev begins_line : Bool → List CoreEvent → Bool
   begins_line windowed es = line_can_begin windowed width lines r (run (begins r) es) (movers types r (run (begins r) es) (got_from (begins r) es))
 
@@ -244,15 +249,24 @@ module _ (types : ProgramTree) (lines width : ℕ) (picks : List ℕ) (r : Run) 
   same-test true es w = refl
   same-test false es w = tests types false width lines (front_of r es) (plain types lines (front_of r es)) ∙ sym (tests types true width lines (front_of r es) w)
 
-  -- whose turn it is behind these events
-  abbrev TurnBehind : Bool → List CoreEvent → CoreEvent → Type 0
-  TurnBehind b es e =
-      IsTurn b (picked (movers types r (run (begins r) es) (got_from (begins r) es)) (get_or picks (count_by (λ x. takes_pick (mover_of x)) (applied_from (begins r) es)) 0)) (run (begins r) es) e (mover_of e)
+  -- the pick behind these events
+  abbrev pick_behind : List CoreEvent → ℕ
+  pick_behind es = get_or picks (count_by (λ x. takes_pick (mover_of x)) (applied_from (begins r) es)) 0
+
+  -- whose turn it is behind them
+  abbrev TurnBehind : Bool → List CoreEvent → ℕ → CoreEvent → Type 0
+  TurnBehind windowed es pick e = IsTurnOf windowed lines width r (run (begins r) es) (wish_in types (front_of r es)) (movers types r (run (begins r) es) (got_from (begins r) es)) pick e
+
+  -- with windows or without it is the same turn within the first window
+  same-turn : (one other : Bool) (es : List CoreEvent) (pick : ℕ) (e : CoreEvent) → begins_line one es ≡ begins_line other es → TurnBehind one es pick e → TurnBehind other es pick e
+  same-turn one other es pick e same t = by-plain types other lines width (front_of r es) limit pick e
+      (subst (λ (b : Bool). IsPlainTurn b (picked (movers types r (run (begins r) es) (got_from (begins r) es)) pick) (run (begins r) es) e (mover_of e)) same
+      (is-plain types one lines width (front_of r es) limit pick e t))
 
   module _ (windowed : Bool) (keeps : KeepsTurnRule types windowed lines width picks r) where
     -- an event that keeps one rule there keeps the other
-    next-turn : (at : ℕ) (e : CoreEvent) → InWindow types true lines (front_of r (take at r.events)) → AppliesAt r at e → TurnBehind (begins_line true (take at r.events)) (take at r.events) e
-    next-turn at e w a = subst (λ (b : Bool). TurnBehind b (take at r.events) e) (same-test windowed (take at r.events) w) (keeps at e a)
+    next-turn : (at : ℕ) (e : CoreEvent) → InWindow types true lines (front_of r (take at r.events)) → AppliesAt r at e → TurnBehind true (take at r.events) (pick_behind (take at r.events)) e
+    next-turn at e w a = same-turn windowed true (take at r.events) (pick_behind (take at r.events)) e (same-test windowed (take at r.events) w) (keeps at e a)
 
     -- so each first part of the run is within the first window
     all-within : (at : ℕ) → InWindow types true lines (front_of r (take at r.events))
@@ -262,9 +276,8 @@ module _ (types : ProgramTree) (lines width : ℕ) (picks : List ℕ) (r : Run) 
       | inl p ↦
           let w = all-within at in
           subst (λ (l : List CoreEvent). InWindow types true lines (front_of r l)) (sym p.2)
-          (stays types true lines width picks (front_of r (take at r.events)) p.0 w
-          (λ a. subst (λ (l : List CoreEvent). IsTurn (begins_line true (take at r.events))
-          (picked (movers types r (run (begins r) (take at r.events)) (got_from (begins r) (take at r.events))) (get_or picks (count_by (λ x. takes_pick (mover_of x)) (applied_from (begins r) l)) 0)) (run (begins r) (take at r.events)) p.0 (mover_of p.0))
+          (stays types true lines width picks (front_of r (take at r.events)) p.0 limit w
+          (λ a. subst (λ (l : List CoreEvent). TurnBehind true (take at r.events) (pick_behind l) p.0)
           (sym (take-length (take at r.events))) (next-turn at p.0 w (record { there = p.1; applied = a }))))
     ]
 
@@ -273,7 +286,7 @@ module _ (types : ProgramTree) (lines width : ℕ) (picks : List ℕ) (r : Run) 
 
   without-windows : KeepsTurnRule types true lines width picks r → KeepsTurnRule types false lines width picks r
   without-windows keeps at e a =
-      subst (λ (b : Bool). TurnBehind b (take at r.events) e) (sym (same-test false (take at r.events) (all-within true keeps at))) (keeps at e a)
+      same-turn true false (take at r.events) (pick_behind (take at r.events)) e (sym (same-test false (take at r.events) (all-within true keeps at))) (keeps at e a)
 
   pub one-window : KeepsTurnRule types true lines width picks r ↔ KeepsTurnRule types false lines width picks r
   one-window = (without-windows, with-windows false)

@@ -1,5 +1,5 @@
 -- A run that goes on by one event: whose event it is, what a unit gets by it, and when it may come.
-use Rattle.std.specs.Prelude.{◌≡◌, ℕ, List, [], ◌∷◌, length, get_or, Bool, true, false, ◌&&◌, nat_lt, is_none, if◌then◌else◌}
+use Rattle.std.specs.Prelude.{◌≡◌, ℕ, List, [], ◌∷◌, length, get_or, Bool, true, false, ◌&&◌, nat_lt, Option, is_none, if◌then◌else◌}
 use Rattle.base_types.specs.declared.calls.Origin.TheVariants.{Line, Child}
 use Rattle.core_model.specs.CoreState.{UnitNo, same_unit, CoreState}
 use Rattle.core_model.specs.declared.events.CoreEvent.{CoreEvent}
@@ -8,9 +8,10 @@ use Rattle.core_model.specs.Events.{applies}
 use Rattle.core_model.specs.LegalRuns.{Run, ends}
 use Rattle.core_model.specs.Laws.{extended}
 use Rattle.script_tree.specs.Programs.{ProgramTree}
+use Rattle.promise_spec.specs.Cores.{applied_in}
 use Rattle.promise_spec.specs.UnitAnswers.{Got, got_by, got_in}
 use Rattle.promise_spec.specs.UnitRule.{Basis, IsDue}
-use Rattle.promise_spec.specs.TurnRule.{Mover, IsTurn, in_flight, line_can_begin, movers, mover_of, picked, picks_used}
+use Rattle.promise_spec.specs.TurnRule.{Mover, IsTurnOf, in_flight, lock_asked, movers, next_wish, passed, picks_used, units_of, waits_for_load}
 
 -- the run with one more event
 abbrev pub with_event : Run → CoreEvent → Run
@@ -77,6 +78,14 @@ next_pick picks r = get_or picks (picks_used r (length r.events)) 0
 abbrev pub movers_in : ProgramTree → Run → List Mover
 movers_in types r = movers types r (ends r) (got_in r)
 
+-- the next unit of the pass that wants its grain, by now
+abbrev pub wish_in : ProgramTree → Run → Option UnitNo
+wish_in types r = next_wish (ends r) (units_of r (ends r)) (lock_asked types (ends r) (got_in r)) (passed (applied_in r))
+
+-- no unit waits for a grain to be brought into memory
+abbrev pub NobodyWaitsForLoad : ProgramTree → Run → Type 0
+NobodyWaitsForLoad types r = (u : UnitNo) → waits_for_load (ends r) u (lock_asked types (ends r) (got_in r) u) ≡ false
+
 -- a line has a place, whether its window has begun or not: one is left, fewer than the width are in flight, and there is no doubt
 abbrev pub line_has_place : ℕ → ℕ → Run → Bool
 line_has_place width lines r =
@@ -85,4 +94,4 @@ line_has_place width lines r =
 -- the event keeps the turn rule, where it applies
 abbrev pub IsNext : ProgramTree → Bool → ℕ → ℕ → List ℕ → Run → CoreEvent → Type 0
 IsNext types windowed lines width picks r e = applies (ends r) e ≡ true →
-    IsTurn (line_can_begin windowed width lines r (ends r) (movers_in types r)) (picked (movers_in types r) (next_pick picks r)) (ends r) e (mover_of e)
+    IsTurnOf windowed lines width r (ends r) (wish_in types r) (movers_in types r) (next_pick picks r) e

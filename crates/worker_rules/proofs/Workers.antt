@@ -27,7 +27,7 @@ work-settles (Doubt n) q = absurd (true≢false (sym q))
 work-settles (Learn u g) q = absurd (true≢false (sym q))
 work-settles Emitted q = absurd (true≢false (sym q))
 work-settles Halt q = absurd (true≢false (sym q))
-work-settles (Want u g) q = absurd (true≢false (sym q))
+work-settles (Want u g) q = refl
 work-settles (Load g u state) q = absurd (true≢false (sym q))
 
 -- nor is a stop

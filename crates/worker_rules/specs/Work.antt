@@ -2,12 +2,14 @@
 use Rattle.std.specs.Prelude.{◌≡◌, Bool, true, false, List}
 use Rattle.base_types.specs.Lists.{Member}
 use Rattle.core_model.specs.declared.events.CoreEvent.{CoreEvent}
-use Rattle.promise_spec.specs.TurnRule.{Mover, OfLine, OfUnit, OfSettler, mover_of}
+use Rattle.promise_spec.specs.TurnRule.{Mover, OfLine, OfWant, OfLoad, OfUnit, OfSettler, mover_of}
 use Rattle.core_access.specs.Histories.{Told}
 
--- the move of a line or of a unit
+-- the move of a line or of a unit, also one that wants a grain to be in memory
 abbrev pub is_of_worker : Mover → Bool
 is_of_worker OfLine = true
+is_of_worker (OfWant u) = true
+is_of_worker OfLoad = false
 is_of_worker (OfUnit u) = true
 is_of_worker OfSettler = false
 

@@ -3,6 +3,6 @@ use Rattle.settler_rules.proofs.committed_units.doubts_keep_the_chosen.Goals as 
 
 pub returns : goal.returns
 returns c = record {
-  doubted = λ s r above keeps n a. doubt-chosen s r above keeps n a;
+  doubted = λ r above n a. doubt-chosen r above n a;
   stays = λ r more d q. doubt-stays r more d q;
 }

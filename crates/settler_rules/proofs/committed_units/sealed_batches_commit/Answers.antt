@@ -3,6 +3,6 @@ use Rattle.settler_rules.proofs.committed_units.sealed_batches_commit.Goals as g
 
 pub returns : goal.returns
 returns c = record {
-  sealed = λ s r above keeps n a. sealed-commit s r above keeps n a;
-  others = λ s r above keeps e kept. others-leave s r above keeps e kept;
+  sealed = λ r above n a. sealed-commit r above n a;
+  others = λ r above e kept. others-leave r above e kept;
 }
