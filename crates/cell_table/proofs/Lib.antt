@@ -1,1 +1,2 @@
-mod Cells
+pub mod Cells
+pub mod LeavingGrains

@@ -23,12 +23,14 @@ use Rattle.history_core.specs.declared.batch_closing.Closing.{Closing}
 use Rattle.history_core.specs.ClosedUnits.{last_among, last_state, unlearnt, grains_with, mapped}
 use Rattle.history_core.specs.BatchClosing.{Closes}
 use Rattle.history_core.specs.Fronts.{ends_as, told_as, verdicts_after, entries_after, pairs_after, last_after}
-use Rattle.cell_table.specs.Table.{cell_in}
-use Rattle.history_core.specs.KeptParts.{PartsStand, IsCoreReached, ShowsOpen, ShowsTakenBatch, AllPlaced, EachPlaced, cells_of, owed_in, writes_in}
+use Rattle.cell_table.specs.Table.{cells_kept, opens_with, used_of}
+use Rattle.history_core.specs.KeptParts.{PartsStand, IsCoreReached, ShowsOpen, ShowsTakenBatch, AllPlaced, EachPlaced, owed_in, writes_in}
 use Rattle.history_core.proofs.OpenBatches.{to-cases, from-cases, each-placed, placed-each}
 use Rattle.history_core.proofs.Lists.{filter-agree, last-agree}
 use Rattle.history_core.proofs.Fronts.{ends-open, ends-final, mapped-is, verdicts-link, entries-link, pairs-link, last-link, last-append, take-more, drop-more, filter-append, flat-append, filter-whole}
 use Rattle.history_core.proofs.Takes.{are-units}
+use Rattle.cell_memory.specs.KeptCells.{StandsForCells}
+use Rattle.cell_table.specs.declared.table.CellTable.{CellTable}
 
 -- What a batch needs that closes: one decision for each unit, and units within the finish order. Who isn't of it is steady,
 -- who stands before it is decided for good, and no grain has learnt anything of its units.
@@ -128,7 +130,7 @@ stands-closed h p q w b ds s c k doubt =
     record {
       units = s.units ∙ sym (k.units.others.units w.units.seen_at);
       numbers = s.numbers;
-      cells = s.cells ∙ ap (λ t. cells_of (cell_in t) w.cells.learnt) (sym k.cells);
+      cells = subst (λ (t : CellTable). StandsForCells (opens_with t).limit (cells_kept t) (used_of t.recent) w.cells) (sym k.cells) s.cells;
       verdict = verdicts-closed h p w b ds s c ∙ sym k.units.verdict;
       result = s.result ∙ sym k.units.others.result;
       effects = ap (map effect_in) k.waiting ∙ left.effects ∙ ap (map (effect_of w)) rest;

@@ -29,6 +29,7 @@ use Rattle.history_core.specs.Steps.{CanDo, Does}
 use Rattle.history_core.proofs.OneEvent.{can-is}
 use Rattle.history_core.proofs.Lists.{map-agree}
 use Rattle.history_core.proofs.CoreStates.{rests, waits}
+use Rattle.history_core.proofs.Sweeps.{unmoved}
 
 -- a finished unit isn't the one that begins
 finished-not : (w : CoreState) → IsCoreReached w → (x : UnitNo) → w.units.phase x ≡ Finished → x ≡ new_unit w → ⊥
@@ -44,7 +45,7 @@ pub does-begin : (p : Parts) (origin : Origin) (call : Call) (plain : Bool) (uni
     ((seen : UnitNo → Option ℕ) → units_of units seen ≡ units_begun (units_of p.units seen) origin call plain) → verdict_in units ≡ verdict_in p.units → result_in units ≡ result_in p.units →
     unit ≡ record { 0 = next_in p.units } → next_in p.units < 2 ^ 63 → Does p (Begin origin call plain) (reply.Began unit) (record p { units = units })
 does-begin p origin call plain unit units u v o number below = λ w s r a. (
-  record {
+  unmoved (record p { units = units }) w (Begin origin call plain) r a refl (record {
     units = ap (λ us. units_begun us origin call plain) s.units ∙ sym (u w.units.seen_at);
     numbers = (let n : w.units.next ≡ next_in p.units = ap (λ (us : Units). us.next) s.units in omega (arith, n, below));
     cells = s.cells;
@@ -62,7 +63,7 @@ does-begin p origin call plain unit units u v o number below = λ w s r a. (
     handed = λ x g. put-from w.units.phase (new_unit w) Running (λ ph. ph ≡ Finished) (holds_lock x (w.cells.holds g) ≡ true → _ ≡ state_written g (w.manager.writes x)) x (λ e h. cc) (λ n h. s.handed x g h);
     last = s.last;
     room = record { entries = s.room.entries; learn = s.room.learn; places = s.room.places };
-  },
+  }),
   ap reply.Began (number ∙ (let n : next_in p.units ≡ w.units.next = ap (λ (us : Units). us.next) (sym s.units) in λ i. record { 0 = n i })),
 )
 

@@ -1,62 +1,22 @@
 -- What holds of each state that a core can be in.
 use Rattle.std.proofs.Common.{◌≡◌, ℕ, zero, suc, ◌+◌, ◌<◌, ◌≤◌, List, [], ◌∷◌, Bool, true, false, inr, refl, sym, ap, ◌∙◌, subst, arith, None, length, get_or, take, length-drop, get_or-drop, get_or-take}
 use Rattle.core_model.specs.CoreState.{UnitNo, nobody, Member, CoreState}
-use Rattle.core_model.specs.declared.effects.Effect.{Effect}
 use Rattle.core_model.specs.declared.phases.Phase.TheVariants.{Running, Finished}
 use Rattle.core_model.specs.declared.phases.Verdict.TheVariants.{Open, Committed}
 use Rattle.core_model.specs.Tests.{waiting, is_final}
-use Rattle.core_model.specs.declared.events.CoreEvent.{CoreEvent}
-use Rattle.core_model.specs.declared.events.CoreEvent.TheVariants.{Bad, Begin, Grant, Refuse, Finish, EndPlain, EndSnapshot, Release, Take, Vote, Decide, Sealed, NotSealed, Doubt, Learn, Emitted, Halt, Want, Load}
-use Rattle.core_model.specs.SerialOrder.{Plays, AllPlay}
-use Rattle.core_model.specs.LegalRuns.{Run, IsLegal}
 use Rattle.core_model.specs.Consistency.{ClosedBatchesArePrefix}
-use Rattle.core_model.specs.Batches.{BatchesFollow}
-use Rattle.core_laws.proofs.Votes.{follows-ends}
 use Rattle.core_model.specs.Holders.{HoldersHaveRead}
 use Rattle.core_model.specs.LoadlessLaws.{HoldsWithoutLoads}
 use Rattle.core_laws.proofs.Orders.{Member-at}
 use Rattle.core_laws.proofs.LoadlessRuns.{Steady, steady-ends}
 use Rattle.core_laws.proofs.LoadlessLaws.{holds-ends}
-use Rattle.core_laws.proofs.WithoutLimit.{loads-without-limit}
 use Rattle.history_core.specs.KeptParts.{IsCoreReached}
 
--- any effect is a play
-abbrev any_play : Effect → Bool
-any_play e = true
-
-plays-any : (e : CoreEvent) → Plays any_play e
-plays-any (Bad line why) = tt
-plays-any (Begin origin call plain) = tt
-plays-any (Grant u g mode) = tt
-plays-any (Refuse u g mode) = tt
-plays-any (Finish u effect) = refl
-plays-any (EndPlain u effect) = refl
-plays-any (EndSnapshot u at outcome) = tt
-plays-any (Release u g) = tt
-plays-any Take = tt
-plays-any (Vote n g kept) = tt
-plays-any (Decide n) = tt
-plays-any (Sealed n) = tt
-plays-any (NotSealed n) = tt
-plays-any (Doubt n) = tt
-plays-any (Learn u g) = tt
-plays-any Emitted = tt
-plays-any Halt = tt
-plays-any (Want u g) = tt
-plays-any (Load g u state) = tt
-
-all-play : (es : List CoreEvent) → AllPlay any_play es
-all-play [] = tt
-all-play (e ∷ es) = (plays-any e, all-play es)
-
-legal : (r : Run) → 0 < r.base → r.capacity ≡ None → IsLegal any_play r
-legal r above none = record { above = above; effects = all-play r.events; loads = loads-without-limit r none }
-
 pub rests : (w : CoreState) → IsCoreReached w → HoldsWithoutLoads w
-rests w r = subst HoldsWithoutLoads r.3 (holds-ends r.0 r.1)
+rests w r = subst HoldsWithoutLoads r.2 (holds-ends r.0 r.1)
 
 pub steady : (w : CoreState) → IsCoreReached w → Steady w
-steady w r = subst Steady r.3 (steady-ends r.0 r.1)
+steady w r = subst Steady r.2 (steady-ends r.0 r.1)
 
 pub readers : (w : CoreState) → IsCoreReached w → HoldersHaveRead w
 readers w r = (rests w r).read
@@ -115,10 +75,6 @@ closes-final w r none x m = (let t = closes w r x m in (steady w r).2 none x t.0
 -- a unit that has finished has its place up to the closed ones or after them
 pub late-not-final : (w : CoreState) → IsCoreReached w → (x : UnitNo) → w.units.phase x ≡ Finished → w.manager.closed < w.manager.place x → is_final (w.manager.verdict x) ≡ false
 late-not-final w r x f lt = (prefixes w r).undecided x f lt
-
--- the batches follow one another
-pub follows : (w : CoreState) → IsCoreReached w → BatchesFollow w
-follows w r = subst BatchesFollow r.3 (follows-ends any_play r.0 (legal r.0 r.1 r.2))
 
 -- a committed unit has finished, with a place up to the closed ones
 pub committed-closed : (w : CoreState) → IsCoreReached w → (u : UnitNo) → w.manager.verdict u ≡ Committed → (w.units.phase u ≡ Finished) × (w.manager.place u ≤ w.manager.closed)

@@ -22,7 +22,7 @@ use Rattle.core_laws.proofs.Orders.{Member-take, judged-other}
 use Rattle.core_laws.proofs.Verdicts.{member-or-not}
 use Rattle.core_parts.specs.Room.{EntriesInRoom, PairsInRoom}
 use Rattle.core_parts.specs.States.{last_in, has_place, handed_in}
-use Rattle.cell_table.specs.Table.{cell_in}
+use Rattle.cell_table.specs.Table.{cells_kept, opens_with, used_of}
 use Rattle.unit_table.specs.Table.{units_of, verdict_in, result_in, phase_in}
 use Rattle.unit_table.specs.declared.table.UnitTable.{UnitTable}
 use Rattle.open_batch.specs.declared.members.FinishedUnit.{FinishedUnit}
@@ -39,7 +39,7 @@ use Rattle.history_core.specs.BatchClosing.{Closes, IsReadyToClose, decisions_in
 use Rattle.history_core.specs.Decisions.{judged_after, decisions_now, IsUndecided}
 use Rattle.history_core.specs.ClosedUnits.{unlearnt, last_state}
 use Rattle.history_core.specs.Fronts.{AreOver}
-use Rattle.history_core.specs.KeptParts.{PartsStand, IsCoreReached, HasRoom, ShowsOpen, ShowsTakenBatch, AllPlaced, EachPlaced, cells_of, owed_in, writes_in}
+use Rattle.history_core.specs.KeptParts.{PartsStand, IsCoreReached, HasRoom, ShowsOpen, ShowsTakenBatch, AllPlaced, EachPlaced, owed_in, writes_in}
 use Rattle.history_core.specs.Steps.{CanDo, Does}
 use Rattle.history_core.proofs.OpenBatches.{to-cases, from-cases, each-placed, placed-each}
 use Rattle.history_core.proofs.OneEvent.{can-is, allowed-is, allowed-going}
@@ -49,6 +49,9 @@ use Rattle.history_core.proofs.Finishes.{owed-within}
 use Rattle.history_core.proofs.Takes.{are-units}
 use Rattle.history_core.proofs.Seals.{is-ready, are-over, size-within, members-length, members-fresh}
 use Rattle.history_core.proofs.CoreStates.{rests, waits, closes, closes-final}
+use Rattle.history_core.proofs.Sweeps.{unmoved}
+use Rattle.cell_memory.specs.KeptCells.{StandsForCells}
+use Rattle.cell_table.specs.declared.table.CellTable.{CellTable}
 
 -- whether it can be decided
 pub may-decide-is : (o : Option TakenBatch) (ms : List FinishedUnit) (b : Option Batch) (n : ℕ) → ShowsOpen o ms b → may_decide_in o n ≡ is_open n is_voted b
@@ -156,7 +159,7 @@ stands-judged p q w b x s r e o k j =
     record {
       units = s.units ∙ sym (j.units w.units.seen_at);
       numbers = s.numbers;
-      cells = s.cells ∙ ap (λ t. cells_of (cell_in t) w.cells.learnt) (sym j.cells);
+      cells = subst (λ (t : CellTable). StandsForCells (opens_with t).limit (cells_kept t) (used_of t.recent) w.cells) (sym j.cells) s.cells;
       verdict =
           ap (λ us. judged us ds w.manager.verdict) (sym len)
           ∙ sym (judged-link ds w (waiting w) w.manager.verdict)
@@ -229,8 +232,8 @@ does-decide p q n commits j e some = λ w s r a.
     let x = k.0 in
     let ds = decisions_of w b in
     let yes : any is_commit ds ≡ true = sym (commits-is p w b x commits s k.2 (e x k.1)) ∙ some in (
-      subst (PartsStand q) (sym (decide-is w b n t.1 ∙ cond-true (any is_commit ds) (with_decisions w b ds) (sealed (with_decisions w b ds) b ds) yes))
-          (stands-judged p q w b x s r t.1 k.1 k.2 (j x k.1)),
+      unmoved q w (Decide n) r a refl (subst (PartsStand q) (sym (decide-is w b n t.1 ∙ cond-true (any is_commit ds) (with_decisions w b ds) (sealed (with_decisions w b ds) b ds) yes))
+          (stands-judged p q w b x s r t.1 k.1 k.2 (j x k.1))),
       reply-is p w b x commits s t.1 k.2 (e x k.1),
     ))
 
@@ -245,8 +248,8 @@ does-decide-none p m q n commits j e none closing doubt = λ w s r a.
     let no : any is_commit ds ≡ false = sym (commits-is p w b x commits s k.2 (e x k.1)) ∙ none in
     let mid = stands-judged p m w b x s r t.1 k.1 k.2 (j x k.1) in
     let here : decisions_in m.batch ≡ Some ds = ap decisions_in (j x k.1).batch ∙ ap Some (decisions-now p w b x s k.2) in (
-      subst (PartsStand q) (sym (decide-is w b n t.1 ∙ cond-false (any is_commit ds) (with_decisions w b ds) (sealed (with_decisions w b ds) b ds) no))
-          (stands-closed how.Sealed m q (with_decisions w b ds) b ds mid (decided-closes w b r (going-known w n a) t.1 t.2) (closing ds here) doubt),
+      unmoved q w (Decide n) r a refl (subst (PartsStand q) (sym (decide-is w b n t.1 ∙ cond-false (any is_commit ds) (with_decisions w b ds) (sealed (with_decisions w b ds) b ds) no))
+          (stands-closed how.Sealed m q (with_decisions w b ds) b ds mid (decided-closes w b r (going-known w n a) t.1 t.2) (closing ds here) doubt)),
       reply-is p w b x commits s t.1 k.2 (e x k.1),
     ))
 

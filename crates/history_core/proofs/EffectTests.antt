@@ -17,6 +17,7 @@ use Rattle.history_core.specs.declared.parts.Parts.{Parts}
 use Rattle.history_core.specs.Effects.{answered_in, outcome_kept, is_of_call_in, finishes_as, ends_as_plain, ends_as_snapshot}
 use Rattle.history_core.specs.KeptParts.{PartsStand, IsCoreReached}
 use Rattle.history_core.proofs.CoreStates.{younger}
+use Rattle.history_core.proofs.MemoryCells.{holds-is}
 
 answered-of : (w : CoreState) (ks : List UnitNo) (os : List Outcome) → answered_in (outcome_of w) ks os ≡ answered_by w ks os
 answered-of w [] [] = refl
@@ -87,7 +88,7 @@ can-finish-is p w u e s r =
     ∙ (λ i.
     (is_running ((sym s.units i).phase u) && not ((sym s.units i).plain u))
     && ((same_unit e.unit u && (same_origin e.origin ((sym s.units i).origin u) && (same_call e.call ((sym s.units i).call u) && answered-is p w ((sym s.units i).kids u) e.answers s i)))
-    && (same_reads e.reads ((sym s.units i).reads u) && all (λ t. holds_alone u ((sym s.cells i).holds t.0)) e.writes)))
+    && (same_reads e.reads ((sym s.units i).reads u) && all (λ t. holds_alone u (sym (holds-is p.cells w.cells s.cells) i t.0)) e.writes)))
 
 pub can-plain-is : (p : Parts) (w : CoreState) (u : UnitNo) (e : Effect) → PartsStand p w → IsCoreReached w → ends_as_plain p u e (known_in p.units u) ≡ can_end_plain w u e
 can-plain-is p w u e s r =

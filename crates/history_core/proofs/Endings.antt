@@ -10,25 +10,31 @@ use Rattle.core_model.specs.declared.phases.Phase.TheVariants.{Running, Finished
 use Rattle.core_model.specs.declared.phases.Verdict.{Verdict}
 use Rattle.core_model.specs.declared.phases.Verdict.TheVariants.{Aborted}
 use Rattle.core_model.specs.declared.events.CoreEvent.TheVariants.{Refuse, EndPlain, EndSnapshot}
+use Rattle.core_model.specs.declared.events.CoreEvent.{CoreEvent}
 use Rattle.core_model.specs.declared.events.CoreReply.TheVariants as reply
 use Rattle.core_model.specs.Tests.{is_running, is_final, is_committed, ask_answer, waiting, state_written}
 use Rattle.core_model.specs.Answers.{effect_of}
-use Rattle.core_model.specs.Changes.{after_refusal, refused_by, refusal, after_end, entry_for}
+use Rattle.core_model.specs.Changes.{after_refusal, refused_by, refusal, after_end, entry_for, swept, without_wants}
 use Rattle.core_model.specs.Events.{applies, does}
 use Rattle.core_laws.proofs.Basics.{is_running-true}
 use Rattle.core_laws.proofs.EventCases.{Change, refuse, end_plain, end_snapshot, decode}
 use Rattle.core_laws.proofs.Puts.{put-from, put-other}
+use Rattle.cell_memory.specs.LeavingGrains.{evicted_by, wanted_of}
+use Rattle.cell_table.specs.Table.{cells_kept, opens_with, used_of}
+use Rattle.cell_table.specs.declared.table.CellTable.{CellTable}
 use Rattle.core_parts.specs.Room.{EntriesInRoom}
 use Rattle.core_parts.specs.States.{handed_in}
 use Rattle.unit_table.specs.Parts.{units_over}
-use Rattle.unit_table.specs.Table.{units_of, verdict_in, result_in, phase_in, origin_in}
+use Rattle.unit_table.specs.Table.{units_of, verdict_in, result_in, phase_in, origin_in, wants_in}
 use Rattle.unit_table.specs.declared.table.UnitTable.{UnitTable}
 use Rattle.history_core.specs.declared.parts.Parts.{Parts}
 use Rattle.history_core.specs.LockAnswers.{ask_in}
 use Rattle.history_core.proofs.Grants.{ask-is}
 use Rattle.history_core.specs.ClosedUnits.{unlearnt, last_state}
 use Rattle.history_core.specs.KeptParts.{PartsStand, IsCoreReached, owed_in}
-use Rattle.history_core.specs.Steps.{CanDo, Does}
+use Rattle.history_core.specs.Steps.{CanDo, Changes, Does}
+use Rattle.history_core.specs.Evictions.{EndsAs}
+use Rattle.history_core.proofs.Sweeps.{does-evicting, evicts, waits-over}
 use Rattle.history_core.proofs.OneEvent.{can-is}
 use Rattle.history_core.proofs.Lists.{map-agree, filter-agree, last-agree}
 use Rattle.history_core.proofs.CoreStates.{waits-not, closes-not}
@@ -54,13 +60,13 @@ refuse-runs w u g mode a = go (does w (Refuse u g mode)) (decode w (Refuse u g m
 pub can-refuse-runs : (p : Parts) (u : UnitNo) (g : GrainId) (mode : Mode) → CanDo p (Refuse u g mode) → is_running (phase_in p.units u) ≡ true
 can-refuse-runs p u g mode c = (λ i. is_running ((sym c.1.units i).phase u)) ∙ ap is_running (refuse-runs c.0 u g mode c.3)
 
-pub does-refuse : (p : Parts) (u : UnitNo) (g : GrainId) (mode : Mode) (why : Settled) (origin : Origin) (units : UnitTable) (entries : EntriesInRoom) →
-    ((w : CoreState) → PartsStand p w → Some why ≡ refusal g (ask_answer w u g mode)) → ((w : CoreState) → PartsStand p w → origin ≡ w.units.origin u) →
+pub changes-refuse : (p : Parts) (u : UnitNo) (g : GrainId) (mode : Mode) (why : Settled) (origin : Origin) (units : UnitTable) (entries : EntriesInRoom) →
+    ((w : CoreState) → PartsStand p w → IsCoreReached w → Some why ≡ refusal g (ask_answer w u g mode)) → ((w : CoreState) → PartsStand p w → origin ≡ w.units.origin u) →
     ((seen : UnitNo → Option ℕ) → units_of units seen ≡ units_over (units_of p.units seen) u Refused) → verdict_in units ≡ put (verdict_in p.units) u Aborted → result_in units ≡ result_in p.units →
     entries.entries ≡ p.entries.entries ++ entry_for origin u why → entries.emitted ≡ p.entries.emitted → owed_in p.batch ≤ entries.spare →
-    Does p (Refuse u g mode) reply.Done (record p { units = units; entries = entries })
-does-refuse p u g mode why origin units entries cause from us v o es em room = λ w s r a. (
-  subst (λ c. PartsStand (record p { units = units; entries = entries }) (refused_by w u c)) (cause w s)
+    Changes p (Refuse u g mode) reply.Done (record p { units = units; entries = entries })
+changes-refuse p u g mode why origin units entries cause from us v o es em room = λ w s r a. (
+  subst (λ c. PartsStand (record p { units = units; entries = entries }) (refused_by w u c)) (cause w s r)
       (let runs = refuse-runs w u g mode a in
       record {
         units = ap (λ (x : Units). units_over x u Refused) s.units ∙ sym (us w.units.seen_at);
@@ -82,6 +88,16 @@ does-refuse p u g mode why origin units entries cause from us v o es em room = �
       }),
   refl,
 )
+
+-- then what it waited for goes where it is idle
+pub does-refuse : (p : Parts) (u : UnitNo) (g : GrainId) (mode : Mode) (units : UnitTable) (entries : EntriesInRoom) (new : CellTable) (wants : List (UnitNo × GrainId)) →
+    Changes p (Refuse u g mode) reply.Done (record p { units = units; entries = entries }) → ((seen : UnitNo → Option ℕ) → units_of units seen ≡ units_over (units_of p.units seen) u Refused) → wants ≡ wants_in p.units →
+    cells_kept new ≡ evicted_by (opens_with p.cells).limit (without_wants u wants) (used_of p.cells.recent) (wanted_of u wants) (cells_kept p.cells) → new.recent ≡ p.cells.recent → opens_with new ≡ opens_with p.cells →
+    Does p (Refuse u g mode) reply.Done (record p { units = units; entries = entries; cells = new })
+does-refuse p u g mode units entries new wants changes over waits kept recent opens =
+    does-evicting p (record p { units = units; entries = entries }) (Refuse u g mode) reply.Done new (without_wants u wants) (wanted_of u wants) changes
+    (ap (without_wants u) waits ∙ waits-over p.units units u Refused over)
+    (λ w s r a. (λ i. wanted_of u (s.units i).wants) ∙ ap (wanted_of u) (sym waits)) kept recent opens
 
 effect-ended : (w : CoreState) (u : UnitNo) (answers : List Outcome) (result : Outcome) (at : Option ℕ) (x : UnitNo) → (x ≡ u → ⊥) → effect_of w x ≡ effect_of (after_end w u answers result at) x
 effect-ended w u answers result at x n = λ i. record (effect_of w x) {
@@ -115,6 +131,19 @@ stands-ended p w u answers result at origin units entries s r running from us v 
       room = record { entries = room; learn = s.room.learn; places = s.room.places };
     }
 
+-- then what it waited for goes where it is idle
+pub ends-evicting : (p : Parts) (w : CoreState) (e : CoreEvent) (u : UnitNo) (answers : List Outcome) (result : Outcome) (at : Option ℕ) (units : UnitTable) (entries : EntriesInRoom) (new : CellTable) (wants : List (UnitNo × GrainId)) →
+    PartsStand p w → IsCoreReached w → EndsAs w e u answers result at → PartsStand (record p { units = units; entries = entries }) (after_end w u answers result at) →
+    ((seen : UnitNo → Option ℕ) → units_of units seen ≡ units_over (units_of p.units seen) u Ended) → wants ≡ wants_in p.units →
+    cells_kept new ≡ evicted_by (opens_with p.cells).limit (without_wants u wants) (used_of p.cells.recent) (wanted_of u wants) (cells_kept p.cells) → new.recent ≡ p.cells.recent → opens_with new ≡ opens_with p.cells →
+    PartsStand (record p { units = units; entries = entries; cells = new }) (swept (after_end w u answers result at))
+ends-evicting p w e u answers result at units entries new wants s r ends after over waits kept recent opens =
+    subst (λ (v : CoreState). PartsStand (record p { units = units; entries = entries; cells = new }) (swept v)) ends.ends
+    (evicts (record p { units = units; entries = entries }) w e new (without_wants u wants) (wanted_of u wants) r ends.can
+    (subst (PartsStand (record p { units = units; entries = entries })) (sym ends.ends) after)
+    ((λ i. without_wants u ((waits ∙ (λ j. (sym s.units j).wants)) i)) ∙ ap (λ (v : CoreState). v.units.wants) (sym ends.ends))
+    (ends.leaves ∙ (λ i. wanted_of u (s.units i).wants) ∙ ap (wanted_of u) (sym waits)) kept recent opens)
+
 -- the unit that ends runs
 pub plain-runs : (w : CoreState) (u : UnitNo) (e : Effect) → applies w (EndPlain u e) ≡ true → w.units.phase u ≡ Running
 plain-runs w u e a = go (does w (EndPlain u e)) (decode w (EndPlain u e) (can-is w (EndPlain u e) a))
@@ -142,4 +171,4 @@ some-is (Some x) e = (x, refl)
 pub refuse-some : (p : Parts) (u : UnitNo) (g : GrainId) (mode : Mode) → CanDo p (Refuse u g mode) → (why : Settled) × (refusal g (ask_in p u g mode) ≡ Some why)
 refuse-some p u g mode c =
     let t = some-is (refusal g (ask_answer c.0 u g mode)) (can-is c.0 (Refuse u g mode) c.3) in
-    (t.0, ap (refusal g) (ask-is p c.0 u g mode c.1) ∙ t.1)
+    (t.0, ap (refusal g) (ask-is p c.0 u g mode c.1 c.2) ∙ t.1)

@@ -13,16 +13,19 @@ use Rattle.core_model.specs.declared.events.CoreEvent.TheVariants.{Finish}
 use Rattle.core_model.specs.declared.events.CoreReply.TheVariants as reply
 use Rattle.core_model.specs.Tests.{is_final, is_running, waiting, state_written}
 use Rattle.core_model.specs.Answers.{effect_of}
-use Rattle.core_model.specs.Changes.{finished}
+use Rattle.core_model.specs.Changes.{finished, without_wants}
 use Rattle.core_laws.proofs.Puts.{put-is, put-same, put-other}
 use Rattle.core_laws.proofs.EventCases.{Change, finish, decode}
 use Rattle.core_laws.proofs.UnitPlays.{parts-of}
 use Rattle.core_model.specs.Events.{applies, does}
 use Rattle.core_laws.proofs.Basics.{is_running-true}
+use Rattle.cell_memory.specs.LeavingGrains.{evicted_by, wanted_of}
+use Rattle.cell_table.specs.Table.{cells_kept, opens_with, used_of}
+use Rattle.cell_table.specs.declared.table.CellTable.{CellTable}
 use Rattle.core_parts.specs.States.{handed_in, has_place}
 use Rattle.core_parts.specs.declared.handed_states.HandedStates.{HandedStates}
 use Rattle.unit_table.specs.Parts.{units_over}
-use Rattle.unit_table.specs.Table.{units_of, verdict_in, result_in, deps_in, phase_in}
+use Rattle.unit_table.specs.Table.{units_of, verdict_in, result_in, deps_in, phase_in, wants_in}
 use Rattle.unit_table.specs.declared.table.UnitTable.{UnitTable}
 use Rattle.open_batch.specs.declared.members.FinishedUnit.{FinishedUnit}
 use Rattle.open_batch.specs.Members.{effect_in, sources_in}
@@ -32,7 +35,8 @@ use Rattle.history_core.specs.declared.parts.Parts.{Parts}
 use Rattle.history_core.specs.ClosedUnits.{unlearnt, last_state, last_among}
 use Rattle.history_core.specs.HandedWrites.{put_handed, cleared, with_writes}
 use Rattle.history_core.specs.KeptParts.{PartsStand, IsCoreReached, ShowsOpen, ShowsTakenBatch, EachPlaced, owed_in, members_in, writes_in}
-use Rattle.history_core.specs.Steps.{CanDo, KeepsMeaning, Does}
+use Rattle.history_core.specs.Steps.{CanDo, Changes, KeepsMeaning, Does}
+use Rattle.history_core.proofs.Sweeps.{does-evicting, waits-over}
 use Rattle.history_core.proofs.OneEvent.{can-is}
 use Rattle.history_core.proofs.OpenBatches.{to-cases, from-cases}
 use Rattle.history_core.proofs.Lists.{map-agree, flat-agree, filter-in, map-last, drop-last, take-last, last-agree}
@@ -205,11 +209,11 @@ keeps-handed p waiting handed u runs same others = λ w s. record {
         (let t : w.units.phase u ≡ Running = is_running-true _ ((λ i. is_running ((s.units i).phase u)) ∙ runs) in
         let z : Finished ≡ Running = sym f ∙ ap w.units.phase e ∙ t in cc)
 
-pub does-finish : (p : Parts) (u : UnitNo) (e : Effect) (units : UnitTable) (waiting : Vec FinishedUnit Global) (m : FinishedUnit) (f : UnitNo → GrainId → Option (List Value)) →
+pub changes-finish : (p : Parts) (u : UnitNo) (e : Effect) (units : UnitTable) (waiting : Vec FinishedUnit Global) (m : FinishedUnit) (f : UnitNo → GrainId → Option (List Value)) →
     ((seen : UnitNo → Option ℕ) → units_of units seen ≡ units_over (units_of p.units seen) u Finished) → verdict_in units ≡ verdict_in p.units → result_in units ≡ put (result_in p.units) u e.result →
     m.effect ≡ e → m.deps.sources ≡ deps_in p.units u → waiting.items ≡ p.waiting.items ++ m ∷ [] → handed_in p.handed ≡ with_writes (cleared f u e.reads) u e.writes →
-    Does p (Finish u e) reply.Done (record p { units = units; waiting = waiting })
-does-finish p u e units waiting m f us v o effect deps items hands = λ w s r a. (
+    Changes p (Finish u e) reply.Done (record p { units = units; waiting = waiting })
+changes-finish p u e units waiting m f us v o effect deps items hands = λ w s r a. (
   (let t = finish-parts w u e a in
       record {
         units = ap (λ (x : Units). units_over x u Finished) s.units ∙ sym (us w.units.seen_at);
@@ -243,6 +247,16 @@ does-finish p u e units waiting m f us v o effect deps items hands = λ w s r a.
   where
     front : (w : CoreState) → PartsStand p w → take (owed_in p.batch) waiting.items ≡ members_in p
     front w s = ap (take (owed_in p.batch)) items ∙ take-last (owed_in p.batch) p.waiting.items m (owed-within p.batch p.waiting.items w.manager.batch (to-cases p.batch p.waiting.items w.manager.batch s.batch))
+
+-- then what it waited for goes where it is idle
+pub does-finish : (p : Parts) (u : UnitNo) (e : Effect) (units : UnitTable) (waiting : Vec FinishedUnit Global) (new : CellTable) (wants : List (UnitNo × GrainId)) →
+    Changes p (Finish u e) reply.Done (record p { units = units; waiting = waiting }) → ((seen : UnitNo → Option ℕ) → units_of units seen ≡ units_over (units_of p.units seen) u Finished) → wants ≡ wants_in p.units →
+    cells_kept new ≡ evicted_by (opens_with p.cells).limit (without_wants u wants) (used_of p.cells.recent) (wanted_of u wants) (cells_kept p.cells) → new.recent ≡ p.cells.recent → opens_with new ≡ opens_with p.cells →
+    Does p (Finish u e) reply.Done (record p { units = units; waiting = waiting; cells = new })
+does-finish p u e units waiting new wants changes over waits kept recent opens =
+    does-evicting p (record p { units = units; waiting = waiting }) (Finish u e) reply.Done new (without_wants u wants) (wanted_of u wants) changes
+    (ap (without_wants u) waits ∙ waits-over p.units units u Finished over)
+    (λ w s r a. (λ i. wanted_of u (s.units i).wants) ∙ ap (wanted_of u) (sym waits)) kept recent opens
 
 -- the room and the copies of a finish change nothing
 pub keeps-prepared : (p q : Parts) (u : UnitNo) → is_running (phase_in p.units u) ≡ true → q.units ≡ p.units → q.cells ≡ p.cells → q.waiting.items ≡ p.waiting.items → q.batches ≡ p.batches → q.batch ≡ p.batch → q.doubt ≡ p.doubt →

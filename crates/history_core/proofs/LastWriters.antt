@@ -113,6 +113,6 @@ module _ (w : CoreState) (r : IsCoreReached w) where
     | inr f ↦ subst (IsLastOf w g) (sym f.is) (f.unit, record { commits = f.commits; wrote = f.wrote; last = late g (last_state w g) f })
   ]
 
--- so it is of every run in which units are numbered from 1 on and every grain stays in memory
-pub last-ends : (r : Run) (g : GrainId) → 0 < r.base → r.capacity ≡ None → IsLastOf (ends r) g (last_state (ends r) g)
-last-ends r g above none = last-of (ends r) (r, above, none, refl) g
+-- so it is of every run in which units are numbered from 1 on
+pub last-ends : (r : Run) (g : GrainId) → 0 < r.base → IsLastOf (ends r) g (last_state (ends r) g)
+last-ends r g above = last-of (ends r) (r, above, refl) g

@@ -10,6 +10,7 @@ use Rattle.core_model.specs.CoreState.{UnitNo, GrainId, Value, Write, CoreState,
 use Rattle.core_model.specs.declared.phases.Phase.{Phase}
 use Rattle.core_model.specs.declared.phases.Phase.TheVariants.{Unborn, Running, Finished, Refused, Ended}
 use Rattle.core_model.specs.Tests.{is_final, is_committed, state_written}
+use Rattle.core_model.specs.Changes.{after_learn}
 use Rattle.core_model.specs.LearnQueue.{to_learn}
 use Rattle.core_model.specs.Events.{can_learn}
 use Rattle.core_model.specs.declared.events.CoreEvent.TheVariants.{Learn}
@@ -21,17 +22,23 @@ use Rattle.core_laws.proofs.Plans.{flat-member, member-flat}
 use Rattle.core_parts.specs.Pairs.{is_pair, has_pair, without_first, other_pairs}
 use Rattle.core_parts.specs.Room.{PairsInRoom}
 use Rattle.grain_cell.specs.Room.{CellInRoom}
-use Rattle.cell_table.specs.Table.{cell_in, opens_with, cell_at, cell_or, has_cell}
+use Rattle.activations.specs.LastUsed.{LastUsed}
+use Rattle.cell_memory.specs.KeptCells.{StandsForCells}
+use Rattle.cell_memory.specs.LeavingGrains.{evicted_by}
+use Rattle.cell_memory.specs.ChangedCells.{after_learn_in}
+use Rattle.cell_memory.proofs.ChangedCells.{learn-away, learn-stands}
+use Rattle.cell_table.specs.Table.{cell_at, cell_in, cell_or, cells_kept, has_cell, here_in, kept_by, opens_with, used_of}
 use Rattle.cell_table.specs.declared.table.CellTable.{CellTable}
-use Rattle.unit_table.specs.Table.{verdict_in}
+use Rattle.unit_table.specs.Table.{verdict_in, wants_in}
 use Rattle.history_core.specs.declared.parts.Parts.{Parts}
 use Rattle.history_core.specs.ClosedUnits.{unlearnt}
-use Rattle.history_core.specs.KeptParts.{IsCoreReached, cells_of}
+use Rattle.history_core.specs.KeptParts.{PartsStand, IsCoreReached}
 use Rattle.history_core.specs.Steps.{CanDo, Does}
 use Rattle.history_core.proofs.OneEvent.{can-is}
 use Rattle.history_core.proofs.Lists.{filter-agree}
 use Rattle.history_core.proofs.CoreStates.{rests, unwritten, late-not-final, steady, closed-within}
-use Rattle.history_core.proofs.Grants.{of-put}
+use Rattle.history_core.proofs.Sweeps.{does-evicting}
+use Rattle.history_core.proofs.MemoryCells.{cell-away, cell-here, stands-as}
 
 -- two tests that imply one another are one
 same-tests : (a b : Bool) → (a ≡ true → b ≡ true) → (b ≡ true → a ≡ true) → a ≡ b
@@ -194,13 +201,23 @@ put-self f g x e = λ i q. at q i
     at : (q : GrainId) → put_grain f g x q ≡ f q
     at q = grain-at f g x (λ y. y ≡ f q) q (λ z. e ∙ ap f (sym z)) (λ n. refl)
 
-pub learnt-nothing : (t : CellTable) (u : UnitNo) (g : GrainId) (commits : Bool) → (u ≡ nobody → ⊥) → has_cell t g ≡ false →
-    cell_in t ≡ put_grain (cell_in t) g (cell_learned (cell_in t g) u commits)
-learnt-nothing t u g commits n none = sym (put-self (cell_in t) g (cell_learned (cell_in t g) u commits) (by_cell (cell_at t g) none))
+pub learnt-nothing : (t : CellTable) (u : UnitNo) (g : GrainId) (commits : Bool) → (u ≡ nobody → ⊥) → has_cell t g ≡ false → here_in t g ≡ true →
+    cells_kept t ≡ put_grain (cells_kept t) g (Some (cell_learned (cell_in t g) u commits))
+learnt-nothing t u g commits n none here = sym (put-self (cells_kept t) g (Some (cell_learned (cell_in t g) u commits)) (bare (cell_at t g) t.recent none here))
   where
-    by_cell : (o : Option CellInRoom) → is_some o ≡ false → cell_learned (cell_or o (opens_with t g)) u commits ≡ cell_or o (opens_with t g)
-    by_cell None e = learned-opened (opens_with t g) u commits n
-    by_cell (Some c) e = cc
+    bare : (o : Option CellInRoom) (r : Option LastUsed) → is_some o ≡ false → is_some (kept_by o r ((opens_with t).states g)) ≡ true →
+        Some (cell_learned (cell_or (kept_by o r ((opens_with t).states g)) ((opens_with t).states g)) u commits) ≡ kept_by o r ((opens_with t).states g)
+    bare (Some c) r e h = cc
+    bare None None e h = ap (λ (k : Cell). Some k) (learned-opened ((opens_with t).states g) u commits n)
+    bare None (Some used) e h = cc
+
+-- a grain that has a cell is in memory
+pub cell-is-here : (t : CellTable) (g : GrainId) → has_cell t g ≡ true → here_in t g ≡ true
+cell-is-here t g h = go (cell_at t g) t.recent h
+  where
+    go : (o : Option CellInRoom) (r : Option LastUsed) → is_some o ≡ true → is_some (kept_by o r ((opens_with t).states g)) ≡ true
+    go (Some c) r e = refl
+    go None r e = cc
 
 -- the first pair that goes leaves the others
 pub other-first : (ps : List (UnitNo × GrainId)) (u : UnitNo) (g : GrainId) → other_pairs (without_first ps u g) u g ≡ other_pairs ps u g
@@ -227,47 +244,47 @@ no-pair (p ∷ ps) u g e = go (λ h. no-pair ps u g h) (is_pair u g p) refl e
     go rest true q h = cc
     go rest false q h = ap (λ t. p ∷ t) (rest h)
 
-pub does-learn : (p : Parts) (u : UnitNo) (g : GrainId) (new : CellTable) (learn : PairsInRoom) →
-    cell_in new ≡ put_grain (cell_in p.cells) g (cell_learned (cell_in p.cells g) u (is_committed (verdict_in p.units u))) →
-    learn.pairs ≡ other_pairs p.learn.pairs u g → p.learn.spare ≤ learn.spare → Does p (Learn u g) reply.Done (record p { cells = new; learn = learn })
-does-learn p u g new learn is pairs more = λ w s r a. (
-  record {
-    units = s.units;
-    cells =
-        (λ i. record (s.cells i) {
-          stack = put_grain (s.cells i).stack g (learnt (is_committed (s.verdict i u)) u ((s.cells i).stack g));
-          learnt = put w.cells.learnt u (put_grain (w.cells.learnt u) g true);
-        })
-        ∙ stacked-cells (put w.cells.learnt u (put_grain (w.cells.learnt u) g true))
-        ∙ ap (λ (C : GrainId → Cell). cells_of C (put w.cells.learnt u (put_grain (w.cells.learnt u) g true))) (sym is);
-    numbers = s.numbers;
-    verdict = s.verdict;
-    result = s.result;
-    effects = s.effects;
-    sources = s.sources;
-    batch = s.batch;
-    batches = s.batches;
-    doubt = s.doubt;
-    settled = s.settled;
-    emitted = s.emitted;
-    learn = pairs ∙ ap (λ ps. other_pairs ps u g) s.learn ∙ unlearnt-less w u g;
-    handed = s.handed;
-    last = s.last;
-    room = record { entries = s.room.entries; learn = omega (arith, s.room.learn, more); places = s.room.places };
-  },
-  refl,
-)
-  where
-    k : Cell
-    k = cell_learned (cell_in p.cells g) u (is_committed (verdict_in p.units u))
+-- the cells after a lesson
+learned-cells : (p : Parts) (w : CoreState) (u : UnitNo) (g : GrainId) (new : CellTable) → PartsStand p w →
+    (here_in p.cells g ≡ true → cells_kept new ≡ put_grain (cells_kept p.cells) g (Some (cell_learned (cell_in p.cells g) u (is_committed (verdict_in p.units u))))) →
+    (here_in p.cells g ≡ false → cells_kept new ≡ cells_kept p.cells) → new.recent ≡ p.cells.recent → opens_with new ≡ opens_with p.cells →
+    (b : Bool) → here_in p.cells g ≡ b → StandsForCells (opens_with new).limit (cells_kept new) (used_of new.recent) (after_learn w u g).cells
+learned-cells p w u g new s learns away recent opens true here =
+    stands-as (opens_with p.cells).limit (opens_with new).limit (put_grain (cells_kept p.cells) g (Some (after_learn_in w u (cell_in p.cells g)))) (cells_kept new)
+    (used_of p.cells.recent) (used_of new.recent) (after_learn w u g).cells (λ i. (opens i).limit)
+    (learns here ∙ (λ i. put_grain (cells_kept p.cells) g (Some (cell_learned (cell_in p.cells g) u (is_committed (sym s.verdict i u)))))) (ap used_of recent)
+    (learn-stands (opens_with p.cells).limit (cells_kept p.cells) (used_of p.cells.recent) w s.cells g (cell_in p.cells g) (cell-here p.cells g here) u)
+learned-cells p w u g new s learns away recent opens false gone =
+    stands-as (opens_with p.cells).limit (opens_with new).limit (cells_kept p.cells) (cells_kept new) (used_of p.cells.recent) (used_of new.recent) (after_learn w u g).cells (λ i. (opens i).limit)
+    (away gone) (ap used_of recent)
+    (learn-away (opens_with p.cells).limit (cells_kept p.cells) (used_of p.cells.recent) w s.cells u g (cell-away p.cells g gone))
 
-    stacked-cells : (known : UnitNo → GrainId → Bool) → record (cells_of (cell_in p.cells) known) { stack = put_grain (λ q. (cell_in p.cells q).stack) g k.stack } ≡ cells_of (put_grain (cell_in p.cells) g k) known
-    stacked-cells known = λ i. record {
-      stack = of-put (λ c. c.stack) (cell_in p.cells) g k i;
-      holds = (sym (put-self (λ q. (cell_in p.cells q).holds) g k.holds refl) ∙ of-put (λ c. c.holds) (cell_in p.cells) g k) i;
-      readings = (sym (put-self (λ q. (cell_in p.cells q).readings) g k.readings refl) ∙ of-put (λ c. c.readings) (cell_in p.cells) g k) i;
-      learnt = known;
-      here = λ q. true;
-      recent = [];
-      capacity = None;
-    }
+-- then the grain goes where it is idle
+pub does-learn : (p : Parts) (u : UnitNo) (g : GrainId) (learned new : CellTable) (learn : PairsInRoom) (wants : List (UnitNo × GrainId)) →
+    (here_in p.cells g ≡ true → cells_kept learned ≡ put_grain (cells_kept p.cells) g (Some (cell_learned (cell_in p.cells g) u (is_committed (verdict_in p.units u))))) →
+    (here_in p.cells g ≡ false → cells_kept learned ≡ cells_kept p.cells) → learned.recent ≡ p.cells.recent → opens_with learned ≡ opens_with p.cells →
+    learn.pairs ≡ other_pairs p.learn.pairs u g → p.learn.spare ≤ learn.spare → wants ≡ wants_in p.units →
+    cells_kept new ≡ evicted_by (opens_with learned).limit wants (used_of learned.recent) (g ∷ []) (cells_kept learned) → new.recent ≡ learned.recent → opens_with new ≡ opens_with learned →
+    Does p (Learn u g) reply.Done (record p { cells = new; learn = learn })
+does-learn p u g learned new learn wants learns away recent opens pairs more waits kept same begun =
+    does-evicting p (record p { cells = learned; learn = learn }) (Learn u g) reply.Done new wants (g ∷ []) (λ w s r a. (
+      record {
+        units = s.units;
+        cells = learned-cells p w u g learned s learns away recent opens (here_in p.cells g) refl;
+        numbers = s.numbers;
+        verdict = s.verdict;
+        result = s.result;
+        effects = s.effects;
+        sources = s.sources;
+        batch = s.batch;
+        batches = s.batches;
+        doubt = s.doubt;
+        settled = s.settled;
+        emitted = s.emitted;
+        learn = pairs ∙ ap (λ ps. other_pairs ps u g) s.learn ∙ unlearnt-less w u g;
+        handed = s.handed;
+        last = s.last;
+        room = record { entries = s.room.entries; learn = omega (arith, s.room.learn, more); places = s.room.places };
+      },
+      refl,
+    )) waits (λ w s r a. refl) kept same begun

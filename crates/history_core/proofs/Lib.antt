@@ -1,4 +1,6 @@
 pub mod OneEvent
+pub mod MemoryCells
+pub mod Sweeps
 pub mod CoreStates
 pub mod Lists
 pub mod SameMeaning
@@ -8,6 +10,7 @@ pub mod Begins
 pub mod Grants
 pub mod Releases
 pub mod Learns
+pub mod Loads
 pub mod Finishes
 pub mod Endings
 pub mod Takes

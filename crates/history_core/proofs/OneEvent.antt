@@ -2,8 +2,8 @@
 use Rattle.std.proofs.Common.{◌≡◌, ℕ, List, [], ◌∷◌, ◌++◌, Bool, true, false, ◌&&◌, ◌||◌, not, refl, sym, ap, ◌∙◌, subst, Option, Some, None, is_some, is_none}
 use Rattle.std.specs.Prelude.{if◌then◌else◌, ◌<◌}
 use Rattle.std.proofs.lemmas.Bool.{cond-true, cond-false, and_parts}
-use Rattle.core_model.specs.CoreState.{CoreState, Cells}
-use Rattle.core_model.specs.Changes.{swept, swept_by}
+use Rattle.core_model.specs.CoreState.{CoreState}
+use Rattle.core_model.specs.Changes.{swept}
 use Rattle.core_model.specs.Events.{applies, can, is_allowed, is_after_doubt, is_after_halt, reply_to, reply_with, reply_without, does, step, run, start}
 use Rattle.core_model.specs.declared.events.CoreEvent.{CoreEvent}
 use Rattle.core_model.specs.declared.events.CoreReply.{CoreReply}
@@ -18,13 +18,8 @@ pub run-last : (w : CoreState) (es : List CoreEvent) (e : CoreEvent) → run w (
 run-last w [] e = refl
 run-last w (x ∷ es) e = run-last (step w x) es e
 
--- where every grain stays in memory, none leaves
-swept-none : (w : CoreState) → w.cells.capacity ≡ None → swept w ≡ w
-swept-none w e = ap (swept_by w) e
-
-applied : (p : Parts) (w : CoreState) (e : CoreEvent) → applies w e ≡ true → PartsStand p (does w e) → PartsStand p (step w e)
-applied p w e a s =
-    subst (PartsStand p) (sym (cond-true (applies w e) (swept (does w e)) w a ∙ swept-none (does w e) (ap (λ (c : Cells). c.capacity) s.cells))) s
+applied : (p : Parts) (w : CoreState) (e : CoreEvent) → applies w e ≡ true → PartsStand p (swept (does w e)) → PartsStand p (step w e)
+applied p w e a s = subst (PartsStand p) (sym (cond-true (applies w e) (swept (does w e)) w a)) s
 
 unapplied : (p : Parts) (w : CoreState) (e : CoreEvent) → applies w e ≡ false → PartsStand p w → PartsStand p (step w e)
 unapplied p w e a s = subst (PartsStand p) (sym (cond-false (applies w e) (swept (does w e)) w a)) s
@@ -44,14 +39,14 @@ takes-not p e told reply t gone d = λ w s r. (let a = sym (t w s r) ∙ gone in
 pub stands-after : (p p' : Parts) (base kinds : ℕ) (es es' : List CoreEvent) (e : CoreEvent) → opens_with p'.cells ≡ opens_with p.cells → es' ≡ es ++ e ∷ [] →
     PartsStand p' (step (ends (run_with base kinds p.cells es)) e) → PartsStand p' (ends (run_with base kinds p'.cells es'))
 stands-after p p' base kinds es es' e o h s =
-    subst (PartsStand p') (sym ((λ i. run (start base kinds None (o i)) (h i)) ∙ run-last (start base kinds None (opens_with p.cells)) es e)) s
+    subst (PartsStand p') (sym ((λ i. run (start base kinds None (o i).states) (h i)) ∙ run-last (start base kinds None (opens_with p.cells).states) es e)) s
 
 pub stands-before : (p p' : Parts) (base kinds : ℕ) (es : List CoreEvent) → opens_with p'.cells ≡ opens_with p.cells →
     PartsStand p' (ends (run_with base kinds p.cells es)) → PartsStand p' (ends (run_with base kinds p'.cells es))
-stands-before p p' base kinds es o s = subst (PartsStand p') (sym (λ i. run (start base kinds None (o i)) es)) s
+stands-before p p' base kinds es o s = subst (PartsStand p') (sym (λ i. run (start base kinds None (o i).states) es)) s
 
 pub reached-core : (p : Parts) (base kinds : ℕ) (es : List CoreEvent) → 0 < base → IsCoreReached (ends (run_with base kinds p.cells es))
-reached-core p base kinds es above = (run_with base kinds p.cells es, above, refl, refl)
+reached-core p base kinds es above = (run_with base kinds p.cells es, above, refl)
 
 -- ---- stops
 

@@ -9,12 +9,13 @@ use Rattle.core_model.specs.LearnQueue.{to_learn, next_learn}
 use Rattle.core_model.specs.Events.{applies, can, is_allowed}
 use Rattle.core_model.specs.declared.events.CoreEvent.TheVariants.{Take}
 use Rattle.core_model.specs.Answers.{view, next_wanted}
-use Rattle.core_model.specs.Settler.{Step, Seals, Writes, Takes, Rests, has_step, first_unvoted, load_step, last_step, learn_step, later_step, undecided_step, batch_step, settler_step, versions_to_write, to_commit, write_work, work_in}
+use Rattle.core_model.specs.Settler.{Step, Seals, Writes, Takes, Rests, has_step, first_unvoted, load_step, take_step, last_step, learn_step, later_step, undecided_step, batch_step, settler_step, versions_to_write, to_commit, write_work, work_in}
 use Rattle.core_model.specs.declared.questions.CoreQuestion.{CoreQuestion}
 use Rattle.core_model.specs.declared.questions.CoreAnswer.{CoreAnswer}
 use Rattle.core_model.specs.declared.questions.SettlerWork.{SettlerWork}
 use Rattle.core_model.specs.declared.questions.SettlerWork.TheVariants as work
-use Rattle.unit_table.specs.Table.{verdict_in, outcome_known}
+use Rattle.cell_table.specs.Table.{here_in}
+use Rattle.unit_table.specs.Table.{halt_in, verdict_in, outcome_known, wants_in}
 use Rattle.open_batch.specs.declared.members.FinishedUnit.{FinishedUnit}
 use Rattle.open_batch.specs.Members.{versions_by, to_commit_by}
 use Rattle.open_batch.specs.TakenBatch.{TakenBatch, view_by}
@@ -23,7 +24,7 @@ use Rattle.open_batch.proofs.ModelBatch.{units-taken, view-link, versions-link, 
 use Rattle.open_batch.proofs.Stages.{next-link}
 use Rattle.history_core.specs.declared.parts.Parts.{Parts}
 use Rattle.history_core.specs.KeptParts.{PartsStand, StandsForReached, IsCoreReached, ShowsOpen, owed_in, members_in}
-use Rattle.history_core.specs.Questions.{AnswersQuestion, ShowsStep}
+use Rattle.history_core.specs.Questions.{AnswersQuestion, ShowsStep, rest_step, wanted_in}
 use Rattle.history_core.proofs.OpenBatches.{to-cases}
 use Rattle.history_core.proofs.Finishes.{owed-within}
 use Rattle.history_core.proofs.Takes.{are-units}
@@ -48,15 +49,9 @@ first-kept test (x ∷ xs) = by_test (test x) (first-kept test xs)
 pub learn-is : (p : Parts) (w : CoreState) → PartsStand p w → slice_get p.learn.pairs 0 ≡ next_learn w
 learn-is p w s = ap (λ (ts : List (UnitNo × GrainId)). slice_get ts 0) s.learn ∙ first-kept (λ (t : UnitNo × GrainId). not (w.cells.learnt t.0 t.1)) (to_learn w)
 
-none-left : (xs : List GrainId) → filter (λ (g : GrainId). false) xs ≡ []
-none-left [] = refl
-none-left (x ∷ xs) = none-left xs
-
--- every grain is in memory
-pub wanted-is : (p : Parts) (w : CoreState) → PartsStand p w → next_wanted w ≡ None
-wanted-is p w s =
-    (λ i. first_grain (filter (λ (g : GrainId). not ((s.cells i).here g)) (map (λ (t : UnitNo × GrainId). t.1) w.units.wants)))
-    ∙ ap first_grain (none-left (map (λ (t : UnitNo × GrainId). t.1) w.units.wants))
+-- the first wanted grain that isn't in memory
+pub wanted-is : (p : Parts) (w : CoreState) → PartsStand p w → wanted_in p ≡ next_wanted w
+wanted-is p w s = λ i. first_grain (filter (λ (g : GrainId). not (sym (s.cells.here g) i)) (map (λ (t : UnitNo × GrainId). t.1) (sym s.units i).wants))
 
 pub next-is : (p : Parts) (w : CoreState) → PartsStand p w → slice_get p.entries.entries p.entries.emitted ≡ slice_get w.manager.settled w.manager.emitted
 next-is p w s = λ i. slice_get (sym s.settled i) (sym s.emitted i)
@@ -159,24 +154,6 @@ learns-is p u g here e = λ w s r. ap (λ t. work_in w (learn_step w t)) (sym e 
 pub learnt-is : (p : Parts) (work : SettlerWork) → p.doubt ≡ false → slice_get p.learn.pairs 0 ≡ None → ShowsStep p (λ w. last_step w true) work → ShowsStep p later_step work
 learnt-is p work here e h = λ w s r. h w s r ∙ ap (λ t. work_in w (learn_step w t)) (sym e ∙ learn-is p w s) ∙ ap (work_in w) (sure-is p w s here)
 
--- after a stop no batch is taken
-stopped-takes : (w : CoreState) → w.units.halt ≡ true → applies w Take ≡ false
-stopped-takes w h = elim (cases_Bool (applies w Take)) [
-  | inl t ↦ (let going : (not w.units.halt || false) ≡ true = (and_parts (is_none w.manager.doubt || false) (not w.units.halt || false) (and_parts (is_allowed w Take) (can w Take) t).0).1 in
-      let z : false ≡ true = ap (λ b. not b || false) (sym h) ∙ going in cc)
-  | inr f ↦ f
-]
-
--- nothing is to be brought into memory, so what is left is a batch that can be taken
-load-none : (p : Parts) (w : CoreState) → PartsStand p w → (may : Bool) →
-    (if may && not w.units.halt then load_step w (next_wanted w) else Rests) ≡ (if may && applies w Take then Takes else Rests)
-load-none p w s may = ap (λ (g : Option GrainId). if may && not w.units.halt then load_step w g else Rests) (wanted-is p w s) ∙ by may w.units.halt refl
-  where
-    by : (m h : Bool) → w.units.halt ≡ h → (if m && not h then load_step w None else Rests) ≡ (if m && applies w Take then Takes else Rests)
-    by false h q = refl
-    by true false q = refl
-    by true true q = sym (cond-false (applies w Take) Takes Rests (stopped-takes w q))
-
 -- no element is there only where the list isn't so long
 past : {A : Type 0} (xs : List A) (n : ℕ) → slice_get xs n ≡ None → length xs ≤ n
 past xs n e = elim ((slice_get_cases xs n).1) [
@@ -191,18 +168,49 @@ writes-is p entry may e = λ w s r.
     ap write_work (sym here) ∙ ap (work_in w) (sym (cond-true (nat_lt w.manager.emitted (length w.manager.settled)) Writes (if may && not w.units.halt then load_step w (next_wanted w) else Rests) more))
 
 pub written-is : (p : Parts) (work : SettlerWork) (may : Bool) → slice_get p.entries.entries p.entries.emitted ≡ None →
-    ShowsStep p (λ w. if may && applies w Take then Takes else Rests) work → ShowsStep p (λ w. last_step w may) work
+    ShowsStep p (rest_step may) work → ShowsStep p (λ w. last_step w may) work
 written-is p work may e h = λ w s r.
     let here : slice_get w.manager.settled w.manager.emitted ≡ None = sym (next-is p w s) ∙ e in
     let no_more : nat_lt w.manager.emitted (length w.manager.settled) ≡ false = le-ltb w.manager.emitted (length w.manager.settled) (past w.manager.settled w.manager.emitted here) in
-    h w s r ∙ ap (work_in w) (sym (load-none p w s may))
-    ∙ ap (work_in w) (sym (cond-false (nat_lt w.manager.emitted (length w.manager.settled)) Writes (if may && not w.units.halt then load_step w (next_wanted w) else Rests) no_more))
+    h w s r ∙ ap (work_in w) (sym (cond-false (nat_lt w.manager.emitted (length w.manager.settled)) Writes (rest_step may w) no_more))
 
-pub takes-is : (p : Parts) (may can : Bool) → ((w : CoreState) → PartsStand p w → IsCoreReached w → can ≡ applies w Take) → (may && can) ≡ true → ShowsStep p (λ w. if may && applies w Take then Takes else Rests) work.Take
-takes-is p may can t e = λ w s r. ap (work_in w) (sym (cond-true (may && applies w Take) Takes Rests (ap (λ b. may && b) (sym (t w s r)) ∙ e)))
+-- whether the run is to stop
+halted-is : (p : Parts) (w : CoreState) → PartsStand p w → (halted : Bool) → halted ≡ halt_in p.units → halted ≡ w.units.halt
+halted-is p w s halted e = e ∙ (λ i. (sym s.units i).halt)
 
-pub rests-is : (p : Parts) (may can : Bool) → ((w : CoreState) → PartsStand p w → IsCoreReached w → can ≡ applies w Take) → (may && can) ≡ false → ShowsStep p (λ w. if may && applies w Take then Takes else Rests) work.Nothing
-rests-is p may can t e = λ w s r. ap (work_in w) (sym (cond-false (may && applies w Take) Takes Rests (ap (λ b. may && b) (sym (t w s r)) ∙ e)))
+-- nothing may be
+pub never-rests : (p : Parts) (may : Bool) → may ≡ false → ShowsStep p (rest_step may) work.Nothing
+never-rests p may e = λ w s r. ap (work_in w) (sym (cond-false (may && not w.units.halt) (load_step w (next_wanted w)) Rests (ap (λ b. b && not w.units.halt) e)))
+
+-- the run is to stop
+pub stopped-rests : (p : Parts) (may halted : Bool) → halted ≡ halt_in p.units → halted ≡ true → ShowsStep p (rest_step may) work.Nothing
+stopped-rests p may halted e stop = λ w s r. ap (work_in w) (sym (cond-false (may && not w.units.halt) (load_step w (next_wanted w)) Rests (by may w.units.halt (sym (halted-is p w s halted e) ∙ stop))))
+  where
+    by : (m h : Bool) → h ≡ true → (m && not h) ≡ false
+    by false h q = refl
+    by true h q = ap not q
+
+-- it may be
+may-go : (p : Parts) (w : CoreState) (may halted : Bool) → PartsStand p w → may ≡ true → halted ≡ halt_in p.units → halted ≡ false → (may && not w.units.halt) ≡ true
+may-go p w may halted s m e go = (λ i. m i && not ((sym (halted-is p w s halted e) ∙ go) i))
+
+-- what is wanted
+pub wanted-rests : (p : Parts) (may halted : Bool) (g : GrainId) → may ≡ true → halted ≡ halt_in p.units → halted ≡ false → wanted_in p ≡ Some g → ShowsStep p (rest_step may) (work.Load g)
+wanted-rests p may halted g m e go q = λ w s r.
+    ap (λ o. work_in w (load_step w o)) (sym q ∙ wanted-is p w s)
+    ∙ ap (work_in w) (sym (cond-true (may && not w.units.halt) (load_step w (next_wanted w)) Rests (may-go p w may halted s m e go)))
+
+-- else a batch
+pub none-rests : (p : Parts) (may halted : Bool) (work : SettlerWork) → may ≡ true → halted ≡ halt_in p.units → halted ≡ false → wanted_in p ≡ None → ShowsStep p take_step work → ShowsStep p (rest_step may) work
+none-rests p may halted work m e go q h = λ w s r.
+    h w s r ∙ ap (λ o. work_in w (load_step w o)) (sym q ∙ wanted-is p w s)
+    ∙ ap (work_in w) (sym (cond-true (may && not w.units.halt) (load_step w (next_wanted w)) Rests (may-go p w may halted s m e go)))
+
+pub takes-is : (p : Parts) (can : Bool) → ((w : CoreState) → PartsStand p w → IsCoreReached w → can ≡ applies w Take) → can ≡ true → ShowsStep p take_step work.Take
+takes-is p can t e = λ w s r. ap (work_in w) (sym (cond-true (applies w Take) Takes Rests (sym (t w s r) ∙ e)))
+
+pub rests-is : (p : Parts) (can : Bool) → ((w : CoreState) → PartsStand p w → IsCoreReached w → can ≡ applies w Take) → can ≡ false → ShowsStep p take_step work.Nothing
+rests-is p can t e = λ w s r. ap (work_in w) (sym (cond-false (applies w Take) Takes Rests (sym (t w s r) ∙ e)))
 
 -- ---- whether the settler has a step
 
@@ -210,33 +218,46 @@ abbrev pub either : Bool → Bool → Bool
 either true b = true
 either false b = b
 
--- whatever is open, what is to write and what is to learn are a step, and so is a batch that can be taken where nothing is in doubt
+-- whatever is open, what is to write and what is to learn are a step, and so is what comes behind them where nothing is in doubt
 abbrev pub stepping : Bool → Bool → Bool → Bool → Bool → Bool
-stepping batch unwritten doubt unlearnt takes = either batch (either unwritten (if doubt then false else either unlearnt takes))
+stepping batch unwritten doubt unlearnt rest = either batch (either unwritten (if doubt then false else either unlearnt rest))
 
-last-has : (p : Parts) (w : CoreState) → PartsStand p w → (may : Bool) → has_step (last_step w may) ≡ either (nat_lt w.manager.emitted (length w.manager.settled)) (may && applies w Take)
-last-has p w s may =
-    ap (λ (x : Step). has_step (if nat_lt w.manager.emitted (length w.manager.settled) then Writes else x)) (load-none p w s may)
-    ∙ by (nat_lt w.manager.emitted (length w.manager.settled)) (may && applies w Take)
+last-has : (w : CoreState) (may : Bool) → has_step (last_step w may) ≡ either (nat_lt w.manager.emitted (length w.manager.settled)) (has_step (rest_step may w))
+last-has w may = by (nat_lt w.manager.emitted (length w.manager.settled)) (rest_step may w)
   where
-    by : (n m : Bool) → has_step (if n then Writes else (if m then Takes else Rests)) ≡ either n m
-    by true m = refl
-    by false true = refl
-    by false false = refl
+    by : (n : Bool) (x : Step) → has_step (if n then Writes else x) ≡ either n (has_step x)
+    by true x = refl
+    by false x = refl
 
-later-has : (p : Parts) (w : CoreState) → PartsStand p w
-    → has_step (later_step w) ≡ stepping false (nat_lt w.manager.emitted (length w.manager.settled)) (is_some w.manager.doubt) (is_some (next_learn w)) (applies w Take)
-later-has p w s = by (is_some w.manager.doubt) (next_learn w)
+later-has : (w : CoreState)
+    → has_step (later_step w) ≡ stepping false (nat_lt w.manager.emitted (length w.manager.settled)) (is_some w.manager.doubt) (is_some (next_learn w)) (has_step (rest_step true w))
+later-has w = by (is_some w.manager.doubt) (next_learn w)
   where
     here : (n : Bool) → true ≡ either n true
     here true = refl
     here false = refl
 
     by : (d : Bool) (x : Option (UnitNo × GrainId)) → has_step (if d then last_step w false else learn_step w x)
-        ≡ stepping false (nat_lt w.manager.emitted (length w.manager.settled)) d (is_some x) (applies w Take)
-    by true x = last-has p w s false
-    by false None = last-has p w s true
+        ≡ stepping false (nat_lt w.manager.emitted (length w.manager.settled)) d (is_some x) (has_step (rest_step true w))
+    by true x = last-has w false
+    by false None = last-has w true
     by false (Some x) = here (nat_lt w.manager.emitted (length w.manager.settled))
+
+-- what comes behind is a wanted grain, or a batch that can be taken, unless the run is to stop
+pub rest-has : (p : Parts) (w : CoreState) (halted wanted takes : Bool) → PartsStand p w → halted ≡ halt_in p.units → wanted ≡ is_some (wanted_in p) → takes ≡ applies w Take →
+    (not halted && (wanted || takes)) ≡ has_step (rest_step true w)
+rest-has p w halted wanted takes s h g t =
+    (λ i. not (halted-is p w s halted h i) && ((g ∙ ap is_some (wanted-is p w s)) i || t i))
+    ∙ by w.units.halt (next_wanted w) (applies w Take) refl
+  where
+    none : (b : Bool) → b ≡ has_step (if b then Takes else Rests)
+    none true = refl
+    none false = refl
+
+    by : (k : Bool) (o : Option GrainId) (b : Bool) → applies w Take ≡ b → (not k && (is_some o || b)) ≡ has_step (if true && not k then load_step w o else Rests)
+    by true o b q = refl
+    by false (Some x) b q = refl
+    by false None b q = sym q ∙ none (applies w Take)
 
 batch-has : (w : CoreState) (b : Option Batch) → has_step (batch_step w b) ≡ either (is_some b) (has_step (later_step w))
 batch-has w None = refl
@@ -248,10 +269,10 @@ batch-has w (Some x) = by (is_some x.decisions) (first_unvoted x)
     by false (Some g) = refl
 
 -- by what is kept
-pub has-work : (p : Parts) (w : CoreState) (batch unwritten doubt unlearnt takes : Bool) → PartsStand p w → is_some p.batch ≡ batch → nat_lt p.entries.emitted (length p.entries.entries) ≡ unwritten → p.doubt ≡ doubt
-    → is_some (slice_get p.learn.pairs 0) ≡ unlearnt → applies w Take ≡ takes → stepping batch unwritten doubt unlearnt takes ≡ has_step (settler_step w)
-has-work p w batch unwritten doubt unlearnt takes s b n d l t =
-    sym (batch-has w w.manager.batch ∙ ap (either (is_some w.manager.batch)) (later-has p w s)
+pub has-work : (p : Parts) (w : CoreState) (batch unwritten doubt unlearnt rest : Bool) → PartsStand p w → is_some p.batch ≡ batch → nat_lt p.entries.emitted (length p.entries.entries) ≡ unwritten → p.doubt ≡ doubt
+    → is_some (slice_get p.learn.pairs 0) ≡ unlearnt → has_step (rest_step true w) ≡ rest → stepping batch unwritten doubt unlearnt rest ≡ has_step (settler_step w)
+has-work p w batch unwritten doubt unlearnt rest s b n d l t =
+    sym (batch-has w w.manager.batch ∙ ap (either (is_some w.manager.batch)) (later-has w)
     ∙ (λ i. stepping ((sym s.batch.same ∙ b) i) (((λ j. nat_lt (s.emitted j) (length (s.settled j))) ∙ n) i) ((s.doubt ∙ d) i) ((ap is_some (sym (learn-is p w s)) ∙ l) i) (t i)))
 
 pub open-has : (p : Parts) (w : CoreState) → PartsStand p w → is_some p.batch ≡ true → true ≡ has_step (settler_step w)
@@ -260,7 +281,7 @@ open-has p w s b = has-work p w true _ _ _ _ s b refl refl refl refl
 pub unwritten-has : (p : Parts) (w : CoreState) → PartsStand p w → nat_lt p.entries.emitted (length p.entries.entries) ≡ true → true ≡ has_step (settler_step w)
 unwritten-has p w s n = by (is_some p.batch) ∙ has-work p w _ true _ _ _ s refl n refl refl refl
   where
-    by : (b : Bool) → true ≡ stepping b true p.doubt (is_some (slice_get p.learn.pairs 0)) (applies w Take)
+    by : (b : Bool) → true ≡ stepping b true p.doubt (is_some (slice_get p.learn.pairs 0)) (has_step (rest_step true w))
     by true = refl
     by false = refl
 
@@ -271,6 +292,6 @@ pub unlearnt-has : (p : Parts) (w : CoreState) → PartsStand p w → is_some p.
     → is_some (slice_get p.learn.pairs 0) ≡ true → true ≡ has_step (settler_step w)
 unlearnt-has p w s b n d l = has-work p w false false false true _ s b n d l refl
 
-pub takes-has : (p : Parts) (w : CoreState) (takes : Bool) → PartsStand p w → is_some p.batch ≡ false → nat_lt p.entries.emitted (length p.entries.entries) ≡ false → p.doubt ≡ false
-    → is_some (slice_get p.learn.pairs 0) ≡ false → takes ≡ applies w Take → takes ≡ has_step (settler_step w)
-takes-has p w takes s b n d l t = has-work p w false false false false takes s b n d l (sym t)
+pub rests-has : (p : Parts) (w : CoreState) (rest : Bool) → PartsStand p w → is_some p.batch ≡ false → nat_lt p.entries.emitted (length p.entries.entries) ≡ false → p.doubt ≡ false
+    → is_some (slice_get p.learn.pairs 0) ≡ false → rest ≡ has_step (rest_step true w) → rest ≡ has_step (settler_step w)
+rests-has p w rest s b n d l t = has-work p w false false false false rest s b n d l (sym t)

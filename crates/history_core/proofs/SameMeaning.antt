@@ -1,9 +1,8 @@
 -- What stands for the same.
 use Rattle.std.proofs.Common.{◌≡◌, ℕ, ◌≤◌, List, Bool, true, refl, sym, ap, ◌∙◌, subst, arith, Option, Some, None, length, Result, Ok, Err, OnOk, OnErr, IfOk}
-use Rattle.cell_model.specs.Cells.{Cell}
 use Rattle.core_model.specs.CoreState.{UnitNo, GrainId, Units, CoreState}
 use Rattle.core_parts.specs.Room.{EntriesInRoom, PairsInRoom}
-use Rattle.cell_table.specs.Table.{cell_in}
+use Rattle.cell_table.specs.Table.{cells_kept, opens_with}
 use Rattle.cell_table.specs.declared.table.CellTable.{CellTable}
 use Rattle.unit_table.specs.Table.{units_of, verdict_in, result_in}
 use Rattle.unit_table.specs.Rooms.{SameUnits}
@@ -11,8 +10,9 @@ use Rattle.unit_table.specs.declared.table.UnitTable.{UnitTable}
 use Rattle.core_model.specs.declared.events.CoreEvent.{CoreEvent}
 use Rattle.core_model.specs.declared.events.CoreReply.{CoreReply}
 use Rattle.history_core.specs.declared.parts.Parts.{Parts}
-use Rattle.history_core.specs.KeptParts.{PartsStand, cells_of}
+use Rattle.history_core.specs.KeptParts.{PartsStand}
 use Rattle.history_core.specs.Steps.{KeepsMeaning, Does}
+use Rattle.history_core.proofs.MemoryCells.{stands-in}
 
 pub keeps-units : (p : Parts) (units : UnitTable) → SameUnits p.units units → KeepsMeaning p (record p { units = units })
 keeps-units p units e = λ w s. record {
@@ -34,11 +34,11 @@ keeps-units p units e = λ w s. record {
   room = record { entries = s.room.entries; learn = s.room.learn; places = s.room.places };
 }
 
-pub keeps-cells : (p : Parts) (cells : CellTable) → cell_in cells ≡ cell_in p.cells → KeepsMeaning p (record p { cells = cells })
-keeps-cells p cells e = λ w s. record {
+pub keeps-cells : (p : Parts) (cells : CellTable) → cells_kept cells ≡ cells_kept p.cells → cells.recent ≡ p.cells.recent → opens_with cells ≡ opens_with p.cells → KeepsMeaning p (record p { cells = cells })
+keeps-cells p cells kept recent opens = λ w s. record {
   units = s.units;
   numbers = s.numbers;
-  cells = s.cells ∙ ap (λ (C : GrainId → Cell). cells_of C w.cells.learnt) (sym e);
+  cells = stands-in p.cells cells w.cells kept recent opens s.cells;
   verdict = s.verdict;
   result = s.result;
   effects = s.effects;

@@ -32,7 +32,8 @@ use Rattle.history_core.proofs.OpenBatches.{to-cases, placed-each}
 use Rattle.history_core.proofs.OneEvent.{can-is, allowed-is, allowed-answer}
 use Rattle.history_core.proofs.BatchClosing.{CanClose, stands-closed}
 use Rattle.history_core.proofs.Finishes.{owed-within}
-use Rattle.history_core.proofs.CoreStates.{rests, waits, closes-final, late-not-final, readers, follows}
+use Rattle.history_core.proofs.CoreStates.{rests, waits, closes-final, late-not-final, readers}
+use Rattle.history_core.proofs.Sweeps.{unmoved}
 
 -- ---- what is open
 
@@ -86,12 +87,6 @@ is-ready p w ds s finished e = record {
 
 -- ---- a batch that is decided closes
 
-each-decided : (writes : UnitNo → List Write) (votes : List (GrainId × Bool)) (us : List UnitNo) (ds : List Decision) → AreDecided writes votes us ds → length ds ≡ length us
-each-decided writes votes [] [] h = refl
-each-decided writes votes [] (d ∷ ds) h = absurd h
-each-decided writes votes (u ∷ us) [] h = absurd h
-each-decided writes votes (u ∷ us) (d ∷ ds) h = ap suc (each-decided writes votes us ds h.1)
-
 pub size-within : (w : CoreState) (b : Batch) → IsCoreReached w → w.manager.batch ≡ Some b → w.manager.closed + b.size ≤ length w.manager.order
 size-within w b r q = subst (λ o. w.manager.closed + size_of o ≤ length w.manager.order) q (rests w r).prefix.within
 
@@ -109,7 +104,7 @@ members-fresh w b r x g m = go (w.cells.learnt x g) refl
 
 pub can-close : (w : CoreState) (b : Batch) (ds : List Decision) → IsCoreReached w → w.manager.doubt ≡ None → w.manager.batch ≡ Some b → b.decisions ≡ Some ds → CanClose w b ds
 can-close w b ds r none q d = record {
-  each = each-decided w.manager.writes b.votes (members w b) ds ((follows w r).decided b ds q d) ∙ members-length w b r q;
+  each = (rests w r).decisions b ds q d ∙ members-length w b r q;
   within = size-within w b r q;
   others = λ x. ((rests w r).judged none).decided b ds q d x;
   final = closes-final w r none;
@@ -168,7 +163,7 @@ decided-here p w b ds s q d = (let t = shown p w b s q in ap decisions_in t.1 �
 
 pub does-seal : (p q : Parts) (n : ℕ) → ((ds : List Decision) → decisions_in p.batch ≡ Some ds → Closes how.Sealed ds p q) → q.doubt ≡ p.doubt → Does p (Sealed n) reply.Done q
 does-seal p q n k doubt = λ w s r a. (
-  (let t = seal-parts w n a in
+  unmoved q w (Sealed n) r a refl (let t = seal-parts w n a in
       let b = t.1.0 in let ds = t.1.1 in
       subst (PartsStand q) (sym (on-decided w (sealed w) b ds t.1.2 t.1.3))
       (stands-closed how.Sealed p q w b ds s (can-close w b ds r t.0 t.1.2 t.1.3) (k ds (decided-here p w b ds s t.1.2 t.1.3)) doubt)),
@@ -177,7 +172,7 @@ does-seal p q n k doubt = λ w s r a. (
 
 pub does-spoil : (p q : Parts) (n : ℕ) → ((ds : List Decision) → decisions_in p.batch ≡ Some ds → Closes how.NotSealed ds p q) → q.doubt ≡ p.doubt → Does p (NotSealed n) reply.Done q
 does-spoil p q n k doubt = λ w s r a. (
-  (let t = spoil-parts w n a in
+  unmoved q w (NotSealed n) r a refl (let t = spoil-parts w n a in
       let b = t.1.0 in let ds = t.1.1 in
       subst (PartsStand q) (sym (on-decided w (spoiled w) b ds t.1.2 t.1.3))
       (stands-closed how.NotSealed p q w b ds s (can-close w b ds r t.0 t.1.2 t.1.3) (k ds (decided-here p w b ds s t.1.2 t.1.3)) doubt)),
@@ -207,7 +202,7 @@ stands-doubted p w at s = record {
 
 pub does-doubt : (p q : Parts) (n : ℕ) → ((ds : List Decision) → decisions_in p.batch ≡ Some ds → Closes how.Doubt ds p q) → q.doubt ≡ p.doubt → Does p (Doubt n) reply.Done (record q { doubt = true })
 does-doubt p q n k doubt = λ w s r a. (
-  (let t = doubt-parts w n a in
+  unmoved (record q { doubt = true }) w (Doubt n) r a refl (let t = doubt-parts w n a in
       let b = t.1.0 in let ds = t.1.1 in
       subst (PartsStand (record q { doubt = true })) (sym (on-decided w (in_doubt w) b ds t.1.2 t.1.3))
       (stands-doubted q (closed w leave (λ u. settled.InDoubt) b ds) w.manager.closed

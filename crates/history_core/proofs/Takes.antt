@@ -32,12 +32,13 @@ use Rattle.history_core.specs.UnitsWithoutLocks.{is_free_by, front_by}
 use Rattle.history_core.specs.Steps.{CanDo, KeepsMeaning, Does}
 use Rattle.history_core.proofs.OpenBatches.{to-cases, from-cases, each-placed, placed-each}
 use Rattle.history_core.proofs.OneEvent.{can-is}
+use Rattle.history_core.proofs.MemoryCells.{holds-is}
 
 pub are-units : (p : Parts) (w : CoreState) → PartsStand p w → AreUnits p.waiting.items w (waiting w)
 are-units p w s = record { effects = s.effects; sources = s.sources }
 
 free-is : (p : Parts) (w : CoreState) → PartsStand p w → (u : UnitNo) → is_free_by p (effect_of w u) ≡ is_free w u
-free-is p w s u = λ i. all (λ (r : Read). not (holds_lock u ((sym s.cells i).holds r.grain))) (w.units.reads u)
+free-is p w s u = λ i. all (λ (r : Read). not (holds_lock u (sym (holds-is p.cells w.cells s.cells) i r.grain))) (w.units.reads u)
 
 front-prefix : (p : Parts) (w : CoreState) → PartsStand p w → (us : List UnitNo) → front_by p (map (effect_of w) us) ≡ free_prefix w us
 front-prefix p w s [] = refl

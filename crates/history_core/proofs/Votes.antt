@@ -21,6 +21,7 @@ use Rattle.history_core.specs.KeptParts.{PartsStand, IsCoreReached, ShowsOpen, S
 use Rattle.history_core.specs.Steps.{CanDo, Does}
 use Rattle.history_core.proofs.OpenBatches.{to-cases, from-cases, each-placed, placed-each}
 use Rattle.history_core.proofs.OneEvent.{can-is}
+use Rattle.history_core.proofs.Sweeps.{unmoved}
 
 pub may-vote-is : (o : Option TakenBatch) (ms : List FinishedUnit) (b : Option Batch) (n : ℕ) (g : GrainId) → ShowsOpen o ms b →
     may_vote_in o n g ≡ is_open n (λ c. is_planned c g && not (any (is_vote_on g) c.votes)) b
@@ -33,7 +34,7 @@ pub may-vote : (p : Parts) (n : ℕ) (g : GrainId) (kept : Bool) → CanDo p (Vo
 may-vote p n g kept c = may-vote-is p.batch p.waiting.items c.0.manager.batch n g (to-cases p.batch p.waiting.items c.0.manager.batch c.1.batch) ∙ can-is c.0 (Vote n g kept) c.3
 
 pub stands-voted : (p : Parts) (x : TakenBatch) (n : ℕ) (g : GrainId) (kept : Bool) → p.batch ≡ Some x → Does p (Vote n g kept) reply.Done (record p { batch = Some (with_vote x g kept) })
-stands-voted p x n g kept e = λ w s r a. (go w s w.manager.batch refl (subst (λ o. ShowsOpen o p.waiting.items w.manager.batch) e (to-cases p.batch p.waiting.items w.manager.batch s.batch)), refl)
+stands-voted p x n g kept e = λ w s r a. (unmoved (record p { batch = Some (with_vote x g kept) }) w (Vote n g kept) r a refl (go w s w.manager.batch refl (subst (λ o. ShowsOpen o p.waiting.items w.manager.batch) e (to-cases p.batch p.waiting.items w.manager.batch s.batch))), refl)
   where
     go : (w : CoreState) → PartsStand p w → (b : Option Batch) → w.manager.batch ≡ b → ShowsOpen (Some x) p.waiting.items w.manager.batch → PartsStand (record p { batch = Some (with_vote x g kept) }) (does w (Vote n g kept))
     go w s None q t = absurd (subst (λ b. ShowsOpen (Some x) p.waiting.items b) q t)

@@ -5,6 +5,6 @@ use Rattle.core_model.specs.LegalRuns.{Run}
 use Rattle.cell_table.specs.Table.{opens_with}
 use Rattle.cell_table.specs.declared.table.CellTable.{CellTable}
 
--- the run with these events, of a core that keeps these cells
+-- the run with these events, of a core that keeps these cells; its memory has no limit
 abbrev pub run_with : ℕ → ℕ → CellTable → List CoreEvent → Run
-run_with base kinds cells events = record { base = base; kinds = kinds; capacity = None; opening = opens_with cells; events = events }
+run_with base kinds cells events = record { base = base; kinds = kinds; capacity = None; opening = (opens_with cells).states; events = events }

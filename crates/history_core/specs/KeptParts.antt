@@ -1,14 +1,14 @@
 -- What is kept, and which states of the model it stands for.
 use Rattle.std.specs.Prelude.{◌≡◌, ◌<◌, ◌≤◌, ◌+◌, ◌^◌, ℕ, List, [], ◌∷◌, Bool, true, Option, Some, None, is_some, length, map, take, ⊤}
 use Rattle.cell_model.specs.Units.{Member}
-use Rattle.cell_model.specs.Cells.{Cell}
 use Rattle.cell_model.specs.Locks.{holds_lock}
-use Rattle.core_model.specs.CoreState.{UnitNo, GrainId, Write, Batch, Cells, CoreState}
+use Rattle.core_model.specs.CoreState.{UnitNo, GrainId, Write, Batch, CoreState}
 use Rattle.core_model.specs.declared.phases.Phase.TheVariants.{Finished}
 use Rattle.core_model.specs.Tests.{waiting, state_written}
 use Rattle.core_model.specs.Answers.{effect_of}
 use Rattle.core_model.specs.LegalRuns.{Run, ends}
-use Rattle.cell_table.specs.Table.{cell_in}
+use Rattle.cell_memory.specs.KeptCells.{StandsForCells}
+use Rattle.cell_table.specs.Table.{cells_kept, opens_with, used_of}
 use Rattle.unit_table.specs.Table.{units_of, verdict_in, result_in}
 use Rattle.open_batch.specs.declared.members.FinishedUnit.{FinishedUnit}
 use Rattle.open_batch.specs.Members.{effect_in, sources_in}
@@ -17,18 +17,6 @@ use Rattle.open_batch.specs.ShownBatch.{ShowsBatch}
 use Rattle.core_parts.specs.States.{last_in, has_place, handed_in}
 use Rattle.history_core.specs.declared.parts.Parts.{Parts}
 use Rattle.history_core.specs.ClosedUnits.{last_state, unlearnt, ArePlaced}
-
--- the model's cells, where every grain is in memory
-abbrev pub cells_of : (GrainId → Cell) → (UnitNo → GrainId → Bool) → Cells
-cells_of cell learnt = record {
-  stack = λ g. (cell g).stack;
-  holds = λ g. (cell g).holds;
-  readings = λ g. (cell g).readings;
-  learnt = learnt;
-  here = λ g. true;
-  recent = [];
-  capacity = None;
-}
 
 -- how many grains these units wrote
 abbrev pub writes_in : List FinishedUnit → ℕ
@@ -71,14 +59,14 @@ pub record HasRoom (p : Parts) : Type 0 where
   pub learn : writes_in (members_in p) ≤ p.learn.spare
   pub places : EachPlaced (has_place p.last) (members_in p)
 
--- What is kept stands for the state: units, cells, verdicts, results and entries as they are, with numbers below 2^63 for the
--- units so far; the finished units that wait with their effects and their dependencies; the open batch; of what the grains have
+-- What is kept stands for the state: units, verdicts, results and entries as they are, with numbers below 2^63 for the units so far;
+-- the cells of the grains in memory, and which grains were used last; the finished units that wait with their effects and their dependencies; the open batch; of what the grains have
 -- learnt what they still have to learn; of what was written what a finished unit has still to release, and the last committed
 -- state of each grain.
 pub record PartsStand (p : Parts) (w : CoreState) : Type 0 where
   pub units : w.units ≡ units_of p.units w.units.seen_at
   pub numbers : w.units.next ≤ 2 ^ 63
-  pub cells : w.cells ≡ cells_of (cell_in p.cells) w.cells.learnt
+  pub cells : StandsForCells (opens_with p.cells).limit (cells_kept p.cells) (used_of p.cells.recent) w.cells
   pub verdict : w.manager.verdict ≡ verdict_in p.units
   pub result : w.manager.result ≡ result_in p.units
   pub effects : map effect_in p.waiting.items ≡ map (effect_of w) (waiting w)
@@ -93,9 +81,9 @@ pub record PartsStand (p : Parts) (w : CoreState) : Type 0 where
   pub last : (g : GrainId) → last_in p.last g ≡ last_state w g
   pub room : HasRoom p
 
--- the state is the last one of a run in which units are numbered from 1 on and every grain stays in memory
+-- the state is the last one of a run in which units are numbered from 1 on
 abbrev pub IsCoreReached : CoreState → Type 0
-IsCoreReached w = (r : Run) × (0 < r.base) × (r.capacity ≡ None) × (ends r ≡ w)
+IsCoreReached w = (r : Run) × (0 < r.base) × (ends r ≡ w)
 
 -- what is kept stands for such a state
 abbrev pub StandsForReached : Parts → Type 0

@@ -2,6 +2,7 @@ pub mod ClosedUnits
 pub mod KeptParts
 pub mod LockAnswers
 pub mod Grants
+pub mod Evictions
 pub mod Releases
 pub mod HandedWrites
 pub mod UnitsWithoutLocks

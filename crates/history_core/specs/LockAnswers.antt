@@ -1,5 +1,5 @@
 -- What is answered to a unit that asks for a lock, by what is kept.
-use Rattle.std.specs.Prelude.{◌<◌, ◌^◌, ⊤, ℕ, List, Bool, true, ◌&&◌, not, Option, is_some, nat_lt, ◌==◌, if◌then◌else◌, length, filter, map}
+use Rattle.std.specs.Prelude.{◌<◌, ◌^◌, ⊤, ℕ, List, Bool, ◌&&◌, not, Option, is_some, nat_lt, ◌==◌, if◌then◌else◌, length, filter, map}
 use Rattle.std.specs.List.{list_all as all}
 use Rattle.base_types.specs.declared.calls.Origin.{Origin}
 use Rattle.base_types.specs.declared.calls.Origin.TheVariants.{Line, Child}
@@ -12,7 +12,7 @@ use Rattle.core_model.specs.declared.events.CoreEvent.TheVariants.{Bad, Begin}
 use Rattle.core_model.specs.declared.questions.AskAnswer.{AskAnswer}
 use Rattle.core_model.specs.declared.questions.AskAnswer.TheVariants as answer
 use Rattle.core_model.specs.Tests.{is_running, ask_doom, ask_lock}
-use Rattle.cell_table.specs.Table.{cell_in}
+use Rattle.cell_table.specs.Table.{cell_in, here_in}
 use Rattle.unit_table.specs.Table.{phase_in, kids_in, reads_in, outcome_known}
 use Rattle.history_core.specs.declared.parts.Parts.{Parts}
 
@@ -32,7 +32,7 @@ gone_in p reads = oldest (map (λ (r : Read). r.source) (filter (is_gone_in p) r
 abbrev pub ask_in : Parts → UnitNo → GrainId → Mode → AskAnswer
 ask_in p u g mode =
     if is_active_in p u g
-    then ask_doom (gone_in p (reads_in p.units u)) (ask_lock true (locks.ask (cell_in p.cells g).holds u mode))
+    then ask_doom (gone_in p (reads_in p.units u)) (ask_lock (here_in p.cells g) (locks.ask (cell_in p.cells g).holds u mode))
     else answer.NotActive
 
 -- the unit is decided

@@ -4,7 +4,8 @@ use Rattle.std.specs.declared.result.Result.{Result}
 use Rattle.std.specs.declared.result.Result.TheVariants.{Ok, Err}
 use Rattle.std.specs.declared.alloc.AllocError.{AllocError}
 use Rattle.core_model.specs.CoreState.{CoreState}
-use Rattle.core_model.specs.declared.events.CoreEvent.TheVariants.{Bad, Begin, Grant, Refuse, Finish, EndPlain, EndSnapshot, Take, Want}
+use Rattle.core_model.specs.declared.events.CoreEvent.TheVariants.{Bad, Begin, Grant, Refuse, Finish, EndPlain, EndSnapshot, Take, Want, Load}
+use Rattle.core_model.specs.Changes.{swept}
 use Rattle.core_model.specs.Events.{applies, does, step, reply_to, reply_with, reply_without}
 use Rattle.core_model.specs.declared.events.CoreEvent.{CoreEvent}
 use Rattle.core_model.specs.declared.events.CoreReply.{CoreReply}
@@ -27,9 +28,13 @@ KeepsMeaning p q = (w : CoreState) → PartsStand p w → PartsStand q w
 abbrev pub Tells : Parts → CoreEvent → Bool → Type 0
 Tells p e told = (w : CoreState) → PartsStand p w → IsCoreReached w → told ≡ applies w e
 
--- whatever state is stood for, where the event applies the state after it is stood for, and the reply is that of the event
+-- whatever state is stood for, where the event applies what it does there is stood for, and the reply is that of the event
+abbrev pub Changes : Parts → CoreEvent → CoreReply → Parts → Type 0
+Changes p e reply q = (w : CoreState) → PartsStand p w → IsCoreReached w → applies w e ≡ true → PartsStand q (does w e) × (reply ≡ reply_with w e)
+
+-- and what it leaves, once the grains that it leaves idle are out of memory
 abbrev pub Does : Parts → CoreEvent → CoreReply → Parts → Type 0
-Does p e reply q = (w : CoreState) → PartsStand p w → IsCoreReached w → applies w e ≡ true → PartsStand q (does w e) × (reply ≡ reply_with w e)
+Does p e reply q = (w : CoreState) → PartsStand p w → IsCoreReached w → applies w e ≡ true → PartsStand q (swept (does w e)) × (reply ≡ reply_with w e)
 
 -- whatever state is stood for, its step is stood for, and the reply is its reply
 abbrev pub Takes : Parts → CoreEvent → CoreReply → Parts → Type 0
@@ -37,7 +42,7 @@ Takes p e reply q = (w : CoreState) → PartsStand p w → IsCoreReached w → P
 
 -- whatever state is stood for, where the event doesn't apply the reply is the one to that
 abbrev pub Refuses : Parts → CoreEvent → CoreReply → Type 0
-Refuses p e reply = (w : CoreState) → PartsStand p w → applies w e ≡ false → reply ≡ reply_without w e
+Refuses p e reply = (w : CoreState) → PartsStand p w → IsCoreReached w → applies w e ≡ false → reply ≡ reply_without w e
 
 -- the event may want memory: no earlier one made its room
 abbrev pub takes_memory : CoreEvent → Bool
@@ -50,6 +55,7 @@ takes_memory (EndPlain u effect) = true
 takes_memory (EndSnapshot u at outcome) = true
 takes_memory Take = true
 takes_memory (Want u g) = true
+takes_memory (Load g u state) = true
 takes_memory _ = false
 
 -- whatever state is stood for, it still is; and the event may want memory

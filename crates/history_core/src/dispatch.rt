@@ -55,7 +55,7 @@ impl Parts {
             CoreEvent::Emitted => self.can_emit(),
             CoreEvent::Halt => self.can_halt(),
             CoreEvent::Want { unit, grain } => self.can_want(*unit, *grain),
-            CoreEvent::Load { .. } => false,
+            CoreEvent::Load { grain, .. } => self.can_load(*grain),
         }
     }
 
@@ -104,7 +104,10 @@ impl Parts {
                 let done = self.want(unit, grain);
                 back(done, CoreEvent::Want { unit, grain })
             }
-            CoreEvent::Load { .. } => unreachable!(),
+            CoreEvent::Load { grain, unit, state } => {
+                let done = self.load(grain, unit, &state);
+                back(done, CoreEvent::Load { grain, unit, state })
+            }
         }
     }
 }

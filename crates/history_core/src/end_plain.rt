@@ -2,11 +2,13 @@
 ghost use Rattle.std.specs.Prelude.{◌≡◌, ◌<◌, ◌≤◌, ℕ, List as AList, Option as AnOption, true, IfOk, IfErr, OnOk, OnErr};
 ghost use Rattle.base_types.specs.declared.calls.Outcome.{Outcome as AnOutcome};
 ghost use Rattle.core_model.specs.CoreState.{CoreState};
-ghost use Rattle.core_model.specs.Changes.{after_end};
+ghost use Rattle.core_model.specs.Changes.{after_end, swept};
+ghost use Rattle.core_model.specs.declared.events.CoreEvent.{CoreEvent as AnEvent};
 ghost use Rattle.core_model.specs.declared.events.CoreEvent.TheVariants.{EndPlain};
 ghost use Rattle.core_model.specs.Tests.{is_running};
 ghost use Rattle.unit_table.specs.KnownUnits.{known_running};
 ghost use Rattle.history_core.specs.Effects.{ends_as_plain};
+ghost use Rattle.history_core.specs.Evictions.{EndsAs};
 ghost use Rattle.cell_table.specs.Table.{opens_with};
 ghost use Rattle.unit_table.specs.Table.{known_in, phase_in};
 ghost use Rattle.history_core.specs.KeptParts.{PartsStand, IsCoreReached, owed_in};
@@ -81,17 +83,19 @@ impl Parts {
         outcome.copy()
     }
 
-    // The running unit has ended with that result, and its line is settled. Takes no memory.
+    // The running unit has ended with that result, its line is settled, and what it waited for leaves memory where it is idle.
+    // Takes no memory.
     pub(crate) fn end(&mut self, unit: UnitNo, told: Outcome, kept: Outcome)
         requires runs { is_running (phase_in self.old.units unit) ≡ true }
         requires room { owed_in self.old.batch < self.old.entries.spare }
         requires same { kept ≡ told }
-        ensures ended { (w : CoreState) → PartsStand self.old w → IsCoreReached w → (answers : AList AnOutcome) (at : AnOption ℕ)
-            → PartsStand self.new (after_end w unit answers told at) }
+        ensures ended { (w : CoreState) → PartsStand self.old w → IsCoreReached w → (e : AnEvent) (answers : AList AnOutcome) (at : AnOption ℕ)
+            → EndsAs w e unit answers told at → PartsStand self.new (swept (after_end w unit answers told at)) }
         ensures opens { opens_with self.new.cells ≡ opens_with self.old.cells }
     {
         let origin = self.origin(unit);
         settle(&mut self.entries, origin, unit, Settled::Done(told));
+        self.cells.evict_wanted(unit, self.units.wants());
         self.units.end(unit, kept);
     }
 }

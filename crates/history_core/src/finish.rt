@@ -59,7 +59,8 @@ impl Parts {
             .all(|write| self.cells.is_held_alone_by(unit, write.0))
     }
 
-    // The transaction takes the last place in the finish order, and what it wrote is kept until its locks are given back.
+    // The transaction takes the last place in the finish order, and what it wrote is kept until its locks are given back. What it
+    // waited for leaves memory where it is idle.
     pub(crate) fn finish(
         &mut self,
         unit: UnitNo,
@@ -74,6 +75,7 @@ impl Parts {
         match self.prepare_finish(unit, &effect) {
             Err(error) => Err((error, CoreEvent::Finish { unit, effect })),
             Ok(outcome) => {
+                self.cells.evict_wanted(unit, self.units.wants());
                 let deps = self.units.finish(unit, outcome);
                 self.waiting.push_reserved(FinishedUnit { effect, deps });
                 Ok(CoreReply::Done)

@@ -1,24 +1,28 @@
 // A unit locks a grain, or raises its lock.
-ghost use Rattle.std.specs.Prelude.{◌≡◌, ◌<◌, true, not, find, map, IfOk, OnErr};
+ghost use Rattle.std.specs.Prelude.{◌≡◌, ◌<◌, Some, true, false, not, find, map, IfOk, OnErr};
 ghost use Rattle.base_types.specs.declared.stores.Version.{Version as AVersion};
 ghost use Rattle.cell_model.specs.declared.locks.Ask.TheVariants.{Free};
-ghost use Rattle.cell_model.specs.Locks.{ask};
+ghost use Rattle.cell_model.specs.Locks.{ask, holds_lock};
+ghost use Rattle.cell_model.specs.Stacks.{top};
 ghost use Rattle.cell_model.specs.Cells.{cell_granted};
 ghost use Rattle.core_model.specs.CoreState.{put_grain};
 ghost use Rattle.core_model.specs.Tests.{is_aborted};
 ghost use Rattle.core_model.specs.Events as events;
 ghost use Rattle.core_model.specs.Events.{is_free_answer};
 ghost use Rattle.core_model.specs.declared.events.CoreEvent.TheVariants.{Grant};
-ghost use Rattle.cell_table.specs.Table.{cell_in, has_cell, spare_in, opens_with};
+ghost use Rattle.cell_table.specs.Table.{cell_in, cells_kept, has_cell, opens_with, spare_in};
 ghost use Rattle.unit_table.specs.Table.{verdict_in};
-ghost use Rattle.history_core.specs.Grants.{cell_without, is_sure_in};
+ghost use Rattle.grain_cell.specs.Room.{without_aborted};
+ghost use Rattle.history_core.specs.Grants.{Cleans, cell_without, is_sure_in};
 ghost use Rattle.history_core.specs.Steps.{CanDo, KeepsMeaning, Tells, Does, Refuses};
 
+use crate::evictions::evict_left;
 use crate::parts::Parts;
 use base_types::{GrainId, Mode, UnitNo, Version};
 use cell_model::Ask;
 use cell_table::CellTable;
 use core_model::{AskAnswer, CoreReply, Read, Verdict};
+use grain_cell::Granted;
 use std::alloc::AllocError;
 
 impl Parts {
@@ -39,8 +43,8 @@ impl Parts {
         not_granted(self.ask(unit, grain, mode))
     }
 
-    // The unit locks the grain, or raises its lock: first all room and all copies, then what is aborted goes off the
-    // stack, then the lock is given.
+    // The unit locks the grain, or raises its lock: first all room and all copies, then what is aborted goes off the stack, then
+    // the lock is given. At its first lock the grain is used, and the one that is used no more leaves memory, if it is idle.
     pub(crate) fn grant(
         &mut self,
         unit: UnitNo,
@@ -65,15 +69,40 @@ impl Parts {
                 source: found.source,
             });
         }
+        let reply = self.lock_first(unit, grain, mode, aborted, found)?;
+        Ok(reply)
+    }
+
+    // The unit's first lock of a grain that has a cell, with room for it: what was found there is read, and the grain is used.
+    fn lock_first(
+        &mut self,
+        unit: UnitNo,
+        grain: GrainId,
+        mode: Mode,
+        aborted: Option<UnitNo>,
+        found: Granted,
+    ) -> Result<CoreReply, AllocError>
+        requires can { CanDo self.old (Grant unit grain mode) }
+        requires cell { has_cell self.old.cells grain ≡ true }
+        requires room { 0 < spare_in self.old.cells grain }
+        requires first { holds_lock unit (cell_in self.old.cells grain).holds ≡ false }
+        requires cleans { Cleans self.old grain aborted }
+        requires newest { record { unit = found.source; state = found.state } ≡ top (without_aborted aborted (cell_in self.old.cells grain).stack) }
+        ensures ok { IfOk result (λ reply. Does self.old (Grant unit grain mode) reply self.new) }
+        ensures err { OnErr result (KeepsMeaning self.old self.new) }
+        ensures opens { opens_with self.new.cells ≡ opens_with self.old.cells }
+    {
         let read = Read {
             grain,
             state: found.state.copy()?,
             source: found.source,
         };
         self.units.reserve_read(unit)?;
+        let left = self.cells.touch(grain)?;
         let depends = !self.is_sure(found.source);
         lock_over(&mut self.cells, unit, grain, mode, aborted);
         self.units.note_read(unit, read, depends);
+        evict_left(&mut self.cells, left, self.units.wants());
         Ok(CoreReply::Granted {
             state: found.state,
             source: found.source,
@@ -128,7 +157,9 @@ fn lock_over(
     requires cell { has_cell cells.old grain ≡ true }
     requires free { ask (cell_in cells.old grain).holds unit mode ≡ Free }
     requires room { 0 < spare_in cells.old grain }
-    ensures locks { cell_in cells.new ≡ put_grain (cell_in cells.old) grain (cell_granted (cell_without (cell_in cells.old grain) aborted) unit mode) }
+    ensures locks { cells_kept cells.new
+        ≡ put_grain (cells_kept cells.old) grain (Some (cell_granted (cell_without (cell_in cells.old grain) aborted) unit mode)) }
+    ensures recent { cells.new.recent ≡ cells.old.recent }
     ensures opens { opens_with cells.new ≡ opens_with cells.old }
 {
     match aborted {

@@ -1,5 +1,5 @@
 // What a unit is answered that asks for a lock.
-ghost use Rattle.std.specs.Prelude.{◌≡◌, true, Some};
+ghost use Rattle.std.specs.Prelude.{◌≡◌, Some};
 ghost use Rattle.core_model.specs.Tests.{ask_lock};
 ghost use Rattle.cell_model.specs.Units.{joined};
 ghost use Rattle.history_core.specs.LockAnswers.{ask_in, is_active_in, is_gone_in, gone_in};
@@ -19,7 +19,7 @@ impl Parts {
         }
         match self.oldest_gone(self.units.reads(unit)) {
             Some(source) => AskAnswer::Doomed { source },
-            None => lock_answer(self.cells.ask(unit, grain, mode)),
+            None => lock_answer(self.cells.is_here(grain), self.cells.ask(unit, grain, mode)),
         }
     }
 
@@ -51,12 +51,13 @@ impl Parts {
     }
 }
 
-// What the lock table says of a grain in memory.
-fn lock_answer(ask: Ask) -> AskAnswer
-    ensures { result ≡ ask_lock true ask }
+// What the lock table says, where the grain is in memory or not: nobody has a lock of one that isn't.
+fn lock_answer(is_here: bool, ask: Ask) -> AskAnswer
+    ensures { result ≡ ask_lock is_here ask }
 {
     match ask {
-        Ask::Free => AskAnswer::Free,
+        Ask::Free if is_here => AskAnswer::Free,
+        Ask::Free => AskAnswer::Absent,
         Ask::Held => AskAnswer::Held,
         Ask::MustDie { holder } => AskAnswer::MustDie { holder },
         Ask::MustWait { holder } => AskAnswer::MustWait { holder },

@@ -36,7 +36,7 @@ impl Core {
         let kinds = opened.shape.types.len() as u64;
         let parts = Parts {
             units: UnitTable::new(alloc, base, kinds),
-            cells: CellTable::new(alloc, opened.shape, opened.store),
+            cells: CellTable::new(alloc, opened.shape, opened.store, None),
             waiting: Vec::new(alloc),
             batches: 0,
             batch: None,

@@ -41,7 +41,7 @@ impl Parts {
                 Ok(CoreAnswer::NextSettled(entry))
             }
             CoreQuestion::Halted => Ok(CoreAnswer::Halted(self.is_stopped())),
-            CoreQuestion::NextWanted => Ok(CoreAnswer::NextWanted(None)),
+            CoreQuestion::NextWanted => Ok(CoreAnswer::NextWanted(self.next_wanted())),
             CoreQuestion::NextStep => {
                 let work = self.next_work()?;
                 Ok(CoreAnswer::NextStep(work))

@@ -21,7 +21,7 @@ impl Parts {
         self.is_going() && cause_of(self.ask(unit, grain, mode), grain).is_some()
     }
 
-    // The unit is aborted, and its line is settled.
+    // The unit is aborted, its line is settled, and what it waited for leaves memory where it is idle.
     pub(crate) fn refuse(
         &mut self,
         unit: UnitNo,
@@ -40,6 +40,7 @@ impl Parts {
         };
         let origin = self.origin(unit);
         settle(&mut self.entries, origin, unit, why);
+        self.cells.evict_wanted(unit, self.units.wants());
         self.units.refuse(unit);
         Ok(CoreReply::Done)
     }

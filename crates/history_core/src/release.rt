@@ -17,7 +17,7 @@ impl Parts {
         self.units.is_over(unit) && self.cells.is_held_by(unit, grain)
     }
 
-    // The unit gives the lock back, with the copy of what it wrote. Takes no memory.
+    // The unit gives the lock back, with the copy of what it wrote, and the grain leaves memory if it is idle. Takes no memory.
     pub(crate) fn release(&mut self, unit: UnitNo, grain: GrainId) -> CoreReply
         requires can { CanDo self.old (Release unit grain) }
         ensures ok { Does self.old (Release unit grain) result self.new }
@@ -26,6 +26,7 @@ impl Parts {
         let kept = self.handed.take(unit, grain);
         let new = if_finished(self.units.phase(unit), kept);
         self.cells.release(unit, grain, new);
+        self.cells.evict(grain, self.units.wants());
         CoreReply::Done
     }
 }

@@ -1,11 +1,9 @@
 // What the settler does next.
-ghost use Rattle.std.specs.Prelude.{◌≡◌, ◌&&◌, Some, IfOk, if◌then◌else◌};
-ghost use Rattle.core_model.specs.Events.{applies};
-ghost use Rattle.core_model.specs.declared.events.CoreEvent.TheVariants.{Take};
+ghost use Rattle.std.specs.Prelude.{◌≡◌, Some, IfOk};
 ghost use Rattle.core_model.specs.CoreState.{CoreState};
-ghost use Rattle.core_model.specs.Settler.{Takes, Rests, later_step, last_step, settler_step, has_step};
+ghost use Rattle.core_model.specs.Settler.{has_step, last_step, later_step, settler_step, take_step};
 ghost use Rattle.history_core.specs.KeptParts.{PartsStand, IsCoreReached, StandsForReached};
-ghost use Rattle.history_core.specs.Questions.{ShowsStep};
+ghost use Rattle.history_core.specs.Questions.{rest_step, ShowsStep};
 
 use crate::parts::Parts;
 use core_model::SettlerWork;
@@ -29,7 +27,7 @@ impl Parts {
         if self.learn.first().is_some() {
             return true;
         }
-        self.can_take()
+        !self.units.is_halted() && (self.next_wanted().is_some() || self.can_take())
     }
 
     // What the settler does next, with all that it needs for it. Each version is copied for its vote, each effect for its
@@ -71,8 +69,8 @@ impl Parts {
         }
     }
 
-    // Behind the open batch comes what is to learn, what is to write, and what is to take; after a doubt entries alone are
-    // written.
+    // Behind the open batch comes what is to learn, what is to write, what is wanted, and what is to take; after a doubt entries
+    // alone are written.
     fn later_work(&self) -> Result<SettlerWork, AllocError>
         ensures { IfOk result (ShowsStep self.now later_step) }
     {
@@ -85,12 +83,12 @@ impl Parts {
         }
     }
 
-    // What is to write comes before a batch that can be taken, where one may be.
-    fn last_work(&self, may_take: bool) -> Result<SettlerWork, AllocError>
-        ensures { IfOk result (ShowsStep self.now (λ w. last_step w may_take)) }
+    // What is to write comes before what is wanted and a batch that can be taken, where these may be.
+    fn last_work(&self, may: bool) -> Result<SettlerWork, AllocError>
+        ensures { IfOk result (ShowsStep self.now (λ w. last_step w may)) }
     {
         match self.entries.next() {
-            None => Ok(self.take_work(may_take)),
+            None => Ok(self.rest_work(may)),
             Some(entry) => {
                 let entry = entry.copy()?;
                 Ok(SettlerWork::Write { entry })
@@ -98,11 +96,27 @@ impl Parts {
         }
     }
 
-    // A batch that can be taken, where one may be.
-    fn take_work(&self, may_take: bool) -> SettlerWork
-        ensures { ShowsStep self.now (λ w. if may_take && applies w Take then Takes else Rests) result }
+    // What is wanted comes into memory before a batch is taken, where these may be and the run isn't to stop.
+    fn rest_work(&self, may: bool) -> SettlerWork
+        ensures { ShowsStep self.now (rest_step may) result }
     {
-        if may_take && self.can_take() {
+        if !may {
+            return SettlerWork::Nothing;
+        }
+        if self.units.is_halted() {
+            return SettlerWork::Nothing;
+        }
+        match self.next_wanted() {
+            Some(grain) => SettlerWork::Load { grain },
+            None => self.take_work(),
+        }
+    }
+
+    // A batch, where one can be taken.
+    fn take_work(&self) -> SettlerWork
+        ensures { ShowsStep self.now take_step result }
+    {
+        if self.can_take() {
             SettlerWork::Take
         } else {
             SettlerWork::Nothing

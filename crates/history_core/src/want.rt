@@ -27,9 +27,10 @@ impl Parts {
     fn may_want(&self, unit: UnitNo, grain: GrainId) -> bool
         ensures { (w : CoreState) → PartsStand self.now w → result ≡ can_want w unit grain }
     {
-        self.is_active(unit, grain)
-            && !self.cells.is_held_by(unit, grain)
-            && !self.wants(unit, grain)
+        if !self.is_active(unit, grain) {
+            return false;
+        }
+        !self.cells.is_held_by(unit, grain) && !self.wants(unit, grain)
     }
 
     // Whether the unit waits for the grain.

@@ -36,7 +36,7 @@ fn store(alloc: Global) -> Result<Store, AllocError> {
 
 /// Puts the cells through the steps.
 pub fn play(alloc: Global, out: &mut String, steps: &str) -> Result<(), AllocError> {
-    let mut table = CellTable::new(alloc, shape(alloc)?, store(alloc)?);
+    let mut table = CellTable::new(alloc, shape(alloc)?, store(alloc)?, None);
     carry(&mut table, alloc, out, steps)
 }
 
@@ -45,6 +45,9 @@ fn take(table: &mut CellTable, out: &mut String, step: &Step<'_>) -> Result<(), 
     let unit = step.unit(1);
     let grain = step.grain(2);
     let mode = step.mode(3);
+    if !table.is_here(grain) {
+        return out.push_str(" = not here");
+    }
     table.make_room(grain)?;
     let Ask::Free = table.ask(unit, grain, mode) else {
         return out.push_str(" = not free");

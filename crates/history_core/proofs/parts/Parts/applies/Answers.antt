@@ -1,4 +1,4 @@
-use Rattle.core_model.specs.declared.events.CoreEvent.TheVariants.{Bad, Begin, EndSnapshot, Vote}
+use Rattle.core_model.specs.declared.events.CoreEvent.TheVariants.{Bad, Begin, EndSnapshot, Load, Vote}
 use Rattle.history_core.proofs.Ways.{tells-that}
 use Rattle.history_core.proofs.parts.Parts.applies.Goals as goal
 
@@ -14,3 +14,6 @@ returns-in-EndSnapshot c =
 
 pub returns-in-Vote : goal.returns-in-Vote
 returns-in-Vote c = tells-that c.args.self.now c.args.event.now (Vote c.in-Vote.batch c.in-Vote.grain c.in-Vote.yes) c.can_vote.result c.in-Vote.is (c.can_vote.ensures c.in-Vote.yes)
+
+pub returns-in-Load : goal.returns-in-Load
+returns-in-Load c = tells-that c.args.self.now c.args.event.now (Load c.in-Load.grain c.in-Load.unit c.in-Load.state) c.can_load.result c.in-Load.is (c.can_load.ensures c.in-Load.unit c.in-Load.state)

@@ -1,5 +1,5 @@
 use Rattle.std.proofs.Common.{refl, sym}
-use Rattle.core_model.specs.declared.events.CoreEvent.TheVariants.{Bad, Begin, Grant, Refuse, Finish, EndPlain, EndSnapshot, Release, Take, Vote, Decide, Sealed, NotSealed, Doubt, Learn, Emitted, Halt, Want}
+use Rattle.core_model.specs.declared.events.CoreEvent.TheVariants.{Bad, Begin, Grant, Refuse, Finish, EndPlain, EndSnapshot, Release, Take, Vote, Decide, Sealed, NotSealed, Doubt, Learn, Emitted, Halt, Want, Load}
 use Rattle.history_core.specs.declared.parts.Parts.{Parts}
 use Rattle.history_core.proofs.Ways.{can-that, does-that, does-back, refused-back, does-own, refused-own}
 use Rattle.history_core.proofs.parts.Parts.apply.Goals as goal
@@ -132,3 +132,12 @@ returns-in-Want-clause-ok c = does-back c.args.self.now c.want-done.new.self c.a
 
 pub returns-in-Want-clause-err : goal.returns-in-Want-clause-err
 returns-in-Want-clause-err c = refused-back c.args.self.now c.want-done.new.self c.args.event (Want c.in-Want.unit c.in-Want.grain) c.want-done.result c.back-in-Want.result c.in-Want.is c.back-in-Want.ensures refl c.want-done.ensures.err
+
+pub load-done-requires : goal.load-done-requires
+load-done-requires c = record { can = can-that c.args.self.now c.args.event (Load c.in-Load.grain c.in-Load.unit c.in-Load.state) c.in-Load.is c.requires.can }
+
+pub returns-in-Load-clause-ok : goal.returns-in-Load-clause-ok
+returns-in-Load-clause-ok c = does-back c.args.self.now c.load-done.new.self c.args.event (Load c.in-Load.grain c.in-Load.unit c.in-Load.state) c.load-done.result c.back-in-Load.result c.in-Load.is c.back-in-Load.ensures c.load-done.ensures.ok
+
+pub returns-in-Load-clause-err : goal.returns-in-Load-clause-err
+returns-in-Load-clause-err c = refused-back c.args.self.now c.load-done.new.self c.args.event (Load c.in-Load.grain c.in-Load.unit c.in-Load.state) c.load-done.result c.back-in-Load.result c.in-Load.is c.back-in-Load.ensures refl c.load-done.ensures.err

@@ -12,4 +12,4 @@ returns-then-is_going c = λ w s r.
     let t = is_some (refusal c.args.grain (ask_in p c.args.unit c.args.grain c.args.mode)) in
     c.is_some.ensures ∙ ap is_some (c.cause_of.ensures ∙ ap (refusal c.args.grain) c.ask.ensures) ∙ ap (λ b. b && t) (sym c.if-is_going.true)
     ∙ tells-going p (Refuse c.args.unit c.args.grain c.args.mode) c.is_going.result t refl refl c.is_going.ensures
-    (λ v k q. ap (λ a. is_some (refusal c.args.grain a)) (ask-is p v c.args.unit c.args.grain c.args.mode k)) w s r
+    (λ v k q. ap (λ a. is_some (refusal c.args.grain a)) (ask-is p v c.args.unit c.args.grain c.args.mode k q)) w s r

@@ -10,7 +10,7 @@ use Rattle.open_batch.specs.declared.members.FinishedUnit.{FinishedUnit}
 use Rattle.history_core.specs.declared.parts.Parts.{Parts}
 use Rattle.history_core.specs.Steps.{KeepsMeaning}
 use Rattle.history_core.proofs.SameMeaning.{keeps-does}
-use Rattle.history_core.proofs.Finishes.{does-finish, finish-runs, keeps-prepared}
+use Rattle.history_core.proofs.Finishes.{changes-finish, does-finish, finish-runs, keeps-prepared}
 use Rattle.history_core.proofs.parts.Parts.finish.Goals as goal
 
 pub returns-in-Err-clause-err : goal.returns-in-Err-clause-err
@@ -30,8 +30,10 @@ returns-in-Ok-clause-ok c =
     let mid : Parts = c.prepare_finish.new.self in
     let keeps : KeepsMeaning old mid = keeps-prepared old mid c.args.unit (finish-runs old c.args.unit c.args.effect c.requires.can) e.units e.cells e.waiting e.batches e.batch e.doubt e.entries e.learn e.last e.others in
     let m : FinishedUnit = record { effect = c.args.effect; deps = c.finish-deps.result } in
-    let new : Parts = record mid { units = c.finish-deps.new.self; waiting = c.push_reserved.new.self } in
-    keeps-does old mid keeps (Finish c.args.unit c.args.effect) reply.Done new
-    (does-finish mid c.args.unit c.args.effect c.finish-deps.new.self c.push_reserved.new.self m (handed_in old.handed)
+    let new : Parts = record mid { units = c.finish-deps.new.self; waiting = c.push_reserved.new.self; cells = c.evict_wanted.new.self } in
+    let changes = changes-finish mid c.args.unit c.args.effect c.finish-deps.new.self c.push_reserved.new.self m (handed_in old.handed)
     c.finish-deps.ensures.units c.finish-deps.ensures.verdict (c.finish-deps.ensures.result ∙ ap (put (result_in mid.units) c.args.unit) c.in-Ok.ensures.copied)
-    refl c.finish-deps.ensures.deps c.push_reserved.ensures.items c.in-Ok.ensures.handed)
+    refl c.finish-deps.ensures.deps c.push_reserved.ensures.items c.in-Ok.ensures.handed in
+    keeps-does old mid keeps (Finish c.args.unit c.args.effect) reply.Done new
+    (does-finish mid c.args.unit c.args.effect c.finish-deps.new.self c.push_reserved.new.self c.evict_wanted.new.self c.wants.result.now changes c.finish-deps.ensures.units c.wants.ensures
+    c.evict_wanted.ensures.evicts c.evict_wanted.ensures.recent c.evict_wanted.ensures.opens)

@@ -6,7 +6,7 @@ use Rattle.history_core.proofs.parts.Parts.step.Goals as goal
 
 pub returns-then-not-applies-clause-ok : goal.returns-then-not-applies-clause-ok
 returns-then-not-applies-clause-ok c =
-    takes-not c.args.self.now c.args.event c.applies.result c.let_go.result c.applies.ensures c.if-not-applies.true (λ w s r a. c.let_go.ensures w s a)
+    takes-not c.args.self.now c.args.event c.applies.result c.let_go.result c.applies.ensures c.if-not-applies.true (λ w s r a. c.let_go.ensures w s r a)
 
 pub apply-requires : goal.apply-requires
 apply-requires c =

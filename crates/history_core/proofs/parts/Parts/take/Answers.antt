@@ -1,4 +1,4 @@
-use Rattle.std.proofs.Common.{◌≡◌, ◌∙◌, ◌≤◌, sym, ap, subst, List, length, take, Vec, Global}
+use Rattle.std.proofs.Common.{◌≡◌, ◌∙◌, ◌≤◌, sym, ap, refl, subst, List, Some, length, take, Vec, Global}
 use Rattle.core_model.specs.Tests.{is_bad}
 use Rattle.core_parts.specs.States.{has_place}
 use Rattle.unit_table.specs.Table.{verdict_in}
@@ -7,6 +7,8 @@ use Rattle.open_batch.specs.TakenBatch.{first_batch}
 use Rattle.history_core.specs.KeptParts.{writes_in, AllPlaced}
 use Rattle.history_core.proofs.Takes.{takes-at, none-open}
 use Rattle.history_core.proofs.parts.Parts.take.Goals as goal
+use Rattle.history_core.proofs.Sweeps.{unmoved}
+use Rattle.core_model.specs.declared.events.CoreEvent.TheVariants.{Take}
 
 pub returns-clause-ok : goal.returns-clause-ok
 returns-clause-ok c =
@@ -20,4 +22,4 @@ returns-clause-ok c =
     let made : c.in_ok-batch.batch ≡ first_batch number (λ u. is_bad (verdict_in mid.units u)) (take size mid.waiting.items) = c.in_ok-batch.ensures ∙ ap (λ (xs : List FinishedUnit). first_batch number (λ u. is_bad (verdict_in mid.units u)) (take size xs)) fronts in
     let learn : writes_in (take size mid.waiting.items) ≤ mid.learn.spare = subst (λ (v : Vec FinishedUnit Global). writes_in (take size v.items) ≤ mid.learn.spare) (sym w) c.in_ok-prepare_take.ensures.learn in
     let places : AllPlaced (has_place mid.last) (take size mid.waiting.items) = subst (λ (v : Vec FinishedUnit Global). AllPlaced (has_place mid.last) (take size v.items)) (sym w) c.in_ok-prepare_take.ensures.places in
-    λ x s r a. takes-at mid size number c.in_ok-batch.batch x (c.prepare_take.ensures.keeps (none-open old c.requires.can) x s) (c.batch_size-size.ensures.size x s) within c.in-Some.ensures.1 made c.in_ok-prepare_take.ensures.entries learn places
+    λ x s r a. (let t = takes-at mid size number c.in_ok-batch.batch x (c.prepare_take.ensures.keeps (none-open old c.requires.can) x s) (c.batch_size-size.ensures.size x s) within c.in-Some.ensures.1 made c.in_ok-prepare_take.ensures.entries learn places in (unmoved (record mid { batches = number; batch = Some c.in_ok-batch.batch }) x Take r a refl t.0, t.1))

@@ -1,0 +1,4 @@
+pub mod Evictions
+pub mod TouchedGrains
+pub mod EveryEvent
+pub mod ChangedCells

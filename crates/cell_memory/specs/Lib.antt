@@ -1,0 +1,3 @@
+pub mod KeptCells
+pub mod LeavingGrains
+pub mod ChangedCells
