@@ -44,7 +44,7 @@ records_push voted (d ∷ es) (s ∷ rs) e r are one = (are.0, records_push vote
 
 -- ---- what is found was kept
 
-unit_is : (a b : UnitNo) → same_unit a b ≡ true → a ≡ b
+pub unit_is : (a b : UnitNo) → same_unit a b ≡ true → a ≡ b
 unit_is a b same = let number : a.0 ≡ b.0 = eqb-true a.0 b.0 same in λ i. record { 0 = number i }
 
 -- a version that the votes kept, at this place

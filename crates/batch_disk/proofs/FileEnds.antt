@@ -3,6 +3,7 @@ use Rattle.std.proofs.Common.{◌≡◌, ◌≢◌, inl, inr, ℕ, ◌<◌, ◌�
 use Rattle.std.specs.Prelude.{unwrap_or}
 use Rattle.std.specs.List.{AllByRecursion}
 use Rattle.std.proofs.lemmas.Bool.{cases_Bool, false≢true}
+use Rattle.base_types.specs.Places.{has_seat, KeepsSeats}
 use Rattle.base_types.specs.Stores.{end_in, later_end, RaisesEnd, KeepsRoom}
 use Rattle.base_types.specs.declared.calls.GrainId.{GrainId}
 use Rattle.base_types.specs.declared.stores.Ends.{Ends}
@@ -11,7 +12,7 @@ use Rattle.host_trait.proofs.Names.{same_grain-is, same_grain-refl}
 use Rattle.commit_log.specs.declared.records.Written.{Written}
 use Rattle.commit_log.specs.declared.records.CommitRecord.{CommitRecord}
 use Rattle.batch_disk.specs.ImagesAtRest.{write_end, raised_end}
-use Rattle.batch_disk.specs.Writers.{file_end, voted_by, kept_of, CanCount, IsInBounds}
+use Rattle.batch_disk.specs.Writers.{file_end, voted_by, kept_of, CanCount, HasSeat, IsInBounds}
 use Rattle.batch_disk.specs.declared.writer.BatchWriter.{BatchWriter}
 use Rattle.batch_disk.proofs.Lists.{each_leads, each_at}
 use Rattle.batch_disk.proofs.Ends.{raised_one-small}
@@ -40,12 +41,17 @@ pub kept_can_count : (a b : BatchWriter) → b.kept ≡ a.kept → KeepsRoom a.e
 kept_can_count a b same room can =
     subst (AllByRecursion (CanCount b)) (sym (ap (λ k. map voted_by k.items) same)) (each_leads (CanCount a) (CanCount b) (λ v one. (room v.write.grain one.0, one.1)) (kept_of a) can)
 
-pub raised_bounds : (a b : BatchWriter) (w : Written) → b.slot ≡ a.slot → b.gate_at ≡ a.gate_at → b.kept ≡ a.kept → KeepsRoom a.ends b.ends → ((g : GrainId) → file_end b g ≡ raised_end (file_end a) w g) → write_end w < 2 ^ 63 → IsInBounds a → IsInBounds b
-raised_bounds a b w slot gate kept room ends fits bounds = record {
+pub kept_has_seats : (a b : BatchWriter) → b.kept ≡ a.kept → KeepsSeats a.places b.places → AllByRecursion (HasSeat a) (kept_of a) → AllByRecursion (HasSeat b) (kept_of b)
+kept_has_seats a b same seats can =
+    subst (AllByRecursion (HasSeat b)) (sym (ap (λ k. map voted_by k.items) same)) (each_leads (HasSeat a) (HasSeat b) (λ v one. seats v.write.grain one) (kept_of a) can)
+
+pub raised_bounds : (a b : BatchWriter) (w : Written) → b.slot ≡ a.slot → b.gate_at ≡ a.gate_at → b.kept ≡ a.kept → KeepsRoom a.ends b.ends → KeepsSeats a.places b.places → ((g : GrainId) → file_end b g ≡ raised_end (file_end a) w g) → write_end w < 2 ^ 63 → IsInBounds a → IsInBounds b
+raised_bounds a b w slot gate kept room seats ends fits bounds = record {
   slot = subst (λ (n : ℕ). n ≤ 1) (sym slot) bounds.slot;
   gate = subst (λ (n : ℕ). n < 2 ^ 63) (sym gate) bounds.gate;
   ends = λ g. subst (λ (n : ℕ). n < 2 ^ 63) (sym (ends g)) (raised_one-small (file_end a) w fits bounds.ends g);
   kept = kept_can_count a b kept room bounds.kept;
+  seats = kept_has_seats a b kept seats bounds.seats;
 }
 
 -- what can count can count still
@@ -55,3 +61,12 @@ writes_can_still a b ws room can = each_leads (WriteCanCount a) (WriteCanCount b
 -- those of one record
 pub record_can : (a : BatchWriter) (rs : List CommitRecord) (i : ℕ) (r : CommitRecord) → AllByRecursion (λ r. AllByRecursion (WriteCanCount a) r.writes) rs → i < length rs → r ≡ get_or rs i r → AllByRecursion (WriteCanCount a) r.writes
 record_can a rs i r can low is = subst (λ (q : CommitRecord). AllByRecursion (WriteCanCount a) q.writes) (sym is) (each_at (λ (q : CommitRecord). AllByRecursion (WriteCanCount a) q.writes) rs i r can low)
+
+-- what has a seat has it still
+pub writes_seated_still : (a b : BatchWriter) (ws : List Written) → KeepsSeats a.places b.places → AllByRecursion (λ w. has_seat a.places w.grain ≡ true) ws → AllByRecursion (λ w. has_seat b.places w.grain ≡ true) ws
+writes_seated_still a b ws seats can = each_leads (λ (w : Written). has_seat a.places w.grain ≡ true) (λ (w : Written). has_seat b.places w.grain ≡ true) (λ w one. seats w.grain one) ws can
+
+pub record_seated : (a : BatchWriter) (rs : List CommitRecord) (i : ℕ) (r : CommitRecord) → AllByRecursion (λ r. AllByRecursion (λ w. has_seat a.places w.grain ≡ true) r.writes) rs → i < length rs → r ≡ get_or rs i r
+    → AllByRecursion (λ w. has_seat a.places w.grain ≡ true) r.writes
+record_seated a rs i r can low is =
+    subst (λ (q : CommitRecord). AllByRecursion (λ w. has_seat a.places w.grain ≡ true) q.writes) (sym is) (each_at (λ (q : CommitRecord). AllByRecursion (λ w. has_seat a.places w.grain ≡ true) q.writes) rs i r can low)

@@ -3,10 +3,12 @@ pub mod Ends
 pub mod ImagePlaces
 pub mod Votes
 pub mod BatchRecords
+pub mod MovedPlaces
 pub mod NextGate
 pub mod OpenGates
 pub mod ImagesSealed
 pub mod WriterState
+pub mod StandingPlaces
 pub mod VoteAnswers
 pub mod SealSteps
 pub mod FileEnds

@@ -2,6 +2,7 @@
 use Rattle.std.proofs.Common.{◌≡◌, ℕ, ◌+◌, ◌<◌, ◌≤◌, ◌^◌, true, false, List, [], ◌∷◌, ◌++◌, length, refl, sym, ◌∙◌, ap, subst, arith}
 use Rattle.std.specs.List.{flat_map, AllByRecursion}
 use Rattle.std.proofs.lemmas.Bool.{false≢true}
+use Rattle.base_types.specs.Places.{has_seat}
 use Rattle.base_types.specs.Stores.{has_room}
 use Rattle.base_types.specs.declared.calls.GrainId.{GrainId}
 use Rattle.base_types.specs.declared.shapes.Shape.{Shape}
@@ -29,7 +30,7 @@ use Rattle.promise_spec.specs.Entries.{Log, grown}
 use Rattle.promise_spec.specs.Blocks.{Records, body_of}
 use Rattle.batch_disk.specs.ImagesAtRest.{write_end, PlacesAreNamed, Voted, IsAtRest, raised_ends, all_writes}
 use Rattle.batch_disk.specs.Moments.{KeepsLog}
-use Rattle.batch_disk.specs.Writers.{file_end, kept_of, voted_of, CanCount, FitsSlot, KeepsDisk, HasSameEnds}
+use Rattle.batch_disk.specs.Writers.{file_end, kept_of, voted_of, CanCount, HasSeat, FitsSlot, KeepsDisk, HasSameEnds}
 use Rattle.batch_disk.specs.Records.{commits_by, AreRecordsFor, IsPlaceOfOne, MayBeLogged, IsAsWritten}
 use Rattle.batch_disk.specs.Seals.{StandsAfter, SealsAs}
 use Rattle.batch_disk.specs.declared.writer.BatchWriter.{BatchWriter}
@@ -57,6 +58,13 @@ pub records_can_count : (a : BatchWriter) (rs : List CommitRecord) → AllByRecu
 records_can_count a rs can are =
     each_leads (λ (r : CommitRecord). AllByRecursion (IsPlaceOfOne (kept_of a)) r.writes) (λ (r : CommitRecord). AllByRecursion (WriteCanCount a) r.writes)
     (λ r one. of_kept (WriteCanCount a) (kept_of a) can r.writes one) rs are
+
+-- and can be a last version without memory
+pub records_seated : (a : BatchWriter) (rs : List CommitRecord) → AllByRecursion (HasSeat a) (kept_of a) → AllByRecursion (λ r. AllByRecursion (IsPlaceOfOne (kept_of a)) r.writes) rs
+    → AllByRecursion (λ r. AllByRecursion (λ w. has_seat a.places w.grain ≡ true) r.writes) rs
+records_seated a rs can are =
+    each_leads (λ (r : CommitRecord). AllByRecursion (IsPlaceOfOne (kept_of a)) r.writes) (λ (r : CommitRecord). AllByRecursion (λ w. has_seat a.places w.grain ≡ true) r.writes)
+    (λ r one. of_kept (λ (w : Written). has_seat a.places w.grain ≡ true) (kept_of a) can r.writes one) rs are
 
 -- ---- on the files as they read
 

@@ -1,5 +1,5 @@
 -- What a vote leaves, by its answer.
-use Rattle.std.proofs.Common.{◌≡◌, ℕ, ◌+◌, ◌<◌, ◌^◌, Bool, true, false, List, length, refl, ◌∙◌}
+use Rattle.std.proofs.Common.{◌≡◌, ℕ, ◌+◌, ◌<◌, ◌^◌, Bool, true, false, List, [], length, refl, sym, ◌∙◌, append-nil}
 use Rattle.std.specs.Prelude.{IsTrue}
 use Rattle.std.specs.List.{AllByRecursion}
 use Rattle.base_types.specs.declared.calls.GrainId.{GrainId}
@@ -14,10 +14,12 @@ use Rattle.host_trait.specs.Runs.{RunsOnFile}
 use Rattle.field_codec.specs.declared.formats.Format.TheVariants.{One}
 use Rattle.field_codec.specs.Spelling.{VersionFits}
 use Rattle.grain_log.specs.Places.{spelling_of_versions, WroteVersions}
+use Rattle.batch_disk.specs.ImagesAtRest.{voted_from}
 use Rattle.batch_disk.specs.Writers.{file_end, kept_of, voted_of, HasSameEnds}
 use Rattle.batch_disk.specs.VoteAnswers.{KeepsImages, VotesOn, LacksRoom}
 use Rattle.batch_disk.specs.declared.writer.BatchWriter.{BatchWriter}
 use Rattle.batch_disk.proofs.WriterState.{IsReadyFor, KeepsMore, voted_is, keeps_no, keeps_yes, vote_keeps_log}
+use Rattle.batch_disk.proofs.StandingPlaces.{places_with, voted_stands}
 
 module _ {H : Type 0} (tells : Bool) (world : H → World) (faults : H → Channel → ℕ) (n : ℕ) (g : GrainId) (versions : List Version) (a b : BatchWriter) (old new : H)
     (run : IsTrue tells → RunsOnFile (Grain a.slot g) (Tears (file_end a g) (length (spelling_of_versions versions))) 1 (world old) (world new)) where
@@ -26,6 +28,8 @@ module _ {H : Type 0} (tells : Bool) (world : H → World) (faults : H → Chann
   images_no same kept told = record {
     still = λ shape head log bodies fresh keeps. vote_keeps_log a.slot shape head log bodies a n g (length (spelling_of_versions versions)) (world old) (world new) fresh keeps (run told);
     keeps = λ shape head log bodies fresh typed keeps. keeps_no a.slot shape head log bodies a n g (length (spelling_of_versions versions)) (world old) (world new) fresh keeps (run told) b same kept;
+    placed = λ shape fresh typed stand.
+        places_with a.slot shape g (file_end a g) (length (spelling_of_versions versions)) 1 (world old) (world new) (run told) a b n [] refl same (kept ∙ sym (append-nil (voted_of n a))) fresh tt stand;
   }
 
   -- a vote of no
@@ -65,5 +69,8 @@ module _ {H : Type 0} (tells : Bool) (world : H → World) (faults : H → Chann
     images = λ told. record {
       still = λ shape head log bodies fresh keeps. vote_keeps_log a.slot shape head log bodies a n g (length (spelling_of_versions versions)) (world old) (world new) fresh keeps (run told);
       keeps = λ shape head log bodies fresh typed keeps. keeps_yes a.slot shape head log bodies a n g versions (world old) (world new) fresh keeps (run told) b more.same more.kept (there told).stand typed fits low;
+      placed = λ shape fresh typed stand.
+          places_with a.slot shape g (file_end a g) (length (spelling_of_versions versions)) 1 (world old) (world new) (run told) a b n (voted_from g (file_end a g) versions) refl more.same more.kept fresh
+          (voted_stands a.slot shape g (file_end a g) versions (world old) (world new) (there told) typed fits low) stand;
     };
   }

@@ -36,7 +36,7 @@ grain_in other (Grain slot grain) = grain
 pub not_manager : (live : ℕ) (grain : GrainId) → Manager live ≢ Grain live grain
 not_manager live grain e = absurd cc
 
-same_in : (live : ℕ) (g h : GrainId) → Grain live g ≡ Grain live h → g ≡ h
+pub same_in : (live : ℕ) (g h : GrainId) → Grain live g ≡ Grain live h → g ≡ h
 same_in live g h e = ap (grain_in g) e
 
 module _ (live : ℕ) (shape : Shape) (ends : GrainId → ℕ) (grain : GrainId) (size : ℕ) (was image : Image)
@@ -84,7 +84,7 @@ module _ (live : ℕ) (shape : Shape) (ends : GrainId → ℕ) (grain : GrainId)
 
 -- ---- the versions, once they were written
 
-stand_named : (live : ℕ) (shape : Shape) (image : Image) (grain : GrainId) (at : ℕ) (vs : List Version) → places.VersionsStand (image (Grain live grain)) at vs → AreOfType shape grain vs → AllByRecursion (VersionFits One) vs
+pub stand_named : (live : ℕ) (shape : Shape) (image : Image) (grain : GrainId) (at : ℕ) (vs : List Version) → places.VersionsStand (image (Grain live grain)) at vs → AreOfType shape grain vs → AllByRecursion (VersionFits One) vs
     → at + length (spelling_of_versions vs) < 2 ^ 63 → AllByRecursion (StandsIn live shape image) (voted_from grain at vs)
 stand_named live shape image grain at [] stand typed fits low = tt
 stand_named live shape image grain at (v ∷ vs) stand typed fits low =

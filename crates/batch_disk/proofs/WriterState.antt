@@ -4,6 +4,7 @@ use Rattle.std.specs.Prelude.{unwrap_or}
 use Rattle.std.specs.List.{AllByRecursion}
 use Rattle.std.proofs.lemmas.Bool.{eq-eqb}
 use Rattle.std.proofs.lemmas.List.{length-take}
+use Rattle.base_types.specs.Places.{placed_in, has_seat, KeepsSeats}
 use Rattle.base_types.specs.Stores.{end_in, has_room, KeepsRoom}
 use Rattle.base_types.specs.declared.calls.GrainId.{GrainId}
 use Rattle.base_types.specs.declared.shapes.Shape.{Shape}
@@ -27,7 +28,7 @@ use Rattle.promise_spec.specs.Logs.{IsLog}
 use Rattle.cell_model.specs.Units.{Member}
 use Rattle.batch_disk.specs.ImagesAtRest.{EachImage, write_end, PlacesAreNamed, Voted, StandsIn, NotAmong, IsAtRest, AreOfType, voted_at, voted_from}
 use Rattle.batch_disk.specs.Moments.{KeepsLog}
-use Rattle.batch_disk.specs.Writers.{file_end, kept_of, voted_of, CanCount, IsInBounds, FitsSlot, FitsDisk, KeepsDisk, HasSameEnds}
+use Rattle.batch_disk.specs.Writers.{file_end, kept_of, voted_of, CanCount, HasSeat, IsInBounds, FitsSlot, FitsDisk, KeepsDisk, HasSameEnds}
 use Rattle.batch_disk.specs.declared.writer.BatchWriter.{BatchWriter}
 use Rattle.batch_disk.proofs.Lists.{each_leads, both_parts}
 use Rattle.batch_disk.proofs.Ends.{stands_within}
@@ -57,7 +58,7 @@ ends_same a b same = λ i g. sym (same.ends g) i
 
 -- no other end, twice
 pub same_twice : (a b c : BatchWriter) → HasSameEnds a b → HasSameEnds b c → HasSameEnds a c
-same_twice a b c one two = record { slot = two.slot ∙ one.slot; gate = two.gate ∙ one.gate; ends = λ g. two.ends g ∙ one.ends g; doubt = two.doubt ∙ one.doubt }
+same_twice a b c one two = record { slot = two.slot ∙ one.slot; gate = two.gate ∙ one.gate; ends = λ g. two.ends g ∙ one.ends g; places = λ g. two.places g ∙ one.places g; doubt = two.doubt ∙ one.doubt }
 
 -- ---- in bounds
 
@@ -65,16 +66,22 @@ same_twice a b c one two = record { slot = two.slot ∙ one.slot; gate = two.gat
 can_still : (a b : BatchWriter) (vs : List Voted) → KeepsRoom a.ends b.ends → AllByRecursion (CanCount a) vs → AllByRecursion (CanCount b) vs
 can_still a b vs room can = each_leads (CanCount a) (CanCount b) (λ v one. (room v.write.grain one.0, one.1)) vs can
 
-pub bounds_with : (a b : BatchWriter) (vs : List Voted) → HasSameEnds a b → kept_of b ≡ vs → AllByRecursion (CanCount b) vs → IsInBounds a → IsInBounds b
-bounds_with a b vs same kept can bounds = record {
+-- and so can what can be a last version
+can_still_be : (a b : BatchWriter) (vs : List Voted) → KeepsSeats a.places b.places → AllByRecursion (HasSeat a) vs → AllByRecursion (HasSeat b) vs
+can_still_be a b vs seats can = each_leads (HasSeat a) (HasSeat b) (λ v one. seats v.write.grain one) vs can
+
+pub bounds_with : (a b : BatchWriter) (vs : List Voted) → HasSameEnds a b → kept_of b ≡ vs → AllByRecursion (CanCount b) vs → AllByRecursion (HasSeat b) vs → IsInBounds a → IsInBounds b
+bounds_with a b vs same kept can seated bounds = record {
   slot = subst (λ (n : ℕ). n ≤ 1) (sym same.slot) bounds.slot;
   gate = subst (λ (n : ℕ). n < 2 ^ 63) (sym same.gate) bounds.gate;
   ends = λ g. subst (λ (n : ℕ). n < 2 ^ 63) (sym (same.ends g)) (bounds.ends g);
   kept = subst (AllByRecursion (CanCount b)) (sym kept) can;
+  seats = subst (AllByRecursion (HasSeat b)) (sym kept) seated;
 }
 
-pub bounds_some : (a b : BatchWriter) (batch : ℕ) → HasSameEnds a b → kept_of b ≡ voted_of batch a → KeepsRoom a.ends b.ends → IsInBounds a → IsInBounds b
-bounds_some a b batch same kept room bounds = bounds_with a b (voted_of batch a) same kept (can_still a b (voted_of batch a) room (each_voted (CanCount a) a batch bounds.kept)) bounds
+pub bounds_some : (a b : BatchWriter) (batch : ℕ) → HasSameEnds a b → kept_of b ≡ voted_of batch a → KeepsRoom a.ends b.ends → KeepsSeats a.places b.places → IsInBounds a → IsInBounds b
+bounds_some a b batch same kept room seats bounds =
+    bounds_with a b (voted_of batch a) same kept (can_still a b (voted_of batch a) room (each_voted (CanCount a) a batch bounds.kept)) (can_still_be a b (voted_of batch a) seats (each_voted (HasSeat a) a batch bounds.seats)) bounds
 
 can_voted : (b : BatchWriter) (grain : GrainId) (at : ℕ) (vs : List Version) → has_room b.ends grain ≡ true → at + length (spelling_of_versions vs) < 2 ^ 63 → AllByRecursion (CanCount b) (voted_from grain at vs)
 can_voted b grain at [] there low = tt
@@ -83,11 +90,16 @@ can_voted b grain at (v ∷ vs) there low =
     let all : length (spelling_of_version v ++ spelling_of_versions vs) ≡ size + length (spelling_of_versions vs) = length-append (spelling_of_version v) (spelling_of_versions vs) in
     ((there, omega (arith, low, all)), can_voted b grain (at + size) vs there (omega (arith, low, all)))
 
-pub bounds_more : (a b : BatchWriter) (batch : ℕ) (grain : GrainId) (at : ℕ) (vs : List Version) → HasSameEnds a b → kept_of b ≡ voted_of batch a ++ voted_from grain at vs → KeepsRoom a.ends b.ends → has_room b.ends grain ≡ true
-    → at + length (spelling_of_versions vs) < 2 ^ 63 → IsInBounds a → IsInBounds b
-bounds_more a b batch grain at vs same kept room there low bounds =
+seated_voted : (b : BatchWriter) (grain : GrainId) (at : ℕ) (vs : List Version) → has_seat b.places grain ≡ true → AllByRecursion (HasSeat b) (voted_from grain at vs)
+seated_voted b grain at [] there = tt
+seated_voted b grain at (v ∷ vs) there = (there, seated_voted b grain (at + length (spelling_of_version v)) vs there)
+
+pub bounds_more : (a b : BatchWriter) (batch : ℕ) (grain : GrainId) (at : ℕ) (vs : List Version) → HasSameEnds a b → kept_of b ≡ voted_of batch a ++ voted_from grain at vs → KeepsRoom a.ends b.ends → KeepsSeats a.places b.places
+    → has_room b.ends grain ≡ true → has_seat b.places grain ≡ true → at + length (spelling_of_versions vs) < 2 ^ 63 → IsInBounds a → IsInBounds b
+bounds_more a b batch grain at vs same kept room seats there seat low bounds =
     bounds_with a b (voted_of batch a ++ voted_from grain at vs) same kept
-    (both_parts (CanCount b) (voted_of batch a) (voted_from grain at vs) (can_still a b (voted_of batch a) room (each_voted (CanCount a) a batch bounds.kept)) (can_voted b grain at vs there low)) bounds
+    (both_parts (CanCount b) (voted_of batch a) (voted_from grain at vs) (can_still a b (voted_of batch a) room (each_voted (CanCount a) a batch bounds.kept)) (can_voted b grain at vs there low))
+    (both_parts (HasSeat b) (voted_of batch a) (voted_from grain at vs) (can_still_be a b (voted_of batch a) seats (each_voted (HasSeat a) a batch bounds.seats)) (seated_voted b grain at vs seat)) bounds
 
 -- ---- on the files as they read
 
@@ -211,24 +223,28 @@ module _ (live : ℕ) (shape : Shape) (head : List ℕ) (log : Log) (bodies : Li
 pub voted_is : (w : BatchWriter) (batch : ℕ) → w.batch ≡ batch → voted_of batch w ≡ kept_of w
 voted_is w batch is = ap (λ (b : Bool). if b then kept_of w else []) (eq-eqb w.batch batch is)
 
--- It keeps what was kept of this batch, ends are as they were, and no grain has lost its room.
+-- It keeps what was kept of this batch, ends and places are as they were, and no grain has lost its room.
 pub record IsReadyFor (batch : ℕ) (a b : BatchWriter) : Type 0 where
   pub same : HasSameEnds a b
   pub kept : kept_of b ≡ voted_of batch a
   pub goes_to : b.batch ≡ batch
   pub room : KeepsRoom a.ends b.ends
+  pub seats : KeepsSeats a.places b.places
 
-pub ready_for : (batch : ℕ) (a m b : BatchWriter) → HasSameEnds a m → kept_of m ≡ voted_of batch a → m.batch ≡ batch → m.ends ≡ a.ends → HasSameEnds m b → kept_of b ≡ kept_of m → b.batch ≡ m.batch → KeepsRoom m.ends b.ends → IsReadyFor batch a b
-ready_for batch a m b one kept is ends two still stays room = record {
+pub ready_for : (batch : ℕ) (a m b : BatchWriter) → HasSameEnds a m → kept_of m ≡ voted_of batch a → m.batch ≡ batch → m.ends ≡ a.ends → m.places ≡ a.places → HasSameEnds m b → kept_of b ≡ kept_of m → b.batch ≡ m.batch → KeepsRoom m.ends b.ends
+    → KeepsSeats m.places b.places → IsReadyFor batch a b
+ready_for batch a m b one kept is ends places two still stays room seats = record {
   same = same_twice a m b one two;
   kept = still ∙ kept;
   goes_to = stays ∙ is;
   room = subst (λ e. KeepsRoom e b.ends) ends room;
+  seats = subst (λ p. KeepsSeats p b.places) places seats;
 }
 
--- ends that are the same value
-pub same_by : (a b : BatchWriter) → b.slot ≡ a.slot → b.gate_at ≡ a.gate_at → b.in_doubt ≡ a.in_doubt → b.ends ≡ a.ends → HasSameEnds a b
-same_by a b slot gate doubt ends = record { slot = slot; gate = gate; ends = λ g. ap (λ e. unwrap_or (end_in e g) 0) ends; doubt = doubt }
+-- ends and places that are the same value
+pub same_by : (a b : BatchWriter) → b.slot ≡ a.slot → b.gate_at ≡ a.gate_at → b.in_doubt ≡ a.in_doubt → b.ends ≡ a.ends → b.places ≡ a.places → HasSameEnds a b
+same_by a b slot gate doubt ends places =
+    record { slot = slot; gate = gate; ends = λ g. ap (λ e. unwrap_or (end_in e g) 0) ends; places = λ g. ap (λ p. placed_in p g) places; doubt = doubt }
 
 -- it keeps versions more
 pub record KeepsMore (batch : ℕ) (grain : GrainId) (at : ℕ) (vs : List Version) (a b : BatchWriter) : Type 0 where
@@ -236,14 +252,16 @@ pub record KeepsMore (batch : ℕ) (grain : GrainId) (at : ℕ) (vs : List Versi
   pub kept : kept_of b ≡ voted_of batch a ++ voted_from grain at vs
   pub goes_to : b.batch ≡ batch
   pub room : KeepsRoom a.ends b.ends
+  pub seats : KeepsSeats a.places b.places
 
 pub keeps_more : (batch : ℕ) (grain : GrainId) (at : ℕ) (vs : List Version) (ps : List Place) (a m b : BatchWriter) → IsReadyFor batch a m → ps ≡ places_from at vs → kept_of b ≡ kept_of m ++ voted_at grain ps vs
-    → b.slot ≡ m.slot → b.gate_at ≡ m.gate_at → b.in_doubt ≡ m.in_doubt → b.batch ≡ m.batch → b.ends ≡ m.ends → KeepsMore batch grain at vs a b
-keeps_more batch grain at vs ps a m b ready places kept slot gate doubt stays ends = record {
-  same = same_twice a m b ready.same (same_by m b slot gate doubt ends);
+    → b.slot ≡ m.slot → b.gate_at ≡ m.gate_at → b.in_doubt ≡ m.in_doubt → b.batch ≡ m.batch → b.ends ≡ m.ends → b.places ≡ m.places → KeepsMore batch grain at vs a b
+keeps_more batch grain at vs ps a m b ready places kept slot gate doubt stays ends placed = record {
+  same = same_twice a m b ready.same (same_by m b slot gate doubt ends placed);
   kept = kept ∙ (λ i. ready.kept i ++ voted_at grain (places i) vs);
   goes_to = stays ∙ ready.goes_to;
   room = subst (λ e. KeepsRoom a.ends e) (sym ends) ready.room;
+  seats = subst (λ p. KeepsSeats a.places p) (sym placed) ready.seats;
 }
 
 -- as many places as versions

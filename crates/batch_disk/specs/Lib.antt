@@ -1,6 +1,9 @@
 pub mod ImagesAtRest
 pub mod Moments
 pub mod Writers
+pub mod KeptPlaces
 pub mod VoteAnswers
 pub mod Records
+pub mod MovedPlaces
 pub mod Seals
+pub mod LastVersions

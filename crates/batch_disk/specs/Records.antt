@@ -66,13 +66,18 @@ pub record IsPlaceOfOne (kept : List Voted) (w : Written) : Type 0 where
   pub member : Member version kept
   pub place : version.write ≡ w
 
--- The block is that of the records, within the format's limits, and all that they name is kept: it can be sealed, and count,
--- without memory.
+-- the place that a unit's record names is that of the unit's version of the grain
+abbrev pub IsOwnPlace : List Voted → UnitNo → Written → Type 0
+IsOwnPlace kept unit w = place_among unit w.grain kept ≡ Some w.place
+
+-- The block is that of the records, within the format's limits, and all that they name is kept, each record's as its own unit's: it
+-- can be sealed, and count, without memory.
 pub record IsSealable (writer : BatchWriter) (work : SealWork) : Type 0 where
   pub fits : RecordsFit One work.records
   pub small : length (spelling_of_body work.records) < 2 ^ 32
   pub block : work.block ≡ spelling_of_block work.records
   pub kept : AllByRecursion (λ r. AllByRecursion (IsPlaceOfOne (kept_of writer)) r.writes) work.records
+  pub own : AllByRecursion (λ r. AllByRecursion (IsOwnPlace (kept_of writer) r.unit) r.writes) work.records
 
 -- ---- what is asked of the units to commit
 

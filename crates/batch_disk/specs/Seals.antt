@@ -1,5 +1,6 @@
 -- What stands after a batch was to be sealed, by the answer.
 use Rattle.std.specs.Prelude.{◌≡◌, ◌⊎◌, ◌+◌, ◌==◌, nat_lt, ℕ, Bool, IsTrue, true, false, ◌&&◌, ◌||◌, not, List, [], ◌∷◌, ◌++◌, length, slice_index}
+use Rattle.base_types.specs.Places.{placed_in}
 use Rattle.base_types.specs.declared.calls.GrainId.{GrainId}
 use Rattle.base_types.specs.declared.shapes.Shape.{Shape}
 use Rattle.host_trait.specs.declared.channels.Channel.{Channel}
@@ -19,7 +20,9 @@ use Rattle.promise_spec.specs.Logs.{StandsUpTo, IsLog}
 use Rattle.promise_spec.specs.Exits.{HasBlock, DifferAt}
 use Rattle.std.specs.List.{flat_map, AllByRecursion}
 use Rattle.batch_disk.specs.ImagesAtRest.{EachImage, SomeImage, raised_ends}
+use Rattle.batch_disk.specs.KeptPlaces.{PlacesStand}
 use Rattle.batch_disk.specs.Moments.{LeavesRest, KeepsLog, IsSeam}
+use Rattle.batch_disk.specs.MovedPlaces.{place_after}
 use Rattle.batch_disk.specs.Writers.{file_end, kept_of, voted_of, HasSameEnds, KeepsDisk}
 use Rattle.batch_disk.specs.Records.{commits_by, AreRecordsFor, MayBeLogged, IsAsWritten}
 use Rattle.batch_disk.specs.declared.records.SealWork.{SealWork}
@@ -77,7 +80,8 @@ WriterAfter InDoubt records old new = new ≡ record old { in_doubt = true }
 
 -- What sealing this work does, by the answer: two writes and two syncs at most, of the manager file from the gate on, and no other file
 -- and no output changes. At each moment each image has the log that it had, or it with the records of these units, all of them whole.
--- Not sealed and in doubt are faults of the manager file, and of nothing else.
+-- Not sealed and in doubt are faults of the manager file, and of nothing else. Sealed, the last version of each grain that the units
+-- wrote is the last of theirs, and no other moves. What stands at the places that are kept stands there after it too.
 pub record SealsWork {H : Type 0} (tells : Bool) (world : H → World) (faults : H → Channel → ℕ) (live : ℕ) (work : SealWork) (answer : Sealing) (before after : BatchWriter) (old new : H) : Type 0 where
   pub run : IsTrue tells → RunsOnFile (Manager live) (Tears before.gate_at (length work.block + 1)) 2 (world old) (world new)
   pub twice : IsTrue tells → (next : ℕ) → answer ≡ Sealed next → (world new).syncs ≡ (world old).syncs + 2
@@ -86,6 +90,9 @@ pub record SealsWork {H : Type 0} (tells : Bool) (world : H → World) (faults :
       → AllByRecursion (MayBeLogged shape) effects → AllByRecursion (IsAsWritten (voted_of batch before)) effects
       → KeepsDisk live shape head log bodies before (world old).disk
       → SealsAs live shape head log bodies effects work.records answer before after (world old) (world new)
+  pub placed : IsTrue tells → (shape : Shape) → PlacesStand live shape before (world old).disk → PlacesStand live shape after (world new).disk
+  pub places : (batch : ℕ) (effects : List Effect) → AreRecordsFor (voted_of batch before) effects work.records → AllByRecursion (IsAsWritten (voted_of batch before)) effects
+      → (g : GrainId) → placed_in after.places g ≡ place_after answer (commits_by effects work.records) g (placed_in before.places g)
   pub slot : after.slot ≡ before.slot
   pub after_is : WriterAfter answer work.records before after
   pub cause : SealHasCause live answer before.gate_at (length work.block) (faults old) (faults new)

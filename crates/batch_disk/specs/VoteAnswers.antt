@@ -14,6 +14,7 @@ use Rattle.host_trait.specs.Runs.{RunsOnFile}
 use Rattle.grain_log.specs.Places.{spelling_of_versions, WroteVersions}
 use Rattle.promise_spec.specs.Entries.{Log}
 use Rattle.batch_disk.specs.ImagesAtRest.{NotAmong, AreOfType, voted_from}
+use Rattle.batch_disk.specs.KeptPlaces.{PlacesStand}
 use Rattle.batch_disk.specs.Moments.{KeepsLog}
 use Rattle.batch_disk.specs.Writers.{file_end, voted_of, KeepsDisk, HasSameEnds}
 use Rattle.batch_disk.specs.declared.writer.BatchWriter.{BatchWriter}
@@ -28,12 +29,14 @@ abbrev pub KeepsVotes : Bool → ℕ → GrainId → List Version → BatchWrite
 KeepsVotes true n g versions before after = voted_of n after ≡ voted_of n before ++ voted_from g (file_end before g) versions
 KeepsVotes false n g versions before after = voted_of n after ≡ voted_of n before
 
--- What the images keep while a grain's versions are written, and after it: the log that they had, and the places.
+-- What the images keep while a grain's versions are written, and after it: the log that they had, and the places. What stands at the
+-- places that are kept stands there after it too, with these versions where they are kept.
 pub record KeepsImages (live n : ℕ) (g : GrainId) (versions : List Version) (before after : BatchWriter) (old new : World) : Type 0 where
   pub still : (shape : Shape) (head : List ℕ) (log : Log) (bodies : List (List ℕ)) → NotAmong g (voted_of n before)
       → KeepsDisk live shape head log bodies before old.disk → Passes (KeepsLog live head log old) old.past new.past
   pub keeps : (shape : Shape) (head : List ℕ) (log : Log) (bodies : List (List ℕ)) → NotAmong g (voted_of n before)
       → AreOfType shape g versions → KeepsDisk live shape head log bodies before old.disk → KeepsDisk live shape head log bodies after new.disk
+  pub placed : (shape : Shape) → NotAmong g (voted_of n before) → AreOfType shape g versions → PlacesStand live shape before old.disk → PlacesStand live shape after new.disk
 
 module _ {H : Type 0} (tells : Bool) (world : H → World) (faults : H → Channel → ℕ) where
   -- A grain's versions were to be written at its file's end, by one write and one sync, and the vote is what that answered. No other

@@ -1,6 +1,7 @@
 -- What a writer of batches stands for.
 use Rattle.std.specs.Prelude.{◌≡◌, ℕ, ◌==◌, ◌<◌, ◌≤◌, ◌^◌, if◌then◌else◌, Bool, true, false, IsTrue, List, [], length, map, unwrap_or}
 use Rattle.std.specs.List.{AllByRecursion}
+use Rattle.base_types.specs.Places.{placed_in, has_seat}
 use Rattle.base_types.specs.Stores.{end_in, has_room}
 use Rattle.base_types.specs.declared.calls.GrainId.{GrainId}
 use Rattle.base_types.specs.declared.shapes.Shape.{Shape}
@@ -9,8 +10,8 @@ use Rattle.gate_block.specs.Gates.{IsClosedAt}
 use Rattle.host_trait.specs.declared.channels.FileId.TheVariants.{Manager, Grain}
 use Rattle.promise_spec.specs.Entries.{Log}
 use Rattle.batch_disk.specs.ImagesAtRest.{EachImage, write_end, Voted, PlacesAreNamed, IsAtRest}
+use Rattle.batch_disk.specs.declared.kept_version.KeptVersion.{KeptVersion}
 use Rattle.batch_disk.specs.declared.writer.BatchWriter.{BatchWriter}
-use Rattle.batch_disk.specs.declared.writer.KeptVersion.{KeptVersion}
 
 -- where the places that the log names in a grain's file end, 0 where it names none
 abbrev pub file_end : BatchWriter → GrainId → ℕ
@@ -18,7 +19,7 @@ file_end writer grain = unwrap_or (end_in writer.ends grain) 0
 
 -- a version as a vote keeps it
 abbrev pub voted_by : KeptVersion → Voted
-voted_by k = record { unit = k.unit; write = record { grain = k.grain; place = k.place }; state = k.state.value }
+voted_by k = record { unit = k.unit; write = record { grain = k.grain; place = k.place }; state = k.known.version.state }
 
 -- the versions that votes wrote and that are kept
 abbrev pub kept_of : BatchWriter → List Voted
@@ -32,12 +33,18 @@ voted_of batch writer = if writer.batch == batch then kept_of writer else []
 abbrev pub CanCount : BatchWriter → Voted → Type 0
 CanCount writer v = (has_room writer.ends v.write.grain ≡ true) × (write_end v.write < 2 ^ 63)
 
--- the slot is one of two, the next gate and each end are below 2 to the 63, and each version that is kept can count without memory
+-- the version's grain has room for a place: it can be the last one without memory
+abbrev pub HasSeat : BatchWriter → Voted → Type 0
+HasSeat writer v = has_seat writer.places v.write.grain ≡ true
+
+-- The slot is one of two, the next gate and each end are below 2 to the 63, and each version that is kept can count, and be its
+-- grain's last one, without memory.
 pub record IsInBounds (writer : BatchWriter) : Type 0 where
   pub slot : writer.slot ≤ 1
   pub gate : writer.gate_at < 2 ^ 63
   pub ends : (g : GrainId) → file_end writer g < 2 ^ 63
   pub kept : AllByRecursion (CanCount writer) (kept_of writer)
+  pub seats : AllByRecursion (HasSeat writer) (kept_of writer)
 
 -- What the calls of a writer need of this slot's files as they read: they go on to its ends at least, the versions that are kept
 -- lie in them, and the next gate is closed, unless a batch is in doubt.
@@ -61,9 +68,10 @@ pub record KeepsDisk (live : ℕ) (shape : Shape) (head : List ℕ) (log : Log) 
   pub named : PlacesAreNamed shape log (file_end writer)
   pub images : EachImage (IsAtRest live shape head log bodies writer.gate_at (file_end writer) (kept_of writer)) disk
 
--- slot, gate, ends and doubt are as they were
+-- slot, gate, ends, places and doubt are as they were
 pub record HasSameEnds (old new : BatchWriter) : Type 0 where
   pub slot : new.slot ≡ old.slot
   pub gate : new.gate_at ≡ old.gate_at
   pub ends : (g : GrainId) → file_end new g ≡ file_end old g
+  pub places : (g : GrainId) → placed_in new.places g ≡ placed_in old.places g
   pub doubt : new.in_doubt ≡ old.in_doubt

@@ -8,9 +8,10 @@ ghost use Rattle.commit_log.specs.EncodableRecords.{MaySpell, IsNoAbort};
 ghost use Rattle.commit_log.specs.Orders.{IsAscending};
 ghost use Rattle.commit_log.specs.Spelling.{spelling_of_body, spelling_of_block, RecordsFit};
 ghost use Rattle.batch_disk.specs.Writers.{voted_by};
-ghost use Rattle.batch_disk.specs.Records.{is_version, place_among, HavePlaces, IsRecordFor, AreRecordsFor};
+ghost use Rattle.batch_disk.specs.Records.{place_among, HavePlaces, IsRecordFor, AreRecordsFor};
 
-use crate::writer::KeptVersion;
+use crate::kept_version::KeptVersion;
+use crate::moved_places::version_among;
 use base_types::{GrainId, List, Outcome, Place, State, UnitNo};
 use commit_log::{CommitRecord, Written, encode_block, is_above};
 use core_model::Effect;
@@ -43,23 +44,15 @@ impl From<AllocError> for WorkFault {
     }
 }
 
-// Whether this is the unit's version of the grain.
-fn is_version(kept: &KeptVersion, unit: UnitNo, grain: GrainId) -> bool
-    ensures { result ≡ is_version unit grain (voted_by kept.now) }
-{
-    kept.unit.0 == unit.0 && kept.grain.kind == grain.kind && kept.grain.key == grain.key
-}
-
 // The place of a unit's version of a grain, none where it isn't kept.
+#[tactic(auto, using(crate::proofs::MovedPlaces::place_of))]
 fn place_among(kept: &[KeptVersion], unit: UnitNo, grain: GrainId) -> Option<Place>
     ensures { result ≡ place_among unit grain (map voted_by kept.now) }
 {
-    for version in kept {
-        if is_version(version, unit, grain) {
-            return Some(version.place);
-        }
+    match version_among(kept, unit, grain) {
+        Some(version) => Some(version.place),
+        None => None,
     }
-    None
 }
 
 // The places of what a unit wrote, none where one isn't kept.

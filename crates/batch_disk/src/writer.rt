@@ -1,41 +1,40 @@
 ghost use Rattle.std.specs.Prelude.{◌≡◌, ◌+◌, ◌++◌, ◌∷◌, ◌<◌, ◌≤◌, ◌^◌, [], true, false, IsTrue, length, map, unwrap_or, IfOk, OnOk, OnErr, vec_len, vec_capacity};
 ghost use Rattle.std.specs.List.{flat_map, AllByRecursion};
+ghost use Rattle.base_types.specs.Places.{placed_in, has_seat, KeepsSeats};
 ghost use Rattle.base_types.specs.Stores.{end_in, has_room, KeepsRoom};
 ghost use Rattle.base_types.specs.declared.calls.GrainId.{GrainId as AGrain};
 ghost use Rattle.host_trait.specs.Files.{StaysReady};
+ghost use Rattle.host_trait.specs.Runs.{OnlyAsked};
 ghost use Rattle.batch_disk.specs.ImagesAtRest.{write_end, raised_ends, voted_at};
 ghost use Rattle.batch_disk.specs.Writers.{file_end, voted_by, kept_of, voted_of, IsInBounds, IsSafe, HasSameEnds};
+ghost use Rattle.batch_disk.specs.LastVersions.{ReadsLast};
+ghost use Rattle.batch_disk.specs.MovedPlaces.{moved_by_writes, moved_by_records};
 ghost use Rattle.batch_disk.specs.Records.{AreRecordsFor, IsSealable};
 ghost use Rattle.batch_disk.specs.VoteAnswers.{VotesOn, LacksRoom};
 ghost use Rattle.batch_disk.specs.Seals.{SealsWork};
 
+use crate::kept_version::KeptVersion;
+use crate::moved_places::{move_place, owner_told};
 use crate::records::{SealWork, work_of};
-use base_types::{Ends, GrainId, List, Place, State, UnitNo, Version};
+use base_types::{Ends, GrainId, List, Place, Places, Shape, UnitNo, Version};
 use commit_log::{CommitRecord, Sealing, Written, seal};
 use core_model::Effect;
-use grain_log::{LogFault, write_versions};
+use field_codec::Format;
+use grain_log::{LogFault, VersionFault, read_version, write_versions};
 use host_trait::{FileId, Host};
 use std::alloc::{AllocError, Global};
-use std::snapshot::Snapshot;
 
-// A version that a vote wrote: of which grain and unit, and where. Its state is for contracts alone, and has no bytes.
-#[derive(Drop)]
-pub(crate) struct KeptVersion {
-    pub(crate) grain: GrainId,
-    pub(crate) unit: UnitNo,
-    pub(crate) place: Place,
-    pub(crate) state: Snapshot<State>,
-}
-
-/// In which slot the log and the grains' files are, where they go on, and where the votes of one batch wrote.
+/// In which slot the log and the grains' files are, where they go on, where each grain's last version stands, and where the votes of
+/// one batch wrote.
 ///
-/// Between two calls each image has the log up to the next gate, and what the votes wrote (`KeepsDisk`). The next gate and the
-/// ends move only when a batch is sealed.
+/// Between two calls each image has the log up to the next gate, and what the votes wrote (`KeepsDisk`). The next gate, the ends and
+/// the places move only when a batch is sealed.
 #[derive(Drop)]
 pub struct BatchWriter {
     slot: u8,
     gate_at: u64,
     ends: Ends,
+    places: Places,
     // Whose votes are kept: those of another batch are dropped before any of this one.
     batch: u64,
     kept: Vec<KeptVersion>,
@@ -43,14 +42,16 @@ pub struct BatchWriter {
 }
 
 impl BatchWriter {
-    /// A writer that goes on in this slot, 0 or 1, at this closed gate and at these ends, each below 2 to the 63. Takes no memory.
-    pub fn new(alloc: Global, slot: u8, gate_at: u64, ends: Ends) -> BatchWriter
+    /// A writer that goes on in this slot, 0 or 1, at this closed gate and at these ends, each below 2 to the 63, where the grains'
+    /// last versions stand at these places. Takes no memory.
+    pub fn new(alloc: Global, slot: u8, gate_at: u64, ends: Ends, places: Places) -> BatchWriter
         requires slot { slot ≤ 1 }
         requires gate { gate_at < 2 ^ 63 }
         requires ends { (g : AGrain) → unwrap_or (end_in ends g) 0 < 2 ^ 63 }
         ensures slot { result.slot ≡ slot }
         ensures gate { result.gate_at ≡ gate_at }
         ensures ends { (g : AGrain) → file_end result g ≡ unwrap_or (end_in ends g) 0 }
+        ensures places { result.places ≡ places }
         ensures kept { kept_of result ≡ [] }
         ensures doubt { result.in_doubt ≡ false }
         ensures bounds { IsInBounds result }
@@ -59,6 +60,7 @@ impl BatchWriter {
             slot,
             gate_at,
             ends,
+            places,
             batch: 0,
             kept: Vec::new(alloc),
             in_doubt: false,
@@ -86,6 +88,46 @@ impl BatchWriter {
         self.in_doubt
     }
 
+    /// Reads a grain's last version at its place, by one read at most: none where it has none. Its unit is the one that wrote it in this
+    /// run, and nobody, whose number is 0, where the log that was opened names it.
+    ///
+    /// `Damaged` says where no version stands there: over a host that tells it doesn't come where the versions stand (`PlacesStand`).
+    pub fn last_version<H: Host>(
+        &self,
+        host: &mut H,
+        shape: &Shape,
+        grain: GrainId,
+    ) -> Result<Option<Version>, VersionFault>
+        requires { self.now.slot ≤ 1 }
+
+        // What is read of which place, by the answer.
+        ensures reads { ReadsLast H.tells H.world H.faults self.now.slot shape.now grain self.now host.old host.new result }
+
+        ensures asked { IsTrue H.tells → OnlyAsked (H.world host.old) (H.world host.new) }
+        ensures ready { StaysReady (H.is_ready host.old) (H.is_ready host.new) }
+    {
+        let Some(placed) = self.places.get(grain) else {
+            return Ok(None);
+        };
+        let file = FileId::Grain {
+            slot: self.slot,
+            grain,
+        };
+        let alloc = *self.kept.allocator();
+        let Version { unit, state } = read_version(
+            alloc,
+            host,
+            file,
+            placed.place,
+            shape,
+            Format::One,
+        )?;
+        Ok(Some(Version {
+            unit: owner_told(placed, unit),
+            state,
+        }))
+    }
+
     // What is kept of this batch.
     fn votes_of(&self, batch: u64) -> &[KeptVersion]
         ensures { map voted_by result.now ≡ voted_of batch self.now }
@@ -102,6 +144,7 @@ impl BatchWriter {
         ensures kept { kept_of self.new ≡ voted_of batch self.old }
         ensures batch { self.new.batch ≡ batch }
         ensures ends { self.new.ends ≡ self.old.ends }
+        ensures places { self.new.places ≡ self.old.places }
     {
         if self.batch != batch {
             self.kept.clear();
@@ -115,11 +158,14 @@ impl BatchWriter {
         ensures kept { kept_of self.new ≡ kept_of self.old }
         ensures batch { self.new.batch ≡ self.old.batch }
         ensures room { KeepsRoom self.old.ends self.new.ends }
+        ensures seats { KeepsSeats self.old.places self.new.places }
         ensures made { OnOk result (has_room self.new.ends grain ≡ true) }
+        ensures seated { OnOk result (has_seat self.new.places grain ≡ true) }
         ensures space { OnOk result (vec_len self.new.kept + count ≤ vec_capacity self.new.kept) }
     {
         self.kept.reserve(count)?;
         self.ends.room(grain)?;
+        self.places.room(grain)?;
         Ok(())
     }
 
@@ -133,6 +179,7 @@ impl BatchWriter {
         ensures doubt { self.new.in_doubt ≡ self.old.in_doubt }
         ensures batch { self.new.batch ≡ self.old.batch }
         ensures ends { self.new.ends ≡ self.old.ends }
+        ensures places { self.new.places ≡ self.old.places }
     {
         let done = self.kept.push(version);
         prove!(done.is_ok());
@@ -148,16 +195,12 @@ impl BatchWriter {
         ensures doubt { self.new.in_doubt ≡ self.old.in_doubt }
         ensures batch { self.new.batch ≡ self.old.batch }
         ensures ends { self.new.ends ≡ self.old.ends }
+        ensures places { self.new.places ≡ self.old.places }
     {
         for at in 0..versions.len() {
             let version = &versions[at];
             let place = places[at];
-            self.keep_one(KeptVersion {
-                grain,
-                unit: version.unit,
-                place,
-                state: Snapshot::of(&version.state),
-            });
+            self.keep_one(KeptVersion::of(grain, version, place));
         }
     }
 
@@ -221,43 +264,51 @@ impl BatchWriter {
         }
     }
 
-    // The ends move past the places that a record names. It takes no memory.
-    fn count_writes(&mut self, writes: &[Written])
+    // The ends move past the places that a unit's record names, and the grains' last versions are the unit's. It takes no memory.
+    fn count_writes(&mut self, unit: UnitNo, writes: &[Written])
         requires bounds { IsInBounds self.old }
         requires can { AllByRecursion (λ w. (has_room self.old.ends w.grain ≡ true) × (write_end w < 2 ^ 63)) writes.now }
+        requires seats { AllByRecursion (λ w. has_seat self.old.places w.grain ≡ true) writes.now }
         ensures slot { self.new.slot ≡ self.old.slot }
         ensures gate { self.new.gate_at ≡ self.old.gate_at }
         ensures doubt { self.new.in_doubt ≡ self.old.in_doubt }
         ensures kept { self.new.kept ≡ self.old.kept }
         ensures ends { (g : AGrain) → file_end self.new g ≡ raised_ends (file_end self.old) writes.now g }
         ensures room { KeepsRoom self.old.ends self.new.ends }
+        ensures places { (g : AGrain) → placed_in self.new.places g
+            ≡ moved_by_writes (kept_of self.old) unit writes.now g (placed_in self.old.places g) }
+        ensures kept_seats { KeepsSeats self.old.places self.new.places }
         ensures bounds { IsInBounds self.new }
     {
         for write in writes {
             let end = write.place.offset + write.place.len as u64;
             self.ends.raise(write.grain, end);
+            move_place(&mut self.places, self.kept.as_slice(), unit, write.grain);
         }
     }
 
-    // The ends move past the places that the records name. It takes no memory.
+    // The ends move past the places that the records name, and the grains' last versions are theirs. It takes no memory.
     fn count_records(&mut self, records: &[CommitRecord])
         requires bounds { IsInBounds self.old }
         requires can { AllByRecursion (λ r. AllByRecursion (λ w. (has_room self.old.ends w.grain ≡ true) × (write_end w < 2 ^ 63)) r.writes) records.now }
+        requires seats { AllByRecursion (λ r. AllByRecursion (λ w. has_seat self.old.places w.grain ≡ true) r.writes) records.now }
         ensures slot { self.new.slot ≡ self.old.slot }
         ensures gate { self.new.gate_at ≡ self.old.gate_at }
         ensures doubt { self.new.in_doubt ≡ self.old.in_doubt }
         ensures kept { self.new.kept ≡ self.old.kept }
         ensures ends { (g : AGrain) → file_end self.new g ≡ raised_ends (file_end self.old) (flat_map (λ r. r.writes) records.now) g }
+        ensures places { (g : AGrain) → placed_in self.new.places g
+            ≡ moved_by_records (kept_of self.old) records.now g (placed_in self.old.places g) }
         ensures bounds { IsInBounds self.new }
     {
         for record in records {
-            self.count_writes(record.writes.as_slice());
+            self.count_writes(record.unit, record.writes.as_slice());
         }
     }
 
     /// Seals a block that `prepare` made. It takes no memory. A gate is reached before this call, once the block is there.
     ///
-    /// Sealed, the next gate and the ends move on. In each case the places of the votes are forgotten, unless the batch is in
+    /// Sealed, the next gate, the ends and the places of last versions move on. In each case the places of the votes are forgotten, unless the batch is in
     /// doubt: then nothing may be sealed any more.
     pub fn seal<H: Host>(&mut self, host: &mut H, work: SealWork) -> Sealing
         requires safe { IsSafe H.tells self.old (H.world host.old) }

@@ -29,7 +29,7 @@ use Rattle.run_books.specs.Books.{Books, booked_journal, AreInDoubt, AreBooked}
 use Rattle.run_books.specs.Images.{LeavesAside, HasOpenBlock, EndsAsBegun, KeepsFolder, LastsSo}
 use Rattle.run_books.specs.BooksSteps.{AreEven}
 use Rattle.run_books.proofs.BooksCounts.{doubt-ends, none-before}
-use Rattle.run_books.proofs.BooksImages.{uncut, uncut-doubt, block-kept, vote-kept}
+use Rattle.run_books.proofs.BooksImages.{uncut, uncut-doubt, block-kept}
 use Rattle.run_books.proofs.BooksWritten.{parts, said_next}
 
 module _ (o : Outset) (head : List ℕ) (b c : Books) (r : Run) (more : List CoreEvent) (writer writer' : BatchWriter) (now now' : World)
@@ -71,7 +71,6 @@ module _ (o : Outset) (head : List ℕ) (b c : Books) (r : Run) (more : List Cor
         bodies = f.bodies;
         log = f.log ∙ ap (λ (j : List Settlement). grown o.opening (commits_of j)) (sym front);
         keeps = subst (λ (k : Disk). KeepsDisk o.live (shape_in o.program) head f.stood f.bodies writer k) (sym disk) f.keeps;
-        votes = λ v m. vote-kept r more above writer.batch v.unit v.write.grain v.state (f.votes v m);
         behind = λ none. subst (λ (k : Disk). EndsAsBegun o writer.gate_at (k (Manager o.live))) (sym disk) (f.behind (none-before is_unsealed r more none));
       })
 

@@ -1,5 +1,5 @@
 -- The books after a doubt and after an entry, and so after whichever event a step of the settler puts.
-use Rattle.std.proofs.Common.{◌≡◌, ◌⊎◌, inl, inr, ℕ, List, [], ◌∷◌, ◌++◌, Bool, true, false, refl, sym, ap, ◌∙◌, subst, append-nil, append_assoc}
+use Rattle.std.proofs.Common.{◌≡◌, ◌⊎◌, inl, inr, ℕ, List, [], ◌∷◌, ◌++◌, Bool, true, false, refl, sym, ap, ◌∙◌, subst, append-nil}
 use Rattle.std.specs.Prelude.{IsTrue}
 use Rattle.std.proofs.lemmas.Bool.{or_right}
 use Rattle.base_types.specs.declared.entries.Entry.{Entry}
@@ -22,7 +22,12 @@ use Rattle.promise_spec.specs.Journals.{Settlement, Seals, Doubts, commits_of, e
 use Rattle.promise_laws.proofs.JournalCrashes.{commits_of-append}
 use Rattle.batch_disk.specs.ImagesAtRest.{SomeImage}
 use Rattle.batch_disk.specs.Records.{commits_by}
-use Rattle.batch_disk.specs.Seals.{SealsAs, may_open}
+use Rattle.base_types.specs.Places.{placed_in}
+use Rattle.batch_disk.specs.Seals.{SealsAs, WriterAfter, may_open}
+use Rattle.batch_disk.specs.declared.writer.BatchWriter.{BatchWriter}
+use Rattle.commit_log.specs.declared.records.CommitRecord.{CommitRecord}
+use Rattle.run_books.specs.Places.{AreOfVotes, KeepsVersions}
+use Rattle.run_books.proofs.BooksVersions.{votes-still, versions-on}
 use Rattle.batch_disk.specs.Writers.{voted_of}
 use Rattle.batch_disk.proofs.BatchRecords.{records_are}
 use Rattle.commit_log.specs.declared.gate.Sealing.{Sealing}
@@ -102,8 +107,23 @@ module _ {H : Type 0} (tells : Bool) (world : H → World) (faults : H → Chann
     books : Books
     books = grown_books b m.more [] (doubted_by may effects does.work.records)
 
+    doubt-writer-is : (x : Sealing) (made : List CommitRecord) (v w : BatchWriter) → event.Doubt n ≡ event_of n x → WriterAfter x made v w → w ≡ record v { in_doubt = true }
+    doubt-writer-is (sealing.Sealed next) made v w q is = absurd (cc q)
+    doubt-writer-is sealing.NotSealed made v w q is = absurd (cc q)
+    doubt-writer-is sealing.InDoubt made v w q is = is
+
+    writer-is : after.writer ≡ record before.writer { in_doubt = true }
+    writer-is = doubt-writer-is does.answer does.work.records before.writer after.writer does.event does.leaves.after_is
+
+    versions : IsTrue tells → KeepsVersions o (grown_books b m.more [] (doubted_by may effects does.work.records)) r' after.writer (world new).disk
+    versions t =
+        versions-on o b (grown_books b m.more [] (doubted_by may effects does.work.records)) r before.writer after.writer (world old).disk (world new).disk (k.versions t)
+        (does.leaves.placed t (shape_in o.program) (k.versions t).stand) (λ g. ap (λ (w : BatchWriter). placed_in w.places g) writer-is)
+        (grown-commits b m.more [] (doubted_by may effects does.work.records) ∙ append-nil (commits_of (b.said ++ b.unsaid))) (event.Doubt n) tt
+        (subst (λ (w : BatchWriter). AreOfVotes r' w) (sym writer-is) (votes-still r (event.Doubt n) before.writer can.above (k.versions t).votes))
+
     kept : KeepsBooks tells o (grown_books b m.more [] (doubted_by may effects does.work.records)) (stage_of world faults r' after new)
-    kept = books-kept tells o b r e before after (faults old) (faults new) (world old) (world new) [] (doubted_by may effects does.work.records) can.above can.units even k m refl adds
+    kept = books-kept tells o b r e before after (faults old) (faults new) (world old) (world new) [] (doubted_by may effects does.work.records) can.above can.units even k m refl adds versions
 
     again : AreEven after.quiet (grown_books b m.more [] (doubted_by may effects does.work.records)) (ends r')
     again = books-even tells o b r e before after (faults old) (faults new) (world old) (world new) [] (doubted_by may effects does.work.records) can.above can.units even k m refl adds
@@ -115,7 +135,7 @@ module _ {H : Type 0} (tells : Bool) (world : H → World) (faults : H → Chann
     of_batch = records_are (voted_of n before.writer) effects does.work.records does.records
 
     of_chosen : AreRecordsOf (chosen (ends r')) batch
-    of_chosen = subst (λ (es : List Effect). AreRecordsOf es batch) (sym (doubt-chosen (basis_of o) r can.above can.units n c.applied)) of_batch
+    of_chosen = subst (λ (es : List Effect). AreRecordsOf es batch) (sym (doubt-chosen r can.above n c.applied)) of_batch
 
     no-doubts : b.doubted ≡ []
     no-doubts = sure tells world faults o b r before after old new can even k e c refl refl
@@ -131,7 +151,7 @@ module _ {H : Type 0} (tells : Bool) (world : H → World) (faults : H → Chann
 
     doubt-of : (t : IsTrue tells) (head : List ℕ) (f : KeepsFolder o head b r before.writer (world old).disk) → DoubtsBatch o.live o.program head f.stood f.bodies before.writer after.writer (world old) (world new) before.writer.gate_at effects batch
     doubt-of t head f =
-        let fair = (is-fair o r before.writer can.above can.units can.kinds can.accepted can.numbers f.votes).seal n (seals-step n (settler_step (ends r)) makes) in
+        let fair = (is-fair o r before.writer can.above (k.versions t).loads can.units can.kinds can.accepted can.numbers (k.versions t).votes).seal n (seals-step n (settler_step (ends r)) makes) in
         as-doubt t head f does.answer does.event (does.leaves.seals t (shape_in o.program) head f.stood f.bodies n effects does.records fair.0 fair.1 f.keeps)
 
     module _ (t : IsTrue tells) (head : List ℕ) (l : LastsSo o head b r before.writer (world old)) where
@@ -184,7 +204,7 @@ module _ {H : Type 0} (tells : Bool) (world : H → World) (faults : H → Chann
           (subst (λ (log : Log). Doubts o.live log (as_settled batch) (world old) (world new)) f.log doubts)
           (subst (λ (log : Log). SomeImage (λ image. IsLog o.live image (grown log batch)) (world new).disk) f.log some) d.rest d.doubt.rest
           (λ x y said there is.
-          fresh-doubt (basis_of o) r e batch can.above can.units c.units of_batch of_chosen (committed-stays (basis_of o) r can.above can.units e refl) x y
+          fresh-doubt (basis_of o) r e batch can.above (versions t).loads c.units of_batch of_chosen (committed-stays r can.above e refl) x y
           (subst (λ (xs : List Entry). Member x xs) booked'.entries (subst (λ (j : List Settlement). Member x (entries_of j)) (sym named) said)) there is)
           (block-of d (grown o.opening (commits_of ((b.said ++ ((b.unsaid ++ []) ++ alone m.more)) ++ as_settled batch ∷ [])))
           (inr (

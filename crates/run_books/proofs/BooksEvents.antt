@@ -3,6 +3,7 @@ use Rattle.std.proofs.Common.{◌≡◌, ℕ, ◌+◌, ◌<◌, List, [], ◌∷
 use Rattle.std.specs.Prelude.{IsTrue}
 use Rattle.std.proofs.lemmas.Bool.{and_right}
 use Rattle.base_types.specs.declared.calls.GrainId.{GrainId}
+use Rattle.base_types.specs.declared.stores.Version.{Version}
 use Rattle.host_trait.specs.declared.channels.Channel.{Channel}
 use Rattle.host_trait.specs.declared.channels.Channel.TheVariants.{File}
 use Rattle.host_trait.specs.declared.channels.FileId.TheVariants.{Grain, Manager}
@@ -22,7 +23,7 @@ use Rattle.core_model.specs.Events.{applies}
 use Rattle.core_model.specs.Laws.{extended}
 use Rattle.core_model.specs.LegalRuns.{Run, ends}
 use Rattle.core_model.specs.SerialOrder.{committed, chosen}
-use Rattle.core_model.specs.Settler.{to_commit, versions_to_write}
+use Rattle.core_model.specs.Settler.{to_commit}
 use Rattle.core_laws.proofs.CommitOrder.{no_doubt}
 use Rattle.promise_spec.specs.Records.{Commit, AreRecordsOf}
 use Rattle.promise_spec.specs.Causes.{AreFaults, is_no, is_unsealed, is_vote, is_vote_of, is_sealed}
@@ -92,7 +93,7 @@ module _ {H : Type 0} (tells : Bool) (world : H → World) (faults : H → Chann
     }
 
     none-more : is_sealed e ≡ false → committed (ends r') ≡ committed (ends r) ++ []
-    none-more other = committed-stays (basis_of o) r above units e other ∙ sym (append-nil (committed (ends r)))
+    none-more other = committed-stays r above e other ∙ sym (append-nil (committed (ends r)))
 
     -- without a host call
     pub adds-none : tells_doubt e ≡ false → after.doubted ≡ before.doubted → ((g : GrainId) → is_no g e ≡ false) → is_unsealed e ≡ false → is_vote e ≡ false → is_sealed e ≡ false
@@ -107,11 +108,11 @@ module _ {H : Type 0} (tells : Bool) (world : H → World) (faults : H → Chann
         (ap (λ (h : H). (world h).syncs) does.host) (λ g. file-same (Grain o.live g) (world old) (world new) (ap world does.host)))
 
   -- a vote
-  pub adds-vote : (n : ℕ) (g : GrainId) (said : Bool) → applies (ends r) (event.Vote n g said) ≡ true → Moves (ends r) (event.Vote n g said) (ends (extended r (event.Vote n g said ∷ [])))
+  pub adds-vote : (n : ℕ) (g : GrainId) (said : Bool) (versions : List Version) → applies (ends r) (event.Vote n g said) ≡ true → Moves (ends r) (event.Vote n g said) (ends (extended r (event.Vote n g said ∷ [])))
       → after.quiet ≡ before.quiet → after.written ≡ before.written → after.doubted ≡ before.doubted
-      → VotesOn tells world faults o.live n g said (versions_to_write (ends r) (ends r).manager.batch g) before.writer after.writer old new
+      → VotesOn tells world faults o.live n g said versions before.writer after.writer old new
       → AddsBatch tells o r (extended r (event.Vote n g said ∷ [])) before after (faults old) (faults new) (world old) (world new) [] b.doubted
-  adds-vote n g true a m quiet written doubted does =
+  adds-vote n g true versions a m quiet written doubted does =
       let e : CoreEvent = event.Vote n g true in
       let later : NoneFell (faults old) (faults new) = calm-later (faults old) (faults new) does.cause in
       plain-adds e a m quiet written refl doubted does.same.doubt does.same.slot [] [] refl (none-more e a m quiet written refl) tt
@@ -123,7 +124,7 @@ module _ {H : Type 0} (tells : Bool) (world : H → World) (faults : H → Chann
       ∙ (let votes : how_many is_vote (extended r (e ∷ [])) ≡ how_many is_vote r + 1 = how-one is_vote r e refl a in
       let seals : how_many is_sealed (extended r (e ∷ [])) ≡ how_many is_sealed r = how-same is_sealed r e refl in
       omega (arith, votes, seals))))
-  adds-vote n g false a m quiet written doubted does =
+  adds-vote n g false versions a m quiet written doubted does =
       let e : CoreEvent = event.Vote n g false in
       let later : NoneFell (faults old) (faults new) = failed-later (File (Grain o.live g)) (faults old) (faults new) does.cause in
       plain-adds e a m quiet written refl doubted does.same.doubt does.same.slot [] [] refl (none-more e a m quiet written refl) tt
@@ -181,7 +182,7 @@ module _ {H : Type 0} (tells : Bool) (world : H → World) (faults : H → Chann
       let effects : List Effect = to_commit (ends r) (ends r).manager.batch in
       let later : NoneFell (faults old) (faults new) = calm-later (faults old) (faults new) (sealed-calm n before.writer.gate_at (length does.work.block) does.answer does.event does.leaves.cause) in
       plain-adds e a m quiet written refl doubted (sealed-writer n does.answer does.work.records before.writer after.writer does.event does.leaves.after_is) does.leaves.slot
-      (made_batch effects does.work.records) effects refl (sealed-commit (basis_of o) r above units n a)
+      (made_batch effects does.work.records) effects refl (sealed-commit r above n a)
       (made-records before.writer n effects does.work.records (records_are (voted_of n before.writer) effects does.work.records does.records))
       (faults-same o.live r (extended r (e ∷ [])) o.faults (faults old) (faults new) k.faults later (λ g. how-same (is_no g) r e refl) (how-same is_unsealed r e refl))
       later (λ t. (does.leaves.run t).now.output)
@@ -243,7 +244,7 @@ module _ {H : Type 0} (tells : Bool) (world : H → World) (faults : H → Chann
         none = refl;
         commits = none-more e a m quiet written refl;
         records = tt;
-        doubted = doubted-are (may_open before.writer.gate_at ((world new).disk (Manager o.live))) (ends (extended r (e ∷ []))) left.0 effects does.work.records left.1 (doubt-chosen (basis_of o) r above units n a)
+        doubted = doubted-are (may_open before.writer.gate_at ((world new).disk (Manager o.live))) (ends (extended r (e ∷ []))) left.0 effects does.work.records left.1 (doubt-chosen r above n a)
             (records_are (voted_of n before.writer) effects does.work.records does.records);
         faults = faults-unsealed o.live r (extended r (e ∷ [])) o.faults (faults old) (faults new) k.faults later (λ g. how-same (is_no g) r e refl) (how-one is_unsealed r e refl a) failed.rose;
         later = later;

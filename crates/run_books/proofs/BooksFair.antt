@@ -18,8 +18,8 @@ use Rattle.core_model.specs.Tests.{members, waiting, is_good, is_committed}
 use Rattle.core_model.specs.Answers.{effect_of}
 use Rattle.core_model.specs.Events.{applies}
 use Rattle.core_model.specs.Laws.{extended}
-use Rattle.core_model.specs.LegalRuns.{Run, ends}
-use Rattle.core_model.specs.SerialOrder.{committed}
+use Rattle.core_model.specs.LegalRuns.{Run, begins, ends}
+use Rattle.core_model.specs.SerialOrder.{committed, AllLoadsTrue}
 use Rattle.core_model.specs.Settler.{to_commit, versions_to_write}
 use Rattle.core_laws.proofs.Orders.{in_drop}
 use Rattle.cell_model.proofs.Units.{filter-member}
@@ -45,6 +45,7 @@ use Rattle.settler_rules.proofs.ToldOf.{told-by-then}
 use Rattle.batch_disk.specs.VoteAnswers.{KeepsVotes}
 use Rattle.settle_loop.specs.StepJournal.{IsFair}
 use Rattle.run_books.specs.Beginnings.{Outset, basis_of}
+use Rattle.run_books.specs.Places.{AreOfVotes}
 use Rattle.run_books.proofs.BooksImages.{vote-kept}
 use Rattle.core_laws.proofs.LoadlessKept.{loadless-ends}
 use Rattle.core_laws.proofs.LoadlessRuns.{committed-closed}
@@ -54,10 +55,6 @@ pub all-of : {A : Type 0} (P : A → Type 0) (xs : List A) → ((x : A) → Memb
 all-of P [] each = tt
 all-of P (x ∷ xs) each = (each x (inl refl), all-of P xs (λ y m. each y (inr m)))
 
--- the versions that votes of the core's batches wrote
-abbrev pub AreOfVotes : Run → BatchWriter → Type 0
-AreOfVotes r writer = (v : Voted) → Member v (kept_of writer) → IsOfVote (ends r) writer.batch v.unit v.write.grain v.state
-
 votes-in : (r : Run) (writer : BatchWriter) (n : ℕ) → AreOfVotes r writer → (v : Voted) → Member v (voted_of n writer) → IsOfVote (ends r) n v.unit v.write.grain v.state
 votes-in r writer n votes v there = by (writer.batch == n) refl there
   where
@@ -65,17 +62,17 @@ votes-in r writer n votes v there = by (writer.batch == n) refl there
     by true is m = subst (λ (k : ℕ). IsOfVote (ends r) k v.unit v.write.grain v.state) (eqb-true writer.batch n is) (votes v m)
     by false is m = absurd m
 
-module _ (o : Outset) (r : Run) (writer : BatchWriter) (above : 0 < r.base) (units : KeepsUnitRule (basis_of o) r) (kinds : r.kinds ≡ length o.program.types)
+module _ (o : Outset) (r : Run) (writer : BatchWriter) (above : 0 < r.base) (loads : AllLoadsTrue r.opening (begins r) r.events) (units : KeepsUnitRule (basis_of o) r) (kinds : r.kinds ≡ length o.program.types)
     (accepted : IsAcceptedProgram o.program.types) (few : (ends r).units.next ≤ 2 ^ 63) (votes : AreOfVotes r writer) where
   logged : (x : Effect) → Member x (to_commit (ends r) (ends r).manager.batch) → MayBeLogged (shape_in o.program) x
   logged x m =
-      let f = fits-program (basis_of o) r above units few kinds accepted x m in
+      let f = fits-program (basis_of o) r above loads units few kinds accepted x m in
       record { unit = f.unit; parent = f.parent; call = f.call; writes = f.writes }
 
-  written : (n : ℕ) (x : Effect) → Member x (to_commit (ends r) (ends r).manager.batch) → IsAsWritten (voted_of n writer) x
+  pub written : (n : ℕ) (x : Effect) → Member x (to_commit (ends r) (ends r).manager.batch) → IsAsWritten (voted_of n writer) x
   written n x m = all-of (λ (w : Write). (v : Voted) → Member v (voted_of n writer) → v.unit ≡ x.unit → v.write.grain ≡ w.0 → v.state ≡ w.1) x.writes
       (λ w there v kept same grain.
-      as-written (basis_of o) r above units x m n v.write.grain v.state
+      as-written (basis_of o) r above loads units x m n v.write.grain v.state
       (subst (λ (u : UnitNo). IsOfVote (ends r) n u v.write.grain v.state) same (votes-in r writer n votes v kept)) w there grain)
 
   -- the step is fair
@@ -84,7 +81,7 @@ module _ (o : Outset) (r : Run) (writer : BatchWriter) (above : 0 < r.base) (uni
     vote = λ n g is. (
       all-of (λ (v : Voted). v.write.grain ≢ g) (voted_of n writer) (λ v m. other-grain (ends r) n g v.write.grain true is (votes-in r writer n votes v m).vote),
       all-of (λ (x : Version). fields_of (slice_get (shape_in o.program).types g.kind) ≡ Some (length x.state)) (versions_to_write (ends r) (ends r).manager.batch g)
-          (λ x m. shown-fit (basis_of o) r above units kinds g x m),
+          (λ x m. shown-fit (basis_of o) r above loads units kinds g x m),
     );
     seal = λ n is. (
       all-of (MayBeLogged (shape_in o.program)) (to_commit (ends r) (ends r).manager.batch) logged,
@@ -201,10 +198,10 @@ waits-open r above u there is =
     omega (arith, late.1, early.1)
 
 -- what an older entry tells of isn't among them
-pub fresh-batch : (s : Basis) (r : Run) (e : CoreEvent) (batch all : List Commit) → 0 < r.base → KeepsUnitRule s r → KeepsUnitRule s (extended r (e ∷ []))
+pub fresh-batch : (s : Basis) (r : Run) (e : CoreEvent) (batch all : List Commit) → 0 < r.base → AllLoadsTrue r.opening (begins r) (extended r (e ∷ [])).events → KeepsUnitRule s (extended r (e ∷ []))
     → AreRecordsOf (to_commit (ends r) (ends r).manager.batch) batch → AreRecordsOf (committed (ends (extended r (e ∷ [])))) all → ((c : Commit) → Member c batch → Member c all)
     → (x : Entry) (c : Commit) → Member x (ends r).manager.settled → Member c batch → Acknowledges x c → ⊥
-fresh-batch s r e batch all above keeps after of_batch of_all within x c said there is = by (ends r).manager.batch refl of_batch
+fresh-batch s r e batch all above loads after of_batch of_all within x c said there is = by (ends r).manager.batch refl of_batch
   where
     later : IsOfUnit (ends (extended r (e ∷ []))) (λ u. is_committed ((ends (extended r (e ∷ []))).manager.verdict u)) (ends (extended r (e ∷ []))).manager.order c
     later =
@@ -224,7 +221,7 @@ fresh-batch s r e batch all above keeps after of_batch of_all within x c said th
     ]
 
     by-then : (ends r).manager.verdict later.unit ≡ Committed
-    by-then = told-by-then s r (e ∷ []) above after x said is.0 later.unit told (verdict-is ((ends (extended r (e ∷ []))).manager.verdict later.unit) later.test)
+    by-then = told-by-then s r (e ∷ []) above loads after x said is.0 later.unit told (verdict-is ((ends (extended r (e ∷ []))).manager.verdict later.unit) later.test)
 
     by : (batch_is : Option Batch) → (ends r).manager.batch ≡ batch_is → AreRecordsOf (to_commit (ends r) batch_is) batch → ⊥
     by None q are = none batch are there

@@ -16,8 +16,8 @@ use Rattle.core_model.specs.declared.phases.Verdict.TheVariants.{Open, Chosen, C
 use Rattle.core_model.specs.Tests.{members, waiting, is_good, is_committed, outcome_of, outcome_in}
 use Rattle.core_model.specs.Answers.{effect_of}
 use Rattle.core_model.specs.Laws.{extended}
-use Rattle.core_model.specs.LegalRuns.{Run, ends}
-use Rattle.core_model.specs.SerialOrder.{committed, chosen, batch_begin}
+use Rattle.core_model.specs.LegalRuns.{Run, begins, ends}
+use Rattle.core_model.specs.SerialOrder.{committed, chosen, batch_begin, AllLoadsTrue}
 use Rattle.core_model.specs.Settler.{to_commit}
 use Rattle.core_laws.proofs.Orders.{in_drop}
 use Rattle.core_laws.proofs.ToldOutcomes.{told-ends}
@@ -40,14 +40,14 @@ outcome-is settled.InDoubt h = absurd h
 outcome-is (settled.Bad why) h = absurd h
 
 -- whom an entry with an outcome tells of has an outcome
-told-outcome : (s : Basis) (r : Run) → 0 < r.base → KeepsUnitRule s r → (x : Entry) → Member x (ends r).manager.settled → HasOutcome x.what → (u : UnitNo) → IsToldOf (ends r) x u
+told-outcome : (s : Basis) (r : Run) → 0 < r.base → AllLoadsTrue r.opening (begins r) r.events → KeepsUnitRule s r → (x : Entry) → Member x (ends r).manager.settled → HasOutcome x.what → (u : UnitNo) → IsToldOf (ends r) x u
     → ((ends r).units.phase u ≡ Unborn → ⊥) → (o : Outcome) × (outcome_of (ends r) u ≡ Some o)
-told-outcome s r above keeps x m h u of born =
+told-outcome s r above loads keeps x m h u of born =
     subst (λ (w : CoreState). Member x w.manager.settled → IsToldOf w x u → (w.units.phase u ≡ Unborn → ⊥) → (o : Outcome) × (outcome_of w u ≡ Some o)) (ends_alike r) here m of born
   where
     here : Member x (ends (applied_run r)).manager.settled → IsToldOf (ends (applied_run r)) x u → ((ends (applied_run r)).units.phase u ≡ Unborn → ⊥) → (o : Outcome) × (outcome_of (ends (applied_run r)) u ≡ Some o)
     here m of born =
-        let told = told-ends (is_play s.types) (applied_run r) (legal s r above keeps) in
+        let told = told-ends (is_play s.types) (applied_run r) (legal s r above loads keeps) in
         let result = outcome-is x.what h in
         elim of [
           | inl same ↦ (result.0, ap (outcome_of (ends (applied_run r))) same ∙ told.known x result.0 m result.1)
@@ -91,10 +91,10 @@ member-drop (suc n) [] x m = absurd m
 member-drop (suc n) (y ∷ xs) x m = inr (member-drop n xs x m)
 
 -- no entry tells of a unit in doubt
-pub fresh-doubt : (s : Basis) (r : Run) (e : CoreEvent) (batch : List Commit) → 0 < r.base → KeepsUnitRule s r → KeepsUnitRule s (extended r (e ∷ []))
+pub fresh-doubt : (s : Basis) (r : Run) (e : CoreEvent) (batch : List Commit) → 0 < r.base → AllLoadsTrue r.opening (begins r) (extended r (e ∷ [])).events → KeepsUnitRule s (extended r (e ∷ []))
     → AreRecordsOf (to_commit (ends r) (ends r).manager.batch) batch → AreRecordsOf (chosen (ends (extended r (e ∷ [])))) batch → committed (ends (extended r (e ∷ []))) ≡ committed (ends r)
     → (x : Entry) (c : Commit) → Member x (ends (extended r (e ∷ []))).manager.settled → Member c batch → Acknowledges x c → ⊥
-fresh-doubt s r e batch above keeps after of_batch of_chosen same x c said there is = by (ends r).manager.batch of_batch
+fresh-doubt s r e batch above loads after of_batch of_chosen same x c said there is = by (ends r).manager.batch of_batch
   where
     later : IsOfUnit (ends (extended r (e ∷ []))) (λ u. is_good ((ends (extended r (e ∷ []))).manager.verdict u)) (drop (batch_begin (ends (extended r (e ∷ []))).manager.doubt (ends (extended r (e ∷ []))).manager.closed) (ends (extended r (e ∷ []))).manager.order) c
     later =
@@ -114,7 +114,7 @@ fresh-doubt s r e batch above keeps after of_batch of_chosen same x c said there
     ]
 
     known : (o : Outcome) × (outcome_of (ends (extended r (e ∷ []))) later.unit ≡ Some o)
-    known = told-outcome s (extended r (e ∷ [])) above after x said is.0 later.unit told (λ q. (let z : Finished ≡ Unborn = sym finished ∙ q in absurd cc))
+    known = told-outcome s (extended r (e ∷ [])) above loads after x said is.0 later.unit told (λ q. (let z : Finished ≡ Unborn = sym finished ∙ q in absurd cc))
 
     is-committed : (v : Verdict) → (ends (extended r (e ∷ []))).manager.verdict later.unit ≡ v → is_good v ≡ true
         → outcome_in Finished v ((ends (extended r (e ∷ []))).manager.result later.unit) ≡ Some known.0 → (ends (extended r (e ∷ []))).manager.verdict later.unit ≡ Committed

@@ -20,6 +20,7 @@ use Rattle.settle_loop.specs.declared.settler.Settler.{Settler}
 use Rattle.run_books.specs.Beginnings.{Outset, basis_of}
 use Rattle.run_books.specs.Books.{Books, AreInDoubt, IsPutOut}
 use Rattle.run_books.specs.Records.{KeepsBooks, CountsCalls}
+use Rattle.run_books.specs.Places.{KeepsVersions}
 use Rattle.run_books.specs.BooksSteps.{AreEven}
 use Rattle.run_books.proofs.BooksCore.{Moves}
 use Rattle.run_books.proofs.BooksFaults.{NoneFell, fell-both}
@@ -63,8 +64,8 @@ module _ (tells : Bool) (o : Outset) (b : Books) (r : Run) (e : CoreEvent) (befo
   pub books-even : AreEven after.quiet books (ends r')
   books-even = subst (λ (q : Bool). AreEven q books (ends r')) (sym adds.quiet) even-before
 
-  pub books-kept : KeepsBooks tells o books (stage_by r' after new now')
-  books-kept = record {
+  pub books-kept : (IsTrue tells → KeepsVersions o books r' after.writer now'.disk) → KeepsBooks tells o books (stage_by r' after new now')
+  books-kept versions = record {
     faults = adds.faults;
     later = fell-both o.faults old new k.later adds.later;
     booked = grown-booked b m.more batch d (ends r) (ends r') m.settled adds.none adds.effects k.booked adds.commits adds.records adds.doubted;
@@ -74,6 +75,7 @@ module _ (tells : Bool) (o : Outset) (b : Books) (r : Run) (e : CoreEvent) (befo
     slot = adds.slot ∙ k.slot;
     unsure = adds.unsure;
     written = adds.written ∙ k.written ∙ sym (m.emitted entry);
+    versions = versions;
     outside = λ t. record {
       output = subst (λ (l : List ℕ). Grew (shape_in o.program) o.world.output l (entries_of b.said) b.rest) (sym (adds.output t)) (k.outside t).output;
       calls = adds.calls t;

@@ -14,7 +14,7 @@ use Rattle.core_model.specs.declared.events.CoreEvent.TheVariants.{Take, Vote, D
 use Rattle.core_model.specs.Events.{applies}
 use Rattle.core_model.specs.Laws.{extended}
 use Rattle.core_model.specs.LegalRuns.{Run, ends}
-use Rattle.core_model.specs.SerialOrder.{committed}
+use Rattle.core_model.specs.SerialOrder.{committed, IsTrueLoad}
 use Rattle.core_laws.proofs.LineEntries.{once-ends}
 use Rattle.core_access.specs.SettlerEvents.{is_settling, LeavesBatches}
 use Rattle.core_access.proofs.SettlerEvents.{others-leave}
@@ -45,7 +45,8 @@ use Rattle.run_books.proofs.BooksCore.{moves-run, unapplied-run}
 use Rattle.run_books.proofs.BooksCounts.{how-same, none-before, doubt-ends}
 use Rattle.run_books.proofs.BooksLists.{alone, alone-commits, added-none, take-front}
 use Rattle.run_books.proofs.BooksGrown.{grown_books, grown-front, grown-commits, grown-booked, grown-even}
-use Rattle.run_books.proofs.BooksImages.{backs-alone, doubt-kept, block-kept, vote-kept}
+use Rattle.run_books.proofs.BooksImages.{backs-alone, doubt-kept, block-kept}
+use Rattle.run_books.proofs.BooksVersions.{rule-true, unapplied-true, versions-same}
 use Rattle.run_books.specs.Stages.{stage_by}
 
 -- no file answers it
@@ -131,7 +132,7 @@ cut-more live p opening old said unsaid more rest now none c =
 
 module _ (tells : Bool) (o : Outset) (b : Books) (r : Run) (e : CoreEvent) (settler : Settler) (counts : Channel → ℕ) (now : World)
     (above : 0 < r.base) (units : KeepsUnitRule (basis_of o) r) (after : KeepsUnitRule (basis_of o) (extended r (e ∷ [])))
-    (leaves : LeavesBatches (ends r) (ends (extended r (e ∷ [])))) (answers : TellsNoFile e) (k : KeepsBooks tells o b (stage_by r settler counts now)) where
+    (leaves : LeavesBatches (ends r) (ends (extended r (e ∷ [])))) (answers : TellsNoFile e) (true_is : IsTrueLoad r.opening (ends r) e) (k : KeepsBooks tells o b (stage_by r settler counts now)) where
   abbrev r' : Run
   r' = extended r (e ∷ [])
 
@@ -175,13 +176,14 @@ module _ (tells : Bool) (o : Outset) (b : Books) (r : Run) (e : CoreEvent) (sett
     };
     later = k.later;
     booked = grown-booked b more [] b.doubted (ends r) (ends r') added.1 refl [] k.booked
-        (committed-stays (basis_of o) r above units e answers.sealed ∙ sym (append-nil (committed (ends r)))) tt (doubt-kept r (e ∷ []) b.doubted k.booked.doubted);
+        (committed-stays r above e answers.sealed ∙ sym (append-nil (committed (ends r)))) tt (doubt-kept r (e ∷ []) b.doubted k.booked.doubted);
     said = put-still b (ends r) (ends r') more added.1 leaves.emitted told settler.quiet k.said;
     cut = cut-still b (ends r) (ends r') more added.1 (shape_in o.program) k.cut;
     doubt = k.doubt ∙ ap is_some (sym leaves.doubt);
     slot = k.slot;
     unsure = k.unsure;
     written = k.written ∙ sym leaves.emitted;
+    versions = λ t. versions-same o b books r settler.writer settler.writer now.disk now.disk (k.versions t) refl refl (grown-commits b more [] b.doubted ∙ append-nil (commits_of (b.said ++ b.unsaid))) e above true_is;
     outside = λ t. record {
       output = (k.outside t).output;
       calls = calls-same o r r' counts counts now now (k.outside t).calls (λ none. none) same-vote same-sealed same-unsealed (λ g. how-same (is_vote_of g) r e (answers.vote_of g)) refl
@@ -245,7 +247,6 @@ module _ (tells : Bool) (o : Outset) (b : Books) (r : Run) (e : CoreEvent) (sett
       bodies = f.bodies;
       log = f.log ∙ ap (grown o.opening) (sym (grown-commits b more [] b.doubted ∙ append-nil (commits_of (b.said ++ b.unsaid))));
       keeps = f.keeps;
-      votes = λ v m. vote-kept r (e ∷ []) above settler.writer.batch v.unit v.write.grain v.state (f.votes v m);
       behind = λ none. f.behind (none-before is_unsealed r (e ∷ []) none);
     });
   }
@@ -261,13 +262,13 @@ pub others-still : (tells : Bool) (o : Outset) (b : Books) (r : Run) (e : CoreEv
     → 0 < r.base → KeepsUnitRule (basis_of o) r → KeepsUnitRule (basis_of o) (extended r (e ∷ [])) → is_settling e ≡ false → KeepsBooks tells o b (stage_by r settler counts now)
     → (g : BooksGoOn tells o b (stage_by r settler counts now) (stage_by (extended r (e ∷ [])) settler counts now)) × (g.books.rest ≡ b.rest)
 others-still tells o b r e settler counts now above units after other k =
-    (go-on tells o b r e settler counts now above units after (others-leave r e other) (answers-none e other) k, refl)
+    (go-on tells o b r e settler counts now above units after (others-leave r e other) (answers-none e other) (rule-true (basis_of o) r e after) k, refl)
 
 -- and where none is, so it stays
 pub others-keep : OthersKeep
 others-keep tells o b r e settler counts now above units after other even k = (
-  go-on tells o b r e settler counts now above units after (others-leave r e other) (answers-none e other) k,
-  still-even tells o b r e settler counts now above units after (others-leave r e other) (answers-none e other) k even,
+  go-on tells o b r e settler counts now above units after (others-leave r e other) (answers-none e other) (rule-true (basis_of o) r e after) k,
+  still-even tells o b r e settler counts now above units after (others-leave r e other) (answers-none e other) (rule-true (basis_of o) r e after) k even,
 )
 
 -- one that no file answers, and that doesn't apply, keeps them too
@@ -285,4 +286,4 @@ unapplied-keeps tells o b r e settler counts now above units after unapplied ans
       doubt = ap (λ (w : CoreState). w.manager.doubt) same;
       emitted = ap (λ (w : CoreState). w.manager.emitted) same;
     } in
-    (go-on tells o b r e settler counts now above units after leaves answers k, still-even tells o b r e settler counts now above units after leaves answers k even)
+    (go-on tells o b r e settler counts now above units after leaves answers (unapplied-true r.opening (ends r) e unapplied) k, still-even tells o b r e settler counts now above units after leaves answers (unapplied-true r.opening (ends r) e unapplied) k even)

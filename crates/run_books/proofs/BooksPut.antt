@@ -27,6 +27,7 @@ use Rattle.promise_laws.proofs.JournalSteps.{cut-no_feed, cut_is_front}
 use Rattle.settler_rules.specs.Entries.{IsEntryInRange}
 use Rattle.settler_rules.proofs.SettledEntries.{entry-proper}
 use Rattle.settler_rules.proofs.Commits.{others-leave as committed-stays}
+use Rattle.batch_disk.specs.declared.writer.BatchWriter.{BatchWriter}
 use Rattle.settle_loop.specs.ShownWork.{counted_up}
 use Rattle.settle_loop.specs.declared.settler.Settler.{Settler}
 use Rattle.run_books.specs.Beginnings.{Outset, basis_of}
@@ -38,7 +39,8 @@ use Rattle.run_books.proofs.BooksCore.{Moves}
 use Rattle.run_books.proofs.BooksCounts.{how-same}
 use Rattle.run_books.proofs.BooksFaults.{NoneFell, calm-later, failed-later, faults-same, fell-both, rose-back}
 use Rattle.run_books.proofs.BooksImages.{doubt-kept}
-use Rattle.run_books.proofs.BooksWritten.{member-at, parts, said_next, next-told, next-booked, next-grew}
+use Rattle.run_books.proofs.BooksVersions.{versions-same, versions-as-were}
+use Rattle.run_books.proofs.BooksWritten.{member-at, parts, said_next, next-front, next-told, next-booked, next-grew}
 use Rattle.run_books.specs.Stages.{stage_of}
 
 -- a count has room for one more
@@ -49,11 +51,11 @@ module _ {H : Type 0} (tells : Bool) (world : H → World) (faults : H → Chann
     (above : 0 < r.base) (units : KeepsUnitRule (basis_of o) r) (kinds : r.kinds ≡ length o.program.types) (room : (ends r).manager.emitted < 2 ^ 64 - 1)
     (k : KeepsBooks tells o b (stage_of world faults r before old)) where
   -- an entry that is settled can be written
-  proper : (x : Entry) → slice_get (ends r).manager.settled (ends r).manager.emitted ≡ Some x → IsEntryInRange x → IsProper (shape_in o.program) x
-  proper x next range = entry-proper (basis_of o) r above units kinds x (member-at (ends r).manager.emitted (ends r).manager.settled x next) range
+  proper : IsTrue tells → (x : Entry) → slice_get (ends r).manager.settled (ends r).manager.emitted ≡ Some x → IsEntryInRange x → IsProper (shape_in o.program) x
+  proper t x next range = entry-proper (basis_of o) r above (k.versions t).loads units kinds x (member-at (ends r).manager.emitted (ends r).manager.settled x next) range
 
   module _ (a : applies (ends r) Emitted ≡ true) (m : Moves (ends r) Emitted (ends (extended r (Emitted ∷ [])))) (quiet_is : after.quiet ≡ before.quiet) (written : after.written ≡ counted_up before.written)
-      (doubted : after.doubted ≡ before.doubted) (writer : after.writer.in_doubt ≡ before.writer.in_doubt) (slot : after.writer.slot ≡ before.writer.slot) where
+      (doubted : after.doubted ≡ before.doubted) (writer : after.writer ≡ before.writer) (disk : IsTrue tells → (world new).disk ≡ (world old).disk) where
     abbrev r' : Run
     r' = extended r (Emitted ∷ [])
 
@@ -64,20 +66,21 @@ module _ {H : Type 0} (tells : Bool) (world : H → World) (faults : H → Chann
     emitted = (m.counted refl).0
 
     commits : committed (ends r') ≡ committed (ends r)
-    commits = committed-stays (basis_of o) r above units Emitted refl
+    commits = committed-stays r above Emitted refl
 
-    kept-by : (c : Books) → AreBooked c (ends r') → IsPutOut after.quiet c (ends r') → c.rest ≡ [] → NoneFell (faults old) (faults new) → (IsTrue tells → ShowsOutside o c r' (faults new) (world new))
+    kept-by : (c : Books) → commits_of (c.said ++ c.unsaid) ≡ commits_of (b.said ++ b.unsaid) → AreBooked c (ends r') → IsPutOut after.quiet c (ends r') → c.rest ≡ [] → NoneFell (faults old) (faults new) → (IsTrue tells → ShowsOutside o c r' (faults new) (world new))
         → KeepsBooks tells o c (stage_of world faults r' after new)
-    kept-by c booked said rest later outside = record {
+    kept-by c same booked said rest later outside = record {
       faults = faults-same o.live r r' o.faults (faults old) (faults new) k.faults later (λ g. how-same (is_no g) r Emitted refl) (how-same is_unsealed r Emitted refl);
       later = fell-both o.faults (faults old) (faults new) k.later later;
       booked = booked;
       said = said;
       cut = inl rest;
       doubt = doubted ∙ k.doubt ∙ ap is_some (sym (m.doubt refl));
-      slot = slot ∙ k.slot;
-      unsure = writer ∙ k.unsure ∙ sym doubted;
+      slot = ap (λ (w : BatchWriter). w.slot) writer ∙ k.slot;
+      unsure = ap (λ (w : BatchWriter). w.in_doubt) writer ∙ k.unsure ∙ sym doubted;
       written = written ∙ ap counted_up k.written ∙ counted-is (ends r).manager.emitted room ∙ sym emitted;
+      versions = λ t. versions-same o b c r before.writer after.writer (world old).disk (world new).disk (k.versions t) writer (disk t) same Emitted above tt;
       outside = outside;
     }
 
@@ -92,7 +95,7 @@ module _ {H : Type 0} (tells : Bool) (world : H → World) (faults : H → Chann
         let later : NoneFell (faults old) (faults new) = calm-later (faults old) (faults new) (λ c. ap (λ (h : H). faults h c) host) in
         let now_quiet : after.quiet ≡ true = quiet_is ∙ quiet in
         let none : b.said ≡ [] = subst (λ (q : Bool). IsPutOut q b (ends r)) quiet k.said in (
-          kept-by b
+          kept-by b refl
               (record {
                 commits = subst (λ (es : List Effect). AreRecordsOf es (commits_of (b.said ++ b.unsaid))) (sym commits) k.booked.commits;
                 entries = k.booked.entries ∙ sym settled;
@@ -116,10 +119,10 @@ module _ {H : Type 0} (tells : Bool) (world : H → World) (faults : H → Chann
         let c : Books = said_next b (ends r) x k.booked next even in
         let told : entries_of c.said ≡ take (ends r').manager.emitted (ends r').manager.settled =
         next-told b (ends r) x k.booked next even ∙ (λ i. take (sym emitted i) (sym settled i)) in (
-          kept-by c (next-booked b (ends r) x k.booked next even (ends r') settled commits (doubt-kept r (Emitted ∷ []) b.doubted k.booked.doubted))
+          kept-by c (ap commits_of (next-front b (ends r) x k.booked next even)) (next-booked b (ends r) x k.booked next even (ends r') settled commits (doubt-kept r (Emitted ∷ []) b.doubted k.booked.doubted))
               (subst (λ (q : Bool). IsPutOut q c (ends r')) (sym now_loud) (inl told)) even.rest later
               (λ t. record {
-                output = next-grew b (ends r) x k.booked next even o (world old) (world new) (k.outside t).output (proper x next range) (line t).output;
+                output = next-grew b (ends r) x k.booked next even o (world old) (world new) (k.outside t).output (proper t x next range) (line t).output;
                 calls = calls later t (line t).syncs (λ g. file-emitted (Grain o.live g) _ _ (world old) (world new) (line t));
               }),
           subst (λ (q : Bool). AreEven q c (ends r')) (sym now_loud) (record { rest = even.rest; told = told; single = λ q. (parts b (ends r) x k.booked next even).single }),
@@ -137,9 +140,9 @@ module _ {H : Type 0} (tells : Bool) (world : H → World) (faults : H → Chann
 
   module _ (loud : before.quiet ≡ false) (even : AreEven false b (ends r)) (x : Entry) (range : IsEntryInRange x) (next : slice_get (ends r).manager.settled (ends r).manager.emitted ≡ Some x)
       (failed : FailedOn Output (faults old) (faults new)) where
-    stays-by : (c : Books) → AreBooked c (ends r) → IsPutOut before.quiet c (ends r) → IsCutOff (shape_in o.program) c (ends r) → (IsTrue tells → Grew (shape_in o.program) o.world.output (world new).output (entries_of c.said) c.rest)
+    stays-by : (c : Books) → commits_of (c.said ++ c.unsaid) ≡ commits_of (b.said ++ b.unsaid) → AreBooked c (ends r) → IsPutOut before.quiet c (ends r) → IsCutOff (shape_in o.program) c (ends r) → (IsTrue tells → Grew (shape_in o.program) o.world.output (world new).output (entries_of c.said) c.rest)
         → {m : ℕ} {text : List ℕ} → (IsTrue tells → IsAppended m text (world old) (world new)) → KeepsBooks tells o c (stage_of world faults r before new)
-    stays-by c booked said cut grew {m} {text} line =
+    stays-by c same booked said cut grew {m} {text} line =
         let later : NoneFell (faults old) (faults new) = failed-later Output (faults old) (faults new) failed in
         record {
           faults = faults-same o.live r r o.faults (faults old) (faults new) k.faults later (λ g. refl) refl;
@@ -151,6 +154,7 @@ module _ {H : Type 0} (tells : Bool) (world : H → World) (faults : H → Chann
           slot = k.slot;
           unsure = k.unsure;
           written = k.written;
+          versions = λ t. versions-as-were o b c r before.writer before.writer (world old).disk (world new).disk (k.versions t) refl (line t).disk same;
           outside = λ t. record {
             output = grew t;
             calls = calls-same o r r (faults old) (faults new) (world old) (world new) (k.outside t).calls (rose-back o.faults (faults old) (faults new) k.later later) refl refl refl (λ g. refl)
@@ -162,9 +166,9 @@ module _ {H : Type 0} (tells : Bool) (world : H → World) (faults : H → Chann
     pub cut-whole : (tells ≡ true → IsEmitted (reply_line (shape_in o.program) x) (world old) (world new)) → KeepsBooks tells o (said_next b (ends r) x k.booked next even) (stage_of world faults r before new)
     cut-whole line =
         let c : Books = said_next b (ends r) x k.booked next even in
-        stays-by c (next-booked b (ends r) x k.booked next even (ends r) refl refl k.booked.doubted)
+        stays-by c (ap commits_of (next-front b (ends r) x k.booked next even)) (next-booked b (ends r) x k.booked next even (ends r) refl refl k.booked.doubted)
         (subst (λ (q : Bool). IsPutOut q c (ends r)) (sym loud) (inr (next-told b (ends r) x k.booked next even, even.rest))) (inl even.rest)
-        (λ t. next-grew b (ends r) x k.booked next even o (world old) (world new) (k.outside t).output (proper x next range) (line t).output) line
+        (λ t. next-grew b (ends r) x k.booked next even o (world old) (world new) (k.outside t).output (proper t x next range) (line t).output) line
 
     -- the books with a part of the line
     abbrev pub part_said : ℕ → Books
@@ -175,7 +179,7 @@ module _ {H : Type 0} (tells : Bool) (world : H → World) (faults : H → Chann
         let text : List ℕ = reply_line (shape_in o.program) x in
         let front : List ℕ = reply_lines (shape_in o.program) (entries_of b.said) in
         let count : length (entries_of b.said) ≡ (ends r).manager.emitted = ap length even.told ∙ take-length (ends r).manager.emitted (ends r).manager.settled told in
-        stays-by (part_said n) (record { commits = k.booked.commits; entries = k.booked.entries; doubted = k.booked.doubted })
+        stays-by (part_said n) refl (record { commits = k.booked.commits; entries = k.booked.entries; doubted = k.booked.doubted })
         (subst (λ (q : Bool). IsPutOut q (part_said n) (ends r)) (sym loud) (inl even.told))
         (inr (x, ap (λ (i : ℕ). slice_get (ends r).manager.settled i) count ∙ next, cut_is_front (shape_in o.program) x n))
         (λ t. record {

@@ -1,5 +1,5 @@
 -- What the images keep of the books after an event that puts nothing out.
-use Rattle.std.proofs.Common.{◌≡◌, inl, inr, ℕ, ◌<◌, List, [], ◌∷◌, ◌++◌, false, refl, sym, ap, ◌∙◌, subst, append-nil, append_assoc}
+use Rattle.std.proofs.Common.{◌≡◌, inl, inr, ℕ, ◌<◌, List, [], ◌∷◌, ◌++◌, false, refl, sym, ap, ◌∙◌, subst, append-nil}
 use Rattle.std.specs.List.{AllByRecursion}
 use Rattle.base_types.specs.declared.entries.Entry.{Entry}
 use Rattle.host_trait.specs.World.{World, Moment, Passes, moment_of}

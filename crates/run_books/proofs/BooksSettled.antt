@@ -13,6 +13,8 @@ use Rattle.host_trait.specs.Faults.{Rose}
 use Rattle.host_trait.specs.World.{World, Passes, Emitted as IsAppended, IsEmitted}
 use Rattle.host_trait.proofs.Moments.{both, one}
 use Rattle.request_wire.specs.Reply.{reply_line}
+use Rattle.core_model.specs.CoreState.{CoreState}
+use Rattle.batch_disk.specs.declared.writer.BatchWriter.{BatchWriter}
 use Rattle.core_model.specs.declared.events.CoreEvent.{CoreEvent}
 use Rattle.core_model.specs.declared.events.CoreEvent.TheVariants as event
 use Rattle.core_model.specs.declared.events.CoreReply.{CoreReply}
@@ -58,7 +60,8 @@ use Rattle.run_books.proofs.BooksStep.{StepDone, IsCounted, by-decide, by-learn,
 use Rattle.run_books.proofs.BooksEnd.{by-doubt}
 use Rattle.run_books.proofs.BooksFaults.{NoneFell, calm-later, faults-same, fell-both, rose-back}
 use Rattle.run_books.proofs.BooksFair.{is-fair, votes-same}
-use Rattle.run_books.proofs.BooksStated.{SettledKeep}
+use Rattle.run_books.proofs.BooksStated.{DidFor, SettledKeep}
+use Rattle.run_books.proofs.BooksVersions.{versions-stay}
 use Rattle.run_books.specs.Stages.{stage_of}
 
 -- a step of the open batch
@@ -71,6 +74,12 @@ is_of_batch Writes = false
 is_of_batch (Loads g) = false
 is_of_batch Takes = false
 is_of_batch Rests = false
+
+-- what was done for it was done for it as it comes
+pub did-for : {H : Type 0} (tells : Bool) (world : H → World) (faults : H → Channel → ℕ) (live : ℕ) (e : CoreEvent) (quiet : Bool) (shape : Shape) (w : CoreState) (before after : BatchWriter) (old new : H)
+    → DoesFor tells world faults live e quiet shape w before after old new → DidFor tells world faults live e quiet shape w before after old new
+did-for tells world faults live (event.Vote n g said) quiet shape w before after old new does = (versions_to_write w w.manager.batch g, (λ t. refl), does)
+did-for tells world faults live _ quiet shape w before after old new does = does
 
 some-true : {A : Type 0} (x : Option A) → is_some x ≡ true → (a : A) × (x ≡ Some a)
 some-true None q = absurd (let z : false ≡ true = q in cc)
@@ -96,7 +105,7 @@ module _ {H : Type 0} (tells : Bool) (world : H → World) (faults : H → Chann
   by-write true quiet does c =
       let m = moves-run r event.Emitted c.applied in
       let doubted : after.doubted ≡ before.doubted = c.doubted ∙ or-none before.doubted in
-      let put = put-quiet tells world faults o b r before after old new can.above can.units can.kinds can.room k c.applied m c.quiet c.written doubted (ap (λ w. w.in_doubt) does.writer) (ap (λ w. w.slot) does.writer) quiet does.line even in
+      let put = put-quiet tells world faults o b r before after old new can.above can.units can.kinds can.room k c.applied m c.quiet c.written doubted does.writer (λ t. ap (λ (h : H). (world h).disk) does.line) quiet does.line even in
       let same : world new ≡ world old = ap world does.line in
       record {
         books = b;
@@ -115,7 +124,7 @@ module _ {H : Type 0} (tells : Bool) (world : H → World) (faults : H → Chann
       let m = moves-run r event.Emitted c.applied in
       let doubted : after.doubted ≡ before.doubted = c.doubted ∙ or-none before.doubted in
       let even' : AreEven false b (ends r) = subst (λ (q : Bool). AreEven q b (ends r)) loud even in
-      let put = put-loud tells world faults o b r before after old new can.above can.units can.kinds can.room k c.applied m c.quiet c.written doubted (ap (λ w. w.in_doubt) does.writer) (ap (λ w. w.slot) does.writer) loud even' does.entry does.range does.next does.line.0 does.line.1 in
+      let put = put-loud tells world faults o b r before after old new can.above can.units can.kinds can.room k c.applied m c.quiet c.written doubted does.writer (λ t. (does.line.1 t).disk) loud even' does.entry does.range does.next does.line.0 does.line.1 in
       record {
         books = said_next b (ends r) does.entry k.booked does.next even';
         kept = put.0;
@@ -139,11 +148,11 @@ module _ {H : Type 0} (tells : Bool) (world : H → World) (faults : H → Chann
   made s e q m = subst (λ (x : Step). MakesEvent x e) (sym q) m
 
   abbrev pub Todo : CoreEvent → Type 0
-  Todo e = DoesFor tells world faults o.live e before.quiet (shape_in o.program) (ends r) before.writer after.writer old new → Counted e → Done e
+  Todo e = DidFor tells world faults o.live e before.quiet (shape_in o.program) (ends r) before.writer after.writer old new → Counted e → Done e
 
   -- by a step that is the settler's, where it is one of the open batch
   pub done : (s : Step) (e : CoreEvent) → (is_of_batch s ≡ true → settler_step (ends r) ≡ s) → MakesEvent s e → Todo e
-  done (Votes n g) e q m = subst Todo (sym m.1) (λ does c. by-vote tells world faults o b r before after old new can even k n g m.0 (made (Votes n g) (event.Vote n g m.0) (q refl) (m.0, refl)) does c)
+  done (Votes n g) e q m = subst Todo (sym m.1) (λ does c. by-vote tells world faults o b r before after old new can even k n g m.0 does.0 (made (Votes n g) (event.Vote n g m.0) (q refl) (m.0, refl)) does.1 does.2 c)
   done (Decides n) e q m = subst Todo (sym m) (λ does c. by-decide tells world faults o b r before after old new can even k n does c)
   done (SealStep n) e q (inl m) = subst Todo (sym m) (λ does c. by-sealed tells world faults o b r before after old new can even k n (made (SealStep n) (event.Sealed n) (q refl) (inl refl)) does c)
   done (SealStep n) e q (inr (inl m)) = subst Todo (sym m) (λ does c. by-unsealed tells world faults o b r before after old new can even k n (made (SealStep n) (event.NotSealed n) (q refl) (inr (inl refl))) does c)
@@ -192,7 +201,7 @@ module _ {H : Type 0} (tells : Bool) (world : H → World) (faults : H → Chann
     }
 
     pub put-done : Done e
-    put-done = done (settler_step (ends r)) e (λ q. refl) makes does counted
+    put-done = done (settler_step (ends r)) e (λ q. refl) makes (did-for tells world faults o.live e before.quiet (shape_in o.program) (ends r) before.writer after.writer old new does) counted
 
 -- the run behind an event that was put
 put-run : {H : Type 0} (tells : Bool) (world : H → World) (faults : H → Channel → ℕ) (shape : Shape) (r r' : Run) (before after : Settler) (old new : H) (e : CoreEvent) (p : CoreReply) (mid : Sight)
@@ -298,6 +307,10 @@ module _ {H : Type 0} (tells : Bool) (world : H → World) (faults : H → Chann
             slot = lacks.same.slot ∙ k.slot;
             unsure = lacks.same.doubt ∙ k.unsure ∙ sym doubted;
             written = ap (λ (s : Settler). s.written) settler ∙ k.written;
+            versions = λ t. (
+                let fair = (is-fair o r before.writer can.above (k.versions t).loads can.units can.kinds can.accepted can.numbers (k.versions t).votes).vote n g votes in
+                versions-stay o b b r before.writer after.writer (world old).disk (world new).disk (k.versions t) ((lacks.images t).placed (shape_in o.program) fair.0 fair.1 (k.versions t).stand) lacks.same.places refl
+                (votes-same r n before.writer after.writer lacks.batch lacks.kept (k.versions t).votes));
             outside = λ t. record {
               output = subst (λ (w : World). Grew (shape_in o.program) o.world.output w.output (entries_of b.said) b.rest) (sym (lacks.world_is t)) (k.outside t).output;
               calls = calls-same o r r (faults old) (faults new) (world old) (world new) (k.outside t).calls (rose-back o.faults (faults old) (faults new) k.later later) refl refl refl (λ h. refl)
@@ -315,14 +328,13 @@ module _ {H : Type 0} (tells : Bool) (world : H → World) (faults : H → Chann
             block = l.block;
             folder = λ q. (
                 let f = l.folder (sym lacks.same.doubt ∙ q) in
-                let fair = (is-fair o r before.writer can.above can.units can.kinds can.accepted can.numbers f.votes).vote n g votes in
+                let fair = (is-fair o r before.writer can.above (k.versions t).loads can.units can.kinds can.accepted can.numbers (k.versions t).votes).vote n g votes in
                 record {
                   stood = f.stood;
                   bodies = f.bodies;
                   log = f.log;
                   keeps = subst (λ (w : World). KeepsDisk o.live (shape_in o.program) head f.stood f.bodies after.writer w.disk) (lacks.world_is t)
                       ((lacks.images t).keeps (shape_in o.program) head f.stood f.bodies fair.0 fair.1 f.keeps);
-                  votes = votes-same r n before.writer after.writer lacks.batch lacks.kept f.votes;
                   behind = λ none. subst (λ (gate : ℕ). EndsAsBegun o gate ((world old).disk (Manager o.live))) (sym lacks.same.gate) (f.behind none);
                 });
           });
@@ -404,7 +416,7 @@ module _ {H : Type 0} (tells : Bool) (world : H → World) (faults : H → Chann
       whole-proper x range next loud even' t =
           subst (AllByRecursion (IsProper (shape_in o.program))) (sym (next-entries b (ends r) x k.booked next even'))
           (all-last (IsProper (shape_in o.program)) (entries_of b.said) x (k.outside t).output.proper
-          (entry-proper (basis_of o) r can.above can.units can.kinds x (member-at (ends r).manager.emitted (ends r).manager.settled x next) range))
+          (entry-proper (basis_of o) r can.above (k.versions t).loads can.units can.kinds x (member-at (ends r).manager.emitted (ends r).manager.settled x next) range))
 
   broken-off : (r' : Run) (after : Settler) (new : H) → IsBrokenOff tells world faults none_comes (shape_in o.program) before after (own_sight r) (own_sight r') old new
       → (g : BooksGoOn tells o b (stage_of world faults r before old) (stage_of world faults r' after new)) × Rose (o.faults Output) (faults new Output)

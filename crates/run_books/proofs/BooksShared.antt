@@ -51,7 +51,8 @@ use Rattle.run_books.proofs.BooksOthers.{others-keep, unapplied-keeps}
 use Rattle.run_books.proofs.BooksSettled.{is_of_batch, done, WentOn, went, lacks-at, cut-by, in-doubt}
 use Rattle.run_books.proofs.Fronts.{after-base, after-kinds, after-units}
 use Rattle.run_books.proofs.Reliance.{sees-none, sees-look, sees-both, run-sees, counts-on, going-before, relies-before}
-use Rattle.run_books.proofs.ShownWork.{Stays, not-settling, stays-all, step-stays, does-on}
+use Rattle.run_books.proofs.BooksStated.{DidFor}
+use Rattle.run_books.proofs.ShownWork.{Stays, LoadsTrue, not-settling, stays-all, step-stays, does-on}
 use Rattle.run_books.specs.Stages.{Stage, stage_by, stage_of}
 
 -- ---- one after another
@@ -107,7 +108,7 @@ entry-applies w x next =
 module _ {H : Type 0} (tells : Bool) (world : H → World) (faults : H → Channel → ℕ) (o : Outset) (b : Books) (r : Run) (before after : Settler) (old new : H)
     (can : CanSettle o (shape_in o.program) r) (even : AreEven before.quiet b (ends r)) (k : KeepsBooks tells o b (stage_of world faults r before old)) where
   abbrev Does : CoreEvent → Type 0
-  Does e = DoesFor tells world faults o.live e before.quiet (shape_in o.program) (ends r) before.writer after.writer old new
+  Does e = DidFor tells world faults o.live e before.quiet (shape_in o.program) (ends r) before.writer after.writer old new
 
   -- no host call was made, and no file answers the event
   abbrev pub IsIdleEvent : CoreEvent → Type 0
@@ -254,10 +255,10 @@ module _ {H : Type 0} (tells : Bool) (world : H → World) (faults : H → Chann
       (go-both tells o b (stage_of world faults (run_seen s) before old) (stage_of world faults (run_seen x) after new) (stage_of world faults (run_after (run_seen x) l.rest) after new) g.0 h.0, h.1)
 
   -- what was shown stays
-  stays-on : (x y : Sight) → IsBetween x → IsBetween y → Looks may x y → Stays (ends (run_seen x)) (ends (run_seen y))
+  stays-on : (x y : Sight) → IsBetween x → IsBetween y → Looks may x y → Stays (LoadsTrue (run_seen x)) (ends (run_seen x)) (ends (run_seen y))
   stays-on x y i j l =
       let run = runs-on x y l in
-      subst (λ (r : Run). Stays (ends (run_seen x)) (ends r)) (sym run)
+      subst (λ (r : Run). Stays (LoadsTrue (run_seen x)) (ends (run_seen x)) (ends r)) (sym run)
       (stays-all (basis_of o) l.rest (run_seen x) (above-at x i) (subst (KeepsUnitRule (basis_of o)) run (relies-at y j).units) (works-on x y i j l))
 
   -- ---- an event was put
@@ -296,18 +297,21 @@ module _ {H : Type 0} (tells : Bool) (world : H → World) (faults : H → Chann
     behind : IsBetween mid
     behind = record { since = sees-both s x mid to-x (sees-put x mid e p put.told.sight); until = on }
 
+    at-look : Went (run_seen put.acts.seen) before old
+    at-look = move s seen put-first looking put.acts.looked before old start
+
     up-to : Went (run_seen (saw put.acts.seen put.told.rest)) before old
-    up-to = move seen x looking here look-on before old (move s seen put-first looking put.acts.looked before old start)
+    up-to = move seen x looking here look-on before old at-look
 
     run-is : run_seen mid ≡ extended (run_seen (saw put.acts.seen put.told.rest)) (e ∷ [])
     run-is = ap run_seen put.told.sight ∙ run-told x e p
 
     pub put-went : Went (run_seen mid) after new
     put-went =
-        let stays : Stays (ends (run_seen seen)) (ends (run_seen x)) = stays-on seen x looking here look-on in
+        let stays : Stays (LoadsTrue (run_seen seen)) (ends (run_seen seen)) (ends (run_seen x)) = stays-on seen x looking here look-on in
         let h = put-at tells world faults o up-to.0.books (run_seen x) before after old new (can-at x here) up-to.1 up-to.0.kept (settler_step (ends (run_seen seen))) e
         (λ of. step-stays (ends (run_seen seen)) (ends (run_seen x)) stays.batch of) put.acts.makes p put.told.reply
-        (does-on tells world faults o.live before.quiet (shape_in o.program) (ends (run_seen seen)) (ends (run_seen x)) before.writer after.writer old new stays e (in-slot e seen after new put.acts.does))
+        (does-on tells world faults o.live before.quiet (shape_in o.program) (ends (run_seen seen)) (ends (run_seen x)) before.writer after.writer old new (LoadsTrue (run_seen seen)) (λ t. (at-look.0.kept.versions t).loads) stays e (in-slot e seen after new put.acts.does))
         put.counts (subst (KeepsUnitRule (basis_of o)) run-is (relies-at mid behind).units) in
         subst (λ (r : Run). Went r after new) (sym run-is)
         (go-both tells o b (stage_of world faults (run_seen s) before old) (stage_of world faults (run_seen x) before old) (stage_of world faults (extended (run_seen x) (e ∷ [])) after new) up-to.0 h.0, h.1)
@@ -340,11 +344,12 @@ module _ {H : Type 0} (tells : Bool) (world : H → World) (faults : H → Chann
       let first : IsBetween s = record { since = sees-none s; until = sees-both s seen t to from } in
       let mid : IsBetween seen = record { since = to; until = from } in
       let last : IsBetween t = record { since = sees-both s seen t to from; until = sees-none t } in
-      let g : Went (run_seen t) before old = move seen t mid last n.unput before old (move s seen first mid n.acts.looked before old start) in
-      let stays : Stays (ends (run_seen seen)) (ends (run_seen t)) = stays-on seen t mid last n.unput in
+      let look : Went (run_seen seen) before old = move s seen first mid n.acts.looked before old start in
+      let g : Went (run_seen t) before old = move seen t mid last n.unput before old look in
+      let stays : Stays (LoadsTrue (run_seen seen)) (ends (run_seen seen)) (ends (run_seen t)) = stays-on seen t mid last n.unput in
       let idle = idle-event tells world faults o g.0.books (run_seen t) before after old new (can-at t last) g.1 g.0.kept (settler_step (ends (run_seen seen))) e
       (λ of. step-stays (ends (run_seen seen)) (ends (run_seen t)) stays.batch of) n.acts.makes n.unspared
-      (does-on tells world faults o.live before.quiet (shape_in o.program) (ends (run_seen seen)) (ends (run_seen t)) before.writer after.writer old new stays e (in-slot e seen after new n.acts.does)) in
+      (does-on tells world faults o.live before.quiet (shape_in o.program) (ends (run_seen seen)) (ends (run_seen t)) before.writer after.writer old new (LoadsTrue (run_seen seen)) (λ told. (look.0.kept.versions told).loads) stays e (in-slot e seen after new n.acts.does)) in
       same-as (run_seen t) after new (n.settler ∙ ap (λ w. record before { writer = w }) idle.0.writer) idle.0.host g
 
   -- ---- whatever it answers

@@ -1,14 +1,21 @@
 -- What the books are to a step of the settler, and to an event of others: as it is stated.
-use Rattle.std.specs.Prelude.{◌≡◌, ◌<◌, ℕ, Bool, false, [], ◌∷◌, Result}
+use Rattle.std.specs.Prelude.{◌≡◌, ◌<◌, ℕ, Bool, false, IsTrue, List, [], ◌∷◌, Result}
 use Rattle.base_types.specs.declared.shapes.Shape.{Shape}
 use Rattle.host_trait.specs.declared.channels.Channel.{Channel}
 use Rattle.host_trait.specs.World.{World}
+use Rattle.base_types.specs.declared.stores.Version.{Version}
+use Rattle.core_model.specs.CoreState.{CoreState}
+use Rattle.core_model.specs.Settler.{versions_to_write}
 use Rattle.core_model.specs.declared.events.CoreEvent.{CoreEvent}
+use Rattle.core_model.specs.declared.events.CoreEvent.TheVariants.{Vote}
 use Rattle.core_model.specs.Laws.{extended}
 use Rattle.core_model.specs.LegalRuns.{Run, ends}
 use Rattle.core_access.specs.OneHolder.{none_comes, own_sight}
 use Rattle.core_access.specs.SettlerEvents.{is_settling}
 use Rattle.promise_spec.specs.UnitRule.{KeepsUnitRule}
+use Rattle.batch_disk.specs.VoteAnswers.{VotesOn}
+use Rattle.batch_disk.specs.declared.writer.BatchWriter.{BatchWriter}
+use Rattle.settle_loop.specs.HostSteps.{DoesFor}
 use Rattle.settle_loop.specs.SettlerStep.{TurnsAs}
 use Rattle.settle_loop.specs.declared.settler.Settler.{Settler}
 use Rattle.settle_loop.specs.declared.settler.Turned.{Turned}
@@ -17,6 +24,13 @@ use Rattle.run_books.specs.Books.{Books}
 use Rattle.run_books.specs.Records.{KeepsBooks}
 use Rattle.run_books.specs.BooksSteps.{AreEven, CanSettle, SaysOfStep, BooksGoOn}
 use Rattle.run_books.specs.Stages.{stage_by, stage_of}
+
+-- What was done for an event, as it is known in the state in which the event comes: of a vote the versions are those that are shown there
+-- where loads are true, and so over a host that tells.
+abbrev pub DidFor : {H : Type 0} → Bool → (H → World) → (H → Channel → ℕ) → ℕ → CoreEvent → Bool → Shape → CoreState → BatchWriter → BatchWriter → H → H → Type 0
+DidFor tells world faults live (Vote n g said) quiet shape w before after old new =
+    (versions : List Version) × (IsTrue tells → versions ≡ versions_to_write w w.manager.batch g) × VotesOn tells world faults live n g said versions before after old new
+DidFor tells world faults live e quiet shape w before after old new = DoesFor tells world faults live e quiet shape w before after old new
 
 -- A step of the settler, over a core alone, with its answer.
 abbrev pub SettledKeep : Type 1

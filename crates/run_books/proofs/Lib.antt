@@ -18,6 +18,8 @@ pub mod BooksWritten
 pub mod BooksPut
 pub mod BooksSeals
 pub mod BooksFair
+pub mod TrueLoads
+pub mod BooksVersions
 pub mod BooksEmits
 pub mod BooksInDoubt
 pub mod BooksDoubting

@@ -42,6 +42,7 @@ module _ (o : Outset) (more : List (List ℕ)) where
     doubt = k.doubt;
     unsure = k.unsure;
     written = k.written;
+    versions = λ told. (let v = k.versions told in record { votes = v.votes; stand = v.stand; own = v.own; opened = v.opened; loads = v.loads });
     outside = λ told. outside-more b s.run s.faults s.world (k.outside told);
   }
 
@@ -51,7 +52,7 @@ module _ (o : Outset) (more : List (List ℕ)) where
 
   -- what the writer keeps of the folder
   folder-more : (head : List ℕ) (b : Books) (r : Run) (writer : BatchWriter) (disk : Disk) → KeepsFolder o head b r writer disk → KeepsFolder (with_more o more) head b r writer disk
-  folder-more head b r writer disk k = record { stood = k.stood; bodies = k.bodies; log = k.log; keeps = k.keeps; votes = k.votes; behind = k.behind }
+  folder-more head b r writer disk k = record { stood = k.stood; bodies = k.bodies; log = k.log; keeps = k.keeps; behind = k.behind }
 
   -- what lasts
   pub lasts-more : (head : List ℕ) (b : Books) (r : Run) (writer : BatchWriter) (now : World) → LastsSo o head b r writer now → LastsSo (with_more o more) head b r writer now

@@ -21,7 +21,7 @@ use Rattle.promise_spec.specs.TurnRule.{KeepsTurnRule}
 use Rattle.promise_spec.specs.Causes.{AreFaults, RunHasDoubt}
 use Rattle.promise_spec.specs.Endings.{Ending, Done, DiskFault, IsAllWritten, IsDiskFault, WriteFault as Unwritten, Memory as NoMemory}
 use Rattle.promise_spec.specs.Courses.{Observed, Course, basis, core_run, core_end}
-use Rattle.promise_spec.specs.Explanation.{AreAdded, AreSettled, FileMayEndInDoubt, LeavesUnvoted, EndsWritten, IsCutShort}
+use Rattle.promise_spec.specs.Explanation.{AreAdded, AreSettled, FileMayEndRun, LeavesUnvoted, EndsWritten, IsCutShort}
 use Rattle.promise_laws.specs.Obligations.{ExplainsEvents}
 use Rattle.settle_loop.specs.declared.settler.Settler.{Settler}
 use Rattle.run_books.specs.declared.faults.RunFault.{RunFault}
@@ -31,6 +31,7 @@ use Rattle.run_books.specs.Books.{Books, booked_journal, AreInDoubt, IsPutOut}
 use Rattle.run_books.specs.Records.{KeepsRecord, HasCarriedAll, TurnsEndAs}
 use Rattle.request_wire.specs.Reply.{reply_line}
 use Rattle.core_laws.proofs.LineEntries.{once-ends}
+use Rattle.core_laws.proofs.WithoutLimit.{loads-without-limit}
 use Rattle.run_books.specs.RunCourse.{EndsSo, IsCourseOf, turns_ending}
 use Rattle.run_books.specs.Stages.{Stage, stage_by}
 
@@ -128,8 +129,9 @@ explains tells o b r settler seen c k e turns is unvoted =
       faults = subst (λ (live : ℕ). AreFaults live (core_run o.program c) seen.faults_before seen.faults_after) (sym is.live)
           (subst (λ (f : Channel → ℕ). AreFaults o.live (core_run o.program c) f seen.faults_after) (sym is.before)
           (subst (λ (x : Run). AreFaults o.live x o.faults seen.faults_after) run k.books.faults));
-      doubted = λ file t. subst (λ (live : ℕ). FileMayEndInDoubt live (core_run o.program c) file) (sym is.live)
-          (subst (λ (x : Run). FileMayEndInDoubt o.live x file) run (e.doubted file t));
+      loads = loads-without-limit (core_run o.program c) refl;
+      doubted = λ file t. subst (λ (live : ℕ). FileMayEndRun live (core_run o.program c) file) (sym is.live)
+          (subst (λ (x : Run). FileMayEndRun o.live x file) run (inl (e.doubted file t)));
       ended = λ d. e.ended (subst RunHasDoubt is.run d);
       unvoted = unvoted;
     }

@@ -13,7 +13,8 @@ use Rattle.core_model.specs.declared.phases.Verdict.TheVariants.{Aborted}
 use Rattle.core_model.specs.Changes.{new_unit, swept, swept_by}
 use Rattle.core_model.specs.Events.{applies, can, does, is_allowed, step}
 use Rattle.core_model.specs.Laws.{extended}
-use Rattle.core_model.specs.LegalRuns.{Run, ends}
+use Rattle.core_model.specs.LegalRuns.{Run, begins, ends}
+use Rattle.core_model.specs.SerialOrder.{AllLoadsTrue}
 use Rattle.core_model.specs.Settler.{version_written, version_to_write, versions_to_write}
 use Rattle.core_model.specs.Tests.{has_bad_source, is_bad, members, state_written}
 use Rattle.core_laws.proofs.Consistency.{depends-earlier, depends-ends}
@@ -112,10 +113,10 @@ module _ (opening : GrainId → List Value) (w : CoreState) (k : Kept opening w)
       let t = versions-step e s in
       ap (λ (o : Option Batch). versions_to_write (step w e) o g) (t.1 ∙ q) ∙ t.0 ∙ sym (ap (λ (o : Option Batch). versions_to_write w o g) q)
 
--- in a run that keeps the unit rule
-pub versions-stay : (s : Basis) (r : Run) → 0 < r.base → KeepsUnitRule s r → (e : CoreEvent) → is_settling e ≡ false → (g : GrainId)
+-- in a run that keeps the unit rule, and whose loads are true
+pub versions-stay : (s : Basis) (r : Run) → 0 < r.base → AllLoadsTrue r.opening (begins r) r.events → KeepsUnitRule s r → (e : CoreEvent) → is_settling e ≡ false → (g : GrainId)
     → versions_to_write (ends (extended r (e ∷ []))) (ends (extended r (e ∷ []))).manager.batch g ≡ versions_to_write (ends r) (ends r).manager.batch g
-versions-stay s r above keeps e others g =
+versions-stay s r above loads keeps e others g =
     ap (λ (v : CoreState). versions_to_write v v.manager.batch g) (ends-more r (e ∷ []))
     ∙ subst (λ (w : CoreState). versions_to_write (step w e) (step w e).manager.batch g ≡ versions_to_write w w.manager.batch g) (ends_alike r) (by_batch (ends q).manager.batch refl)
   where
@@ -128,4 +129,4 @@ versions-stay s r above keeps e others g =
     by_batch : (o : Option Batch) → (ends q).manager.batch ≡ o → versions_to_write (step (ends q) e) (step (ends q) e).manager.batch g ≡ versions_to_write (ends q) (ends q).manager.batch g
     by_batch None none = ap (λ (o : Option Batch). versions_to_write (step (ends q) e) o g) (same-batch ∙ none) ∙ sym (ap (λ (o : Option Batch). versions_to_write (ends q) o g) none)
     by_batch (Some b) is =
-        versions-on q.opening (ends q) (kept-ends (is_play s.types) q (legal s r above keeps)) (depends-ends (is_play s.types) q (legal s r above keeps)) b is g e others
+        versions-on q.opening (ends q) (kept-ends (is_play s.types) q (legal s r above loads keeps)) (depends-ends (is_play s.types) q (legal s r above loads keeps)) b is g e others

@@ -1,10 +1,9 @@
 -- What a step of the settler showed stays while others put their events.
 use Rattle.std.proofs.Common.{◌≡◌, inl, inr, ℕ, ◌<◌, List, [], ◌∷◌, Bool, true, false, true≢false, not, ◌&&◌, refl, sym, ap, ◌∙◌, subst, Option, Some, None, is_some, nat_lt, length}
-use Rattle.std.specs.Prelude.{slice_get, if◌then◌else◌}
+use Rattle.std.specs.Prelude.{slice_get, if◌then◌else◌, IsTrue}
 use Rattle.base_types.specs.declared.calls.GrainId.{GrainId}
 use Rattle.base_types.specs.declared.entries.Entry.{Entry}
 use Rattle.base_types.specs.declared.shapes.Shape.{Shape}
-use Rattle.base_types.specs.declared.stores.Version.{Version}
 use Rattle.host_trait.specs.declared.channels.Channel.{Channel}
 use Rattle.host_trait.specs.World.{World}
 use Rattle.core_model.specs.CoreState.{UnitNo, Batch, CoreState}
@@ -15,7 +14,8 @@ use Rattle.core_model.specs.Events.{applies}
 use Rattle.core_model.specs.LearnQueue.{next_learn}
 use Rattle.core_model.specs.WantedGrains.{next_wanted}
 use Rattle.core_model.specs.Laws.{extended}
-use Rattle.core_model.specs.LegalRuns.{Run, ends}
+use Rattle.core_model.specs.LegalRuns.{Run, begins, ends}
+use Rattle.core_model.specs.SerialOrder.{AllLoadsTrue}
 use Rattle.core_model.specs.Replies.{OnlyExtends}
 use Rattle.core_model.specs.Settler.{Writes, Takes, Rests, settler_step, batch_step, later_step, load_step, last_step, learn_step, to_commit, versions_to_write}
 use Rattle.core_laws.proofs.Replies.{extends-ends}
@@ -26,8 +26,9 @@ use Rattle.core_access.proofs.SettlerEvents.{others-leave}
 use Rattle.promise_spec.specs.UnitRule.{Basis, KeepsUnitRule}
 use Rattle.settler_rules.proofs.SealWork.{shown-stay}
 use Rattle.batch_disk.specs.declared.writer.BatchWriter.{BatchWriter}
-use Rattle.batch_disk.specs.VoteAnswers.{VotesOn}
 use Rattle.settle_loop.specs.HostSteps.{SealsUnits, DoesFor}
+use Rattle.run_books.proofs.BooksStated.{DidFor}
+use Rattle.run_books.proofs.BooksVersions.{loads-on, rule-true}
 use Rattle.run_books.proofs.BooksSettled.{is_of_batch}
 use Rattle.run_books.proofs.Fronts.{after-units, get-front}
 use Rattle.run_books.proofs.ShownVersions.{versions-stay}
@@ -40,40 +41,45 @@ not-settling e q = by (is_settling e) q
     by false t = refl
     by true t = absurd (true≢false (sym t))
 
--- What is shown for a step stays: the open batch, versions for a vote, units to commit, how much is written, the doubt, and the
--- entry that is next.
-pub record Stays (w w' : CoreState) : Type 0 where
+-- What is shown for a step stays: the open batch, where this holds versions for a vote, units to commit, how much is written, the doubt,
+-- and the entry that is next.
+pub record Stays (loaded : Type 0) (w w' : CoreState) : Type 0 where
   pub batch : w'.manager.batch ≡ w.manager.batch
-  pub versions : (g : GrainId) → versions_to_write w' w'.manager.batch g ≡ versions_to_write w w.manager.batch g
+  pub versions : loaded → (g : GrainId) → versions_to_write w' w'.manager.batch g ≡ versions_to_write w w.manager.batch g
   pub commits : to_commit w' w'.manager.batch ≡ to_commit w w.manager.batch
   pub next : (x : Entry) → slice_get w.manager.settled w.manager.emitted ≡ Some x → slice_get w'.manager.settled w'.manager.emitted ≡ Some x
 
+-- each load so far was true
+abbrev pub LoadsTrue : Run → Type 0
+LoadsTrue r = AllLoadsTrue r.opening (begins r) r.events
+
 -- by one event of others
-stays-one : (s : Basis) (r : Run) (e : CoreEvent) → 0 < r.base → KeepsUnitRule s r → is_settling e ≡ false → Stays (ends r) (ends (extended r (e ∷ [])))
+stays-one : (s : Basis) (r : Run) (e : CoreEvent) → 0 < r.base → KeepsUnitRule s r → is_settling e ≡ false → Stays (LoadsTrue r) (ends r) (ends (extended r (e ∷ [])))
 stays-one s r e above keeps other =
     let leaves : LeavesBatches (ends r) (ends (extended r (e ∷ []))) = others-leave r e other in
     let more : OnlyExtends (ends r) (ends (extended r (e ∷ []))) = extends-ends r (e ∷ []) in
     record {
       batch = leaves.batch;
-      versions = λ g. versions-stay s r above keeps e other g;
-      commits = shown-stay s r above keeps e other;
+      versions = λ loads g. versions-stay s r above loads keeps e other g;
+      commits = shown-stay r above e other;
       next = λ x q.
           (λ i. slice_get (more.settled.1 i) (leaves.emitted i)) ∙ (get-front (ends r).manager.settled more.settled.0 (ends r).manager.emitted x q).0;
     }
 
-stays-both : (u v w : CoreState) → Stays u v → Stays v w → Stays u w
-stays-both u v w a b = record {
+stays-both : (P Q : Type 0) (u v w : CoreState) → (P → Q) → Stays P u v → Stays Q v w → Stays P u w
+stays-both P Q u v w on a b = record {
   batch = b.batch ∙ a.batch;
-  versions = λ g. b.versions g ∙ a.versions g;
+  versions = λ loads g. b.versions (on loads) g ∙ a.versions loads g;
   commits = b.commits ∙ a.commits;
   next = λ x q. b.next x (a.next x q);
 }
 
 -- by all of them
-pub stays-all : (s : Basis) (rest : List Told) (r : Run) → 0 < r.base → KeepsUnitRule s (run_after r rest) → AllPass leaves_settling rest → Stays (ends r) (ends (run_after r rest))
-stays-all s [] r above keeps all = record { batch = refl; versions = λ g. refl; commits = refl; next = λ x q. q }
+pub stays-all : (s : Basis) (rest : List Told) (r : Run) → 0 < r.base → KeepsUnitRule s (run_after r rest) → AllPass leaves_settling rest → Stays (LoadsTrue r) (ends r) (ends (run_after r rest))
+stays-all s [] r above keeps all = record { batch = refl; versions = λ loads g. refl; commits = refl; next = λ x q. q }
 stays-all s (x ∷ rest) r above keeps all =
-    stays-both (ends r) (ends (extended r (x.event ∷ []))) (ends (run_after r (x ∷ rest)))
+    stays-both (LoadsTrue r) (LoadsTrue (extended r (x.event ∷ []))) (ends r) (ends (extended r (x.event ∷ []))) (ends (run_after r (x ∷ rest)))
+    (λ loads. loads-on r x.event loads (rule-true s r x.event (after-units (extended r (x.event ∷ [])) rest s keeps)))
     (stays-one s r x.event above (after-units r (x ∷ rest) s keeps) (not-settling x.event (all x (inl refl))))
     (stays-all s rest (extended r (x.event ∷ [])) above keeps (λ y i. all y (inr i)))
 
@@ -116,16 +122,19 @@ step-stays w w' same of = by w.manager.batch refl
 
 -- ---- what was done for it
 
-module _ {H : Type 0} (tells : Bool) (world : H → World) (faults : H → Channel → ℕ) (live : ℕ) (quiet : Bool) (shape : Shape) (w w' : CoreState) (before after : BatchWriter) (old new : H) (s : Stays w w') where
+module _ {H : Type 0} (tells : Bool) (world : H → World) (faults : H → Channel → ℕ) (live : ℕ) (quiet : Bool) (shape : Shape) (w w' : CoreState) (before after : BatchWriter) (old new : H) (loaded : Type 0) (loads : IsTrue tells → loaded) (s : Stays loaded w w') where
   abbrev Does : CoreEvent → CoreState → Type 0
   Does e v = DoesFor tells world faults live e quiet shape v before after old new
+
+  abbrev Did : CoreEvent → CoreState → Type 0
+  Did e v = DidFor tells world faults live e quiet shape v before after old new
 
   seals-on : (n : ℕ) (e : CoreEvent) → SealsUnits tells world faults live n e (to_commit w w.manager.batch) before after old new → SealsUnits tells world faults live n e (to_commit w' w'.manager.batch) before after old new
   seals-on n e = subst (λ (es : List Effect). SealsUnits tells world faults live n e es before after old new) (sym s.commits)
 
   -- it was done for the event in the later state
-  pub does-on : (e : CoreEvent) → Does e w → Does e w'
-  does-on (event.Vote n g said) d = subst (λ (vs : List Version). VotesOn tells world faults live n g said vs before after old new) (sym (s.versions g)) d
+  pub does-on : (e : CoreEvent) → Does e w → Did e w'
+  does-on (event.Vote n g said) d = (versions_to_write w w.manager.batch g, (λ t. sym (s.versions (loads t) g)), d)
   does-on (event.Sealed n) d = seals-on n (event.Sealed n) d
   does-on (event.NotSealed n) d = seals-on n (event.NotSealed n) d
   does-on (event.Doubt n) (inl d) = inl (seals-on n (event.Doubt n) d)

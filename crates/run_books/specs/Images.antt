@@ -1,13 +1,12 @@
 -- What each image that a crash may leave keeps of a run's books.
-use Rattle.std.specs.Prelude.{◌≡◌, ◌≢◌, ◌⊎◌, ℕ, ◌+◌, false, List, [], ◌++◌, map, take, drop}
+use Rattle.std.specs.Prelude.{◌≡◌, ◌≢◌, ◌⊎◌, ℕ, ◌+◌, false, List, [], ◌++◌, take, drop}
 use Rattle.host_trait.specs.declared.channels.FileId.TheVariants.{Manager}
 use Rattle.host_trait.specs.Disk.{FileState, MayLeave}
 use Rattle.host_trait.specs.declared.channels.FileId.{FileId}
 use Rattle.host_trait.specs.World.{World, Disk, Moment, Image, IsImage, Passes, moment_of}
-use Rattle.core_model.specs.CoreState.{CoreState, Member}
+use Rattle.core_model.specs.CoreState.{CoreState}
 use Rattle.core_model.specs.SerialOrder.{chosen}
 use Rattle.core_model.specs.LegalRuns.{Run, ends}
-use Rattle.gate_block.specs.Log.{HasBlocks}
 use Rattle.promise_spec.specs.Programs.{shape_in}
 use Rattle.promise_spec.specs.Records.{Commit, AreRecordsOf}
 use Rattle.promise_spec.specs.Entries.{Log, grown}
@@ -18,10 +17,9 @@ use Rattle.promise_spec.specs.Causes.{RunHasDoubt, is_unsealed}
 use Rattle.promise_spec.specs.Exits.{HasBlock, DifferAt}
 use Rattle.promise_spec.specs.Journals.{CutAt, Backs, commits_of}
 use Rattle.promise_laws.specs.Closings.{AllEnd}
-use Rattle.batch_disk.specs.ImagesAtRest.{Voted, EachImage, SomeImage}
-use Rattle.batch_disk.specs.Writers.{kept_of, KeepsDisk}
+use Rattle.batch_disk.specs.ImagesAtRest.{EachImage, SomeImage}
+use Rattle.batch_disk.specs.Writers.{KeepsDisk}
 use Rattle.batch_disk.specs.declared.writer.BatchWriter.{BatchWriter}
-use Rattle.settler_rules.specs.Votes.{IsOfVote}
 use Rattle.run_books.specs.Beginnings.{Outset}
 use Rattle.run_books.specs.Books.{Books, booked_journal}
 
@@ -47,14 +45,13 @@ pub record HasOpenBlock (live : ℕ) (log : Log) (w : CoreState) (disk : Disk) :
 abbrev pub EndsAsBegun : Outset → ℕ → FileState → Type 0
 EndsAsBegun o gate file = (bytes : List ℕ) → MayLeave file bytes → drop (gate + 1) bytes ≡ drop (gate + 1) (o.world.disk (Manager o.live)).seen
 
--- The writer keeps the folder's log, which is the opening's and the books', and the versions that it keeps are those of the
--- core's votes. Where no batch failed to be sealed, nothing was left behind the log.
+-- The writer keeps the folder's log, which is the opening's and the books'. Where no batch failed to be sealed, nothing was left
+-- behind the log.
 pub record KeepsFolder (o : Outset) (head : List ℕ) (b : Books) (r : Run) (writer : BatchWriter) (disk : Disk) : Type 0 where
   pub stood : Log
   pub bodies : List (List ℕ)
   pub log : stood ≡ grown o.opening (commits_of (b.said ++ b.unsaid))
   pub keeps : KeepsDisk o.live (shape_in o.program) head stood bodies writer disk
-  pub votes : (v : Voted) → Member v (kept_of writer) → IsOfVote (ends r) writer.batch v.unit v.write.grain v.state
   pub behind : how_many is_unsealed r ≡ 0 → EndsAsBegun o writer.gate_at (disk (Manager o.live))
 
 -- an image has the batch in doubt, where one may have it

@@ -2,6 +2,8 @@ pub mod Beginnings
 pub mod Stages
 pub mod Books
 pub mod Images
+pub mod LastVersions
+pub mod Places
 pub mod Records
 pub mod BooksSteps
 pub mod SharedSteps

@@ -21,6 +21,7 @@ use Rattle.run_books.specs.declared.faults.RunFault.TheVariants.{InDoubt, WriteF
 use Rattle.run_books.specs.Beginnings.{Outset, basis_of}
 use Rattle.run_books.specs.Books.{Books, AreBooked, IsPutOut, IsCutOff}
 use Rattle.run_books.specs.Images.{LastsSo}
+use Rattle.run_books.specs.Places.{KeepsVersions}
 use Rattle.run_books.specs.Stages.{Stage}
 
 -- the file is as it was, at each moment and now
@@ -42,7 +43,8 @@ pub record ShowsOutside (o : Outset) (b : Books) (r : Run) (faults : Channel →
   pub calls : CountsCalls o r faults now
 
 -- No more faults show in the events than were counted, and no count fell. The books are those of the core's last state. The
--- settler is in the run's slot, and knows of a doubt, as its writer does, and how many entries are written.
+-- settler is in the run's slot, and knows of a doubt, as its writer does, and how many entries are written. Over a host that tells its
+-- writer knows where each grain's last version stands, and each load was true.
 pub record KeepsBooks (tells : Bool) (o : Outset) (b : Books) (s : Stage) : Type 0 where
   pub faults : AreFaults o.live s.run o.faults s.faults
   pub later : (c : Channel) → o.faults c ≤ s.faults c
@@ -53,6 +55,7 @@ pub record KeepsBooks (tells : Bool) (o : Outset) (b : Books) (s : Stage) : Type
   pub doubt : s.settler.doubted ≡ is_some (ends s.run).manager.doubt
   pub unsure : s.settler.writer.in_doubt ≡ s.settler.doubted
   pub written : s.settler.written ≡ (ends s.run).manager.emitted
+  pub versions : IsTrue tells → KeepsVersions o b s.run s.settler.writer s.world.disk
   pub outside : IsTrue tells → ShowsOutside o b s.run s.faults s.world
 
 -- Units are numbered from 1 or later. The events keep the unit rule, and the books are kept.

@@ -6,7 +6,6 @@ use Rattle.core_model.specs.LegalRuns.{Run, ends}
 use Rattle.promise_spec.specs.Causes.{RunHasDoubt}
 use Rattle.promise_spec.specs.Endings.{Ending, Done, WriteFault as Unwritten, DiskFault, Memory as NoMemory, EndingMayDoubt, IsAllWritten, IsDiskFault}
 use Rattle.promise_spec.specs.Courses.{Observed, Course, core_run}
-use Rattle.promise_spec.specs.Explanation.{FileMayEndInDoubt}
 use Rattle.promise_spec.specs.Journals.{commits_of, entries_of}
 use Rattle.settle_loop.specs.declared.settler.Settler.{Settler}
 use Rattle.run_books.specs.declared.faults.RunFault.{RunFault}
@@ -23,10 +22,10 @@ turns_ending live (Err InDoubt) = DiskFault (Manager live)
 turns_ending live (Err WriteFault) = Unwritten
 turns_ending live (Err Memory) = NoMemory
 
--- A whole run may end so: by a file's fault only with a batch in doubt, with one only so, and as one in which all that is settled was
--- written only where it was.
+-- A whole run may end so: by a file's fault only by the manager file's, with a batch in doubt, with one only so, and as one in which
+-- all that is settled was written only where it was.
 pub record EndsSo (o : Outset) (r : Run) (ending : Ending) : Type 0 where
-  pub doubted : (file : FileId) → ending ≡ DiskFault file → FileMayEndInDoubt o.live r file
+  pub doubted : (file : FileId) → ending ≡ DiskFault file → (file ≡ Manager o.live) × RunHasDoubt r
   pub ended : RunHasDoubt r → EndingMayDoubt ending
   pub written : IsAllWritten ending ⊎ (IsDiskFault ending × RunHasDoubt r) → length (ends r).manager.settled ≤ (ends r).manager.emitted
 

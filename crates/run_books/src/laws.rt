@@ -1,5 +1,6 @@
-ghost use Rattle.std.specs.Prelude.{◌≡◌, ℕ, Bool, true, false, List as AList, Result as AResult, take};
-ghost use Rattle.core_model.specs.LegalRuns.{Run};
+ghost use Rattle.std.specs.Prelude.{◌≡◌, ◌<◌, ℕ, Bool, true, false, List as AList, Result as AResult, take};
+ghost use Rattle.core_model.specs.LegalRuns.{Run, ends};
+ghost use Rattle.core_model.specs.SerialOrder.{IsLastVersion};
 ghost use Rattle.host_trait.specs.declared.channels.FileId.TheVariants.{Manager, Grain};
 ghost use Rattle.host_trait.specs.World.{World};
 ghost use Rattle.base_types.specs.declared.calls.GrainId.{GrainId};
@@ -17,7 +18,8 @@ ghost use Rattle.run_books.specs.declared.faults.RunFault.{RunFault as AFault};
 ghost use Rattle.run_books.specs.Beginnings.{Outset};
 ghost use Rattle.run_books.specs.Books.{Books};
 ghost use Rattle.run_books.specs.Images.{LastsSo};
-ghost use Rattle.run_books.specs.Records.{KeepsFile, HasCarriedAll, TurnsEndAs};
+ghost use Rattle.run_books.specs.Places.{load_by};
+ghost use Rattle.run_books.specs.Records.{KeepsFile, KeepsBooks, HasCarriedAll, TurnsEndAs};
 ghost use Rattle.run_books.specs.RunCourse.{EndsSo, IsRecorded, turns_ending};
 ghost use Rattle.run_books.specs.Stages.{Stage};
 
@@ -33,6 +35,13 @@ pub fn runs_end_so<T>()
 pub fn unvoted_files_stay()
     ensures { (p : AProgram) (seen : Observed) (c : Course) (mid : World) → IsBehind seen c mid
         → ((g : GrainId) → how_many (is_vote_of g) (core_run p c) ≡ 0 → KeepsFile (Grain c.live g) mid seen.new) → LeavesUnvoted c.live p seen c }
+{}
+
+/// What would be loaded of a grain by its place is true: it is the grain's last committed version, or nobody's with the state that the grain had
+/// where the run began.
+pub fn loads_by_places_are_true()
+    ensures { (o : Outset) (b : Books) (s : Stage) (g : GrainId) → 0 < s.run.base → KeepsBooks true o b s
+        → IsLastVersion s.run.opening (ends s.run) g (load_by o s.settler.writer g).unit (load_by o s.settler.writer g).state }
 {}
 
 /// What the record of a run says, however it ended, is what a whole run has to show over any folder: that the core's events explain

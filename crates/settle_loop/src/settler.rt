@@ -13,7 +13,7 @@ ghost use Rattle.settle_loop.specs.StepParts.{ToldAs};
 use crate::cases::Made;
 use crate::gate::Gate;
 use crate::looks::{has_applied, look, put, sees_unwritten};
-use base_types::{Ends, Shape};
+use base_types::{Ends, Places, Shape};
 use batch_disk::BatchWriter;
 use core_access::Access;
 use core_model::{CoreEvent, SettlerWork};
@@ -42,7 +42,8 @@ pub enum Turned {
 
 /// One that settles the batches of a core and writes its replies.
 ///
-/// It begins at a closed gate and at the ends of the grains' files, and goes on by its own seals. What a settled entry says
+/// It begins at a closed gate, at the ends of the grains' files and at the places of the grains' last versions, and goes on by its own
+/// seals. What a settled entry says
 /// is put out as a reply line, unless the settler is quiet.
 #[derive(Drop)]
 pub struct Settler {
@@ -54,14 +55,15 @@ pub struct Settler {
 }
 
 impl Settler {
-    /// A settler that goes on in this slot, 0 or 1, at this closed gate and at these ends, each below 2 to the 63. A quiet one writes
-    /// no replies.
+    /// A settler that goes on in this slot, 0 or 1, at this closed gate and at these ends, each below 2 to the 63, where the grains' last
+    /// versions stand at these places. A quiet one writes no replies.
     pub fn new(
         alloc: Global,
         slot: u8,
         gate_at: u64,
         ends: Ends,
         quiet: bool,
+        places: Places,
     ) -> Result<Settler, AllocError>
         requires slot { slot ≤ 1 }
         requires gate { gate_at < 2 ^ 63 }
@@ -70,6 +72,7 @@ impl Settler {
         ensures slot { IfOk result (λ made. made.writer.slot ≡ slot) }
         ensures gate { IfOk result (λ made. made.writer.gate_at ≡ gate_at) }
         ensures ends { IfOk result (λ made. (g : AGrain) → file_end made.writer g ≡ unwrap_or (end_in ends g) 0) }
+        ensures places { IfOk result (λ made. made.writer.places ≡ places) }
         ensures kept { IfOk result (λ made. kept_of made.writer ≡ []) }
         ensures sealing { IfOk result (λ made. made.writer.in_doubt ≡ false) }
         ensures quiet { IfOk result (λ made. made.quiet ≡ quiet) }
@@ -79,7 +82,7 @@ impl Settler {
     {
         Ok(Settler {
             alloc,
-            writer: BatchWriter::new(alloc, slot, gate_at, ends),
+            writer: BatchWriter::new(alloc, slot, gate_at, ends, places),
             quiet,
             written: 0,
             doubted: false,

@@ -5,7 +5,7 @@ ghost use Rattle.batch_disk.specs.Writers.{IsInBounds};
 
 use crate::recorder::{Recorder, new_recorder};
 use crate::units::{Add, carry_out, new_core, new_shape};
-use base_types::{Ends, Shape};
+use base_types::{Ends, Places, Shape};
 use history_core::Core;
 use settle_loop::{Gate, GatePlace, Settler, Turned};
 use std::alloc::{AllocError, Global};
@@ -36,7 +36,7 @@ pub fn new_bench(alloc: Global, slot: u8, quiet: bool) -> Result<Bench, AllocErr
     let shape = new_shape(alloc)?;
     let core = new_core(alloc)?;
     let host = new_recorder(alloc, slot)?;
-    let settler = Settler::new(alloc, slot, 15, Ends::new(alloc), quiet)?;
+    let settler = Settler::new(alloc, slot, 15, Ends::new(alloc), quiet, Places::new(alloc))?;
     Ok(Bench {
         alloc,
         slot,

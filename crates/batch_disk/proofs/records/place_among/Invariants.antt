@@ -1,7 +1,0 @@
-use Rattle.std.proofs.Common.{◌≡◌, map, drop}
-use Rattle.batch_disk.specs.Writers.{voted_by}
-use Rattle.batch_disk.specs.Records.{place_among}
-use Rattle.batch_disk.proofs.records.place_among.Given as goal
-
-abbrev pub invariant-loop-version : goal.invariant-loop-version
-invariant-loop-version l = record { rest : place_among l.unit l.grain (map voted_by (drop l.version-index l.kept)) ≡ place_among l.unit l.grain (map voted_by l.kept) }
