@@ -175,6 +175,7 @@ moves-looked types looked r r' u before after went c acts steps known =
     by (advanced.Granted g source) k = k
     by (advanced.Began child call depth) k = tt
     by (advanced.Waits holder) k = k
+    by (advanced.WaitsLoad grain) k = k
     by (advanced.WaitsFor child) k = k
     by advanced.Ended k = k
 

@@ -17,12 +17,13 @@ use Rattle.core_access.proofs.Sights.{looks-alone}
 use Rattle.worker_rules.specs.UnitOwnership.{leaves_unit}
 use Rattle.promise_spec.specs.Lines.{ReadsLineAs}
 use Rattle.promise_spec.specs.UnitRule.{KeepsUnitRule}
-use Rattle.promise_spec.specs.TurnRule.{Mover, OfUnit, OfLine, IsTurn, line_can_begin, mover_of, picked}
+use Rattle.promise_spec.specs.TurnRule.{Mover, OfUnit, OfLine, line_can_begin, mover_of, picked}
 use Rattle.turn_rules.specs.NextEvent.{with_event, MayCome, IsNext, movers_in, next_pick}
 use Rattle.turn_rules.specs.CarriedUnits.{movers_of}
 use Rattle.turn_rules.specs.TurnLoop.{IsPicked, TurnLoop, has_room}
 use Rattle.turn_rules.proofs.Growth.{unit-grows, turn-grows}
 use Rattle.turn_rules.proofs.Movers.{begins-kept, movers-kept}
+use Rattle.turn_rules.proofs.PlainTurns.{IsPlainTurn, by-plain}
 use Rattle.turn_rules.proofs.WithinWindows.{tests}
 use Rattle.txn_agent.specs.AgentStep.{Acts}
 use Rattle.unit_carrier.specs.Lines.{PutsLine, IsEventOf}
@@ -75,19 +76,22 @@ module _ (keeps : OthersKeep) (tells : Bool) (o : Outset) (lines : List Line) (b
   can-begin : o.ruled ≡ true → line_can_begin o.windowed o.width (length o.asked) s.at.run (ends s.at.run) (movers_in o.program.types s.at.run) ≡ has_room l
   can-begin ruled = tests o.program.types o.windowed o.width (length o.asked) s.at.run (way.turning.within ruled) ∙ begins-kept o.width (length o.asked) s.at.run l.units way.turning.kept
 
+  -- an event whose turn it is, is the next
+  next-plain : (m : Mover) (e : CoreEvent) → mover_of e ≡ m → IsPlainTurn (line_can_begin o.windowed o.width (length o.asked) s.at.run (ends s.at.run) (movers_in o.program.types s.at.run)) (picked (movers_in o.program.types s.at.run) (next_pick o.picks s.at.run)) (ends s.at.run) e m
+      → IsNext o.program.types o.windowed (length o.asked) o.width o.picks s.at.run e
+  next-plain m e own turn a = by-plain o.program.types o.windowed (length o.asked) o.width s.at.run way.turning.unlimited (next_pick o.picks s.at.run) e
+      (subst (λ (x : Mover). IsPlainTurn (line_can_begin o.windowed o.width (length o.asked) s.at.run (ends s.at.run) (movers_in o.program.types s.at.run)) (picked (movers_in o.program.types s.at.run) (next_pick o.picks s.at.run)) (ends s.at.run) e x) (sym own) turn)
+
   -- the picked unit's event is the next
   unit-next : o.ruled ≡ true → (u : UnitNo) → IsPicked l (OfUnit u) → (e : CoreEvent) → mover_of e ≡ OfUnit u → IsNext o.program.types o.windowed (length o.asked) o.width o.picks s.at.run e
-  unit-next ruled u pick e own a =
-      subst (λ (m : Mover). IsTurn (line_can_begin o.windowed o.width (length o.asked) s.at.run (ends s.at.run) (movers_in o.program.types s.at.run)) (picked (movers_in o.program.types s.at.run) (next_pick o.picks s.at.run)) (ends s.at.run) e m) (sym own) (
-        can-begin ruled ∙ pick.none,
-        ap (λ (ms : List Mover). picked ms (next_pick o.picks s.at.run)) (movers-kept o.program.types s.at.run l.units way.turning.kept)
-            ∙ ap (λ (n : ℕ). picked (movers_of o.program.types s.at.run l.units) (get_or o.picks n 0)) (sym (way.turning.count ruled)) ∙ pick.pick,
-      )
+  unit-next ruled u pick e own = next-plain (OfUnit u) e own (
+    can-begin ruled ∙ pick.none,
+    ap (λ (ms : List Mover). picked ms (next_pick o.picks s.at.run)) (movers-kept o.program.types s.at.run l.units way.turning.kept)
+        ∙ ap (λ (n : ℕ). picked (movers_of o.program.types s.at.run l.units) (get_or o.picks n 0)) (sym (way.turning.count ruled)) ∙ pick.pick,
+  )
 
   line-next : o.ruled ≡ true → has_room l ≡ true → (e : CoreEvent) → mover_of e ≡ OfLine → IsNext o.program.types o.windowed (length o.asked) o.width o.picks s.at.run e
-  line-next ruled room e own a =
-      subst (λ (m : Mover). IsTurn (line_can_begin o.windowed o.width (length o.asked) s.at.run (ends s.at.run) (movers_in o.program.types s.at.run)) (picked (movers_in o.program.types s.at.run) (next_pick o.picks s.at.run)) (ends s.at.run) e m) (sym own)
-      (can-begin ruled ∙ room)
+  line-next ruled room e own = next-plain OfLine e own (can-begin ruled ∙ room)
 
   -- a unit's step that had no memory
   pub unit-lacks : (u : UnitNo) → IsPicked l (OfUnit u) → Acts none_comes o.program.types u (own_sight s.at.run) (own_sight r') → Ends r'

@@ -15,6 +15,7 @@ use Rattle.turn_rules.specs.NextEvent.{with_event}
 use Rattle.turn_rules.specs.TurnLoop.{IsTurning, IsPicked, TurnLoop}
 use Rattle.turn_rules.proofs.Growth.{ends-more}
 use Rattle.turn_rules.proofs.Numbers.{next-stays}
+use Rattle.core_laws.proofs.WithoutLimit.{no-load-step}
 use Rattle.turn_rules.proofs.Settlers.{settlers}
 use Rattle.turn_rules.proofs.Turns.{turn-settler}
 use Rattle.unit_carrier.specs.CarriedUnits.{units_carried}
@@ -67,7 +68,7 @@ module _ (tells : Bool) (o : Outset) (lines : List Line) (b : Books) (s s' : Tur
       → units_carried s'.agents ≡ units_carried s.agents → s'.used ≡ s.used + 1 → s'.begun ≡ s.begun
       → WentOn tells o o.program.types lines o.width o.picks b s s'
   settler-went done pick e makes run on agents used begun =
-      let is = settlers (settler_step (ends s.at.run)) e makes in
+      let is = settlers (settler_step (ends s.at.run)) e (no-load-step s.at.run way.turning.unlimited) makes in
       let same : (ends s'.at.run).units.lines ≡ (ends s.at.run).units.lines =
       ap (λ (x : Run). (ends x).units.lines) run ∙ ap (λ (x : CoreState). x.units.lines) (ends-more s.at.run e) ∙ lines-stay (ends s.at.run) e (settler-no-line e is.0) in
       let next : (ends s'.at.run).units.next ≡ (ends s.at.run).units.next =

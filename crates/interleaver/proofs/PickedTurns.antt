@@ -98,7 +98,7 @@ module _ (keeps : OthersKeep) (tells : Bool) (o : Outset) (lines : List Line) (b
       (subst (λ (us : List UnitNo). StepsOn none_comes o.program.types is.0 (own_sight r1) (own_sight s'.at.run) us (units_carried s'.agents) m.went) units
       (subst (λ (v : UnitNo). StepsOn none_comes o.program.types v (own_sight r1) (own_sight s'.at.run) (units_carried agents1) (units_carried s'.agents) m.went) at m.on)) in
       unit-went keeps tells o lines b s s' here way is.0 pick
-      (by-step o s.at.run s'.at.run is.0 (units_carried s.agents) (units_carried s'.agents) (moves.1, (way-unstopped way)) way.outset.kinds here way.turning.first way.turning.unit_rule m.went on moves.0)
+      (by-step o s.at.run s'.at.run is.0 (units_carried s.agents) (units_carried s'.agents) (moves.1, (way-unstopped way)) way.outset.kinds way.turning.first way.turning.unit_rule m.went on moves.0)
       used begun settler counts world (way.books.doubt ∙ ap is_some moves.1) m.few
 
   -- or has no memory

@@ -58,7 +58,7 @@ pub record GoesByUnit (o : Outset) (u : UnitNo) (r r' : Run) (units units' : Lis
   pub run : r' ≡ with_event r e
   pub carries : ((is_begin e ≡ false) × (units' ≡ units)) ⊎ ((index : ℕ) × (depth : ℕ) × (call : Call) × (e ≡ event.Begin (Child u index depth) call false) × (units' ≡ units ++ (new_unit (ends r) ∷ [])))
 
-module _ (o : Outset) (r r' : Run) (u : UnitNo) (units units' : List UnitNo) (going : IsGoing (ends r)) (kinds : r.kinds ≡ length o.program.types) (here : r.capacity ≡ None) where
+module _ (o : Outset) (r r' : Run) (u : UnitNo) (units units' : List UnitNo) (going : IsGoing (ends r)) (kinds : r.kinds ≡ length o.program.types) where
   abbrev s : Sight
   s = own_sight r
 
@@ -112,6 +112,7 @@ module _ (o : Outset) (r r' : Run) (u : UnitNo) (units units' : List UnitNo) (go
         us ∙ ap (λ (x : UnitNo). units ++ (x ∷ [])) new,
       ))
   by-answer kids (advanced.Waits holder) says m us = absurd (true≢false (sym m))
+  by-answer kids (advanced.WaitsLoad grain) says m us = absurd (true≢false (sym m))
   by-answer kids (advanced.WaitsFor child) says m us = absurd (true≢false (sym m))
   by-answer kids advanced.Ended says m us = absurd (true≢false (sym m))
   by-answer kids advanced.Moved (inl (e, p)) m us =
@@ -120,7 +121,7 @@ module _ (o : Outset) (r r' : Run) (u : UnitNo) (units units' : List UnitNo) (go
   by-answer kids advanced.Moved (inr (inl miss)) m us = absurd (missed-not o.program.types u s t miss alone goes-seen)
   by-answer kids advanced.Moved (inr (inr stray)) m us =
       let same : t ≡ s = looks-alone s t stray.looked in
-      absurd (stray.never (subst (IsAlone (leaves_unit u)) (sym same) alone) (ap (λ (x : Run). x.kinds) (ap run_seen same ∙ at) ∙ kinds) (ap (λ (x : Run). x.capacity) (ap run_seen same ∙ at) ∙ here))
+      absurd (stray.never (subst (IsAlone (leaves_unit u)) (sym same) alone) (ap (λ (x : Run). x.kinds) (ap run_seen same ∙ at) ∙ kinds))
 
   -- the step of a unit that can move
   pub by-step : (first : 0 < r.base) (rule : KeepsUnitRule (basis_of o) r) (w : Went) → StepsOn none_comes o.program.types u s t units units' w → can_move o.program.types (ends r) (got_in r) u ≡ true
@@ -128,7 +129,7 @@ module _ (o : Outset) (r r' : Run) (u : UnitNo) (units units' : List UnitNo) (go
   by-step first rule w st moves =
       let above : 0 < (run_seen s).base = subst (λ (x : Run). 0 < x.base) (sym at) first in
       let move : is_move st.answer ≡ true =
-      alone-tells (basis_of o) u st.kids s t st.answer st.says alone (ap (λ (x : Run). x.kinds) at ∙ kinds) (ap (λ (x : Run). x.capacity) at ∙ here) goes-seen above
+      alone-tells (basis_of o) u st.kids s t st.answer st.says alone (ap (λ (x : Run). x.kinds) at ∙ kinds) goes-seen above
       ∙ ap (λ (x : Run). can_move o.program.types (ends x) (got_in x) u) at ∙ moves in
       by-answer st.kids st.answer st.says move st.units
 

@@ -15,6 +15,7 @@ use Rattle.promise_spec.specs.TurnRule.{OfUnit, OfSettler, can_move, is_unhinder
 use Rattle.promise_spec.specs.UnitRule.{KeepsUnitRule}
 use Rattle.turn_rules.specs.NextEvent.{movers_in, line_has_place}
 use Rattle.turn_rules.specs.QuietRun.{HasRun}
+use Rattle.turn_rules.proofs.Waits.{idle-waits}
 use Rattle.turn_rules.proofs.WaitOrder.{without-mover}
 use Rattle.turn_rules.proofs.ListTests.{filter-none}
 use Rattle.run_books.specs.Beginnings.{Outset, basis_of}
@@ -35,7 +36,18 @@ not-below m n le = by (nat_lt m n) refl
 
 module _ (tells : Bool) (o : Outset) (b : Books) (at : Stage)
     (above : 0 < at.run.base) (units : KeepsUnitRule (basis_of o) at.run) (books : KeepsBooks tells o b at) (n : HasNoMover o at.run) where
-  -- no unit can move
+  -- no unit runs
+  not-running : (u : UnitNo) → is_running ((ends at.run).units.phase u) ≡ false
+  not-running u = of-phase ((ends at.run).units.phase u) (n.units u)
+    where
+      of-phase : (p : Phase) → ((p ≡ Unborn → ⊥) → (is_over p ≡ true) × (is_free (ends at.run) u ≡ true)) → is_running p ≡ false
+      of-phase Unborn f = refl
+      of-phase Running f = absurd (true≢false (sym (f (λ e. absurd cc)).0))
+      of-phase Finished f = refl
+      of-phase Refused f = refl
+      of-phase Ended f = refl
+
+  -- and none can move
   still : (u : UnitNo) → can_move o.program.types (ends at.run) (got_in at.run) u ≡ false
   still u = of-phase ((ends at.run).units.phase u) (n.units u)
     where
@@ -64,7 +76,7 @@ module _ (tells : Bool) (o : Outset) (b : Books) (at : Stage)
       by false y = refl
 
   all-run : HasRun (ends at.run).units.lines (ends at.run)
-  all-run = without-mover o.program.types at.run 1 (ends at.run).units.lines above n.sure n.going nobody (omega arith) over
+  all-run = without-mover o.program.types at.run 1 (ends at.run).units.lines above n.sure n.going (λ u. idle-waits (ends at.run) u _ (not-running u)) nobody (omega arith) over
 
   pub carried-all : HasCarriedAll o at
   carried-all =

@@ -8,7 +8,10 @@ use denote.Struct.Tuple.{type_at, TupleAt}
 use denote.Param.SendFields.{FieldsHave, as_row_send, declared_send}
 use Rattle.std.proofs.Crossing.{crosses}
 use Rattle.std.proofs.MapsCrossing.{crosses as maps}
+use Rattle.lru.proofs.Crosses.{KeyRef-send, List-send, Deed-send}
 use Rattle.base_types.specs.contracts.state.State as state
+use Rattle.activations.specs.contracts.recent.Recent as recent
+use Rattle.activations.specs.contracts.recent.Recent.TheInside as recent_inside
 use Rattle.core_model.specs.contracts.effects.Read as read
 use Rattle.core_parts.specs.contracts.entry_list.EntryList as entries
 use Rattle.core_parts.specs.contracts.entry_list.EntryList.TheInside as entries_inside
@@ -49,11 +52,15 @@ units_send = search (sendable, crosses, maps, entry_send, running_send, past_sen
 entries_send : IsSend entries.the_row
 entries_send = view_send _ _ _ _ _ (declared_send entries_inside.the_type (search sendable, (search (sendable, crosses, maps) depth 60 fits 90000, (search sendable depth 20, tt))))
 
+-- the grains that were used last
+recent_send : IsSend recent.the_row
+recent_send = view_send _ _ _ _ _ (declared_send recent_inside.the_type (search (sendable, crosses, maps, KeyRef-send, List-send, Deed-send) depth 60 fits 90000, tt))
+
 parts_send : IsSend parts.the_row
 parts_send = declared_send parts.the_type (
   units_send,
   (
-    search (sendable, crosses, maps) depth 40 fits 30000,
+    search (sendable, crosses, maps, recent_send) depth 40 fits 30000,
     (
       search (sendable, crosses, maps, finished_send) depth 40 fits 30000,
       (

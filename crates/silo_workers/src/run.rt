@@ -14,7 +14,7 @@ use crate::crowd::{Gathered, gather};
 use crate::run_end::end_run;
 use crate::team::Team;
 use crate::work::WorkEnd;
-use base_types::{Ends, List};
+use base_types::{Ends, List, Places};
 use core_model::{CoreAnswer, CoreQuestion};
 use history_core::Core;
 use host_trait::Host;
@@ -141,7 +141,7 @@ pub fn run_with_workers<R: Threads + Wait + Sync, H: Host, G: Gate + Sync, L: Li
         Ok(shape) => shape,
         Err(AllocError) => return (Some(core), Err(RunFault::Memory)),
     };
-    let blank = match Settler::new(alloc, 0, 0, Ends::new(alloc), true) {
+    let blank = match Settler::new(alloc, 0, 0, Ends::new(alloc), true, Places::new(alloc)) {
         Ok(blank) => blank,
         Err(AllocError) => return (Some(core), Err(RunFault::Memory)),
     };

@@ -1,5 +1,5 @@
 -- A look and then a step, what each answer says of it, and what a look shows of a lock that is asked for.
-use Rattle.std.proofs.Common.{◌≡◌, inl, inr, ℕ, ◌<◌, length, Bool, true, false, true≢false, refl, sym, ap, ◌∙◌, subst, arith, Some, None}
+use Rattle.std.proofs.Common.{◌≡◌, inl, inr, ℕ, ◌<◌, length, List, Bool, true, false, true≢false, refl, sym, ap, ◌∙◌, subst, arith, Some, None}
 use Rattle.std.specs.Prelude.{◌&&◌, ◌||◌, not, Result, Ok, Err, IfOk}
 use Rattle.std.proofs.lemmas.Bool.{and_from, and_parts}
 use Rattle.base_types.specs.declared.calls.Mode.{Mode}
@@ -13,12 +13,12 @@ use Rattle.core_model.specs.declared.questions.AskAnswer.{AskAnswer}
 use Rattle.core_model.specs.declared.questions.AskAnswer.TheVariants as answer
 use Rattle.core_model.specs.LockAnswers.{AskedLocks}
 use Rattle.core_model.specs.Tests.{any, ask_answer, outcome_of}
-use Rattle.core_model.specs.LegalRuns.{ends}
+use Rattle.core_model.specs.LegalRuns.{Run, ends}
 use Rattle.core_laws.proofs.LockAnswers.{asked-locks}
 use Rattle.script_tree.specs.Programs.{ProgramTree}
 use Rattle.script_meaning.specs.Laws.{IsOfTypes}
 use Rattle.script_meaning.specs.Play.{Want, asks, next}
-use Rattle.script_meaning.specs.Trails.{answers_of, locks_of}
+use Rattle.script_meaning.specs.Trails.{Given, answers_of, locks_of}
 use Rattle.script_meaning.proofs.AskedTypes.{next_is_of_types_lem}
 use Rattle.script_machine.specs.declared.machine.Pause.TheVariants.{NeedGrain}
 use Rattle.script_machine.specs.Machines.{pause_for, rest}
@@ -31,11 +31,12 @@ use Rattle.core_access.proofs.Sights.{looks-none, looks-on, tells-on, saw-on, lo
 use Rattle.txn_agent.specs.declared.work.Carried.{Carried}
 use Rattle.txn_agent.specs.declared.work.Work.{Work}
 use Rattle.txn_agent.specs.declared.agent.Advanced.{Advanced}
-use Rattle.txn_agent.specs.declared.agent.Advanced.TheVariants.{Moved, Granted, Began, Waits, WaitsFor, Ended}
+use Rattle.txn_agent.specs.declared.agent.Advanced.TheVariants.{Moved, Granted, Began, Waits, WaitsLoad, WaitsFor, Ended}
+use Rattle.txn_agent.specs.MachineState.{IsAtWork}
 use Rattle.txn_agent.specs.CoreLink.{IfOwn, IsPaused, IsBarred, KnowsPaused, KnowsWaiting}
 use Rattle.txn_agent.specs.AgentStep.{Acts, AnswerSays, IsDueFor, Misses, Puts}
 use Rattle.txn_agent.proofs.Trails.{grain-wants, missing-lock, missing-raise, next-own}
-use Rattle.txn_agent.proofs.CoreGrowth.{kinds-ends, here-ends}
+use Rattle.txn_agent.proofs.CoreGrowth.{kinds-ends}
 use Rattle.txn_agent.proofs.UnitEnds.{has-ended-stopped}
 use Rattle.txn_agent.proofs.DueEvents.{next-is}
 use Rattle.txn_agent.proofs.AgentCalls.{paused-looks}
@@ -64,6 +65,7 @@ module _ (may : CoreEvent → Bool) (types : ProgramTree) (u : UnitNo) (s t v : 
   happened_on kids (Granted g source) h = (h.0, (h.1.0, puts-on _ _ h.1.1))
   happened_on kids (Began child call depth) h = puts-on _ _ h
   happened_on kids (Waits holder) h = record { looked = looks-on may s t v l h.looked; grain = h.grain; mode = h.mode; wants = h.wants; asked = h.asked }
+  happened_on kids (WaitsLoad grain) h = record { looked = looks-on may s t v l h.looked; mode = h.mode; wants = h.wants; asked = h.asked }
   happened_on kids (WaitsFor child) h = record { looked = looks-on may s t v l h.looked; undecided = h.undecided; last = h.last }
   happened_on kids Ended h = (looks-on may s t v l h.0, h.1)
   happened_on kids Moved (inl (e, p)) = inl (e, puts-on e _ p)
@@ -84,6 +86,7 @@ pub happened-acts : (may : CoreEvent → Bool) (types : ProgramTree) (u : UnitNo
 happened-acts may types u kids s t (Granted g source) h = inr (_, (_, h.1.1))
 happened-acts may types u kids s t (Began child call depth) h = inr (_, (_, h))
 happened-acts may types u kids s t (Waits holder) h = inl h.looked
+happened-acts may types u kids s t (WaitsLoad grain) h = inl h.looked
 happened-acts may types u kids s t (WaitsFor child) h = inl h.looked
 happened-acts may types u kids s t Ended h = inl h.0
 happened-acts may types u kids s t Moved (inl (e, p)) = inr (e, (_, p))
@@ -108,6 +111,18 @@ looks_counted may s t l n = looks-counts may s t l n
 
 -- ---- a lock that is asked for
 
+-- it is the one that the script asks for in the core's run
+pub lock-asked : (types : ProgramTree) (r : Run) (c : Carried) (work : Work) (trail : List Given) (kids : ℕ) → IsAtWork types c work trail kids → IsPaused types r c work trail → (g : GrainId) (mode : Mode) → NeedGrain g mode ≡ pause_for (asks (rest types work.machine)) →
+    wanted_lock (wanted_by types (ends r) c.unit (got_in r c.unit)) ≡ Some (g, mode)
+lock-asked types r c work trail kids m p g mode e =
+    ap wanted_lock (wants types r c.unit trail p.given ∙ ap Some (next-is types r c work trail kids m p)) ∙ as_lock (asks (rest types work.machine)) e
+  where
+    as_lock : (w : Want) → NeedGrain g mode ≡ pause_for w → wanted_lock (Some w) ≡ Some (g, mode)
+    as_lock w e = elim (grain-wants w g mode e) [
+      | inl q ↦ ap (λ (z : Want). wanted_lock (Some z)) q
+      | inr q ↦ ap (λ (z : Want). wanted_lock (Some z)) q.0 ∙ (λ i. Some (g, sym q.1 i))
+    ]
+
 module _ (may : CoreEvent → Bool) (types : ProgramTree) (s t : Sight) (c : Carried) (work : Work) (g : GrainId) (mode : Mode) (kids : ℕ) (counts : Counts s) (l : Looks may s t) (k : KnowsPaused types s c work (NeedGrain g mode)) where
   -- what is known behind the look
   abbrev there : KnowsPaused types t c work (NeedGrain g mode)
@@ -119,19 +134,18 @@ module _ (may : CoreEvent → Bool) (types : ProgramTree) (s t : Sight) (c : Car
     looked = l;
     grain = g;
     mode = mode;
-    wants = λ alone. wanted (there.linked alone);
+    wants = λ alone. lock-asked types (run_seen t) c work k.trail _ k.at_work (there.linked alone) g mode k.ready.asks_for;
     asked = sym asked ∙ is;
   }
-    where
-      as_lock : (w : Want) → NeedGrain g mode ≡ pause_for w → wanted_lock (Some w) ≡ Some (g, mode)
-      as_lock w e = elim (grain-wants w g mode e) [
-        | inl q ↦ ap (λ (z : Want). wanted_lock (Some z)) q
-        | inr q ↦ ap (λ (z : Want). wanted_lock (Some z)) q.0 ∙ (λ i. Some (g, sym q.1 i))
-      ]
 
-      wanted : IsPaused types (run_seen t) c work k.trail → wanted_lock (wanted_by types (ends (run_seen t)) c.unit (got_in (run_seen t) c.unit)) ≡ Some (g, mode)
-      wanted p = ap wanted_lock (wants types (run_seen t) c.unit k.trail p.given ∙ ap Some (next-is types (run_seen t) c work k.trail _ k.at_work p))
-          ∙ as_lock (asks (rest types work.machine)) k.ready.asks_for
+  -- that its grain isn't in memory
+  pub absent_happened : (a : AskAnswer) → a ≡ answer.Absent → a ≡ ask_answer (ends (run_seen t)) c.unit g mode → AnswerSays may types c.unit kids s t (WaitsLoad g)
+  absent_happened a is asked = record {
+    looked = l;
+    mode = mode;
+    wants = λ alone. lock-asked types (run_seen t) c work k.trail _ k.at_work (there.linked alone) g mode k.ready.asks_for;
+    asked = sym asked ∙ is;
+  }
 
   -- what the core answers to a unit that may go on
   never : (said : AskAnswer) → ask_answer (ends (run_seen t)) c.unit g mode ≡ said → AskedLocks (ends (run_seen t)) c.unit g mode said
@@ -181,20 +195,14 @@ module _ (may : CoreEvent → Bool) (types : ProgramTree) (s t : Sight) (c : Car
   pub inactive_happened : (a : AskAnswer) → a ≡ answer.NotActive → a ≡ ask_answer (ends (run_seen t)) c.unit g mode → AnswerSays may types c.unit kids s t Moved
   inactive_happened a is asked = inr (inr record {
     looked = l;
-    never = λ alone kinds here. (let p = there.linked alone in
+    never = λ alone kinds. (let p = there.linked alone in
         never answer.NotActive (sym asked ∙ is) (p.given.running, (let n = of-types in let q : (ends (run_seen t)).units.kinds ≡ length types = kinds-ends (run_seen t) ∙ kinds in omega (arith, n, q))));
   })
 
   pub held_happened : (a : AskAnswer) → a ≡ answer.Held → a ≡ ask_answer (ends (run_seen t)) c.unit g mode → AnswerSays may types c.unit kids s t Moved
   held_happened a is asked = inr (inr record {
     looked = l;
-    never = λ alone kinds here. (let p = there.linked alone in uncovered p (never answer.Held (sym asked ∙ is)).1);
-  })
-
-  pub absent_happened : (a : AskAnswer) → a ≡ answer.Absent → a ≡ ask_answer (ends (run_seen t)) c.unit g mode → AnswerSays may types c.unit kids s t Moved
-  absent_happened a is asked = inr (inr record {
-    looked = l;
-    never = λ alone kinds here. (let p = there.linked alone in true≢false (sym (here-ends (run_seen t) here g) ∙ (never answer.Absent (sym asked ∙ is)).2));
+    never = λ alone kinds. (let p = there.linked alone in uncovered p (never answer.Held (sym asked ∙ is)).1);
   })
 
 -- ---- the unit waits for its child, or was stopped

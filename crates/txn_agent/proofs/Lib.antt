@@ -15,3 +15,5 @@ pub mod ShownMoves
 pub mod LoneSteps
 pub mod MoveAnswers
 pub mod StepPromises
+pub mod OwnWishes
+pub mod WishAnswers

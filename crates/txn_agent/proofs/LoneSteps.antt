@@ -1,5 +1,5 @@
 -- Where nobody else puts events, a step that moves goes on by an event that applies.
-use Rattle.std.proofs.Common.{◌≡◌, ℕ, length, Bool, true, false, true≢false, inl, inr, refl, sym, ap, ◌∙◌, subst, None}
+use Rattle.std.proofs.Common.{◌≡◌, ℕ, length, Bool, true, false, true≢false, inl, inr, refl, sym, ap, ◌∙◌, subst}
 use Rattle.std.specs.Prelude.{not, ◌||◌, is_none}
 use Rattle.std.proofs.lemmas.Bool.{and_from}
 use Rattle.core_model.specs.CoreState.{UnitNo, CoreState}
@@ -16,11 +16,11 @@ use Rattle.core_access.specs.OneHolder.{none_comes}
 use Rattle.core_access.specs.Sights.{Sight, run_seen, saw, IsAlone}
 use Rattle.core_access.proofs.Sights.{looks-alone, reply-alone, run-alone}
 use Rattle.txn_agent.specs.declared.agent.Advanced.{Advanced}
-use Rattle.txn_agent.specs.declared.agent.Advanced.TheVariants.{Moved, Granted, Began, Waits, WaitsFor, Ended}
+use Rattle.txn_agent.specs.declared.agent.Advanced.TheVariants.{Moved, Granted, Began, Waits, WaitsLoad, WaitsFor, Ended}
 use Rattle.txn_agent.specs.AgentStep.{GoesByEvent, AnswerSays, Misses, Puts, is_move}
 
 -- what no stop bars, and can come, applies
-going-applies : (w : CoreState) (e : CoreEvent) → IsGoing w → can w e ≡ true → applies w e ≡ true
+pub going-applies : (w : CoreState) (e : CoreEvent) → IsGoing w → can w e ≡ true → applies w e ≡ true
 going-applies w e g possible = and_from (is_allowed w e) (can w e)
     (and_from (is_none w.manager.doubt || is_after_doubt e) (not w.units.halt || is_after_halt e)
     (ap (λ o. is_none o || is_after_doubt e) g.0) (ap (λ b. not b || is_after_halt e) g.1)) possible
@@ -54,21 +54,23 @@ missed-not types u s t m alone going = by m.seen (looks-alone s m.seen m.before)
 
 -- a step that moves
 pub alone-goes : (types : ProgramTree) (u : UnitNo) (kids : ℕ) (s t : Sight) (a : Advanced) → AnswerSays none_comes types u kids s t a → IsAlone (leaves_unit u) s
-    → (run_seen s).kinds ≡ length types → (run_seen s).capacity ≡ None → IsGoing (ends (run_seen s)) → is_move a ≡ true → GoesByEvent u (run_seen s) (run_seen t)
-alone-goes types u kids s t (Granted g source) h alone kinds here going m = puts-goes types u s t _ _ refl h.1.1
-alone-goes types u kids s t (Began child call depth) h alone kinds here going m = puts-goes types u s t _ _ refl h
-alone-goes types u kids s t (Waits holder) h alone kinds here going m = absurd (true≢false (sym m))
-alone-goes types u kids s t (WaitsFor child) h alone kinds here going m = absurd (true≢false (sym m))
-alone-goes types u kids s t Ended h alone kinds here going m = absurd (true≢false (sym m))
-alone-goes types u kids s t Moved (inl (e, p)) alone kinds here going m = puts-goes types u s t e _ refl p
-alone-goes types u kids s t Moved (inr (inl x)) alone kinds here going m = absurd (missed-not types u s t x alone going)
-alone-goes types u kids s t Moved (inr (inr x)) alone kinds here going m =
+    → (run_seen s).kinds ≡ length types → IsGoing (ends (run_seen s)) → is_move a ≡ true → GoesByEvent u (run_seen s) (run_seen t)
+alone-goes types u kids s t (Granted g source) h alone kinds going m = puts-goes types u s t _ _ refl h.1.1
+alone-goes types u kids s t (Began child call depth) h alone kinds going m = puts-goes types u s t _ _ refl h
+alone-goes types u kids s t (Waits holder) h alone kinds going m = absurd (true≢false (sym m))
+alone-goes types u kids s t (WaitsLoad grain) h alone kinds going m = absurd (true≢false (sym m))
+alone-goes types u kids s t (WaitsFor child) h alone kinds going m = absurd (true≢false (sym m))
+alone-goes types u kids s t Ended h alone kinds going m = absurd (true≢false (sym m))
+alone-goes types u kids s t Moved (inl (e, p)) alone kinds going m = puts-goes types u s t e _ refl p
+alone-goes types u kids s t Moved (inr (inl x)) alone kinds going m = absurd (missed-not types u s t x alone going)
+alone-goes types u kids s t Moved (inr (inr x)) alone kinds going m =
     let same : t ≡ s = looks-alone s t x.looked in
-    absurd (x.never (subst (IsAlone (leaves_unit u)) (sym same) alone) (ap (λ (z : Sight). (run_seen z).kinds) same ∙ kinds) (ap (λ (z : Sight). (run_seen z).capacity) same ∙ here))
+    absurd (x.never (subst (IsAlone (leaves_unit u)) (sym same) alone) (ap (λ (z : Sight). (run_seen z).kinds) same ∙ kinds))
 
 -- one that doesn't
 pub alone-waits : (types : ProgramTree) (u : UnitNo) (kids : ℕ) (s t : Sight) (a : Advanced) → AnswerSays none_comes types u kids s t a → is_move a ≡ false → t ≡ s
 alone-waits types u kids s t (Waits holder) h m = looks-alone s t h.looked
+alone-waits types u kids s t (WaitsLoad grain) h m = looks-alone s t h.looked
 alone-waits types u kids s t (WaitsFor child) h m = looks-alone s t h.looked
 alone-waits types u kids s t Ended h m = looks-alone s t h.0
 alone-waits types u kids s t (Granted g source) h m = absurd (true≢false m)

@@ -30,12 +30,12 @@ use Rattle.core_access.specs.OneHolder.{none_comes}
 use Rattle.core_access.specs.Sights.{Sight, run_seen, saw, IsAlone, IfAlone}
 use Rattle.core_access.proofs.Sights.{looks-alone}
 use Rattle.txn_agent.specs.declared.agent.Advanced.{Advanced}
-use Rattle.txn_agent.specs.declared.agent.Advanced.TheVariants.{Moved, Granted, Began, Waits, WaitsFor, Ended}
-use Rattle.txn_agent.specs.AgentStep.{AnswerSays, HasNoEventLeft, IsDueFor, Puts, WaitsBehind, WaitsForChild, is_move}
+use Rattle.txn_agent.specs.declared.agent.Advanced.TheVariants.{Moved, Granted, Began, Waits, WaitsLoad, WaitsFor, Ended}
+use Rattle.txn_agent.specs.AgentStep.{AnswerSays, HasNoEventLeft, IsDueFor, Puts, WaitsBehind, WaitsForChild, WaitsForLoad, is_move}
 use Rattle.txn_agent.proofs.UnitEnds.{idle-asks}
 use Rattle.txn_agent.proofs.ShownMoves.{given-none, over-moves, running-moves}
 use Rattle.txn_agent.proofs.LoneSteps.{missed-not, puts-applied}
-use Rattle.txn_agent.proofs.StepPromises.{line-not, settler-not, unit-is}
+use Rattle.txn_agent.proofs.StepPromises.{line-not, load-not, settler-not, unit-is, want-not}
 use Rattle.core_laws.proofs.LoadlessKept.{loadless-ends}
 
 -- the grain and the mode that are asked for
@@ -118,8 +118,8 @@ module _ (b : Basis) (r : Run) (above : 0 < r.base) where
   due-moves u (Learn v g) q a due = settler-not u q
   due-moves u Emitted q a due = settler-not u q
   due-moves u Halt q a due = settler-not u q
-  due-moves u (WantGrain v g) q a due = settler-not u q
-  due-moves u (Load g v state) q a due = settler-not u q
+  due-moves u (WantGrain v g) q a due = want-not v u q
+  due-moves u (Load g v state) q a due = load-not u q
 
 -- ---- by what each answer says
 
@@ -131,17 +131,28 @@ module _ (b : Basis) (u : UnitNo) (s t : Sight) (alone : IsAlone (leaves_unit u)
       sym (due-moves b (run_seen s) above u e p.own (and_parts (is_allowed (ends (run_seen s)) e) (can (ends (run_seen s)) e) a).1
       (subst (λ (x : Sight). IfAlone (leaves_unit u) x (λ z. IsDueFor b.types z e)) same p.due alone b refl a))
 
-  -- the unit must wait
+  -- the answer to a lock that is asked for is that the unit must wait
+  asked-waits : (g : GrainId) (mode : Mode) (a : AskAnswer) → is_wait a ≡ true → (a ≡ answer.NotActive → ⊥) → ask_answer (ends (run_seen s)) u g mode ≡ a
+      → wanted_lock (wanted_by b.types (ends (run_seen s)) u (got_in (run_seen s) u)) ≡ Some (g, mode) → false ≡ can_move b.types (ends (run_seen s)) (got_in (run_seen s)) u
+  asked-waits g mode a waits active asked wants =
+      sym (moves-by b.types (ends (run_seen s)) (got_in (run_seen s)) u (asks-running (ends (run_seen s)) u g mode (λ q. active (sym asked ∙ q)))
+      ∙ lock-moves (ends (run_seen s)) u (wanted_by b.types (ends (run_seen s)) u (got_in (run_seen s) u)) g mode wants ∙ ap not (ap is_wait asked ∙ waits))
+
+  -- for another unit
   waits-moves : (holder : UnitNo) → WaitsBehind none_comes b.types u s holder t → false ≡ can_move b.types (ends (run_seen s)) (got_in (run_seen s)) u
   waits-moves holder h =
       let same : t ≡ s = looks-alone s t h.looked in
-      let asked : ask_answer (ends (run_seen s)) u h.grain h.mode ≡ answer.MustWait holder = subst (λ (x : Sight). ask_answer (ends (run_seen x)) u h.grain h.mode ≡ answer.MustWait holder) same h.asked in
-      let wants = subst (λ (x : Sight). IfAlone (leaves_unit u) x (λ r. wanted_lock (wanted_by b.types (ends r) u (got_in r u)) ≡ Some (h.grain, h.mode))) same h.wants alone in
-      sym (moves-by b.types (ends (run_seen s)) (got_in (run_seen s)) u (asks-running (ends (run_seen s)) u h.grain h.mode (λ q. waiting-active holder (sym asked ∙ q)))
-      ∙ lock-moves (ends (run_seen s)) u (wanted_by b.types (ends (run_seen s)) u (got_in (run_seen s) u)) h.grain h.mode wants ∙ ap (λ (a : AskAnswer). not (is_wait a)) asked)
-    where
-      waiting-active : (holder : UnitNo) → answer.MustWait holder ≡ answer.NotActive → ⊥
-      waiting-active holder q = absurd cc
+      asked-waits h.grain h.mode (answer.MustWait holder) refl (λ q. absurd cc)
+      (subst (λ (x : Sight). ask_answer (ends (run_seen x)) u h.grain h.mode ≡ answer.MustWait holder) same h.asked)
+      (subst (λ (x : Sight). IfAlone (leaves_unit u) x (λ r. wanted_lock (wanted_by b.types (ends r) u (got_in r u)) ≡ Some (h.grain, h.mode))) same h.wants alone)
+
+  -- for the grain
+  load-moves : (grain : GrainId) → WaitsForLoad none_comes b.types u s grain t → false ≡ can_move b.types (ends (run_seen s)) (got_in (run_seen s)) u
+  load-moves grain h =
+      let same : t ≡ s = looks-alone s t h.looked in
+      asked-waits grain h.mode answer.Absent refl (λ q. absurd cc)
+      (subst (λ (x : Sight). ask_answer (ends (run_seen x)) u grain h.mode ≡ answer.Absent) same h.asked)
+      (subst (λ (x : Sight). IfAlone (leaves_unit u) x (λ r. wanted_lock (wanted_by b.types (ends r) u (got_in r u)) ≡ Some (grain, h.mode))) same h.wants alone)
 
   -- the child isn't decided
   child-moves : (child : UnitNo) → WaitsForChild none_comes b.types u s child t → false ≡ can_move b.types (ends (run_seen s)) (got_in (run_seen s)) u
@@ -159,17 +170,18 @@ module _ (b : Basis) (u : UnitNo) (s t : Sight) (alone : IsAlone (leaves_unit u)
 
 -- so a step tells whether the unit can move
 pub alone-tells : (b : Basis) (u : UnitNo) (kids : ℕ) (s t : Sight) (a : Advanced) → AnswerSays none_comes b.types u kids s t a → IsAlone (leaves_unit u) s
-    → (run_seen s).kinds ≡ length b.types → (run_seen s).capacity ≡ None → IsGoing (ends (run_seen s)) → 0 < (run_seen s).base
+    → (run_seen s).kinds ≡ length b.types → IsGoing (ends (run_seen s)) → 0 < (run_seen s).base
     → is_move a ≡ can_move b.types (ends (run_seen s)) (got_in (run_seen s)) u
-alone-tells b u kids s t (Granted g source) h alone kinds here going above = puts-moves b u s t alone above _ _ h.1.1 (puts-applied b.types u s t _ _ refl h.1.1)
-alone-tells b u kids s t (Began child call depth) h alone kinds here going above = puts-moves b u s t alone above _ _ h (puts-applied b.types u s t _ _ refl h)
-alone-tells b u kids s t (Waits holder) h alone kinds here going above = waits-moves b u s t alone above holder h
-alone-tells b u kids s t (WaitsFor child) h alone kinds here going above = child-moves b u s t alone above child h
-alone-tells b u kids s t Ended h alone kinds here going above =
+alone-tells b u kids s t (Granted g source) h alone kinds going above = puts-moves b u s t alone above _ _ h.1.1 (puts-applied b.types u s t _ _ refl h.1.1)
+alone-tells b u kids s t (Began child call depth) h alone kinds going above = puts-moves b u s t alone above _ _ h (puts-applied b.types u s t _ _ refl h)
+alone-tells b u kids s t (Waits holder) h alone kinds going above = waits-moves b u s t alone above holder h
+alone-tells b u kids s t (WaitsLoad grain) h alone kinds going above = load-moves b u s t alone above grain h
+alone-tells b u kids s t (WaitsFor child) h alone kinds going above = child-moves b u s t alone above child h
+alone-tells b u kids s t Ended h alone kinds going above =
     let same : t ≡ s = looks-alone s t h.0 in
     ended-moves b u s t alone above (subst (λ (x : Sight). IfAlone (leaves_unit u) x (λ r. HasNoEventLeft (ends r) u)) same h.1 alone) going
-alone-tells b u kids s t Moved (inl (e, p)) alone kinds here going above = puts-moves b u s t alone above e _ p (puts-applied b.types u s t e _ refl p)
-alone-tells b u kids s t Moved (inr (inl x)) alone kinds here going above = absurd (missed-not b.types u s t x alone going)
-alone-tells b u kids s t Moved (inr (inr x)) alone kinds here going above =
+alone-tells b u kids s t Moved (inl (e, p)) alone kinds going above = puts-moves b u s t alone above e _ p (puts-applied b.types u s t e _ refl p)
+alone-tells b u kids s t Moved (inr (inl x)) alone kinds going above = absurd (missed-not b.types u s t x alone going)
+alone-tells b u kids s t Moved (inr (inr x)) alone kinds going above =
     let same : t ≡ s = looks-alone s t x.looked in
-    absurd (x.never (subst (IsAlone (leaves_unit u)) (sym same) alone) (ap (λ (z : Sight). (run_seen z).kinds) same ∙ kinds) (ap (λ (z : Sight). (run_seen z).capacity) same ∙ here))
+    absurd (x.never (subst (IsAlone (leaves_unit u)) (sym same) alone) (ap (λ (z : Sight). (run_seen z).kinds) same ∙ kinds))

@@ -10,7 +10,7 @@ use Rattle.core_model.specs.declared.events.CoreReply.TheVariants.{Began}
 use Rattle.core_model.specs.LegalRuns.{Run}
 use Rattle.script_tree.specs.Programs.{ProgramTree}
 use Rattle.script_meaning.specs.Play.{IsTransaction}
-use Rattle.promise_spec.specs.TurnRule.{OfLine, OfUnit, OfSettler, mover_of}
+use Rattle.promise_spec.specs.TurnRule.{OfLine, OfWant, OfLoad, OfUnit, OfSettler, mover_of}
 use Rattle.promise_spec.specs.UnitRule.{Basis, KeepsUnitRule}
 use Rattle.turn_cell.specs.History.{entry}
 use Rattle.turn_cell.proofs.Lists.{in_left, in_right}
@@ -47,6 +47,12 @@ line-not u e = absurd cc
 pub settler-not : {A : Type 0} (u : UnitNo) → OfSettler ≡ OfUnit u → A
 settler-not u e = absurd cc
 
+pub want-not : {A : Type 0} (v u : UnitNo) → OfWant v ≡ OfUnit u → A
+want-not v u e = absurd cc
+
+pub load-not : {A : Type 0} (u : UnitNo) → OfLoad ≡ OfUnit u → A
+load-not u e = absurd cc
+
 -- a unit's event is one of its own
 moves-own : (u : UnitNo) (e : CoreEvent) → mover_of e ≡ OfUnit u → is_own u e ≡ true
 moves-own u (Bad n why) q = line-not u q
@@ -67,8 +73,8 @@ moves-own u (Doubt n) q = settler-not u q
 moves-own u (Learn v g) q = settler-not u q
 moves-own u Emitted q = settler-not u q
 moves-own u Halt q = settler-not u q
-moves-own u (Want v g) q = settler-not u q
-moves-own u (Load g v state) q = settler-not u q
+moves-own u (Want v g) q = want-not v u q
+moves-own u (Load g v state) q = load-not u q
 
 -- and of no other unit
 moves-one : (u w : UnitNo) (e : CoreEvent) → mover_of e ≡ OfUnit u → is_own w e ≡ true → w ≡ u
@@ -90,8 +96,8 @@ moves-one u w (Doubt n) q o = settler-not u q
 moves-one u w (Learn v g) q o = settler-not u q
 moves-one u w Emitted q o = settler-not u q
 moves-one u w Halt q o = settler-not u q
-moves-one u w (Want v g) q o = settler-not u q
-moves-one u w (Load g v state) q o = settler-not u q
+moves-one u w (Want v g) q o = want-not v u q
+moves-one u w (Load g v state) q o = load-not u q
 
 -- ---- what others know
 

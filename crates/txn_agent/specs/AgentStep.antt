@@ -7,7 +7,7 @@ use Rattle.core_model.specs.declared.events.CoreEvent.{CoreEvent}
 use Rattle.core_model.specs.declared.events.CoreEvent.TheVariants as event
 use Rattle.core_model.specs.declared.events.CoreReply.{CoreReply}
 use Rattle.core_model.specs.declared.events.CoreReply.TheVariants as reply
-use Rattle.core_model.specs.declared.questions.AskAnswer.TheVariants.{MustWait}
+use Rattle.core_model.specs.declared.questions.AskAnswer.TheVariants.{MustWait, Absent}
 use Rattle.core_model.specs.Events.{applies, can}
 use Rattle.core_model.specs.LockAnswers.{IsGoing}
 use Rattle.core_model.specs.Tests.{ask_answer, is_free, is_over, outcome_of}
@@ -17,12 +17,12 @@ use Rattle.script_tree.specs.Programs.{ProgramTree}
 use Rattle.script_meaning.specs.Trails.{Given}
 use Rattle.promise_spec.specs.UnitAnswers.{got_in, wanted_by, wanted_lock}
 use Rattle.promise_spec.specs.UnitRule.{Basis}
-use Rattle.promise_spec.specs.TurnRule.{OfUnit, mover_of}
+use Rattle.promise_spec.specs.TurnRule.{OfUnit, lock_asked, mover_of}
 use Rattle.turn_rules.specs.NextEvent.{is_own, with_event, MayCome}
 use Rattle.turn_rules.specs.Links.{IsAwaiting}
 use Rattle.worker_rules.specs.UnitOwnership.{leaves_unit}
 use Rattle.txn_agent.specs.declared.agent.Advanced.{Advanced}
-use Rattle.txn_agent.specs.declared.agent.Advanced.TheVariants.{Moved, Granted, Began, Waits, WaitsFor, Ended}
+use Rattle.txn_agent.specs.declared.agent.Advanced.TheVariants.{Moved, Granted, Began, Waits, WaitsLoad, WaitsFor, Ended}
 use Rattle.txn_agent.specs.declared.work.Doing.{Doing}
 use Rattle.txn_agent.specs.declared.work.Doing.TheVariants.{Asks, Awaits, Frees, Stopped}
 
@@ -54,17 +54,23 @@ module _ (may_come : CoreEvent → Bool) (types : ProgramTree) (u : UnitNo) (s :
     pub wants : IfAlone (leaves_unit u) t (λ r. wanted_lock (wanted_by types (ends r) u (got_in r u)) ≡ Some (grain, mode))
     pub asked : ask_answer (ends (run_seen t)) u grain mode ≡ MustWait holder
 
+  -- The script asks for a lock, and the core showed that the grain isn't in memory.
+  pub record WaitsForLoad (grain : GrainId) (t : Sight) : Type 0 where
+    pub looked : Looks may_come s t
+    pub mode : Mode
+    pub wants : IfAlone (leaves_unit u) t (λ r. lock_asked types (ends r) (got_in r) u ≡ Some (grain, mode))
+    pub asked : ask_answer (ends (run_seen t)) u grain mode ≡ Absent
+
   -- The script waits for the unit's last child, and the core showed that it isn't decided.
   pub record WaitsForChild (child : UnitNo) (t : Sight) : Type 0 where
     pub looked : Looks may_come s t
     pub undecided : outcome_of (ends (run_seen t)) child ≡ None
     pub last : IfAlone (leaves_unit u) t (λ r. (call : Call) × ((depth : ℕ) × ((trail : List Given) × IsAwaiting r u child call depth trail)))
 
-  -- Nothing was put. Where nobody else makes events of the unit, the core has the program's types and every grain stays in
-  -- memory, that is never so.
+  -- Nothing was put. Where nobody else makes events of the unit and the core has the program's types, that is never so.
   pub record Strays (t : Sight) : Type 0 where
     pub looked : Looks may_come s t
-    pub never : IfAlone (leaves_unit u) t (λ r. r.kinds ≡ length types → r.capacity ≡ None → ⊥)
+    pub never : IfAlone (leaves_unit u) t (λ r. r.kinds ≡ length types → ⊥)
 
 -- An event that the core had shown to be possible was put, and didn't apply by then.
 pub record Misses (may_come : CoreEvent → Bool) (types : ProgramTree) (u : UnitNo) (s t : Sight) : Type 0 where
@@ -114,6 +120,7 @@ abbrev pub AnswerSays : (CoreEvent → Bool) → ProgramTree → UnitNo → ℕ 
 AnswerSays may types u kids s t (Granted grain source) = (mode : Mode) × ((state : List Value) × Puts may types u s (event.Grant u grain mode) (reply.Granted state source) t)
 AnswerSays may types u kids s t (Began child call depth) = Puts may types u s (event.Begin (Child u kids depth) call false) (reply.Began child) t
 AnswerSays may types u kids s t (Waits holder) = WaitsBehind may types u s holder t
+AnswerSays may types u kids s t (WaitsLoad grain) = WaitsForLoad may types u s grain t
 AnswerSays may types u kids s t (WaitsFor child) = WaitsForChild may types u s child t
 AnswerSays may types u kids s t Ended = Looks may s t × IfAlone (leaves_unit u) t (λ r. HasNoEventLeft (ends r) u)
 AnswerSays may types u kids s t Moved = ((e : CoreEvent) × Puts may types u s e reply.Done t) ⊎ (Misses may types u s t ⊎ Strays may types u s t)
@@ -124,6 +131,7 @@ is_move Moved = true
 is_move (Granted grain source) = true
 is_move (Began child call depth) = true
 is_move (Waits holder) = false
+is_move (WaitsLoad grain) = false
 is_move (WaitsFor child) = false
 is_move Ended = false
 

@@ -3,3 +3,4 @@ pub mod MachineState
 pub mod CoreLink
 pub mod AgentStep
 pub mod ShownMoves
+pub mod Wishes

@@ -1,4 +1,4 @@
-ghost use Rattle.std.specs.Prelude.{◌≡◌, IfOk, IsOk};
+ghost use Rattle.std.specs.Prelude.{◌≡◌, IfErr, IfOk, IsOk};
 ghost use Rattle.core_access.specs.FitAccess.{StaysFit};
 ghost use Rattle.core_access.specs.Sights.{Sight, Counts, Looks};
 ghost use Rattle.script_tree.specs.Programs.{ProgramTree, program_tree};
@@ -6,8 +6,10 @@ ghost use Rattle.txn_agent.specs.CoreLink.{IfOwn, IsNew, Knows};
 ghost use Rattle.promise_spec.specs.TurnRule.{is_line};
 ghost use Rattle.txn_agent.specs.AgentStep.{Acts, AnswerSays, Hears, children_of, has_freed_all, is_freeing};
 ghost use Rattle.txn_agent.specs.ShownMoves.{ShowsMove};
+ghost use Rattle.txn_agent.specs.Wishes.{WishSays};
 
 use crate::steps::{hear_child, moves_now, step};
+use crate::wishes::wish;
 use crate::work::{Carried, Doing, Work};
 use base_types::{Call, GrainId, List, Origin, UnitNo};
 use core_access::Access;
@@ -37,6 +39,10 @@ pub enum Advanced {
     /// The lock that the unit asks for is held by younger units in a mode that conflicts, of which this is the oldest.
     Waits {
         holder: UnitNo,
+    },
+    /// The grain for whose lock the unit asks isn't in memory.
+    WaitsLoad {
+        grain: GrainId,
     },
     /// The unit's child isn't decided.
     WaitsFor {
@@ -204,8 +210,8 @@ impl Agent {
         Ok(())
     }
 
-    /// Whether the unit moves, by what was looked at in this call: false where `advance` would answer `Waits`, `WaitsFor` or
-    /// `Ended`. `ready` was called since the last move; else a unit whose child is decided by now is told to move, which it
+    /// Whether the unit moves, by what was looked at in this call: false where `advance` would answer `Waits`, `WaitsLoad`,
+    /// `WaitsFor` or `Ended`. `ready` was called since the last move; else a unit whose child is decided by now is told to move, which it
     /// does by hearing of it. It takes no memory.
     pub fn can_move<A: Access>(&self, access: &mut A) -> Result<bool, AllocError>
         requires fit { A.is_fit access.old }
@@ -217,6 +223,23 @@ impl Agent {
     {
         let moves = moves_now(access, self.carried, &self.doing)?;
         Ok(moves)
+    }
+
+    /// Puts the unit's wish that the grain for whose lock its script asks be brought into memory, where the core shows in this call
+    /// that it isn't there, and answers whether the wish was done: it isn't where the unit wants the grain already, nor behind a doubt
+    /// or a stop. `ready` was called since the last move; else a unit whose child is decided by now has no wish. What the unit goes on
+    /// with stays as it was. Where there is no memory nothing was put.
+    pub fn want<A: Access>(&self, access: &mut A) -> Result<bool, AllocError>
+        requires fit { A.is_fit access.old }
+        ensures kept { StaysFit (A.is_fit access.new) (A.aside access.old) (A.aside access.new) }
+        ensures looked { IfErr result (λ _. Looks A.may_come (A.sight access.old) (A.sight access.new)) }
+        ensures told { IfOk result (λ done. (types : ProgramTree) → Counts (A.sight access.old) → Knows types (A.sight access.old) self.now
+            → WishSays A.may_come types self.now.carried.unit self.now.doing (A.sight access.old) (A.sight access.new) done) }
+        ensures knows { (types : ProgramTree) → Counts (A.sight access.old) → Knows types (A.sight access.old) self.now
+            → Knows types (A.sight access.new) self.now }
+    {
+        let done = wish(access, self.carried, &self.doing)?;
+        Ok(done)
     }
 
     /// Goes on by at most one event of the unit.

@@ -1,4 +1,4 @@
-ghost use Rattle.std.specs.Prelude.{◌≡◌, ◌<◌, ℕ, Bool, true, false, length, None};
+ghost use Rattle.std.specs.Prelude.{◌≡◌, ◌<◌, ℕ, Bool, true, false, length};
 ghost use Rattle.core_model.specs.LockAnswers.{IsGoing};
 ghost use Rattle.core_model.specs.CoreState.{UnitNo as AUnit, Call as ACall};
 ghost use Rattle.core_model.specs.declared.events.CoreEvent.{CoreEvent as AnEvent};
@@ -69,16 +69,16 @@ pub fn a_step_alone_keeps_the_rule()
     ensures alone { (types : ProgramTree) (u v : AUnit) (s t : Sight) → Acts none_comes types u s t → IsAlone (leaves_unit v) s → IsAlone (leaves_unit v) t }
 {}
 
-/// Where nobody else puts events and there is no doubt and no stop, the core has the program's types and every grain is in
-/// memory, a step that says that it moved went on by an event of the unit that applies. It says so exactly where the unit can
-/// move by the turn rule; else it changed nothing.
+/// Where nobody else puts events, there is no doubt and no stop and the core has the program's types, a step that says that it
+/// moved went on by an event of the unit that applies. It says so exactly where the unit can move by the turn rule; else it
+/// changed nothing.
 pub fn a_step_alone_goes_on()
     ensures moves { (types : ProgramTree) (u : AUnit) (kids : ℕ) (s t : Sight) (a : AnAnswer) → AnswerSays none_comes types u kids s t a
         → IsAlone (leaves_unit u) s
-        → (run_seen s).kinds ≡ length types → (run_seen s).capacity ≡ None → IsGoing (ends (run_seen s)) → is_move a ≡ true
+        → (run_seen s).kinds ≡ length types → IsGoing (ends (run_seen s)) → is_move a ≡ true
         → GoesByEvent u (run_seen s) (run_seen t) }
     ensures tells { (b : Basis) (u : AUnit) (kids : ℕ) (s t : Sight) (a : AnAnswer) → AnswerSays none_comes b.types u kids s t a → IsAlone (leaves_unit u) s
-        → (run_seen s).kinds ≡ length b.types → (run_seen s).capacity ≡ None → IsGoing (ends (run_seen s)) → 0 < (run_seen s).base
+        → (run_seen s).kinds ≡ length b.types → IsGoing (ends (run_seen s)) → 0 < (run_seen s).base
         → is_move a ≡ can_move b.types (ends (run_seen s)) (got_in (run_seen s)) u }
     ensures waits { (types : ProgramTree) (u : AUnit) (kids : ℕ) (s t : Sight) (a : AnAnswer) → AnswerSays none_comes types u kids s t a
         → is_move a ≡ false → t ≡ s }

@@ -95,7 +95,7 @@ pub fn take_grain<A: Access>(
         }
         AskAnswer::Absent => {
             let pause = Pause::NeedGrain { grain, mode };
-            Ok((Doing::Asks { work, pause }, Advanced::Moved))
+            Ok((Doing::Asks { work, pause }, Advanced::WaitsLoad { grain }))
         }
     }
 }

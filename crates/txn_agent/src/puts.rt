@@ -180,3 +180,13 @@ pub fn put_release<A: Access>(
 {
     put_done(access, CoreEvent::Release { unit, grain })
 }
+
+/// Puts a unit's wish for a grain, and answers whether it was done.
+pub fn put_want<A: Access>(access: &mut A, unit: UnitNo, grain: GrainId) -> Result<bool, AllocError>
+    requires fit { A.is_fit access.old }
+    ensures kept { StaysFit (A.is_fit access.new) (A.aside access.old) (A.aside access.new) }
+    ensures said { IfOk result (λ said. Says A.may_come (A.sight access.old) (event.Want unit grain) is_done said (A.sight access.new)) }
+    ensures looked { IfErr result (λ _. Looks A.may_come (A.sight access.old) (A.sight access.new)) }
+{
+    put_done(access, CoreEvent::Want { unit, grain })
+}

@@ -116,7 +116,7 @@ fn must_wait(answer: AskAnswer) -> bool
         AskAnswer::Doomed { source: _source } => false,
         AskAnswer::NotActive => false,
         AskAnswer::Held => false,
-        AskAnswer::Absent => false,
+        AskAnswer::Absent => true,
     }
 }
 

@@ -83,6 +83,7 @@ went_by advanced.Moved = Moved
 went_by (advanced.Granted grain source) = Granted grain source
 went_by (advanced.Began child call depth) = Began child
 went_by (advanced.Waits holder) = Stayed
+went_by (advanced.WaitsLoad grain) = Stayed
 went_by (advanced.WaitsFor child) = Stayed
 went_by advanced.Ended = Stayed
 

@@ -153,6 +153,7 @@ impl Agents {
             Advanced::Granted { grain, source } => Ok(Went::Granted { grain, source }),
             Advanced::Moved => Ok(Went::Moved),
             Advanced::Waits { holder: _holder } => Ok(Went::Stayed),
+            Advanced::WaitsLoad { grain: _grain } => Ok(Went::Stayed),
             Advanced::WaitsFor { child: _child } => Ok(Went::Stayed),
             Advanced::Ended => Ok(Went::Stayed),
         }

@@ -78,6 +78,9 @@ module _ (may : CoreEvent → Bool) (types : ProgramTree) (u : UnitNo) (kids : �
   pub waits-back : (holder : UnitNo) → AnswerSays may types u kids s t (came.Waits holder) → BeganHere v t → BeganHere v s
   waits-back holder says b = looks-back may v s t says.looked b
 
+  pub waits-load-back : (grain : _) → AnswerSays may types u kids s t (came.WaitsLoad grain) → BeganHere v t → BeganHere v s
+  waits-load-back grain says b = looks-back may v s t says.looked b
+
   pub waits-for-back : (child : UnitNo) → AnswerSays may types u kids s t (came.WaitsFor child) → BeganHere v t → BeganHere v s
   waits-for-back child says b = looks-back may v s t says.looked b
 

@@ -15,7 +15,7 @@ use Rattle.core_access.specs.Histories.{Told}
 use Rattle.core_access.specs.Sights.{Sight, Counts, IfAlone, Looks, Tells, run_seen, saw, told}
 use Rattle.core_access.proofs.Sights.{looks-counts, tells-counts, run-told}
 use Rattle.script_tree.specs.Programs.{ProgramTree}
-use Rattle.promise_spec.specs.TurnRule.{OfLine, OfUnit, OfSettler, mover_of}
+use Rattle.promise_spec.specs.TurnRule.{OfLine, OfWant, OfLoad, OfUnit, OfSettler, mover_of}
 use Rattle.promise_spec.specs.UnitRule.{Basis}
 use Rattle.turn_cell.specs.History.{entry}
 use Rattle.turn_cell.proofs.Lists.{in_append, in_left}
@@ -50,6 +50,12 @@ line-not u e = absurd cc
 settler-not : {A : Type 0} (u : UnitNo) → OfSettler ≡ OfUnit u → A
 settler-not u e = absurd cc
 
+want-not : {A : Type 0} (v u : UnitNo) → OfWant v ≡ OfUnit u → A
+want-not v u e = absurd cc
+
+load-not : {A : Type 0} (u : UnitNo) → OfLoad ≡ OfUnit u → A
+load-not u e = absurd cc
+
 -- a unit's event is one of no other unit
 moves-one : (u w : UnitNo) (e : CoreEvent) → mover_of e ≡ OfUnit u → is_own w e ≡ true → w ≡ u
 moves-one u w (Bad n why) q o = line-not u q
@@ -70,8 +76,8 @@ moves-one u w (Doubt n) q o = settler-not u q
 moves-one u w (Learn v g) q o = settler-not u q
 moves-one u w Emitted q o = settler-not u q
 moves-one u w Halt q o = settler-not u q
-moves-one u w (Want v g) q o = settler-not u q
-moves-one u w (Load g v state) q o = settler-not u q
+moves-one u w (Want v g) q o = want-not v u q
+moves-one u w (Load g v state) q o = load-not u q
 
 -- what stands at a place is in the list
 at-member : {A : Type 0} (xs : List A) (i : ℕ) (x : A) → slice_get xs i ≡ Some x → Member x xs

@@ -61,6 +61,7 @@ fn step<A: Access, G: Gate>(
         }
         Advanced::Moved => Ok(true),
         Advanced::Waits { holder: _holder } => Ok(false),
+        Advanced::WaitsLoad { grain: _grain } => Ok(false),
         Advanced::WaitsFor { child: _child } => Ok(false),
         Advanced::Ended => Ok(false),
     }

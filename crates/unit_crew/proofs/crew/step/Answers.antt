@@ -4,7 +4,7 @@ use Rattle.std.proofs.lemmas.Option.{slice_get_read}
 use Rattle.script_tree.specs.Programs.{program_tree}
 use Rattle.txn_agent.specs.declared.agent.Advanced.{Advanced}
 use Rattle.txn_agent.specs.AgentStep.{AnswerSays, children_of}
-use Rattle.unit_crew.proofs.BegunUnits.{child-crew, ended-back, granted-back, moved-back, waits-back, waits-for-back}
+use Rattle.unit_crew.proofs.BegunUnits.{child-crew, ended-back, granted-back, moved-back, waits-back, waits-for-back, waits-load-back}
 use Rattle.unit_crew.proofs.CrewKnowledge.{acts-so, crew-so, own-here}
 use Rattle.unit_crew.proofs.Works.{works-acts}
 use Rattle.unit_crew.proofs.crew.step.Goals as goal
@@ -41,6 +41,11 @@ returns-in-Waits-clause-works g c =
 
 pub returns-in-WaitsFor-clause-works : goal.returns-in-WaitsFor-clause-works
 returns-in-WaitsFor-clause-works g c =
+    let q : slice_get c.args.agents.now.list.items c.args.index ≡ Some c.index_mut-agent.result.now = slice_get_read c.args.agents.now.list.items _ c.args.index c.index_mut-agent.result.now refl c.requires.within c.index_mut-agent.ensures.value in
+    works-acts g.A.Access.may_come (program_tree c.args.checked.now) c.index_mut-agent.result.now.carried.unit (g.A.Access.sight c.args.access.now) (g.A.Access.sight c.advance.new.access) c.advance.ensures.acts (own-here (program_tree c.args.checked.now) g.A.Access.may_come (g.A.Access.sight c.args.access.now) (g.A.Access.sight c.advance.new.access) c.args.agents.now.list.items c.requires.crew c.args.index c.index_mut-agent.result.now c.advance.new.self q c.advance.ensures.carried)
+
+pub returns-in-WaitsLoad-clause-works : goal.returns-in-WaitsLoad-clause-works
+returns-in-WaitsLoad-clause-works g c =
     let q : slice_get c.args.agents.now.list.items c.args.index ≡ Some c.index_mut-agent.result.now = slice_get_read c.args.agents.now.list.items _ c.args.index c.index_mut-agent.result.now refl c.requires.within c.index_mut-agent.ensures.value in
     works-acts g.A.Access.may_come (program_tree c.args.checked.now) c.index_mut-agent.result.now.carried.unit (g.A.Access.sight c.args.access.now) (g.A.Access.sight c.advance.new.access) c.advance.ensures.acts (own-here (program_tree c.args.checked.now) g.A.Access.may_come (g.A.Access.sight c.args.access.now) (g.A.Access.sight c.advance.new.access) c.args.agents.now.list.items c.requires.crew c.args.index c.index_mut-agent.result.now c.advance.new.self q c.advance.ensures.carried)
 
@@ -82,6 +87,13 @@ returns-in-WaitsFor-clause-crew g c =
     let q : slice_get c.args.agents.now.list.items c.args.index ≡ Some c.index_mut-agent.result.now = slice_get_read c.args.agents.now.list.items _ c.args.index c.index_mut-agent.result.now refl c.requires.within c.index_mut-agent.ensures.value in
     crew-so (program_tree c.args.checked.now) (g.A.Access.sight c.args.access.now) (g.A.Access.sight c.advance.new.access) (slice_set c.args.agents.now.list.items c.args.index c.advance.new.self)
     (λ v. waits-for-back g.A.Access.may_come (program_tree c.args.checked.now) c.index_mut-agent.result.now.carried.unit (children_of c.index_mut-agent.result.now.doing) (g.A.Access.sight c.args.access.now) (g.A.Access.sight c.advance.new.access) v c.in-WaitsFor._child (subst (λ (x : Advanced). AnswerSays g.A.Access.may_come (program_tree c.args.checked.now) c.index_mut-agent.result.now.carried.unit (children_of c.index_mut-agent.result.now.doing) (g.A.Access.sight c.args.access.now) (g.A.Access.sight c.advance.new.access) x) c.in-WaitsFor.is c.in_ok-child.ensures.told))
+    (acts-so (program_tree c.args.checked.now) g.A.Access.may_come (g.A.Access.sight c.args.access.now) (g.A.Access.sight c.advance.new.access) c.args.agents.now.list.items c.requires.crew c.args.index c.index_mut-agent.result.now c.advance.new.self q c.advance.ensures.carried c.advance.ensures.acts c.in_ok-child.ensures.knows)
+
+pub returns-in-WaitsLoad-clause-crew : goal.returns-in-WaitsLoad-clause-crew
+returns-in-WaitsLoad-clause-crew g c =
+    let q : slice_get c.args.agents.now.list.items c.args.index ≡ Some c.index_mut-agent.result.now = slice_get_read c.args.agents.now.list.items _ c.args.index c.index_mut-agent.result.now refl c.requires.within c.index_mut-agent.ensures.value in
+    crew-so (program_tree c.args.checked.now) (g.A.Access.sight c.args.access.now) (g.A.Access.sight c.advance.new.access) (slice_set c.args.agents.now.list.items c.args.index c.advance.new.self)
+    (λ v. waits-load-back g.A.Access.may_come (program_tree c.args.checked.now) c.index_mut-agent.result.now.carried.unit (children_of c.index_mut-agent.result.now.doing) (g.A.Access.sight c.args.access.now) (g.A.Access.sight c.advance.new.access) v c.in-WaitsLoad._grain (subst (λ (x : Advanced). AnswerSays g.A.Access.may_come (program_tree c.args.checked.now) c.index_mut-agent.result.now.carried.unit (children_of c.index_mut-agent.result.now.doing) (g.A.Access.sight c.args.access.now) (g.A.Access.sight c.advance.new.access) x) c.in-WaitsLoad.is c.in_ok-child.ensures.told))
     (acts-so (program_tree c.args.checked.now) g.A.Access.may_come (g.A.Access.sight c.args.access.now) (g.A.Access.sight c.advance.new.access) c.args.agents.now.list.items c.requires.crew c.args.index c.index_mut-agent.result.now c.advance.new.self q c.advance.ensures.carried c.advance.ensures.acts c.in_ok-child.ensures.knows)
 
 pub returns-in-Ended-clause-crew : goal.returns-in-Ended-clause-crew

@@ -101,8 +101,20 @@ returns-in-WaitsFor-clause-steps g c =
     (subst (λ (x : Advanced). AnswerSays g.A.Access.may_come (program_tree c.args.checked.now) c.index_mut-agent.result.now.carried.unit (children_of c.index_mut-agent.result.now.doing) (g.A.Access.sight c.args.access.now) (g.A.Access.sight c.advance.new.access) x) c.in-WaitsFor.is c.in_ok-child.ensures.told)
     (units-set c.args.self.now.list.items c.args.index c.index_mut-agent.result.now c.advance.new.self q c.advance.ensures.carried)
 
+pub returns-in-WaitsLoad-clause-steps : goal.returns-in-WaitsLoad-clause-steps
+returns-in-WaitsLoad-clause-steps g c =
+    let q : slice_get c.args.self.now.list.items c.args.index ≡ Some c.index_mut-agent.result.now = slice_get_read c.args.self.now.list.items _ c.args.index c.index_mut-agent.result.now refl c.requires.within c.index_mut-agent.ensures.value in
+    steps-on (program_tree c.args.checked.now) g.A.Access.may_come (g.A.Access.sight c.args.access.now) (g.A.Access.sight c.advance.new.access) c.args.self.now.list.items (slice_set c.args.self.now.list.items c.args.index c.advance.new.self) c.args.index c.index_mut-agent.result.now (came.WaitsLoad c.in-WaitsLoad._grain) q
+    (subst (λ (x : Advanced). AnswerSays g.A.Access.may_come (program_tree c.args.checked.now) c.index_mut-agent.result.now.carried.unit (children_of c.index_mut-agent.result.now.doing) (g.A.Access.sight c.args.access.now) (g.A.Access.sight c.advance.new.access) x) c.in-WaitsLoad.is c.in_ok-child.ensures.told)
+    (units-set c.args.self.now.list.items c.args.index c.index_mut-agent.result.now c.advance.new.self q c.advance.ensures.carried)
+
 pub returns-in-WaitsFor-clause-carried : goal.returns-in-WaitsFor-clause-carried
 returns-in-WaitsFor-clause-carried g c =
+    let q : slice_get c.args.self.now.list.items c.args.index ≡ Some c.index_mut-agent.result.now = slice_get_read c.args.self.now.list.items _ c.args.index c.index_mut-agent.result.now refl c.requires.within c.index_mut-agent.ensures.value in
+    steps-carried (program_tree c.args.checked.now) g.A.Access.may_come (g.A.Access.sight c.args.access.now) (g.A.Access.sight c.advance.new.access) c.args.self.now.list.items c.args.index c.index_mut-agent.result.now c.advance.new.self q c.advance.ensures.carried c.advance.ensures.acts c.in_ok-child.ensures.knows c.requires.carried
+
+pub returns-in-WaitsLoad-clause-carried : goal.returns-in-WaitsLoad-clause-carried
+returns-in-WaitsLoad-clause-carried g c =
     let q : slice_get c.args.self.now.list.items c.args.index ≡ Some c.index_mut-agent.result.now = slice_get_read c.args.self.now.list.items _ c.args.index c.index_mut-agent.result.now refl c.requires.within c.index_mut-agent.ensures.value in
     steps-carried (program_tree c.args.checked.now) g.A.Access.may_come (g.A.Access.sight c.args.access.now) (g.A.Access.sight c.advance.new.access) c.args.self.now.list.items c.args.index c.index_mut-agent.result.now c.advance.new.self q c.advance.ensures.carried c.advance.ensures.acts c.in_ok-child.ensures.knows c.requires.carried
 
@@ -129,6 +141,9 @@ returns-in-Waits-clause-freed g c = λ front le freed. freed-set c.args.self.now
 
 pub returns-in-WaitsFor-clause-freed : goal.returns-in-WaitsFor-clause-freed
 returns-in-WaitsFor-clause-freed g c = λ front le freed. freed-set c.args.self.now.list.items front c.args.index c.advance.new.self le freed
+
+pub returns-in-WaitsLoad-clause-freed : goal.returns-in-WaitsLoad-clause-freed
+returns-in-WaitsLoad-clause-freed g c = λ front le freed. freed-set c.args.self.now.list.items front c.args.index c.advance.new.self le freed
 
 pub returns-in-Ended-clause-freed : goal.returns-in-Ended-clause-freed
 returns-in-Ended-clause-freed g c = λ front le freed. freed-set c.args.self.now.list.items front c.args.index c.advance.new.self le freed
