@@ -6,9 +6,9 @@
 # makes it, and how often the one here does; it fails where a command makes more calls in all than it did there, by more than 2.
 # 1,000 transfers at width 64: 921 fdatasync, 920 pwrite64, 972 statx, 70 openat, a write a reply. Each file is opened once, as long as
 # its handle is kept, and looked for by its name before a write, by one statx, unless it was written last. The log of these opens with
-# 123 pread64, 84 statx and 70 openat; 64 of the statx tell once of each grain's file whether it is a regular one. `show` makes 177
-# pread64, 101 statx, 70 openat and a write a grain, `history` the same and a write a record, and `audit` 2,231 pread64, two for each
-# transfer, 101 statx and 70 openat.
+# a pread64 for each 65,536 bytes of it, one for the program's file and one for each grain's, 68 statx and 70 openat; 64 of the statx tell
+# once of each grain's file whether it is a regular one. The reports read the log once more and put out a write a line, and `audit` reads
+# each version; what still lies in a window takes no call.
 top=$(cd "$(dirname "${BASH_SOURCE[0]}")/.." && pwd)
 [ -n "${SILO:-}" ] || "$top/silo" </dev/null >/dev/null 2>&1
 command -v strace >/dev/null || { echo "calls.sh: there is no strace here" >&2; exit 0; }

@@ -1,10 +1,12 @@
 -- Reads and writes that are made part by part.
-use Rattle.std.proofs.Common.{◌≡◌, ◌⊎◌, inl, inr, append-nil, ℕ, zero, suc, ◌+◌, ◌^◌, ◌<◌, ◌≤◌, List, [], ◌∷◌, ◌++◌, length, take, drop, refl, sym, ◌∙◌, ap, subst, arith, append_assoc, length-append, length-take, length-drop, take-append-drop, length-take-le, take_all, take-add}
+use Rattle.std.proofs.Common.{◌≡◌, ◌⊎◌, inl, inr, append-nil, ℕ, zero, suc, ◌+◌, ◌-◌, min, ◌^◌, ◌<◌, ◌≤◌, List, [], ◌∷◌, ◌++◌, length, take, drop, refl, sym, ◌∙◌, ap, subst, arith, append_assoc, length-append, length-take, length-drop, take-append-drop, length-take-le, take_all, take-add}
+use Rattle.std.proofs.lemmas.Bool.{cases_lt}
 use Rattle.std.proofs.lemmas.List.{drop-drop, take_at, drop_at}
 use Rattle.host_trait.specs.declared.channels.FileId.{FileId}
 use Rattle.host_trait.specs.Disk.{FileState, Tears, Pends, Overwrote, overlaid}
 use Rattle.host_trait.specs.World.{World, Moment, Emitted, Filled, Written, Ticks, moment_of}
 use Rattle.host_trait.proofs.Crashes.{Tears-trans, Tears-wider, Tears-overlaid}
+use Rattle.host_files.specs.Windows.{TookSome}
 use Rattle.system_calls.specs.System.{System, SameEntries, SameBeside, IsReadPart, AppendsPart, MayWriteOn, IsLastPending, WritesPart, FailsPart, TearsFrom, PendsFrom, KeepsTime}
 
 pub same_entries : (old : System) → SameEntries old old
@@ -303,18 +305,32 @@ read_more count more at file old now new some so part =
           ∙ ap (λ (l : List ℕ). l ++ drop (count + more) old) (sym (take-add count more (drop at file)));
     }
 
--- the slice is full
-pub read_full : (count at : ℕ) (file old now : List ℕ) → count ≤ length old → length old ≤ count → ReadSome count at file old now → Filled count at file old now
-read_full zero at file old now low all so = record { count = omega arith; bytes = so.bytes }
-read_full (suc count) at file old now low all so = record { count = omega (arith, so.within (omega arith)); bytes = so.bytes }
+-- there are enough of them
+pub took_enough : (count least at : ℕ) (file old now : List ℕ) → least ≤ count → ReadSome count at file old now → TookSome count least at file old now
+took_enough count least at file old now all so = record { within = so.within; end = λ low. absurd (omega (arith, low, all)); bytes = so.bytes }
 
 -- the file ends
-pub read_end : (count at : ℕ) (file old now new : List ℕ) → count < length old → length now ≡ length old → ReadSome count at file old now → IsReadPart 0 count at file now new → Filled count at file old new
-read_end zero at file old now new low same so part =
-    record { count = omega (arith, part.end refl (omega (arith, same))); bytes = part.bytes ∙ so.bytes }
-read_end (suc count) at file old now new low same so part =
+pub took_end : (count least at : ℕ) (file old now new : List ℕ) → count < length old → length now ≡ length old → ReadSome count at file old now → IsReadPart 0 count at file now new → TookSome count least at file old new
+took_end zero least at file old now new low same so part =
+    record { within = so.within; end = λ short. part.end refl (omega (arith, low, same)); bytes = part.bytes ∙ so.bytes }
+took_end (suc count) least at file old now new low same so part =
     let none : suc count + 0 ≡ suc count = omega arith in
-    record { count = omega (arith, part.end refl (omega (arith, same)), so.within (omega arith)); bytes = part.bytes ∙ ap (λ (k : ℕ). take (suc count) now ++ drop k now) none ∙ take-append-drop (suc count) now ∙ so.bytes }
+    record { within = so.within; end = λ short. part.end refl (omega (arith, low, same)); bytes = part.bytes ∙ ap (λ (k : ℕ). take (suc count) now ++ drop k now) none ∙ take-append-drop (suc count) now ∙ so.bytes }
+
+-- how many bytes a slice of this size takes from this offset on
+took_count : (count size at file : ℕ) → count ≤ size → (0 < count → at + count ≤ file) → (count < size → file ≤ at + count) → count ≡ min size (file - at)
+took_count zero size at file low within end = elim (cases_lt 0 size) [
+  | inl some ↦ omega (arith, end some)
+  | inr none ↦ omega (arith, none)
+]
+took_count (suc count) size at file low within end = elim (cases_lt (suc count) size) [
+  | inl short ↦ omega (arith, low, end short, within (omega arith))
+  | inr full ↦ omega (arith, low, full, within (omega arith))
+]
+
+-- the slice is full, or the file ends
+pub took_whole : (count at : ℕ) (file old now : List ℕ) → count ≤ length old → TookSome count (length old) at file old now → Filled count at file old now
+took_whole count at file old now low so = record { count = took_count count (length old) at (length file) low so.within so.end; bytes = so.bytes }
 
 -- where the rest was written by no byte, there was none to write
 pub goes_to : (done more size : ℕ) → (0 < done → done < size) → size ≤ done + more → more ≡ 0 → size ≡ 0

@@ -8,13 +8,15 @@ ghost use Rattle.host_trait.specs.World.{Pulled, Emitted, Filled, Written, Synce
 ghost use Rattle.host_trait.specs.declared.channels.FileId.{FileId};
 ghost use Rattle.system_calls.specs.System.{NoSyncRefused, HasNoBytes};
 ghost use Rattle.host_files.specs.Told.{SameButEntries, SyncsFile, IsRightlyAsked, IsUnhindered};
+ghost use Rattle.host_files.specs.Windows.{AreTrueOf};
 ghost use Rattle.host_files.specs.UnfailingCalls.{WentWell, WasObeyed, EndsFairly, EndsOnFile};
 ghost use Rattle.host_files.specs.declared.folder.Entries.{Entries};
 
 use crate::claim::Claim;
 use crate::kept::{Handles, Kept, is_one};
-use crate::pieces::{put_out, read_whole, take_input, write_whole};
+use crate::pieces::{put_out, take_input, write_whole};
 use crate::table::Asked;
+use crate::windows::Windows;
 use base_types::FILE_LIMIT;
 use host_trait::FileId;
 use std::alloc::{AllocError, Global};
@@ -47,6 +49,7 @@ pub struct Folder<S: SystemCalls> {
     reader: Option<Kept<S::File>>,
     handles: Handles<S::File>,
     written: Option<FileId>,
+    windows: Windows,
     entries: Entries,
     ghost leads: { IsTrue S.tells → string_bytes path ≡ S.leads },
     ghost absent: { IsTrue S.tells → IsTrue claim.is_missing → HasNoBytes (S.state system) },
@@ -56,6 +59,7 @@ pub struct Folder<S: SystemCalls> {
     ghost kept: { 0 < deque_len handles.kept → IsTrue (is_some claim.folder) },
     ghost reads: { IsTrue S.tells → ForSome reader (λ kept. IsTrue (S.is_regular kept.file)) },
     ghost keeps: { IsTrue S.tells → All (λ kept. IsTrue (S.is_regular kept.file)) handles.kept.items },
+    ghost ahead: { IsTrue S.tells → AreTrueOf (S.state system).world.disk windows },
     ghost lost: { IsTrue S.tells → entries ≡ Entries.Lost → IsTrue (S.answered system).has_lost_entries },
     ghost entered: { IsTrue S.tells → entries ≡ Entries.Synced → (file : FileId) → IsTrue ((S.state system).is_entered file) },
     ghost calm: { IsTrue S.tells → entries ≢ Entries.Lost → (S.state system).has_lost ≡ false },
@@ -171,6 +175,7 @@ impl<S: SystemCalls + Drop> Folder<S> {
         ensures system { IfOk result (λ folder. folder.system ≡ system) }
     {
         let handles = Handles::new(alloc, system.handle_limit())?;
+        let windows = Windows::new(alloc)?;
         Ok(Folder {
             system,
             path,
@@ -179,6 +184,7 @@ impl<S: SystemCalls + Drop> Folder<S> {
             reader: None,
             handles,
             written: None,
+            windows,
             entries: Entries::Pending,
         })
     }
@@ -286,6 +292,32 @@ impl<S: SystemCalls + Drop> Folder<S> {
         Ok(Some(opened))
     }
 
+    // Asks for the length of an open file, which is the reader's from then on, and keeps it.
+    fn measure(&mut self, file: FileId, opened: S::File) -> Result<u64, Refused>
+        requires file { S.File.file opened ≡ file }
+        requires calm { IsTrue S.tells → (S.state self.old.system).is_doubtful file ≡ false }
+        requires taken { IsTrue (is_some self.old.claim.folder) }
+        ensures told { IsTrue S.tells → S.state self.new.system ≡ S.state self.old.system }
+        ensures len { IfOk result (λ count. IsTrue S.tells → count ≡ length ((S.state self.old.system).world.disk file).seen) }
+        ensures bound { IfOk result (λ count. count < 2 ^ 63) }
+        ensures regular { OnOk result (IsTrue S.tells → IsTrue (S.is_regular file)) }
+        ensures open { OnOk result (IsTrue (is_some self.new.reader)) }
+        ensures calm { OnOk result (IsTrue S.tells → S.answered self.new.system ≡ S.answered self.old.system) }
+        ensures fine { IsTrue S.tells → (S.answered self.new.system).refusals ≡ (S.answered self.old.system).refusals
+            → IsTrue (S.is_regular file) → length ((S.state self.old.system).world.disk file).seen < 2 ^ 63 → IsOk result }
+    {
+        let found = self.system.look_at(&opened)?;
+        if !found.is_regular {
+            return Err(Refused::Failed);
+        }
+        self.reader = Some(Kept { file, opened });
+        if found.length >= FILE_LIMIT {
+            return Err(Refused::Failed);
+        }
+        self.windows.measure(file, found.length);
+        Ok(found.length)
+    }
+
     /// How many bytes a file has; 0 where there is none. Anything there but a regular file is refused, and so is a length of
     /// 2 to the 63 or more.
     pub fn length(&mut self, asked: Asked<'_>) -> Result<u64, Refused>
@@ -300,25 +332,24 @@ impl<S: SystemCalls + Drop> Folder<S> {
             × (length ((S.state self.old.system).world.disk asked.entry.file).seen < 2 ^ 63)) }
     {
         refuse_lost(asked.is_lost)?;
-        let opened = match self.take_open(asked.file) {
-            Some(opened) => opened,
-            None => match self.find(asked)? {
-                Some(opened) => opened,
-                None => return Ok(0),
-            },
-        };
-        let found = self.system.look_at(&opened)?;
-        if !found.is_regular {
-            return Err(Refused::Failed);
+        if let Some(opened) = self.take_open(asked.file) {
+            if let Some(length) = self.windows.length_of(asked.file) {
+                self.reader = Some(Kept {
+                    file: asked.file,
+                    opened,
+                });
+                return Ok(length);
+            }
+            let length = self.measure(asked.file, opened)?;
+            return Ok(length);
         }
-        self.reader = Some(Kept {
-            file: asked.file,
-            opened,
-        });
-        if found.length >= FILE_LIMIT {
-            return Err(Refused::Failed);
+        match self.find(asked)? {
+            Some(opened) => {
+                let length = self.measure(asked.file, opened)?;
+                Ok(length)
+            }
+            None => Ok(0),
         }
-        Ok(found.length)
     }
 
     // The handle that is kept of the file, or a new one. None where there is no file.
@@ -357,7 +388,9 @@ impl<S: SystemCalls + Drop> Folder<S> {
         let Some(opened) = self.take_reader(asked)? else {
             return Ok(0);
         };
-        let answer = read_whole(&mut self.system, &opened, at, into);
+        let answer = self
+            .windows
+            .read(&mut self.system, &opened, asked.file, at, into);
         self.reader = Some(Kept {
             file: asked.file,
             opened,
@@ -462,6 +495,7 @@ impl<S: SystemCalls + Drop> Folder<S> {
             return Err(Refused::Failed);
         }
         let opened = self.take_writer(asked)?;
+        self.windows.forget();
         let answer = write_whole(&mut self.system, &opened, at, bytes);
         self.handles.keep(Kept {
             file: asked.file,
@@ -516,6 +550,7 @@ impl<S: SystemCalls + Drop> Folder<S> {
         refuse_lost(asked.is_lost)?;
         let opened = self.take_writer(asked)?;
         self.sync_entries()?;
+        self.windows.forget();
         self.system.sync_data(&opened)?;
         self.handles.keep(Kept {
             file: asked.file,

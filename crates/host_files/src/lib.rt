@@ -16,5 +16,6 @@ mod host;
 mod kept;
 mod pieces;
 mod table;
+mod windows;
 
 pub use host::FolderHost;

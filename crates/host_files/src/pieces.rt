@@ -3,9 +3,48 @@ ghost use Rattle.std.specs.Prelude.{◌≡◌, ◌+◌, ◌^◌, ◌<◌, ◌≤
 ghost use Rattle.host_trait.specs.Disk.{Overwrote};
 ghost use Rattle.host_trait.specs.World.{Pulled, Emitted, Filled, Written};
 ghost use Rattle.system_calls.specs.System.{SameEntries};
+ghost use Rattle.host_files.specs.Windows.{TookSome};
 ghost use Rattle.host_files.specs.UnfailingCalls.{WentWell, WasObeyed};
 
 use system_calls::{Refused, SystemCalls};
+
+/// Reads from there on until the slice has at least so many bytes or the file ends, and answers how many it read.
+pub fn read_some<S: SystemCalls>(
+    system: &mut S,
+    opened: &S::File,
+    at: u64,
+    into: &mut [u8],
+    least: usize,
+) -> Result<usize, Refused>
+    requires least { least ≤ length into.old }
+    requires regular { IsTrue S.tells → IsTrue (S.is_regular (S.File.file opened.now)) }
+    requires calm { IsTrue S.tells → (S.state system.old).is_doubtful (S.File.file opened.now) ≡ false }
+    ensures told { IsTrue S.tells → S.state system.new ≡ S.state system.old }
+    ensures bound { IfOk result (λ count. count ≤ length into.old) }
+    ensures bytes { IfOk result (λ count. IsTrue S.tells
+        → TookSome count least at ((S.state system.old).world.disk (S.File.file opened.now)).seen into.old into.new) }
+    ensures calm { OnOk result (IsTrue S.tells → WasObeyed (S.answered system.old) (S.answered system.new)) }
+    ensures fine { IsTrue S.tells → WentWell (S.answered system.old) (S.answered system.new) → IsOk result }
+    ensures known { IsTrue S.tells → (S.answered system.new).has_lost_entries ≡ (S.answered system.old).has_lost_entries }
+{
+    let mut count = 0;
+    for turn in 0..u64::MAX {
+        if count >= least || at > u64::MAX - count as u64 {
+            return Ok(count);
+        }
+        match system.read_at(opened, at, into, count) {
+            Ok(more) => {
+                if more == 0 {
+                    return Ok(count);
+                }
+                count += more;
+            }
+            Err(Refused::Interrupted) => {}
+            Err(error) => return Err(error),
+        }
+    }
+    Err(Refused::Interrupted)
+}
 
 /// Reads from there on until the slice is full or the file ends, and answers how many bytes it read.
 pub fn read_whole<S: SystemCalls>(
@@ -24,23 +63,9 @@ pub fn read_whole<S: SystemCalls>(
     ensures fine { IsTrue S.tells → WentWell (S.answered system.old) (S.answered system.new) → IsOk result }
     ensures known { IsTrue S.tells → (S.answered system.new).has_lost_entries ≡ (S.answered system.old).has_lost_entries }
 {
-    let mut count = 0;
-    for turn in 0..u64::MAX {
-        if count >= into.len() || at > u64::MAX - count as u64 {
-            return Ok(count);
-        }
-        match system.read_at(opened, at, into, count) {
-            Ok(more) => {
-                if more == 0 {
-                    return Ok(count);
-                }
-                count += more;
-            }
-            Err(Refused::Interrupted) => {}
-            Err(error) => return Err(error),
-        }
-    }
-    Err(Refused::Interrupted)
+    let least = into.len();
+    let count = read_some(system, opened, at, into, least)?;
+    Ok(count)
 }
 
 /// Writes all bytes from there on.
