@@ -4,6 +4,7 @@ use Rattle.std.specs.List.{flat_map, list_any}
 use Rattle.base_types.specs.declared.calls.GrainId.{GrainId}
 use Rattle.base_types.specs.declared.calls.Value.{Value}
 use Rattle.base_types.specs.declared.shapes.Shape.{Shape}
+use Rattle.base_types.specs.declared.stores.Store.{Store}
 use Rattle.base_types.specs.Grains.{same_grain}
 use Rattle.host_trait.specs.World.{Image}
 use Rattle.commit_log.specs.declared.records.CommitRecord.{CommitRecord}
@@ -11,7 +12,7 @@ use Rattle.commit_log.specs.declared.records.Written.{Written}
 use Rattle.log_reading.specs.Versions.{ascending}
 use Rattle.script_tree.specs.Programs.{program_tree}
 use Rattle.script_meaning.specs.Play.{found_in}
-use Rattle.silo_opening.specs.OpenedSilo.{program_in, IsOpenedFrom}
+use Rattle.silo_opening.specs.OpenedSilo.{program_in, AreStates, IsOpenedFrom}
 use Rattle.silo_opening.specs.declared.opened_silo.Opened.{Opened}
 use Rattle.promise_spec.specs.Programs.{Program, shape_in}
 use Rattle.promise_spec.specs.Records.{Commit}
@@ -55,16 +56,17 @@ module _ (image : Image) (o : Opened) (is : IsOpenedFrom image o) where
   pub records_same : records_of is.log ≡ map (commit_of o.slot (shape_in p) image) parts.read.records
   records_same = ap records_of (sym parts.are) ∙ records_back (map (commit_of o.slot (shape_in p) image) parts.read.records)
 
-  -- each grain has the state that it has in the store
-  line_same : (g : GrainId) → grain_line (standing_of is.log) g ≡ line_of (grain_data (shape_in p) p.types g (found_in p.types o.store g))
-  line_same g =
-      let state : (standing_of is.log).states g ≡ found_in p.types o.store g = sym (is.states g) in
-      λ i. line_of (grain_data (shape_in (is.program i)) (is.program i).types g (state i))
+  -- each grain has the state that it has in a store of the log's states
+  module _ (store : Store) (are : AreStates p store is.log) where
+    line_same : (g : GrainId) → grain_line (standing_of is.log) g ≡ line_of (grain_data (shape_in p) p.types g (found_in p.types store g))
+    line_same g =
+        let state : (standing_of is.log).states g ≡ found_in p.types store g = sym (are g) in
+        λ i. line_of (grain_data (shape_in (is.program i)) (is.program i).types g (state i))
 
-  pub show_opened : (kept : List GrainId) → show_text kept is.log ≡ grain_lines (shape_in p) p.types o.store kept ++ line_of (count_data o.count)
-  show_opened kept =
-      let count : (standing_of is.log).count ≡ o.count = sym is.count in
-      λ i. flat_map (λ g. line_same g i) kept ++ line_of (count_data (count i))
+    pub show_opened : (kept : List GrainId) → show_text kept is.log ≡ grain_lines (shape_in p) p.types store kept ++ line_of (count_data o.count)
+    show_opened kept =
+        let count : (standing_of is.log).count ≡ o.count = sym is.count in
+        λ i. flat_map (λ g. line_same g i) kept ++ line_of (count_data (count i))
 
   -- the grains that the log names, ascending
   abbrev pub named_grains : List GrainId

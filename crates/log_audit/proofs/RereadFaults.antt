@@ -1,8 +1,10 @@
 -- Faults of reading again, as those of a report.
-use Rattle.std.proofs.Common.{◌≡◌, inr, ℕ, List, Result, Ok, Err, refl, sym, ◌∙◌, subst}
+use Rattle.std.proofs.Common.{◌≡◌, ◌⊎◌, inl, inr, ℕ, List, Result, Ok, Err, refl, sym, ◌∙◌, ap, subst}
+use Rattle.base_types.specs.declared.calls.GrainId.{GrainId}
 use Rattle.base_types.specs.declared.shapes.Shape.{Shape}
 use Rattle.host_trait.specs.declared.channels.Channel.{Channel}
 use Rattle.host_trait.specs.declared.channels.FileId.{FileId}
+use Rattle.host_trait.specs.declared.channels.FileId.TheVariants.{Grain}
 use Rattle.host_trait.specs.Faults.{NoneFailed}
 use Rattle.field_codec.specs.declared.formats.Format.TheVariants.{One}
 use Rattle.log_reading.specs.Blocks.{LogRead, log_in_file}
@@ -13,8 +15,9 @@ use Rattle.log_reading.proofs.Errors.{failed}
 use Rattle.promise_spec.specs.Endings.{HasFailedAs}
 use Rattle.silo_opening.specs.declared.faults.OpenFault.{OpenFault}
 use Rattle.silo_opening.specs.Counts.{OpenFaulted}
-use Rattle.silo_opening.specs.OpenedSilo.{in_folder}
+use Rattle.silo_opening.specs.OpenedSilo.{in_folder, ending_of}
 use Rattle.log_audit.specs.Endings.{fault_ending, MayEnd, from_folder}
+use Rattle.log_audit.specs.declared.faults.ReportFault.{ReportFault}
 use Rattle.log_audit.specs.RereadFaults.{IsLogFault, IsBlockFault}
 
 pub folder_failed : (old new : Channel → ℕ) (e : FolderFault) → ReadFaulted e old new → HasFailedAs (fault_ending (from_folder e)) old new
@@ -30,6 +33,11 @@ pub open_faulted : (old new : Channel → ℕ) (e : FolderFault) → ReadFaulted
 open_faulted old new (FolderFault.Damaged at place) f = f
 open_faulted old new (FolderFault.Failed at) f = f
 open_faulted old new FolderFault.Memory f = f
+
+-- a report that meets want of memory, or a call on a grain's file that failed, was cut
+pub opened_ends : (slot : ℕ) (e : OpenFault) → (e ≡ OpenFault.Memory) ⊎ ((grain : GrainId) × (e ≡ OpenFault.DiskFault (Grain slot grain))) → (fault : ReportFault) → fault_ending fault ≡ ending_of e → MayEnd (fault_ending fault)
+opened_ends slot e (inl memory) fault is = subst MayEnd (sym (is ∙ ap ending_of memory)) (inr tt)
+opened_ends slot e (inr failed) fault is = subst MayEnd (sym (is ∙ ap ending_of failed.1)) (inr tt)
 
 abbrev refused : {A : Type 0} → OpenFault → Result A OpenFault
 refused e = Err e

@@ -18,26 +18,28 @@ use crate::faults::{ReportFault, unopened, unread};
 use crate::grains::read_grains;
 use crate::line_writer::write_line;
 use crate::lines::{count_line, grain_line};
-use base_types::{GrainId, Shape};
+use base_types::{GrainId, Shape, Store};
 use host_trait::Host;
+use script_check::Checked;
 use script_meaning::initial;
-use silo_opening::{Opened, open_silo};
+use silo_opening::{Opened, open_silo, states};
 use std::alloc::{AllocError, Global};
 use std::collections::BTreeSet;
 
-// A grain with the state that it has in the opened silo.
+// A grain with the state that it has in the store.
 fn state_line(
     alloc: Global,
-    opened: &Opened,
+    checked: &Checked,
+    store: &Store,
     shape: &Shape,
     grain: GrainId,
 ) -> Result<String, AllocError>
-    ensures { IfOk result (λ line. let types = program_tree opened.now.checked in
-        string_bytes line ≡ line_of (grain_data shape.now types grain (found_in types opened.now.store grain))) }
+    ensures { IfOk result (λ line. let types = program_tree checked.now in
+        string_bytes line ≡ line_of (grain_data shape.now types grain (found_in types store.now grain))) }
 {
-    let program = opened.checked.program();
+    let program = checked.program();
     let types = program.types.as_slice();
-    match opened.store.get(grain) {
+    match store.get(grain) {
         Some(state) => grain_line(alloc, types, shape, grain, state.as_slice()),
         None => {
             let state = initial(alloc, program, grain)?;
@@ -50,11 +52,12 @@ fn state_line(
 fn write_grains<H: Host>(
     alloc: Global,
     host: &mut H,
-    opened: &Opened,
+    checked: &Checked,
+    store: &Store,
     shape: &Shape,
     grains: BTreeSet<GrainId>,
 ) -> Result<(), ReportFault>
-    ensures puts { IsTrue H.tells → PutsPart (grain_lines shape.now (program_tree opened.now.checked) opened.now.store grains.keys)
+    ensures puts { IsTrue H.tells → PutsPart (grain_lines shape.now (program_tree checked.now) store.now grains.keys)
         (is_ok result) (H.world host.old) (H.world host.new) }
     ensures ended { MayEnd (report_ending result) }
     ensures exact { HasFailedAs (report_ending result) (H.faults host.old) (H.faults host.new) }
@@ -62,7 +65,7 @@ fn write_grains<H: Host>(
 {
     let mut left = grains;
     while let Some(grain) = left.pop_first() {
-        let line = state_line(alloc, opened, shape, grain)?;
+        let line = state_line(alloc, checked, store, shape, grain)?;
         write_line(host, line.as_bytes())?;
     }
     Ok(())
@@ -77,20 +80,24 @@ fn write_show<H: Host>(alloc: Global, host: &mut H, opened: &Opened) -> Result<(
     ensures exact { HasFailedAs (report_ending result) (H.faults host.old) (H.faults host.new) }
     ensures ready { StaysReady (H.is_ready host.old) (H.is_ready host.new) }
 {
+    let store = match states(alloc, host, opened) {
+        Ok(store) => store,
+        Err(fault) => return Err(unopened(fault)),
+    };
     let shape = opened.checked.shape()?;
     let grains = match read_grains(alloc, host, opened.slot, &shape) {
         Ok(grains) => grains,
         Err(fault) => return Err(unread(fault)),
     };
-    write_grains(alloc, host, opened, &shape, grains)?;
+    write_grains(alloc, host, &opened.checked, &store, &shape, grains)?;
     let line = count_line(alloc, opened.count)?;
     write_line(host, line.as_bytes())
 }
 
 /// Writes a line for each grain that the log names, in ascending order, with its state, and at last the number of records.
 ///
-/// It opens the folder, and reads the log again for the grains; beside the states it keeps them alone. Nothing of the folder
-/// changes.
+/// It opens the folder, reads each grain's last version again for its state, and the log again for the grains, before it writes a byte.
+/// Nothing of the folder changes.
 ///
 /// # Errors
 ///

@@ -41,7 +41,7 @@ const NONE: (usize, u8) = (0, 1);
 
 const GRAIN_FAULT: Result<(), ReportFault> = Err(ReportFault::DiskFault { file: GRAIN });
 
-const ROWS: [Row; 10] = [
+const ROWS: [Row; 11] = [
     Row {
         name: "the states",
         report: Report::Show,
@@ -82,6 +82,15 @@ const ROWS: [Row; 10] = [
             file: MANAGER,
             place: 47,
         }),
+        output: "",
+    },
+    Row {
+        name: "the version of a grain can't be read for its state",
+        report: Report::Show,
+        length: 89,
+        set: NONE,
+        fails: Some((CallKind::Read, Channel::File(GRAIN), 2)),
+        answer: GRAIN_FAULT,
         output: "",
     },
     Row {

@@ -5,6 +5,7 @@ pub mod ReportCalls
 pub mod CompactCalls
 pub mod ReadLines
 pub mod TurnStart
+pub mod OpenedPlaces
 pub mod AskedWords
 pub mod FaultCounts
 pub mod CheckCalls

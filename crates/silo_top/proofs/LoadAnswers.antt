@@ -29,6 +29,7 @@ use Rattle.silo_top.specs.LineExecution.{StartsRun, CarriedOn, CarriesOn}
 use Rattle.silo_top.specs.LoadSteps.{MaySaySummary, load_ending}
 use Rattle.silo_top.proofs.ReadLines.{AreReadFrom}
 use Rattle.silo_top.specs.RunStart.{IsStartOf}
+use Rattle.silo_top.proofs.OpenedPlaces.{OpensSo, versions_behind}
 use Rattle.silo_top.proofs.TurnStart.{no_books, starts_kept, starts_quiet, starts_fresh, starts_outset}
 use Rattle.silo_top.proofs.CoreOpening.{many_types}
 use Rattle.input_windows.proofs.Still.{still_none}
@@ -37,9 +38,9 @@ use Rattle.run_books.specs.Stages.{stage_by}
 
 -- a core without events, and a settler that has written nothing: lines can be carried, whatever log the outset is told of
 start_fresh : (tells : Bool) (m : Manner) (x : Opened) (st : Started) (texts : List (List ℕ)) (lines : List Line) (w0 w1 : World) (f0 f1 : Channel → ℕ)
-    → IsStartOf x st → (IsTrue tells → PulledOnly w0 w1) → ((c : Channel) → f0 c ≤ f1 c) → 0 < m.width → 0 < x.next_unit.0 → AreReadFrom (program_tree x.checked) 0 texts lines
+    → IsStartOf x st → (IsTrue tells → (old : World) × OpensSo old w1 x) → (IsTrue tells → PulledOnly w0 w1) → ((c : Channel) → f0 c ≤ f1 c) → 0 < m.width → 0 < x.next_unit.0 → AreReadFrom (program_tree x.checked) 0 texts lines
     → StartsRun tells m (record { live = x.slot; program = record { text = []; types = program_tree x.checked }; asked = texts; opening = new_log (record { text = []; types = program_tree x.checked }); ruled = not m.threaded; windowed = false; width = m.width; picks = m.picks; faults = f0; world = w0 }) no_books (program_tree x.checked) lines 0 (stage_by (run_of st.core) st.settler f1 w1)
-start_fresh tells m x st texts lines w0 w1 f0 f1 start still later wide above are =
+start_fresh tells m x st texts lines w0 w1 f0 f1 start opens still later wide above are =
     let types : ProgramTree = program_tree x.checked in
     let o : Outset = record { live = x.slot; program = record { text = []; types = types }; asked = texts; opening = new_log (record { text = []; types = types }); ruled = not m.threaded; windowed = false; width = m.width; picks = m.picks; faults = f0; world = w0 } in
     let base : ℕ = x.next_unit.0 in
@@ -50,7 +51,7 @@ start_fresh tells m x st texts lines w0 w1 f0 f1 start still later wide above ar
       can = starts_quiet base kinds opening types texts lines st.settler are start.doubted start.written;
       ruled = refl;
       fresh = starts_fresh base kinds opening o;
-      kept = starts_kept base kinds opening tells o st.settler f1 w1 above later start.written start.doubted start.sealing start.settles still;
+      kept = starts_kept base kinds opening tells o st.settler f1 w1 above later start.written start.doubted start.sealing start.settles (λ told. versions_behind (opens told).0 w1 x st start (opens told).1 o refl refl) still;
     })
 
 -- a load whose turns ended by a fault names it, and nothing of the input or the output failed
@@ -75,13 +76,13 @@ faulted_answers live fault old new risen pulled calm = record {
 
 -- so it is over every host
 pub turns_faulted : {T : Type 0} (tells : Bool) (m : Manner) (x : Opened) (st : Started) (texts : List (List ℕ)) (lines : List Line) (w1 w2 : World) (f1 f2 : Channel → ℕ) (result : Result T RunFault) (r' : Run) (s' : Settler) (used : ℕ)
-    → IsStartOf x st → st.settler.quiet ≡ true → 0 < m.width → 0 < x.next_unit.0 → AreReadFrom (program_tree x.checked) 0 texts lines
+    → IsStartOf x st → (IsTrue tells → (old : World) × OpensSo old w1 x) → st.settler.quiet ≡ true → 0 < m.width → 0 < x.next_unit.0 → AreReadFrom (program_tree x.checked) 0 texts lines
     → CarriesOn tells m (program_tree x.checked) lines 0 used (stage_by (run_of st.core) st.settler f1 w1) (stage_by r' s' f2 w2) result
     → TurnsBeside tells (stage_by (run_of st.core) st.settler f1 w1) (stage_by r' s' f2 w2) result → (fault : RunFault) → result ≡ Err fault → AnswersRun IsLoadCarried (load_ending x.slot fault) f1 f2
-turns_faulted {T} tells m x st texts lines w1 w2 f1 f2 result r' s' used start hush wide above are carries beside fault q =
+turns_faulted {T} tells m x st texts lines w1 w2 f1 f2 result r' s' used start opens hush wide above are carries beside fault q =
     let o : Outset = record { live = x.slot; program = record { text = []; types = program_tree x.checked }; asked = texts; opening = new_log (record { text = []; types = program_tree x.checked }); ruled = not m.threaded; windowed = false; width = m.width; picks = m.picks; faults = f1; world = w1 } in
     let goes : CarriedOn {T = T} tells m o no_books used (stage_by (run_of st.core) st.settler f1 w1) (stage_by r' s' f2 w2) result =
-    carries o no_books (start_fresh tells m x st texts lines w1 w1 f1 f1 start (λ told. still_none w1) (λ c. omega arith) wide above are) in
+    carries o no_books (start_fresh tells m x st texts lines w1 w1 f1 f1 start opens (λ told. still_none w1) (λ c. omega arith) wide above are) in
     let ended : TurnsEndAs o goes.on.books (stage_by r' s' f2 w2) {T = T} (Err fault) = subst (TurnsEndAs o goes.on.books (stage_by r' s' f2 w2)) q goes.on.ended in
     faulted_answers x.slot fault f1 f2 (load_risen T o goes.on.books r' s' f2 w2 fault ended) beside.pulled (beside.calm hush)
 

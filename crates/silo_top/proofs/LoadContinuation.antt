@@ -1,5 +1,5 @@
 -- However the lines of a load were carried, it keeps what is promised behind its opening.
-use Rattle.std.proofs.Common.{◌≡◌, ℕ, ◌<◌, Bool, true, List, length, Result, Ok, Err, refl, sym, subst}
+use Rattle.std.proofs.Common.{◌≡◌, ℕ, ◌<◌, Bool, true, IsTrue, List, length, Result, Ok, Err, refl, sym, subst}
 use Rattle.host_trait.specs.declared.channels.Channel.{Channel}
 use Rattle.host_trait.specs.Faults.{NoneFailed}
 use Rattle.host_trait.specs.World.{World}
@@ -28,6 +28,7 @@ use Rattle.silo_top.specs.RunBehindOpening.{IsBehindOpening}
 use Rattle.silo_top.specs.RunStart.{IsStartOf}
 use Rattle.silo_top.specs.Statuses.{status_ending}
 use Rattle.silo_top.proofs.ShownCalls.{observed_call}
+use Rattle.silo_top.proofs.OpenedPlaces.{OpensSo}
 use Rattle.silo_top.proofs.LoadAnswers.{turns_faulted, summary_answers}
 use Rattle.silo_top.proofs.WholeLoads.{failed_carries, summed_carries}
 use Rattle.silo_top.proofs.ReadLines.{AreReadFrom}
@@ -49,12 +50,12 @@ load_carries n seed m x st old mid new before between after (Ok core) behind sta
     counts.0 counts.1
 
 -- over any host
-pub load_answers : (tells : Bool) (n seed : ℕ) (m : Manner) (x : Opened) (st : Started) (mid new : World) (between after : Channel → ℕ) (result : Result Core RunFault) → IsStartOf x st → st.settler.quiet ≡ true → (lines : List Line)
+pub load_answers : (tells : Bool) (n seed : ℕ) (m : Manner) (x : Opened) (st : Started) (mid new : World) (between after : Channel → ℕ) (result : Result Core RunFault) → IsStartOf x st → (IsTrue tells → (old : World) × OpensSo old mid x) → st.settler.quiet ≡ true → (lines : List Line)
     → AreReadFrom (program_tree x.checked) 0 (load_texts n seed) lines → 0 < m.width → 0 < x.next_unit.0 → (settler' : Settler) (used : ℕ)
     → CarriedLines tells m (program_tree x.checked) lines 0 used (stage_by (run_of st.core) st.settler between mid) (side_by settler' after new) result → (status : Status) (final : Channel → ℕ) → LoadCounts x.slot result status after final → AnswersRun IsLoadCarried (status_ending status) between final
-load_answers tells n seed m x st mid new between after (Err fault) start quiet lines are wide above settler' used carried status final counts =
+load_answers tells n seed m x st mid new between after (Err fault) start opens quiet lines are wide above settler' used carried status final counts =
     subst (λ (f : Channel → ℕ). AnswersRun IsLoadCarried (status_ending status) between f) (sym counts.1)
     (subst (λ (e : Ending). AnswersRun IsLoadCarried e between after) (sym counts.0)
-    (turns_faulted tells m x st (load_texts n seed) lines mid new between after (Err fault) carried.left settler' used start quiet wide above are carried.carries carried.beside fault refl))
-load_answers tells n seed m x st mid new between after (Ok core) start quiet lines are wide above settler' used carried status final counts =
+    (turns_faulted tells m x st (load_texts n seed) lines mid new between after (Err fault) carried.left settler' used start opens quiet wide above are carried.carries carried.beside fault refl))
+load_answers tells n seed m x st mid new between after (Ok core) start opens quiet lines are wide above settler' used carried status final counts =
     summary_answers (status_ending status) between after final counts.1 counts.0 carried.beside.pulled (carried.beside.calm quiet)

@@ -1,10 +1,10 @@
 -- The making of a load's silo, and its opening.
-use Rattle.std.proofs.Common.{◌≡◌, ◌⊎◌, inl, inr, ℕ, zero, suc, ◌+◌, ◌≤◌, List, [], Result, Ok, Err, refl, sym, subst, false, arith}
+use Rattle.std.proofs.Common.{◌≡◌, ◌⊎◌, inl, inr, ℕ, zero, suc, ◌+◌, ◌≤◌, List, [], Result, Ok, Err, refl, sym, ap, subst, false, arith}
 use Rattle.host_trait.specs.declared.channels.Channel.{Channel}
 use Rattle.host_trait.specs.declared.channels.FileId.{FileId}
 use Rattle.host_trait.specs.declared.channels.FileId.TheVariants.{Manager}
 use Rattle.host_trait.specs.Faults.{NoneFailed}
-use Rattle.host_trait.specs.Disk.{FileState, MayLeave}
+use Rattle.host_trait.specs.Disk.{FileState, MayLeave, settled}
 use Rattle.host_trait.specs.World.{World, Disk, Image, IsImage}
 use Rattle.host_trait.proofs.Crashes.{settled_only}
 use Rattle.log_reading.specs.Steps.{seen_in}
@@ -134,6 +134,18 @@ made_from A old new done silo beside makes shows images live stay least most = r
     by : CameThisFar magic bank_text old new → FromFirstSync (IsNewAt magic bank_text) old new
     by (inl untouched) = absurd (absent (was_silo old.disk (inl (subst (IsSilo magic) (untouched.seen manager) (images (seen_in new.disk) stay).silo))))
     by (inr first) = first
+
+-- where a silo was made, and the folder read as none, slot 0 is the one that reads as live
+pub live_seen : (old new : World) → IsMadeFrom old new → IsLive magic 0 (seen_in new.disk)
+live_seen old new made = record {
+  slot = omega arith;
+  silo = (made.each (seen_in new.disk) made.stays).silo;
+  over = λ other. absurd (made.absent (was_silo old.disk (inr (subst (IsSilo magic) (looked made.beside.now.other) other))));
+}
+  where
+    looked : (new.disk (Manager 1) ≡ old.disk (Manager 1)) ⊎ (new.disk (Manager 1) ≡ settled (old.disk (Manager 1)).seen) → (new.disk (Manager 1)).seen ≡ (old.disk (Manager 1)).seen
+    looked (inl same) = ap (λ (f : FileState). f.seen) same
+    looked (inr looked_at) = ap (λ (f : FileState). f.seen) looked_at
 
 pub made_loads : (n seed : ℕ) (m : Manner) (asked : List (List ℕ)) (old made new : World) (before between after : Channel → ℕ) (status : Status) → IsMadeFrom old made → NoneFailed before between
     → AnswersRun IsLoadCarried (status_ending status) before after → (ShowsSilos magic old.disk → CarriesLoad n seed (observed_call m asked made new between after status)) → Loads n seed m (observed_call m asked old new before after status)

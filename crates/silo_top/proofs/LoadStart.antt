@@ -45,11 +45,14 @@ module _ (types : ProgramTree) (reads : program_in bank_text ≡ Ok types) where
   pub bank_whole : (w : World) → IsNewBank w → IsWholeFolder w
   bank_whole w new = whole_folder w (new_folder (bank_of types) w bank_checked (λ image left slot live. (one_slot slot 0 image live (new.live image left), new.each image left)) new.shows)
 
-  -- what was opened is it
-  pub opened_same : (x : Opened) (w : World) → IsNewBank w → ReadsMayStay w → (is : IsOpenedFrom (seen_in w.disk) x) → (program_of is ≡ bank_of types) × (is.log ≡ new_log (bank_of types))
-  opened_same x w new stay is =
-      let same = reads_is x.slot 0 is.log (new_log (bank_of types)) (sym is.reads ∙ reads_new (seen_in w.disk) (new.each (seen_in w.disk) stay) (new.live (seen_in w.disk) stay)) in
+  -- where the folder reads as it, what was opened is it
+  pub seen_same : (x : Opened) (w : World) → IsNewSilo magic bank_text (seen_in w.disk) → IsLive magic 0 (seen_in w.disk) → (is : IsOpenedFrom (seen_in w.disk) x) → (program_of is ≡ bank_of types) × (is.log ≡ new_log (bank_of types))
+  seen_same x w new live is =
+      let same = reads_is x.slot 0 is.log (new_log (bank_of types)) (sym is.reads ∙ reads_new (seen_in w.disk) new live) in
       (sym is.program ∙ ap (λ (l : Log). (standing_of l).program) same.1, same.1)
+
+  pub opened_same : (x : Opened) (w : World) → IsNewBank w → ReadsMayStay w → (is : IsOpenedFrom (seen_in w.disk) x) → (program_of is ≡ bank_of types) × (is.log ≡ new_log (bank_of types))
+  opened_same x w new stay is = seen_same x w (new.each (seen_in w.disk) stay) (new.live (seen_in w.disk) stay) is
 
 -- ---- with the program that was accepted
 
@@ -79,6 +82,11 @@ same_opened x bank seen same is = record {
   where
     there : program_of is ≡ record { text = x.text; types = program_tree bank }
     there = ap (λ (t : ProgramTree). record { text = x.text; types = t }) same
+
+-- where the folder reads as it, it is the silo of that program
+pub same_seen : (x : Opened) (bank : Tree) (w : World) → program_in bank_text ≡ Ok (program_tree bank) → IsNewSilo magic bank_text (seen_in w.disk) → IsLive magic 0 (seen_in w.disk) → IsOpenedFrom (seen_in w.disk) x
+    → IsOpenedFrom (seen_in w.disk) (with_checked x bank)
+same_seen x bank w reads new live is = same_opened x bank (seen_in w.disk) (ap (λ (p : Program). p.types) (seen_same (program_tree bank) reads x w new live is).0) is
 
 pub same_behind : (x : Opened) (bank : Tree) (old mid : World) → program_in bank_text ≡ Ok (program_tree bank) → IsNewBank old → ReadsMayStay old → IsBehindOpening old mid x → IsBehindOpening old mid (with_checked x bank)
 same_behind x bank old mid reads new stay is = record {

@@ -207,7 +207,6 @@ module _ (o : Outset) (x : Opened) (st : Started) (seen : Image) (is : IsOpenedF
       };
       images = each;
     };
-    votes = λ v there. absurd (subst (Member v) start.kept there);
     behind = λ none bytes may. ap (drop (writer.gate_at + 1)) (settled_only (seen (Manager o.live)) bytes (subst (λ (f : FileState). MayLeave f bytes) still may) ∙ sym begun);
   }
     where

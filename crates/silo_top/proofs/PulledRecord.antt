@@ -26,6 +26,7 @@ use Rattle.interleaver.specs.Turns.{KeepsTurns}
 use Rattle.run_books.specs.Beginnings.{Outset}
 use Rattle.run_books.specs.Books.{Books, booked_journal}
 use Rattle.run_books.specs.Images.{LeavesAside, HasOpenBlock, KeepsFolder, LastsSo, SomeHas}
+use Rattle.run_books.specs.Places.{KeepsVersions}
 use Rattle.run_books.specs.Records.{KeepsBooks}
 use Rattle.run_books.specs.Stages.{IsSafe, stage_by}
 use Rattle.run_books.proofs.BooksCalls.{calls-same}
@@ -61,6 +62,7 @@ module _ (tells : Bool) (o : Outset) (b : Books) (r : Run) (s : Settler) (f f' :
     doubt = k.doubt;
     unsure = k.unsure;
     written = k.written;
+    versions = λ told. subst (KeepsVersions o b r s.writer) (sym (pulled told).disk) (k.versions told);
     outside = λ told. record {
       output = subst (λ (l : List ℕ). Grew (shape_in o.program) o.world.output l (entries_of b.said) b.rest) (sym (pulled told).output) (k.outside told).output;
       calls = calls-same o r r f f' now now' (k.outside told).calls none_before refl refl refl (λ g. refl) (pulled told).syncs (λ g. still_file (Grain o.live g) now now' (pulled told));

@@ -36,6 +36,7 @@ use Rattle.silo_top.specs.RunWindows.{WasOpened, outset_of, IsBetweenWindows, Ke
 use Rattle.silo_top.specs.declared.run_start.Started.{Started}
 use Rattle.silo_top.proofs.CoreOpening.{start_is, many_types}
 use Rattle.silo_top.proofs.OpenedImages.{starts_resting}
+use Rattle.silo_top.proofs.OpenedPlaces.{versions_behind}
 use Rattle.silo_top.proofs.StartImages.{starts_lasting}
 use Rattle.silo_top.proofs.TurnStart.{start_run, no_books, starts_kept, starts_carried}
 use Rattle.silo_opening.proofs.OpeningCalls.{opens_untouched}
@@ -68,7 +69,8 @@ module _ (tells : Bool) (m : Manner) (x : Opened) (st : Started) (old mid : Worl
   first = start_run x.next_unit.0 (length (type_shapes types)) (opening_state (record { types = type_shapes types }) x.store)
 
   kept : KeepsTurns tells o no_books (stage_by first st.settler counts mid)
-  kept = starts_kept first.base first.kinds first.opening tells o st.settler counts mid above (λ c. let e = calm c in omega (arith, e)) start.written start.doubted start.sealing start.settles (λ told. still_none mid)
+  kept = starts_kept first.base first.kinds first.opening tells o st.settler counts mid above (λ c. let e = calm c in omega (arith, e)) start.written start.doubted start.sealing start.settles
+      (λ told. versions_behind old mid x st start (record { opened = (told_of told).behind.opened; run = (told_of told).behind.run }) o refl refl) (λ told. still_none mid)
 
   carried : HasCarriedAll o (stage_by first st.settler counts mid)
   carried = starts_carried first.base first.kinds first.opening o st.settler counts mid refl start.written

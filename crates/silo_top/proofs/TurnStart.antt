@@ -17,6 +17,7 @@ use Rattle.promise_spec.specs.TurnRule.{at_seam}
 use Rattle.settle_loop.specs.declared.settler.Settler.{Settler}
 use Rattle.run_books.specs.Beginnings.{Outset, CanTurn, IsOutset}
 use Rattle.run_books.specs.Books.{Books, IsPutOut}
+use Rattle.run_books.specs.Places.{KeepsVersions}
 use Rattle.run_books.specs.Records.{HasCarriedAll}
 use Rattle.interleaver.specs.Turns.{KeepsTurns, IsFreshRecord}
 use Rattle.input_windows.specs.Pulls.{PulledOnly}
@@ -59,8 +60,8 @@ module _ (base kinds : ℕ) (opening : GrainId → List Value) where
   -- the record holds
   pub starts_kept : (tells : Bool) (o : Outset) (s : Settler) (counts : Channel → ℕ) (now : World) → 0 < base → ((c : Channel) → o.faults c ≤ counts c)
       → s.written ≡ 0 → s.doubted ≡ false → s.writer.in_doubt ≡ false → s.writer.slot ≡ o.live
-      → (IsTrue tells → PulledOnly o.world now) → KeepsTurns tells o no_books (stage_by r s counts now)
-  starts_kept tells o s counts now above later written sure sealing slot outside = record {
+      → (IsTrue tells → KeepsVersions o no_books (start_run base kinds opening) s.writer now.disk) → (IsTrue tells → PulledOnly o.world now) → KeepsTurns tells o no_books (stage_by r s counts now)
+  starts_kept tells o s counts now above later written sure sealing slot versions outside = record {
     above = above;
     units = λ at e a. absurd (none_applies base kinds opening at e a);
     turns = λ ruled at e a. absurd (none_applies base kinds opening at e a);
@@ -77,6 +78,7 @@ module _ (base kinds : ℕ) (opening : GrainId → List Value) where
       doubt = sure;
       unsure = sealing ∙ sym sure;
       written = written;
+      versions = versions;
       outside = λ told. record {
         output = record { output = (outside told).output ∙ sym (append-nil o.world.output); unended = tt; proper = tt };
         calls = record {

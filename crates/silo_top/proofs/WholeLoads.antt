@@ -74,6 +74,8 @@ use Rattle.silo_top.specs.RunBehindOpening.{IsBehindOpening}
 use Rattle.silo_top.specs.LoadSteps.{IsNewBank, CarriesLoad, MaySaySummary, SaysSummary, load_ending}
 use Rattle.silo_top.proofs.RunEnds.{all_syncs, most_syncs}
 use Rattle.silo_top.proofs.OpenedImages.{starts_resting}
+use Rattle.run_books.specs.Places.{KeepsVersions}
+use Rattle.silo_top.proofs.OpenedPlaces.{versions_behind}
 use Rattle.silo_top.proofs.TurnStart.{no_books, starts_kept, starts_quiet, starts_fresh, starts_outset}
 use Rattle.silo_top.proofs.StartImages.{starts_lasting}
 use Rattle.silo_top.proofs.LoadStart.{bank_of, bank_checked, bank_whole, opened_same}
@@ -198,7 +200,8 @@ module _ {T : Type 0} (n seed : ℕ) (m : Manner) (x : Opened) (st : Started) (o
     base = subst (λ (k : ℕ). 0 < k) is.opened.next above
 
     kept_first : KeepsTurns true out no_books (stage_by r0 st.settler between mid)
-    kept_first = starts_kept r0.base r0.kinds r0.opening true out st.settler between mid base (λ c. let e = none c in omega (arith, e)) start.written start.doubted start.sealing start.settles (λ told. still_none mid)
+    kept_first = starts_kept r0.base r0.kinds r0.opening true out st.settler between mid base (λ c. let e = none c in omega (arith, e)) start.written start.doubted start.sealing start.settles
+        (λ told. subst (λ (r : Run). KeepsVersions out no_books r st.settler.writer mid.disk) (sym start.run ∙ began) (versions_behind old mid x st start (record { opened = is.opened; run = is.run }) out refl refl)) (λ told. still_none mid)
 
     first : StartsRun true m out no_books (program_tree x.checked) lines 0 (stage_by r0 st.settler between mid)
     first = record {
@@ -368,6 +371,7 @@ module _ {T : Type 0} (n seed : ℕ) (m : Manner) (x : Opened) (st : Started) (o
         records = explains_so.records;
         units = explains_so.units;
         turns = explains_so.turns;
+        loads = explains_so.loads;
         faults = faults_same x.slot (core_run p c0) before after final files explains_so.faults;
         doubted = λ f t. explains_so.doubted f (file f t);
         ended = doubt;

@@ -11,7 +11,8 @@ use Rattle.silo_opening.specs.declared.opened_silo.Opened.{Opened}
 use Rattle.silo_top.specs.declared.run_start.Started.{Started}
 
 -- The program and the slot are the opened silo's. The core has no events; its units are numbered from the next one on, and its grains are those of
--- the store. The settler goes on at the log's gate and at the ends that the log names, and has written no replies.
+-- the store. The settler goes on at the log's gate, at the ends that the log names and at the places of the grains' last versions, and has
+-- written no replies.
 pub record IsStartOf (o : Opened) (s : Started) : Type 0 where
   pub checked : s.checked ≡ o.checked
   pub slot : s.slot ≡ o.slot
@@ -25,6 +26,7 @@ pub record IsStartOf (o : Opened) (s : Started) : Type 0 where
   pub settles : s.settler.writer.slot ≡ o.slot
   pub gate : s.settler.writer.gate_at ≡ o.gate_at
   pub ends : (g : GrainId) → file_end s.settler.writer g ≡ unwrap_or (end_in o.ends g) 0
+  pub places : s.settler.writer.places ≡ o.places
   pub kept : kept_of s.settler.writer ≡ []
   pub sealing : s.settler.writer.in_doubt ≡ false
   pub written : s.settler.written ≡ 0

@@ -38,7 +38,14 @@ pub(crate) fn start(alloc: Global, opened: Opened, quiet: bool) -> Result<Starte
             next_unit: opened.next_unit,
         },
     );
-    let settler = Settler::new(alloc, opened.slot, opened.gate_at, opened.ends, quiet)?;
+    let settler = Settler::new(
+        alloc,
+        opened.slot,
+        opened.gate_at,
+        opened.ends,
+        quiet,
+        opened.places,
+    )?;
     Ok(Started {
         slot: opened.slot,
         checked: opened.checked,

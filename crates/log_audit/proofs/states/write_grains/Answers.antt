@@ -23,8 +23,8 @@ pub returns-in_err-write_line-clause-puts : goal.returns-in_err-write_line-claus
 returns-in_err-write_line-clause-puts g c =
     let p = err_from_is_err_and c.from_residual-in_err-write_line.result c.from_residual-in_err-write_line.ensures.1 in
     let shape = c.args.shape.now in
-    let types = program_tree c.args.opened.now.checked in
-    let store = c.args.opened.now.store in
+    let types = program_tree c.args.checked.now in
+    let store = c.args.store.now in
     let grain = c.in-Some.grain in
     let text : c.as_bytes.result.now ≡ line_of (grain_data shape types grain (found_in types store grain)) = c.as_bytes.ensures.value ∙ c.in_ok-line.ensures in
     rw p.1 λ told.
@@ -41,8 +41,8 @@ pub loop-grain-preserved : goal.loop-grain-preserved
 loop-grain-preserved g c =
     let inv = c.loop-grain.invariant in
     let shape = c.args.shape.now in
-    let types = program_tree c.args.opened.now.checked in
-    let store = c.args.opened.now.store in
+    let types = program_tree c.args.checked.now in
+    let store = c.args.store.now in
     let grain = c.in-Some.grain in
     let text : c.as_bytes.result.now ≡ line_of (grain_data shape types grain (found_in types store grain)) = c.as_bytes.ensures.value ∙ c.in_ok-line.ensures in
     record {
@@ -59,4 +59,4 @@ returns-clause-puts g c told =
     let size : length c.loop-grain.left.keys ≡ 0 = search rules in
     let none : c.loop-grain.left.keys ≡ [] = none_left c.loop-grain.left.keys size in
     gone_all _ _ _ _ (c.loop-grain.invariant.puts told)
-    (ap (λ (l : List GrainId). grain_lines c.args.shape.now (program_tree c.args.opened.now.checked) c.args.opened.now.store l) none)
+    (ap (λ (l : List GrainId). grain_lines c.args.shape.now (program_tree c.args.checked.now) c.args.store.now l) none)

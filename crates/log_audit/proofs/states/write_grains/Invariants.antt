@@ -8,7 +8,7 @@ use Rattle.log_audit.proofs.states.write_grains.Given as goal
 
 abbrev pub invariant-loop-grain : goal.invariant-loop-grain
 invariant-loop-grain g l = record {
-  puts : IsTrue g.H.Host.tells → Gone (grain_lines l.shape (program_tree l.opened.checked) l.opened.store l.fn.grains.keys) (grain_lines l.shape (program_tree l.opened.checked) l.opened.store l.left.keys) (g.H.Host.world l.fn.host) (g.H.Host.world l.host);
+  puts : IsTrue g.H.Host.tells → Gone (grain_lines l.shape (program_tree l.checked) l.store l.fn.grains.keys) (grain_lines l.shape (program_tree l.checked) l.store l.left.keys) (g.H.Host.world l.fn.host) (g.H.Host.world l.host);
   calm : NoneFailed (g.H.Host.faults l.fn.host) (g.H.Host.faults l.host);
   ready : StaysReady (g.H.Host.is_ready l.fn.host) (g.H.Host.is_ready l.host);
 }

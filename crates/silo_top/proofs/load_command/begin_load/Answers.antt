@@ -1,4 +1,4 @@
-use Rattle.std.proofs.Common.{◌≡◌, ℕ, List, length, Ok, inl, refl, sym, ◌∙◌, ap, subst}
+use Rattle.std.proofs.Common.{◌≡◌, ℕ, IsTrue, List, length, Ok, inl, refl, sym, ◌∙◌, ap, subst}
 use Rattle.program_file.specs.Programs.{program_in}
 use Rattle.script_tree.specs.Programs.{ProgramTree, program_tree}
 use Rattle.history_core.specs.Cores.{run_of}
@@ -17,10 +17,13 @@ use Rattle.silo_top.specs.Statuses.{status_ending}
 use Rattle.silo_top.specs.declared.status.Status.{Status}
 use Rattle.silo_top.proofs.FaultCounts.{answers_behind, exactly_answers}
 use Rattle.silo_top.proofs.Continuation.{can_carry, of_opened, told_lines}
-use Rattle.silo_top.proofs.LoadStart.{bank_of, bank_checked, same_behind, with_checked}
+use Rattle.silo_top.proofs.LoadStart.{bank_of, bank_checked, same_behind, same_seen, with_checked}
 use Rattle.silo_top.proofs.LoadContinuation.{load_carries, load_answers}
 use Rattle.silo_top.proofs.LoadLines.{AreReadBy, lines_read, numbered_many, texts_ask}
-use Rattle.silo_top.proofs.LoadCreation.{uncreated, uncreated_answers, made_from, made_loads, unopened_carries, unopened_answers, starved_carries, lies_within}
+use Rattle.silo_top.proofs.LoadCreation.{uncreated, uncreated_answers, made_from, made_loads, unopened_carries, unopened_answers, starved_carries, lies_within, live_seen}
+use Rattle.silo_top.proofs.OpenedPlaces.{OpensSo}
+use Rattle.host_trait.specs.World.{World}
+use Rattle.log_reading.specs.Steps.{seen_in}
 use Rattle.silo_top.proofs.CoreOpening.{fits_within}
 use Rattle.silo_top.proofs.ReadLines.{AreReadFrom}
 use Rattle.silo_top.proofs.load_command.begin_load.Goals as goal
@@ -118,9 +121,21 @@ returns-in-Ok-load_lines-clause-answers_on g c = λ m settler' after new result 
     let read : AreReadBy types (load_calls c.args.transfers c.args.seed) = load_read (bank_of types) c.args.transfers c.args.seed (bank_checked types bank_is) refl in
     let are : AreReadFrom types 0 (load_texts c.args.transfers c.args.seed) c.in-Ok-load_lines.lines = subst (AreReadFrom types 0 (load_texts c.args.transfers c.args.seed)) (sym c.in-Ok-load_lines.ensures) (lines_read types 0 (load_calls c.args.transfers c.args.seed) read) in
     let carried = of_opened g.H.Host.tells (with_checked c.in-Ok-open_silo.opened c.in-Ok.bank) c.in-Ok-start.started (λ (k : ProgramTree). c.in-Ok-load_lines.lines) (g.H.Host.faults c.open_silo.new.host) (g.H.Host.world c.open_silo.new.host) m settler' after new result c.in-Ok-start.ensures.start went in
+    let opens : IsTrue g.H.Host.tells → (old : World) × OpensSo old (g.H.Host.world c.open_silo.new.host) (with_checked c.in-Ok-open_silo.opened c.in-Ok.bank) = (λ told. (
+    let made : IsMadeFrom (g.H.Host.world c.args.host.now) (g.H.Host.world c.create.new.host) = made_from (Unit {0}) (g.H.Host.world c.args.host.now) (g.H.Host.world c.create.new.host) tt (λ reads. (c.in-Ok-create.ensures.silo told reads).answer) (c.create.ensures.beside told)
+    (λ short. subst (λ (t : List ℕ). CameThisFar magic t (g.H.Host.world c.args.host.now) (g.H.Host.world c.create.new.host)) c.bank_text-2.ensures (c.create.ensures.moments told short).moments) (λ short. (c.create.ensures.moments told short).shows)
+    (λ image left. subst (λ (t : List ℕ). IsNewSilo magic t image) c.bank_text-2.ensures ((c.in-Ok-create.ensures.made told).made image left)) (c.in-Ok-create.ensures.made told).live (λ file. g.met.H.Host.seen_may_stay c.create.new.host file told)
+    (c.in-Ok-create.ensures.made told).least (c.in-Ok-create.ensures.made told).most in (
+      g.H.Host.world c.create.new.host,
+      record {
+        opened = same_seen c.in-Ok-open_silo.opened c.in-Ok.bank (g.H.Host.world c.create.new.host) bank_is (made.each (seen_in (g.H.Host.world c.create.new.host).disk) made.stays)
+            (live_seen (g.H.Host.world c.args.host.now) (g.H.Host.world c.create.new.host) made) (c.in-Ok-open_silo.ensures.opened told).opened;
+        run = c.in-Ok-open_silo.ensures.only told;
+      },
+    ))) in
     answers_behind IsLoadCarried (status_ending status) (g.H.Host.faults c.args.host.now) (g.H.Host.faults c.create.new.host) final c.in-Ok-create.ensures.calm
     (answers_behind IsLoadCarried (status_ending status) (g.H.Host.faults c.create.new.host) (g.H.Host.faults c.open_silo.new.host) final c.in-Ok-open_silo.ensures.calm
-    (load_answers g.H.Host.tells c.args.transfers c.args.seed m (with_checked c.in-Ok-open_silo.opened c.in-Ok.bank) c.in-Ok-start.started (g.H.Host.world c.open_silo.new.host) new (g.H.Host.faults c.open_silo.new.host) after result c.in-Ok-start.ensures.start c.in-Ok-start.ensures.quiet c.in-Ok-load_lines.lines are went.wide c.in-Ok-open_silo.ensures.bounds.next.0 settler' went.used carried status final (subst (λ (n : ℕ). LoadCounts n result status after final) c.in-Ok-start.ensures.start.slot counts)))
+    (load_answers g.H.Host.tells c.args.transfers c.args.seed m (with_checked c.in-Ok-open_silo.opened c.in-Ok.bank) c.in-Ok-start.started (g.H.Host.world c.open_silo.new.host) new (g.H.Host.faults c.open_silo.new.host) after result c.in-Ok-start.ensures.start opens c.in-Ok-start.ensures.quiet c.in-Ok-load_lines.lines are went.wide c.in-Ok-open_silo.ensures.bounds.next.0 settler' went.used carried status final (subst (λ (n : ℕ). LoadCounts n result status after final) c.in-Ok-start.ensures.start.slot counts)))
 
 pub returns-in-Ok-load_lines-clause-keeps : goal.returns-in-Ok-load_lines-clause-keeps
 returns-in-Ok-load_lines-clause-keeps g c = λ told m settler' after new result requests status final last went stay counts says many.

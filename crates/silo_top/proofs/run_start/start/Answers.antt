@@ -18,6 +18,7 @@ returns-clause-start c =
       settles = made.slot;
       gate = made.gate;
       ends = made.ends;
+      places = made.places;
       kept = made.kept;
       sealing = made.sealing;
       written = made.written;
