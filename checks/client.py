@@ -4,19 +4,10 @@ import subprocess
 import sys
 import tempfile
 
-from harness import BANK, PROGRAM, TOP, Rows, run
+from harness import BANK, PROGRAM, TOP, Rows, run, stand_in
 
 rows = Rows("client")
 CLIENT = os.path.join(TOP, "examples", "client", "client.py")
-
-
-def stand_in(room, name, *lines):
-    """A program in place of the real one: a shell script of these lines."""
-    path = os.path.join(room, name)
-    with open(path, "w") as file:
-        file.write("\n".join(["#!/bin/sh", *lines]) + "\n")
-    os.chmod(path, 0o755)
-    return path
 
 
 def client(program, folder):

@@ -82,6 +82,24 @@ def start(*words, shim=None):
     return subprocess.Popen([PROGRAM, *words], stdin=subprocess.PIPE, stdout=subprocess.PIPE, stderr=subprocess.PIPE, env={**os.environ, **(shim or {})})
 
 
+def silo_folder(room, name, *commands):
+    """A new folder in this room, with an init of this program and runs of these requests."""
+    path = os.path.join(room, name)
+    os.mkdir(path)
+    for at, given in enumerate(commands):
+        assert run(path, "init" if at == 0 else "run", given=given).number == 0
+    return path
+
+
+def stand_in(room, name, *lines):
+    """A program in place of the real one: a shell script of these lines."""
+    path = os.path.join(room, name)
+    with open(path, "w") as file:
+        file.write("\n".join(["#!/bin/bash", *lines]) + "\n")
+    os.chmod(path, 0o755)
+    return path
+
+
 class Rows:
     """Compares what was found with what was wanted, row by row."""
 

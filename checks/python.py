@@ -9,7 +9,7 @@ import sys
 import tempfile
 import time
 
-from harness import BANK, PROGRAM, TOP, Ended, Rows, deposit, run
+from harness import BANK, PROGRAM, TOP, Ended, Rows, deposit, run, stand_in
 
 sys.dont_write_bytecode = True
 sys.path.insert(0, os.path.join(TOP, "tools", "python"))
@@ -36,15 +36,6 @@ type shop {
 }
 type helper { method pay(n) suppress plain { call account/1.deposit(n); return n; } }
 """
-
-
-def stand_in(room, name, *lines):
-    """A program in place of the real one: a shell script of these lines."""
-    path = os.path.join(room, name)
-    with open(path, "w") as file:
-        file.write("\n".join(["#!/bin/bash", *lines]) + "\n")
-    os.chmod(path, 0o755)
-    return path
 
 
 def turned(room, name, turns, runs=1):

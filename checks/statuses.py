@@ -2,7 +2,7 @@
 import os
 import tempfile
 
-from harness import BANK, Ended, Rows, ask, deposit, reply, run
+from harness import BANK, Ended, Rows, ask, deposit, reply, run, silo_folder
 
 LINE_LIMIT = 65_536
 PROGRAM_LIMIT = 262_144
@@ -21,12 +21,7 @@ def says(number, text, output=b""):
 with tempfile.TemporaryDirectory() as room:
 
     def folder(name, *commands):
-        """A new folder, with an init of this program and runs of these requests."""
-        path = os.path.join(room, name)
-        os.mkdir(path)
-        for at, given in enumerate(commands):
-            assert run(path, "init" if at == 0 else "run", given=given).number == 0
-        return path
+        return silo_folder(room, name, *commands)
 
     def after(path):
         """What a later run over the folder answers to a request that asks for the balance."""

@@ -8,7 +8,7 @@ import subprocess
 import sys
 import tempfile
 
-from harness import BANK, OTHER_USER, PROGRAM, TOP, Ended, Rows, deposit, run, start
+from harness import BANK, OTHER_USER, PROGRAM, TOP, Ended, Rows, deposit, run, silo_folder, start
 
 rows = Rows("why")
 WHY = os.path.join(TOP, "tools", "why")
@@ -52,11 +52,7 @@ with tempfile.TemporaryDirectory() as room:
     os.chmod(room, 0o755)
 
     def folder(name, *commands):
-        path = os.path.join(room, name)
-        os.mkdir(path)
-        for at, given in enumerate(commands):
-            assert run(path, "init" if at == 0 else "run", given=given).number == 0
-        return path
+        return silo_folder(room, name, *commands)
 
     def tells(what, path, ended, wanted, word="init", given=BANK):
         """That silo ends so over this folder, and what is said of it."""
