@@ -237,6 +237,6 @@ with tempfile.TemporaryDirectory() as room:
         none = {words[-1]: int(words[3]) for words in map(str.split, open(counts)) if len(words) in (5, 6) and words[3].isdigit()}
         rows.row("reads more, for a log of 20 blocks and one grain's versions", asked["pread64"] - none["pread64"], 1)
         lengths = [sum(counted.get(name, 0) for name in ("statx", "fstat", "newfstatat")) for counted in (asked, none)]
-        rows.row("looks more, of the grain's file", lengths[0] - lengths[1], 1)
+        rows.row("looks more, of the log behind the program file and of the grain's file", lengths[0] - lengths[1], 2)
 
 rows.end()
