@@ -113,6 +113,10 @@ class Nested(Run):
 class Report(Case):
     """A report, which prints the front of what it prints else, and changes nothing."""
 
+    def untold(self, ended, failed):
+        # It does without the memory in which it reads how many files may be open: what it prints is whole then.
+        return [] if failed == {shim.NO_FILE} else super().untold(ended, failed)
+
     def wrong(self, folder, ended, failed):
         whole = REPORTS[self.words[0]]
         wrong = kept.wrong_number(ended, failed)
