@@ -24,7 +24,7 @@ is_settling (EndSnapshot v at outcome) = false
 is_settling (Release v g) = false
 is_settling Halt = false
 is_settling (Want v g) = false
-is_settling (Load g v state) = false
+is_settling (Load g v state) = true
 
 -- the event is harmless to the settler
 abbrev pub leaves_settling : CoreEvent → Bool

@@ -18,8 +18,8 @@ use Rattle.core_laws.proofs.Alive.{good-alive}
 use Rattle.core_laws.proofs.KeptInvariant.{Kept}
 use Rattle.core_laws.proofs.ReleasedGrains.{Gone, gone-run}
 use Rattle.core_laws.proofs.Dependencies.{Depends, depends-run}
-use Rattle.core_laws.proofs.UnitPlays.{Valid}
-use Rattle.core_laws.proofs.Ends.{kept-begins, kept-ends, valid-ends}
+use Rattle.core_laws.proofs.UnitPlays.{Valid, valid-ends}
+use Rattle.core_laws.proofs.Ends.{kept-begins, kept-ends}
 
 -- A released writer that isn't dead is in the stack, or stands before the bottom's unit.
 pub in_stack_or_below : (opening : GrainId → List Value) (n : ℕ) (w : CoreState) → Inv opening n w →
@@ -119,4 +119,4 @@ depends-ends plays r l = depends-run r.opening r.events (begins r) l.loads (kept
 
 pub consistent-ends : (plays : Effect → Bool) (r : Run) → IsLegal plays r → IsConsistent plays r.opening (ends r)
 consistent-ends plays r l =
-    consistent plays r.opening (ends r) (kept-ends plays r l) (valid-ends plays r l) (prefix-ends r l.above) (gone-ends plays r l) (depends-ends plays r l)
+    consistent plays r.opening (ends r) (kept-ends plays r l) (valid-ends plays r l.effects) (prefix-ends r l.above) (gone-ends plays r l) (depends-ends plays r l)

@@ -45,6 +45,9 @@ pub mod AnyEvents
 pub mod Numbers
 pub mod TakenLines
 pub mod EachDecided
+pub mod JudgedUnits
+pub mod SaidEntries
+pub mod UnitResults
 pub mod LineEntries
 pub mod LoadlessRuns
 pub mod HeldLocks

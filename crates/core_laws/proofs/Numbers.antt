@@ -97,7 +97,7 @@ lineless-ends r = run-keeps Lineless lineless-change (λ w here s. s) r.events (
 abbrev pub Grown : ℕ → ℕ → CoreState → Type 0
 Grown next kinds w = (next ≤ w.units.next) × (w.units.kinds ≡ kinds)
 
-grown-change : (next kinds : ℕ) (w : CoreState) (e : CoreEvent) (w' : CoreState) → Change w e w' → applies w e ≡ true → Grown next kinds w → Grown next kinds w'
+pub grown-change : (next kinds : ℕ) (w : CoreState) (e : CoreEvent) (w' : CoreState) → Change w e w' → applies w e ≡ true → Grown next kinds w → Grown next kinds w'
 grown-change next kinds w e w' (bad line why q) a s = s
 grown-change next kinds w e w' (begin origin call plain c) a s = (omega (arith, s.0), s.1)
 grown-change next kinds w e w' (lock u g mode running free first here) a s = s
@@ -142,7 +142,7 @@ holds-in w u g mode lt s k h = grain-from w.cells.holds g (granted (w.cells.hold
     (λ q m. subst (λ (z : GrainId). z.kind < w.units.kinds) (sym q) lt)
     (λ q m. s.0 k h m)
 
-in-kinds-change : (w : CoreState) (e : CoreEvent) (w' : CoreState) → Change w e w' → applies w e ≡ true → InKinds w → InKinds w'
+pub in-kinds-change : (w : CoreState) (e : CoreEvent) (w' : CoreState) → Change w e w' → applies w e ≡ true → InKinds w → InKinds w'
 in-kinds-change w e w' (bad line why q) a s = s
 in-kinds-change w e w' (begin origin call plain c) a s = s
 in-kinds-change w e w' (lock u g mode running free first here) a s = (holds-in w u g mode (granted-kind w u g mode a) s, s.1)

@@ -1,30 +1,74 @@
--- Settled entries are proper.
-use Rattle.std.proofs.Common.{◌≡◌, ℕ, ◌<◌, ◌≤◌, List, [], ◌∷◌, ◌++◌, Bool, true, false, ◌&&◌, not, inl, inr, refl, sym, ap, ◌∙◌, subst, arith, Some}
-use Rattle.std.proofs.lemmas.Bool.{and_parts, cases_lt, not-true}
-use Rattle.base_types.specs.declared.calls.Origin.TheVariants.{Line}
-use Rattle.base_types.specs.declared.calls.Outcome.TheVariants as outcome
+-- Settled entries are proper: their units are the run's and an outcome is no abort, whatever was loaded, and a dependency names a unit
+-- that has begun, where each load is true.
+use Rattle.std.proofs.Common.{◌≡◌, ℕ, ◌<◌, ◌≤◌, List, ◌∷◌, ◌++◌, Bool, true, false, inl, inr, refl, sym, ap, ◌∙◌, subst, arith}
+use Rattle.std.proofs.lemmas.Bool.{cases_lt}
 use Rattle.base_types.specs.declared.entries.Settled.TheVariants as settled
-use Rattle.core_model.specs.CoreState.{UnitNo, GrainId, Member, Value, Outcome, Entry, Settled, Batch, Write, CoreState}
+use Rattle.core_model.specs.CoreState.{UnitNo, GrainId, Member, Value, Entry, Settled, Batch, CoreState}
 use Rattle.core_model.specs.declared.phases.Phase.TheVariants.{Unborn, Finished}
 use Rattle.core_model.specs.declared.effects.Read.{Read}
 use Rattle.core_model.specs.declared.effects.Effect.{Effect}
-use Rattle.core_model.specs.Tests.{is_empty, is_running, state_written}
-use Rattle.core_model.specs.Equality.{same_outcome}
-use Rattle.core_model.specs.Causes.{EndsWith, HasCause, HasLine, IsCaused, decided_state}
+use Rattle.core_model.specs.Tests.{is_over}
+use Rattle.core_model.specs.Causes.{HasCause, IsCaused, decided_state}
 use Rattle.core_model.specs.ProperEntries.{NeverAborts, HasUnitOf, MaySettle, IsProperEntry}
-use Rattle.core_model.specs.Events.{applies, can, run, step, is_allowed}
+use Rattle.core_model.specs.Events.{run, step}
 use Rattle.core_model.specs.declared.events.CoreEvent.{CoreEvent}
 use Rattle.core_model.specs.declared.events.CoreEvent.TheVariants.{Bad, Begin, Grant, Refuse, Finish, EndPlain, EndSnapshot, Release, Take, Vote, Decide, Sealed, NotSealed, Doubt, Learn, Emitted, Halt, Want, Load}
-use Rattle.core_model.specs.SerialOrder.{Plays, AllPlay}
+use Rattle.core_model.specs.SerialOrder.{AllPlay}
 use Rattle.core_model.specs.LegalRuns.{Run, IsLegal, begins, ends}
 use Rattle.core_laws.proofs.Invariant.{Inv}
-use Rattle.core_laws.proofs.Ends.{kept-ends, valid-ends}
+use Rattle.core_laws.proofs.Ends.{kept-ends}
 use Rattle.core_laws.proofs.Consistency.{depends-ends}
 use Rattle.core_laws.proofs.FurtherLaws.{run-append, legal-front}
-use Rattle.core_laws.proofs.Reasons.{member-finished}
 use Rattle.core_laws.proofs.EntryCauses.{caused-ends}
 use Rattle.core_laws.proofs.LineEntries.{once-ends}
-use Rattle.core_laws.proofs.Numbers.{numbered-ends, lineless-ends, grown-run, in-kinds-ends}
+use Rattle.core_laws.proofs.LoadlessKept.{loadless-ends}
+use Rattle.core_laws.proofs.Numbers.{numbered-ends, grown-run}
+use Rattle.core_laws.proofs.SaidEntries.{Says, says-ends}
+use Rattle.core_laws.proofs.UnitResults.{NoneAborts, none-ends}
+
+-- ---- whatever was loaded
+
+-- who is over is one of the run's
+of-run : (r : Run) → 0 < r.base → (u : UnitNo) → is_over ((ends r).units.phase u) ≡ true → (r.base ≤ u.0) × (u.0 < (ends r).units.next)
+of-run r above u over = (
+  (numbered-ends r).1 u born,
+  elim (cases_lt u.0 (ends r).units.next) [
+    | inl lt ↦ lt
+    | inr ge ↦ absurd (born ((loadless-ends r above).0.unborn u ge))
+  ],
+)
+  where
+    born : (ends r).units.phase u ≡ Unborn → ⊥
+    born q = (let z : true ≡ false = sym over ∙ ap is_over q in cc)
+
+-- the unit of an entry
+pub has-unit-ends : (r : Run) → 0 < r.base → (x : Entry) → Member x (ends r).manager.settled → HasUnitOf r.base (ends r) x.unit x.what
+has-unit-ends r above x m = go x.what (says-ends r above x m)
+  where
+    go : (what : Settled) → Says (ends r) x.unit what → HasUnitOf r.base (ends r) x.unit what
+    go (settled.Done result) s = of-run r above x.unit (elim s.0 [ inl e ↦ ap is_over e | inr f ↦ ap is_over f.0 ])
+    go (settled.Lock by g) s = of-run r above x.unit s.0
+    go (settled.Vote g) s = of-run r above x.unit s.0
+    go (settled.Dependency on) s = of-run r above x.unit s
+    go settled.Disk s = of-run r above x.unit s
+    go settled.InDoubt s = of-run r above x.unit s
+    go (settled.Bad why) s = s
+
+-- what an entry says, but for what a dependency names
+may-settle : (w : CoreState) (u : UnitNo) → NoneAborts w → (what : Settled) → Says w u what → ((on : UnitNo) → what ≡ settled.Dependency on → on.0 < w.units.next) → MaySettle w u what
+may-settle w u none (settled.Done result) s source = λ q. none u (elim s.0 [ inl e ↦ inr e | inr f ↦ inl f.0 ]) (s.1 ∙ q)
+may-settle w u none (settled.Lock by g) s source = (s.1, s.2)
+may-settle w u none (settled.Vote g) s source = s.1
+may-settle w u none (settled.Dependency on) s source = source on refl
+may-settle w u none settled.Disk s source = tt
+may-settle w u none settled.InDoubt s source = tt
+may-settle w u none (settled.Bad why) s source = tt
+
+-- an entry that names no dependency says what it may
+pub words-ends : (plays : Effect → Bool) (r : Run) → 0 < r.base → AllPlay plays r.events → NeverAborts plays → (x : Entry) → Member x (ends r).manager.settled → ((on : UnitNo) → x.what ≡ settled.Dependency on → ⊥) → MaySettle (ends r) x.unit x.what
+words-ends plays r above p never x m other = may-settle (ends r) x.unit (none-ends plays never r p) x.what (says-ends r above x m) (λ on q. absurd (other on q))
+
+-- ---- where each load is true
 
 -- the run as far as its first events
 abbrev pub front : Run → List CoreEvent → Run
@@ -33,11 +77,6 @@ front r before = record r { events = before }
 pub front-legal : (plays : Effect → Bool) (r : Run) → IsLegal plays r → (before later : List CoreEvent) → r.events ≡ before ++ later → IsLegal plays (front r before)
 front-legal plays r l before later q = legal-front plays (front r before) later (subst (λ (es : List CoreEvent). IsLegal plays (record r { events = es })) q l)
 
--- an event of the run is a play
-pub plays-there : (plays : Effect → Bool) (before : List CoreEvent) (e : CoreEvent) (later : List CoreEvent) → AllPlay plays (before ++ e ∷ later) → Plays plays e
-plays-there plays [] e later p = p.0
-plays-there plays (x ∷ before) e later p = plays-there plays before e later p.1
-
 -- the state after the first events, and what of it the last state has
 pub grown-ends : (r : Run) (before later : List CoreEvent) → r.events ≡ before ++ later → ((ends (front r before)).units.next ≤ (ends r).units.next) × ((ends r).units.kinds ≡ (ends (front r before)).units.kinds)
 grown-ends r before later q =
@@ -45,27 +84,27 @@ grown-ends r before later q =
     let is : run (begins r) r.events ≡ run (run (begins r) before) later = ap (run (begins r)) q ∙ run-append (begins r) before later in
     (subst (λ (v : CoreState). (run (begins r) before).units.next ≤ v.units.next) (sym is) t.0, ap (λ (v : CoreState). v.units.kinds) is ∙ t.1)
 
--- where a batch is decided, units' writes and dependencies are those of before
-decided-parts : (w : CoreState) (e : CoreEvent) (b : Batch) → ((decided_state w e b).manager.writes ≡ w.manager.writes) × ((decided_state w e b).units.deps ≡ w.units.deps)
-decided-parts w (Bad line why) b = (refl, refl)
-decided-parts w (Begin origin call plain) b = (refl, refl)
-decided-parts w (Grant u g mode) b = (refl, refl)
-decided-parts w (Refuse u g mode) b = (refl, refl)
-decided-parts w (Finish u effect) b = (refl, refl)
-decided-parts w (EndPlain u effect) b = (refl, refl)
-decided-parts w (EndSnapshot u at result) b = (refl, refl)
-decided-parts w (Release u g) b = (refl, refl)
-decided-parts w Take b = (refl, refl)
-decided-parts w (Vote n g kept) b = (refl, refl)
-decided-parts w (Decide n) b = (refl, refl)
-decided-parts w (Sealed n) b = (refl, refl)
-decided-parts w (NotSealed n) b = (refl, refl)
-decided-parts w (Doubt n) b = (refl, refl)
-decided-parts w (Learn u g) b = (refl, refl)
-decided-parts w Emitted b = (refl, refl)
-decided-parts w Halt b = (refl, refl)
-decided-parts w (Want u g) b = (refl, refl)
-decided-parts w (Load g u state) b = (refl, refl)
+-- where a batch is decided, units' dependencies are those of before
+decided-deps : (w : CoreState) (e : CoreEvent) (b : Batch) → (decided_state w e b).units.deps ≡ w.units.deps
+decided-deps w (Bad line why) b = refl
+decided-deps w (Begin origin call plain) b = refl
+decided-deps w (Grant u g mode) b = refl
+decided-deps w (Refuse u g mode) b = refl
+decided-deps w (Finish u effect) b = refl
+decided-deps w (EndPlain u effect) b = refl
+decided-deps w (EndSnapshot u at result) b = refl
+decided-deps w (Release u g) b = refl
+decided-deps w Take b = refl
+decided-deps w (Vote n g kept) b = refl
+decided-deps w (Decide n) b = refl
+decided-deps w (Sealed n) b = refl
+decided-deps w (NotSealed n) b = refl
+decided-deps w (Doubt n) b = refl
+decided-deps w (Learn u g) b = refl
+decided-deps w Emitted b = refl
+decided-deps w Halt b = refl
+decided-deps w (Want u g) b = refl
+decided-deps w (Load g u state) b = refl
 
 -- who has finished has a number below the next
 finished-below : (opening : GrainId → List Value) (n : ℕ) (w : CoreState) → Inv opening n w → (u : UnitNo) → w.units.phase u ≡ Finished → u.0 < w.units.next
@@ -81,103 +120,37 @@ source-below opening n w i u r m = elim (i.source u r m) [
   | inr o ↦ finished-below opening n w i r.source o.0
 ]
 
--- who begins a line has begun
-line-born : (r : Run) (u : UnitNo) (n : ℕ) → 0 < n → (ends r).units.origin u ≡ Line n → (ends r).units.phase u ≡ Unborn → ⊥
-line-born r u n low origin unborn = (let z : Line 0 ≡ Line n = sym (lineless-ends r u unborn) ∙ origin in let y : 0 ≡ n = cc in omega (arith, y, low))
+-- what a dependency names has begun
+source-ends : (plays : Effect → Bool) (r : Run) → IsLegal plays r → (x : Entry) → Member x (ends r).manager.settled → (on : UnitNo) → x.what ≡ settled.Dependency on → on.0 < (ends r).units.next
+source-ends plays r l x m on is = by_cause (subst (λ (what : Settled). HasCause w c.event (step w c.event) x.unit what) is c.cause)
+  where
+    c : IsCaused r x
+    c = caused-ends plays r l x m
 
-module _ (plays : Effect → Bool) (r : Run) (l : IsLegal plays r) (never : NeverAborts plays) (x : Entry) (low : 0 < x.line) (c : IsCaused r x) where
-  before-legal : IsLegal plays (front r c.before)
-  before-legal = front-legal plays r l c.before (c.event ∷ c.later) c.split
+    w : CoreState
+    w = ends (front r c.before)
 
-  higher : ((ends (front r c.before)).units.next ≤ (ends r).units.next) × ((ends r).units.kinds ≡ (ends (front r c.before)).units.kinds)
-  higher = grown-ends r c.before (c.event ∷ c.later) c.split
+    before-legal : IsLegal plays (front r c.before)
+    before-legal = front-legal plays r l c.before (c.event ∷ c.later) c.split
 
-  -- the unit of a line
-  of-line : (ends (front r c.before)).units.origin x.unit ≡ Line x.line → (r.base ≤ x.unit.0) × (x.unit.0 < (ends r).units.next)
-  of-line origin =
-      let born = line-born (front r c.before) x.unit x.line low origin in
-      let below = below-next born in
-      ((numbered-ends (front r c.before)).1 x.unit born, omega (arith, higher.0, below))
-    where
-      below-next : ((ends (front r c.before)).units.phase x.unit ≡ Unborn → ⊥) → x.unit.0 < (ends (front r c.before)).units.next
-      below-next born = elim (cases_lt x.unit.0 (ends (front r c.before)).units.next) [
-        | inl lt ↦ lt
-        | inr ge ↦ absurd (born ((kept-ends plays (front r c.before) before-legal).0.unborn x.unit ge))
-      ]
+    of-read : (u : UnitNo) (s : Read) → Member s (w.units.reads u) → s.source ≡ on → on.0 < (ends r).units.next
+    of-read u s there q =
+        let t = source-below r.opening _ w (kept-ends plays (front r c.before) before-legal).0 u s there in
+        let low = subst (λ (y : UnitNo). y.0 < w.units.next) q t in
+        omega (arith, (grown-ends r c.before (c.event ∷ c.later) c.split).0, low)
 
-  has-unit : (what : Settled) → HasLine (ends (front r c.before)) x what → HasUnitOf r.base (ends r) x.unit what
-  has-unit (settled.Done result) h = of-line h
-  has-unit (settled.Lock by g) h = of-line h
-  has-unit (settled.Vote g) h = of-line h
-  has-unit (settled.Dependency on) h = of-line h
-  has-unit settled.Disk h = of-line h
-  has-unit settled.InDoubt h = of-line h
-  has-unit (settled.Bad why) h = h.0
-
-  -- a source that a cause names
-  on-source : (u on : UnitNo) (s : Read) → Member s ((ends (front r c.before)).units.reads u) → s.source ≡ on → on.0 < (ends r).units.next
-  on-source u on s m q =
-      let t = source-below r.opening _ (ends (front r c.before)) (kept-ends plays (front r c.before) before-legal).0 u s m in
-      let z = subst (λ (y : UnitNo). y.0 < (ends (front r c.before)).units.next) q t in
-      omega (arith, higher.0, z)
-
-  kind-of : (k : ℕ) → k < (ends (front r c.before)).units.kinds → k < (ends r).units.kinds
-  kind-of k lt = subst (λ n. k < n) (sym higher.1) lt
-
-  snapshot-result : (u : UnitNo) (at : ℕ) (result : Outcome) → applies (ends (front r c.before)) (EndSnapshot u at result) ≡ true → result ≡ outcome.Aborted → ⊥
-  snapshot-result u at result a q =
-      let w : CoreState = ends (front r c.before) in
-      let d = and_parts (is_running (w.units.phase u) && w.units.plain u) (is_empty (w.units.kids u) && not (same_outcome result outcome.Aborted)) (and_parts (is_allowed w (EndSnapshot u at result)) (can w (EndSnapshot u at result)) a).1 in
-      let s = and_parts (is_empty (w.units.kids u)) (not (same_outcome result outcome.Aborted)) d.1 in
-      let z : true ≡ false = sym (ap (λ o. same_outcome o outcome.Aborted) q) ∙ not-true (same_outcome result outcome.Aborted) s.1 in
-      cc
-
-  result-of : (e : CoreEvent) → c.event ≡ e → (result : Outcome) → EndsWith (ends (front r c.before)) e x.unit result → result ≡ outcome.Aborted → ⊥
-  result-of (EndPlain u effect) is result h q =
-      never effect (subst (Plays plays) is (plays-there plays c.before c.event c.later (subst (AllPlay plays) c.split l.effects))) (h.1 ∙ q)
-  result-of (EndSnapshot u at o) is result h q = snapshot-result u at o (subst (λ e. applies (ends (front r c.before)) e ≡ true) is c.applied) (h.1 ∙ q)
-  result-of (Sealed n) is result h q =
-      let d = h.1 in
-      let f = member-finished r.opening (ends (front r c.before)) d.0 (kept-ends plays (front r c.before) before-legal) x.unit d.3 in
-      never _ (valid-ends plays (front r c.before) before-legal x.unit f) (h.0 ∙ q)
-  result-of (Bad line why) is result h q = h
-  result-of (Begin origin call plain) is result h q = h
-  result-of (Grant u g mode) is result h q = h
-  result-of (Refuse u g mode) is result h q = h
-  result-of (Finish u effect) is result h q = h
-  result-of (Release u g) is result h q = h
-  result-of Take is result h q = h
-  result-of (Vote n g kept) is result h q = h
-  result-of (Decide n) is result h q = h
-  result-of (NotSealed n) is result h q = h
-  result-of (Doubt n) is result h q = h
-  result-of (Learn u g) is result h q = h
-  result-of Emitted is result h q = h
-  result-of Halt is result h q = h
-  result-of (Want u g) is result h q = h
-  result-of (Load g u state) is result h q = h
-
-  may-settle : (what : Settled) → HasCause (ends (front r c.before)) c.event (step (ends (front r c.before)) c.event) x.unit what → MaySettle (ends r) x.unit what
-  may-settle (settled.Done result) h = result-of c.event refl result h.1
-  may-settle (settled.Lock by g) h =
-      (h.older, kind-of g.kind ((in-kinds-ends (front r c.before)).0 g h.rival.rival.0 h.rival.rival.1))
-  may-settle (settled.Vote g) h =
-      kind-of g.kind ((in-kinds-ends (front r c.before)).1 x.unit g (subst (λ (ws : UnitNo → List Write). (v : List Value) × (state_written g (ws x.unit) ≡ Some v)) (decided-parts (ends (front r c.before)) c.event h.0).0 h.4.wrote))
-  may-settle (settled.Dependency on) (inl h) = on-source x.unit on h.gone.0 h.gone.1 h.gone.2
-  may-settle (settled.Dependency on) (inr h) =
-      let m = subst (λ (ds : UnitNo → List UnitNo). Member on (ds x.unit)) (decided-parts (ends (front r c.before)) c.event h.0).1 h.4.source in
-      let t = (depends-ends plays (front r c.before) before-legal).1 x.unit on m in
-      on-source x.unit on t.0 t.1 t.2
-  may-settle settled.Disk h = tt
-  may-settle settled.InDoubt h = tt
-  may-settle (settled.Bad why) h = tt
+    by_cause : HasCause w c.event (step w c.event) x.unit (settled.Dependency on) → on.0 < (ends r).units.next
+    by_cause (inl h) = of-read x.unit h.gone.0 h.gone.1 h.gone.2
+    by_cause (inr h) =
+        let there = subst (λ (ds : UnitNo → List UnitNo). Member on (ds x.unit)) (decided-deps w c.event h.0) h.4.source in
+        let t = (depends-ends plays (front r c.before) before-legal).1 x.unit on there in
+        of-read x.unit t.0 t.1 t.2
 
 pub proper-ends : (plays : Effect → Bool) (r : Run) → IsLegal plays r → NeverAborts plays → (x : Entry) → Member x (ends r).manager.settled → IsProperEntry r.base (ends r) x
 proper-ends plays r l never x m =
     let e = (once-ends r l.above).entry x m in
-    let c = caused-ends plays r l x m in
     record {
       line = (e.0, e.1);
-      unit = has-unit plays r l never x e.0 c x.what c.line;
-      what = may-settle plays r l never x e.0 c x.what c.cause;
+      unit = has-unit-ends r l.above x m;
+      what = may-settle (ends r) x.unit (none-ends plays never r l.effects) x.what (says-ends r l.above x m) (λ on q. source-ends plays r l x m on q);
     }

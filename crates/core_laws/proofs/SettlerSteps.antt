@@ -5,7 +5,6 @@ use Rattle.std.proofs.lemmas.Option.{slice_get_cases}
 use Rattle.std.proofs.lemmas.Bool.{ltb-true, and_parts, and_from, cases_Bool, cond_both, cond-true, cond-false, eq-eqb}
 use Rattle.cell_model.proofs.Units.{any-member, same_grain-is, filter-member}
 use Rattle.core_model.specs.CoreState.{UnitNo, GrainId, same_grain, Member, Value, Version, Outcome, Write, Batch, Decision, CoreState}
-use Rattle.core_model.specs.declared.effects.Effect.{Effect}
 use Rattle.core_model.specs.Tests.{any, all, is_final, is_good, outcome_of, waiting, is_planned, is_voted, is_vote_on, members, has_bad_source, state_written, is_wanted}
 use Rattle.core_model.specs.Chains.{WroteGrain}
 use Rattle.core_model.specs.Changes.{swept, swept_by}
@@ -20,17 +19,15 @@ use Rattle.core_model.specs.Answers.{known}
 use Rattle.core_model.specs.declared.questions.CoreAnswer.TheVariants as answer
 use Rattle.core_model.specs.declared.questions.KnownOutcome.TheVariants.{Decided}
 use Rattle.core_model.specs.SerialOrder.{chosen, batch_begin}
-use Rattle.core_model.specs.LegalRuns.{Run, IsLegal, begins, ends}
+use Rattle.core_model.specs.LegalRuns.{Run, begins, ends}
 use Rattle.core_model.specs.WantedGrains.{next_wanted}
 use Rattle.core_laws.proofs.Failures.{named-written, first_grain-some}
 use Rattle.core_laws.proofs.Plans.{flat-member, member-flat}
 use Rattle.core_laws.proofs.EventCases.{Change, bad, begin, lock, raise, refuse, finish, end_plain, end_snapshot, release, take_batch, vote, decide_some, decide_none, seal_batch, spoil_batch, doubt_batch, learn, emit, halt_run, want, load, decode}
 use Rattle.core_laws.proofs.Orders.{in_drop}
-use Rattle.core_laws.proofs.KeptInvariant.{inv-judged}
-use Rattle.core_laws.proofs.Ends.{kept-ends}
+use Rattle.core_laws.proofs.LoadlessKept.{loadless-ends, judged-at}
 use Rattle.core_laws.proofs.CommitOrder.{no_doubt}
 use Rattle.std.proofs.lemmas.List.Elements.{filter-append}
-use Rattle.core_laws.proofs.Invariant.{loadless-of}
 
 -- after a doubt no batch is open
 abbrev pub Ended : CoreState → Type 0
@@ -313,15 +310,14 @@ filter-none p [] h = refl
 filter-none p (u ∷ us) h = cond-false (p u) (u ∷ filter p us) (filter p us) (h u (inl refl)) ∙ filter-none p us (λ x m. h x (inr m))
 
 -- the effects that are shown for the seal are those to commit
-pub shows-chosen : (plays : Effect → Bool) (r : Run) → IsLegal plays r → (b : Batch) (ds : List Decision) → (ends r).manager.batch ≡ Some b → b.decisions ≡ Some ds → to_commit (ends r) (Some b) ≡ chosen (ends r)
-shows-chosen plays r l b ds q d =
+pub shows-chosen : (r : Run) → 0 < r.base → (b : Batch) (ds : List Decision) → (ends r).manager.batch ≡ Some b → b.decisions ≡ Some ds → to_commit (ends r) (Some b) ≡ chosen (ends r)
+shows-chosen r above b ds q d =
     let w = ends r in
-    let k = kept-ends plays r l in
-    let i = inv-judged r.opening w b ds k q d in
+    let i = judged-at w b ds (loadless-ends r above) q d in
     let none : w.manager.doubt ≡ None = no_doubt_yet w (ended-ends r) Emitted b q in
     let good : UnitNo → Bool = λ u. is_good (w.manager.verdict u) in
     let rest : filter good (drop b.size (waiting w)) ≡ [] = filter-none good (drop b.size (waiting w)) (λ u m.
-    (let t = in_drop _ w (loadless-of r.opening _ w i) (w.manager.closed + b.size) u (subst (Member u) (drop-sum w.manager.closed b.size w.manager.order) m) in
+    (let t = in_drop _ w i (w.manager.closed + b.size) u (subst (Member u) (drop-sum w.manager.closed b.size w.manager.order) m) in
     ap is_good (i.late u t.0 t.1))) in
     let whole : filter good (waiting w) ≡ filter good (members w b) =
     ap (filter good) (sym (take-append-drop b.size (waiting w))) ∙ filter-append good (members w b) (drop b.size (waiting w)) ∙ ap (λ t. filter good (members w b) ++ t) rest ∙ append-nil (filter good (members w b)) in

@@ -2,11 +2,12 @@ ghost use Rattle.std.specs.Prelude.{◌≡◌, ◌<◌, ◌++◌, Bool, true, fa
 ghost use Rattle.base_types.specs.declared.calls.UnitNo.{UnitNo};
 ghost use Rattle.base_types.specs.declared.calls.Outcome.{Outcome};
 ghost use Rattle.base_types.specs.declared.entries.Entry.{Entry};
+ghost use Rattle.base_types.specs.declared.entries.Settled.TheVariants.{Dependency};
 ghost use Rattle.core_model.specs.declared.events.CoreEvent.{CoreEvent};
 ghost use Rattle.core_model.specs.declared.effects.Effect.{Effect};
 ghost use Rattle.core_model.specs.LegalRuns.{Run, IsLegal, begins, ends};
 ghost use Rattle.core_model.specs.SerialOrder.{AllLoadsTrue, AllPlay, IsSerialOrder, committed, chosen};
-ghost use Rattle.core_model.specs.Consistency.{IsConsistent, PlainRunsArePlays};
+ghost use Rattle.core_model.specs.Consistency.{IsConsistent, EffectsArePlays, PlainRunsArePlays};
 ghost use Rattle.core_model.specs.CoreState.{Member};
 ghost use Rattle.core_model.specs.Causes.{IsCaused, GoneIsRemoved};
 ghost use Rattle.core_model.specs.DeadUnits.{IsDead, DeadEitherWay};
@@ -22,7 +23,7 @@ ghost use Rattle.core_model.specs.Events.{applies, batch_size, reply_to, step};
 ghost use Rattle.core_model.specs.Memory.{MemoryIsBounded};
 ghost use Rattle.core_model.specs.Batches.{BatchesFollow};
 ghost use Rattle.core_model.specs.Lines.{EntriesAreOnce};
-ghost use Rattle.core_model.specs.ProperEntries.{IsProperEntry, NeverAborts};
+ghost use Rattle.core_model.specs.ProperEntries.{HasUnitOf, IsProperEntry, MaySettle, NeverAborts};
 ghost use Rattle.core_model.specs.ToldOutcomes.{LinesAreTold, ToldIsFinal};
 ghost use Rattle.core_model.specs.LoadlessLaws.{HoldsWithoutLoads};
 ghost use Rattle.core_model.specs.Holders.{HoldersHaveRead, RunnersKeepLocks};
@@ -35,10 +36,12 @@ pub fn committed_are_serial()
     ensures chosen { (plays : Effect → Bool) (r : Run) → IsLegal plays r → IsSerialOrder plays r.opening (committed (ends r) ++ chosen (ends r)) }
 {}
 
-/// The core invariant: nine facts hold after every legal run. The effects of plain runs are plays too.
+/// The core invariant: nine facts hold after every legal run. The effects of finished units and of plain runs are plays whatever was
+/// loaded.
 pub fn core_is_consistent()
     ensures facts { (plays : Effect → Bool) (r : Run) → IsLegal plays r → IsConsistent plays r.opening (ends r) }
-    ensures plain { (plays : Effect → Bool) (r : Run) → IsLegal plays r → PlainRunsArePlays plays (ends r) }
+    ensures effects { (plays : Effect → Bool) (r : Run) → AllPlay plays r.events → EffectsArePlays plays (ends r) }
+    ensures plain { (plays : Effect → Bool) (r : Run) → AllPlay plays r.events → PlainRunsArePlays plays (ends r) }
 {}
 
 /// Whatever was loaded, a batch is the longest prefix, of at most 64, of the finished undecided units that hold no lock. So no lock is held
@@ -115,7 +118,7 @@ pub fn settler_steps_apply()
     ensures applies { (r : Run) (e : CoreEvent) → StepApplies (ends r) e }
     ensures shown { (r : Run) → step_of (work_in (ends r) (settler_step (ends r))) ≡ settler_step (ends r) }
     ensures versions { (w : CoreState) (b : Batch) (g : GrainId) → ShowsVersions w b g }
-    ensures effects { (plays : Effect → Bool) (r : Run) → IsLegal plays r → (b : Batch) (ds : List Decision) → (ends r).manager.batch ≡ Some b
+    ensures effects { (r : Run) → 0 < r.base → (b : Batch) (ds : List Decision) → (ends r).manager.batch ≡ Some b
         → b.decisions ≡ Some ds → to_commit (ends r) (Some b) ≡ chosen (ends r) }
     ensures is_decided { (w : CoreState) (u : UnitNo) → TellsDecided w u }
 {}
@@ -163,16 +166,20 @@ pub fn runs_are_computed()
 {}
 
 /// Settled entries are proper, where no play ends in an abort: the line is one that was taken, the unit is one of the run's,
-/// or nobody's of a bad line, a result is no abort, and what a cause names is in range.
+/// or nobody's of a bad line, a result is no abort, and what a cause names is in range. All of it but for what a dependency names
+/// holds whatever was loaded.
 pub fn entries_are_proper()
-    ensures { (plays : Effect → Bool) (r : Run) → IsLegal plays r → NeverAborts plays → (x : Entry) → Member x (ends r).manager.settled
+    ensures unit { (r : Run) → 0 < r.base → (x : Entry) → Member x (ends r).manager.settled → HasUnitOf r.base (ends r) x.unit x.what }
+    ensures words { (plays : Effect → Bool) (r : Run) → 0 < r.base → AllPlay plays r.events → NeverAborts plays → (x : Entry)
+        → Member x (ends r).manager.settled → ((on : UnitNo) → x.what ≡ Dependency on → ⊥) → MaySettle (ends r) x.unit x.what }
+    ensures whole { (plays : Effect → Bool) (r : Run) → IsLegal plays r → NeverAborts plays → (x : Entry) → Member x (ends r).manager.settled
         → IsProperEntry r.base (ends r) x }
 {}
 
-/// An outcome that was told is the unit's for good, and the unit's children are decided, as those of each unit are that came
-/// to its end. Unless a batch is in doubt, a line's unit is decided exactly where it has its entry.
+/// Whatever was loaded, an outcome that was told is the unit's for good, and the unit's children are decided, as those of each unit are
+/// that came to its end. Unless a batch is in doubt, a line's unit is decided exactly where it has its entry.
 pub fn told_outcomes_are_final()
-    ensures told { (plays : Effect → Bool) (r : Run) → IsLegal plays r → ToldIsFinal (ends r) }
+    ensures told { (r : Run) → 0 < r.base → ToldIsFinal (ends r) }
     ensures lines { (r : Run) → 0 < r.base → (ends r).manager.doubt ≡ None → LinesAreTold (ends r) }
 {}
 

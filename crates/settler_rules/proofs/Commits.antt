@@ -34,6 +34,7 @@ use Rattle.settler_rules.specs.CommittedUnits.{KeepsDoubt}
 use Rattle.settler_rules.proofs.StandingVotes.{ends-more}
 use Rattle.core_laws.proofs.LoadlessKept.{LoadlessKept, loadless-ends, open-at, judged-at}
 use Rattle.core_laws.proofs.LoadlessRuns.{split-ends}
+use Rattle.core_laws.proofs.SettlerSteps.{shows-chosen}
 
 -- ---- verdicts
 
@@ -264,22 +265,10 @@ module _ (r : Run) (above : 0 < r.base) where
   by-rule : (e : CoreEvent) → applies (ends r) e ≡ true → committed (step (ends r) e) ≡ (if is_sealed e then committed (ends r) ++ chosen (ends r) else committed (ends r))
   by-rule = committed-step (ends r) (loadless-ends r above) (split-ends r above) (holds-ends r above).judged
 
-  -- the effects that are shown for the seal are those to commit
-  shown-is : (ends r).manager.doubt ≡ None → (b : Batch) (ds : List Decision) → (ends r).manager.batch ≡ Some b → b.decisions ≡ Some ds → to_commit (ends r) (Some b) ≡ chosen (ends r)
-  shown-is none b ds q d =
-      let w = ends r in
-      let good : UnitNo → Bool = λ u. is_good (w.manager.verdict u) in
-      let rest : filter good (drop b.size (waiting w)) ≡ [] = filter-none good (drop b.size (waiting w)) (λ u m.
-      (let t = in_drop _ w (judged-at w b ds (loadless-ends r above) q d) (w.manager.closed + b.size) u (subst (Member u) (drop-drop-sum w.manager.closed b.size w.manager.order) m) in
-      ap is_good ((judged-at w b ds (loadless-ends r above) q d).late u t.0 t.1))) in
-      let whole : filter good (waiting w) ≡ filter good (members w b) =
-      ap (filter good) (sym (take-append-drop b.size (waiting w))) ∙ filter-append good (members w b) (drop b.size (waiting w)) ∙ ap (λ t. filter good (members w b) ++ t) rest ∙ append-nil (filter good (members w b)) in
-      ap (map (effect_of w)) (sym whole) ∙ ap (λ o. map (effect_of w) (filter good (drop (batch_begin o w.manager.closed) w.manager.order))) (sym none)
-
   pub sealed-commit : (n : ℕ) → applies (ends r) (Sealed n) ≡ true → committed (ends (extended r (Sealed n ∷ []))) ≡ committed (ends r) ++ to_commit (ends r) (ends r).manager.batch
   sealed-commit n a =
       let b = judged-batch n (ends r).manager.batch (and_parts (is_allowed (ends r) (Sealed n)) (can (ends r) (Sealed n)) a).1 in
-      let shown : to_commit (ends r) (ends r).manager.batch ≡ chosen (ends r) = ap (to_commit (ends r)) b.1 ∙ shown-is (no_doubt (ends r) (Sealed n) a refl) b.0 b.2.0 b.1 b.2.1 in
+      let shown : to_commit (ends r) (ends r).manager.batch ≡ chosen (ends r) = ap (to_commit (ends r)) b.1 ∙ shows-chosen r above b.0 b.2.0 b.1 b.2.1 in
       ap committed (ends-more r (Sealed n ∷ [])) ∙ by-rule (Sealed n) a ∙ ap (λ es. committed (ends r) ++ es) (sym shown)
 
   pub others-leave : (e : CoreEvent) → is_sealed e ≡ false → committed (ends (extended r (e ∷ []))) ≡ committed (ends r)
@@ -316,7 +305,7 @@ doubt-chosen r above n a =
     ∙ chosen-swept (does w (Doubt n))
     ∙ ap chosen does-is
     ∙ chosen-doubted w b.0 b.2.0 (no_doubt w (Doubt n) a refl)
-    ∙ sym (ap (to_commit w) b.1 ∙ shown-is r above (no_doubt w (Doubt n) a refl) b.0 b.2.0 b.1 b.2.1)
+    ∙ sym (ap (to_commit w) b.1 ∙ shows-chosen r above b.0 b.2.0 b.1 b.2.1)
 
 same : (w : CoreState) → KeepsDoubt w w
 same w = record { doubt = refl; committed = refl; chosen = refl; settled = refl }

@@ -20,16 +20,15 @@ use Rattle.core_model.specs.declared.effects.Read.{Read}
 use Rattle.core_model.specs.declared.phases.Phase.TheVariants.{Unborn, Finished}
 use Rattle.core_model.specs.Answers.{effect_of}
 use Rattle.core_model.specs.Chains.{WroteGrain}
-use Rattle.core_model.specs.SerialOrder.{AllLoadsTrue}
 use Rattle.core_model.specs.LegalRuns.{Run, begins, ends}
 use Rattle.core_model.specs.ProperEntries.{NeverAborts}
 use Rattle.core_model.specs.Settler.{to_commit, versions_to_write}
 use Rattle.core_model.specs.Tests.{is_good, members, state_written}
-use Rattle.core_laws.proofs.Consistency.{consistent-ends}
+use Rattle.core_laws.proofs.UnitPlays.{valid-ends}
 use Rattle.core_laws.proofs.Numbers.{grown-run, in-kinds-ends, numbered-ends}
 use Rattle.core_laws.proofs.LoadlessLaws.{holds-ends}
 use Rattle.promise_laws.specs.Legality.{is_play, applied_run}
-use Rattle.promise_laws.proofs.LegalRuns.{is_play-true, ends_alike, legal}
+use Rattle.promise_laws.proofs.LegalRuns.{is_play-true, ends_alike, rule-plays}
 use Rattle.promise_laws.proofs.UnitOrigins.{Led}
 use Rattle.promise_laws.proofs.ToldRuns.{known-ends}
 use Rattle.field_codec.specs.Units.{may_be_unit, HasParent}
@@ -118,23 +117,23 @@ written-is x (y ∷ ys) w (inr m) =
 
 -- ---- a run that keeps the unit rule
 
-module _ (s : Basis) (r : Run) (above : 0 < r.base) (loads : AllLoadsTrue r.opening (begins r) r.events) (keeps : KeepsUnitRule s r) where
+-- the kinds of grains are those of its beginning
+pub kinds-are : (r : Run) → (ends r).units.kinds ≡ r.kinds
+kinds-are r = (grown-run (begins r) r.events).1
+
+module _ (s : Basis) (r : Run) (above : 0 < r.base) (keeps : KeepsUnitRule s r) where
   -- what a finished unit did is a play
   play-of : (u : UnitNo) → (ends r).units.phase u ≡ Finished → IsPlayOf s.types (effect_of (ends r) u)
   play-of u f =
       is_play-true s.types (effect_of (ends r) u)
       (subst (λ (w : CoreState). (v : UnitNo) → w.units.phase v ≡ Finished → is_play s.types (effect_of w v) ≡ true) (ends_alike r)
-      (consistent-ends (is_play s.types) (applied_run r) (legal s r above loads keeps)).effects_are_plays u f)
-
-  -- the kinds of grains are the program's
-  pub kinds-are : (ends r).units.kinds ≡ r.kinds
-  kinds-are = (grown-run (begins r) r.events).1
+      (valid-ends (is_play s.types) (applied_run r) (rule-plays s r keeps)) u f)
 
   module _ (kinds : r.kinds ≡ length s.types) where
     of-type : (u : UnitNo) (g : GrainId) → WroteGrain (ends r).manager.writes u g → g.kind < length s.types
     of-type u g wrote =
         let low = (in-kinds-ends r).1 u g wrote in
-        let same : (ends r).units.kinds ≡ length s.types = kinds-are ∙ kinds in
+        let same : (ends r).units.kinds ≡ length s.types = kinds-are r ∙ kinds in
         omega (arith, low, same)
 
     -- a version that a unit left has its type's fields

@@ -16,15 +16,13 @@ use Rattle.base_types.specs.declared.entries.Settled.TheVariants as settled
 use Rattle.core_model.specs.CoreState.{Member, CoreState}
 use Rattle.core_model.specs.declared.questions.SettlerWork.{SettlerWork}
 use Rattle.core_model.specs.declared.questions.SettlerWork.TheVariants as work
-use Rattle.core_model.specs.SerialOrder.{AllLoadsTrue}
-use Rattle.core_model.specs.LegalRuns.{Run, begins, ends}
-use Rattle.core_model.specs.ProperEntries.{HasUnitOf, MaySettle, IsProperEntry}
+use Rattle.core_model.specs.LegalRuns.{Run, ends}
+use Rattle.core_model.specs.ProperEntries.{HasUnitOf, MaySettle}
 use Rattle.core_model.specs.Settler.{Step, Votes, Decides, Seals, Learns, Writes, Loads, Takes, Rests, settler_step, work_in, write_work}
-use Rattle.core_laws.proofs.Proper.{proper-ends}
+use Rattle.core_laws.proofs.LineEntries.{once-ends}
+use Rattle.core_laws.proofs.Proper.{has-unit-ends, words-ends}
 use Rattle.promise_laws.specs.Legality.{is_play, applied_run}
-use Rattle.promise_laws.proofs.LegalRuns.{ends_alike, legal}
-use Rattle.promise_laws.proofs.Tellings.{Tells, telling-ends}
-use Rattle.promise_laws.proofs.UnitsByRule.{all_said}
+use Rattle.promise_laws.proofs.LegalRuns.{ends_alike, rule-plays}
 use Rattle.field_codec.specs.declared.formats.Format.TheVariants.{One}
 use Rattle.field_codec.specs.Spelling.{ResultFits}
 use Rattle.promise_spec.specs.Outputs.{HasUnit, MaySay, IsProper}
@@ -60,37 +58,31 @@ member-of-slice {A} xs k x is = subst (λ (y : A). Member y xs) (get_or_from_sli
     go (y ∷ ys) zero low = inl refl
     go (y ∷ ys) (suc i) low = inr (go ys i (omega (arith, low)))
 
-module _ (s : Basis) (r : Run) (above : 0 < r.base) (loads : AllLoadsTrue r.opening (begins r) r.events) (keeps : KeepsUnitRule s r) (kinds : r.kinds ≡ length s.types) where
-  by-core : (x : Entry) → Member x (ends r).manager.settled → IsProperEntry r.base (ends r) x
-  by-core =
-      subst (λ (w : CoreState). (x : Entry) → Member x w.manager.settled → IsProperEntry r.base w x) (ends_alike r)
-      (λ x m. proper-ends (is_play s.types) (applied_run r) (legal s r above loads keeps) (never-aborts s.types) x m)
-
-  told : (x : Entry) → Member x (ends r).manager.settled → Tells s.types s.lines (ends r) x x.what
-  told =
-      subst (λ (w : CoreState). (x : Entry) → Member x w.manager.settled → Tells s.types s.lines w x x.what) (ends_alike r)
-      (λ x m. telling-ends (is_play s.types) s.types s.lines (applied_run r) (legal s r above loads keeps) (all_said s r keeps) x m)
+module _ (s : Basis) (r : Run) (above : 0 < r.base) (keeps : KeepsUnitRule s r) (kinds : r.kinds ≡ length s.types) where
+  -- what an entry says that names no dependency
+  words : (x : Entry) → Member x (ends r).manager.settled → ((on : UnitNo) → x.what ≡ settled.Dependency on → ⊥) → MaySettle (ends r) x.unit x.what
+  words =
+      subst (λ (w : CoreState). (x : Entry) → Member x w.manager.settled → ((on : UnitNo) → x.what ≡ settled.Dependency on → ⊥) → MaySettle w x.unit x.what) (ends_alike r)
+      (λ x m other. words-ends (is_play s.types) (applied_run r) above (rule-plays s r keeps) (never-aborts s.types) x m other)
 
   in-shape : (k : ℕ) → k < (ends r).units.kinds → k < length (shape_with s.types).types
-  in-shape k low = (let same = kinds-are s r above loads keeps in let count = length-map s.types type_shape in omega (arith, low, same, kinds, count))
+  in-shape k low = (let same = kinds-are r in let count = length-map s.types type_shape in omega (arith, low, same, kinds, count))
 
-  may-say : (x : Entry) (what : Settled) → IsSaidInRange what → MaySettle (ends r) x.unit what → Tells s.types s.lines (ends r) x what → MaySay (shape_with s.types) what
-  may-say x (settled.Done result) range may t = result-fits result range may
-  may-say x (settled.Lock by g) range may t = (range.0, (in-shape g.kind may.1, range.1))
-  may-say x (settled.Vote g) range may t = (in-shape g.kind may, range)
-  may-say x (settled.Dependency on) range may t = range
-  may-say x settled.Disk range may t = tt
-  may-say x settled.InDoubt range may t = tt
-  may-say x (settled.Bad why) range may t = tt
+  may-say : (u : UnitNo) (what : Settled) → IsSaidInRange what → (((on : UnitNo) → what ≡ settled.Dependency on → ⊥) → MaySettle (ends r) u what) → MaySay (shape_with s.types) what
+  may-say u (settled.Done result) range may = result-fits result range (may (λ on q. cc))
+  may-say u (settled.Lock by g) range may = (range.0, (in-shape g.kind (may (λ on q. cc)).1, range.1))
+  may-say u (settled.Vote g) range may = (in-shape g.kind (may (λ on q. cc)), range)
+  may-say u (settled.Dependency on) range may = range
+  may-say u settled.Disk range may = tt
+  may-say u settled.InDoubt range may = tt
+  may-say u (settled.Bad why) range may = tt
 
   pub entry-proper : (x : Entry) → Member x (ends r).manager.settled → IsEntryInRange x → IsProper (shape_with s.types) x
-  entry-proper x m range =
-      let p = by-core x m in
-      record {
-        line = (p.line.0, range.line);
-        unit = has-unit r.base (ends r) x.unit x.what above range.unit p.unit;
-        what = may-say x x.what range.said p.what (told x m);
-      }
+  entry-proper x m range = record {
+    line = (((once-ends r above).entry x m).0, range.line);
+    unit = has-unit r.base (ends r) x.unit x.what above range.unit (has-unit-ends r above x m);
+    what = may-say x.unit x.what range.said (words x m);
+  }
 
 -- ---- the entry that is shown
 

@@ -3,15 +3,14 @@ ghost use Rattle.base_types.specs.declared.entries.Entry.{Entry};
 ghost use Rattle.core_model.specs.CoreState.{UnitNo, Member};
 ghost use Rattle.core_model.specs.Events.{applies};
 ghost use Rattle.core_model.specs.Laws.{extended};
-ghost use Rattle.core_model.specs.LegalRuns.{Run, begins, ends};
-ghost use Rattle.core_model.specs.SerialOrder.{committed, chosen, AllLoadsTrue};
+ghost use Rattle.core_model.specs.LegalRuns.{Run, ends};
+ghost use Rattle.core_model.specs.SerialOrder.{committed, chosen};
 ghost use Rattle.core_model.specs.Settler.{to_commit};
 ghost use Rattle.core_model.specs.declared.events.CoreEvent.{CoreEvent};
 ghost use Rattle.core_model.specs.declared.events.CoreEvent.TheVariants.{Sealed, Doubt};
 ghost use Rattle.core_model.specs.declared.phases.Verdict.TheVariants.{Committed};
 ghost use Rattle.promise_spec.specs.Causes.{is_sealed};
 ghost use Rattle.promise_spec.specs.Crashes.{HasOutcome};
-ghost use Rattle.promise_spec.specs.UnitRule.{Basis, KeepsUnitRule};
 ghost use Rattle.settler_rules.specs.CommittedUnits.{IsToldOf, KeepsDoubt};
 
 /// Where a batch is sealed, its units to commit, as they are shown, come behind the committed ones; no other event changes what
@@ -33,10 +32,9 @@ pub fn doubts_keep_the_chosen()
 {}
 
 /// Once an entry with an outcome is settled, its unit and that unit's children are committed by then, or never: no such unit is
-/// committed later. So a record that the entry acknowledges is that of a batch that is sealed. Each load has to be true.
+/// committed later. So a record that the entry acknowledges is that of a batch that is sealed.
 pub fn told_units_are_committed_by_then()
-    ensures { (s : Basis) (r : Run) (more : List CoreEvent) → 0 < r.base
-        → AllLoadsTrue r.opening (begins r) (extended r more).events → KeepsUnitRule s (extended r more)
+    ensures { (r : Run) (more : List CoreEvent) → 0 < r.base
         → (x : Entry) → Member x (ends r).manager.settled → HasOutcome x.what → (u : UnitNo) → IsToldOf (ends (extended r more)) x u
         → (ends (extended r more)).manager.verdict u ≡ Committed → (ends r).manager.verdict u ≡ Committed }
 {}

@@ -6,6 +6,6 @@ returns c = record {
   applies = λ r e. step-applies r e;
   shown = λ r. step-shown r;
   versions = λ w b g. shows-versions w b g;
-  effects = λ plays r l b ds q d. shows-chosen plays r l b ds q d;
+  effects = λ r above b ds q d. shows-chosen r above b ds q d;
   is_decided = λ w u. tells-decided w u;
 }

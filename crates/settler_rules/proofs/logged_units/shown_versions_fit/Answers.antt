@@ -2,4 +2,4 @@ use Rattle.settler_rules.proofs.LoggedUnits.{shown-fit}
 use Rattle.settler_rules.proofs.logged_units.shown_versions_fit.Goals as goal
 
 pub returns : goal.returns
-returns c = λ s r above loads keeps kinds g x m. shown-fit s r above loads keeps kinds g x m
+returns c = λ s r above keeps kinds g x m. shown-fit s r above keeps kinds g x m
