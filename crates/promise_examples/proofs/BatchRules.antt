@@ -21,76 +21,27 @@ use Rattle.promise_examples.specs.Examples.{account_log, accounts, account_1, un
 use Rattle.promise_examples.specs.WrittenBatch.{batch_events, both_commits, both_entries}
 use Rattle.promise_examples.proofs.FirstFamily.{none_of, none_counted}
 use Rattle.promise_examples.proofs.WholeBatches.{not_between}
-use Rattle.promise_examples.proofs.DepositRules.{Each, each_from_0, DueAt, TurnAt, is_transaction, lowest, lowest_later}
+use Rattle.promise_examples.proofs.DepositRules.{Each, each_from_0, DueAt, TurnAt, LoadsTrue, is_transaction, lowest, lowest_later}
 
 abbrev pub core : Run
 core = account_run batch_events
 
+-- the load is true
+pub batch_loads : LoadsTrue core
+unfolding put put_grain
+batch_loads = (tt, (tt, (tt, (λ applied. inl (refl, refl, λ c v committed wrote. absurd (cc committed)), (tt, (tt, (tt, (tt, (tt, (tt, (tt, (tt, (tt, (tt, (tt, (tt, (tt, (tt, tt))))))))))))))))))
+
 module _ (lines : List (List ℕ)) (asks : AskDeposits lines) where
   batch_due : Each (DueAt lines core) 0 batch_events
   unfolding put put_grain unit next play_over
-  batch_due = (
-    (asks.first, is_transaction 5),
-    (
-      (asks.second, is_transaction 4),
-      (
-        refl,
-        (
-          (refl, record { result = refl; asked = refl; reads = refl; writes = refl }),
-          (
-            (λ h holds. lowest (unit_no 1) h (same_grain h account_1) (record { unit = unit_no 1; mode = Alone } ∷ []) refl holds),
-            (
-              refl,
-              (
-                (refl, record { result = refl; asked = refl; reads = refl; writes = refl }),
-                (
-                  (λ h holds. lowest_later (unit_no 2) h (same_grain h account_1) (record { unit = unit_no 1; mode = Alone } ∷ []) [] (record { unit = unit_no 2; mode = Alone } ∷ []) refl holds),
-                  (tt, (tt, (tt, (tt, (tt, (tt, (tt, (tt, tt)))))))),
-                ),
-              ),
-            ),
-          ),
-        ),
-      ),
-    ),
-  )
+  batch_due = ((asks.first, is_transaction 5), ((asks.second, is_transaction 4), ((Alone, refl), (tt, (refl, ((refl, record { result = refl; asked = refl; reads = refl; writes = refl }), (λ h holds. lowest (unit_no 1) h (same_grain h account_1) (record { unit = unit_no 1; mode = Alone } ∷ []) refl holds, (refl, ((refl, record { result = refl; asked = refl; reads = refl; writes = refl }), (λ h holds. lowest_later (unit_no 2) h (same_grain h account_1) (record { unit = unit_no 1; mode = Alone } ∷ []) [] (record { unit = unit_no 2; mode = Alone } ∷ []) refl holds, (tt, (tt, (tt, (tt, (tt, (tt, (tt, (tt, tt))))))))))))))))))
 
   pub batch_unit_rule : KeepsUnitRule (account_basis lines) core
   batch_unit_rule at e is = each_from_0 (DueAt lines core) batch_events at e batch_due is.there
 
 batch_turns : Each (TurnAt 2 2 [] core) 0 batch_events
 unfolding put put_grain unit next play_over
-batch_turns = (
-  record { whose = refl; made = tt },
-  (
-    record { whose = refl; made = tt },
-    (
-      record { whose = refl; made = tt },
-      (
-        record { whose = refl; made = tt },
-        (
-          record { whose = refl; made = tt },
-          (
-            record { whose = refl; made = tt },
-            (
-              record { whose = refl; made = tt },
-              (
-                record { whose = refl; made = tt },
-                (
-                  record { whose = refl; made = refl },
-                  (
-                    record { whose = refl; made = (true, refl) },
-                    (record { whose = refl; made = refl }, (record { whose = refl; made = inl refl }, (record { whose = refl; made = refl }, (record { whose = refl; made = refl }, (record { whose = refl; made = refl }, (record { whose = refl; made = refl }, tt)))))),
-                  ),
-                ),
-              ),
-            ),
-          ),
-        ),
-      ),
-    ),
-  ),
-)
+batch_turns = (record { whose = refl; made = tt }, (record { whose = refl; made = tt }, (record { whose = refl; made = tt }, (record { whose = refl; made = (_, _, refl) }, (record { whose = refl; made = tt }, (record { whose = refl; made = tt }, (record { whose = refl; made = tt }, (record { whose = refl; made = tt }, (record { whose = refl; made = tt }, (record { whose = refl; made = tt }, (record { whose = refl; made = refl }, (record { whose = refl; made = (true, refl) }, (record { whose = refl; made = refl }, (record { whose = refl; made = inl refl }, (record { whose = refl; made = refl }, (record { whose = refl; made = refl }, (record { whose = refl; made = refl }, (record { whose = refl; made = refl }, tt))))))))))))))))))
 
 pub batch_turn_rule : KeepsTurnRule accounts true 2 2 [] core
 batch_turn_rule at e is = each_from_0 (TurnAt 2 2 [] core) batch_events at e batch_turns is.there
@@ -148,7 +99,7 @@ pub no_doubt : RunHasDoubt core → ⊥
 no_doubt doubt =
     let P : ℕ → CoreEvent → Type 0 = λ at e. (n : ℕ) → e ≡ event.Doubt n → ⊥ in
     let all : Each P 0 batch_events =
-    ((λ n e. absurd (cc e)), ((λ n e. absurd (cc e)), ((λ n e. absurd (cc e)), ((λ n e. absurd (cc e)), ((λ n e. absurd (cc e)), ((λ n e. absurd (cc e)), ((λ n e. absurd (cc e)), ((λ n e. absurd (cc e)), ((λ n e. absurd (cc e)), ((λ n e. absurd (cc e)), ((λ n e. absurd (cc e)), ((λ n e. absurd (cc e)), ((λ n e. absurd (cc e)), ((λ n e. absurd (cc e)), ((λ n e. absurd (cc e)), ((λ n e. absurd (cc e)), tt)))))))))))))))) in
+    ((λ n e. absurd (cc e)), ((λ n e. absurd (cc e)), ((λ n e. absurd (cc e)), ((λ n e. absurd (cc e)), ((λ n e. absurd (cc e)), ((λ n e. absurd (cc e)), ((λ n e. absurd (cc e)), ((λ n e. absurd (cc e)), ((λ n e. absurd (cc e)), ((λ n e. absurd (cc e)), ((λ n e. absurd (cc e)), ((λ n e. absurd (cc e)), ((λ n e. absurd (cc e)), ((λ n e. absurd (cc e)), ((λ n e. absurd (cc e)), ((λ n e. absurd (cc e)), ((λ n e. absurd (cc e)), ((λ n e. absurd (cc e)), tt)))))))))))))))))) in
     each_from_0 P batch_events doubt.at (event.Doubt doubt.number) all doubt.doubt.there doubt.number refl
 
 all_apply : applied_in core ≡ batch_events
@@ -158,7 +109,7 @@ all_apply = refl
 pub no_votes : (g : GrainId) → how_many (is_no g) core ≡ 0
 no_votes g =
     ap (λ (events : List CoreEvent). count_by (is_no g) events) all_apply
-    ∙ none_counted (is_no g) batch_events (refl, (refl, (refl, (refl, (refl, (refl, (refl, (refl, (refl, (none_of (same_grain account_1 g), (refl, (refl, (refl, (refl, (refl, (refl, tt))))))))))))))))
+    ∙ none_counted (is_no g) batch_events (refl, (refl, (refl, (refl, (refl, (refl, (refl, (refl, (refl, (refl, (refl, (none_of (same_grain account_1 g), (refl, (refl, (refl, (refl, (refl, (refl, tt))))))))))))))))))
 
 one_vote : how_many (is_vote_of account_1) core ≡ 1
 one_vote = ap (λ (events : List CoreEvent). count_by (is_vote_of account_1) events) all_apply

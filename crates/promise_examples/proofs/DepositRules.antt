@@ -10,7 +10,11 @@ use Rattle.core_model.specs.declared.events.CoreEvent.{CoreEvent}
 use Rattle.base_types.specs.declared.calls.UnitNo.{UnitNo}
 use Rattle.cell_model.specs.declared.locks.Hold.{Hold}
 use Rattle.cell_model.specs.Locks.{holds_lock}
+use Rattle.core_model.specs.declared.events.CoreEvent.TheVariants as event
+use Rattle.core_model.specs.declared.phases.Verdict.TheVariants as verdict
+use Rattle.core_model.specs.Events.{applies}
 use Rattle.core_model.specs.LegalRuns.{Run, begins, ends}
+use Rattle.core_model.specs.SerialOrder.{AllLoadsTrue}
 use Rattle.core_model.specs.Tests.{is_before}
 use Rattle.core_model.specs.CoreState.{same_grain, put, put_grain}
 use Rattle.script_meaning.specs.Play.{unit, next, play_over, IsTransaction}
@@ -19,7 +23,7 @@ use Rattle.promise_spec.specs.Cores.{state_before, applied_from}
 use Rattle.promise_spec.specs.UnitAnswers.{got_from}
 use Rattle.promise_spec.specs.UnitRule.{IsDue, KeepsUnitRule}
 use Rattle.promise_spec.specs.TurnRule.{Mover, OfLine, OfWant, OfLoad, OfUnit, OfSettler, IsTurnOf, KeepsTurnRule, lock_asked, movers, next_wish, passed, picks_used, units_of}
-use Rattle.promise_examples.specs.Examples.{accounts, account_1, deposit_call, unit_no, deposit_events, conflict_events, conflict_entries, account_run, account_basis, AskDeposits, vote_events, vote_entries, AskBoth}
+use Rattle.promise_examples.specs.Examples.{accounts, account_1, bringing, deposit_call, unit_no, deposit_events, conflict_events, conflict_entries, account_run, account_basis, AskDeposits, vote_events, vote_entries, AskBoth}
 use Rattle.promise_spec.proofs.Lists.{none_at, some_is}
 
 -- it holds of each event at its place
@@ -68,13 +72,65 @@ pub lowest_later : (u : UnitNo) (h : GrainId) (b : Bool) (holds then_holds last 
 lowest_later u h true holds then_holds last same held = not_before h same
 lowest_later u h false holds then_holds last same held = absurd (cc held)
 
+-- ---- what is brought into memory
+
+-- each load of a run is true
+abbrev pub LoadsTrue : Run → Type 0
+LoadsTrue r = AllLoadsTrue r.opening (begins r) r.events
+
+pub one_loads : LoadsTrue (account_run deposit_events)
+unfolding put put_grain
+one_loads = (tt, (tt, (λ applied. inl (refl, refl, λ c v committed wrote. absurd (cc committed)), (tt, (tt, (tt, (tt, (tt, (tt, (tt, (tt, (tt, tt))))))))))))
+
+pub two_loads : LoadsTrue (account_run conflict_events)
+unfolding put put_grain
+two_loads = (tt, (tt, (tt, (λ applied. inl (refl, refl, λ c v committed wrote. absurd (cc committed)), (tt, (tt, (tt, (tt, (tt, (tt, (tt, (tt, (tt, (tt, tt))))))))))))))
+
+pub vote_loads : LoadsTrue (account_run vote_events)
+unfolding put put_grain
+vote_loads = (tt, (tt, (tt, (λ applied. inl (refl, refl, λ c v committed wrote. absurd (cc committed)), (tt, (tt, (tt, (tt, (tt, (tt, (tt, (tt, (tt, (tt, (tt, (tt, tt))))))))))))))))
+
+-- over the log of the first deposit its balance is true, as nobody's version
+pub logged_load : LoadsTrue (bringing 0 5)
+unfolding put put_grain
+logged_load = (tt, (tt, ((λ applied. inl (refl, refl, λ c v committed wrote. absurd (cc committed))), tt)))
+
+-- another balance isn't
+pub other_load : LoadsTrue (bringing 0 0) → ⊥
+unfolding put put_grain
+other_load all = elim (all.1.1.0 refl) [
+  | inl first ↦ (let same : Int (pos 0) ∷ [] ≡ Int (pos 5) ∷ [] = first.1 in absurd (cc same))
+  | inr last ↦ (let open_yet : verdict.Open ≡ verdict.Committed = last.commits in absurd (cc open_yet))
+]
+
+-- nor is it that of the unit which made it, since that isn't one of this run
+pub own_load : LoadsTrue (bringing 1 5) → ⊥
+unfolding put put_grain
+own_load all = elim (all.1.1.0 refl) [
+  | inl first ↦ (let numbers : 1 ≡ 0 = ap (λ (u : UnitNo). u.0) first.0 in absurd (omega (arith, numbers)))
+  | inr last ↦ (let open_yet : verdict.Open ≡ verdict.Committed = last.commits in absurd (cc open_yet))
+]
+
+-- no lock of the grain can be had before it is there
+pub not_locked : applies (state_before (bringing 0 5) 2) (event.Grant (unit_no 2) account_1 Alone) ≡ false
+unfolding put put_grain
+not_locked = refl
+
+pub then_locked : applies (state_before (bringing 0 5) 3) (event.Grant (unit_no 2) account_1 Alone) ≡ true
+unfolding put put_grain
+then_locked = refl
+
+-- and it isn't brought before it is wanted
+pub not_brought : applies (state_before (bringing 0 5) 1) (event.Load account_1 (unit_no 0) (Int (pos 5) ∷ [])) ≡ false
+unfolding put put_grain
+not_brought = refl
+
+-- ---- the runs of deposits
+
 module _ (lines : List (List ℕ)) (asks : IsLineCall accounts lines 1 deposit_call) where
   one_due : Each (DueAt lines (account_run deposit_events)) 0 deposit_events
   unfolding put put_grain unit next play_over
-  one_due = (
-    (asks, is_transaction 5),
-    (refl, ((refl, record { result = refl; asked = refl; reads = refl; writes = refl }), ((λ h holds. lowest (unit_no 1) h (same_grain h account_1) (record { unit = unit_no 1; mode = Alone } ∷ []) refl holds), (tt, (tt, (tt, (tt, (tt, (tt, tt))))))))),
-  )
+  one_due = ((asks, is_transaction 5), ((Alone, refl), (tt, (refl, ((refl, record { result = refl; asked = refl; reads = refl; writes = refl }), (λ h holds. lowest (unit_no 1) h (same_grain h account_1) (record { unit = unit_no 1; mode = Alone } ∷ []) refl holds, (tt, (tt, (tt, (tt, (tt, (tt, tt))))))))))))
 
   pub one_unit_rule : KeepsUnitRule (account_basis lines) (account_run deposit_events)
   one_unit_rule at e is = each_from_0 (DueAt lines (account_run deposit_events)) deposit_events at e one_due is.there
@@ -82,27 +138,21 @@ module _ (lines : List (List ℕ)) (asks : IsLineCall accounts lines 1 deposit_c
 module _ (lines : List (List ℕ)) (asks : AskDeposits lines) where
   two_due : Each (DueAt lines (account_run conflict_events)) 0 conflict_events
   unfolding put put_grain unit next play_over
-  two_due = (
-    (asks.first, is_transaction 5),
-    (
-      (asks.second, is_transaction 4),
-      (refl, (refl, (tt, ((refl, record { result = refl; asked = refl; reads = refl; writes = refl }), ((λ h holds. lowest (unit_no 1) h (same_grain h account_1) (record { unit = unit_no 1; mode = Alone } ∷ []) refl holds), (tt, (tt, (tt, (tt, (tt, tt)))))))))),
-    ),
-  )
+  two_due = ((asks.first, is_transaction 5), ((asks.second, is_transaction 4), ((Alone, refl), (tt, (refl, (refl, (tt, ((refl, record { result = refl; asked = refl; reads = refl; writes = refl }), (λ h holds. lowest (unit_no 1) h (same_grain h account_1) (record { unit = unit_no 1; mode = Alone } ∷ []) refl holds, (tt, (tt, (tt, (tt, (tt, tt))))))))))))))
 
   pub two_unit_rule : KeepsUnitRule (account_basis lines) (account_run conflict_events)
   two_unit_rule at e is = each_from_0 (DueAt lines (account_run conflict_events)) conflict_events at e two_due is.there
 
 one_turns : Each (TurnAt 1 1 [] (account_run deposit_events)) 0 deposit_events
 unfolding put put_grain unit next play_over
-one_turns = (record { whose = refl; made = tt }, (record { whose = refl; made = tt }, (record { whose = refl; made = tt }, (record { whose = refl; made = tt }, (record { whose = refl; made = refl }, (record { whose = refl; made = (true, refl) }, (record { whose = refl; made = refl }, (record { whose = refl; made = inl refl }, (record { whose = refl; made = refl }, (record { whose = refl; made = refl }, tt))))))))))
+one_turns = (record { whose = refl; made = tt }, (record { whose = refl; made = tt }, (record { whose = refl; made = (_, _, refl) }, (record { whose = refl; made = tt }, (record { whose = refl; made = tt }, (record { whose = refl; made = tt }, (record { whose = refl; made = refl }, (record { whose = refl; made = (true, refl) }, (record { whose = refl; made = refl }, (record { whose = refl; made = inl refl }, (record { whose = refl; made = refl }, (record { whose = refl; made = refl }, tt))))))))))))
 
 pub one_turn_rule : KeepsTurnRule accounts true 1 1 [] (account_run deposit_events)
 one_turn_rule at e is = each_from_0 (TurnAt 1 1 [] (account_run deposit_events)) deposit_events at e one_turns is.there
 
 two_turns : Each (TurnAt 2 2 (0 ∷ 1 ∷ 1 ∷ []) (account_run conflict_events)) 0 conflict_events
 unfolding put put_grain unit next play_over
-two_turns = (record { whose = refl; made = tt }, (record { whose = refl; made = tt }, (record { whose = refl; made = tt }, (record { whose = refl; made = tt }, (record { whose = refl; made = refl }, (record { whose = refl; made = tt }, (record { whose = refl; made = tt }, (record { whose = refl; made = refl }, (record { whose = refl; made = (true, refl) }, (record { whose = refl; made = refl }, (record { whose = refl; made = inr (inr refl) }, (record { whose = refl; made = refl }, tt))))))))))))
+two_turns = (record { whose = refl; made = tt }, (record { whose = refl; made = tt }, (record { whose = refl; made = tt }, (record { whose = refl; made = (_, _, refl) }, (record { whose = refl; made = tt }, (record { whose = refl; made = tt }, (record { whose = refl; made = refl }, (record { whose = refl; made = tt }, (record { whose = refl; made = tt }, (record { whose = refl; made = refl }, (record { whose = refl; made = (true, refl) }, (record { whose = refl; made = refl }, (record { whose = refl; made = inr (inr refl) }, (record { whose = refl; made = refl }, tt))))))))))))))
 
 pub two_turn_rule : KeepsTurnRule accounts true 2 2 (0 ∷ 1 ∷ 1 ∷ []) (account_run conflict_events)
 two_turn_rule at e is = each_from_0 (TurnAt 2 2 (0 ∷ 1 ∷ 1 ∷ []) (account_run conflict_events)) conflict_events at e two_turns is.there
@@ -126,7 +176,7 @@ not_second same = let numbers : 1 ≡ 2 = ap number_of same in omega (arith, num
 -- with other picks the second unit's turn isn't there
 pub other_picks : KeepsTurnRule accounts true 2 2 [] (account_run conflict_events) → ⊥
 unfolding put put_grain unit next play_over
-other_picks keeps = not_second (keeps 3 _ (record { there = refl; applied = refl })).whose
+other_picks keeps = not_second (keeps 5 _ (record { there = refl; applied = refl })).whose
 
 -- one thread begins a line where it can
 pub narrow : KeepsTurnRule accounts true 2 1 (0 ∷ 1 ∷ 1 ∷ []) (account_run conflict_events) → ⊥
@@ -138,35 +188,14 @@ narrow keeps = let turn = (keeps 1 _ (record { there = refl; applied = refl })).
 module _ (lines : List (List ℕ)) (asks : AskBoth lines) where
   vote_due : Each (DueAt lines (account_run vote_events)) 0 vote_events
   unfolding put put_grain unit next play_over
-  vote_due = (
-    (asks.first, is_transaction 5),
-    (
-      (asks.second, (λ is. (_, refl, refl), λ is. refl)),
-      (
-        refl,
-        (
-          (refl, record { result = refl; asked = refl; reads = refl; writes = refl }),
-          (
-            (λ h holds. lowest (unit_no 1) h (same_grain h account_1) (record { unit = unit_no 1; mode = Alone } ∷ []) refl holds),
-            (
-              refl,
-              (
-                (refl, record { result = refl; asked = refl; reads = refl; writes = refl }),
-                ((λ h holds. lowest_later (unit_no 2) h (same_grain h account_1) (record { unit = unit_no 1; mode = Alone } ∷ []) [] (record { unit = unit_no 2; mode = Shared } ∷ []) refl holds), (tt, (tt, (tt, (tt, (tt, (tt, tt))))))),
-              ),
-            ),
-          ),
-        ),
-      ),
-    ),
-  )
+  vote_due = ((asks.first, is_transaction 5), ((asks.second, (λ is. (_, refl, refl), λ is. refl)), ((Alone, refl), (tt, (refl, ((refl, record { result = refl; asked = refl; reads = refl; writes = refl }), (λ h holds. lowest (unit_no 1) h (same_grain h account_1) (record { unit = unit_no 1; mode = Alone } ∷ []) refl holds, (refl, ((refl, record { result = refl; asked = refl; reads = refl; writes = refl }), (λ h holds. lowest_later (unit_no 2) h (same_grain h account_1) (record { unit = unit_no 1; mode = Alone } ∷ []) [] (record { unit = unit_no 2; mode = Shared } ∷ []) refl holds, (tt, (tt, (tt, (tt, (tt, (tt, tt))))))))))))))))
 
   pub vote_unit_rule : KeepsUnitRule (account_basis lines) (account_run vote_events)
   vote_unit_rule at e is = each_from_0 (DueAt lines (account_run vote_events)) vote_events at e vote_due is.there
 
 vote_turns : Each (TurnAt 2 2 [] (account_run vote_events)) 0 vote_events
 unfolding put put_grain unit next play_over
-vote_turns = (record { whose = refl; made = tt }, (record { whose = refl; made = tt }, (record { whose = refl; made = tt }, (record { whose = refl; made = tt }, (record { whose = refl; made = tt }, (record { whose = refl; made = tt }, (record { whose = refl; made = tt }, (record { whose = refl; made = tt }, (record { whose = refl; made = refl }, (record { whose = refl; made = (false, refl) }, (record { whose = refl; made = refl }, (record { whose = refl; made = refl }, (record { whose = refl; made = refl }, (record { whose = refl; made = refl }, tt))))))))))))))
+vote_turns = (record { whose = refl; made = tt }, (record { whose = refl; made = tt }, (record { whose = refl; made = tt }, (record { whose = refl; made = (_, _, refl) }, (record { whose = refl; made = tt }, (record { whose = refl; made = tt }, (record { whose = refl; made = tt }, (record { whose = refl; made = tt }, (record { whose = refl; made = tt }, (record { whose = refl; made = tt }, (record { whose = refl; made = refl }, (record { whose = refl; made = (false, refl) }, (record { whose = refl; made = refl }, (record { whose = refl; made = refl }, (record { whose = refl; made = refl }, (record { whose = refl; made = refl }, tt))))))))))))))))
 
 pub vote_turn_rule : KeepsTurnRule accounts true 2 2 [] (account_run vote_events)
 vote_turn_rule at e is = each_from_0 (TurnAt 2 2 [] (account_run vote_events)) vote_events at e vote_turns is.there

@@ -18,7 +18,6 @@ use Rattle.host_trait.specs.declared.channels.FileId.TheVariants.{Grain}
 use Rattle.host_trait.specs.World.{Moment, Image, IsImage, moment_of}
 use Rattle.silo_spec.specs.Silos.{manager, program_file, HasProgram}
 use Rattle.silo_spec.specs.OpenedDisks.{opening_syncs}
-use Rattle.core_laws.proofs.WithoutLimit.{loads-without-limit}
 use Rattle.promise_spec.specs.Programs.{shape_in}
 use Rattle.promise_spec.specs.Entries.{Log}
 use Rattle.promise_spec.specs.Logs.{IsLog, IsPrefix}
@@ -29,7 +28,7 @@ use Rattle.promise_spec.specs.TurnRule.{KeepsTurnRule}
 use Rattle.promise_spec.specs.Causes.{RoseBy, RunHasDoubt, AreCaused, is_no, is_vote_of, is_unsealed, syncs_of, most_syncs_of}
 use Rattle.promise_spec.specs.Family.{IsUnitOf, IsReached, by_line}
 use Rattle.promise_spec.specs.Endings as ending
-use Rattle.promise_spec.specs.Courses.{Observed, Course, moments, lines, core_run, core_end, seen_at_entry}
+use Rattle.promise_spec.specs.Courses.{Observed, Course, moments, lines, core_end, seen_at_entry}
 use Rattle.promise_spec.specs.Orders.{IsOrdered}
 use Rattle.promise_spec.specs.Replies.{AreReplies, IsTrueOf, HasNoRecord}
 use Rattle.promise_spec.specs.Crashes.{LeavesAlone, SurvivesCrashes, StaySound, HoldsReplies}
@@ -50,7 +49,7 @@ use Rattle.promise_examples.proofs.MomentParts.{at_each, exit_there, all_less}
 use Rattle.promise_examples.proofs.WholeBatches.{no_batch}
 use Rattle.promise_examples.proofs.ShownRuns.{shows}
 use Rattle.promise_examples.proofs.FirstFamily.{only, only_at, serial, numbered, none_of, none_counted, family_of}
-use Rattle.promise_examples.proofs.DepositRules.{Each, each_from_0, one_unit_rule, one_turn_rule}
+use Rattle.promise_examples.proofs.DepositRules.{Each, each_from_0, one_loads, one_unit_rule, one_turn_rule}
 
 abbrev settlement : Settlement
 settlement = record { commits = first_commit ∷ []; entries = first_entry ∷ [] }
@@ -73,7 +72,7 @@ no_doubt : RunHasDoubt core → ⊥
 no_doubt doubt =
     let P : ℕ → CoreEvent → Type 0 = λ at e. (n : ℕ) → e ≡ event.Doubt n → ⊥ in
     let all : Each P 0 deposit_events =
-    ((λ n e. absurd (cc e)), ((λ n e. absurd (cc e)), ((λ n e. absurd (cc e)), ((λ n e. absurd (cc e)), ((λ n e. absurd (cc e)), ((λ n e. absurd (cc e)), ((λ n e. absurd (cc e)), ((λ n e. absurd (cc e)), ((λ n e. absurd (cc e)), ((λ n e. absurd (cc e)), tt)))))))))) in
+    ((λ n e. absurd (cc e)), ((λ n e. absurd (cc e)), ((λ n e. absurd (cc e)), ((λ n e. absurd (cc e)), ((λ n e. absurd (cc e)), ((λ n e. absurd (cc e)), ((λ n e. absurd (cc e)), ((λ n e. absurd (cc e)), ((λ n e. absurd (cc e)), ((λ n e. absurd (cc e)), ((λ n e. absurd (cc e)), ((λ n e. absurd (cc e)), tt)))))))))))) in
     each_from_0 P deposit_events doubt.at (event.Doubt doubt.number) all doubt.doubt.there doubt.number refl
 
 not_aborted : (b : Bool) → seal (if b then verdict.Chosen else verdict.Open) ≡ verdict.Aborted → ⊥
@@ -83,8 +82,8 @@ not_aborted false is = absurd (cc is)
 legal : IsLegal (λ e. true) core
 legal = record {
   above = omega arith;
-  effects = (tt, (tt, (refl, (tt, (tt, (tt, (tt, (tt, (tt, (tt, tt))))))))));
-  loads = (tt, (tt, (tt, (tt, (tt, (tt, (tt, (tt, (tt, (tt, tt))))))))));
+  effects = (tt, (tt, (tt, (tt, (refl, (tt, (tt, (tt, (tt, (tt, (tt, (tt, tt))))))))))));
+  loads = one_loads;
 }
 
 caused : AreCaused core
@@ -98,7 +97,7 @@ all_apply = refl
 no_votes : (g : GrainId) → how_many (is_no g) core ≡ 0
 no_votes g =
     ap (λ (events : List CoreEvent). count_by (is_no g) events) all_apply
-    ∙ none_counted (is_no g) deposit_events (refl, (refl, (refl, (refl, (refl, (none_of (same_grain account_1 g), (refl, (refl, (refl, (refl, tt))))))))))
+    ∙ none_counted (is_no g) deposit_events (refl, (refl, (refl, (refl, (refl, (refl, (refl, (none_of (same_grain account_1 g), (refl, (refl, (refl, (refl, tt))))))))))))
 
 -- the one vote is on `account/1`
 one_vote : how_many (is_vote_of account_1) core ≡ 1
@@ -317,7 +316,7 @@ module _ (r : Observed) (opened : Moment) (sealing : List Moment) (run : IsDepos
     records = records;
     units = one_unit_rule (lines r) run.asks;
     turns = λ single. turns;
-    loads = loads-without-limit (core_run account_program course) refl;
+    loads = one_loads;
     caused = caused;
     faults = record {
       votes = λ g. subst (λ n. RoseBy n (r.faults_before (File (Grain 0 g))) (r.faults_after (File (Grain 0 g)))) (sym (no_votes g)) (no_fault (File (Grain 0 g)));

@@ -24,7 +24,6 @@ use Rattle.host_trait.specs.declared.channels.FileId.TheVariants.{Manager, Grain
 use Rattle.host_trait.specs.World.{Moment, Image, IsImage, moment_of}
 use Rattle.silo_spec.specs.Silos.{manager, program_file, HasProgram}
 use Rattle.silo_spec.specs.OpenedDisks.{opening_syncs}
-use Rattle.core_laws.proofs.WithoutLimit.{loads-without-limit}
 use Rattle.promise_spec.specs.Programs.{shape_in}
 use Rattle.promise_spec.specs.Entries.{Log}
 use Rattle.promise_spec.specs.Records.{Commit, AreRecordsOf}
@@ -36,7 +35,7 @@ use Rattle.promise_spec.specs.TurnRule.{KeepsTurnRule}
 use Rattle.promise_spec.specs.Causes.{IsAbortedFor, NoneRose, RoseBy, RunHasDoubt, AreCaused, is_no, is_vote_of, is_unsealed, most_syncs_of}
 use Rattle.promise_spec.specs.Family.{IsUnitOf, IsReached, by_line}
 use Rattle.promise_spec.specs.Endings as ending
-use Rattle.promise_spec.specs.Courses.{Observed, Course, moments, lines, core_run, core_end, seen_at_entry}
+use Rattle.promise_spec.specs.Courses.{Observed, Course, moments, lines, core_end, seen_at_entry}
 use Rattle.promise_spec.specs.Orders.{IsOrdered}
 use Rattle.promise_spec.specs.Replies.{AreReplies, IsTrueOf, HasNoRecord}
 use Rattle.promise_spec.specs.Crashes.{HasOutcome, LeavesAlone, SurvivesCrashes, StaySound, HoldsReplies}
@@ -57,7 +56,7 @@ use Rattle.promise_examples.proofs.MomentParts.{at_each, exit_there, all_less}
 use Rattle.promise_examples.proofs.WholeBatches.{no_batch}
 use Rattle.promise_examples.proofs.ShownRuns.{shows}
 use Rattle.promise_examples.proofs.FirstFamily.{only, either_of, serial, numbered, none_of, none_counted, family_of}
-use Rattle.promise_examples.proofs.DepositRules.{two_unit_rule, two_turn_rule, two_settled}
+use Rattle.promise_examples.proofs.DepositRules.{two_loads, two_unit_rule, two_turn_rule, two_settled}
 
 abbrev pub locked : Settlement
 locked = record { commits = []; entries = locked_entry ∷ [] }
@@ -90,8 +89,8 @@ core = account_run conflict_events
 legal : IsLegal (λ e. true) core
 legal = record {
   above = omega arith;
-  effects = (tt, (tt, (tt, (tt, (tt, (refl, (tt, (tt, (tt, (tt, (tt, (tt, tt))))))))))));
-  loads = (tt, (tt, (tt, (tt, (tt, (tt, (tt, (tt, (tt, (tt, (tt, (tt, tt))))))))))));
+  effects = (tt, (tt, (tt, (tt, (tt, (tt, (tt, (refl, (tt, (tt, (tt, (tt, (tt, (tt, tt))))))))))))));
+  loads = two_loads;
 }
 
 entry_caused : (x : Entry) → Member x conflict_entries → IsCaused core x
@@ -122,7 +121,7 @@ all_apply = refl
 pub no_votes : (g : GrainId) → how_many (is_no g) core ≡ 0
 no_votes g =
     ap (λ (events : List CoreEvent). count_by (is_no g) events) all_apply
-    ∙ none_counted (is_no g) conflict_events (refl, (refl, (refl, (refl, (refl, (refl, (refl, (refl, (none_of (same_grain account_1 g), (refl, (refl, (refl, tt))))))))))))
+    ∙ none_counted (is_no g) conflict_events (refl, (refl, (refl, (refl, (refl, (refl, (refl, (refl, (refl, (refl, (none_of (same_grain account_1 g), (refl, (refl, (refl, tt))))))))))))))
 
 one_vote : how_many (is_vote_of account_1) core ≡ 1
 one_vote = ap (λ (events : List CoreEvent). count_by (is_vote_of account_1) events) all_apply
@@ -140,7 +139,7 @@ one_seal = ap (λ (events : List CoreEvent). count_by is_unsealed events) all_ap
 
 pub has_doubt : RunHasDoubt core
 unfolding put put_grain
-has_doubt = record { at = 10; number = 1; doubt = record { there = refl; applied = refl } }
+has_doubt = record { at = 12; number = 1; doubt = record { there = refl; applied = refl } }
 
 pub locked_proper : IsProper (shape_in account_program) locked_entry
 locked_proper = record { line = (omega arith, lit< tt); unit = (omega arith, lit< tt); what = (lit< tt, (omega arith, lit< tt)) }
@@ -424,7 +423,7 @@ module _ (r : Observed) (opened : Moment) (told doubting : List Moment) (run : I
     records = records;
     units = two_unit_rule (lines r) run.asks;
     turns = λ single. turns;
-    loads = loads-without-limit (core_run account_program course) refl;
+    loads = two_loads;
     caused = caused;
     faults = record { votes = votes; seals = seals };
     doubted = λ file is. inl (file_is file is, has_doubt);

@@ -2,6 +2,7 @@
 use Rattle.std.proofs.Common.{◌≡◌, ◌≢◌, inl, inr, ℕ, zero, suc, ◌+◌, ◌≤◌, Bool, true, false, if◌then◌else◌, List, [], ◌∷◌, ◌++◌, length, take, drop, refl, sym, ap, subst, arith}
 use Rattle.std.specs.Prelude.{◌==◌}
 use Rattle.std.proofs.lemmas.Bool.{and_parts, eqb-true}
+use Rattle.std.proofs.lemmas.List.{append-nil}
 use Rattle.base_types.specs.declared.calls.GrainId.{GrainId}
 use Rattle.host_trait.specs.declared.channels.Channel.{Channel}
 use Rattle.host_trait.specs.declared.channels.Channel.TheVariants.{File}
@@ -14,7 +15,7 @@ use Rattle.host_trait.proofs.Crashes.{Tears-overlaid}
 use Rattle.cell_model.specs.Units.{same_grain}
 use Rattle.silo_spec.specs.Silos.{manager}
 use Rattle.promise_examples.specs.Examples.{account_1}
-use Rattle.promise_examples.specs.HostCalls.{HostState, IsStep, Pull, Emit, Write, FailedWrite, Sync, FailedSync}
+use Rattle.promise_examples.specs.HostCalls.{HostState, IsStep, Pull, Emit, Write, FailedWrite, FailedRead, Sync, FailedSync}
 use Rattle.promise_examples.specs.WrittenRun.{disk_of, moment}
 
 -- ---- the files that a call leaves alone
@@ -187,6 +188,14 @@ module _ (output : List ℕ) (log grain : FileState) (syncs : ℕ) (past : List 
     says = record { state = refl; others = λ f other. refl; input = refl; output = refl; counted = omega arith; once = omega arith; past = inl refl };
     counts = failed;
   }
+
+-- a read of a file fails
+pub unread : (output : List ℕ) (disk : Disk) (syncs : ℕ) (past : List Moment) (file : FileId) (faults : Channel → ℕ) → FailedOn (File file) (λ channel. 0) faults
+    → IsStep (FailedRead file) (held [] output disk syncs past (λ channel. 0)) (held [] output disk syncs past faults)
+unread output disk syncs past file faults failed = record {
+  says = record { input = refl; output = refl; disk = refl; syncs = refl; moments = record { more = []; past = sym (append-nil past); each = tt } };
+  counts = failed;
+}
 
 -- bytes are emitted
 pub emitted : (output bytes : List ℕ) (disk : Disk) (syncs : ℕ) (past : List Moment) (faults : Channel → ℕ) → take (length bytes) bytes ≡ bytes

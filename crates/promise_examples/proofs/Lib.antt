@@ -5,6 +5,7 @@ pub mod FirstFamily
 pub mod MomentParts
 pub mod WholeBatches
 pub mod DepositRules
+pub mod StillRun
 pub mod EmptyRun
 pub mod WholeInputs
 pub mod BadLines
@@ -24,6 +25,7 @@ pub mod VoteRun
 pub mod WrittenVote
 pub mod BatchRules
 pub mod WrittenBatch
+pub mod WrittenUnbrought
 pub mod Readings
 pub mod BadTexts
 pub mod WrittenRefusal

@@ -22,7 +22,6 @@ use Rattle.host_trait.specs.declared.channels.FileId.TheVariants.{Manager, Grain
 use Rattle.host_trait.specs.World.{Moment, Image, IsImage, moment_of}
 use Rattle.silo_spec.specs.Silos.{manager, program_file, HasProgram}
 use Rattle.silo_spec.specs.OpenedDisks.{opening_syncs}
-use Rattle.core_laws.proofs.WithoutLimit.{loads-without-limit}
 use Rattle.promise_spec.specs.Programs.{shape_in}
 use Rattle.promise_spec.specs.Records.{AreRecordsOf}
 use Rattle.promise_spec.specs.Logs.{IsPrefix}
@@ -32,7 +31,7 @@ use Rattle.promise_spec.specs.Cores.{applied_in, how_many}
 use Rattle.promise_spec.specs.TurnRule.{KeepsTurnRule}
 use Rattle.promise_spec.specs.Causes.{IsAbortedFor, NoneRose, RoseBy, RunHasDoubt, AreCaused, is_no, is_vote_of, is_unsealed, most_syncs_of}
 use Rattle.promise_spec.specs.Endings as ending
-use Rattle.promise_spec.specs.Courses.{Observed, Course, moments, lines, core_run, core_end, seen_at_entry}
+use Rattle.promise_spec.specs.Courses.{Observed, Course, moments, lines, core_end, seen_at_entry}
 use Rattle.promise_spec.specs.Orders.{IsOrdered}
 use Rattle.promise_spec.specs.Replies.{AreReplies, IsTrueOf}
 use Rattle.promise_spec.specs.Crashes.{LeavesAlone, SurvivesCrashes, StaySound, HoldsReplies}
@@ -53,7 +52,7 @@ use Rattle.promise_examples.proofs.MomentParts.{at_each, exit_there, all_less}
 use Rattle.promise_examples.proofs.WholeBatches.{no_batch}
 use Rattle.promise_examples.proofs.ShownRuns.{shows}
 use Rattle.promise_examples.proofs.FirstFamily.{only, either_of, none_counted, no_family}
-use Rattle.promise_examples.proofs.DepositRules.{Each, each_from_0, vote_unit_rule, vote_turn_rule, vote_settled}
+use Rattle.promise_examples.proofs.DepositRules.{Each, each_from_0, vote_loads, vote_unit_rule, vote_turn_rule, vote_settled}
 
 abbrev voted : Settlement
 voted = record { commits = []; entries = voted_entry ∷ [] }
@@ -73,8 +72,8 @@ core = account_run vote_events
 legal : IsLegal (λ e. true) core
 legal = record {
   above = omega arith;
-  effects = (tt, (tt, (tt, (refl, (tt, (tt, (refl, (tt, (tt, (tt, (tt, (tt, (tt, (tt, tt))))))))))))));
-  loads = (tt, (tt, (tt, (tt, (tt, (tt, (tt, (tt, (tt, (tt, (tt, (tt, (tt, (tt, tt))))))))))))));
+  effects = (tt, (tt, (tt, (tt, (tt, (refl, (tt, (tt, (refl, (tt, (tt, (tt, (tt, (tt, (tt, (tt, tt))))))))))))))));
+  loads = vote_loads;
 }
 
 entry_caused : (x : Entry) → Member x vote_entries → IsCaused core x
@@ -107,7 +106,7 @@ no_doubt : RunHasDoubt core → ⊥
 no_doubt doubt =
     let P : ℕ → CoreEvent → Type 0 = λ at e. (n : ℕ) → e ≡ event.Doubt n → ⊥ in
     let all : Each P 0 vote_events =
-    ((λ n e. absurd (cc e)), ((λ n e. absurd (cc e)), ((λ n e. absurd (cc e)), ((λ n e. absurd (cc e)), ((λ n e. absurd (cc e)), ((λ n e. absurd (cc e)), ((λ n e. absurd (cc e)), ((λ n e. absurd (cc e)), ((λ n e. absurd (cc e)), ((λ n e. absurd (cc e)), ((λ n e. absurd (cc e)), ((λ n e. absurd (cc e)), ((λ n e. absurd (cc e)), ((λ n e. absurd (cc e)), tt)))))))))))))) in
+    ((λ n e. absurd (cc e)), ((λ n e. absurd (cc e)), ((λ n e. absurd (cc e)), ((λ n e. absurd (cc e)), ((λ n e. absurd (cc e)), ((λ n e. absurd (cc e)), ((λ n e. absurd (cc e)), ((λ n e. absurd (cc e)), ((λ n e. absurd (cc e)), ((λ n e. absurd (cc e)), ((λ n e. absurd (cc e)), ((λ n e. absurd (cc e)), ((λ n e. absurd (cc e)), ((λ n e. absurd (cc e)), ((λ n e. absurd (cc e)), ((λ n e. absurd (cc e)), tt)))))))))))))))) in
     each_from_0 P vote_events doubt.at (event.Doubt doubt.number) all doubt.doubt.there doubt.number refl
 
 all_apply : applied_in core ≡ vote_events
@@ -118,7 +117,7 @@ all_apply = refl
 no_others : (g : GrainId) → same_grain account_1 g ≡ false → how_many (is_no g) core ≡ 0
 no_others g other =
     ap (λ (events : List CoreEvent). count_by (is_no g) events) all_apply
-    ∙ none_counted (is_no g) vote_events (refl, (refl, (refl, (refl, (refl, (refl, (refl, (refl, (refl, (ap (λ (b : Bool). b && true) other, (refl, (refl, (refl, (refl, tt))))))))))))))
+    ∙ none_counted (is_no g) vote_events (refl, (refl, (refl, (refl, (refl, (refl, (refl, (refl, (refl, (refl, (refl, (ap (λ (b : Bool). b && true) other, (refl, (refl, (refl, (refl, tt))))))))))))))))
 
 one_no : how_many (is_no account_1) core ≡ 1
 one_no = ap (λ (events : List CoreEvent). count_by (is_no account_1) events) all_apply
@@ -354,7 +353,7 @@ module _ (r : Observed) (opened : Moment) (failing told : List Moment) (run : Is
     records = inl no_records;
     units = vote_unit_rule (lines r) run.asks;
     turns = λ single. turns;
-    loads = loads-without-limit (core_run account_program course) refl;
+    loads = vote_loads;
     caused = caused;
     faults = record { votes = λ g. votes g (same_grain account_1 g) refl; seals = seals };
     doubted = λ file is. absurd (let e : ending.Done ≡ ending.DiskFault file = sym run.ending ∙ is in cc e);

@@ -25,7 +25,6 @@ use Rattle.host_trait.specs.Disk.{Overwrote, settled}
 use Rattle.host_trait.specs.World.{Disk, Image, IsImage, Moment, moment_of}
 use Rattle.host_trait.proofs.Crashes.{settled_only}
 use Rattle.silo_spec.specs.Silos.{manager, program_file, IsSilo, HasProgram}
-use Rattle.core_laws.proofs.WithoutLimit.{loads-without-limit}
 use Rattle.promise_spec.specs.Programs.{shape_in}
 use Rattle.promise_spec.specs.Entries.{Log}
 use Rattle.promise_spec.specs.Records.{Commit}
@@ -62,7 +61,7 @@ use Rattle.promise_examples.proofs.SealingDisks.{sealed_front, gate_front, alone
 use Rattle.promise_examples.proofs.HostSteps.{pulled, ended, wrote_grain, wrote_log, synced_grain, synced_log, emitted}
 use Rattle.promise_examples.proofs.MomentParts.{at_each, exit_there, all_less}
 use Rattle.promise_examples.proofs.WholeBatches.{no_batch}
-use Rattle.promise_examples.proofs.BatchRules.{batch_unit_rule, batch_turn_rule, settled_is, emitted_is, begun_is, records_are, both_end, no_doubt, no_votes, no_seals, voted_on, four_most, four_syncs}
+use Rattle.promise_examples.proofs.BatchRules.{batch_loads, batch_unit_rule, batch_turn_rule, settled_is, emitted_is, begun_is, records_are, both_end, no_doubt, no_votes, no_seals, voted_on, four_most, four_syncs}
 use Rattle.promise_examples.proofs.WrittenDoubt.{asks, sound_at_entry}
 
 -- ---- the bytes
@@ -370,7 +369,7 @@ explains = record {
   records = inl records_are;
   units = batch_unit_rule batched.asked asks;
   turns = λ single. batch_turn_rule;
-  loads = loads-without-limit (core_run account_program batch_course) refl;
+  loads = batch_loads;
   faults = record {
     votes = λ g. subst (λ n. RoseBy n 0 0) (sym (no_votes g)) (omega arith);
     seals = subst (λ n. RoseBy n 0 0) (sym no_seals) (omega arith);

@@ -25,7 +25,7 @@ use Rattle.promise_examples.proofs.SealingDisks.{at_new, at_block, at_staged, at
 use Rattle.promise_examples.proofs.HostSteps.{pulled, ended, wrote_grain, wrote_log, synced_grain, synced_log, emitted}
 use Rattle.promise_examples.proofs.DepositRun.{kept, shown}
 
-asks : IsLineCall accounts (lines written_run) 1 deposit_call
+pub asks : IsLineCall accounts (lines written_run) 1 deposit_call
 unfolding serde_json_on_literals
 asks = record { index = 0; text = request_line; number = refl; there = refl; reads = line_asks request_line 5 refl refl refl }
 

@@ -15,7 +15,6 @@ use Rattle.core_model.specs.SerialOrder.{chosen}
 use Rattle.core_model.specs.CoreState.{GrainId, Member, put, put_grain}
 use Rattle.gate_block.specs.Log.{HasBlocks}
 use Rattle.silo_spec.specs.Silos.{manager, program_file, IsSilo}
-use Rattle.core_laws.proofs.WithoutLimit.{loads-without-limit}
 use Rattle.promise_spec.specs.Programs.{shape_in}
 use Rattle.promise_spec.specs.Entries.{Log}
 use Rattle.promise_spec.specs.Records.{AreRecordsOf}
@@ -47,7 +46,7 @@ use Rattle.promise_examples.proofs.HostSteps.{pulled, ended, wrote_grain, wrote_
 use Rattle.promise_examples.proofs.MomentParts.{at_each, exit_there, all_less}
 use Rattle.promise_examples.proofs.WholeBatches.{no_batch}
 use Rattle.promise_examples.proofs.FirstFamily.{only}
-use Rattle.promise_examples.proofs.DepositRules.{two_unit_rule, two_turn_rule, two_settled}
+use Rattle.promise_examples.proofs.DepositRules.{two_loads, two_unit_rule, two_turn_rule, two_settled}
 use Rattle.promise_examples.proofs.DoubtRun.{locked, doubted, no_votes, voted_on, four_most, one_seal, has_doubt, locked_proper, doubt_proper}
 use Rattle.promise_examples.proofs.WrittenRun.{version_wrote, block_wrote}
 use Rattle.promise_examples.proofs.WrittenDoubt.{asks, sound_at_entry, manager_fails}
@@ -224,7 +223,7 @@ explains = record {
   records = records;
   units = two_unit_rule unbegun.asked asks;
   turns = λ single. two_turn_rule;
-  loads = loads-without-limit (core_run account_program unbegun_course) refl;
+  loads = two_loads;
   faults = record {
     votes = λ g. subst (λ n. RoseBy n 0 0) (sym (no_votes g)) (omega arith);
     seals = subst (λ n. RoseBy n 0 1) (sym one_seal) (omega arith);

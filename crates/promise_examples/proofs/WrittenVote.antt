@@ -134,7 +134,7 @@ version_torn = record {
   seen = record { before = refl; after = refl; no_shorter = omega arith; no_longer = omega arith };
 }
 
-grain_fails : FailedOn (File (Grain 0 account_1)) (λ channel. 0) grain_fault
+pub grain_fails : FailedOn (File (Grain 0 account_1)) (λ channel. 0) grain_fault
 grain_fails = record { counts = record { others = other_counts; later = omega arith }; rose = omega arith }
 
 pub is_hosted : IsHosted voted voted_steps

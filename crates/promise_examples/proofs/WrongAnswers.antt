@@ -157,11 +157,14 @@ module _ (m : Manner) (r : Observed) where
   ]
   named_of_reading image (Reads live log) slot grain must = named_of_file image live slot grain must
 
-  pub unnamed_blamed : (slot : ℕ) (grain : GrainId) → Promises m r → (IsNamedIn slot (seen_at_entry r) grain → ⊥) → r.ending ≡ ending.DiskFault (file.Grain slot grain) → ⊥
-  unnamed_blamed slot grain keeps unnamed is = elim (answered m r keeps) [
+  pub unnamed_blamed : (slot : ℕ) (grain : GrainId) → Promises m r → (IsNamedIn slot (seen_at_entry r) grain → ⊥) → r.new.input ≡ r.old.input → r.ending ≡ ending.DiskFault (file.Grain slot grain) → ⊥
+  unnamed_blamed slot grain keeps unnamed unread is = elim (answered m r keeps) [
     | inl unopened ↦
         unnamed (named_of_reading (seen_at_entry r) (opened_as (seen_at_entry r)) slot grain (subst (IsRefusedBy (seen_at_entry r) (opened_as (seen_at_entry r))) is unopened.refused))
-    | inr opened ↦ not_manager opened.openable.live slot grain (opened.file (file.Grain slot grain) is)
+    | inr opened ↦ elim (opened.file (file.Grain slot grain) is) [
+      | inl manager ↦ not_manager opened.openable.live slot grain manager
+      | inr named ↦ named.2 unread
+    ]
   ]
 
   -- a grain behind the first damaged one has not to be read
@@ -300,10 +303,14 @@ module _ (m : Manner) (r : Observed) where
         absurd (cc some)
   ]
 
-  pub grain_fault_opened : (slot : ℕ) (grain : GrainId) → Promises m r → r.new.input ≢ r.old.input → r.ending ≡ ending.DiskFault (file.Grain slot grain) → ⊥
-  grain_fault_opened slot grain keeps pulled is = elim (answered m r keeps) [
+  pub grain_fault_opened : (slot : ℕ) (grain : GrainId) → Promises m r → r.new.input ≢ r.old.input
+      → ((live : ℕ) (log : Log) → opened_as (seen_at_entry r) ≡ Reads live log → slot ≢ live) → r.ending ≡ ending.DiskFault (file.Grain slot grain) → ⊥
+  grain_fault_opened slot grain keeps pulled other is = elim (answered m r keeps) [
     | inl unopened ↦ pulled unopened.unread
-    | inr opened ↦ not_manager opened.openable.live slot grain (opened.file (file.Grain slot grain) is)
+    | inr opened ↦ elim (opened.file (file.Grain slot grain) is) [
+      | inl manager ↦ not_manager opened.openable.live slot grain manager
+      | inr named ↦ (let same : file.Grain slot grain ≡ file.Grain opened.openable.live named.0 = named.1 in other opened.openable.live opened.openable.log opened.openable.reads (cc same))
+    ]
   ]
 
   pub said_unopened : Promises m r → (ending.IsCarried r.ending → ⊥) → r.new.output ≢ r.old.output → ⊥

@@ -3,15 +3,15 @@ use Rattle.silo_spec.specs.OpenedDisks.{opening_syncs, opened_disk}
 use Rattle.promise_spec.specs.Prefixes.{IsPrefixOf}
 use Rattle.promise_spec.proofs.Prefixes.{grown_front}
 use Rattle.promise_spec.proofs.Standings.{grown_none, grown_records}
-use Rattle.std.proofs.Common.{◌≡◌, ◌≢◌, inl, inr, ℕ, ◌+◌, ◌<◌, ◌≤◌, ◌^◌, Bool, true, false, true≢false, List, [], ◌∷◌, ◌++◌, length, map, take, drop, Option, Some, None, Ok, eq-eqb, Result, refl, sym, ap, subst, ◌∙◌, arith, length-drop, slice_index}
-use Rattle.std.specs.Prelude.{◌%◌, ◌||◌, get_or, not, nat_lt, is_none, slice_get}
+use Rattle.std.proofs.Common.{◌≡◌, ◌≢◌, inl, inr, ℕ, suc, ◌+◌, ◌<◌, ◌≤◌, ◌^◌, Bool, true, false, true≢false, List, [], ◌∷◌, ◌++◌, length, map, take, drop, Option, Some, None, Ok, eq-eqb, Result, refl, sym, ap, subst, ◌∙◌, arith, length-drop, slice_index}
+use Rattle.std.specs.Prelude.{◌%◌, ◌&&◌, ◌||◌, get_or, if◌then◌else◌, not, nat_lt, is_none, is_some, slice_get}
 use Rattle.std.proofs.lemmas.Bool.{and_parts, eqb-true}
 use Rattle.std.specs.Int.{w32, to_le_bytes, from_le_bytes}
 use Rattle.std.specs.List.{flat_map, AllByRecursion}
-use Rattle.std.proofs.Math.Seq.{take-append_seam}
-use Rattle.std.proofs.lemmas.List.{append_cancel_left, take_at, length-map}
+use Rattle.std.proofs.Math.Seq.{drop-cons, take-append_seam}
+use Rattle.std.proofs.lemmas.List.{append_cancel_left, take-append-drop, take_at, length-map}
 use Rattle.std.proofs.lemmas.Nat.{from_le_bytes-to_le_bytes_4}
-use Rattle.std.proofs.lemmas.Option.{slice_get_within}
+use Rattle.std.proofs.lemmas.Option.{get_or_from_slice_get, slice_get_within}
 use Rattle.base_types.specs.declared.calls.Call.{Call}
 use Rattle.base_types.specs.declared.calls.GrainId.{GrainId}
 use Rattle.base_types.specs.declared.calls.Origin.TheVariants.{Line, Child}
@@ -27,12 +27,16 @@ use Rattle.commit_log.specs.Spelling.{spelling_of_record, spelling_of_body}
 use Rattle.core_model.specs.declared.effects.Effect.{Effect}
 use Rattle.core_model.specs.declared.events.CoreEvent.{CoreEvent}
 use Rattle.core_model.specs.declared.events.CoreEvent.TheVariants as event
+use Rattle.core_laws.proofs.FurtherLaws.{loads-append}
 use Rattle.core_model.specs.Causes.{HasCause, IsCaused, IsRefusedLock}
 use Rattle.core_model.specs.Events.{applies, can, is_allowed, run, step}
 use Rattle.core_model.specs.LegalRuns.{begins, ends}
 use Rattle.core_model.specs.Lines.{DifferInLine}
-use Rattle.core_model.specs.SerialOrder.{committed, chosen}
-use Rattle.core_model.specs.CoreState.{Member, Mode, UnitNo}
+use Rattle.core_model.specs.SerialOrder.{committed, chosen, AllLoadsTrue, IsUnwritten, IsLastVersion}
+use Rattle.core_model.specs.Tests.{is_wanted, state_written}
+use Rattle.core_model.specs.WantedGrains.{next_wanted}
+use Rattle.core_model.specs.declared.phases.Verdict.TheVariants as verdict
+use Rattle.core_model.specs.CoreState.{Member, Mode, UnitNo, Value, CoreState}
 use Rattle.gate_block.proofs.Logs as blocks
 use Rattle.gate_block.specs.Log.{LogsUpTo, gate_of}
 use Rattle.host_trait.specs.declared.channels.FileId.{FileId}
@@ -53,9 +57,8 @@ use Rattle.promise_spec.specs.Lines.{ReadsLineAs, IsLineCall}
 use Rattle.promise_spec.specs.Outputs.{reply_lines}
 use Rattle.promise_spec.specs.Windows.{window_lines, first_bad, before_bad, whole_windows}
 use Rattle.promise_spec.specs.UnitAnswers.{got_from}
-use Rattle.promise_spec.specs.TurnRule.{and_wish, at_seam, grain_due, in_flight, is_nobody, line_can_begin, lock_asked, Mover, movers, next_wish, passed, picks_used, units_of}
-use Rattle.promise_spec.proofs.PickedMovers.{line-begins, movers-take}
-use Rattle.promise_spec.proofs.WholeMemory.{never-unloaded}
+use Rattle.promise_spec.specs.TurnRule.{and_wish, at_seam, grain_due, in_flight, is_nobody, line_can_begin, LoadsWanted, lock_asked, Mover, movers, next_wish, OfWant, passed, picked, picks_used, turn_of, units_of}
+use Rattle.promise_spec.proofs.PickedMovers.{line-begins, movers-take, picked-takes, TakesPicks}
 use Rattle.promise_spec.specs.Cores.{AppliesAt, how_many, state_before, core_from, applied_from}
 use Rattle.promise_spec.specs.Causes.{RunHasDoubt, NoneRose, is_vote_of, is_unsealed, syncs_of, most_syncs_of}
 use Rattle.promise_examples.specs.AliveUnits.{IsAlive}
@@ -65,7 +68,7 @@ use Rattle.promise_spec.specs.Courses.{Observed, Course, order, moments, seen_at
 use Rattle.promise_spec.specs.Replies.{IsEntryOf, IsTrueOf, HasNoRecord}
 use Rattle.promise_spec.specs.Crashes.{Acknowledges, IsAside}
 use Rattle.promise_spec.specs.Batches.{kept_by}
-use Rattle.promise_spec.specs.Explanation.{AreAdded}
+use Rattle.promise_spec.specs.Explanation.{AreAdded, IsUnloaded}
 use Rattle.promise_spec.specs.Exits.{HasBlock, IsExit}
 use Rattle.promise_spec.specs.Promise.{AllowsBefore, AllowedBy, Keeps, KeepsAnywhere}
 use Rattle.promise_spec.specs.Loads.{KeepsLoad}
@@ -160,7 +163,55 @@ nothing_added types standing [] are l there = there
 nothing_added types standing (x ∷ added) (inl none) l there = absurd none
 nothing_added types standing (x ∷ added) (inr follow) l there = absurd (cc follow.doubt)
 
+-- where nobody wants a grain or can move, there is no mover
+no_mover : (wish : Option UnitNo) (ms : List Mover) → is_nobody (and_wish wish ms) ≡ true → ms ≡ []
+no_mover None ms e = nobody_left ms e
+no_mover (Some u) ms e = absurd cc
+
+-- and no wish
+some_wish : (wish : Option UnitNo) (ms : List Mover) (u : UnitNo) → wish ≡ Some u → is_nobody (and_wish wish ms) ≡ true → ⊥
+some_wish None ms u is e = cc
+some_wish (Some v) ms u is e = absurd cc
+
+-- where it is a unit's turn to want its grain, it is the next of the pass
+wish_is : (ms : List Mover) (pick : ℕ) → TakesPicks ms → (due : Option GrainId) (begins_line : Bool) (wish : Option UnitNo) (u : UnitNo) → turn_of due begins_line wish (picked ms pick) ≡ Some (OfWant u) → wish ≡ Some u
+wish_is ms pick t (Some g) b wish u e = absurd cc
+wish_is ms pick t None true wish u e = absurd cc
+wish_is ms pick t None false (Some v) u e = (let same : Some (OfWant v) ≡ Some (OfWant u) = e in let is : v ≡ u = cc same in ap Some is)
+wish_is ms pick t None false None u e = absurd (true≢false (sym (picked-takes ms pick (OfWant u) t e)))
+
+-- a grain that is brought on one thread is the one that is due
+due_is : (stopped : Bool) (next : Option GrainId) (g : GrainId) (u : UnitNo) (state : List Value) → LoadsWanted (if stopped then None else next) (event.Load g u state) → next ≡ Some g
+due_is true next g u state made = absurd made
+due_is false None g u state made = absurd made
+due_is false (Some h) g u state made = (let same : event.Load g u state ≡ event.Load h made.0 made.1 = made.2 in let is : h ≡ g = cc same in ap Some is)
+
+-- a list is what stands before one of its events, that event, and what stands behind
+parted : (events : List CoreEvent) (at : ℕ) (e : CoreEvent) → slice_get events at ≡ Some e → take at events ++ (e ∷ drop (suc at) events) ≡ events
+parted events at e there =
+    let named : e ≡ get_or events at e = sym (get_or_from_slice_get events at e e there) in
+    ap (λ (later : List CoreEvent). take at events ++ later) (ap (λ (x : CoreEvent). x ∷ drop (suc at) events) named ∙ sym (drop-cons events at e (slice_get_within events at e there)))
+    ∙ take-append-drop at events
+
+never : (a b : Bool) → (a && (b && false)) ≡ false
+never true true = refl
+never true false = refl
+never false b = refl
+
+-- nothing is brought that nobody wants
+pub loaded_unwanted : (w : CoreState) (g : GrainId) (u : UnitNo) (state : List Value) → is_wanted w.units.wants g ≡ false → applies w (event.Load g u state) ≡ false
+loaded_unwanted w g u state none = ap (λ (b : Bool). is_allowed w (event.Load g u state) && (not (w.cells.here g) && b)) none ∙ never (is_allowed w (event.Load g u state)) (not (w.cells.here g))
+
 module _ (p : Program) (r : Observed) (c : Course) where
+  -- who can move before an event
+  abbrev movers_at : ℕ → List Mover
+  movers_at at = movers p.types (core_run p c) (state_before (core_run p c) at) (got_from (begins (core_run p c)) (take at c.events))
+
+  -- and the unit that wants its grain next
+  abbrev wish_at : ℕ → Option UnitNo
+  wish_at at = next_wish (state_before (core_run p c) at) (units_of (core_run p c) (state_before (core_run p c) at)) (lock_asked p.types (state_before (core_run p c) at) (got_from (begins (core_run p c)) (take at c.events)))
+      (passed (applied_from (begins (core_run p c)) (take at c.events)))
+
   pub read_at_entry : (log : Log) → Keeps p r c → IsLog c.live (seen_at_entry r) log → c.opening ≡ log
   read_at_entry log keeps is = one_log c.live c.live (seen_at_entry r) c.opening log keeps.headline.ordered.read is
 
@@ -388,13 +439,13 @@ module _ (p : Program) (r : Observed) (c : Course) where
   unbegun_record l keeps none there =
       nothing_added p.types (standing_of c.opening) c.added (subst (λ (events : List CoreEvent). AreAdded (ends (core_from p.types (standing_of c.opening) events)) c.added) (no_events p r c keeps none) keeps.explained.records) l there
 
-  -- a line begins behind a window's end where nobody can move
-  pub begun_at_seam : (at n : ℕ) (call : Call) (plain : Bool) → KeepsAnywhere p r c → r.windowed ≡ true → r.manner.threaded ≡ false → AppliesAt (core_run p c) at (event.Begin (Line (n + 1)) call plain) → n % window_lines ≡ 0
-      → movers p.types (core_run p c) (state_before (core_run p c) at) (got_from (begins (core_run p c)) (take at c.events)) ≢ [] → ⊥
-  begun_at_seam at n call plain keeps windowed single begins_it whole some =
+  -- where a window's end is behind a line that begins, nobody can move or wants its grain
+  seam_is_quiet : (at n : ℕ) (call : Call) (plain : Bool) → KeepsAnywhere p r c → r.windowed ≡ true → r.manner.threaded ≡ false → AppliesAt (core_run p c) at (event.Begin (Line (n + 1)) call plain) → n % window_lines ≡ 0
+      → is_nobody (and_wish (wish_at at) (movers_at at)) ≡ true
+  seam_is_quiet at n call plain keeps windowed single begins_it whole =
       let w = state_before (core_run p c) at in
-      let ms = movers p.types (core_run p c) w (got_from (begins (core_run p c)) (take at c.events)) in
-      let wish = next_wish w (units_of (core_run p c) w) (lock_asked p.types w (got_from (begins (core_run p c)) (take at c.events))) (passed (applied_from (begins (core_run p c)) (take at c.events))) in
+      let ms = movers_at at in
+      let wish = wish_at at in
       let turn : line_can_begin r.windowed r.manner.width c.allowed (core_run p c) w (and_wish wish ms) ≡ true =
       line-begins ms (get_or r.manner.picks (picks_used (core_run p c) at) 0) (movers-take p.types (core_run p c) w (got_from (begins (core_run p c)) (take at c.events))) (grain_due w)
       (line_can_begin r.windowed r.manner.width c.allowed (core_run p c) w (and_wish wish ms)) wish
@@ -403,16 +454,101 @@ module _ (p : Program) (r : Observed) (c : Course) where
       let same : w.units.lines ≡ n = omega (arith, next) in
       let opened = (and_parts (nat_lt w.units.lines c.allowed) _ (and_parts (nat_lt (in_flight (core_run p c) w) r.manner.width) _ (and_parts (is_none w.manager.doubt) _ turn).1).1).1 in
       let seam : at_seam r.windowed w.units.lines ≡ true = subst (λ (b : Bool). at_seam b w.units.lines ≡ true) (sym windowed) (eq-eqb (w.units.lines % window_lines) 0 (ap (λ (k : ℕ). k % window_lines) same ∙ whole)) in
-      some (nobody_wants wish ms (subst (λ (b : Bool). (not b || is_nobody (and_wish wish ms)) ≡ true) seam opened))
-    where
-      nobody_wants : (wish : Option UnitNo) (ms : List Mover) → is_nobody (and_wish wish ms) ≡ true → ms ≡ []
-      nobody_wants None ms e = nobody_left ms e
-      nobody_wants (Some u) ms e = absurd cc
+      subst (λ (b : Bool). (not b || is_nobody (and_wish wish ms)) ≡ true) seam opened
 
-  pub grain_fault : (slot : ℕ) (grain : GrainId) → Keeps p r c → r.ending ≡ ending.DiskFault (file.Grain slot grain) → ⊥
-  grain_fault slot grain keeps is = elim (keeps.explained.doubted (file.Grain slot grain) is) [
+  -- so a line doesn't begin there while anybody can move
+  pub begun_at_seam : (at n : ℕ) (call : Call) (plain : Bool) → KeepsAnywhere p r c → r.windowed ≡ true → r.manner.threaded ≡ false → AppliesAt (core_run p c) at (event.Begin (Line (n + 1)) call plain) → n % window_lines ≡ 0
+      → movers p.types (core_run p c) (state_before (core_run p c) at) (got_from (begins (core_run p c)) (take at c.events)) ≢ [] → ⊥
+  begun_at_seam at n call plain keeps windowed single begins_it whole some = some (no_mover (wish_at at) (movers_at at) (seam_is_quiet at n call plain keeps windowed single begins_it whole))
+
+  -- nor while a unit wants its grain
+  pub begun_while_wanted : (at n : ℕ) (call : Call) (plain : Bool) (u : UnitNo) → KeepsAnywhere p r c → r.windowed ≡ true → r.manner.threaded ≡ false → AppliesAt (core_run p c) at (event.Begin (Line (n + 1)) call plain) → n % window_lines ≡ 0
+      → wish_at at ≡ Some u → ⊥
+  begun_while_wanted at n call plain u keeps windowed single begins_it whole wanted = some_wish (wish_at at) (movers_at at) u wanted (seam_is_quiet at n call plain keeps windowed single begins_it whole)
+
+  -- ---- what is brought into memory
+
+  -- it is the last version
+  brought : (at : ℕ) (g : GrainId) (u : UnitNo) (state : List Value) → KeepsAnywhere p r c → AppliesAt (core_run p c) at (event.Load g u state)
+      → IsLastVersion (standing_of c.opening).states (state_before (core_run p c) at) g u state
+  brought at g u state keeps is =
+      let opening = (standing_of c.opening).states in
+      let e = event.Load g u state in
+      let all : AllLoadsTrue opening (begins (core_run p c)) (take at c.events ++ (e ∷ drop (suc at) c.events)) = subst (AllLoadsTrue opening (begins (core_run p c))) (sym (parted c.events at e is.there)) keeps.explained.loads in
+      (loads-append opening (begins (core_run p c)) (take at c.events) (e ∷ drop (suc at) c.events) all).1.0 is.applied
+
+  -- another state than the opening log's, where no committed unit wrote the grain
+  pub loaded_otherwise : (at : ℕ) (g : GrainId) (u : UnitNo) (state : List Value) → KeepsAnywhere p r c → AppliesAt (core_run p c) at (event.Load g u state)
+      → IsUnwritten (state_before (core_run p c) at) g → state ≢ (standing_of c.opening).states g → ⊥
+  loaded_otherwise at g u state keeps is unwritten other = elim (brought at g u state keeps is) [
+    | inl first ↦ other first.1
+    | inr last ↦ unwritten u state last.commits last.wrote
+  ]
+
+  -- another state than its unit wrote
+  pub loaded_torn : (at : ℕ) (g : GrainId) (u : UnitNo) (state wrote : List Value) → KeepsAnywhere p r c → AppliesAt (core_run p c) at (event.Load g u state)
+      → (state_before (core_run p c) at).manager.verdict u ≡ verdict.Committed → state_written g ((state_before (core_run p c) at).manager.writes u) ≡ Some wrote → state ≢ wrote → ⊥
+  loaded_torn at g u state wrote keeps is commits writes other = elim (brought at g u state keeps is) [
+    | inl first ↦ first.2 u wrote commits writes
+    | inr last ↦ other (some_is state wrote (sym last.wrote ∙ writes))
+  ]
+
+  -- an older version than another committed unit's
+  pub loaded_stale : (at : ℕ) (g : GrainId) (u later : UnitNo) (state wrote : List Value) → KeepsAnywhere p r c → AppliesAt (core_run p c) at (event.Load g u state)
+      → (state_before (core_run p c) at).manager.verdict later ≡ verdict.Committed → state_written g ((state_before (core_run p c) at).manager.writes later) ≡ Some wrote
+      → (state_before (core_run p c) at).manager.place u < (state_before (core_run p c) at).manager.place later → ⊥
+  loaded_stale at g u later state wrote keeps is commits writes older = elim (brought at g u state keeps is) [
+    | inl first ↦ first.2 later wrote commits writes
+    | inr last ↦ (let most = last.last later wrote commits writes in omega (arith, most, older))
+  ]
+
+  -- on one thread, another grain than the lowest one that is wanted
+  pub loaded_early : (at : ℕ) (g : GrainId) (u : UnitNo) (state : List Value) → KeepsAnywhere p r c → r.manner.threaded ≡ false → AppliesAt (core_run p c) at (event.Load g u state)
+      → next_wanted (state_before (core_run p c) at) ≢ Some g → ⊥
+  loaded_early at g u state keeps single is other =
+      let w = state_before (core_run p c) at in
+      other (due_is (is_some w.manager.doubt || w.units.halt) (next_wanted w) g u state (keeps.explained.turns single at (event.Load g u state) is).made)
+
+  -- a unit wants another grain than that for whose lock its script asks
+  pub wished_otherwise : (at : ℕ) (u : UnitNo) (g : GrainId) → KeepsAnywhere p r c → AppliesAt (core_run p c) at (event.Want u g)
+      → ((mode : Mode) → lock_asked p.types (state_before (core_run p c) at) (got_from (begins (core_run p c)) (take at c.events)) u ≢ Some (g, mode)) → ⊥
+  wished_otherwise at u g keeps is other = (let due = keeps.explained.units at (event.Want u g) is in other due.0 due.1)
+
+  -- on one thread, a unit wants its grain before it is its turn
+  pub wished_early : (at : ℕ) (u : UnitNo) (g : GrainId) → KeepsAnywhere p r c → r.manner.threaded ≡ false → AppliesAt (core_run p c) at (event.Want u g) → wish_at at ≢ Some u → ⊥
+  wished_early at u g keeps single is other =
+      let w = state_before (core_run p c) at in
+      let wish : wish_at at ≡ Some u =
+      wish_is (movers_at at) (get_or r.manner.picks (picks_used (core_run p c) at) 0) (movers-take p.types (core_run p c) w (got_from (begins (core_run p c)) (take at c.events))) (grain_due w)
+      (line_can_begin r.windowed r.manner.width c.allowed (core_run p c) w (and_wish (wish_at at) (movers_at at))) (wish_at at) u (keeps.explained.turns single at (event.Want u g) is).whose in
+      other wish
+
+  -- ---- endings
+
+  -- what a grain's file's fault shows that ends a run
+  grain_ended : (slot : ℕ) (grain : GrainId) → Keeps p r c → r.ending ≡ ending.DiskFault (file.Grain slot grain) → (slot ≡ c.live) × IsUnloaded (core_run p c) grain × (RunHasDoubt (core_run p c) → ⊥)
+  grain_ended slot grain keeps is = elim (keeps.explained.doubted (file.Grain slot grain) is) [
     | inl manager ↦ (let same : file.Grain slot grain ≡ file.Manager c.live = manager.0 in absurd (cc same))
-    | inr there ↦ (let unloaded = there.2 in absurd (never-unloaded (core_run p c) unloaded.0 there.0 refl unloaded.2))
+    | inr there ↦
+        let same : file.Grain slot grain ≡ file.Grain c.live there.0 = there.1 in
+        let named : there.0 ≡ grain = cc same in
+        (cc same, subst (IsUnloaded (core_run p c)) named there.2, there.3)
+  ]
+
+  pub grain_fault : (slot : ℕ) (grain : GrainId) → Keeps p r c → r.ending ≡ ending.DiskFault (file.Grain slot grain)
+      → ((at : ℕ) → at ≤ length c.events → next_wanted (state_before (core_run p c) at) ≢ Some grain) → ⊥
+  grain_fault slot grain keeps is never = (let t = (grain_ended slot grain keeps is).1 in never t.0 t.1 t.2)
+
+  pub other_slot : (slot : ℕ) (grain : GrainId) → Keeps p r c → r.ending ≡ ending.DiskFault (file.Grain slot grain) → slot ≢ c.live → ⊥
+  other_slot slot grain keeps is other = other (grain_ended slot grain keeps is).0
+
+  pub grain_in_doubt : (slot : ℕ) (grain : GrainId) → Keeps p r c → r.ending ≡ ending.DiskFault (file.Grain slot grain) → RunHasDoubt (core_run p c) → ⊥
+  grain_in_doubt slot grain keeps is doubt = (grain_ended slot grain keeps is).2 doubt
+
+  pub manager_without_doubt : (slot : ℕ) → Keeps p r c → r.ending ≡ ending.DiskFault (file.Manager slot) → (RunHasDoubt (core_run p c) → ⊥) → ⊥
+  manager_without_doubt slot keeps is none = elim (keeps.explained.doubted (file.Manager slot) is) [
+    | inl manager ↦ none manager.1
+    | inr there ↦ (let same : file.Manager slot ≡ file.Grain c.live there.0 = there.1 in absurd (cc same))
   ]
 
   pub done_in_doubt : Keeps p r c → RunHasDoubt (core_run p c) → r.ending ≡ ending.Done → ⊥

@@ -26,7 +26,7 @@ use Rattle.core_model.specs.declared.events.CoreEvent.TheVariants as event
 use Rattle.core_model.specs.LegalRuns.{Run}
 use Rattle.promise_spec.specs.Programs.{Program}
 use Rattle.promise_spec.specs.Records.{Commit}
-use Rattle.promise_spec.specs.Entries.{new_silo, Log, new_log, grown}
+use Rattle.promise_spec.specs.Entries.{new_silo, Log, new_log, grown, standing_of}
 use Rattle.promise_spec.specs.Logs.{magic}
 use Rattle.promise_spec.specs.Lines.{IsLineCall}
 use Rattle.promise_spec.specs.Cores.{core_from}
@@ -191,17 +191,24 @@ deposited u n before source = record {
 abbrev pub begin_deposit : ℕ → ℕ → CoreEvent
 begin_deposit u n = event.Begin (Line u) (record { grain = account_1; method = 0; args = Int (pos n) ∷ [] }) false
 
--- one deposit of 5: it runs to its end, its batch is taken, written, decided and sealed, and its reply is written
+-- `account/1` is brought into memory as a new silo has it: nobody's version, a balance of 0
+abbrev pub first_load : CoreEvent
+first_load = event.Load account_1 (unit_no 0) (Int (pos 0) ∷ [])
+
+-- one deposit of 5: it wants its grain, which is brought, runs to its end, its batch is taken, written, decided and sealed, and its
+-- reply is written
 abbrev pub deposit_events : List CoreEvent
 deposit_events =
-    begin_deposit 1 5 ∷ event.Grant (unit_no 1) account_1 mode.Update ∷ event.Finish (unit_no 1) (deposited 1 5 0 0)
+    begin_deposit 1 5 ∷ event.Want (unit_no 1) account_1 ∷ first_load
+    ∷ event.Grant (unit_no 1) account_1 mode.Update ∷ event.Finish (unit_no 1) (deposited 1 5 0 0)
     ∷ event.Release (unit_no 1) account_1 ∷ event.Take ∷ event.Vote 1 account_1 true ∷ event.Decide 1 ∷ event.Sealed 1
     ∷ event.Learn (unit_no 1) account_1 ∷ event.Emitted ∷ []
 
--- two deposits at once, of which the second meets the first one's lock and dies
+-- two deposits at once, of which the first wants the grain for both, and the second meets the first one's lock and dies
 abbrev pub conflict_events : List CoreEvent
 conflict_events =
-    begin_deposit 1 5 ∷ begin_deposit 2 4 ∷ event.Grant (unit_no 1) account_1 mode.Update
+    begin_deposit 1 5 ∷ begin_deposit 2 4 ∷ event.Want (unit_no 1) account_1 ∷ first_load
+    ∷ event.Grant (unit_no 1) account_1 mode.Update
     ∷ event.Refuse (unit_no 2) account_1 mode.Update
     ∷ event.Emitted ∷ event.Finish (unit_no 1) (deposited 1 5 0 0) ∷ event.Release (unit_no 1) account_1
     ∷ event.Take ∷ event.Vote 1 account_1 true ∷ event.Decide 1 ∷ event.Doubt 1 ∷ event.Emitted ∷ []
@@ -237,7 +244,8 @@ looked = record {
 -- a deposit, and a read of what it left before it is logged: the deposit's file can't be written, and both are aborted
 abbrev pub vote_events : List CoreEvent
 vote_events =
-    begin_deposit 1 5 ∷ event.Begin (Line 2) read_call false ∷ event.Grant (unit_no 1) account_1 mode.Update
+    begin_deposit 1 5 ∷ event.Begin (Line 2) read_call false ∷ event.Want (unit_no 1) account_1 ∷ first_load
+    ∷ event.Grant (unit_no 1) account_1 mode.Update
     ∷ event.Finish (unit_no 1) (deposited 1 5 0 0) ∷ event.Release (unit_no 1) account_1
     ∷ event.Grant (unit_no 2) account_1 mode.Read ∷ event.Finish (unit_no 2) looked ∷ event.Release (unit_no 2) account_1
     ∷ event.Take ∷ event.Vote 1 account_1 false ∷ event.Decide 1 ∷ event.Learn (unit_no 1) account_1 ∷ event.Emitted
@@ -271,6 +279,12 @@ account_run events = core_from accounts (new_silo account_program) events
 -- what the unit rule is told of it, where these lines are asked
 abbrev pub account_basis : List (List ℕ) → Basis
 account_basis lines = record { types = accounts; lines = lines; opening = new_silo account_program }
+
+-- over the log of the first deposit line 1 begins a deposit, whose grain is brought into memory as the version of this unit, with this
+-- balance
+abbrev pub bringing : ℕ → ℕ → Run
+bringing u n = core_from accounts (standing_of (account_log (first_commit ∷ [])))
+    (begin_deposit 1 5 ∷ event.Want (unit_no 2) account_1 ∷ event.Load account_1 (unit_no u) (Int (pos n) ∷ []) ∷ [])
 
 -- the lines 1 and 2 ask for deposits of 5 and 4
 pub record AskDeposits (lines : List (List ℕ)) : Type 0 where

@@ -1,5 +1,6 @@
 pub mod Examples
 pub mod Transfers
+pub mod StillRuns
 pub mod EmptyRuns
 pub mod DepositRuns
 pub mod HostCalls
@@ -10,6 +11,7 @@ pub mod WrittenUnbegun
 pub mod VoteRuns
 pub mod WrittenVote
 pub mod WrittenBatch
+pub mod WrittenUnbrought
 pub mod Readings
 pub mod WrittenRefusal
 pub mod WrittenInit

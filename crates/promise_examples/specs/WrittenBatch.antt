@@ -15,7 +15,7 @@ use Rattle.silo_spec.specs.Silos.{manager}
 use Rattle.promise_spec.specs.Endings.{Done}
 use Rattle.promise_spec.specs.Records.{Commit}
 use Rattle.promise_spec.specs.Courses.{Observed, Course}
-use Rattle.promise_examples.specs.Examples.{account_log, account_1, unit_no, deposited, begin_deposit, first_commit, next_commit, first_entry, grain_bytes, manager_of}
+use Rattle.promise_examples.specs.Examples.{account_log, account_1, unit_no, deposited, begin_deposit, first_load, first_commit, next_commit, first_entry, grain_bytes, manager_of}
 use Rattle.promise_examples.specs.HostCalls.{HostState, HostStep, Pull, Emit, Write, Sync}
 use Rattle.promise_examples.specs.WrittenRun.{new_manager, disk_of, new_disk, pending_block, pending_gate, request_line, reply_text, moment, opened}
 use Rattle.promise_examples.specs.WrittenDoubt.{second_line, pair_before}
@@ -23,11 +23,12 @@ use Rattle.promise_examples.specs.WrittenVote.{reading_manner}
 
 -- ---- the core
 
--- Line 1 deposits 5, and line 2, once the first has given back its lock, 4 more. One batch is taken of both; their file is
+-- Line 1 wants the grain, deposits 5, and line 2, once the first has given back its lock, 4 more. One batch is taken of both; their file is
 -- written, the batch is decided and sealed, and both replies are written.
 abbrev pub batch_events : List CoreEvent
 batch_events =
-    begin_deposit 1 5 ∷ begin_deposit 2 4 ∷ event.Grant (unit_no 1) account_1 mode.Update
+    begin_deposit 1 5 ∷ begin_deposit 2 4 ∷ event.Want (unit_no 1) account_1 ∷ first_load
+    ∷ event.Grant (unit_no 1) account_1 mode.Update
     ∷ event.Finish (unit_no 1) (deposited 1 5 0 0) ∷ event.Release (unit_no 1) account_1
     ∷ event.Grant (unit_no 2) account_1 mode.Update ∷ event.Finish (unit_no 2) (deposited 2 4 5 1)
     ∷ event.Release (unit_no 2) account_1 ∷ event.Take ∷ event.Vote 1 account_1 true ∷ event.Decide 1 ∷ event.Sealed 1

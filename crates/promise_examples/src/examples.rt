@@ -1,4 +1,4 @@
-ghost use Rattle.std.specs.Prelude.{◌≡◌, ◌≢◌, ◌<◌, ℕ, true, List, [], ◌∷◌, ◌++◌, codes, length, None, pos, take, drop, map, slice_get, Some, Err};
+ghost use Rattle.std.specs.Prelude.{◌≡◌, ◌≢◌, ◌<◌, ℕ, true, false, List, [], ◌∷◌, ◌++◌, codes, length, None, pos, take, drop, map, slice_get, Some, Err};
 ghost use Rattle.base_types.specs.declared.calls.Value.{Value};
 ghost use Rattle.base_types.specs.declared.calls.Value.TheVariants.{Int};
 ghost use Rattle.core_model.specs.CoreState.{Member};
@@ -9,7 +9,7 @@ ghost use Rattle.promise_spec.specs.Programs.{Program, IsChecked, shape_in, prog
 ghost use Rattle.promise_spec.specs.SerialExecution.{IsSerial};
 ghost use Rattle.promise_spec.specs.Blocks.{Records, body_of, AreKept};
 ghost use Rattle.promise_spec.specs.Logs.{magic, IsLog};
-ghost use Rattle.promise_spec.specs.Courses.{Observed, lines, moments, seen_at_entry, core_end};
+ghost use Rattle.promise_spec.specs.Courses.{Observed, lines, moments, seen_at_entry, core_run, core_end};
 ghost use Rattle.promise_spec.specs.Promise.{Keeps, IsSoundFolder, Promises};
 ghost use Rattle.promise_laws.specs.Obligations.{Shows};
 ghost use Rattle.promise_spec.specs.Openings.{NoSilo, DamagedAt, Reads, opened_as};
@@ -20,6 +20,8 @@ ghost use Rattle.promise_examples.specs.WrittenDoubt.{pair_manner, told, doubtin
 ghost use Rattle.promise_examples.specs.WrittenUnbegun.{unbegun, unbegun_course, unbegun_steps};
 ghost use Rattle.promise_examples.specs.WrittenVote.{reading_manner, failing, vote_told, voted, voted_steps};
 ghost use Rattle.promise_examples.specs.WrittenBatch.{both_commits, both_block, batch_course, batched_steps, batched};
+ghost use Rattle.promise_examples.specs.WrittenUnbrought.{unbrought, unbrought_course, unbrought_steps};
+ghost use Rattle.promise_spec.specs.Explanation.{IsUnloaded};
 ghost use Rattle.promise_spec.specs.Batches.{EndsABatch};
 ghost use Rattle.promise_examples.specs.WrittenRefusal.{refused, refused_steps};
 ghost use Rattle.promise_examples.specs.WrittenCheck.{check_words, check_line, check_call, check_steps};
@@ -51,8 +53,13 @@ ghost use Rattle.silo_spec.specs.Silos.{manager, program_file, IsSilo, IsNewSilo
 ghost use Rattle.promise_examples.specs.Readings.{changed, folder_of, program_folder, log_folder, log_changed, grain_folder, program_with, two_writes, same_account, version_by, two_folder};
 ghost use Rattle.promise_spec.specs.Reports.{show_text, history_text, audit_text};
 ghost use Rattle.field_codec.specs.Examples.{first_version};
-ghost use Rattle.promise_examples.specs.Examples.{account_log, accounts, account_program, program_bytes, account_1, account_2, deposit_call, first_commit, next_commit, grain_bytes, block_bytes, manager_bytes, folder, torn_folder, deposit, first_entry, deposit_events, conflict_events, conflict_entries, account_run, account_basis, AskDeposits, vote_events, vote_entries, AskBoth};
-ghost use Rattle.core_model.specs.LegalRuns.{ends};
+ghost use Rattle.promise_examples.specs.Examples.{account_log, accounts, account_program, program_bytes, account_1, account_2, bringing, unit_no, deposit_call, first_commit, next_commit, grain_bytes, block_bytes, manager_bytes, folder, torn_folder, deposit, first_entry, deposit_events, conflict_events, conflict_entries, account_run, account_basis, AskDeposits, vote_events, vote_entries, AskBoth};
+ghost use Rattle.base_types.specs.declared.calls.Mode.TheVariants as mode;
+ghost use Rattle.core_model.specs.declared.events.CoreEvent.TheVariants as event;
+ghost use Rattle.core_model.specs.Events.{applies};
+ghost use Rattle.core_model.specs.LegalRuns.{begins, ends};
+ghost use Rattle.core_model.specs.SerialOrder.{AllLoadsTrue};
+ghost use Rattle.promise_spec.specs.Cores.{state_before};
 ghost use Rattle.promise_spec.specs.Lines.{IsLineCall};
 ghost use Rattle.promise_spec.specs.UnitRule.{KeepsUnitRule};
 ghost use Rattle.promise_spec.specs.TurnRule.{KeepsTurnRule};
@@ -116,8 +123,21 @@ pub fn empty_runs_keep()
     ensures { (p : Program) (r : Observed) (opening : Log) → IsEmptyRun p r opening → Keeps p r (empty_course r opening) }
 {}
 
+/// A grain is brought into memory as the log has it. Over the log of the first deposit that is nobody's version, with a balance of 5: one
+/// of 0 isn't true, nor is 5 as the version of the unit that made it, which isn't of this run. Before it was brought no lock of the grain
+/// can be had, and without a wish it isn't brought.
+pub fn grains_are_brought_so()
+    ensures logged { AllLoadsTrue (bringing 0 5).opening (begins (bringing 0 5)) (bringing 0 5).events }
+    ensures other { AllLoadsTrue (bringing 0 0).opening (begins (bringing 0 0)) (bringing 0 0).events → ⊥ }
+    ensures own { AllLoadsTrue (bringing 1 5).opening (begins (bringing 1 5)) (bringing 1 5).events → ⊥ }
+    ensures locked { applies (state_before (bringing 0 5) 2) (event.Grant (unit_no 2) account_1 mode.Update) ≡ false }
+    ensures had { applies (state_before (bringing 0 5) 3) (event.Grant (unit_no 2) account_1 mode.Update) ≡ true }
+    ensures unwished { applies (state_before (bringing 0 5) 1) (event.Load account_1 (unit_no 0) (Int (pos 5) ∷ [])) ≡ false }
+{}
+
 /// Two runs of the core keep both rules: one deposit at width 1, and two at width 2, of which the second meets the first
-/// one's lock and dies, and the first is left in doubt. With other picks, or at width 1, the second list keeps no turns.
+/// one's lock and dies, and the first is left in doubt; in each the grain is wanted and brought into memory before its first lock. With
+/// other picks, or at width 1, the second list keeps no turns.
 pub fn deposits_keep_the_rules()
     ensures one_unit { (lines : List (List ℕ)) → IsLineCall accounts lines 1 deposit_call → KeepsUnitRule (account_basis lines) (account_run deposit_events) }
     ensures one_turn { KeepsTurnRule accounts true 1 1 [] (account_run deposit_events) }
@@ -214,6 +234,19 @@ pub fn a_batch_is_written_out()
     ensures kept { Keeps account_program batched batch_course }
     ensures promised { Promises reading_manner batched }
     ensures hosted { IsHosted batched batched_steps }
+{}
+
+/// And so is a run of one deposit more, over the folder that the first run left, in which the account's file can't be read. The line
+/// begins, its unit wants the grain, and no version is brought into memory: the run ends with that file's fault, answers nothing, and
+/// leaves each image as it was.
+pub fn an_unbrought_grain_is_written_out()
+    ensures sound { IsSoundFolder unbrought.old }
+    ensures follows { (file : FileId) → unbrought.old.disk file ≡ written_run.new.disk file }
+    ensures wanted { IsUnloaded (core_run account_program unbrought_course) account_1 }
+    ensures shown { Shows account_program unbrought unbrought_course }
+    ensures kept { Keeps account_program unbrought unbrought_course }
+    ensures promised { Promises plain_manner unbrought }
+    ensures hosted { IsHosted unbrought unbrought_steps }
 {}
 
 /// The other three show what a run has to show too: a deposit, a batch in doubt and a vote of no.

@@ -11,11 +11,13 @@ ghost use Rattle.commit_log.specs.Spelling.{spelling_of_body};
 ghost use Rattle.core_model.specs.declared.effects.Effect.{Effect};
 ghost use Rattle.core_model.specs.declared.events.CoreEvent.{CoreEvent};
 ghost use Rattle.core_model.specs.declared.events.CoreEvent.TheVariants as event;
-ghost use Rattle.core_model.specs.Events.{run};
+ghost use Rattle.core_model.specs.Events.{applies, run};
 ghost use Rattle.core_model.specs.LegalRuns.{begins};
-ghost use Rattle.core_model.specs.SerialOrder.{committed, chosen};
-ghost use Rattle.core_model.specs.Tests.{is_before};
-ghost use Rattle.core_model.specs.CoreState.{Member, Mode};
+ghost use Rattle.core_model.specs.SerialOrder.{committed, chosen, IsUnwritten};
+ghost use Rattle.core_model.specs.Tests.{is_before, is_wanted, state_written};
+ghost use Rattle.core_model.specs.WantedGrains.{next_wanted};
+ghost use Rattle.core_model.specs.declared.phases.Verdict.TheVariants as verdict;
+ghost use Rattle.core_model.specs.CoreState.{Member, Mode, Value, CoreState};
 ghost use Rattle.gate_block.specs.Log.{LogsUpTo, gate_of};
 ghost use Rattle.host_trait.specs.declared.channels.Channel.{Channel};
 ghost use Rattle.host_trait.specs.declared.channels.Channel.TheVariants.{Input, Output, File};
@@ -31,7 +33,7 @@ ghost use Rattle.silo_spec.specs.OpenedDisks.{opening_syncs, opened_disk};
 ghost use Rattle.promise_spec.specs.Programs.{Program, ProgramFault, IsChecked, shape_in, program_in};
 ghost use Rattle.promise_spec.specs.Entries.{Log, standing_of, grown, records_of};
 ghost use Rattle.promise_spec.specs.Images.{IsSound};
-ghost use Rattle.promise_spec.specs.Openings.{DamagedAt, opened_as};
+ghost use Rattle.promise_spec.specs.Openings.{DamagedAt, Reads, opened_as};
 ghost use Rattle.promise_spec.specs.Words.{Command, Manner};
 ghost use Rattle.promise_spec.specs.Refusals.{IsUnopened, IsNamedIn};
 ghost use Rattle.promise_spec.specs.Records.{Commit, States, AreRecordsOf};
@@ -41,8 +43,8 @@ ghost use Rattle.promise_spec.specs.Moments.{IsImageOf};
 ghost use Rattle.promise_spec.specs.Lines.{IsLineCall};
 ghost use Rattle.promise_spec.specs.Windows.{window_lines, first_bad, told_number, before_bad, whole_windows};
 ghost use Rattle.promise_spec.specs.UnitAnswers.{got_from};
-ghost use Rattle.promise_spec.specs.TurnRule.{movers};
-ghost use Rattle.promise_spec.specs.Cores.{AppliesAt, how_many, state_before};
+ghost use Rattle.promise_spec.specs.TurnRule.{lock_asked, movers, next_wish, passed, units_of};
+ghost use Rattle.promise_spec.specs.Cores.{AppliesAt, applied_from, how_many, state_before};
 ghost use Rattle.promise_spec.specs.Causes.{RunHasDoubt, NoneRose, is_vote_of, is_unsealed, syncs_of, most_syncs_of};
 ghost use Rattle.promise_examples.specs.AliveUnits.{IsAlive};
 ghost use Rattle.promise_spec.specs.Family.{states_after};
@@ -229,12 +231,20 @@ pub fn aborts_have_causes()
         → IsAlive (run (begins (core_run p c)) before) event on) → ⊥ }
 {}
 
-/// No run keeps the promise that ends with a fault of a grain's file, or as done after a doubt, or as done without having
+/// No run keeps the promise that ends with a fault of a grain's file that no state of the run wanted and lacked, as the lowest such; that
+/// is another slot's, or comes after a doubt; or of a manager file without a doubt; or as done after a doubt, or as done without having
 /// opened the folder; and none that read its input to the end may say that it hasn't opened the folder, as one that calls a
 /// grain file's fault a refusal would.
 pub fn endings_are_true()
     ensures grain { (p : Program) (r : Observed) (c : Course) (slot : ℕ) (grain : GrainId) → Keeps p r c
-        → r.ending ≡ ending.DiskFault (file.Grain slot grain) → ⊥ }
+        → r.ending ≡ ending.DiskFault (file.Grain slot grain)
+        → ((at : ℕ) → at ≤ length c.events → next_wanted (state_before (core_run p c) at) ≢ Some grain) → ⊥ }
+    ensures slot { (p : Program) (r : Observed) (c : Course) (slot : ℕ) (grain : GrainId) → Keeps p r c
+        → r.ending ≡ ending.DiskFault (file.Grain slot grain) → slot ≢ c.live → ⊥ }
+    ensures in_doubt { (p : Program) (r : Observed) (c : Course) (slot : ℕ) (grain : GrainId) → Keeps p r c
+        → r.ending ≡ ending.DiskFault (file.Grain slot grain) → RunHasDoubt (core_run p c) → ⊥ }
+    ensures manager { (p : Program) (r : Observed) (c : Course) (slot : ℕ) → Keeps p r c
+        → r.ending ≡ ending.DiskFault (file.Manager slot) → (RunHasDoubt (core_run p c) → ⊥) → ⊥ }
     ensures doubt { (p : Program) (r : Observed) (c : Course) → Keeps p r c → RunHasDoubt (core_run p c) → r.ending ≡ ending.Done → ⊥ }
     ensures unopened { (r : Observed) → IsUnopened r → r.ending ≡ ending.Done → ⊥ }
     ensures read { (r : Observed) → IsUnopened r → r.old.input ≢ [] → r.new.input ≡ [] → ⊥ }
@@ -242,11 +252,11 @@ pub fn endings_are_true()
 
 /// Over any folder, sound or not: no run keeps the promise that calls a folder damaged at another place than the first one, or
 /// one that isn't damaged, or no silo what reads as one; that opens one that is damaged or no silo, that calls its words bad use,
-/// or that blames a grain's file for not seeing that the folder is no silo, or one that no record names; nor one that is done and
-/// hasn't read its input to the end, or has told a line nothing; that ends with a grain file's fault though it opened the folder, as
-/// the input shows that it read; that writes something and ends as none does that opened its folder; that ends as reading failed or a line is
-/// too long and says nothing of the windows before, or something of that window; that tells another line's number, or a line where none
-/// is too long, or is done where one is.
+/// or that blames a grain's file for not seeing that the folder is no silo, or one that no record names, before any input is read; nor
+/// one that is done and hasn't read its input to the end, or has told a line nothing; that has opened the folder, as the input shows that
+/// it read, and ends with a grain file's fault of another slot; that writes something and ends as none does that opened its folder;
+/// that ends as reading failed or a line is too long and says nothing of the windows before, or something of that window; that tells
+/// another line's number, or a line where none is too long, or is done where one is.
 pub fn refusals_are_true()
     ensures place { (m : Manner) (r : Observed) (f : FileId) (place : ℕ) → Promises m r → r.ending ≡ ending.Damaged f place
         → opened_as (seen_at_entry r) ≢ DamagedAt f place → ⊥ }
@@ -260,7 +270,7 @@ pub fn refusals_are_true()
     ensures blamed { (m : Manner) (r : Observed) (slot : ℕ) (grain : GrainId) → Promises m r → ((live : ℕ) → IsLive magic live (seen_at_entry r) → ⊥)
         → r.ending ≡ ending.DiskFault (file.Grain slot grain) → ⊥ }
     ensures unnamed { (m : Manner) (r : Observed) (slot : ℕ) (grain : GrainId) → Promises m r → (IsNamedIn slot (seen_at_entry r) grain → ⊥)
-        → r.ending ≡ ending.DiskFault (file.Grain slot grain) → ⊥ }
+        → r.new.input ≡ r.old.input → r.ending ≡ ending.DiskFault (file.Grain slot grain) → ⊥ }
     ensures behind { (m : Manner) (r : Observed) (last grain : GrainId) (live place slot : ℕ) → Promises m r
         → opened_as (seen_at_entry r) ≡ DamagedAt (file.Grain live last) place → is_before last grain ≡ true
         → r.ending ≡ ending.DiskFault (file.Grain slot grain) → ⊥ }
@@ -268,6 +278,7 @@ pub fn refusals_are_true()
     ensures unanswered { (m : Manner) (r : Observed) → Promises m r → r.ending ≡ ending.Done → 1 ≤ length (lines_of r.old.input)
         → r.new.output ≡ r.old.output → ⊥ }
     ensures grain { (m : Manner) (r : Observed) (slot : ℕ) (grain : GrainId) → Promises m r → r.new.input ≢ r.old.input
+        → ((live : ℕ) (log : Log) → opened_as (seen_at_entry r) ≡ Reads live log → slot ≢ live)
         → r.ending ≡ ending.DiskFault (file.Grain slot grain) → ⊥ }
     ensures said { (m : Manner) (r : Observed) → Promises m r → (ending.IsCarried r.ending → ⊥) → r.new.output ≢ r.old.output → ⊥ }
 
@@ -330,7 +341,8 @@ pub fn bad_use_is_said_by_words()
 /// No run keeps the promise in which a line begins whose window wasn't read whole before reading failed, or that is bad or behind a bad
 /// one, or stands in the window of one that is too long; that has an entry of a line that may not begin, or has none of one that may
 /// where all is done, reading failed or a line is too long; in which anything happens, is answered or recorded where no line may begin; or, on
-/// one thread, in which a window's first line begins while anybody can move, as a unit of the window before that holds a lock.
+/// one thread, in which a window's first line begins while anybody can move, as a unit of the window before that holds a lock, or wants
+/// its grain in memory.
 pub fn lines_begin_in_whole_windows()
     ensures fault { (p : Program) (r : Observed) (c : Course) (front : List ℕ) → Keeps p r c → r.ending ≡ ending.ReadFault
         → r.old.input ≡ front ++ r.new.input → whole_windows front < (core_end p c).units.lines → ⊥ }
@@ -348,6 +360,42 @@ pub fn lines_begin_in_whole_windows()
     ensures seam { (p : Program) (r : Observed) (c : Course) (at n : ℕ) (call : Call) (plain : Bool) → KeepsAnywhere p r c → r.windowed ≡ true
         → r.manner.threaded ≡ false → AppliesAt (core_run p c) at (event.Begin (Line (n + 1)) call plain) → n % window_lines ≡ 0
         → movers p.types (core_run p c) (state_before (core_run p c) at) (got_from (begins (core_run p c)) (take at c.events)) ≢ [] → ⊥ }
+    ensures wanted { (p : Program) (r : Observed) (c : Course) (at n : ℕ) (call : Call) (plain : Bool) (u : UnitNo) → KeepsAnywhere p r c
+        → r.windowed ≡ true → r.manner.threaded ≡ false → AppliesAt (core_run p c) at (event.Begin (Line (n + 1)) call plain) → n % window_lines ≡ 0
+        → next_wish (state_before (core_run p c) at) (units_of (core_run p c) (state_before (core_run p c) at))
+        (lock_asked p.types (state_before (core_run p c) at) (got_from (begins (core_run p c)) (take at c.events)))
+        (passed (applied_from (begins (core_run p c)) (take at c.events))) ≡ Some u → ⊥ }
+{}
+
+/// Over any folder that opens, sound or not: no run keeps the promise that brings a grain into memory with another state than the
+/// opening log's where none of its committed units wrote the grain, with another state than the unit wrote whose version it says it is,
+/// or with an older version than another of its committed units wrote; on one thread, before the lowest wanted grain; or in which a unit
+/// wants another grain than that for whose lock its script asks, or, on one thread, wants it out of turn, as before a lower unit that waits
+/// for its own, or twice in one pass. And nothing is brought that nobody wants.
+pub fn grains_are_brought_truly()
+    ensures opening { (p : Program) (r : Observed) (c : Course) (at : ℕ) (g : GrainId) (u : UnitNo) (state : List Value) → KeepsAnywhere p r c
+        → AppliesAt (core_run p c) at (event.Load g u state) → IsUnwritten (state_before (core_run p c) at) g
+        → state ≢ (standing_of c.opening).states g → ⊥ }
+    ensures torn { (p : Program) (r : Observed) (c : Course) (at : ℕ) (g : GrainId) (u : UnitNo) (state wrote : List Value) → KeepsAnywhere p r c
+        → AppliesAt (core_run p c) at (event.Load g u state) → (state_before (core_run p c) at).manager.verdict u ≡ verdict.Committed
+        → state_written g ((state_before (core_run p c) at).manager.writes u) ≡ Some wrote → state ≢ wrote → ⊥ }
+    ensures stale { (p : Program) (r : Observed) (c : Course) (at : ℕ) (g : GrainId) (u later : UnitNo) (state wrote : List Value) → KeepsAnywhere p r c
+        → AppliesAt (core_run p c) at (event.Load g u state) → (state_before (core_run p c) at).manager.verdict later ≡ verdict.Committed
+        → state_written g ((state_before (core_run p c) at).manager.writes later) ≡ Some wrote
+        → (state_before (core_run p c) at).manager.place u < (state_before (core_run p c) at).manager.place later → ⊥ }
+    ensures early { (p : Program) (r : Observed) (c : Course) (at : ℕ) (g : GrainId) (u : UnitNo) (state : List Value) → KeepsAnywhere p r c
+        → r.manner.threaded ≡ false → AppliesAt (core_run p c) at (event.Load g u state)
+        → next_wanted (state_before (core_run p c) at) ≢ Some g → ⊥ }
+    ensures wish { (p : Program) (r : Observed) (c : Course) (at : ℕ) (u : UnitNo) (g : GrainId) → KeepsAnywhere p r c
+        → AppliesAt (core_run p c) at (event.Want u g)
+        → ((mode : Mode) → lock_asked p.types (state_before (core_run p c) at) (got_from (begins (core_run p c)) (take at c.events)) u ≢ Some (g, mode)) → ⊥ }
+    ensures turn { (p : Program) (r : Observed) (c : Course) (at : ℕ) (u : UnitNo) (g : GrainId) → KeepsAnywhere p r c
+        → r.manner.threaded ≡ false → AppliesAt (core_run p c) at (event.Want u g)
+        → next_wish (state_before (core_run p c) at) (units_of (core_run p c) (state_before (core_run p c) at))
+        (lock_asked p.types (state_before (core_run p c) at) (got_from (begins (core_run p c)) (take at c.events)))
+        (passed (applied_from (begins (core_run p c)) (take at c.events))) ≢ Some u → ⊥ }
+    ensures unwanted { (w : CoreState) (g : GrainId) (u : UnitNo) (state : List Value) → is_wanted w.units.wants g ≡ false
+        → applies w (event.Load g u state) ≡ false }
 {}
 
 /// No report of a folder prints the text of another log than the one that it reads as, or may leave what couldn't stand there

@@ -15,7 +15,8 @@ use Rattle.core_model.specs.LegalRuns.{Run, IsLegal, ends}
 use Rattle.core_laws.proofs.Basics.{is_committed-true}
 use Rattle.core_laws.proofs.Orders.{Member-at, Member-get}
 use Rattle.core_laws.proofs.KeptInvariant.{Kept}
-use Rattle.core_laws.proofs.Ends.{kept-ends, valid-ends}
+use Rattle.core_laws.proofs.Ends.{kept-ends}
+use Rattle.core_laws.proofs.UnitPlays.{valid-ends}
 use Rattle.core_laws.proofs.CommitOrder.{split-order}
 use Rattle.core_laws.proofs.SerialOrder.{serial-committed, serial-good}
 use Rattle.script_tree.specs.Programs.{ProgramTree}
@@ -90,14 +91,14 @@ added-of types r log lawful (inl all) = record {
   us = filter (λ u. is_committed ((ends r).manager.verdict u)) (ends r).manager.order;
   are = of-verdicts r.opening (ends r) is_committed log (kept-ends (is_play types) r lawful) (λ v e. ap is_good (is_committed-true v e)) refl
       (λ u c. (committed-closed r lawful.above u c).0) all;
-  serial = serial-committed (is_play types) r.opening (ends r) (kept-ends (is_play types) r lawful) (valid-ends (is_play types) r lawful);
+  serial = serial-committed (is_play types) r.opening (ends r) (kept-ends (is_play types) r lawful) (valid-ends (is_play types) r lawful.effects);
 }
 added-of types r log lawful (inr more) = record {
   us = filter (λ u. is_good ((ends r).manager.verdict u)) (ends r).manager.order;
   are = of-verdicts r.opening (ends r) is_good log (kept-ends (is_play types) r lawful) (λ v e. e) refl
       (λ u c. (committed-closed r lawful.above u c).0)
       (subst (λ (es : List Effect). AreRecordsOf es log) (sym (split-order (ends r) (loadless-ends r lawful.above) (split-ends r lawful.above))) more.records);
-  serial = serial-good (is_play types) r.opening (ends r) (kept-ends (is_play types) r lawful) (valid-ends (is_play types) r lawful);
+  serial = serial-good (is_play types) r.opening (ends r) (kept-ends (is_play types) r lawful) (valid-ends (is_play types) r lawful.effects);
 }
 
 -- ---- a record and its unit

@@ -12,7 +12,7 @@ use Rattle.core_model.specs.declared.effects.Read.{Read}
 use Rattle.core_model.specs.declared.phases.Phase.TheVariants.{Unborn, Running, Finished}
 use Rattle.core_model.specs.declared.phases.Verdict.{Verdict}
 use Rattle.core_model.specs.declared.phases.Verdict.TheVariants.{Open, Chosen, Condemned, Committed, Aborted}
-use Rattle.core_model.specs.CoreState.{UnitNo, GrainId, Member, Value, put, Batch, CoreState}
+use Rattle.core_model.specs.CoreState.{UnitNo, Member, put, Batch, CoreState}
 use Rattle.core_model.specs.Tests.{is_good, is_committed, is_final}
 use Rattle.core_model.specs.Answers.{effect_of}
 use Rattle.core_model.specs.Batches.{sizes}

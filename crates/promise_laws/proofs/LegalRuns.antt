@@ -8,11 +8,11 @@ use Rattle.base_types.specs.declared.calls.Outcome.TheVariants as outcome
 use Rattle.cell_model.proofs.Units.{same_grain-true, same_grain-is}
 use Rattle.core_model.specs.declared.effects.Effect.{Effect}
 use Rattle.core_model.specs.declared.events.CoreEvent.{CoreEvent}
-use Rattle.core_model.specs.declared.events.CoreEvent.TheVariants.{Finish, EndPlain, Load}
+use Rattle.core_model.specs.declared.events.CoreEvent.TheVariants.{Finish, EndPlain}
 use Rattle.core_model.specs.CoreState.{UnitNo, GrainId, Value, Outcome, CoreState, same_grain}
 use Rattle.core_model.specs.Equality.{same_list, same_text, same_value, same_state, same_outcome}
 use Rattle.core_model.specs.Events.{applies, step, run}
-use Rattle.core_model.specs.SerialOrder.{Plays, AllPlay, IsTrueLoad, AllLoadsTrue}
+use Rattle.core_model.specs.SerialOrder.{Plays, AllPlay, AllLoadsTrue}
 use Rattle.core_model.specs.LegalRuns.{Run, IsLegal, begins, ends}
 use Rattle.core_laws.proofs.Basics.{same_list-true, same_state-true, same_outcome-true}
 use Rattle.core_laws.proofs.Replies.{no-change}
@@ -129,26 +129,15 @@ loads-in opening w (e ∷ events) all =
     (λ a. (all.0, rest))
     (λ a. subst (λ v. AllLoadsTrue opening v (applied_from (step w e) events)) (no-change w e a) rest)
 
--- nothing is loaded where the unit rule is kept, since no load is due
-no-load : (s : Basis) (opening : GrainId → List Value) (w : CoreState) (got : UnitNo → List Got) (e : CoreEvent) → (applies w e ≡ true → IsDue s w got e) → IsTrueLoad opening w e
-no-load s opening w got (Load g u state) due = λ a. absurd (due a)
-no-load s opening w got _ due = tt
-
-true-from : (opening : GrainId → List Value) (w : CoreState) (events : List CoreEvent) → ((at : ℕ) (e : CoreEvent) → slice_get events at ≡ Some e → IsTrueLoad opening (run w (take at events)) e) → AllLoadsTrue opening w events
-true-from opening w [] each = tt
-true-from opening w (e ∷ events) each = (each 0 e refl, true-from opening (step w e) events (λ at f there. each (suc at) f there))
-
--- so each load is true
-pub loads-by-rule : (s : Basis) (r : Run) → KeepsUnitRule s r → AllLoadsTrue r.opening (begins r) r.events
-loads-by-rule s r keeps =
-    true-from r.opening (begins r) r.events
-    (λ at e there. no-load s r.opening (state_before r at) (got_from (begins r) (take at r.events)) e (λ a. keeps at e (record { there = there; applied = a })))
+-- where a run keeps the unit rule, the effects of the events that applied are plays, whatever was loaded
+pub rule-plays : (s : Basis) (r : Run) → KeepsUnitRule s r → AllPlay (is_play s.types) (applied_run r).events
+rule-plays s r keeps =
+    plays-in s.types (begins r) r.events
+    (λ at e there a. due-needs s (state_before r at) (got_from (begins r) (take at r.events)) e (keeps at e (record { there = there; applied = a })))
 
 pub legal : (s : Basis) (r : Run) → 0 < r.base → AllLoadsTrue r.opening (begins r) r.events → KeepsUnitRule s r → IsLegal (is_play s.types) (applied_run r)
-legal s r above true_loads keeps =
-    let all : AllNeeded s.types (begins r) r.events = λ at e there a. due-needs s (state_before r at) (got_from (begins r) (take at r.events)) e (keeps at e (record { there = there; applied = a })) in
-    record {
-      above = above;
-      effects = plays-in s.types (begins r) r.events all;
-      loads = loads-in r.opening (begins r) r.events true_loads;
-    }
+legal s r above true_loads keeps = record {
+  above = above;
+  effects = rule-plays s r keeps;
+  loads = loads-in r.opening (begins r) r.events true_loads;
+}

@@ -1,17 +1,26 @@
 -- What a run answers, over any folder, and what it promises with what lasts.
-use Rattle.std.proofs.Common.{◌≡◌, inl, inr, refl, ℕ, ◌<◌, ◌≤◌, true, List, [], sym, subst, arith}
+use Rattle.std.proofs.Common.{◌≡◌, inl, inr, ℕ, zero, suc, ◌<◌, ◌≤◌, true, List, [], length, Some, sym, ◌∙◌, ap, subst, arith}
+use Rattle.std.proofs.lemmas.List.{append_cancel_right}
+use Rattle.base_types.specs.declared.calls.GrainId.{GrainId}
 use Rattle.base_types.specs.declared.entries.Entry.{Entry}
+use Rattle.core_model.specs.declared.events.CoreEvent.{CoreEvent}
 use Rattle.core_model.specs.CoreState.{Member}
+use Rattle.core_model.specs.WantedGrains.{next_wanted}
+use Rattle.host_trait.specs.declared.channels.FileId.{FileId}
+use Rattle.request_wire.specs.Lines.{lines_of}
+use Rattle.script_tree.specs.Programs.{ProgramTree}
 use Rattle.promise_spec.specs.Programs.{Program, shape_in}
 use Rattle.promise_spec.specs.Images.{IsWholeFolder}
+use Rattle.promise_spec.specs.Windows.{whole_windows}
+use Rattle.promise_spec.specs.Entries.{Standing, standing_of}
 use Rattle.promise_spec.specs.Outputs.{Grew}
+use Rattle.promise_spec.specs.Cores.{core_from, state_before}
 use Rattle.promise_spec.specs.Openings.{Reads, opened_as}
 use Rattle.promise_spec.specs.Endings as ending
-use Rattle.promise_spec.specs.Courses.{Observed, Course, core_run, seen_at_entry, program_in_force}
+use Rattle.promise_spec.specs.Courses.{Observed, Course, seen_at_entry, program_in_force}
 use Rattle.promise_spec.specs.Words.{Manner}
-use Rattle.promise_spec.specs.Promise.{Keeps, KeepsAnywhere, Promises}
-use Rattle.promise_spec.proofs.WholeMemory.{never-unloaded}
-use Rattle.promise_laws.specs.AnsweredRuns.{HasAnswered, HasOpened}
+use Rattle.promise_spec.specs.Promise.{AllowedBy, Keeps, KeepsAnywhere, Promises}
+use Rattle.promise_laws.specs.AnsweredRuns.{FaultEnded, HasAnswered, HasOpened}
 use Rattle.promise_laws.specs.Obligations.{ShowsAnywhere, Lasts, Shows}
 use Rattle.promise_laws.proofs.Bases.{reads_above}
 use Rattle.promise_laws.proofs.OneFamily.{explained_family}
@@ -19,6 +28,14 @@ use Rattle.promise_laws.proofs.TrueReplies.{replies_begun, replies_within, repli
 use Rattle.promise_laws.proofs.ShownRuns.{explained, ended_anywhere, answers_of, shown}
 
 -- ---- how it ends, and what it answers
+
+-- where nothing has happened, no grain is wanted
+unwanted : (types : ProgramTree) (opening : Standing) (events : List CoreEvent) → events ≡ [] → (at : ℕ) (g : GrainId) → next_wanted (state_before (core_from types opening events) at) ≡ Some g → ⊥
+unwanted types opening events none at g wanted = go at (subst (λ (es : List CoreEvent). next_wanted (state_before (core_from types opening es) at) ≡ Some g) none wanted)
+  where
+    go : (n : ℕ) → next_wanted (state_before (core_from types opening []) n) ≡ Some g → ⊥
+    go zero e = absurd (cc e)
+    go (suc n) e = absurd (cc e)
 
 module _ (p : Program) (r : Observed) (c : Course) (k : KeepsAnywhere p r c) where
   -- the opening log begins with a number above 0
@@ -49,16 +66,34 @@ module _ (p : Program) (r : Observed) (c : Course) (k : KeepsAnywhere p r c) whe
         each = k.ended.answered all;
       }
 
+  -- where nothing of the input was read, no line may begin
+  unread : (f : FileId) → r.ending ≡ ending.DiskFault f → r.new.input ≡ r.old.input → c.allowed ≡ 0
+  unread f is same = elim (subst (λ (e : ending.Ending). AllowedBy e k.ended.read.pulled r c.allowed) is k.ended.read.allowed) [
+    | inl all ↦ all.all ∙ ap length (k.ended.given ∙ ap lines_of (sym same ∙ all.input))
+    | inr some ↦
+        let none : k.ended.read.pulled ≡ [] = append_cancel_right k.ended.read.pulled [] r.new.input (sym k.ended.read.input ∙ sym same) in
+        let few : c.allowed ≤ 0 = subst (λ (bytes : List ℕ). c.allowed ≤ whole_windows bytes) none some.most in
+        omega (arith, few)
+  ]
+
+  -- a fault of a file ended it: of the live manager file; or a grain's, where something of the input was read
+  pub fault_ended : (f : FileId) → r.ending ≡ ending.DiskFault f → FaultEnded c.live r f
+  fault_ended f is = elim (k.explained.doubted f is) [
+    | inl manager ↦ inl manager.0
+    | inr grain ↦ inr (
+      grain.0,
+      grain.1,
+      λ same. unwanted p.types (standing_of c.opening) c.events (k.ended.read.none (unread f is same)) grain.2.0 grain.0 grain.2.2,
+    )
+  ]
+
 -- a run that keeps this much of the program in force opened its folder
 pub anywhere_opened : (r : Observed) (c : Course) → KeepsAnywhere (program_in_force c) r c → HasOpened r
 anywhere_opened r c k = record {
   openable = record { live = c.live; log = c.opening; reads = k.reads };
   carried = k.ended.carried;
   risen = k.ended.risen;
-  file = λ f is. elim (k.explained.doubted f is) [
-    | inl manager ↦ manager.0
-    | inr grain ↦ (let unloaded = grain.2 in absurd (never-unloaded (core_run (program_in_force c) c) unloaded.0 grain.0 refl unloaded.2))
-  ];
+  file = fault_ended (program_in_force c) r c k;
   given = k.ended.given;
   answered = has_answered (program_in_force c) r c k;
 }

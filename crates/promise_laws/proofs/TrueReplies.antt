@@ -73,7 +73,7 @@ known-ends types lines r l said = record {
   kids = children-ends r l.above;
   answers = answers-ends r l.above;
   turned = turned-ends r l.above;
-  plays = plain-ends (is_play types) r l;
+  plays = plain-ends (is_play types) r l.effects;
   rule = rule-run types lines r.base r.events (begins r) said (rule-begins types lines r);
   tells = telling-ends (is_play types) types lines r l said;
 }

@@ -15,7 +15,7 @@ use Rattle.promise_spec.specs.Cores.{state_before, applied_from}
 use Rattle.promise_spec.specs.UnitAnswers.{Got, got_from}
 use Rattle.promise_spec.specs.Lines.{ReadsLineAs}
 use Rattle.promise_spec.specs.UnitRule.{Basis, IsDue, KeepsUnitRule}
-use Rattle.promise_spec.specs.TurnRule.{Mover, OfLine, IsTurnOf, KeepsTurnRule, and_wish, at_seam, grain_due, is_nobody, line_can_begin, lock_asked, in_flight, movers, mover_of, next_wish, passed, picked, picks_used, turn_of, units_of}
+use Rattle.promise_spec.specs.TurnRule.{Mover, IsTurnOf, KeepsTurnRule, and_wish, at_seam, grain_due, is_nobody, line_can_begin, lock_asked, in_flight, movers, mover_of, next_wish, passed, picked, picks_used, turn_of, units_of}
 use Rattle.promise_laws.specs.Legality.{applied_run}
 use Rattle.promise_laws.proofs.UnitsByRule.{all_said, rule-run, rule-begins}
 use Rattle.promise_laws.proofs.LegalRuns.{ends_alike}

@@ -3,7 +3,7 @@ ghost use Rattle.base_types.specs.declared.entries.Entry.{Entry};
 ghost use Rattle.core_model.specs.declared.effects.Effect.{Effect};
 ghost use Rattle.core_model.specs.CoreState.{Member};
 ghost use Rattle.core_model.specs.Causes.{IsCaused};
-ghost use Rattle.core_model.specs.SerialOrder.{AllLoadsTrue};
+ghost use Rattle.core_model.specs.SerialOrder.{AllLoadsTrue, AllPlay};
 ghost use Rattle.core_model.specs.LegalRuns.{Run, IsLegal, begins, ends};
 ghost use Rattle.script_tree.specs.Programs.{ProgramTree};
 ghost use Rattle.promise_spec.specs.Programs.{Program};
@@ -15,10 +15,11 @@ ghost use Rattle.promise_spec.specs.Explanation.{IsExplained};
 ghost use Rattle.promise_laws.specs.Legality.{is_play, applied_run};
 
 /// Where a run keeps the unit rule and each load is true, the events that applied are a legal run of the core with the same end.
-/// So the core's laws speak of it.
+/// So the core's laws speak of it. Their effects are plays whatever was loaded.
 pub fn runs_are_legal()
     ensures tests { (types : ProgramTree) (e : Effect) → (is_play types e ≡ true) ↔ IsPlayOf types e }
     ensures ends_alike { (r : Run) → ends (applied_run r) ≡ ends r }
+    ensures plays { (s : Basis) (r : Run) → KeepsUnitRule s r → AllPlay (is_play s.types) (applied_run r).events }
     ensures legal { (s : Basis) (r : Run) → 0 < r.base → AllLoadsTrue r.opening (begins r) r.events → KeepsUnitRule s r
         → IsLegal (is_play s.types) (applied_run r) }
 {}

@@ -21,4 +21,3 @@ pub mod OpenedRuns
 pub mod CountedSyncs
 pub mod WholeFolders
 pub mod PickedMovers
-pub mod WholeMemory

@@ -4,7 +4,7 @@ use Rattle.host_trait.specs.declared.channels.Channel.{Channel}
 use Rattle.host_trait.specs.declared.channels.Channel.TheVariants.{Input, Output}
 use Rattle.host_trait.specs.Faults.{NoneFailed}
 use Rattle.promise_spec.specs.Words.{GivenOption, Command, Init, Run, Show, History, Audit, Load, Check, Compact, Say}
-use Rattle.promise_spec.specs.Endings.{Ending, BadUse, Memory, ReadFault, WriteFault, HasRisen, HasFailedAs, IsCarried, IsLoadCarried}
+use Rattle.promise_spec.specs.Endings.{Ending, BadUse, Memory, ReadFault, WriteFault, HasRisen, HasFailedAs, MayEndRun, MayEndLoad}
 use Rattle.promise_spec.specs.Courses.{Observed}
 use Rattle.promise_spec.specs.Promise.{Promises}
 use Rattle.promise_spec.specs.Reports.{history_text}
@@ -44,10 +44,11 @@ pub record Serves (words : List (List ℕ)) (shown : Command → Observed) : Typ
   pub obeys : (c : Command) → Understands words c → Obeys c (shown c)
   pub refuses : ((c : Command) → Understands words c → ⊥) → (c : Command) → IsBadUse (shown c)
 
--- a command may go on behind a file's fault and end so: one that carries lines, whose votes and seals may fail
+-- a command may go on behind a file's fault and end so: one that carries lines, whose votes and seals may fail, and over a host that
+-- doesn't tell what it holds one to which a version is gone that it read at the opening
 abbrev pub MayGoOn : Command → Ending → Type 0
-MayGoOn (Run m) e = IsCarried e
-MayGoOn (Load n seed m) e = IsLoadCarried e
+MayGoOn (Run m) e = MayEndRun e
+MayGoOn (Load n seed m) e = MayEndLoad e
 MayGoOn _ e = ⊥
 
 -- What holds over any host, one that tells nothing of what it holds too: the words alone say what is bad use, but for want of

@@ -8,9 +8,9 @@ use Rattle.core_model.specs.LegalRuns.{Run, begins}
 use Rattle.script_tree.specs.Programs.{ProgramTree}
 use Rattle.promise_spec.specs.Entries.{Standing}
 
--- how many of the grains that were used last stay in memory: all
+-- how many of the grains that were used last stay in memory
 abbrev pub memory_limit : Option ℕ
-memory_limit = None
+memory_limit = Some 4096
 
 -- the core's run: its units are numbered from the next number on, and its grains have the states that the log stands for
 abbrev pub core_from : ProgramTree → Standing → List CoreEvent → Run

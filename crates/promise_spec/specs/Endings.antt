@@ -1,5 +1,5 @@
 -- How a run ends.
-use Rattle.std.specs.Prelude.{ℕ, Bool, true, false, Option, Some, None, ⊤}
+use Rattle.std.specs.Prelude.{◌⊎◌, ℕ, Bool, true, false, Option, Some, None, ⊤}
 use Rattle.host_trait.specs.declared.channels.Channel.{Channel}
 use Rattle.host_trait.specs.declared.channels.Channel.TheVariants.{Input, Output, File}
 use Rattle.host_trait.specs.declared.channels.FileId.{FileId}
@@ -73,6 +73,19 @@ IsCarried ending = IsMarked (says ending).opened
 -- a load may end so after it has opened the silo that it made: as a run, but for what comes of an input
 abbrev pub IsLoadCarried : Ending → Type 0
 IsLoadCarried ending = IsMarked (says ending).loaded
+
+-- no version stands any more where one stood at the opening
+abbrev pub IsDamage : Ending → Type 0
+IsDamage (Damaged file place) = ⊤
+IsDamage _ = ⊥
+
+-- a run may end so over any host though it has gone on behind a file's fault: over one that tells what it holds it is carried then
+abbrev pub MayEndRun : Ending → Type 0
+MayEndRun ending = IsCarried ending ⊎ IsDamage ending
+
+-- and a load
+abbrev pub MayEndLoad : Ending → Type 0
+MayEndLoad ending = IsLoadCarried ending ⊎ IsDamage ending
 
 -- each line that may begin is settled, and all that is settled has been written
 abbrev pub IsAllWritten : Ending → Type 0

@@ -44,7 +44,7 @@ IsLowestHeld w u g = (h : GrainId) → holds_lock u (w.cells.holds h) ≡ true �
 -- An event may be made of a unit or a line in this state, by what each unit got: a line's event is what the line
 -- reads as; each other one is what the unit's script asks for next, over what it was given, and at its end the whole
 -- effect is the call's; locks go in ascending order. A unit wants the grain of the lock that its script asks for next to be in
--- memory. Nothing is loaded, since every grain is in memory. Events of the settler are no unit's.
+-- memory. Events of the settler and loads are no unit's: whether a load is true is said beside this rule.
 abbrev pub IsDue : Basis → CoreState → (UnitNo → List Got) → CoreEvent → Type 0
 IsDue s w got (Bad n why) = IsBadLine s.types s.lines n why
 IsDue s w got (Begin (Line n) call plain) =
@@ -58,7 +58,6 @@ IsDue s w got (EndPlain u e) = (wanted_by s.types w u (got u) ≡ Some (Over e.r
 IsDue s w got (Release u g) = IsLowestHeld w u g
 IsDue s w got (EndSnapshot u at outcome) = ⊥
 IsDue s w got (Want u g) = (mode : Mode) × (wanted_lock (wanted_by s.types w u (got u)) ≡ Some (g, mode))
-IsDue s w got (Load g u state) = ⊥
 IsDue s w got _ = ⊤
 
 -- each event of the run that applies is due in the state before it

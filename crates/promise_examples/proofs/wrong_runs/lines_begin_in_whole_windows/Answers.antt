@@ -1,5 +1,5 @@
 use Rattle.promise_spec.proofs.OpenedRuns.{unbegun_entry}
-use Rattle.promise_examples.proofs.WrongRuns.{begun_unread, begun_bad, begun_in_bad, unallowed_entry, unanswered_line, begun_none, unbegun_record, begun_at_seam}
+use Rattle.promise_examples.proofs.WrongRuns.{begun_unread, begun_bad, begun_in_bad, unallowed_entry, unanswered_line, begun_none, unbegun_record, begun_at_seam, begun_while_wanted}
 use Rattle.promise_examples.proofs.wrong_runs.lines_begin_in_whole_windows.Goals as goal
 
 pub returns-clause-fault : goal.returns-clause-fault
@@ -28,3 +28,6 @@ returns-clause-record c = unbegun_record
 
 pub returns-clause-seam : goal.returns-clause-seam
 returns-clause-seam c = begun_at_seam
+
+pub returns-clause-wanted : goal.returns-clause-wanted
+returns-clause-wanted c = begun_while_wanted
