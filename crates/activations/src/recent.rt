@@ -1,4 +1,4 @@
-ghost use Rattle.std.specs.Prelude.{◌≡◌, [], ◌∷◌, Some, true, slice_get, IsOk, IfOk, OnOk, OnErr};
+ghost use Rattle.std.specs.Prelude.{◌≡◌, [], ◌∷◌, Some, true, slice_get, length, nat_lt, IsOk, IfOk, OnOk, OnErr};
 ghost use Rattle.std.specs.NonZero.{non_zero_usize_get};
 ghost use Rattle.core_model.specs.Tests.{any};
 ghost use Rattle.core_model.specs.Changes.{touched};
@@ -41,6 +41,13 @@ impl Recent {
         ensures { result ≡ any (same_grain grain) self.now.grains }
     {
         self.cache.contains(&grain)
+    }
+
+    /// Whether fewer grains were used than may be kept.
+    pub fn has_space(&self) -> bool
+        ensures { result ≡ nat_lt (length self.now.grains) self.now.limit }
+    {
+        self.cache.len() < self.cache.cap().get()
     }
 
     /// The grain is used: it comes first. Answers which grain is none of those used last any more for that, if one is. Without

@@ -17,7 +17,7 @@ use Rattle.cell_memory.proofs.Evictions.{ReadersHold, sweeps}
 use Rattle.cell_memory.proofs.TouchedGrains.{covered}
 
 -- no event changes how many grains are kept
-same-limit : (w : CoreState) (e : CoreEvent) (w' : CoreState) → Change w e w' → w'.cells.capacity ≡ w.cells.capacity
+pub same-limit : (w : CoreState) (e : CoreEvent) (w' : CoreState) → Change w e w' → w'.cells.capacity ≡ w.cells.capacity
 same-limit w e w' (bad line why q) = refl
 same-limit w e w' (begin origin call plain c) = refl
 same-limit w e w' (lock u g mode running free first here) = refl

@@ -1,3 +1,4 @@
 pub mod KeptCells
 pub mod LeavingGrains
 pub mod ChangedCells
+pub mod SpareMemory

@@ -8,10 +8,12 @@ ghost use Rattle.core_model.specs.CoreState.{CoreState, put_grain};
 ghost use Rattle.core_model.specs.declared.events.CoreEvent.{CoreEvent};
 ghost use Rattle.core_model.specs.Changes.{after_lock, after_raise, after_release, after_learn, cleaned, loaded, restacked, touched};
 ghost use Rattle.core_model.specs.Events.{applies, does, step};
+ghost use Rattle.core_model.specs.Laws.{extended};
 ghost use Rattle.core_model.specs.LegalRuns.{Run, ends};
 ghost use Rattle.cell_memory.specs.ChangedCells.{brought, after_grant_in, after_release_in, after_learn_in};
 ghost use Rattle.cell_memory.specs.KeptCells.{CellsKept, StandsForCells};
 ghost use Rattle.cell_memory.specs.LeavingGrains.{touches, evicted_by};
+ghost use Rattle.cell_memory.specs.SpareMemory.{has_space};
 
 /// Where what is kept stands for the cells once an event did what it does, it stands for those of the step once each grain that the
 /// event touches is gone that leaves: no other grain is looked at, and none leaves where memory has no limit. It holds of every list
@@ -53,4 +55,11 @@ pub fn ended_units_change_one_cell()
     ensures learns { (limit : Option ℕ) (cell : CellsKept) (recent : List GrainId) (w : CoreState) (g : GrainId) (x : Cell) (u : UnitNo)
         → StandsForCells limit cell recent w.cells → cell g ≡ Some x
         → StandsForCells limit (put_grain cell g (Some (after_learn_in w u x))) recent (after_learn w u g).cells }
+{}
+
+/// While memory has space for one grain more, whoever uses it, each grain that once was in memory is in it still. Nothing is asked of a
+/// load.
+pub fn none_leaves_spare_memory()
+    ensures { (r : Run) (more : List CoreEvent) (g : GrainId) → 0 < r.base → has_space (ends (extended r more)).cells ≡ true
+        → (ends r).cells.here g ≡ true → (ends (extended r more)).cells.here g ≡ true }
 {}

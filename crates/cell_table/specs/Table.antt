@@ -6,7 +6,8 @@ use Rattle.base_types.specs.declared.calls.GrainId.{GrainId}
 use Rattle.base_types.specs.declared.calls.UnitNo.{UnitNo}
 use Rattle.base_types.specs.declared.shapes.Shape.{Shape}
 use Rattle.base_types.specs.declared.shapes.TypeShape.{TypeShape}
-use Rattle.base_types.specs.declared.stores.Store.{Store}
+use Rattle.base_types.specs.declared.places.Placed.{Placed as PlacedVersion}
+use Rattle.base_types.specs.Places.{placed_in}
 use Rattle.base_types.specs.Stores.{grain_cmp, state_in}
 use Rattle.cell_model.specs.Cells.{Cell, opened}
 use Rattle.base_types.specs.Grains.{same_grain}
@@ -16,6 +17,8 @@ use Rattle.core_model.specs.Tests.{any, is_empty, is_single}
 use Rattle.grain_cell.specs.Room.{CellInRoom}
 use Rattle.activations.specs.LastUsed.{LastUsed, others}
 use Rattle.cell_memory.specs.KeptCells.{CellsKept}
+use Rattle.cell_table.specs.declared.opening_states.OpeningStates.{OpeningStates}
+use Rattle.cell_table.specs.declared.opening_states.OpeningStates.TheVariants.{Stored, Placed}
 use Rattle.cell_table.specs.declared.table.CellTable.{CellTable}
 
 -- a type's initial fields, none past the last type
@@ -28,9 +31,19 @@ abbrev pub state_or : Option (List Value) → List Value → List Value
 state_or None initial = initial
 state_or (Some state) initial = state
 
+-- the state of the version that is known of a place
+abbrev pub known_in : Option PlacedVersion → Option (List Value)
+known_in None = None
+known_in (Some p) = Some p.known.version.state
+
+-- the state with which a grain opens, where that isn't its type's initial one
+abbrev pub opened_in : OpeningStates → GrainId → Option (List Value)
+opened_in (Stored store) g = state_in store g
+opened_in (Placed places) g = known_in (placed_in places.value g)
+
 -- the state with which a grain opens
-abbrev pub opening_state : Shape → Store → GrainId → List Value
-opening_state shape store g = state_or (state_in store g) (initial_fields (slice_get shape.types g.kind))
+abbrev pub opening_state : Shape → OpeningStates → GrainId → List Value
+opening_state shape opened g = state_or (opened_in opened g) (initial_fields (slice_get shape.types g.kind))
 
 -- how many of the grains used last stay in memory, whoever uses them; none where every grain does
 abbrev pub limit_of : Option LastUsed → Option ℕ
@@ -44,7 +57,7 @@ pub record TableOpening : Type 0 where
 
 -- what a table began with
 abbrev pub opens_with : CellTable → TableOpening
-opens_with t = record { states = opening_state t.shape t.store; limit = limit_of t.recent }
+opens_with t = record { states = opening_state t.shape t.opened; limit = limit_of t.recent }
 
 -- the grain's cell, where it has one
 abbrev pub cell_at : CellTable → GrainId → Option CellInRoom

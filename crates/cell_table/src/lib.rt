@@ -7,5 +7,6 @@ mod opening_states;
 mod table;
 mod wanted_grains;
 
+pub use opening_states::OpeningStates;
 pub use table::CellTable;
 pub use wanted_grains::is_wanted;

@@ -11,12 +11,13 @@ ghost use Rattle.core_model.specs.CoreState.{put_grain};
 ghost use Rattle.rw_locks.specs.LockView.{holds_alone};
 ghost use Rattle.grain_cell.specs.Room.{without_aborted};
 ghost use Rattle.cell_memory.specs.LeavingGrains.{evicted_by, wanted_of};
+ghost use Rattle.cell_memory.specs.SpareMemory.{has_space_for};
 ghost use Rattle.cell_table.specs.Table.{cell_in, cells_kept, has_cell, here_in, kept_by, leaves_where, left_after, limit_of, opening_state, opens_with, spare_in, used_after, used_of};
 
-use crate::opening_states::opening_state;
+use crate::opening_states::{OpeningStates, opening_state};
 use crate::wanted_grains::{is_wanted, is_wanted_by_others};
 use activations::Recent;
-use base_types::{GrainId, Mode, Shape, State, Store, UnitNo, Version};
+use base_types::{GrainId, Mode, Shape, State, UnitNo, Version};
 use cell_model::Ask;
 use grain_cell::{Cell, Granted};
 use std::alloc::{AllocError, Global};
@@ -29,23 +30,28 @@ pub struct CellTable {
     cells: BTreeMap<GrainId, Cell>,
     recent: Option<Recent>,
     shape: Shape,
-    store: Store,
+    opened: OpeningStates,
     alloc: Global,
 }
 
 impl CellTable {
-    /// Each grain has its state of the store, or its type's initial fields, and nobody has a lock. No grain was used yet, and none
-    /// is in memory; where no grains used last are given, memory has no limit, and every grain is in it. Takes no memory.
-    pub fn new(alloc: Global, shape: Shape, store: Store, recent: Option<Recent>) -> CellTable
-        ensures cells { cells_kept result ≡ (λ g. kept_by None recent (opening_state shape store g)) }
+    /// Each grain has the state with which it opens, and nobody has a lock. No grain was used yet, and none is in memory; where no
+    /// grains used last are given, memory has no limit, and every grain is in it. Takes no memory.
+    pub fn new(
+        alloc: Global,
+        shape: Shape,
+        opened: OpeningStates,
+        recent: Option<Recent>,
+    ) -> CellTable
+        ensures cells { cells_kept result ≡ (λ g. kept_by None recent (opening_state shape opened g)) }
         ensures recent { result.recent ≡ recent }
-        ensures opens { opens_with result ≡ record { states = opening_state shape store; limit = limit_of recent } }
+        ensures opens { opens_with result ≡ record { states = opening_state shape opened; limit = limit_of recent } }
     {
         CellTable {
             cells: BTreeMap::new(alloc),
             recent,
             shape,
-            store,
+            opened,
             alloc,
         }
     }
@@ -95,6 +101,16 @@ impl CellTable {
         ensures { result ≡ is_some self.now.recent }
     {
         self.recent.is_some()
+    }
+
+    /// Whether memory has no limit, or fewer grains were used than stay in it, whoever uses them.
+    pub fn has_space(&self) -> bool
+        ensures { result ≡ has_space_for (limit_of self.now.recent) (used_of self.now.recent) }
+    {
+        match &self.recent {
+            Some(recent) => recent.has_space(),
+            None => true,
+        }
     }
 
     /// Whether the grain is in memory.
@@ -154,7 +170,7 @@ impl CellTable {
         if self.cells.contains_key(&grain) {
             return Ok(());
         }
-        let state = opening_state(self.alloc, &self.shape, &self.store, grain)?;
+        let state = opening_state(self.alloc, &self.shape, &self.opened, grain)?;
         let unit = UnitNo(0);
         let cell = Cell::new(self.alloc, Version { unit, state })?;
         self.cells.insert(grain, cell)?;

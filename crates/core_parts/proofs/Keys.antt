@@ -11,10 +11,10 @@ use Rattle.base_types.specs.declared.calls.UnitNo.{UnitNo}
 use Rattle.base_types.specs.declared.calls.GrainId.{GrainId}
 use Rattle.base_types.specs.declared.calls.Value.{Value}
 use Rattle.base_types.specs.Stores.{grain_cmp}
-use Rattle.core_parts.specs.declared.last_states.LastStates.{LastStates}
+use Rattle.core_parts.specs.declared.kept_states.KeptStates.{KeptStates}
 use Rattle.core_parts.specs.declared.handed_states.HandedStates.{HandedStates}
 use Rattle.core_parts.specs.declared.handed_states.HandedKey.{HandedKey}
-use Rattle.core_parts.specs.States.{unit_cmp, handed_cmp, last_in, has_place, PutsLast, KeepsPlaces, PutsHanded}
+use Rattle.core_parts.specs.States.{unit_cmp, handed_cmp, kept_in, is_placed, PutsKept, KeepsPlaced, PutsHanded}
 
 -- what holds after a call that went well, where it did
 pub when_ok : {A E P : Type 0} (r : Result A E) → OnOk r P → is_ok r ≡ true → P
@@ -57,8 +57,8 @@ other_grain : (a b : GrainId) → b ≢ a → is_at (grain_cmp a) b ≡ false
 other_grain a b other = apart (is_at (grain_cmp a) b) (λ e. other (sym (exact_grain a b e)))
 
 -- a grain gets a last state
-pub puts_last : (old new : LastStates) (grain : GrainId) (state : List Value) → Updates grain_cmp old.states new.states grain (Some (Some state)) → PutsLast old new grain state
-puts_last old new grain state updates = record {
+pub puts_kept : (old new : KeptStates) (grain : GrainId) (state : List Value) → Updates grain_cmp old.states new.states grain (Some (Some state)) → PutsKept old new grain state
+puts_kept old new grain state updates = record {
   put = ap option_flatten updates.1;
   others = λ other differs. ap option_flatten (updates.2 other (other_grain grain other differs));
 }
@@ -68,8 +68,8 @@ some_stays true x o some = refl
 some_stays false x o some = some
 
 -- a grain that is written to keeps its place, and so do the others
-pub keeps_places : (old new : LastStates) (grain : GrainId) (kept : Option (List Value)) → Updates grain_cmp old.states new.states grain (Some kept) → KeepsPlaces old new
-keeps_places old new grain kept updates = λ other place.
+pub keeps_placed : (old new : KeptStates) (grain : GrainId) (kept : Option (List Value)) → Updates grain_cmp old.states new.states grain (Some kept) → KeepsPlaced old new
+keeps_placed old new grain kept updates = λ other place.
     ap is_some (updates.0 other) ∙ some_stays (is_at (grain_cmp grain) other) kept (get grain_cmp old.states other) place
 
 no_state : {A : Type 0} (b : Bool) (o : Option (Option A)) → (b ≡ true → is_some o ≡ false) → option_flatten (cond b (Some None) o) ≡ option_flatten o
@@ -78,10 +78,10 @@ no_state true None none = refl
 no_state true (Some kept) none = absurd (cc (none refl))
 
 -- a new place without a state changes no state
-pub same_states : (old new : LastStates) (grain : GrainId) → has_place old grain ≡ false → Updates grain_cmp old.states new.states grain (Some None) → (other : GrainId) → last_in new other ≡ last_in old other
-same_states old new grain none updates other =
+pub same_kept : (old new : KeptStates) (grain : GrainId) → is_placed old grain ≡ false → Updates grain_cmp old.states new.states grain (Some None) → (other : GrainId) → kept_in new other ≡ kept_in old other
+same_kept old new grain none updates other =
     ap option_flatten (updates.0 other)
-    ∙ no_state (is_at (grain_cmp grain) other) (get grain_cmp old.states other) (λ e. ap (has_place old) (sym (exact_grain grain other e)) ∙ none)
+    ∙ no_state (is_at (grain_cmp grain) other) (get grain_cmp old.states other) (λ e. ap (is_placed old) (sym (exact_grain grain other e)) ∙ none)
 
 -- a unit gets a state for a grain, or has it no longer
 pub puts_handed : (old new : HandedStates) (unit : UnitNo) (grain : GrainId) (state : Option (List Value)) →

@@ -1,8 +1,12 @@
-ghost use Rattle.std.specs.Prelude.{◌≡◌, IfOk};
+ghost use Rattle.std.specs.Prelude.{◌≡◌, [], IfOk};
+ghost use Rattle.cell_table.specs.Table.{used_of};
 
+use activations::Recent;
 use base_types::{GrainId, List, Shape, State, Store, Text, TypeShape, UnitNo, Value};
+use cell_table::OpeningStates;
 use history_core::Opening;
 use std::alloc::{AllocError, Global};
+use std::num::NonZeroUsize;
 
 // The state of one number.
 fn number_state(alloc: Global, number: i64) -> Result<State, AllocError> {
@@ -30,16 +34,31 @@ fn shape(alloc: Global) -> Result<Shape, AllocError> {
     Ok(Shape { types })
 }
 
-/// An opening whose first unit has that number. The grain of the first type with the key 0 has 100.
-pub fn opening(alloc: Global, next_unit: u64) -> Result<Opening, AllocError>
-    ensures { IfOk result (λ made. made.next_unit.0 ≡ next_unit) }
+// None of the grains used last, of which so many stay in memory; none at all where that is 0, so that every grain does.
+fn recent(alloc: Global, limit: usize) -> Result<Option<Recent>, AllocError>
+    ensures { IfOk result (λ made. used_of made ≡ []) }
+{
+    let Some(limit) = NonZeroUsize::new(limit) else {
+        return Ok(None);
+    };
+    let recent = Recent::new(alloc, limit)?;
+    Ok(Some(recent))
+}
+
+/// An opening whose first unit has that number. The grain of the first type with the key 0 has 100. So many of the grains used
+/// last stay in memory, and every grain where that is 0.
+pub fn opening(alloc: Global, next_unit: u64, limit: usize) -> Result<Opening, AllocError>
+    ensures unit { IfOk result (λ made. made.next_unit.0 ≡ next_unit) }
+    ensures unused { IfOk result (λ made. used_of made.recent ≡ []) }
 {
     let shape = shape(alloc)?;
     let mut store = Store::new(alloc);
     store.put(GrainId { kind: 0, key: 0 }, number_state(alloc, 100)?)?;
     Ok(Opening {
         shape,
-        store,
+        opened: OpeningStates::Stored(store),
         next_unit: UnitNo(next_unit),
+        recent: recent(alloc, limit)?,
+        keeps_last: true,
     })
 }

@@ -35,7 +35,7 @@ impl Run {
     pub fn new(alloc: Global) -> Result<Run, AllocError> {
         Ok(Run {
             alloc,
-            core: Core::new(alloc, opening(alloc, 1)?),
+            core: Core::new(alloc, opening(alloc, 1, 0)?),
             written: Vec::new(alloc),
             draft: Draft::new(alloc),
             said: String::new(alloc),
@@ -152,12 +152,12 @@ impl Run {
         Ok(())
     }
 
-    // A new core, whose first unit has that number.
-    fn open(&mut self, base: u64) -> Result<(), AllocError> {
+    // A new core, whose first unit has that number; so many of the grains used last stay in memory, or all where that is 0.
+    fn open(&mut self, base: u64, limit: u32) -> Result<(), AllocError> {
         if base == 0 || base > LAST_BASE {
             return self.said.push_str("no such number");
         }
-        self.core = Core::new(self.alloc, opening(self.alloc, base)?);
+        self.core = Core::new(self.alloc, opening(self.alloc, base, limit as usize)?);
         self.written.clear();
         self.wanted = None;
         self.said.push_str("opened")
@@ -166,7 +166,7 @@ impl Run {
     // What a line asks that puts no event, but for a spoilt line.
     fn look(&mut self, look: Look, numbers: Numbers) -> Result<(), AllocError> {
         match look {
-            Look::Open => self.open(natural(numbers.first)),
+            Look::Open => self.open(natural(numbers.first), short(numbers.second)),
             Look::Sum => {
                 self.ask(numbers)?;
                 let sum = sum_of(self.answered.as_str());

@@ -66,7 +66,11 @@ fn add_unit(out: &mut String, core: &Core, unit: UnitNo, whole: bool) -> Result<
     Ok(())
 }
 
+// The last states, where they are kept.
 fn add_grains(out: &mut String, core: &Core) -> Result<(), AllocError> {
+    if !core.keeps_last() {
+        return Ok(());
+    }
     for grain in GRAINS {
         add_last(out, core.last_state(grain))?;
         out.push_str(" ")?;

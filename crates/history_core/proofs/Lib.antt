@@ -26,3 +26,4 @@ pub mod Loops
 pub mod QuestionAnswers
 pub mod LineNumbers
 pub mod LastWriters
+mod SparedEvents

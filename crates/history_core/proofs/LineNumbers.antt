@@ -87,17 +87,17 @@ step-few w e fits h = go (applies w e) refl
 pub few-after : (p p' : Parts) (base kinds : ℕ) (es es' : List CoreEvent) (e : CoreEvent) → opens_with p'.cells ≡ opens_with p.cells → es' ≡ es ++ e ∷ [] → FitsEvent e →
     lines (ends (run_with base kinds p.cells es)) < 2 ^ 32 → lines (ends (run_with base kinds p'.cells es')) < 2 ^ 32
 few-after p p' base kinds es es' e o h fits few =
-    subst (λ w. lines w < 2 ^ 32) (sym ((λ i. run (start base kinds None (o i).states) (h i)) ∙ run-last (start base kinds None (opens_with p.cells).states) es e))
-    (step-few (run (start base kinds None (opens_with p.cells).states) es) e fits few)
+    subst (λ w. lines w < 2 ^ 32) (sym ((λ i. run (start base kinds (o i).limit (o i).states) (h i)) ∙ run-last (start base kinds (opens_with p.cells).limit (opens_with p.cells).states) es e))
+    (step-few (run (start base kinds (opens_with p.cells).limit (opens_with p.cells).states) es) e fits few)
 
 -- of the run that is as it was
 pub few-before : (p p' : Parts) (base kinds : ℕ) (es : List CoreEvent) → opens_with p'.cells ≡ opens_with p.cells →
     lines (ends (run_with base kinds p.cells es)) < 2 ^ 32 → lines (ends (run_with base kinds p'.cells es)) < 2 ^ 32
-few-before p p' base kinds es o few = subst (λ w. lines w < 2 ^ 32) (sym (λ i. run (start base kinds None (o i).states) es)) few
+few-before p p' base kinds es o few = subst (λ w. lines w < 2 ^ 32) (sym (λ i. run (start base kinds (o i).limit (o i).states) es)) few
 
 -- before any event
 pub few-new : (p : Parts) (base kinds : ℕ) (es : List CoreEvent) → es ≡ [] → lines (ends (run_with base kinds p.cells es)) < 2 ^ 32
 few-new p base kinds es h = subst (λ xs. lines (ends (run_with base kinds p.cells xs)) < 2 ^ 32) (sym h) (none base kinds)
   where
-    none : (b k : ℕ) → lines (start b k None (opens_with p.cells).states) < 2 ^ 32
+    none : (b k : ℕ) → lines (start b k (opens_with p.cells).limit (opens_with p.cells).states) < 2 ^ 32
     none b k = (let t : 0 < 2 ^ 32 = omega arith in t)

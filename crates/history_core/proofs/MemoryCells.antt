@@ -23,6 +23,11 @@ stands-as limit limit' cell cell' used used' c l k u s = record {
   away = λ g e. s.away g ((λ i. sym k i g) ∙ e);
 }
 
+-- memory has a limit where grains used last are kept
+pub limit-some : (r : Option LastUsed) → is_some r ≡ is_some (limit_of r)
+limit-some None = refl
+limit-some (Some used) = refl
+
 -- the same cells are kept in another table
 pub stands-in : (t n : CellTable) (c : Cells) → cells_kept n ≡ cells_kept t → n.recent ≡ t.recent → opens_with n ≡ opens_with t →
     StandsForCells (opens_with t).limit (cells_kept t) (used_of t.recent) c → StandsForCells (opens_with n).limit (cells_kept n) (used_of n.recent) c

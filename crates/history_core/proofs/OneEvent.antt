@@ -39,11 +39,11 @@ takes-not p e told reply t gone d = λ w s r. (let a = sym (t w s r) ∙ gone in
 pub stands-after : (p p' : Parts) (base kinds : ℕ) (es es' : List CoreEvent) (e : CoreEvent) → opens_with p'.cells ≡ opens_with p.cells → es' ≡ es ++ e ∷ [] →
     PartsStand p' (step (ends (run_with base kinds p.cells es)) e) → PartsStand p' (ends (run_with base kinds p'.cells es'))
 stands-after p p' base kinds es es' e o h s =
-    subst (PartsStand p') (sym ((λ i. run (start base kinds None (o i).states) (h i)) ∙ run-last (start base kinds None (opens_with p.cells).states) es e)) s
+    subst (PartsStand p') (sym ((λ i. run (start base kinds (o i).limit (o i).states) (h i)) ∙ run-last (start base kinds (opens_with p.cells).limit (opens_with p.cells).states) es e)) s
 
 pub stands-before : (p p' : Parts) (base kinds : ℕ) (es : List CoreEvent) → opens_with p'.cells ≡ opens_with p.cells →
     PartsStand p' (ends (run_with base kinds p.cells es)) → PartsStand p' (ends (run_with base kinds p'.cells es))
-stands-before p p' base kinds es o s = subst (PartsStand p') (sym (λ i. run (start base kinds None (o i).states) es)) s
+stands-before p p' base kinds es o s = subst (PartsStand p') (sym (λ i. run (start base kinds (o i).limit (o i).states) es)) s
 
 pub reached-core : (p : Parts) (base kinds : ℕ) (es : List CoreEvent) → 0 < base → IsCoreReached (ends (run_with base kinds p.cells es))
 reached-core p base kinds es above = (run_with base kinds p.cells es, above, refl)

@@ -26,11 +26,26 @@ impl Core {
 }
 
 impl Model for Core {
+    ghost use Rattle.std.specs.Prelude.{Some};
+    ghost use Rattle.std.specs.Coded.{codes};
+    ghost use Rattle.cell_table.specs.contracts.opening_states.OpeningStates as opening;
+    ghost use Rattle.cell_table.specs.Table.{limit_of};
+    ghost use Rattle.core_parts.specs.States.{keeps_states};
     ghost use Rattle.history_core.specs.Cores.{CoreData, IsCore};
 
     ghost Value = { CoreData };
 
-    ghost view = { λ c. record { base = c.base; kinds = c.kinds; shape = c.parts.cells.shape; states = c.parts.cells.store.states.entries; events = c.history.events } };
+    ghost coded = { Prim.hlevel (codes, opening.the_row.coded) };
+
+    ghost view = { λ c. record {
+      base = c.base;
+      kinds = c.kinds;
+      limit = limit_of c.parts.cells.recent;
+      shape = c.parts.cells.shape;
+      opened = Some c.parts.cells.opened;
+      keeps = keeps_states c.parts.last;
+      events = c.history.events;
+    } };
 
     ghost invariant = { λ c. IsCore c.parts c.base c.kinds c.history.events };
 }

@@ -13,7 +13,7 @@ use crate::printer::add_found;
 use crate::steps::{Step, state_of};
 use base_types::{GrainId, List, Shape, Store, Text, TypeShape};
 use cell_model::Ask;
-use cell_table::CellTable;
+use cell_table::{CellTable, OpeningStates};
 use std::alloc::{AllocError, Global};
 
 fn shape(alloc: Global) -> Result<Shape, AllocError> {
@@ -36,7 +36,8 @@ fn store(alloc: Global) -> Result<Store, AllocError> {
 
 /// Puts the cells through the steps.
 pub fn play(alloc: Global, out: &mut String, steps: &str) -> Result<(), AllocError> {
-    let mut table = CellTable::new(alloc, shape(alloc)?, store(alloc)?, None);
+    let opened = OpeningStates::Stored(store(alloc)?);
+    let mut table = CellTable::new(alloc, shape(alloc)?, opened, None);
     carry(&mut table, alloc, out, steps)
 }
 

@@ -1,8 +1,8 @@
-use Rattle.std.proofs.Common.{◌≡◌, ◌∙◌, ℕ, sym, ap, refl, subst, List, [], Option, None, false}
+use Rattle.std.proofs.Common.{◌≡◌, ◌∙◌, sym, ap, refl, subst, List, [], None, false}
 use Rattle.base_types.specs.declared.calls.GrainId.{GrainId}
 use Rattle.core_model.specs.declared.events.CoreEvent.{CoreEvent}
 use Rattle.core_model.specs.Events.{run, start}
-use Rattle.cell_table.specs.Table.{TableOpening, cells_kept, kept_by, opens_with, used_of}
+use Rattle.cell_table.specs.Table.{cells_kept, kept_by, opens_with, used_of}
 use Rattle.history_core.specs.declared.parts.Parts.{Parts}
 use Rattle.history_core.specs.KeptParts.{PartsStand}
 use Rattle.history_core.proofs.LineNumbers.{few-new}
@@ -25,16 +25,14 @@ invariant_of-result c =
     } in
     let cells : cells_kept p.cells ≡ (λ (g : GrainId). kept_by None p.cells.recent ((opens_with p.cells).states g)) =
     c.new-2.ensures.cells ∙ (λ i g. kept_by None (sym c.new-2.ensures.recent i) ((sym c.new-2.ensures.opens i).states g)) in
-    let unused : used_of p.cells.recent ≡ [] = ap used_of c.new-2.ensures.recent in
-    let boundless : (opens_with p.cells).limit ≡ None = ap (λ (o : TableOpening). o.limit) c.new-2.ensures.opens in
+    let unused : used_of p.cells.recent ≡ [] = ap used_of c.new-2.ensures.recent ∙ c.requires.unused in
     let base = c.args.opened.next_unit.0 in
     record {
       above = c.requires.above;
-      stands = subst (λ (es : List CoreEvent). PartsStand p (run (start base c.len-kinds.result None (opens_with p.cells).states) es)) (sym c.new-history.ensures)
-          (subst (λ (limit : Option ℕ). PartsStand p (start base c.len-kinds.result limit (opens_with p.cells).states)) boundless
-          (stands-new p base c.len-kinds.result c.new.ensures.units c.new.ensures.verdict c.new.ensures.result cells unused c.new-3.ensures.items refl refl refl c.new-4.ensures.entries c.new-4.ensures.emitted c.new-5.ensures c.new-6.ensures c.requires.few));
+      stands = subst (λ (es : List CoreEvent). PartsStand p (run (start base c.len-kinds.result (opens_with p.cells).limit (opens_with p.cells).states) es)) (sym c.new-history.ensures)
+          (stands-new p base c.len-kinds.result c.new.ensures.units c.new.ensures.verdict c.new.ensures.result cells unused c.new-3.ensures.items refl refl refl c.new-4.ensures.entries c.new-4.ensures.emitted c.new-5.ensures c.new-6.ensures.none c.requires.few);
       few = few-new p base c.len-kinds.result c.new-history.result.events c.new-history.ensures;
     }
 
-pub returns : goal.returns
-returns c = λ i. record { base = c.args.opened.next_unit.0; kinds = c.len-kinds.ensures i; capacity = None; opening = (c.new-2.ensures.opens i).states; events = c.new-history.ensures i }
+pub returns-clause-run : goal.returns-clause-run
+returns-clause-run c = λ i. record { base = c.args.opened.next_unit.0; kinds = c.len-kinds.ensures i; capacity = (c.new-2.ensures.opens i).limit; opening = (c.new-2.ensures.opens i).states; events = c.new-history.ensures i }

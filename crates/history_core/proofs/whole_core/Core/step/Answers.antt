@@ -1,4 +1,4 @@
-use Rattle.std.proofs.Common.{◌≡◌, ◌∙◌, ◌∷◌, [], ap, None}
+use Rattle.std.proofs.Common.{◌≡◌, ◌∙◌, ◌∷◌, [], ap}
 use Rattle.core_model.specs.CoreState.{CoreState}
 use Rattle.core_model.specs.Events.{reply_to}
 use Rattle.core_model.specs.Laws.{extended}
@@ -31,8 +31,8 @@ returns-in-Ok-clause-taken c =
     let old = c.self.inside in
     let e = c.args.event in
     let w : CoreState = ends (run_with old.base old.kinds old.parts.cells old.history.events) in
-    let longer : ◌≡◌ {A = Run} (record { base = old.base; kinds = old.kinds; capacity = None; opening = (opens_with c.step.new.self.cells).states; events = c.with-after.result.events }) (extended (run_with old.base old.kinds old.parts.cells old.history.events) (e ∷ [])) =
-    λ i. record { base = old.base; kinds = old.kinds; capacity = None; opening = (c.step.ensures.opens i).states; events = c.with-after.ensures i } in (
+    let longer : ◌≡◌ {A = Run} (record { base = old.base; kinds = old.kinds; capacity = (opens_with c.step.new.self.cells).limit; opening = (opens_with c.step.new.self.cells).states; events = c.with-after.result.events }) (extended (run_with old.base old.kinds old.parts.cells old.history.events) (e ∷ [])) =
+    λ i. record { base = old.base; kinds = old.kinds; capacity = (c.step.ensures.opens i).limit; opening = (c.step.ensures.opens i).states; events = c.with-after.ensures i } in (
       longer ∙ ap (λ (d : CoreData). extended (run_of d) (e ∷ [])) c.self.view_is,
       (c.in-Ok.ensures.ok w c.self.invariant.stands (reached-core old.parts old.base old.kinds old.history.events c.self.invariant.above)).1 ∙ ap (λ (d : CoreData). reply_to (ends (run_of d)) e) c.self.view_is,
     )
@@ -40,8 +40,8 @@ returns-in-Ok-clause-taken c =
 pub returns-in-Err-clause-refused : goal.returns-in-Err-clause-refused
 returns-in-Err-clause-refused c =
     let old = c.self.inside in
-    let same : ◌≡◌ {A = Run} (record { base = old.base; kinds = old.kinds; capacity = None; opening = (opens_with c.step.new.self.cells).states; events = old.history.events }) (run_with old.base old.kinds old.parts.cells old.history.events) =
-    λ i. record { base = old.base; kinds = old.kinds; capacity = None; opening = (c.step.ensures.opens i).states; events = old.history.events } in (
+    let same : ◌≡◌ {A = Run} (record { base = old.base; kinds = old.kinds; capacity = (opens_with c.step.new.self.cells).limit; opening = (opens_with c.step.new.self.cells).states; events = old.history.events }) (run_with old.base old.kinds old.parts.cells old.history.events) =
+    λ i. record { base = old.base; kinds = old.kinds; capacity = (c.step.ensures.opens i).limit; opening = (c.step.ensures.opens i).states; events = old.history.events } in (
       same ∙ ap (λ (d : CoreData). run_of d) c.self.view_is,
       c.in-Err.ensures.err.0,
       c.in-Err.ensures.err.1.1,
