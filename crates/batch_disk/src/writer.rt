@@ -67,6 +67,13 @@ impl BatchWriter {
         }
     }
 
+    /// The slot of the log and of the grains' files.
+    pub fn slot(&self) -> u8
+        ensures { result ≡ self.now.slot }
+    {
+        self.slot
+    }
+
     /// The place of the next gate.
     pub fn gate_at(&self) -> u64
         ensures { result ≡ self.now.gate_at }

@@ -5,8 +5,8 @@ use Rattle.host_trait.specs.declared.channels.Channel.{Channel}
 use Rattle.host_trait.specs.declared.channels.FileId.{FileId}
 use Rattle.host_trait.specs.declared.channels.FileId.TheVariants.{Manager, Grain}
 use Rattle.host_trait.specs.Files.{same_grain}
-use Rattle.host_trait.specs.World.{World, Disk, Moment, Emitted}
-use Rattle.host_trait.specs.Runs.{ChangesFile, RunsOnFile}
+use Rattle.host_trait.specs.World.{World, Disk, Moment, Emitted, moment_of}
+use Rattle.host_trait.specs.Runs.{ChangesFile, RunsOnFile, OnlyAsked}
 use Rattle.host_trait.proofs.Moments.{started, one, both, weaker}
 use Rattle.host_trait.proofs.Names.{same_grain-refl}
 use Rattle.core_model.specs.declared.events.CoreEvent.{CoreEvent}
@@ -34,6 +34,13 @@ file-on file old mid now first second = record {
   moments = both (λ (m : Moment). m.disk file ≡ old.disk file) first.moments
       (weaker (λ (m : Moment). m.disk file ≡ mid.disk file) (λ (m : Moment). m.disk file ≡ old.disk file) (λ m is. is ∙ first.now_is) second.moments);
   now_is = second.now_is ∙ first.now_is;
+}
+
+-- by calls that only ask
+pub file-asked : (file : FileId) (old now : World) → OnlyAsked old now → KeepsFile file old now
+file-asked file old now asked = record {
+  moments = weaker (λ (m : Moment). m ≡ moment_of old) (λ (m : Moment). m.disk file ≡ old.disk file) (λ m is. ap (λ (x : Moment). x.disk file) is) asked.moments;
+  now_is = ap (λ (d : Disk). d file) asked.disk;
 }
 
 -- by calls on another

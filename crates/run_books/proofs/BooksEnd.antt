@@ -39,7 +39,7 @@ use Rattle.settle_loop.specs.HostSteps.{SealsUnits, DoubtsAgain}
 use Rattle.settle_loop.specs.StepJournal.{as_settled, DoubtsBatch}
 use Rattle.settle_loop.specs.declared.settler.Settler.{Settler}
 use Rattle.settle_loop.proofs.StepJournal.{doubted}
-use Rattle.run_books.specs.Beginnings.{Outset, basis_of}
+use Rattle.run_books.specs.Beginnings.{Outset}
 use Rattle.run_books.specs.Books.{Books, AreBooked}
 use Rattle.run_books.specs.Images.{HasOpenBlock, KeepsFolder, LastsSo}
 use Rattle.run_books.specs.Records.{KeepsBooks}
@@ -151,7 +151,7 @@ module _ {H : Type 0} (tells : Bool) (world : H → World) (faults : H → Chann
 
     doubt-of : (t : IsTrue tells) (head : List ℕ) (f : KeepsFolder o head b r before.writer (world old).disk) → DoubtsBatch o.live o.program head f.stood f.bodies before.writer after.writer (world old) (world new) before.writer.gate_at effects batch
     doubt-of t head f =
-        let fair = (is-fair o r before.writer can.above (k.versions t).loads can.units can.kinds can.accepted can.numbers (k.versions t).votes).seal n (seals-step n (settler_step (ends r)) makes) in
+        let fair = (is-fair o r before.writer can.above can.units can.kinds can.accepted can.numbers (k.versions t).votes).seal n (seals-step n (settler_step (ends r)) makes) in
         as-doubt t head f does.answer does.event (does.leaves.seals t (shape_in o.program) head f.stood f.bodies n effects does.records fair.0 fair.1 f.keeps)
 
     module _ (t : IsTrue tells) (head : List ℕ) (l : LastsSo o head b r before.writer (world old)) where
@@ -204,7 +204,7 @@ module _ {H : Type 0} (tells : Bool) (world : H → World) (faults : H → Chann
           (subst (λ (log : Log). Doubts o.live log (as_settled batch) (world old) (world new)) f.log doubts)
           (subst (λ (log : Log). SomeImage (λ image. IsLog o.live image (grown log batch)) (world new).disk) f.log some) d.rest d.doubt.rest
           (λ x y said there is.
-          fresh-doubt (basis_of o) r e batch can.above (versions t).loads c.units of_batch of_chosen (committed-stays r can.above e refl) x y
+          fresh-doubt r e batch can.above of_batch of_chosen (committed-stays r can.above e refl) x y
           (subst (λ (xs : List Entry). Member x xs) booked'.entries (subst (λ (j : List Settlement). Member x (entries_of j)) (sym named) said)) there is)
           (block-of d (grown o.opening (commits_of ((b.said ++ ((b.unsaid ++ []) ++ alone m.more)) ++ as_settled batch ∷ [])))
           (inr (

@@ -10,7 +10,7 @@ use Rattle.host_trait.specs.declared.channels.FileId.TheVariants.{Grain, Manager
 use Rattle.host_trait.specs.Faults.{NoneFailed, FailedOn}
 use Rattle.host_trait.specs.Files.{same_grain}
 use Rattle.host_trait.specs.World.{World}
-use Rattle.host_trait.specs.Runs.{RunsOnFile}
+use Rattle.host_trait.specs.Runs.{RunsOnFile, OnlyAsked}
 use Rattle.commit_log.specs.declared.gate.Sealing.{Sealing}
 use Rattle.commit_log.specs.declared.gate.Sealing.TheVariants as sealing
 use Rattle.commit_log.specs.declared.records.CommitRecord.{CommitRecord}
@@ -44,7 +44,7 @@ use Rattle.settle_loop.specs.declared.settler.Settler.{Settler}
 use Rattle.run_books.specs.Beginnings.{Outset, basis_of}
 use Rattle.run_books.specs.Books.{Books, AreInDoubt}
 use Rattle.run_books.specs.Records.{KeepsBooks, CountsCalls}
-use Rattle.run_books.proofs.BooksCalls.{file-same, votes-none, calls-same, calls-vote, calls-seal}
+use Rattle.run_books.proofs.BooksCalls.{file-same, file-asked, votes-none, calls-same, calls-vote, calls-seal}
 use Rattle.run_books.proofs.BooksCore.{Moves}
 use Rattle.run_books.proofs.BooksCounts.{how-same, how-one}
 use Rattle.run_books.proofs.BooksFaults.{NoneFell, failed-later, calm-later, faults-same, faults-unsealed, faults-no, rose-back, none-failed}
@@ -106,6 +106,19 @@ module _ {H : Type 0} (tells : Bool) (world : H → World) (faults : H → Chann
         (λ t. calls-same o r r' (faults old) (faults new) (world old) (world new) (k.outside t).calls (rose-back o.faults (faults old) (faults new) k.later later)
         (how-same is_vote r e vote) (how-same is_sealed r e sealed) (how-same is_unsealed r e unsealed) (λ g. how-same (is_vote_of g) r e (votes-none g e vote))
         (ap (λ (h : H). (world h).syncs) does.host) (λ g. file-same (Grain o.live g) (world old) (world new) (ap world does.host)))
+
+    -- where a grain's version was read
+    pub adds-asked : tells_doubt e ≡ false → after.doubted ≡ before.doubted → ((g : GrainId) → is_no g e ≡ false) → is_unsealed e ≡ false → is_vote e ≡ false → is_sealed e ≡ false
+        → after.writer ≡ before.writer → NoneFailed (faults old) (faults new) → (IsTrue tells → OnlyAsked (world old) (world new))
+        → AddsBatch tells o r r' before after (faults old) (faults new) (world old) (world new) [] b.doubted
+    adds-asked sure doubted votes unsealed vote sealed writer calm asked =
+        let later : NoneFell (faults old) (faults new) = calm-later (faults old) (faults new) calm in
+        plain-adds sure doubted (ap (λ (w : BatchWriter). w.in_doubt) writer) (ap (λ (w : BatchWriter). w.slot) writer) [] [] refl (none-more sealed) tt
+        (faults-same o.live r r' o.faults (faults old) (faults new) k.faults later (λ g. how-same (is_no g) r e (votes g)) (how-same is_unsealed r e unsealed))
+        later (λ t. (asked t).output)
+        (λ t. calls-same o r r' (faults old) (faults new) (world old) (world new) (k.outside t).calls (rose-back o.faults (faults old) (faults new) k.later later)
+        (how-same is_vote r e vote) (how-same is_sealed r e sealed) (how-same is_unsealed r e unsealed) (λ g. how-same (is_vote_of g) r e (votes-none g e vote))
+        (asked t).syncs (λ g. file-asked (Grain o.live g) (world old) (world new) (asked t)))
 
   -- a vote
   pub adds-vote : (n : ℕ) (g : GrainId) (said : Bool) (versions : List Version) → applies (ends r) (event.Vote n g said) ≡ true → Moves (ends r) (event.Vote n g said) (ends (extended r (event.Vote n g said ∷ [])))

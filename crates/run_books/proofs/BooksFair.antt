@@ -1,5 +1,5 @@
 -- What the core's run and what the writer keeps give the settler for its next step, and what the writer keeps after it.
-use Rattle.std.proofs.Common.{◌≡◌, ◌≢◌, ◌⊎◌, inl, inr, ℕ, zero, suc, slice_get, ◌==◌, ◌<◌, ◌≤◌, ◌^◌, List, [], ◌∷◌, ◌++◌, length, take, drop, map, filter, Bool, true, false, if◌then◌else◌, refl, sym, ap, ◌∙◌, subst, arith, eqb-true, Option, Some, None}
+use Rattle.std.proofs.Common.{◌≡◌, ◌≢◌, ◌⊎◌, inl, inr, ℕ, zero, suc, slice_get, ◌==◌, ◌<◌, ◌≤◌, ◌^◌, List, [], ◌∷◌, ◌++◌, length, take, map, filter, Bool, true, false, if◌then◌else◌, refl, sym, ap, ◌∙◌, subst, arith, eqb-true, Option, Some, None}
 use Rattle.std.specs.List.{AllByRecursion}
 use Rattle.std.proofs.lemmas.Bool.{eq-eqb, false≢true}
 use Rattle.base_types.specs.declared.calls.GrainId.{GrainId}
@@ -18,19 +18,17 @@ use Rattle.core_model.specs.Tests.{members, waiting, is_good, is_committed}
 use Rattle.core_model.specs.Answers.{effect_of}
 use Rattle.core_model.specs.Events.{applies}
 use Rattle.core_model.specs.Laws.{extended}
-use Rattle.core_model.specs.LegalRuns.{Run, begins, ends}
-use Rattle.core_model.specs.SerialOrder.{committed, AllLoadsTrue}
+use Rattle.core_model.specs.LegalRuns.{Run, ends}
+use Rattle.core_model.specs.SerialOrder.{committed}
 use Rattle.core_model.specs.Settler.{to_commit, versions_to_write}
 use Rattle.core_laws.proofs.Orders.{in_drop}
 use Rattle.cell_model.proofs.Units.{filter-member}
-use Rattle.promise_laws.specs.Legality.{applied_run}
-use Rattle.promise_laws.proofs.LegalRuns.{ends_alike}
 use Rattle.grain_log.specs.Reads.{fields_of}
 use Rattle.grain_log.specs.Places.{places_from}
 use Rattle.promise_spec.specs.Programs.{shape_in}
 use Rattle.promise_spec.specs.Records.{Commit, AreRecordsOf}
 use Rattle.promise_spec.specs.Crashes.{Acknowledges}
-use Rattle.promise_spec.specs.UnitRule.{Basis, KeepsUnitRule}
+use Rattle.promise_spec.specs.UnitRule.{KeepsUnitRule}
 use Rattle.script_check.specs.AcceptedPrograms.{IsAcceptedProgram}
 use Rattle.batch_disk.specs.ImagesAtRest.{Voted, voted_at, voted_from}
 use Rattle.batch_disk.specs.Records.{MayBeLogged, IsAsWritten}
@@ -62,17 +60,17 @@ votes-in r writer n votes v there = by (writer.batch == n) refl there
     by true is m = subst (λ (k : ℕ). IsOfVote (ends r) k v.unit v.write.grain v.state) (eqb-true writer.batch n is) (votes v m)
     by false is m = absurd m
 
-module _ (o : Outset) (r : Run) (writer : BatchWriter) (above : 0 < r.base) (loads : AllLoadsTrue r.opening (begins r) r.events) (units : KeepsUnitRule (basis_of o) r) (kinds : r.kinds ≡ length o.program.types)
+module _ (o : Outset) (r : Run) (writer : BatchWriter) (above : 0 < r.base) (units : KeepsUnitRule (basis_of o) r) (kinds : r.kinds ≡ length o.program.types)
     (accepted : IsAcceptedProgram o.program.types) (few : (ends r).units.next ≤ 2 ^ 63) (votes : AreOfVotes r writer) where
   logged : (x : Effect) → Member x (to_commit (ends r) (ends r).manager.batch) → MayBeLogged (shape_in o.program) x
   logged x m =
-      let f = fits-program (basis_of o) r above loads units few kinds accepted x m in
+      let f = fits-program (basis_of o) r above units few kinds accepted x m in
       record { unit = f.unit; parent = f.parent; call = f.call; writes = f.writes }
 
   pub written : (n : ℕ) (x : Effect) → Member x (to_commit (ends r) (ends r).manager.batch) → IsAsWritten (voted_of n writer) x
   written n x m = all-of (λ (w : Write). (v : Voted) → Member v (voted_of n writer) → v.unit ≡ x.unit → v.write.grain ≡ w.0 → v.state ≡ w.1) x.writes
       (λ w there v kept same grain.
-      as-written (basis_of o) r above loads units x m n v.write.grain v.state
+      as-written (basis_of o) r above units x m n v.write.grain v.state
       (subst (λ (u : UnitNo). IsOfVote (ends r) n u v.write.grain v.state) same (votes-in r writer n votes v kept)) w there grain)
 
   -- the step is fair
@@ -81,7 +79,7 @@ module _ (o : Outset) (r : Run) (writer : BatchWriter) (above : 0 < r.base) (loa
     vote = λ n g is. (
       all-of (λ (v : Voted). v.write.grain ≢ g) (voted_of n writer) (λ v m. other-grain (ends r) n g v.write.grain true is (votes-in r writer n votes v m).vote),
       all-of (λ (x : Version). fields_of (slice_get (shape_in o.program).types g.kind) ≡ Some (length x.state)) (versions_to_write (ends r) (ends r).manager.batch g)
-          (λ x m. shown-fit (basis_of o) r above loads units kinds g x m),
+          (λ x m. shown-fit (basis_of o) r above units kinds g x m),
     );
     seal = λ n is. (
       all-of (MayBeLogged (shape_in o.program)) (to_commit (ends r) (ends r).manager.batch) logged,
@@ -191,17 +189,15 @@ member-take (suc n) (y ∷ xs) x (inr m) = inr (member-take n xs x m)
 -- a unit that waits isn't committed
 pub waits-open : (r : Run) → 0 < r.base → (u : UnitNo) → Member u (waiting (ends r)) → (ends r).manager.verdict u ≡ Committed → ⊥
 waits-open r above u there is =
-    let same : ends (applied_run r) ≡ ends r = ends_alike r in
-    let here : Member u (drop (ends (applied_run r)).manager.closed (ends (applied_run r)).manager.order) = subst (λ (w : CoreState). Member u (waiting w)) (sym same) there in
-    let late = in_drop _ (ends (applied_run r)) (loadless-ends (applied_run r) above).0 (ends (applied_run r)).manager.closed u here in
-    let early = committed-closed (applied_run r) above u (subst (λ (w : CoreState). w.manager.verdict u ≡ Committed) (sym same) is) in
+    let late = in_drop _ (ends r) (loadless-ends r above).0 (ends r).manager.closed u there in
+    let early = committed-closed r above u is in
     omega (arith, late.1, early.1)
 
 -- what an older entry tells of isn't among them
-pub fresh-batch : (s : Basis) (r : Run) (e : CoreEvent) (batch all : List Commit) → 0 < r.base → AllLoadsTrue r.opening (begins r) (extended r (e ∷ [])).events → KeepsUnitRule s (extended r (e ∷ []))
+pub fresh-batch : (r : Run) (e : CoreEvent) (batch all : List Commit) → 0 < r.base
     → AreRecordsOf (to_commit (ends r) (ends r).manager.batch) batch → AreRecordsOf (committed (ends (extended r (e ∷ [])))) all → ((c : Commit) → Member c batch → Member c all)
     → (x : Entry) (c : Commit) → Member x (ends r).manager.settled → Member c batch → Acknowledges x c → ⊥
-fresh-batch s r e batch all above loads after of_batch of_all within x c said there is = by (ends r).manager.batch refl of_batch
+fresh-batch r e batch all above of_batch of_all within x c said there is = by (ends r).manager.batch refl of_batch
   where
     later : IsOfUnit (ends (extended r (e ∷ []))) (λ u. is_committed ((ends (extended r (e ∷ []))).manager.verdict u)) (ends (extended r (e ∷ []))).manager.order c
     later =
@@ -221,7 +217,7 @@ fresh-batch s r e batch all above loads after of_batch of_all within x c said th
     ]
 
     by-then : (ends r).manager.verdict later.unit ≡ Committed
-    by-then = told-by-then s r (e ∷ []) above loads after x said is.0 later.unit told (verdict-is ((ends (extended r (e ∷ []))).manager.verdict later.unit) later.test)
+    by-then = told-by-then r (e ∷ []) above x said is.0 later.unit told (verdict-is ((ends (extended r (e ∷ []))).manager.verdict later.unit) later.test)
 
     by : (batch_is : Option Batch) → (ends r).manager.batch ≡ batch_is → AreRecordsOf (to_commit (ends r) batch_is) batch → ⊥
     by None q are = none batch are there

@@ -16,16 +16,13 @@ use Rattle.core_model.specs.declared.phases.Verdict.TheVariants.{Open, Chosen, C
 use Rattle.core_model.specs.Tests.{members, waiting, is_good, is_committed, outcome_of, outcome_in}
 use Rattle.core_model.specs.Answers.{effect_of}
 use Rattle.core_model.specs.Laws.{extended}
-use Rattle.core_model.specs.LegalRuns.{Run, begins, ends}
-use Rattle.core_model.specs.SerialOrder.{committed, chosen, batch_begin, AllLoadsTrue}
+use Rattle.core_model.specs.LegalRuns.{Run, ends}
+use Rattle.core_model.specs.SerialOrder.{committed, chosen, batch_begin}
 use Rattle.core_model.specs.Settler.{to_commit}
 use Rattle.core_laws.proofs.Orders.{in_drop}
 use Rattle.core_laws.proofs.ToldOutcomes.{told-ends}
-use Rattle.promise_laws.specs.Legality.{is_play, applied_run}
-use Rattle.promise_laws.proofs.LegalRuns.{ends_alike, legal}
 use Rattle.promise_spec.specs.Records.{Commit, AreRecordsOf}
 use Rattle.promise_spec.specs.Crashes.{HasOutcome, Acknowledges}
-use Rattle.promise_spec.specs.UnitRule.{Basis, KeepsUnitRule}
 use Rattle.settler_rules.specs.CommittedUnits.{IsToldOf}
 use Rattle.run_books.proofs.BooksFair.{IsOfUnit, of-unit, member-take, waits-open}
 use Rattle.core_laws.proofs.LoadlessKept.{loadless-ends}
@@ -40,19 +37,15 @@ outcome-is settled.InDoubt h = absurd h
 outcome-is (settled.Bad why) h = absurd h
 
 -- whom an entry with an outcome tells of has an outcome
-told-outcome : (s : Basis) (r : Run) → 0 < r.base → AllLoadsTrue r.opening (begins r) r.events → KeepsUnitRule s r → (x : Entry) → Member x (ends r).manager.settled → HasOutcome x.what → (u : UnitNo) → IsToldOf (ends r) x u
+told-outcome : (r : Run) → 0 < r.base → (x : Entry) → Member x (ends r).manager.settled → HasOutcome x.what → (u : UnitNo) → IsToldOf (ends r) x u
     → ((ends r).units.phase u ≡ Unborn → ⊥) → (o : Outcome) × (outcome_of (ends r) u ≡ Some o)
-told-outcome s r above loads keeps x m h u of born =
-    subst (λ (w : CoreState). Member x w.manager.settled → IsToldOf w x u → (w.units.phase u ≡ Unborn → ⊥) → (o : Outcome) × (outcome_of w u ≡ Some o)) (ends_alike r) here m of born
-  where
-    here : Member x (ends (applied_run r)).manager.settled → IsToldOf (ends (applied_run r)) x u → ((ends (applied_run r)).units.phase u ≡ Unborn → ⊥) → (o : Outcome) × (outcome_of (ends (applied_run r)) u ≡ Some o)
-    here m of born =
-        let told = told-ends (is_play s.types) (applied_run r) (legal s r above loads keeps) in
-        let result = outcome-is x.what h in
-        elim of [
-          | inl same ↦ (result.0, ap (outcome_of (ends (applied_run r))) same ∙ told.known x result.0 m result.1)
-          | inr child ↦ told.children x result.0 m result.1 u child.0 child.1 born child.2
-        ]
+told-outcome r above x m h u of born =
+    let told = told-ends r above in
+    let result = outcome-is x.what h in
+    elim of [
+      | inl same ↦ (result.0, ap (outcome_of (ends r)) same ∙ told.known x result.0 m result.1)
+      | inr child ↦ told.children x result.0 m result.1 u child.0 child.1 born child.2
+    ]
 
 -- a unit's effect among those that are committed is a committed unit's
 committed-unit : (w : CoreState) (us : List UnitNo) (u : UnitNo) → Member u us → w.manager.verdict u ≡ Committed → Member (effect_of w u) (map (effect_of w) (filter (λ v. is_committed (w.manager.verdict v)) us))
@@ -91,10 +84,10 @@ member-drop (suc n) [] x m = absurd m
 member-drop (suc n) (y ∷ xs) x m = inr (member-drop n xs x m)
 
 -- no entry tells of a unit in doubt
-pub fresh-doubt : (s : Basis) (r : Run) (e : CoreEvent) (batch : List Commit) → 0 < r.base → AllLoadsTrue r.opening (begins r) (extended r (e ∷ [])).events → KeepsUnitRule s (extended r (e ∷ []))
+pub fresh-doubt : (r : Run) (e : CoreEvent) (batch : List Commit) → 0 < r.base
     → AreRecordsOf (to_commit (ends r) (ends r).manager.batch) batch → AreRecordsOf (chosen (ends (extended r (e ∷ [])))) batch → committed (ends (extended r (e ∷ []))) ≡ committed (ends r)
     → (x : Entry) (c : Commit) → Member x (ends (extended r (e ∷ []))).manager.settled → Member c batch → Acknowledges x c → ⊥
-fresh-doubt s r e batch above loads after of_batch of_chosen same x c said there is = by (ends r).manager.batch of_batch
+fresh-doubt r e batch above of_batch of_chosen same x c said there is = by (ends r).manager.batch of_batch
   where
     later : IsOfUnit (ends (extended r (e ∷ []))) (λ u. is_good ((ends (extended r (e ∷ []))).manager.verdict u)) (drop (batch_begin (ends (extended r (e ∷ []))).manager.doubt (ends (extended r (e ∷ []))).manager.closed) (ends (extended r (e ∷ []))).manager.order) c
     later =
@@ -102,10 +95,8 @@ fresh-doubt s r e batch above loads after of_batch of_chosen same x c said there
 
     finished : (ends (extended r (e ∷ []))).units.phase later.unit ≡ Finished
     finished =
-        subst (λ (w : CoreState). Member later.unit w.manager.order → w.units.phase later.unit ≡ Finished) (ends_alike (extended r (e ∷ [])))
-        (λ m. (in_drop _ (ends (applied_run (extended r (e ∷ []))))
-        (loadless-ends (applied_run (extended r (e ∷ []))) above).0 0 later.unit m).0)
-        (member-drop (batch_begin (ends (extended r (e ∷ []))).manager.doubt (ends (extended r (e ∷ []))).manager.closed) (ends (extended r (e ∷ []))).manager.order later.unit later.among)
+        (in_drop _ (ends (extended r (e ∷ []))) (loadless-ends (extended r (e ∷ [])) above).0 0 later.unit
+        (member-drop (batch_begin (ends (extended r (e ∷ []))).manager.doubt (ends (extended r (e ∷ []))).manager.closed) (ends (extended r (e ∷ []))).manager.order later.unit later.among)).0
 
     told : IsToldOf (ends (extended r (e ∷ []))) x later.unit
     told = elim is.1 [
@@ -114,7 +105,7 @@ fresh-doubt s r e batch above loads after of_batch of_chosen same x c said there
     ]
 
     known : (o : Outcome) × (outcome_of (ends (extended r (e ∷ []))) later.unit ≡ Some o)
-    known = told-outcome s (extended r (e ∷ [])) above loads after x said is.0 later.unit told (λ q. (let z : Finished ≡ Unborn = sym finished ∙ q in absurd cc))
+    known = told-outcome (extended r (e ∷ [])) above x said is.0 later.unit told (λ q. (let z : Finished ≡ Unborn = sym finished ∙ q in absurd cc))
 
     is-committed : (v : Verdict) → (ends (extended r (e ∷ []))).manager.verdict later.unit ≡ v → is_good v ≡ true
         → outcome_in Finished v ((ends (extended r (e ∷ []))).manager.result later.unit) ≡ Some known.0 → (ends (extended r (e ∷ []))).manager.verdict later.unit ≡ Committed

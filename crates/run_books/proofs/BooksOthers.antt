@@ -46,7 +46,7 @@ use Rattle.run_books.proofs.BooksCounts.{how-same, none-before, doubt-ends}
 use Rattle.run_books.proofs.BooksLists.{alone, alone-commits, added-none, take-front}
 use Rattle.run_books.proofs.BooksGrown.{grown_books, grown-front, grown-commits, grown-booked, grown-even}
 use Rattle.run_books.proofs.BooksImages.{backs-alone, doubt-kept, block-kept}
-use Rattle.run_books.proofs.BooksVersions.{rule-true, unapplied-true, versions-same}
+use Rattle.run_books.proofs.BooksVersions.{others-true, unapplied-true, versions-same}
 use Rattle.run_books.specs.Stages.{stage_by}
 
 -- no file answers it
@@ -262,13 +262,13 @@ pub others-still : (tells : Bool) (o : Outset) (b : Books) (r : Run) (e : CoreEv
     → 0 < r.base → KeepsUnitRule (basis_of o) r → KeepsUnitRule (basis_of o) (extended r (e ∷ [])) → is_settling e ≡ false → KeepsBooks tells o b (stage_by r settler counts now)
     → (g : BooksGoOn tells o b (stage_by r settler counts now) (stage_by (extended r (e ∷ [])) settler counts now)) × (g.books.rest ≡ b.rest)
 others-still tells o b r e settler counts now above units after other k =
-    (go-on tells o b r e settler counts now above units after (others-leave r e other) (answers-none e other) (rule-true (basis_of o) r e after) k, refl)
+    (go-on tells o b r e settler counts now above units after (others-leave r e other) (answers-none e other) (others-true r e other) k, refl)
 
 -- and where none is, so it stays
 pub others-keep : OthersKeep
 others-keep tells o b r e settler counts now above units after other even k = (
-  go-on tells o b r e settler counts now above units after (others-leave r e other) (answers-none e other) (rule-true (basis_of o) r e after) k,
-  still-even tells o b r e settler counts now above units after (others-leave r e other) (answers-none e other) (rule-true (basis_of o) r e after) k even,
+  go-on tells o b r e settler counts now above units after (others-leave r e other) (answers-none e other) (others-true r e other) k,
+  still-even tells o b r e settler counts now above units after (others-leave r e other) (answers-none e other) (others-true r e other) k even,
 )
 
 -- one that no file answers, and that doesn't apply, keeps them too

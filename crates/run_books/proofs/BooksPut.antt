@@ -51,8 +51,8 @@ module _ {H : Type 0} (tells : Bool) (world : H → World) (faults : H → Chann
     (above : 0 < r.base) (units : KeepsUnitRule (basis_of o) r) (kinds : r.kinds ≡ length o.program.types) (room : (ends r).manager.emitted < 2 ^ 64 - 1)
     (k : KeepsBooks tells o b (stage_of world faults r before old)) where
   -- an entry that is settled can be written
-  proper : IsTrue tells → (x : Entry) → slice_get (ends r).manager.settled (ends r).manager.emitted ≡ Some x → IsEntryInRange x → IsProper (shape_in o.program) x
-  proper t x next range = entry-proper (basis_of o) r above (k.versions t).loads units kinds x (member-at (ends r).manager.emitted (ends r).manager.settled x next) range
+  proper : (x : Entry) → slice_get (ends r).manager.settled (ends r).manager.emitted ≡ Some x → IsEntryInRange x → IsProper (shape_in o.program) x
+  proper x next range = entry-proper (basis_of o) r above units kinds x (member-at (ends r).manager.emitted (ends r).manager.settled x next) range
 
   module _ (a : applies (ends r) Emitted ≡ true) (m : Moves (ends r) Emitted (ends (extended r (Emitted ∷ [])))) (quiet_is : after.quiet ≡ before.quiet) (written : after.written ≡ counted_up before.written)
       (doubted : after.doubted ≡ before.doubted) (writer : after.writer ≡ before.writer) (disk : IsTrue tells → (world new).disk ≡ (world old).disk) where
@@ -122,7 +122,7 @@ module _ {H : Type 0} (tells : Bool) (world : H → World) (faults : H → Chann
           kept-by c (ap commits_of (next-front b (ends r) x k.booked next even)) (next-booked b (ends r) x k.booked next even (ends r') settled commits (doubt-kept r (Emitted ∷ []) b.doubted k.booked.doubted))
               (subst (λ (q : Bool). IsPutOut q c (ends r')) (sym now_loud) (inl told)) even.rest later
               (λ t. record {
-                output = next-grew b (ends r) x k.booked next even o (world old) (world new) (k.outside t).output (proper t x next range) (line t).output;
+                output = next-grew b (ends r) x k.booked next even o (world old) (world new) (k.outside t).output (proper x next range) (line t).output;
                 calls = calls later t (line t).syncs (λ g. file-emitted (Grain o.live g) _ _ (world old) (world new) (line t));
               }),
           subst (λ (q : Bool). AreEven q c (ends r')) (sym now_loud) (record { rest = even.rest; told = told; single = λ q. (parts b (ends r) x k.booked next even).single }),
@@ -168,7 +168,7 @@ module _ {H : Type 0} (tells : Bool) (world : H → World) (faults : H → Chann
         let c : Books = said_next b (ends r) x k.booked next even in
         stays-by c (ap commits_of (next-front b (ends r) x k.booked next even)) (next-booked b (ends r) x k.booked next even (ends r) refl refl k.booked.doubted)
         (subst (λ (q : Bool). IsPutOut q c (ends r)) (sym loud) (inr (next-told b (ends r) x k.booked next even, even.rest))) (inl even.rest)
-        (λ t. next-grew b (ends r) x k.booked next even o (world old) (world new) (k.outside t).output (proper t x next range) (line t).output) line
+        (λ t. next-grew b (ends r) x k.booked next even o (world old) (world new) (k.outside t).output (proper x next range) (line t).output) line
 
     -- the books with a part of the line
     abbrev pub part_said : ℕ → Books

@@ -1,5 +1,5 @@
 -- The books after a step of the settler, with its answer.
-use Rattle.std.proofs.Common.{◌≡◌, inl, inr, ℕ, zero, suc, ◌≤◌, List, [], ◌∷◌, ◌++◌, length, take, Bool, true, false, not, ◌&&◌, ◌||◌, refl, sym, ap, ◌∙◌, subst, arith, append-nil, Option, Some, None, slice_get, is_some}
+use Rattle.std.proofs.Common.{◌≡◌, ◌⊎◌, inl, inr, ℕ, zero, suc, ◌≤◌, List, [], ◌∷◌, ◌++◌, length, take, Bool, true, false, not, ◌&&◌, ◌||◌, refl, sym, ap, ◌∙◌, subst, arith, append-nil, Option, Some, None, slice_get, is_some}
 use Rattle.std.specs.Prelude.{IsTrue, Result, Ok, Err, if◌then◌else◌}
 use Rattle.std.specs.List.{AllByRecursion}
 use Rattle.std.proofs.lemmas.Bool.{cases_lt}
@@ -9,7 +9,7 @@ use Rattle.base_types.specs.declared.shapes.Shape.{Shape}
 use Rattle.host_trait.specs.declared.channels.Channel.{Channel}
 use Rattle.host_trait.specs.declared.channels.Channel.TheVariants.{File, Output}
 use Rattle.host_trait.specs.declared.channels.FileId.TheVariants.{Grain, Manager}
-use Rattle.host_trait.specs.Faults.{Rose}
+use Rattle.host_trait.specs.Faults.{Rose, NoneFailed, FailedOn}
 use Rattle.host_trait.specs.World.{World, Passes, Emitted as IsAppended, IsEmitted}
 use Rattle.host_trait.proofs.Moments.{both, one}
 use Rattle.request_wire.specs.Reply.{reply_line}
@@ -24,7 +24,7 @@ use Rattle.core_model.specs.LegalRuns.{Run, ends}
 use Rattle.core_model.specs.Settler.{versions_to_write, Step, Votes, Decides, Seals as SealStep, Learns, Writes, Loads, Takes, Rests, IsLoadOf, MakesEvent, settler_step}
 use Rattle.core_laws.proofs.SettlerSteps.{step-applies}
 use Rattle.core_access.specs.OneHolder.{none_comes, own_sight}
-use Rattle.core_access.specs.Sights.{Sight, run_seen, Looks}
+use Rattle.core_access.specs.Sights.{Sight, run_seen, Looks, Tells}
 use Rattle.core_access.specs.CallsWithoutMemory.{is_spared, has_room}
 use Rattle.core_access.proofs.OneHolder.{own-run}
 use Rattle.core_access.proofs.Sights.{looks-alone, run-alone}
@@ -37,28 +37,36 @@ use Rattle.batch_disk.specs.Writers.{KeepsDisk}
 use Rattle.promise_spec.specs.UnitRule.{KeepsUnitRule}
 use Rattle.promise_spec.specs.Journals.{CutAt, entries_of}
 use Rattle.promise_spec.proofs.Doubts.{doubt_left}
-use Rattle.settle_loop.specs.ShownWork.{LeavesUndone, tells_entry, tells_doubt, has_applied, counted_up}
+use Rattle.settle_loop.specs.ShownWork.{tells_entry, tells_doubt, has_applied, counted_up}
 use Rattle.batch_disk.specs.VoteAnswers.{LacksRoom}
-use Rattle.settle_loop.specs.HostSteps.{WritesEntry, CutsEntry, DoesFor, MakesNoCall}
-use Rattle.settle_loop.specs.SettlerStep.{state_shown, has_unwritten, LooksOn, PutsNext, IsBrokenOff, LacksForVote, IsNotTaken, TurnsAs}
+use Rattle.settle_loop.specs.HostSteps.{LoadsGrain, WritesEntry, CutsEntry, DoesFor, MakesNoCall}
+use Rattle.settle_loop.specs.SettlerStep.{CantLoadBy, state_shown, has_unwritten, LooksOn, PutsNext, IsBrokenOff, LacksForVote, IsNotTaken, TurnsAs}
 use Rattle.settle_loop.specs.declared.settler.Settler.{Settler}
 use Rattle.settle_loop.specs.declared.settler.Turned.{Turned}
 use Rattle.settle_loop.specs.declared.settler.Turned.TheVariants.{Stepped, Nothing, Stop}
-use Rattle.settle_loop.specs.declared.settler.StopCause.TheVariants.{InDoubt, WriteFault}
+use Rattle.settle_loop.specs.declared.settler.StopCause.TheVariants.{InDoubt, WriteFault, LoadFault, LoadDamaged}
 use Rattle.settle_loop.proofs.LoneSteps.{alone-applies}
 use Rattle.run_books.specs.Beginnings.{Outset, basis_of}
 use Rattle.run_books.specs.Books.{Books, IsPutOut}
 use Rattle.run_books.specs.Images.{EndsAsBegun, LastsSo}
-use Rattle.run_books.specs.Records.{KeepsBooks, HasDoubted}
+use Rattle.run_books.specs.Records.{KeepsBooks, HasDoubted, HasFailedToLoad, HasFoundNone}
 use Rattle.run_books.specs.BooksSteps.{AreEven, CanSettle, SaysOfStep, BooksGoOn}
 use Rattle.run_books.proofs.BooksCalls.{file-same, calls-same}
 use Rattle.run_books.proofs.BooksCore.{moves-run}
 use Rattle.run_books.proofs.BooksWritten.{said_next, next-front, next-entries, all-last, member-at}
 use Rattle.run_books.proofs.BooksPut.{put-quiet, put-loud, cut-whole, cut-part, part_said}
 use Rattle.run_books.proofs.BooksEmits.{output-lasts, whole-told, part-told}
-use Rattle.run_books.proofs.BooksStep.{StepDone, IsCounted, by-decide, by-learn, by-take, by-vote, by-sealed, by-unsealed}
+use Rattle.run_books.proofs.BooksStep.{StepDone, IsCounted, by-decide, by-learn, by-take, by-load, by-vote, by-sealed, by-unsealed}
 use Rattle.run_books.proofs.BooksEnd.{by-doubt}
-use Rattle.run_books.proofs.BooksFaults.{NoneFell, calm-later, faults-same, fell-both, rose-back}
+use Rattle.grain_log.specs.declared.faults.VersionFault.{VersionFault}
+use Rattle.batch_disk.specs.KeptPlaces.{PlacesStand}
+use Rattle.host_trait.specs.Runs.{OnlyAsked}
+use Rattle.host_trait.specs.declared.channels.FileId.{FileId}
+use Rattle.promise_spec.specs.Causes.{RunHasDoubt}
+use Rattle.run_books.proofs.LoadSteps.{IsAsked, step-asks, unloaded-now}
+use Rattle.run_books.proofs.BooksAsked.{asked-goes}
+use Rattle.run_books.proofs.BooksCounts.{doubt-ends}
+use Rattle.run_books.proofs.BooksFaults.{NoneFell, failed-later, calm-later, faults-same, fell-both, rose-back}
 use Rattle.run_books.proofs.BooksFair.{is-fair, votes-same}
 use Rattle.run_books.proofs.BooksStated.{DidFor, SettledKeep}
 use Rattle.run_books.proofs.BooksVersions.{versions-stay}
@@ -159,7 +167,7 @@ module _ {H : Type 0} (tells : Bool) (world : H → World) (faults : H → Chann
   done (SealStep n) e q (inr (inr m)) = subst Todo (sym m) (λ does c. by-doubt tells world faults o b r before after old new can even k n (made (SealStep n) (event.Doubt n) (q refl) (inr (inr refl))) does c)
   done (Learns u g) e q m = subst Todo (sym m) (λ does c. by-learn tells world faults o b r before after old new can even k u g does c)
   done Writes e q m = subst Todo (sym m) (λ does c. by-write before.quiet refl does c)
-  done (Loads g) e q m = subst Todo (sym m.2) (λ does c. absurd does)
+  done (Loads g) e q m = subst Todo (sym m.2) (λ does c. by-load tells world faults o b r before after old new can even k g m.0 m.1 does c)
   done Takes e q m = subst Todo (sym m) (λ does c. by-take tells world faults o b r before after old new can even k does c)
   done Rests e q m = absurd m
 
@@ -204,17 +212,15 @@ module _ {H : Type 0} (tells : Bool) (world : H → World) (faults : H → Chann
     put-done = done (settler_step (ends r)) e (λ q. refl) makes (did-for tells world faults o.live e before.quiet (shape_in o.program) (ends r) before.writer after.writer old new does) counted
 
 -- the run behind an event that was put
-put-run : {H : Type 0} (tells : Bool) (world : H → World) (faults : H → Channel → ℕ) (shape : Shape) (r r' : Run) (before after : Settler) (old new : H) (e : CoreEvent) (p : CoreReply) (mid : Sight)
-    → PutsNext tells world faults none_comes shape before after (own_sight r) e p mid old new → own_sight r' ≡ mid → r' ≡ extended r (e ∷ [])
-put-run tells world faults shape r r' before after old new e p mid put same =
-    sym (own-run r') ∙ ap run_seen same ∙ run-alone put.acts.seen mid e p put.told
-    ∙ ap (λ (x : Run). extended x (e ∷ [])) (ap run_seen (looks-alone (own_sight r) put.acts.seen put.acts.looked) ∙ own-run r)
+pub put-run : (r r' : Run) (seen mid : Sight) (e : CoreEvent) (p : CoreReply) → Looks none_comes (own_sight r) seen → Tells none_comes seen e p mid → own_sight r' ≡ mid → r' ≡ extended r (e ∷ [])
+put-run r r' seen mid e p looked told same =
+    sym (own-run r') ∙ ap run_seen same ∙ run-alone seen mid e p told ∙ ap (λ (x : Run). extended x (e ∷ [])) (ap run_seen (looks-alone (own_sight r) seen looked) ∙ own-run r)
 
 -- one looked and saw nothing
-same-run : (r r' : Run) (s : Sight) → Looks none_comes s (own_sight r') → s ≡ own_sight r → r' ≡ r
+pub same-run : (r r' : Run) (s : Sight) → Looks none_comes s (own_sight r') → s ≡ own_sight r → r' ≡ r
 same-run r r' s looked same = sym (own-run r') ∙ ap run_seen (looks-alone s (own_sight r') looked ∙ same) ∙ own-run r
 
-looked-on : (x : Bool) (mid t : Sight) → LooksOn none_comes x mid t → t ≡ mid
+pub looked-on : (x : Bool) (mid t : Sight) → LooksOn none_comes x mid t → t ≡ mid
 looked-on true mid t looked = looks-alone mid t looked.0
 looked-on false mid t looked = looked
 
@@ -230,6 +236,16 @@ module _ {H : Type 0} (tells : Bool) (world : H → World) (faults : H → Chann
       (subst (λ (s : Settler). WentOn r s new) (sym settler)
       (subst (λ (h : H). WentOn r before h) (sym host) (record { books = b; kept = k; lasts = λ t head l. l }, even)))
 
+  -- a grain's version was read, and no event was put
+  pub asked-on : (r' : Run) (after : Settler) (new : H) → r' ≡ r → after ≡ before → NoneFell (faults old) (faults new) → (IsTrue tells → OnlyAsked (world old) (world new)) → (ends r).manager.doubt ≡ None → WentOn r' after new
+  asked-on r' after new run settler later asked none =
+      subst (λ (x : Run). WentOn x after new) (sym run)
+      (subst (λ (s : Settler). WentOn r s new) (sym settler)
+      (asked-goes tells o b r before (faults old) (faults new) (world old) (world new) can.above can.units later asked none even k))
+
+  pub asked-went : (r' : Run) (after : Settler) (new : H) → r' ≡ r → after ≡ before → NoneFailed (faults old) (faults new) → (IsTrue tells → OnlyAsked (world old) (world new)) → (ends r).manager.doubt ≡ None → WentOn r' after new
+  asked-went r' after new run settler calm asked none = asked-on r' after new run settler (calm-later (faults old) (faults new) calm) asked none
+
   pub went : (r' : Run) (after : Settler) (new : H) (e : CoreEvent) → r' ≡ extended r (e ∷ []) → StepDone tells world faults o b r before after old new can even k e → WentOn r' after new
   went r' after new e run d =
       subst (λ (x : Run). WentOn x after new) (sym run) (record { books = d.books; kept = d.kept; lasts = d.lasts }, d.even_again)
@@ -237,7 +253,7 @@ module _ {H : Type 0} (tells : Bool) (world : H → World) (faults : H → Chann
   put-went : (r' : Run) (after : Settler) (new : H) (e : CoreEvent) (p : CoreReply) (mid : Sight) → KeepsUnitRule (basis_of o) r'
       → PutsNext tells world faults none_comes (shape_in o.program) before after (own_sight r) e p mid old new → own_sight r' ≡ mid → WentOn r' after new
   put-went r' after new e p mid units put same =
-      let run = put-run tells world faults (shape_in o.program) r r' before after old new e p mid put same in
+      let run = put-run r r' put.acts.seen mid e p put.acts.looked put.told same in
       went r' after new e run (put-done tells world faults o b r before after old new can even k e p mid put (subst (KeepsUnitRule (basis_of o)) run units))
 
   -- a doubt that ends the run
@@ -253,18 +269,18 @@ module _ {H : Type 0} (tells : Bool) (world : H → World) (faults : H → Chann
         g.1.rest,
       )
 
-  -- an event that the core didn't take, and that is no load, made no host call
-  pub spared : (s : Step) (e : CoreEvent) → MakesEvent s e → has_room e ≡ false → ((g : GrainId) → IsLoadOf g e → ⊥) → e ≡ event.Take
-  spared (Votes n g) e m q none = absurd (let z : true ≡ false = sym (ap has_room m.1) ∙ q in cc)
-  spared (Decides n) e m q none = absurd (let z : true ≡ false = sym (ap has_room m) ∙ q in cc)
-  spared (SealStep n) e (inl m) q none = absurd (let z : true ≡ false = sym (ap has_room m) ∙ q in cc)
-  spared (SealStep n) e (inr (inl m)) q none = absurd (let z : true ≡ false = sym (ap has_room m) ∙ q in cc)
-  spared (SealStep n) e (inr (inr m)) q none = absurd (let z : true ≡ false = sym (ap has_room m) ∙ q in cc)
-  spared (Learns u g) e m q none = absurd (let z : true ≡ false = sym (ap has_room m) ∙ q in cc)
-  spared Writes e m q none = absurd (let z : true ≡ false = sym (ap has_room m) ∙ q in cc)
-  spared (Loads g) e m q none = absurd (none g m)
-  spared Takes e m q none = m
-  spared Rests e m q none = absurd m
+  -- an event that the core didn't take is that of a taken batch, or a load
+  pub spared : (s : Step) (e : CoreEvent) → MakesEvent s e → has_room e ≡ false → (e ≡ event.Take) ⊎ ((g : GrainId) × (s ≡ Loads g) × IsLoadOf g e)
+  spared (Votes n g) e m q = absurd (let z : true ≡ false = sym (ap has_room m.1) ∙ q in cc)
+  spared (Decides n) e m q = absurd (let z : true ≡ false = sym (ap has_room m) ∙ q in cc)
+  spared (SealStep n) e (inl m) q = absurd (let z : true ≡ false = sym (ap has_room m) ∙ q in cc)
+  spared (SealStep n) e (inr (inl m)) q = absurd (let z : true ≡ false = sym (ap has_room m) ∙ q in cc)
+  spared (SealStep n) e (inr (inr m)) q = absurd (let z : true ≡ false = sym (ap has_room m) ∙ q in cc)
+  spared (Learns u g) e m q = absurd (let z : true ≡ false = sym (ap has_room m) ∙ q in cc)
+  spared Writes e m q = absurd (let z : true ≡ false = sym (ap has_room m) ∙ q in cc)
+  spared (Loads g) e m q = inr (g, refl, m)
+  spared Takes e m q = inl m
+  spared Rests e m q = absurd m
 
   and-not : (x y : Bool) → x ≡ true → (x && y) ≡ false → y ≡ false
   and-not true y p q = q
@@ -282,11 +298,16 @@ module _ {H : Type 0} (tells : Bool) (world : H → World) (faults : H → Chann
       let makes : MakesEvent (settler_step (ends r)) e = subst (λ (y : Run). MakesEvent (settler_step (ends y)) e) here x.acts.makes in
       let applied : applies (ends r) e ≡ true = step-applies r e makes ∙ open-still (ends r).units.halt (is_after_halt e) can.unstopped in
       let lacks : (applies (ends r) e && has_room e) ≡ false = ap (λ (y : Run). is_spared y e) (sym same ∙ sym (own-run r')) ∙ x.unspared in
-      let take : e ≡ event.Take = spared (settler_step (ends r)) e makes (and-not (applies (ends r) e) (has_room e) applied lacks)
-      (λ g load. subst (λ (y : CoreEvent). DoesFor tells world faults before.writer.slot y before.quiet (shape_in o.program) (state_shown x.acts.seen) before.writer after.writer old new) load.2 x.acts.does) in
-      let does : MakesNoCall tells world faults before.writer after.writer old new =
-      subst (λ (y : CoreEvent). DoesFor tells world faults before.writer.slot y before.quiet (shape_in o.program) (state_shown x.acts.seen) before.writer after.writer old new) take x.acts.does in
-      unchanged r' after new same (x.settler ∙ ap (λ w. record before { writer = w }) does.writer) does.host
+      elim (spared (settler_step (ends r)) e makes (and-not (applies (ends r) e) (has_room e) applied lacks)) [
+        | inl take ↦ (
+            let does : MakesNoCall tells world faults before.writer after.writer old new =
+            subst (λ (y : CoreEvent). DoesFor tells world faults before.writer.slot y before.quiet (shape_in o.program) (state_shown x.acts.seen) before.writer after.writer old new) take x.acts.does in
+            unchanged r' after new same (x.settler ∙ ap (λ w. record before { writer = w }) does.writer) does.host)
+        | inr load ↦ (
+            let does : LoadsGrain tells world faults before.writer.slot (shape_in o.program) load.0 (record { unit = load.2.0; state = load.2.1 }) before.writer after.writer old new =
+            subst (λ (y : CoreEvent). DoesFor tells world faults before.writer.slot y before.quiet (shape_in o.program) (state_shown x.acts.seen) before.writer after.writer old new) load.2.2 x.acts.does in
+            asked-went r' after new same (x.settler ∙ ap (λ w. record before { writer = w }) does.writer) does.calm does.asked (step-asks (ends r) load.0 load.1).1)
+      ]
 
   -- no memory for a vote's versions, in a run
   pub lacks-at : (after : Settler) (new : H) (n : ℕ) (g : GrainId) → settler_step (ends r) ≡ Votes n g
@@ -308,7 +329,7 @@ module _ {H : Type 0} (tells : Bool) (world : H → World) (faults : H → Chann
             unsure = lacks.same.doubt ∙ k.unsure ∙ sym doubted;
             written = ap (λ (s : Settler). s.written) settler ∙ k.written;
             versions = λ t. (
-                let fair = (is-fair o r before.writer can.above (k.versions t).loads can.units can.kinds can.accepted can.numbers (k.versions t).votes).vote n g votes in
+                let fair = (is-fair o r before.writer can.above can.units can.kinds can.accepted can.numbers (k.versions t).votes).vote n g votes in
                 versions-stay o b b r before.writer after.writer (world old).disk (world new).disk (k.versions t) ((lacks.images t).placed (shape_in o.program) fair.0 fair.1 (k.versions t).stand) lacks.same.places refl
                 (votes-same r n before.writer after.writer lacks.batch lacks.kept (k.versions t).votes));
             outside = λ t. record {
@@ -328,7 +349,7 @@ module _ {H : Type 0} (tells : Bool) (world : H → World) (faults : H → Chann
             block = l.block;
             folder = λ q. (
                 let f = l.folder (sym lacks.same.doubt ∙ q) in
-                let fair = (is-fair o r before.writer can.above (k.versions t).loads can.units can.kinds can.accepted can.numbers (k.versions t).votes).vote n g votes in
+                let fair = (is-fair o r before.writer can.above can.units can.kinds can.accepted can.numbers (k.versions t).votes).vote n g votes in
                 record {
                   stood = f.stood;
                   bodies = f.bodies;
@@ -416,7 +437,7 @@ module _ {H : Type 0} (tells : Bool) (world : H → World) (faults : H → Chann
       whole-proper x range next loud even' t =
           subst (AllByRecursion (IsProper (shape_in o.program))) (sym (next-entries b (ends r) x k.booked next even'))
           (all-last (IsProper (shape_in o.program)) (entries_of b.said) x (k.outside t).output.proper
-          (entry-proper (basis_of o) r can.above (k.versions t).loads can.units can.kinds x (member-at (ends r).manager.emitted (ends r).manager.settled x next) range))
+          (entry-proper (basis_of o) r can.above can.units can.kinds x (member-at (ends r).manager.emitted (ends r).manager.settled x next) range))
 
   broken-off : (r' : Run) (after : Settler) (new : H) → IsBrokenOff tells world faults none_comes (shape_in o.program) before after (own_sight r) (own_sight r') old new
       → (g : BooksGoOn tells o b (stage_of world faults r before old) (stage_of world faults r' after new)) × Rose (o.faults Output) (faults new Output)
@@ -430,10 +451,46 @@ module _ {H : Type 0} (tells : Bool) (world : H → World) (faults : H → Chann
       (subst (λ (s : Settler). (g : BooksGoOn tells o b (stage_of world faults r before old) (stage_of world faults r s new)) × Rose (o.faults Output) (faults new Output)) (sym x.settler)
       (cut-by tells refl new cut))
 
+  -- ---- a grain wasn't brought into memory
+
+  never-doubted : (ends r).manager.doubt ≡ None → RunHasDoubt r → ⊥
+  never-doubted none d = (let left = doubt-ends r d in let z : Some left.0 ≡ None = sym left.1 ∙ none in cc)
+
+  pub unread : (after : Settler) (new : H) (file : FileId) (g : GrainId) → file ≡ Grain o.live g → IsAsked (ends r) g → FailedOn (File (Grain o.live g)) (faults old) (faults new)
+      → (IsTrue tells → OnlyAsked (world old) (world new)) → after ≡ before → (w : WentOn r after new) × (HasFailedToLoad o r (faults new) file × (w.0.books.rest ≡ []))
+  unread after new file g is asks failed asked settler =
+      let w = asked-on r after new refl settler (failed-later (File (Grain o.live g)) (faults old) (faults new) failed) asked asks.1 in (
+        w,
+        (
+          record {
+            grain = g;
+            file_is = is;
+            unloaded = unloaded-now r g asks.0;
+            sure = never-doubted asks.1;
+            rose = subst (λ (f : FileId). Rose (o.faults (File f)) (faults new (File f))) (sym is)
+                (rose-from (o.faults (File (Grain o.live g))) (faults old (File (Grain o.live g))) (faults new (File (Grain o.live g))) (k.later (File (Grain o.live g))) failed.rose);
+          },
+          w.1.rest,
+        ),
+      )
+
+  pub damaged : (after : Settler) (new : H) (g : GrainId) → IsAsked (ends r) g → NoneFailed (faults old) (faults new) → (IsTrue tells → PlacesStand o.live (shape_in o.program) before.writer (world old).disk → ⊥)
+      → (IsTrue tells → OnlyAsked (world old) (world new)) → after ≡ before → (w : WentOn r after new) × (HasFoundNone tells r × (w.0.books.rest ≡ []))
+  damaged after new g asks calm untold asked settler =
+      let w = asked-went r after new refl settler calm asked asks.1 in
+      (w, (record { untold = λ t. untold t (k.versions t).stand; sure = never-doubted asks.1 }, w.1.rest))
+
   -- ---- whatever it answers
 
   abbrev Answer : {E : Type 0} → Run → Settler → H → Result Turned E → Type 0
-  Answer r' after new result = (g : BooksGoOn tells o b (stage_of world faults r before old) (stage_of world faults r' after new)) × SaysOfStep o g.books (stage_of world faults r' after new) result
+  Answer r' after new result = (g : BooksGoOn tells o b (stage_of world faults r before old) (stage_of world faults r' after new)) × SaysOfStep tells o g.books (stage_of world faults r' after new) result
+
+  -- what was to be brought in the run that was looked at alone
+  at-load : (E : Type 0) (result : Result Turned E) {fault : VersionFault} (r' : Run) (after : Settler) (new : H) (x : CantLoadBy tells world faults none_comes (shape_in o.program) settler_step fault before after (own_sight r) (own_sight r') old new)
+      → (IsAsked (ends r) x.g → Answer r after new result) → Answer r' after new result
+  at-load E result r' after new x gives =
+      let same : r' ≡ r = same-run r r' (own_sight r) x.looked refl in
+      subst (λ (y : Run). Answer y after new result) (sym same) (gives (step-asks (ends r) x.g (ap (λ (y : Run). settler_step (ends y)) (sym same ∙ sym (own-run r')) ∙ x.loads)))
 
   pub answered : {E : Type 0} (r' : Run) (after : Settler) (new : H) (result : Result Turned E) → KeepsUnitRule (basis_of o) r'
       → TurnsAs tells world faults none_comes (shape_in o.program) before after (own_sight r) (own_sight r') old new result → Answer r' after new result
@@ -441,17 +498,25 @@ module _ {H : Type 0} (tells : Bool) (world : H → World) (faults : H → Chann
   answered r' after new (Ok Nothing) units x =
       let same : r' ≡ r = same-run r r' (own_sight r) x.looked refl in
       let g = unchanged r' after new same x.settler x.host in
-      (g.0, (g.1, subst (λ (y : Run). LeavesUndone (settler_step (ends y))) (own-run r') x.rests))
+      (g.0, (g.1, subst (λ (y : Run). settler_step (ends y) ≡ Rests) (own-run r') x.rests))
   answered r' after new (Ok (Stop InDoubt)) units x =
       let g = put-went r' after new x.e x.r x.mid units x.put (looks-alone x.mid (own_sight r') x.looked) in
       (g.0, in-doubt r' after new g x.doubts (ap (λ (y : Run). has_unwritten (ends y)) (sym (own-run r')) ∙ x.written))
   answered r' after new (Ok (Stop WriteFault)) units x = broken-off r' after new x
+  answered {E = E} r' after new (Ok (Stop (LoadFault file))) units x = at-load E (Ok (Stop (LoadFault file))) r' after new x.0 (λ asks. (
+      let u = unread after new file x.0.g (x.1 ∙ ap (λ (n : ℕ). Grain n x.0.g) k.slot) asks
+      (subst (λ (n : ℕ). FailedOn (File (Grain n x.0.g)) (faults old) (faults new)) k.slot x.0.reads.fault) x.0.asked x.0.settler in
+      (u.0.0, u.1)))
+  answered {E = E} r' after new (Ok (Stop (LoadDamaged file place))) units x = at-load E (Ok (Stop (LoadDamaged file place))) r' after new x.0 (λ asks. (
+      let u = damaged after new x.0.g asks x.0.reads.calm (subst (λ (n : ℕ). IsTrue tells → PlacesStand n (shape_in o.program) before.writer (world old).disk → ⊥) k.slot x.0.reads.untold) x.0.asked x.0.settler in
+      (u.0.0, u.1)))
   answered r' after new (Err lack) units (inl x) =
       let g = unchanged r' after new (same-run r r' (own_sight r) x.looked refl) x.settler x.host in
       (g.0, g.1.rest)
   answered r' after new (Err lack) units (inr (inl x)) = (let g = lacks-vote r' after new x in (g.0, g.1.rest))
   answered r' after new (Err lack) units (inr (inr (inl x))) = (let g = not-taken r' after new x.0 x.1 in (g.0, g.1.rest))
-  answered r' after new (Err lack) units (inr (inr (inr x))) =
+  answered {E = E} r' after new (Err lack) units (inr (inr (inr (inr x)))) = at-load E (Err lack) r' after new x (λ asks. (let w = asked-went r after new refl x.settler x.reads x.asked asks.1 in (w.0, w.1.rest)))
+  answered r' after new (Err lack) units (inr (inr (inr (inl x)))) =
       let g = put-went r' after new x.e x.r x.mid units x.put (looks-alone x.mid (own_sight r') x.looked) in
       (g.0, g.1.rest)
 

@@ -1,13 +1,13 @@
 -- The books after a step of the settler of a core that others have too.
-use Rattle.std.proofs.Common.{◌≡◌, inl, inr, ℕ, ◌<◌, ◌≤◌, List, [], ◌∷◌, length, Bool, true, false, true≢false, not, ◌&&◌, ◌||◌, refl, sym, ap, ◌∙◌, subst, arith, Some, slice_get}
-use Rattle.std.specs.Prelude.{Result, Ok, Err, if◌then◌else◌, is_none}
+use Rattle.std.proofs.Common.{◌≡◌, ◌⊎◌, inl, inr, None, ℕ, ◌<◌, ◌≤◌, List, [], ◌∷◌, length, Bool, true, false, true≢false, not, ◌&&◌, ◌||◌, refl, sym, ap, ◌∙◌, subst, arith, Some, slice_get}
+use Rattle.std.specs.Prelude.{IsTrue, Result, Ok, Err, if◌then◌else◌, is_none}
 use Rattle.std.proofs.lemmas.Bool.{and_from, lt-ltb}
 use Rattle.std.proofs.lemmas.Option.{slice_get_within}
 use Rattle.base_types.specs.declared.entries.Entry.{Entry}
 use Rattle.base_types.specs.declared.shapes.Shape.{Shape}
 use Rattle.host_trait.specs.declared.channels.Channel.{Channel}
-use Rattle.host_trait.specs.declared.channels.Channel.TheVariants.{Output}
-use Rattle.host_trait.specs.Faults.{Rose}
+use Rattle.host_trait.specs.declared.channels.Channel.TheVariants.{File, Output}
+use Rattle.host_trait.specs.Faults.{Rose, NoneFailed, FailedOn}
 use Rattle.host_trait.specs.World.{World}
 use Rattle.turn_cell.specs.History.{entry}
 use Rattle.core_model.specs.CoreState.{CoreState}
@@ -39,7 +39,7 @@ use Rattle.settle_loop.specs.SettlerStep.{written_after, doubted_after, LooksOn,
 use Rattle.settle_loop.specs.declared.settler.Settler.{Settler}
 use Rattle.settle_loop.specs.declared.settler.Turned.{Turned}
 use Rattle.settle_loop.specs.declared.settler.Turned.TheVariants.{Stepped, Nothing, Stop}
-use Rattle.settle_loop.specs.declared.settler.StopCause.TheVariants.{InDoubt, WriteFault}
+use Rattle.settle_loop.specs.declared.settler.StopCause.TheVariants.{InDoubt, WriteFault, LoadFault, LoadDamaged}
 use Rattle.run_books.specs.Beginnings.{Outset, basis_of}
 use Rattle.run_books.specs.Books.{Books}
 use Rattle.run_books.specs.Records.{KeepsBooks}
@@ -48,7 +48,15 @@ use Rattle.run_books.specs.SharedSteps.{MayRely, SeesOn, CanShare, StepKeeps, Ot
 use Rattle.run_books.proofs.LineCounts.{at-most}
 use Rattle.run_books.proofs.BooksCalls.{TellsNoFile}
 use Rattle.run_books.proofs.BooksOthers.{others-keep, unapplied-keeps}
-use Rattle.run_books.proofs.BooksSettled.{is_of_batch, done, WentOn, went, lacks-at, cut-by, in-doubt}
+use Rattle.batch_disk.specs.KeptPlaces.{PlacesStand}
+use Rattle.base_types.specs.declared.calls.GrainId.{GrainId}
+use Rattle.host_trait.specs.Runs.{OnlyAsked}
+use Rattle.host_trait.proofs.Runs.{none_asked}
+use Rattle.host_trait.specs.declared.channels.FileId.TheVariants.{Grain}
+use Rattle.run_books.proofs.BooksAsked.{asked-goes}
+use Rattle.run_books.proofs.BooksFaults.{calm-later}
+use Rattle.run_books.proofs.LoadSteps.{step-asks}
+use Rattle.run_books.proofs.BooksSettled.{is_of_batch, done, WentOn, went, asked-went, unread, damaged, lacks-at, cut-by, in-doubt}
 use Rattle.run_books.proofs.Fronts.{after-base, after-kinds, after-units}
 use Rattle.run_books.proofs.Reliance.{sees-none, sees-look, sees-both, run-sees, counts-on, going-before, relies-before}
 use Rattle.run_books.proofs.BooksStated.{DidFor}
@@ -110,9 +118,23 @@ module _ {H : Type 0} (tells : Bool) (world : H → World) (faults : H → Chann
   abbrev Does : CoreEvent → Type 0
   Does e = DidFor tells world faults o.live e before.quiet (shape_in o.program) (ends r) before.writer after.writer old new
 
-  -- no host call was made, and no file answers the event
-  abbrev pub IsIdleEvent : CoreEvent → Type 0
-  IsIdleEvent e = MakesNoCall tells world faults before.writer after.writer old new × TellsNoFile e
+  -- the host was only asked, and where it was nothing is in doubt; and no file answers the event
+  pub record IsIdleEvent (e : CoreEvent) : Type 0 where
+    pub writer : after.writer ≡ before.writer
+    pub calm : NoneFailed (faults old) (faults new)
+    pub asked : IsTrue tells → OnlyAsked (world old) (world new)
+    pub sure : (new ≡ old) ⊎ ((ends r).manager.doubt ≡ None)
+    pub answers : TellsNoFile e
+
+  -- so it is where no host call was made
+  no-call : (e : CoreEvent) → MakesNoCall tells world faults before.writer after.writer old new → TellsNoFile e → IsIdleEvent e
+  no-call e none answers = record {
+    writer = none.writer;
+    calm = λ c. ap (λ (h : H). faults h c) none.host;
+    asked = λ t. subst (OnlyAsked (world old)) (ap world (sym none.host)) (none_asked (world old));
+    sure = inl none.host;
+    answers = answers;
+  }
 
   -- a step of the open batch applies
   batch-applies : (s : Step) (e : CoreEvent) → settler_step (ends r) ≡ s → MakesEvent s e → applies (ends r) e ≡ true
@@ -121,26 +143,39 @@ module _ {H : Type 0} (tells : Bool) (world : H → World) (faults : H → Chann
   spares : (e : CoreEvent) → applies (ends r) e ≡ true → has_room e ≡ true → is_spared r e ≡ false → ⊥
   spares e a room none = true≢false (sym (and_from (applies (ends r) e) (has_room e) a room) ∙ none)
 
-  -- so an event that doesn't apply made no host call
-  pub idle-event : (s : Step) (e : CoreEvent) → (is_of_batch s ≡ true → settler_step (ends r) ≡ s) → MakesEvent s e → is_spared r e ≡ false → Does e → IsIdleEvent e
-  idle-event (Votes n g) e q m none = absurd (spares e (batch-applies (Votes n g) e (q refl) m) (ap has_room m.1) none)
-  idle-event (Decides n) e q m none = absurd (spares e (batch-applies (Decides n) e (q refl) m) (ap has_room m) none)
-  idle-event (SealStep n) e q (inl m) none = absurd (spares e (batch-applies (SealStep n) e (q refl) (inl m)) (ap has_room m) none)
-  idle-event (SealStep n) e q (inr (inl m)) none = absurd (spares e (batch-applies (SealStep n) e (q refl) (inr (inl m))) (ap has_room m) none)
-  idle-event (SealStep n) e q (inr (inr m)) none = absurd (spares e (batch-applies (SealStep n) e (q refl) (inr (inr m))) (ap has_room m) none)
-  idle-event (Learns u g) e q m none = subst (λ (x : CoreEvent). Does x → IsIdleEvent x) (sym m) (λ does. (does, record { no = λ h. refl; unsealed = refl; vote = refl; sealed = refl; vote_of = λ h. refl }))
-  idle-event Writes e q m none =
+  -- so an event that doesn't apply only asked
+  pub idle-event : (s : Step) (e : CoreEvent) → (is_of_batch s ≡ true → settler_step (ends r) ≡ s) → ((g : GrainId) → s ≡ Loads g → (ends r).manager.doubt ≡ None) → MakesEvent s e → is_spared r e ≡ false → Does e → IsIdleEvent e
+  idle-event (Votes n g) e q sure m none = absurd (spares e (batch-applies (Votes n g) e (q refl) m) (ap has_room m.1) none)
+  idle-event (Decides n) e q sure m none = absurd (spares e (batch-applies (Decides n) e (q refl) m) (ap has_room m) none)
+  idle-event (SealStep n) e q sure (inl m) none = absurd (spares e (batch-applies (SealStep n) e (q refl) (inl m)) (ap has_room m) none)
+  idle-event (SealStep n) e q sure (inr (inl m)) none = absurd (spares e (batch-applies (SealStep n) e (q refl) (inr (inl m))) (ap has_room m) none)
+  idle-event (SealStep n) e q sure (inr (inr m)) none = absurd (spares e (batch-applies (SealStep n) e (q refl) (inr (inr m))) (ap has_room m) none)
+  idle-event (Learns u g) e q sure m none = subst (λ (x : CoreEvent). Does x → IsIdleEvent x) (sym m) (λ does. no-call (event.Learn u g) does (record { no = λ h. refl; unsealed = refl; vote = refl; sealed = refl; vote_of = λ h. refl }))
+  idle-event Writes e q sure m none =
       subst (λ (x : CoreEvent). is_spared r x ≡ false → Does x → IsIdleEvent x) (sym m)
       (λ lacks does. absurd (spares event.Emitted (entry-applies (ends r) does.entry does.next) refl lacks)) none
-  idle-event (Loads g) e q m none = subst (λ (x : CoreEvent). Does x → IsIdleEvent x) (sym m.2) (λ does. absurd does)
-  idle-event Takes e q m none = subst (λ (x : CoreEvent). Does x → IsIdleEvent x) (sym m) (λ does. (does, record { no = λ h. refl; unsealed = refl; vote = refl; sealed = refl; vote_of = λ h. refl }))
-  idle-event Rests e q m none = absurd m
+  idle-event (Loads g) e q sure m none = subst (λ (x : CoreEvent). Does x → IsIdleEvent x) (sym m.2) (λ does. record {
+    writer = does.writer;
+    calm = does.calm;
+    asked = does.asked;
+    sure = inr (sure g refl);
+    answers = record { no = λ h. refl; unsealed = refl; vote = refl; sealed = refl; vote_of = λ h. refl };
+  })
+  idle-event Takes e q sure m none = subst (λ (x : CoreEvent). Does x → IsIdleEvent x) (sym m) (λ does. no-call event.Take does (record { no = λ h. refl; unsealed = refl; vote = refl; sealed = refl; vote_of = λ h. refl }))
+  idle-event Rests e q sure m none = absurd m
+
+  -- and keeps the books
+  pub idle-goes : (e : CoreEvent) → IsIdleEvent e → WentOn tells world faults o b r before old can even k r before new
+  idle-goes e idle = elim idle.sure [
+    | inl same ↦ subst (λ (h : H). WentOn tells world faults o b r before old can even k r before h) (sym same) (record { books = b; kept = k; lasts = λ t head l. l }, even)
+    | inr none ↦ asked-goes tells o b r before (faults old) (faults new) (world old) (world new) can.above can.units (calm-later (faults old) (faults new) idle.calm) idle.asked none even k
+  ]
 
   -- the books after whichever event was put, applied or not
-  pub put-at : (s : Step) (e : CoreEvent) → (is_of_batch s ≡ true → settler_step (ends r) ≡ s) → MakesEvent s e → (p : CoreReply) → p ≡ reply_in r e → Does e
+  pub put-at : (s : Step) (e : CoreEvent) → (is_of_batch s ≡ true → settler_step (ends r) ≡ s) → ((g : GrainId) → s ≡ Loads g → (ends r).manager.doubt ≡ None) → MakesEvent s e → (p : CoreReply) → p ≡ reply_in r e → Does e
       → after ≡ record before { writer = after.writer; written = written_after e p before.written; doubted = doubted_after e p before.doubted }
       → KeepsUnitRule (basis_of o) (extended r (e ∷ [])) → WentOn tells world faults o b r before old can even k (extended r (e ∷ [])) after new
-  put-at s e q m p reply does counts units = by (applies (ends r) e) refl
+  put-at s e q sure m p reply does counts units = by (applies (ends r) e) refl
     where
       says : has_applied p ≡ applies (ends r) e
       says = ap has_applied reply ∙ ap not (reply-tells (ends r) e) ∙ not-not (applies (ends r) e)
@@ -161,16 +196,18 @@ module _ {H : Type 0} (tells : Bool) (world : H → World) (faults : H → Chann
           }))
       by false a =
           let none : has_applied p ≡ false = says ∙ a in
-          let idle : IsIdleEvent e = idle-event s e q m (ap (λ (x : Bool). x && has_room e) a) does in
+          let idle : IsIdleEvent e = idle-event s e q sure m (ap (λ (x : Bool). x && has_room e) a) does in
           let written : written_after e p before.written ≡ before.written =
           ap (λ (x : Bool). if tells_entry e && x then counted_up before.written else before.written) none
           ∙ ap (λ (x : Bool). if x then counted_up before.written else before.written) (and-none (tells_entry e)) in
           let doubted : doubted_after e p before.doubted ≡ before.doubted =
           ap (λ (x : Bool). before.doubted || (tells_doubt e && x)) none ∙ ap (λ (x : Bool). before.doubted || x) (and-none (tells_doubt e)) ∙ or-none before.doubted in
-          let settler : after ≡ before = counts ∙ (λ i. record before { writer = idle.0.writer i; written = written i; doubted = doubted i }) in
+          let settler : after ≡ before = counts ∙ (λ i. record before { writer = idle.writer i; written = written i; doubted = doubted i }) in
           subst (λ (x : Settler). WentOn tells world faults o b r before old can even k (extended r (e ∷ [])) x new) (sym settler)
-          (subst (λ (h : H). WentOn tells world faults o b r before old can even k (extended r (e ∷ [])) before h) (sym idle.0.host)
-          (unapplied-keeps tells o b r e before (faults old) (world old) can.above can.units units a idle.1 even k))
+          (
+          let one = idle-goes e idle in
+          let h = unapplied-keeps tells o one.0.books r e before (faults new) (world new) can.above can.units units a idle.answers one.1 one.0.kept in
+          (go-both tells o b (stage_of world faults r before old) (stage_of world faults r before new) (stage_of world faults (extended r (e ∷ [])) before new) one.0 h.0, h.1))
 
 -- ---- a step, by what was seen
 
@@ -310,7 +347,7 @@ module _ {H : Type 0} (tells : Bool) (world : H → World) (faults : H → Chann
     put-went =
         let stays : Stays (LoadsTrue (run_seen seen)) (ends (run_seen seen)) (ends (run_seen x)) = stays-on seen x looking here look-on in
         let h = put-at tells world faults o up-to.0.books (run_seen x) before after old new (can-at x here) up-to.1 up-to.0.kept (settler_step (ends (run_seen seen))) e
-        (λ of. step-stays (ends (run_seen seen)) (ends (run_seen x)) stays.batch of) put.acts.makes p put.told.reply
+        (λ of. step-stays (ends (run_seen seen)) (ends (run_seen x)) stays.batch of) (λ g loads. stays.doubt ∙ (step-asks (ends (run_seen seen)) g loads).1) put.acts.makes p put.told.reply
         (does-on tells world faults o.live before.quiet (shape_in o.program) (ends (run_seen seen)) (ends (run_seen x)) before.writer after.writer old new (LoadsTrue (run_seen seen)) (λ t. (at-look.0.kept.versions t).loads) stays e (in-slot e seen after new put.acts.does))
         put.counts (subst (KeepsUnitRule (basis_of o)) run-is (relies-at mid behind).units) in
         subst (λ (r : Run). Went r after new) (sym run-is)
@@ -348,9 +385,11 @@ module _ {H : Type 0} (tells : Bool) (world : H → World) (faults : H → Chann
       let g : Went (run_seen t) before old = move seen t mid last n.unput before old look in
       let stays : Stays (LoadsTrue (run_seen seen)) (ends (run_seen seen)) (ends (run_seen t)) = stays-on seen t mid last n.unput in
       let idle = idle-event tells world faults o g.0.books (run_seen t) before after old new (can-at t last) g.1 g.0.kept (settler_step (ends (run_seen seen))) e
-      (λ of. step-stays (ends (run_seen seen)) (ends (run_seen t)) stays.batch of) n.acts.makes n.unspared
+      (λ of. step-stays (ends (run_seen seen)) (ends (run_seen t)) stays.batch of) (λ g loads. stays.doubt ∙ (step-asks (ends (run_seen seen)) g loads).1) n.acts.makes n.unspared
       (does-on tells world faults o.live before.quiet (shape_in o.program) (ends (run_seen seen)) (ends (run_seen t)) before.writer after.writer old new (LoadsTrue (run_seen seen)) (λ told. (look.0.kept.versions told).loads) stays e (in-slot e seen after new n.acts.does)) in
-      same-as (run_seen t) after new (n.settler ∙ ap (λ w. record before { writer = w }) idle.0.writer) idle.0.host g
+      let one = idle-goes tells world faults o g.0.books (run_seen t) before after old new (can-at t last) g.1 g.0.kept e idle in
+      subst (λ (x : Settler). Went (run_seen t) x new) (sym (n.settler ∙ ap (λ w. record before { writer = w }) idle.writer))
+      (go-both tells o b (stage_of world faults (run_seen s) before old) (stage_of world faults (run_seen t) before old) (stage_of world faults (run_seen t) before new) g.0 one.0, one.1)
 
   -- ---- whatever it answers
 
@@ -374,6 +413,18 @@ module _ {H : Type 0} (tells : Bool) (world : H → World) (faults : H → Chann
       let h = cut-by tells world faults o g.0.books (run_seen t) before old (can-at t (looked-to y.looked)) g.1 g.0.kept tells refl new cut in
       subst (λ (x : Settler). (g : BooksGoOn tells o b (stage_of world faults (run_seen s) before old) (stage_of world faults (run_seen t) x new)) × Rose (o.faults Output) (faults new Output)) (sym y.settler)
       (go-both tells o b (stage_of world faults (run_seen s) before old) (stage_of world faults (run_seen t) before old) (stage_of world faults (run_seen t) before new) g.0 h.0, h.1)
+  answers after new (Ok (Stop (LoadFault file))) y =
+      let x = y.0 in
+      let g : Went (run_seen t) before old = looked x.looked in
+      let u = unread tells world faults o g.0.books (run_seen t) before old (can-at t (looked-to x.looked)) g.1 g.0.kept after new file x.g (y.1 ∙ ap (λ (n : ℕ). Grain n x.g) k.slot) (step-asks (ends (run_seen t)) x.g x.loads)
+      (subst (λ (n : ℕ). FailedOn (File (Grain n x.g)) (faults old) (faults new)) k.slot x.reads.fault) x.asked x.settler in
+      (go-both tells o b (stage_of world faults (run_seen s) before old) (stage_of world faults (run_seen t) before old) (stage_of world faults (run_seen t) after new) g.0 u.0.0, u.1)
+  answers after new (Ok (Stop (LoadDamaged file place))) y =
+      let x = y.0 in
+      let g : Went (run_seen t) before old = looked x.looked in
+      let u = damaged tells world faults o g.0.books (run_seen t) before old (can-at t (looked-to x.looked)) g.1 g.0.kept after new x.g (step-asks (ends (run_seen t)) x.g x.loads) x.reads.calm
+      (subst (λ (n : ℕ). IsTrue tells → PlacesStand n (shape_in o.program) before.writer (world old).disk → ⊥) k.slot x.reads.untold) x.asked x.settler in
+      (go-both tells o b (stage_of world faults (run_seen s) before old) (stage_of world faults (run_seen t) before old) (stage_of world faults (run_seen t) after new) g.0 u.0.0, u.1)
   answers after new (Err lack) (inl y) =
       let g : Went (run_seen t) after new = same-as (run_seen t) after new y.settler y.host (looked y.looked) in
       (g.0, g.1.rest)
@@ -383,7 +434,11 @@ module _ {H : Type 0} (tells : Bool) (world : H → World) (faults : H → Chann
       (subst (λ (live : ℕ). LacksRoom tells world faults live y.n y.g (versions_to_write (ends (run_seen t)) (ends (run_seen t)).manager.batch y.g) before.writer after.writer old new) k.slot y.lacks) y.settler in
       (go-both tells o b (stage_of world faults (run_seen s) before old) (stage_of world faults (run_seen t) before old) (stage_of world faults (run_seen t) after new) g.0 h.0, h.1.rest)
   answers after new (Err lack) (inr (inr (inl y))) = (let g = not-taken after new y.0 y.1 in (g.0, g.1.rest))
-  answers after new (Err lack) (inr (inr (inr y))) =
+  answers after new (Err lack) (inr (inr (inr (inr y)))) =
+      let g : Went (run_seen t) before old = looked y.looked in
+      let w = asked-went tells world faults o g.0.books (run_seen t) before old (can-at t (looked-to y.looked)) g.1 g.0.kept (run_seen t) after new refl y.settler y.reads y.asked (step-asks (ends (run_seen t)) y.g y.loads).1 in
+      (go-both tells o b (stage_of world faults (run_seen s) before old) (stage_of world faults (run_seen t) before old) (stage_of world faults (run_seen t) after new) g.0 w.0, w.1.rest)
+  answers after new (Err lack) (inr (inr (inr (inl y)))) =
       let g : Went (run_seen t) after new = put-moved after new y.e y.r y.mid y.put (sees-look may y.mid t y.looked) y.looked in
       (g.0, g.1.rest)
 

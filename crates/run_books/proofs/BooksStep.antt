@@ -6,9 +6,9 @@ use Rattle.base_types.specs.declared.entries.Entry.{Entry}
 use Rattle.base_types.specs.declared.stores.Version.{Version}
 use Rattle.host_trait.specs.declared.channels.FileId.TheVariants.{Manager}
 use Rattle.host_trait.specs.declared.channels.Channel.{Channel}
-use Rattle.host_trait.specs.World.{World, Passes, moment_of}
+use Rattle.host_trait.specs.World.{World, Disk, Passes, moment_of}
 use Rattle.host_trait.proofs.Moments.{started}
-use Rattle.core_model.specs.CoreState.{UnitNo, CoreState, Member}
+use Rattle.core_model.specs.CoreState.{UnitNo, Value, CoreState, Member}
 use Rattle.core_model.specs.declared.effects.Effect.{Effect}
 use Rattle.core_model.specs.declared.events.CoreEvent.{CoreEvent}
 use Rattle.core_model.specs.declared.events.CoreEvent.TheVariants as event
@@ -40,7 +40,10 @@ use Rattle.commit_log.specs.declared.records.CommitRecord.{CommitRecord}
 use Rattle.commit_log.specs.SealImages.{SealHasCause}
 use Rattle.settle_loop.specs.ShownWork.{event_of, tells_entry, tells_doubt, counted_up}
 use Rattle.batch_disk.specs.VoteAnswers.{VotesOn}
-use Rattle.settle_loop.specs.HostSteps.{MakesNoCall, SealsUnits, DoesFor, batch_made}
+use Rattle.batch_disk.proofs.WriterState.{keeps_log}
+use Rattle.host_trait.proofs.Runs.{asked_keeps, arrives_asked}
+use Rattle.host_trait.specs.Runs.{OnlyAsked}
+use Rattle.settle_loop.specs.HostSteps.{MakesNoCall, LoadsGrain, SealsUnits, DoesFor, batch_made}
 use Rattle.settle_loop.specs.StepJournal.{as_settled, LeavesLogs, JournalsAs}
 use Rattle.settle_loop.specs.declared.settler.Settler.{Settler}
 use Rattle.settle_loop.proofs.StepJournal.{journals, leaves}
@@ -54,9 +57,9 @@ use Rattle.run_books.proofs.BooksCounts.{doubt-ends, how-one, none-before}
 use Rattle.run_books.proofs.BooksLists.{alone}
 use Rattle.run_books.proofs.BooksGrown.{grown_books, grown-commits}
 use Rattle.run_books.proofs.BooksKept.{AddsBatch, books-kept, books-even}
-use Rattle.run_books.proofs.BooksEvents.{adds-none, adds-vote, adds-sealed, adds-unsealed}
+use Rattle.run_books.proofs.BooksEvents.{adds-none, adds-asked, adds-vote, adds-sealed, adds-unsealed}
 use Rattle.run_books.specs.Places.{AreOfVotes, KeepsVersions}
-use Rattle.run_books.proofs.BooksVersions.{versions-same, versions-on, versions-sealed}
+use Rattle.run_books.proofs.BooksVersions.{step-true, versions-same, versions-on, versions-sealed}
 use Rattle.run_books.proofs.BooksFair.{all-of, is-fair, written as effects-written, votes-after, fresh-batch}
 use Rattle.settler_rules.proofs.LoggedUnits.{IsBelow, fits-format}
 use Rattle.batch_disk.specs.MovedPlaces.{place_after, placed_by_commits}
@@ -175,7 +178,7 @@ module _ {H : Type 0} (tells : Bool) (world : H → World) (faults : H → Chann
         → JournalsAs o.live o.program head f.stood f.bodies before.writer after.writer (world old) (world new) e before.quiet (ends r) (batch_made tells world faults o.live e before.quiet (shape_in o.program) (ends r) before.writer after.writer old new does)
     journal-of makes t head f does =
         journals tells t world faults o.live o.program head f.stood f.bodies (ends r) before.writer after.writer old new f.keeps
-        (is-fair o r before.writer can.above (k.versions t).loads can.units can.kinds can.accepted can.numbers (k.versions t).votes) before.quiet (settler_step (ends r)) e refl makes does
+        (is-fair o r before.writer can.above can.units can.kinds can.accepted can.numbers (k.versions t).votes) before.quiet (settler_step (ends r)) e refl makes does
 
     -- without a host call no log changes
     no-call : (head : List ℕ) (f : KeepsFolder o head b r before.writer (world old).disk) → MakesNoCall tells world faults before.writer after.writer old new
@@ -186,6 +189,19 @@ module _ {H : Type 0} (tells : Bool) (world : H → World) (faults : H → Chann
         (started (KeepsLog o.live head f.stood (world old)) (world old).past) f.keeps in
         subst (λ (x : BatchWriter). LeavesLogs o.live o.program head f.stood f.bodies before.writer x (world old) (world new)) (sym none.writer)
         (subst (λ (h : H). LeavesLogs o.live o.program head f.stood f.bodies before.writer before.writer (world old) (world h)) (sym none.host) same)
+
+    -- a read changes none
+    only-asked : (head : List ℕ) (f : KeepsFolder o head b r before.writer (world old).disk) → OnlyAsked (world old) (world new) → after.writer ≡ before.writer
+        → LeavesLogs o.live o.program head f.stood f.bodies before.writer after.writer (world old) (world new)
+    only-asked head f asked same =
+        let here : KeepsLog o.live head f.stood (world old) (moment_of (world old)) = record {
+          rest = record { output = refl; aside = λ file is. refl; header = λ image left. (f.keeps.images image left).header };
+          logs = keeps_log o.live (shape_in o.program) head f.stood f.bodies before.writer (world old).disk f.keeps;
+        } in
+        let kept : KeepsDisk o.live (shape_in o.program) head f.stood f.bodies before.writer (world new).disk = subst (KeepsDisk o.live (shape_in o.program) head f.stood f.bodies before.writer) (sym asked.disk) f.keeps in
+        leaves o.live o.program head f.stood f.bodies before.writer after.writer (world old) (world new) f.keeps asked.output (arrives_asked (world old) (world new) asked)
+        (asked_keeps (KeepsLog o.live head f.stood (world old)) (world old) (world new) asked here)
+        (subst (λ (w : BatchWriter). KeepsDisk o.live (shape_in o.program) head f.stood f.bodies w (world new).disk) (sym same) kept)
 
     -- no log changes
     leaves-disk : (head : List ℕ) (f : KeepsFolder o head b r before.writer (world old).disk) → LeavesLogs o.live o.program head f.stood f.bodies before.writer after.writer (world old) (world new)
@@ -274,6 +290,20 @@ module _ {H : Type 0} (tells : Bool) (world : H → World) (faults : H → Chann
       (λ t. versions-still e c refl refl tt does t)
       (λ t head f. leaves-disk e c refl refl head f (no-call e c refl refl head f does) (behind-still e c refl refl head f does)) no-older
 
+  -- a grain that is brought into memory
+  pub by-load : (g : GrainId) (u : UnitNo) (state : List Value) → LoadsGrain tells world faults o.live (shape_in o.program) g (record { unit = u; state = state }) before.writer after.writer old new
+      → IsCounted (event.Load g u state) → StepDone (event.Load g u state)
+  by-load g u state does c =
+      let e : CoreEvent = event.Load g u state in
+      plain-done e c refl refl refl []
+      (adds-asked tells world faults o b r before after old new can.above can.units k e c.applied (moves-run r e c.applied) c.quiet c.written refl (c.doubted ∙ or-none before.doubted) (λ h. refl) refl refl refl does.writer does.calm does.asked)
+      (λ t.
+      versions-same o b (grown_books b (moves-run r e c.applied).more [] b.doubted) r before.writer after.writer (world old).disk (world new).disk (k.versions t) does.writer (does.asked t).disk (no-commits e c refl refl) e can.above
+      (step-true o b r before.writer (world old).disk g u state can.above k.booked (k.versions t) (does.told t (k.versions t).stand)))
+      (λ t head f. leaves-disk e c refl refl head f (only-asked e c refl refl head f (does.asked t) does.writer)
+      (λ none. subst (λ (w : BatchWriter). EndsAsBegun o w.gate_at ((world new).disk (Manager o.live))) (sym does.writer)
+      (subst (λ (d : Disk). EndsAsBegun o before.writer.gate_at (d (Manager o.live))) (sym (does.asked t).disk) (f.behind (none-before is_unsealed r (e ∷ []) none))))) no-older
+
   -- a vote
   pub by-vote : (n : ℕ) (g : GrainId) (said : Bool) (versions : List Version) → MakesEvent (settler_step (ends r)) (event.Vote n g said) → (IsTrue tells → versions ≡ versions_to_write (ends r) (ends r).manager.batch g)
       → VotesOn tells world faults o.live n g said versions before.writer after.writer old new → IsCounted (event.Vote n g said) → StepDone (event.Vote n g said)
@@ -284,7 +314,7 @@ module _ {H : Type 0} (tells : Bool) (world : H → World) (faults : H → Chann
       plain-done e c refl refl refl []
       (adds-vote tells world faults o b r before after old new can.above can.units k n g said versions c.applied (moves-run r e c.applied) c.quiet c.written (c.doubted ∙ or-none before.doubted) does)
       (λ t. (
-      let fair = (is-fair o r before.writer can.above (k.versions t).loads can.units can.kinds can.accepted can.numbers (k.versions t).votes).vote n g (votes-step n g said (settler_step (ends r)) makes) in
+      let fair = (is-fair o r before.writer can.above can.units can.kinds can.accepted can.numbers (k.versions t).votes).vote n g (votes-step n g said (settler_step (ends r)) makes) in
       versions-on o b (grown_books b (moves-run r e c.applied).more [] b.doubted) r before.writer after.writer (world old).disk (world new).disk (k.versions t)
       (((as-shown t).images t).placed (shape_in o.program) fair.0 fair.1 (k.versions t).stand) does.same.places (no-commits e c refl refl) e tt
       (votes-after r n g said before.writer after.writer can.above c.applied does.batch (as-shown t).kept (k.versions t).votes)))
@@ -333,8 +363,8 @@ module _ {H : Type 0} (tells : Bool) (world : H → World) (faults : H → Chann
       let m = moves-run r e c.applied in
       let versions : IsTrue tells → KeepsVersions o (grown_books b m.more (as_settled batch ∷ []) b.doubted) (extended r (e ∷ [])) after.writer (world new).disk =
       (λ t. (
-      let up = all-of (λ (x : Effect). AllPairs IsBelow x.writes) effects (λ x there. (fits-format (basis_of o) r can.above (k.versions t).loads can.units can.accepted x there).ascending) in
-      let as_written = all-of (IsAsWritten (voted_of n before.writer)) effects (effects-written o r before.writer can.above (k.versions t).loads can.units can.kinds can.accepted can.numbers (k.versions t).votes n) in
+      let up = all-of (λ (x : Effect). AllPairs IsBelow x.writes) effects (λ x there. (fits-format (basis_of o) r can.above can.units can.accepted x there).ascending) in
+      let as_written = all-of (IsAsWritten (voted_of n before.writer)) effects (effects-written o r before.writer can.above can.units can.kinds can.accepted can.numbers (k.versions t).votes n) in
       versions-sealed o b (grown_books b m.more (as_settled batch ∷ []) b.doubted) r e before.writer after.writer (world old).disk (world new).disk effects batch (k.versions t) tt
       (votes-gone e c refl refl (sealed-gone n does.answer does.work.records before.writer after.writer does.event does.leaves.after_is)) (does.leaves.placed t (shape_in o.program) (k.versions t).stand)
       (records_are (voted_of n before.writer) effects does.work.records does.records) up
@@ -354,7 +384,7 @@ module _ {H : Type 0} (tells : Bool) (world : H → World) (faults : H → Chann
         rest_now = s.rest_now;
         behind = λ none. seal-behind n t does (f.behind (none-before is_unsealed r (e ∷ []) none));
       }))
-      (λ t x l said there is. fresh-batch (basis_of o) r e batch (commits_of (b.said ++ ((b.unsaid ++ as_settled batch ∷ []) ++ alone m.more))) can.above (versions t).loads c.units
+      (λ t x l said there is. fresh-batch r e batch (commits_of (b.said ++ ((b.unsaid ++ as_settled batch ∷ []) ++ alone m.more))) can.above
       (records_are (voted_of n before.writer) effects does.work.records does.records) kept.booked.commits
       (λ y among. subst (λ (ls : List Commit). Member y ls) (sym (grown-commits b m.more (as_settled batch ∷ []) b.doubted))
       (in-back y (commits_of (b.said ++ b.unsaid)) (commits_of (as_settled batch ∷ [])) (subst (λ (ls : List Commit). Member y ls) (sym (append-nil batch)) among)))

@@ -1,6 +1,6 @@
 -- What a run's loads rest on, as the run goes on: the votes' versions, the places, and the loads themselves.
-use Rattle.std.proofs.Common.{◌≡◌, ◌<◌, suc, List, [], ◌∷◌, ◌++◌, map, Bool, true, false, true≢false, inl, inr, refl, sym, ap, ◌∙◌, subst, arith, Option, Some, None, unwrap_or}
-use Rattle.std.specs.Prelude.{if◌then◌else◌, zip, nat_lt}
+use Rattle.std.proofs.Common.{◌≡◌, ◌<◌, ℕ, zero, suc, List, [], ◌∷◌, ◌++◌, map, Bool, true, false, true≢false, inl, inr, refl, sym, ap, ◌∙◌, subst, arith, Option, Some, None, unwrap_or}
+use Rattle.std.specs.Prelude.{if◌then◌else◌, zip, nat_lt, slice_get}
 use Rattle.std.specs.List.{AllPairs, AllByRecursion}
 use Rattle.std.proofs.lemmas.Bool.{cases_Bool, cond-true, cond-false, and_parts, or_cases, ltb-true}
 use Rattle.base_types.specs.Places.{placed_in}
@@ -22,12 +22,13 @@ use Rattle.promise_spec.specs.Entries.{initial_states}
 use Rattle.promise_spec.specs.Records.{Commit, written, AreRecordsOf}
 use Rattle.promise_spec.specs.Programs.{shape_in}
 use Rattle.promise_spec.specs.Journals.{commits_of}
-use Rattle.promise_spec.specs.UnitRule.{Basis, KeepsUnitRule}
-use Rattle.promise_laws.proofs.LegalRuns.{loads-by-rule}
-use Rattle.core_laws.proofs.FurtherLaws.{loads-append}
+use Rattle.core_access.specs.SettlerEvents.{is_settling}
 use Rattle.batch_disk.specs.KeptPlaces.{PlacesStand}
 use Rattle.batch_disk.specs.MovedPlaces.{placed_new, placed_by_states, placed_by_commits}
 use Rattle.batch_disk.specs.declared.writer.BatchWriter.{BatchWriter}
+use Rattle.script_tree.specs.Programs.{ProgramTree}
+use Rattle.script_check.specs.Shapes.{type_shapes}
+use Rattle.settle_loop.specs.HostSteps.{type_initial, version_due}
 use Rattle.settler_rules.proofs.Calls.{all-member}
 use Rattle.settler_rules.proofs.LoggedUnits.{IsBelow}
 use Rattle.run_books.specs.Beginnings.{Outset}
@@ -48,9 +49,10 @@ loads-more began (x ∷ es) w e l t = (l.0, loads-more began es (step w x) e l.1
 pub loads-on : (r : Run) (e : CoreEvent) → AllLoadsTrue r.opening (begins r) r.events → IsTrueLoad r.opening (ends r) e → AllLoadsTrue (extended r (e ∷ [])).opening (begins (extended r (e ∷ []))) (extended r (e ∷ [])).events
 loads-on r e l t = loads-more r.opening r.events (begins r) e l t
 
--- an event behind which the unit rule is kept brings in only what is true
-pub rule-true : (s : Basis) (r : Run) (e : CoreEvent) → KeepsUnitRule s (extended r (e ∷ [])) → IsTrueLoad r.opening (ends r) e
-rule-true s r e keeps = (loads-append r.opening (begins r) r.events (e ∷ []) (loads-by-rule s (extended r (e ∷ [])) keeps)).1.0
+-- an event of others is no load
+pub others-true : (r : Run) (e : CoreEvent) → is_settling e ≡ false → IsTrueLoad r.opening (ends r) e
+others-true r (Load g u state) other = absurd (true≢false other)
+others-true r _ other = tt
 
 -- nor need one be true that doesn't apply
 pub unapplied-true : (began : GrainId → List Value) (w : CoreState) (e : CoreEvent) → applies w e ≡ false → IsTrueLoad began w e
@@ -74,6 +76,25 @@ load-true o b r writer disk g above booked k =
     let same : load_by o writer g ≡ true_load r.opening g (commits_of (b.said ++ b.unsaid)) =
     by-place (initial_states o.program g) (r.opening g) (last_own g (commits_of (b.said ++ b.unsaid))) (placed_in writer.places g) (k.own g) (k.opened g) in
     subst (λ (v : Version). IsLastVersion r.opening (ends r) g v.unit v.state) (sym same) (true-load r above r.opening (commits_of (b.said ++ b.unsaid)) g booked.commits)
+
+-- ---- a load that a step makes
+
+-- a type's initial fields by the shape and by the program
+initial-types : (types : ProgramTree) (kind key : ℕ) → type_initial (slice_get (type_shapes types) kind) ≡ initial_states (record { text = []; types = types }) (record { kind = kind; key = key })
+initial-types [] kind key = refl
+initial-types (t ∷ types) zero key = refl
+initial-types (t ∷ types) (suc kind) key = initial-types types kind key
+
+-- what is due of a grain by its place is what is loaded by it
+due-is : (o : Outset) (writer : BatchWriter) (g : GrainId) (p : Option Placed) → version_due (shape_in o.program) g p ≡ loaded_by (initial_states o.program g) p
+due-is o writer g None = λ i. record { unit = nobody; state = initial-types o.program.types g.kind g.key i }
+due-is o writer g (Some p) = refl
+
+-- so where it is what stands at the grain's place, it is true
+pub step-true : (o : Outset) (b : Books) (r : Run) (writer : BatchWriter) (disk : Disk) (g : GrainId) (u : UnitNo) (state : List Value) → 0 < r.base → AreBooked b (ends r) → KeepsVersions o b r writer disk
+    → record { unit = u; state = state } ≡ version_due (shape_in o.program) g (placed_in writer.places g) → IsTrueLoad r.opening (ends r) (Load g u state)
+step-true o b r writer disk g u state above booked k is =
+    λ a. subst (λ (v : Version). IsLastVersion r.opening (ends r) g v.unit v.state) (sym (is ∙ due-is o writer g (placed_in writer.places g))) (load-true o b r writer disk g above booked k)
 
 -- ---- an event more
 

@@ -24,6 +24,8 @@ pub mod BooksEmits
 pub mod BooksInDoubt
 pub mod BooksDoubting
 pub mod BooksStep
+pub mod LoadSteps
+pub mod BooksAsked
 pub mod BooksEnd
 pub mod BooksSettled
 pub mod TurnImages
@@ -32,5 +34,6 @@ pub mod Fronts
 pub mod Reliance
 pub mod ShownWork
 pub mod BooksShared
+pub mod BooksLoaded
 pub mod SettlerSights
 pub mod SettlerFrame

@@ -9,7 +9,7 @@ use Rattle.host_trait.specs.declared.channels.Channel.{Channel}
 use Rattle.host_trait.specs.declared.channels.Channel.TheVariants.{Input, Output, File}
 use Rattle.host_trait.specs.declared.channels.FileId.{FileId}
 use Rattle.host_trait.specs.Faults.{NoneFailed, FailedOn}
-use Rattle.host_trait.specs.Runs.{ChangesFile, RunsOnFile}
+use Rattle.host_trait.specs.Runs.{ChangesFile, RunsOnFile, OnlyAsked}
 use Rattle.host_trait.specs.World.{World, Moment, Passes, Ticks, moment_of}
 use Rattle.host_trait.proofs.Moments.{both, weaker, started}
 use Rattle.commit_log.specs.SealImages.{SealHasCause}
@@ -18,7 +18,7 @@ use Rattle.commit_log.specs.declared.gate.Sealing.TheVariants as sealing
 use Rattle.core_model.specs.CoreState.{CoreState}
 use Rattle.core_model.specs.Laws.{extended}
 use Rattle.core_model.specs.LegalRuns.{Run}
-use Rattle.core_model.specs.Settler.{to_commit, versions_to_write}
+use Rattle.core_model.specs.Settler.{Step, to_commit, versions_to_write}
 use Rattle.core_model.specs.declared.effects.Effect.{Effect}
 use Rattle.core_model.specs.declared.events.CoreEvent.{CoreEvent}
 use Rattle.core_model.specs.declared.events.CoreEvent.TheVariants.{Vote, Sealed, NotSealed, Doubt, Emitted, Load}
@@ -26,13 +26,13 @@ use Rattle.core_access.specs.Sights.{Sight}
 use Rattle.batch_disk.specs.declared.writer.BatchWriter.{BatchWriter}
 use Rattle.batch_disk.specs.VoteAnswers.{HasVoteCause, VotesOn}
 use Rattle.settle_loop.specs.HostSteps.{HasLine, SealsUnits, WritesEntry, DoesFor}
-use Rattle.settle_loop.specs.SettlerStep.{IsBrokenOff, TurnsAs, state_shown}
+use Rattle.settle_loop.specs.SettlerStep.{IsBrokenOffBy, TurnsBy, state_shown}
 use Rattle.settle_loop.specs.declared.settler.Settler.{Settler}
 use Rattle.settle_loop.specs.declared.settler.Turned.{Turned}
 use Rattle.settle_loop.specs.declared.settler.Turned.TheVariants.{Stepped, Nothing, Stop}
 use Rattle.settle_loop.specs.declared.settler.StopCause.TheVariants as cause
 use Rattle.run_books.specs.declared.faults.RunFault.{RunFault}
-use Rattle.run_books.specs.declared.faults.RunFault.TheVariants.{InDoubt, WriteFault, Memory}
+use Rattle.run_books.specs.declared.faults.RunFault.TheVariants.{InDoubt, WriteFault, LoadFault, LoadDamaged, Memory}
 use Rattle.run_books.specs.RecordFrame.{EmitsAs, IsHushed, TurnsBeside}
 use Rattle.run_books.specs.Stages.{stage_by, stage_of}
 
@@ -41,6 +41,8 @@ emits-from : {T : Type 0} (result : Result T RunFault) (a b c : ℕ) → b ≡ a
 emits-from (Ok done) a b c same q = q ∙ same
 emits-from (Err InDoubt) a b c same q = q ∙ same
 emits-from (Err WriteFault) a b c same q = q
+emits-from (Err (LoadFault file)) a b c same q = q ∙ same
+emits-from (Err (LoadDamaged file place)) a b c same q = q ∙ same
 emits-from (Err Memory) a b c same q = q ∙ same
 
 -- and nothing did
@@ -48,6 +50,8 @@ emits-same : {T : Type 0} (result : Result T RunFault) (a c : ℕ) → c ≡ a �
 emits-same (Ok done) a c q = q
 emits-same (Err InDoubt) a c q = q
 emits-same (Err WriteFault) a c q = tt
+emits-same (Err (LoadFault file)) a c q = q
+emits-same (Err (LoadDamaged file place)) a c q = q
 emits-same (Err Memory) a c q = q
 
 -- nothing was put out where nothing was done
@@ -72,6 +76,17 @@ GoesWith now now' = (now'.input ≡ now.input) × ((later : List Moment) × (now
 ticks-on : (now now' : World) → Ticks now now' → (later : List Moment) × (now'.past ≡ now.past ++ later)
 ticks-on now now' (inl q) = (moment_of now' ∷ [], q)
 ticks-on now now' (inr q) = ([], q.0 ∙ sym (append-nil now.past))
+
+-- calls that only ask pull no input, and the clock goes on
+asked-goes : (now now' : World) → OnlyAsked now now' → GoesWith now now'
+asked-goes now now' asked = (asked.input, (asked.moments.more, asked.moments.past))
+
+-- and put nothing out
+asked-hushed : (now now' : World) → OnlyAsked now now' → IsHushed now now'
+asked-hushed now now' asked = record {
+  output = asked.output;
+  moments = weaker (λ (m : Moment). m ≡ moment_of now) (λ (m : Moment). m.output ≡ now.output) (λ m is. ap (λ (x : Moment). x.output) is) asked.moments;
+}
 
 -- a world that stayed
 still-goes : (now now' : World) → now' ≡ now → GoesWith now now'
@@ -160,7 +175,7 @@ module _ {H : Type 0} (hush tells : Bool) (world : H → World) (faults : H → 
   does-leave live (Doubt n) quiet is shape w before after (inl d) = seals-leave live n (Doubt n) (to_commit w w.manager.batch) before after d
   does-leave live (Doubt n) quiet is shape w before after (inr d) = leaves-none d.none.host
   does-leave live Emitted quiet is shape w before after d = writes-leave quiet is shape w before after d
-  does-leave live (Load g u state) quiet is shape w before after d = absurd d
+  does-leave live (Load g u state) quiet is shape w before after d = leaves-calm d.calm (λ t. asked-goes (world old) (world new) (d.asked t)) (λ h t. asked-hushed (world old) (world new) (d.asked t))
   does-leave live _ quiet is shape w before after d = leaves-none d.host
 
 -- ---- a step
@@ -187,12 +202,14 @@ IsAnswerTo {T} answer (Ok Stepped) = (done : T) × (answer ≡ Ok done)
 IsAnswerTo {T} answer (Ok Nothing) = ((done : T) × (answer ≡ Ok done)) ⊎ (answer ≡ Err InDoubt)
 IsAnswerTo {T} answer (Ok (Stop cause.InDoubt)) = answer ≡ Err InDoubt
 IsAnswerTo {T} answer (Ok (Stop cause.WriteFault)) = answer ≡ Err WriteFault
+IsAnswerTo {T} answer (Ok (Stop (cause.LoadFault file))) = answer ≡ Err (LoadFault file)
+IsAnswerTo {T} answer (Ok (Stop (cause.LoadDamaged file place))) = answer ≡ Err (LoadDamaged file place)
 IsAnswerTo {T} answer (Err lack) = answer ≡ Err Memory
 
-module _ {H : Type 0} (tells : Bool) (world : H → World) (faults : H → Channel → ℕ) (may : CoreEvent → Bool) (shape : Shape) (s t : Sight) (r r' : Run) (more : List CoreEvent) (on : r' ≡ extended r more)
+module _ {H : Type 0} (tells : Bool) (world : H → World) (faults : H → Channel → ℕ) (may : CoreEvent → Bool) (shape : Shape) (next : CoreState → Step) (s t : Sight) (r r' : Run) (more : List CoreEvent) (on : r' ≡ extended r more)
     (before after : Settler) (old new : H) where
   -- where the output failed
-  cut-beside : {T : Type 0} (answer : Result T RunFault) → answer ≡ Err WriteFault → IsBrokenOff tells world faults may shape before after s t old new
+  cut-beside : {T : Type 0} (answer : Result T RunFault) → answer ≡ Err WriteFault → IsBrokenOffBy tells world faults may shape next before after s t old new
       → TurnsBeside {T = T} tells (stage_of world faults r before old) (stage_of world faults r' after new) answer
   cut-beside {T} answer is u = subst (TurnsBeside {T = T} tells (stage_of world faults r before old) (stage_of world faults r' after new)) (sym is) (record {
     more = more;
@@ -212,8 +229,8 @@ module _ {H : Type 0} (tells : Bool) (world : H → World) (faults : H → Chann
       no-input : Input ≡ Output → ⊥
       no-input q = absurd cc
 
-  -- a step of the settler, over whatever it saw
-  pub step-beside : {E T : Type 0} (answer : Result T RunFault) (result : Result Turned E) → IsAnswerTo answer result → TurnsAs tells world faults may shape before after s t old new result
+  -- a step of the settler or a load, over whatever it saw
+  pub step-beside : {E T : Type 0} (answer : Result T RunFault) (result : Result Turned E) → IsAnswerTo answer result → TurnsBy tells world faults may shape next before after s t old new result
       → TurnsBeside {T = T} tells (stage_of world faults r before old) (stage_of world faults r' after new) answer
   step-beside answer (Ok Stepped) is u =
       of-leaving tells world faults r r' more before after old new answer on (ap (λ (x : Settler). x.quiet) u.put.counts)
@@ -224,6 +241,12 @@ module _ {H : Type 0} (tells : Bool) (world : H → World) (faults : H → Chann
       of-leaving tells world faults r r' more before after old new answer on (ap (λ (x : Settler). x.quiet) u.put.counts)
       (does-leave before.quiet tells world faults old new before.writer.slot u.e before.quiet refl shape (state_shown u.put.acts.seen) before.writer after.writer u.put.acts.does)
   step-beside answer (Ok (Stop cause.WriteFault)) is u = cut-beside answer is u
+  step-beside answer (Ok (Stop (cause.LoadFault file))) is u =
+      of-leaving tells world faults r r' more before after old new answer on (ap (λ (x : Settler). x.quiet) u.0.settler)
+      (leaves-file before.quiet tells world faults old new (Grain before.writer.slot u.0.g) u.0.reads.fault (λ t. asked-goes (world old) (world new) (u.0.asked t)) (λ h t. asked-hushed (world old) (world new) (u.0.asked t)))
+  step-beside answer (Ok (Stop (cause.LoadDamaged file place))) is u =
+      of-leaving tells world faults r r' more before after old new answer on (ap (λ (x : Settler). x.quiet) u.0.settler)
+      (leaves-calm before.quiet tells world faults old new u.0.reads.calm (λ t. asked-goes (world old) (world new) (u.0.asked t)) (λ h t. asked-hushed (world old) (world new) (u.0.asked t)))
   step-beside answer (Err lack) is (inl u) =
       of-leaving tells world faults r r' more before after old new answer on (ap (λ (x : Settler). x.quiet) u.settler) (leaves-none before.quiet tells world faults old new u.host)
   step-beside answer (Err lack) is (inr (inl u)) =
@@ -232,7 +255,10 @@ module _ {H : Type 0} (tells : Bool) (world : H → World) (faults : H → Chann
   step-beside answer (Err lack) is (inr (inr (inl u))) =
       of-leaving tells world faults r r' more before after old new answer on (ap (λ (x : Settler). x.quiet) u.1.settler)
       (does-leave before.quiet tells world faults old new before.writer.slot u.0 before.quiet refl shape (state_shown u.1.acts.seen) before.writer after.writer u.1.acts.does)
-  step-beside answer (Err lack) is (inr (inr (inr u))) =
+  step-beside answer (Err lack) is (inr (inr (inr (inr u)))) =
+      of-leaving tells world faults r r' more before after old new answer on (ap (λ (x : Settler). x.quiet) u.settler)
+      (leaves-calm before.quiet tells world faults old new u.reads (λ t. asked-goes (world old) (world new) (u.asked t)) (λ h t. asked-hushed (world old) (world new) (u.asked t)))
+  step-beside answer (Err lack) is (inr (inr (inr (inl u)))) =
       of-leaving tells world faults r r' more before after old new answer on (ap (λ (x : Settler). x.quiet) u.put.counts)
       (does-leave before.quiet tells world faults old new before.writer.slot u.e before.quiet refl shape (state_shown u.put.acts.seen) before.writer after.writer u.put.acts.does)
 
@@ -251,6 +277,8 @@ module _ (tells : Bool) (r r' : Run) (settler settler' : Settler) (faults faults
       by : (x : RunFault) → EmitsAs {T = T} (Err x) (faults Output) (faults' Output) → EmitsAs {T = U} (Err x) (faults Output) (faults' Output)
       by InDoubt e = e
       by WriteFault e = e
+      by (LoadFault file) e = e
+      by (LoadDamaged file place) e = e
       by Memory e = e
 
 -- a run that stays goes on by no event

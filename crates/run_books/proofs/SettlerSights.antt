@@ -21,7 +21,7 @@ use Rattle.settle_loop.specs.SettlerStep.{TurnsAs}
 use Rattle.settle_loop.specs.declared.settler.Settler.{Settler}
 use Rattle.settle_loop.specs.declared.settler.Turned.{Turned}
 use Rattle.settle_loop.specs.declared.settler.Turned.TheVariants.{Stepped, Nothing, Stop}
-use Rattle.settle_loop.specs.declared.settler.StopCause.TheVariants.{InDoubt, WriteFault}
+use Rattle.settle_loop.specs.declared.settler.StopCause.TheVariants.{InDoubt, WriteFault, LoadFault, LoadDamaged}
 use Rattle.run_books.specs.SharedSteps.{SeesOn}
 use Rattle.run_books.proofs.BooksCore.{is_halt, moves-run, unapplied-run}
 use Rattle.run_books.proofs.BooksShared.{looks-behind}
@@ -37,10 +37,13 @@ module _ {H : Type 0} (tells : Bool) (world : H → World) (faults : H → Chann
   sees-step (Ok Nothing) x = sees-look may s t x.looked
   sees-step (Ok (Stop InDoubt)) x = sees-acted x.put.acts.seen x.mid x.e x.r x.put.acts.looked x.put.told x.looked
   sees-step (Ok (Stop WriteFault)) x = sees-look may s t x.looked
+  sees-step (Ok (Stop (LoadFault file))) x = sees-look may s t x.0.looked
+  sees-step (Ok (Stop (LoadDamaged file place))) x = sees-look may s t x.0.looked
   sees-step (Err lack) (inl x) = sees-look may s t x.looked
   sees-step (Err lack) (inr (inl x)) = sees-look may s t x.looked
   sees-step (Err lack) (inr (inr (inl x))) = sees-both s x.1.acts.seen t (sees-look may s x.1.acts.seen x.1.acts.looked) (sees-look may x.1.acts.seen t x.1.unput)
-  sees-step (Err lack) (inr (inr (inr x))) = sees-acted x.put.acts.seen x.mid x.e x.r x.put.acts.looked x.put.told x.looked
+  sees-step (Err lack) (inr (inr (inr (inr x)))) = sees-look may s t x.looked
+  sees-step (Err lack) (inr (inr (inr (inl x)))) = sees-acted x.put.acts.seen x.mid x.e x.r x.put.acts.looked x.put.told x.looked
 
 -- ---- a stop
 

@@ -9,8 +9,8 @@ use Rattle.host_trait.specs.declared.channels.FileId.TheVariants.{Manager}
 use Rattle.host_trait.specs.declared.channels.Channel.{Channel}
 use Rattle.core_model.specs.CoreState.{CoreState}
 use Rattle.core_model.specs.declared.effects.Effect.{Effect}
-use Rattle.core_model.specs.SerialOrder.{committed, chosen}
-use Rattle.core_model.specs.LegalRuns.{Run, ends}
+use Rattle.core_model.specs.SerialOrder.{AllLoadsTrue, committed, chosen}
+use Rattle.core_model.specs.LegalRuns.{Run, begins, ends}
 use Rattle.promise_spec.specs.Entries.{standing_of}
 use Rattle.promise_spec.specs.Records.{Commit, AreRecordsOf}
 use Rattle.promise_spec.specs.Logs.{IsPrefix}
@@ -19,19 +19,18 @@ use Rattle.promise_spec.specs.Journals.{Settlement, commits_of, entries_of}
 use Rattle.promise_spec.specs.UnitRule.{Basis, KeepsUnitRule}
 use Rattle.promise_spec.specs.TurnRule.{KeepsTurnRule}
 use Rattle.promise_spec.specs.Causes.{AreFaults, RunHasDoubt}
-use Rattle.promise_spec.specs.Endings.{Ending, Done, DiskFault, IsAllWritten, IsDiskFault, WriteFault as Unwritten, Memory as NoMemory}
+use Rattle.promise_spec.specs.Endings.{Ending, Done, DiskFault, Damaged, IsAllWritten, IsDiskFault, WriteFault as Unwritten, Memory as NoMemory}
 use Rattle.promise_spec.specs.Courses.{Observed, Course, basis, core_run, core_end}
 use Rattle.promise_spec.specs.Explanation.{AreAdded, AreSettled, FileMayEndRun, LeavesUnvoted, EndsWritten, IsCutShort}
 use Rattle.promise_laws.specs.Obligations.{ExplainsEvents}
 use Rattle.settle_loop.specs.declared.settler.Settler.{Settler}
 use Rattle.run_books.specs.declared.faults.RunFault.{RunFault}
-use Rattle.run_books.specs.declared.faults.RunFault.TheVariants.{InDoubt, WriteFault, Memory}
+use Rattle.run_books.specs.declared.faults.RunFault.TheVariants.{InDoubt, WriteFault, LoadFault, LoadDamaged, Memory}
 use Rattle.run_books.specs.Beginnings.{Outset, basis_of}
 use Rattle.run_books.specs.Books.{Books, booked_journal, AreInDoubt, IsPutOut}
 use Rattle.run_books.specs.Records.{KeepsRecord, HasCarriedAll, TurnsEndAs}
 use Rattle.request_wire.specs.Reply.{reply_line}
 use Rattle.core_laws.proofs.LineEntries.{once-ends}
-use Rattle.core_laws.proofs.WithoutLimit.{loads-without-limit}
 use Rattle.run_books.specs.RunCourse.{EndsSo, IsCourseOf, turns_ending}
 use Rattle.run_books.specs.Stages.{Stage, stage_by}
 
@@ -74,12 +73,12 @@ ends-carried o s ending all none = record {
   written = λ which. all.run.quiet.written;
 }
 
-module _ {T : Type 0} (o : Outset) (b : Books) (s : Stage) where
+module _ {T : Type 0} (tells : Bool) (o : Outset) (b : Books) (s : Stage) where
   -- it ends by its turns
-  by-turns : (result : Result T RunFault) → TurnsEndAs o b s result → EndsSo o s.run (turns_ending o.live result)
+  by-turns : (result : Result T RunFault) → TurnsEndAs tells o b s result → EndsSo o s.run (turns_ending o.live result)
   by-turns (Ok done) e = ends-carried o s Done e.0 (λ none. none)
   by-turns (Err InDoubt) e = record {
-    doubted = λ file q. (is_file (Manager o.live) file q, e.0.doubt);
+    doubted = λ file q. inl (is_file (Manager o.live) file q, e.0.doubt);
     ended = λ d. tt;
     written = λ which. e.0.written;
   }
@@ -95,6 +94,27 @@ module _ {T : Type 0} (o : Outset) (b : Books) (s : Stage) where
       neither : IsAllWritten Unwritten ⊎ (IsDiskFault Unwritten × RunHasDoubt s.run) → ⊥
       neither (inl none) = none
       neither (inr none) = none.0
+  by-turns (Err (LoadFault file)) e = record {
+    doubted = λ f q. subst (FileMayEndRun o.live s.run) (sym (same-file f q)) (inr (e.0.grain, e.0.file_is, e.0.unloaded, e.0.sure));
+    ended = λ d. tt;
+    written = λ which. absurd (neither which);
+  }
+    where
+      same-file : (f : FileId) → DiskFault file ≡ DiskFault f → f ≡ file
+      same-file f q = cc
+
+      neither : IsAllWritten (DiskFault file) ⊎ (IsDiskFault (DiskFault file) × RunHasDoubt s.run) → ⊥
+      neither (inl none) = none
+      neither (inr some) = e.0.sure some.1
+  by-turns (Err (LoadDamaged file place)) e = record {
+    doubted = λ f q. absurd (cc q);
+    ended = λ d. absurd (e.0.sure d);
+    written = λ which. absurd (neither which);
+  }
+    where
+      neither : IsAllWritten (Damaged file place) ⊎ (IsDiskFault (Damaged file place) × RunHasDoubt s.run) → ⊥
+      neither (inl none) = none
+      neither (inr none) = none.0
   by-turns (Err Memory) e = record {
     doubted = λ file q. absurd (cc q);
     ended = λ d. tt;
@@ -105,17 +125,17 @@ module _ {T : Type 0} (o : Outset) (b : Books) (s : Stage) where
       neither (inl none) = none
       neither (inr none) = none.0
 
-  pub ends-by : (result : Result T RunFault) (ending : Ending) → TurnsEndAs o b s result → ending ≡ turns_ending o.live result → EndsSo o s.run ending
+  pub ends-by : (result : Result T RunFault) (ending : Ending) → TurnsEndAs tells o b s result → ending ≡ turns_ending o.live result → EndsSo o s.run ending
   ends-by result ending e q = subst (EndsSo o s.run) (sym q) (by-turns result e)
 
 -- ---- a whole run
 
--- what its events explain
+-- what its events explain, where each load was true
 pub explains : (tells : Bool) (o : Outset) (b : Books) (r : Run) (settler : Settler) (seen : Observed) (c : Course)
-    → KeepsRecord tells o b (stage_by r settler seen.faults_after seen.new) → EndsSo o r seen.ending
+    → KeepsRecord tells o b (stage_by r settler seen.faults_after seen.new) → AllLoadsTrue r.opening (begins r) r.events → EndsSo o r seen.ending
     → (seen.manner.threaded ≡ false → KeepsTurnRule o.program.types seen.windowed c.allowed o.width o.picks r)
     → IsCourseOf o b r seen c → LeavesUnvoted c.live o.program seen c → ExplainsEvents o.program seen c
-explains tells o b r settler seen c k e turns is unvoted =
+explains tells o b r settler seen c k loads e turns is unvoted =
     let run : r ≡ core_run o.program c = sym is.run in
     let same : basis_of o ≡ basis o.program seen c = (λ i. record { types = o.program.types; lines = sym is.asked i; opening = standing_of (sym is.opening i) }) in
     record {
@@ -129,9 +149,9 @@ explains tells o b r settler seen c k e turns is unvoted =
       faults = subst (λ (live : ℕ). AreFaults live (core_run o.program c) seen.faults_before seen.faults_after) (sym is.live)
           (subst (λ (f : Channel → ℕ). AreFaults o.live (core_run o.program c) f seen.faults_after) (sym is.before)
           (subst (λ (x : Run). AreFaults o.live x o.faults seen.faults_after) run k.books.faults));
-      loads = loads-without-limit (core_run o.program c) refl;
+      loads = subst (λ (x : Run). AllLoadsTrue x.opening (begins x) x.events) run loads;
       doubted = λ file t. subst (λ (live : ℕ). FileMayEndRun live (core_run o.program c) file) (sym is.live)
-          (subst (λ (x : Run). FileMayEndRun o.live x file) run (inl (e.doubted file t)));
+          (subst (λ (x : Run). FileMayEndRun o.live x file) run (e.doubted file t));
       ended = λ d. e.ended (subst RunHasDoubt is.run d);
       unvoted = unvoted;
     }

@@ -94,7 +94,7 @@ module _ (opening : GrainId → List Value) (w : CoreState) (k : Kept opening w)
   versions-change e w' (emit p) s = absurd cc
   versions-change e w' (halt_run p) s = (refl, refl)
   versions-change e w' (want u h running free fresh) s = (refl, refl)
-  versions-change e w' (load h u state gone wanted) s = (refl, refl)
+  versions-change e w' (load h u state gone wanted) s = absurd cc
 
   versions-swept : (v : CoreState) → Stays v → Stays (swept v)
   versions-swept v h = go v.cells.capacity

@@ -28,7 +28,7 @@ use Rattle.settler_rules.proofs.SealWork.{shown-stay}
 use Rattle.batch_disk.specs.declared.writer.BatchWriter.{BatchWriter}
 use Rattle.settle_loop.specs.HostSteps.{SealsUnits, DoesFor}
 use Rattle.run_books.proofs.BooksStated.{DidFor}
-use Rattle.run_books.proofs.BooksVersions.{loads-on, rule-true}
+use Rattle.run_books.proofs.BooksVersions.{loads-on, others-true}
 use Rattle.run_books.proofs.BooksSettled.{is_of_batch}
 use Rattle.run_books.proofs.Fronts.{after-units, get-front}
 use Rattle.run_books.proofs.ShownVersions.{versions-stay}
@@ -47,6 +47,7 @@ pub record Stays (loaded : Type 0) (w w' : CoreState) : Type 0 where
   pub batch : w'.manager.batch ≡ w.manager.batch
   pub versions : loaded → (g : GrainId) → versions_to_write w' w'.manager.batch g ≡ versions_to_write w w.manager.batch g
   pub commits : to_commit w' w'.manager.batch ≡ to_commit w w.manager.batch
+  pub doubt : w'.manager.doubt ≡ w.manager.doubt
   pub next : (x : Entry) → slice_get w.manager.settled w.manager.emitted ≡ Some x → slice_get w'.manager.settled w'.manager.emitted ≡ Some x
 
 -- each load so far was true
@@ -62,6 +63,7 @@ stays-one s r e above keeps other =
       batch = leaves.batch;
       versions = λ loads g. versions-stay s r above loads keeps e other g;
       commits = shown-stay r above e other;
+      doubt = leaves.doubt;
       next = λ x q.
           (λ i. slice_get (more.settled.1 i) (leaves.emitted i)) ∙ (get-front (ends r).manager.settled more.settled.0 (ends r).manager.emitted x q).0;
     }
@@ -71,15 +73,16 @@ stays-both P Q u v w on a b = record {
   batch = b.batch ∙ a.batch;
   versions = λ loads g. b.versions (on loads) g ∙ a.versions loads g;
   commits = b.commits ∙ a.commits;
+  doubt = b.doubt ∙ a.doubt;
   next = λ x q. b.next x (a.next x q);
 }
 
 -- by all of them
 pub stays-all : (s : Basis) (rest : List Told) (r : Run) → 0 < r.base → KeepsUnitRule s (run_after r rest) → AllPass leaves_settling rest → Stays (LoadsTrue r) (ends r) (ends (run_after r rest))
-stays-all s [] r above keeps all = record { batch = refl; versions = λ loads g. refl; commits = refl; next = λ x q. q }
+stays-all s [] r above keeps all = record { batch = refl; versions = λ loads g. refl; commits = refl; doubt = refl; next = λ x q. q }
 stays-all s (x ∷ rest) r above keeps all =
     stays-both (LoadsTrue r) (LoadsTrue (extended r (x.event ∷ []))) (ends r) (ends (extended r (x.event ∷ []))) (ends (run_after r (x ∷ rest)))
-    (λ loads. loads-on r x.event loads (rule-true s r x.event (after-units (extended r (x.event ∷ [])) rest s keeps)))
+    (λ loads. loads-on r x.event loads (others-true r x.event (not-settling x.event (all x (inl refl)))))
     (stays-one s r x.event above (after-units r (x ∷ rest) s keeps) (not-settling x.event (all x (inl refl))))
     (stays-all s rest (extended r (x.event ∷ [])) above keeps (λ y i. all y (inr i)))
 
@@ -153,4 +156,4 @@ module _ {H : Type 0} (tells : Bool) (world : H → World) (faults : H → Chann
   does-on (event.Release u g) d = d
   does-on event.Halt d = d
   does-on (event.Want u g) d = d
-  does-on (event.Load g u state) d = absurd d
+  does-on (event.Load g u state) d = d

@@ -5,7 +5,7 @@ use Rattle.host_trait.specs.World.{World, Moment, Passes}
 use Rattle.core_model.specs.declared.events.CoreEvent.{CoreEvent}
 use Rattle.core_model.specs.Laws.{extended}
 use Rattle.run_books.specs.declared.faults.RunFault.{RunFault}
-use Rattle.run_books.specs.declared.faults.RunFault.TheVariants.{InDoubt, WriteFault, Memory}
+use Rattle.run_books.specs.declared.faults.RunFault.TheVariants.{InDoubt, WriteFault, LoadFault, LoadDamaged, Memory}
 use Rattle.run_books.specs.Stages.{Stage}
 
 -- the output's count of faults rises only where the answer says that the output failed
@@ -13,6 +13,8 @@ abbrev pub EmitsAs : {T : Type 0} → Result T RunFault → ℕ → ℕ → Type
 EmitsAs (Ok done) old new = new ≡ old
 EmitsAs (Err InDoubt) old new = new ≡ old
 EmitsAs (Err WriteFault) old new = ⊤
+EmitsAs (Err (LoadFault file)) old new = new ≡ old
+EmitsAs (Err (LoadDamaged file place)) old new = new ≡ old
 EmitsAs (Err Memory) old new = new ≡ old
 
 -- nothing was put out, at each moment and now

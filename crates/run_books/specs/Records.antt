@@ -15,9 +15,10 @@ use Rattle.promise_spec.specs.Cores.{how_many}
 use Rattle.promise_spec.specs.UnitRule.{KeepsUnitRule}
 use Rattle.promise_spec.specs.Causes.{AreFaults, RunHasDoubt, NoneRose, is_vote, is_vote_of, is_sealed, is_unsealed}
 use Rattle.promise_spec.specs.Journals.{entries_of}
+use Rattle.promise_spec.specs.Explanation.{IsUnloaded}
 use Rattle.turn_rules.specs.QuietRun.{HasRun}
 use Rattle.run_books.specs.declared.faults.RunFault.{RunFault}
-use Rattle.run_books.specs.declared.faults.RunFault.TheVariants.{InDoubt, WriteFault, Memory}
+use Rattle.run_books.specs.declared.faults.RunFault.TheVariants.{InDoubt, WriteFault, LoadFault, LoadDamaged, Memory}
 use Rattle.run_books.specs.Beginnings.{Outset, basis_of}
 use Rattle.run_books.specs.Books.{Books, AreBooked, IsPutOut, IsCutOff}
 use Rattle.run_books.specs.Images.{LastsSo}
@@ -80,12 +81,27 @@ pub record HasDoubted (o : Outset) (r : Run) (faults : Channel → ℕ) : Type 0
   pub written : length (ends r).manager.settled ≤ (ends r).manager.emitted
   pub rose : Rose (o.faults (File (Manager o.live))) (faults (File (Manager o.live)))
 
+-- A grain that was to be brought into memory wasn't, since its file failed; nothing was in doubt.
+pub record HasFailedToLoad (o : Outset) (r : Run) (faults : Channel → ℕ) (file : FileId) : Type 0 where
+  pub grain : GrainId
+  pub file_is : file ≡ Grain o.live grain
+  pub unloaded : IsUnloaded r grain
+  pub sure : RunHasDoubt r → ⊥
+  pub rose : Rose (o.faults (File file)) (faults (File file))
+
+-- No version of a grain stood at its place, where over a host that tells one does; nothing was in doubt.
+pub record HasFoundNone (tells : Bool) (r : Run) : Type 0 where
+  pub untold : IsTrue tells → ⊥
+  pub sure : RunHasDoubt r → ⊥
+
 -- What the answer says. A line is cut off only where the output failed.
-abbrev pub TurnsEndAs : Outset → Books → Stage → {T : Type 0} → Result T RunFault → Type 0
-TurnsEndAs o b s (Ok done) = HasCarriedAll o s × (b.rest ≡ [])
-TurnsEndAs o b s (Err InDoubt) = HasDoubted o s.run s.faults × (b.rest ≡ [])
-TurnsEndAs o b s (Err WriteFault) = Rose (o.faults Output) (s.faults Output)
-TurnsEndAs o b s (Err Memory) = b.rest ≡ []
+abbrev pub TurnsEndAs : Bool → Outset → Books → Stage → {T : Type 0} → Result T RunFault → Type 0
+TurnsEndAs tells o b s (Ok done) = HasCarriedAll o s × (b.rest ≡ [])
+TurnsEndAs tells o b s (Err InDoubt) = HasDoubted o s.run s.faults × (b.rest ≡ [])
+TurnsEndAs tells o b s (Err WriteFault) = Rose (o.faults Output) (s.faults Output)
+TurnsEndAs tells o b s (Err (LoadFault file)) = HasFailedToLoad o s.run s.faults file × (b.rest ≡ [])
+TurnsEndAs tells o b s (Err (LoadDamaged file place)) = HasFoundNone tells s.run × (b.rest ≡ [])
+TurnsEndAs tells o b s (Err Memory) = b.rest ≡ []
 
 -- The record that held where the run began holds again with more in its books, and so does what the images keep, if they
 -- kept it; and the answer says how it ended.
@@ -94,4 +110,4 @@ pub record RecordGoesOn {T : Type 0} (tells : Bool) (o : Outset) (b : Books) (be
   pub record_kept : KeepsRecord tells o books after
   pub lasts : IsTrue tells → (head : List ℕ) → LastsSo o head b before.run before.settler.writer before.world
       → LastsSo o head books after.run after.settler.writer after.world
-  pub ended : TurnsEndAs o books after result
+  pub ended : TurnsEndAs tells o books after result

@@ -4,12 +4,13 @@ use Rattle.host_trait.specs.declared.channels.FileId.{FileId}
 use Rattle.host_trait.specs.declared.channels.FileId.TheVariants.{Manager}
 use Rattle.core_model.specs.LegalRuns.{Run, ends}
 use Rattle.promise_spec.specs.Causes.{RunHasDoubt}
-use Rattle.promise_spec.specs.Endings.{Ending, Done, WriteFault as Unwritten, DiskFault, Memory as NoMemory, EndingMayDoubt, IsAllWritten, IsDiskFault}
+use Rattle.promise_spec.specs.Endings.{Ending, Done, WriteFault as Unwritten, DiskFault, Damaged, Memory as NoMemory, EndingMayDoubt, IsAllWritten, IsDiskFault}
+use Rattle.promise_spec.specs.Explanation.{FileMayEndRun}
 use Rattle.promise_spec.specs.Courses.{Observed, Course, core_run}
 use Rattle.promise_spec.specs.Journals.{commits_of, entries_of}
 use Rattle.settle_loop.specs.declared.settler.Settler.{Settler}
 use Rattle.run_books.specs.declared.faults.RunFault.{RunFault}
-use Rattle.run_books.specs.declared.faults.RunFault.TheVariants.{InDoubt, WriteFault, Memory}
+use Rattle.run_books.specs.declared.faults.RunFault.TheVariants.{InDoubt, WriteFault, LoadFault, LoadDamaged, Memory}
 use Rattle.run_books.specs.Beginnings.{Outset}
 use Rattle.run_books.specs.Books.{Books, booked_journal}
 use Rattle.run_books.specs.Records.{KeepsRecord}
@@ -20,12 +21,14 @@ abbrev pub turns_ending : {T : Type 0} → ℕ → Result T RunFault → Ending
 turns_ending live (Ok done) = Done
 turns_ending live (Err InDoubt) = DiskFault (Manager live)
 turns_ending live (Err WriteFault) = Unwritten
+turns_ending live (Err (LoadFault file)) = DiskFault file
+turns_ending live (Err (LoadDamaged file place)) = Damaged file place
 turns_ending live (Err Memory) = NoMemory
 
--- A whole run may end so: by a file's fault only by the manager file's, with a batch in doubt, with one only so, and as one in which
+-- A whole run may end so: by a file's fault only where the file may end it, with a batch in doubt only as one that may, and as one in which
 -- all that is settled was written only where it was.
 pub record EndsSo (o : Outset) (r : Run) (ending : Ending) : Type 0 where
-  pub doubted : (file : FileId) → ending ≡ DiskFault file → (file ≡ Manager o.live) × RunHasDoubt r
+  pub doubted : (file : FileId) → ending ≡ DiskFault file → FileMayEndRun o.live r file
   pub ended : RunHasDoubt r → EndingMayDoubt ending
   pub written : IsAllWritten ending ⊎ (IsDiskFault ending × RunHasDoubt r) → length (ends r).manager.settled ≤ (ends r).manager.emitted
 

@@ -51,7 +51,7 @@ pub record CanShare (o : Outset) (shape : Shape) (s : Sight) : Type 0 where
 
 -- the books go on, and the answer says this of the run
 abbrev pub StepKeeps : {E : Type 0} → Bool → Outset → Books → Stage → Stage → Result Turned E → Type 0
-StepKeeps tells o b before after result = (g : BooksGoOn tells o b before after) × SaysOfStep o g.books after result
+StepKeeps tells o b before after result = (g : BooksGoOn tells o b before after) × SaysOfStep tells o g.books after result
 
 -- Events that aren't the settler's keep the books, with settler, counts and world as they are.
 abbrev pub OthersKeepBooks : Type 0

@@ -1,5 +1,6 @@
 ghost use Rattle.std.specs.Prelude.{◌≡◌};
 
+use host_trait::FileId;
 use std::alloc::AllocError;
 use thiserror::Error;
 
@@ -12,6 +13,12 @@ pub enum RunFault {
     /// The output failed.
     #[error("the output failed")]
     WriteFault,
+    /// A grain's file failed, where its last version was to be read.
+    #[error("a grain's file failed")]
+    LoadFault { file: FileId },
+    /// No version stands where the log names a grain's last one. It doesn't come over a host that tells.
+    #[error("a grain's file is damaged")]
+    LoadDamaged { file: FileId, place: u64 },
     /// Memory ran out.
     #[error("no memory")]
     Memory,

@@ -1,6 +1,6 @@
 ghost use Rattle.std.specs.Prelude.{◌≡◌, ◌<◌, ℕ, Bool, true, false, List as AList, Result as AResult, take};
-ghost use Rattle.core_model.specs.LegalRuns.{Run, ends};
-ghost use Rattle.core_model.specs.SerialOrder.{IsLastVersion};
+ghost use Rattle.core_model.specs.LegalRuns.{Run, begins, ends};
+ghost use Rattle.core_model.specs.SerialOrder.{AllLoadsTrue, IsLastVersion};
 ghost use Rattle.host_trait.specs.declared.channels.FileId.TheVariants.{Manager, Grain};
 ghost use Rattle.host_trait.specs.World.{World};
 ghost use Rattle.base_types.specs.declared.calls.GrainId.{GrainId};
@@ -25,7 +25,7 @@ ghost use Rattle.run_books.specs.Stages.{Stage};
 
 /// A run may end as its turns were answered, and where all so far was carried in any way but by a file's fault.
 pub fn runs_end_so<T>()
-    ensures by_turns { (o : Outset) (b : Books) (s : Stage) (result : AResult T AFault) (ending : Ending) → TurnsEndAs o b s result
+    ensures by_turns { (tells : Bool) (o : Outset) (b : Books) (s : Stage) (result : AResult T AFault) (ending : Ending) → TurnsEndAs tells o b s result
         → ending ≡ turns_ending o.live result
         → EndsSo o s.run ending }
     ensures carried { (o : Outset) (s : Stage) (ending : Ending) → HasCarriedAll o s → (IsDiskFault ending → ⊥) → EndsSo o s.run ending }
@@ -44,12 +44,18 @@ pub fn loads_by_places_are_true()
         → IsLastVersion s.run.opening (ends s.run) g (load_by o s.settler.writer g).unit (load_by o s.settler.writer g).state }
 {}
 
+/// Over a host that tells, each load of a run was true, however it ended.
+pub fn recorded_loads_are_true()
+    ensures { (o : Outset) (b : Books) (r : Run) (settler : ASettler) (seen : Observed) (c : Course)
+        → IsRecorded true o b r settler seen c → AllLoadsTrue r.opening (begins r) r.events }
+{}
+
 /// What the record of a run says, however it ended, is what a whole run has to show over any folder: that the core's events explain
-/// what it did, where those of one thread keep the turn rule; that what it wrote is what is settled; and, where the images keep the
-/// books, what has to last.
+/// what it did, where those of one thread keep the turn rule and each load was true; that what it wrote is what is settled; and, where
+/// the images keep the books, what has to last.
 pub fn records_show()
     ensures explains { (tells : Bool) (o : Outset) (b : Books) (r : Run) (settler : ASettler) (seen : Observed) (c : Course)
-        → IsRecorded tells o b r settler seen c → EndsSo o r seen.ending
+        → IsRecorded tells o b r settler seen c → AllLoadsTrue r.opening (begins r) r.events → EndsSo o r seen.ending
         → (seen.manner.threaded ≡ false → KeepsTurnRule o.program.types seen.windowed c.allowed o.width o.picks r)
         → LeavesUnvoted c.live o.program seen c → ExplainsEvents o.program seen c }
     ensures settled { (tells : Bool) (o : Outset) (b : Books) (r : Run) (settler : ASettler) (seen : Observed) (c : Course)

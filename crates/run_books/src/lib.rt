@@ -11,7 +11,10 @@ mod more_lines;
 mod shared_steps;
 
 pub use faults::RunFault;
-pub use laws::{loads_by_places_are_true, records_show, runs_end_so, unvoted_files_stay};
+pub use laws::{
+    loads_by_places_are_true, recorded_loads_are_true, records_show, runs_end_so,
+    unvoted_files_stay,
+};
 pub use more_lines::records_go_on_over_more_lines;
 pub use shared_steps::{
     calls_see_on, none_stops, others_keep_the_books, relied_on_before, shared_steps_keep_the_books,

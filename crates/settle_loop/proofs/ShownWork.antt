@@ -1,14 +1,12 @@
 -- What is shown to the settler is what its step needs.
-use Rattle.std.proofs.Common.{◌≡◌, inl, inr, Option, None, Some, true≢false, refl, sym, ap, subst}
+use Rattle.std.proofs.Common.{◌≡◌, Option, None, Some, true≢false, refl, sym, ap, subst}
 use Rattle.std.specs.Prelude.{slice_get}
 use Rattle.core_model.specs.CoreState.{CoreState, Entry}
 use Rattle.core_model.specs.Settler.{Step, Votes, Decides, Seals, Learns, Writes, Loads, Takes, Rests, settler_step, step_of, has_step, work_in, write_work}
 use Rattle.core_model.specs.declared.questions.SettlerWork.{SettlerWork}
-use Rattle.core_model.specs.LegalRuns.{Run, ends}
 use Rattle.core_laws.proofs.SettlerSteps.{step-shown}
-use Rattle.core_laws.proofs.WithoutLimit.{no-load-step}
 use Rattle.core_access.specs.Sights.{Sight, run_seen}
-use Rattle.settle_loop.specs.ShownWork.{ShowsWork, LeavesUndone}
+use Rattle.settle_loop.specs.ShownWork.{ShowsWork}
 use Rattle.settle_loop.specs.SettlerStep.{state_shown}
 
 -- an entry is shown where there is one
@@ -30,8 +28,3 @@ shown-is w Rests q = refl
 -- so is what a look shows
 pub work_of : (s : Sight) (work : SettlerWork) → work ≡ work_in (state_shown s) (settler_step (state_shown s)) → ShowsWork (state_shown s) (settler_step (state_shown s)) work
 work_of s work is = subst (ShowsWork (state_shown s) (settler_step (state_shown s))) (sym is) (shown-is (state_shown s) (settler_step (state_shown s)) (step-shown (run_seen s)))
-
--- where memory has no limit it leaves undone only what there isn't
-pub rests-without-limit : (r : Run) → r.capacity ≡ None → LeavesUndone (settler_step (ends r)) → settler_step (ends r) ≡ Rests
-rests-without-limit r limit (inl rests) = rests
-rests-without-limit r limit (inr load) = absurd (no-load-step r limit load.0 load.1)

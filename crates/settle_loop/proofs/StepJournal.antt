@@ -6,6 +6,8 @@ use Rattle.base_types.specs.declared.calls.GrainId.{GrainId}
 use Rattle.host_trait.specs.declared.channels.Channel.{Channel}
 use Rattle.host_trait.specs.World.{World, Moment, Passes, Arrives, moment_of, last_of}
 use Rattle.host_trait.proofs.Moments.{started, weaker}
+use Rattle.host_trait.proofs.Runs.{asked_keeps, arrives_asked}
+use Rattle.base_types.specs.declared.stores.Version.{Version}
 use Rattle.commit_log.specs.declared.records.CommitRecord.{CommitRecord}
 use Rattle.commit_log.specs.declared.gate.Sealing.{Sealing}
 use Rattle.commit_log.specs.declared.gate.Sealing.TheVariants as sealing
@@ -27,7 +29,7 @@ use Rattle.batch_disk.proofs.WriterState.{keeps_log}
 use Rattle.batch_disk.proofs.Journal.{as_it_was, seals_on, doubt_on}
 use Rattle.settle_loop.specs.ShownWork.{event_of}
 use Rattle.batch_disk.specs.VoteAnswers.{VotesOn}
-use Rattle.settle_loop.specs.HostSteps.{MakesNoCall, SealsUnits, DoubtsAgain, WritesEntry, DoesFor, batch_made}
+use Rattle.settle_loop.specs.HostSteps.{MakesNoCall, LoadsGrain, SealsUnits, DoubtsAgain, WritesEntry, DoesFor, batch_made}
 use Rattle.settle_loop.specs.StepJournal.{IsFair, as_settled, LeavesLogs, SealsBatch, DoubtsBatch, JournalsAs}
 
 -- ---- what holds at each moment holds now
@@ -135,6 +137,15 @@ module _ {H : Type 0} (tells : Bool) (told : tells ≡ true) (world : H → Worl
       subst (λ (x : BatchWriter). LeavesLogs live p head log bodies before x (world old) (world new)) (sym none.writer)
       (subst (λ (h : H). LeavesLogs live p head log bodies before before (world old) (world h)) (sym none.host) same)
 
+  -- a read
+  by_load : (g : GrainId) (loaded : Version) → LoadsGrain tells world faults live (shape_in p) g loaded before after old new → LeavesLogs live p head log bodies before after (world old) (world new)
+  by_load g loaded x =
+      let asked = x.asked told in
+      let here : KeepsLog live head log (world old) (moment_of (world old)) = record { rest = start live p head log bodies before before (world old) (world old) keeps; logs = keeps_log live (shape_in p) head log bodies before (world old).disk keeps } in
+      let kept : KeepsDisk live (shape_in p) head log bodies before (world new).disk = subst (KeepsDisk live (shape_in p) head log bodies before) (sym asked.disk) keeps in
+      leaves live p head log bodies before after (world old) (world new) keeps asked.output (arrives_asked (world old) (world new) asked) (asked_keeps (KeepsLog live head log (world old)) (world old) (world new) asked here)
+      (subst (λ (v : BatchWriter). KeepsDisk live (shape_in p) head log bodies v (world new).disk) (sym x.writer) kept)
+
   -- a doubt, of this seal or an earlier one
   doubt_or_not : (n : ℕ) (quiet : Bool) → settler_step w ≡ SealStep n → (does : SealsUnits tells world faults live n (event.Doubt n) (to_commit w w.manager.batch) before after old new ⊎ DoubtsAgain tells world faults before after old new)
       → DoubtsBatch live p head log bodies before after (world old) (world new) before.gate_at (to_commit w w.manager.batch) (batch_made tells world faults live (event.Doubt n) quiet (shape_in p) w before after old new does) ⊎ (world new ≡ world old)
@@ -177,7 +188,7 @@ module _ {H : Type 0} (tells : Bool) (told : tells ≡ true) (world : H → Worl
       (sym m) (λ x. by_write quiet x) does
   journals quiet (Loads g) e is m does =
       subst (Journal quiet)
-      (sym m.2) (λ none. absurd none) does
+      (sym m.2) (λ x. by_load g (record { unit = m.0; state = m.1 }) x) does
   journals quiet Takes e is m does =
       subst (Journal quiet)
       (sym m) (λ none. by_none none) does

@@ -1,6 +1,6 @@
 -- What is shown to the settler for its step, and what it makes of a reply.
-use Rattle.std.specs.Prelude.{◌≡◌, ◌⊎◌, ◌+◌, ◌-◌, ◌^◌, min, ℕ, Bool, true, false, not, Some, slice_get}
-use Rattle.core_model.specs.CoreState.{GrainId, CoreState}
+use Rattle.std.specs.Prelude.{◌≡◌, ◌+◌, ◌-◌, ◌^◌, min, ℕ, Bool, true, false, not, Some, slice_get}
+use Rattle.core_model.specs.CoreState.{CoreState}
 use Rattle.core_model.specs.declared.events.CoreEvent.{CoreEvent}
 use Rattle.core_model.specs.declared.events.CoreEvent.TheVariants.{Sealed, NotSealed, Doubt, Emitted}
 use Rattle.core_model.specs.declared.events.CoreReply.{CoreReply}
@@ -21,11 +21,6 @@ ShowsWork w s (work.Write entry) = (s ≡ Writes) × (slice_get w.manager.settle
 ShowsWork w s (work.Load g) = s ≡ Loads g
 ShowsWork w s work.Take = s ≡ Takes
 ShowsWork w s work.Nothing = s ≡ Rests
-
--- the step that the settler leaves undone: there is nothing to do, or a grain is to be brought into memory, which it can't and
--- which no core whose memory has no limit asks for
-abbrev pub LeavesUndone : Step → Type 0
-LeavesUndone s = (s ≡ Rests) ⊎ ((g : GrainId) × (s ≡ Loads g))
 
 -- what the core is told of a seal's answer
 abbrev pub event_of : ℕ → Sealing → CoreEvent

@@ -1,22 +1,25 @@
-ghost use Rattle.std.specs.Prelude.{◌≡◌, ◌<◌, ◌^◌, false, IsTrue};
+ghost use Rattle.std.specs.Prelude.{◌≡◌, ◌<◌, ◌≤◌, ◌^◌, None, IsTrue, IfOk, OnErr};
 ghost use Rattle.base_types.specs.declared.shapes.Shape.{Shape as AShape};
 ghost use Rattle.host_trait.specs.Files.{StaysReady};
+ghost use Rattle.host_trait.specs.Runs.{OnlyAsked};
 ghost use Rattle.core_model.specs.CoreState.{CoreState};
-ghost use Rattle.core_model.specs.Settler.{settler_step};
+ghost use Rattle.core_model.specs.Settler.{Step, Loads, settler_step};
 ghost use Rattle.core_model.specs.declared.questions.SettlerWork.TheVariants as shown;
 ghost use Rattle.batch_disk.specs.Writers.{IsSafe};
 ghost use Rattle.settle_loop.specs.ShownWork.{ShowsWork};
 ghost use Rattle.settler_rules.specs.Entries.{IsSaidInRange};
-ghost use Rattle.settle_loop.specs.StepParts.{MadeAs};
+ghost use Rattle.settle_loop.specs.HostSteps.{initial_in, version_loaded};
+ghost use Rattle.settle_loop.specs.StepParts.{IsMadeOfFault, MadeAs};
 
 use crate::gate::{Gate, GatePlace};
-use crate::settler::Settler;
-use base_types::{Entry, GrainId, List, Outcome, Settled, Shape, UnitNo, Value, Version};
+use crate::settler::{Settler, StopCause};
+use base_types::{Entry, GrainId, List, Outcome, Settled, Shape, State, UnitNo, Value, Version};
 use commit_log::Sealing;
 use core_model::{CoreEvent, Effect, SettlerWork};
-use host_trait::Host;
+use grain_log::VersionFault;
+use host_trait::{FileId, Host};
 use request_wire::reply_text;
-use std::alloc::AllocError;
+use std::alloc::{AllocError, Global};
 
 /// What a step has to tell the core, once its host calls are made.
 #[derive(Drop)]
@@ -27,10 +30,10 @@ pub(crate) enum Made {
         writes: bool,
         doubts: bool,
     },
-    /// There was nothing to do, or nothing that it does.
+    /// There was nothing to do.
     Idle,
-    /// The output failed.
-    Cut,
+    /// The output failed, or a grain's last version wasn't read.
+    Stopped(StopCause),
 }
 
 // A unit's number is what its type can hold.
@@ -74,6 +77,48 @@ fn read_said(what: &Settled)
     }
 }
 
+// A copy of the initial fields of the grain's type, none where there is no such type.
+fn initial_state(alloc: Global, shape: &Shape, grain: GrainId) -> Result<State, AllocError>
+    ensures { IfOk result (λ state. state ≡ initial_in shape.now grain) }
+{
+    match shape.types.get(grain.kind as usize) {
+        Some(shape) => shape.initial.copy(),
+        None => Ok(State::new(alloc)),
+    }
+}
+
+// What is brought into memory of a grain: its last version, or, where it has none, its type's initial fields, which are nobody's.
+fn loaded(
+    alloc: Global,
+    shape: &Shape,
+    grain: GrainId,
+    read: Option<Version>,
+) -> Result<Version, AllocError>
+    ensures loaded { IfOk result (λ version. version ≡ version_loaded shape.now grain read) }
+    ensures lacked { OnErr result (read ≡ None) }
+{
+    match read {
+        Some(version) => Ok(version),
+        None => Ok(Version {
+            unit: UnitNo(0),
+            state: initial_state(alloc, shape, grain)?,
+        }),
+    }
+}
+
+// What a grain's last version that wasn't read makes of a step.
+fn unread(file: FileId, fault: VersionFault) -> Result<Made, AllocError>
+    ensures { IsMadeOfFault file fault result }
+{
+    match fault {
+        VersionFault::Failed => Ok(Made::Stopped(StopCause::LoadFault { file })),
+        VersionFault::Damaged { place } => {
+            Ok(Made::Stopped(StopCause::LoadDamaged { file, place }))
+        }
+        VersionFault::Memory => Err(AllocError),
+    }
+}
+
 impl Settler {
     // The first case: a grain's versions are written, and the vote is what that answers.
     fn vote<H: Host>(
@@ -85,7 +130,7 @@ impl Settler {
     ) -> Result<Made, AllocError>
         requires safe { IsSafe H.tells self.old.writer (H.world host.old) }
         ensures made { (shape : AShape) (w : CoreState) → ShowsWork w (settler_step w) (shown.Vote batch grain versions)
-            → MadeAs H.tells H.world H.faults shape w self.old self.new host.old host.new result }
+            → MadeAs H.tells H.world H.faults shape w (settler_step w) self.old self.new host.old host.new result }
         ensures safe { IsSafe H.tells self.new.writer (H.world host.new) }
         ensures ready { StaysReady (H.is_ready host.old) (H.is_ready host.new) }
     {
@@ -111,7 +156,7 @@ impl Settler {
     ) -> Result<Made, AllocError>
         requires safe { IsSafe H.tells self.old.writer (H.world host.old) }
         ensures made { (shape : AShape) (w : CoreState) → ShowsWork w (settler_step w) (shown.Seal batch effects)
-            → MadeAs H.tells H.world H.faults shape w self.old self.new host.old host.new result }
+            → MadeAs H.tells H.world H.faults shape w (settler_step w) self.old self.new host.old host.new result }
         ensures safe { IsSafe H.tells self.new.writer (H.world host.new) }
         ensures ready { StaysReady (H.is_ready host.old) (H.is_ready host.new) }
     {
@@ -148,7 +193,7 @@ impl Settler {
     // The fifth case: a settled entry's line is put out, unless the settler is quiet.
     fn write<H: Host>(&self, shape: &Shape, host: &mut H, entry: Entry) -> Result<Made, AllocError>
         ensures made { (w : CoreState) → ShowsWork w (settler_step w) (shown.Write entry)
-            → MadeAs H.tells H.world H.faults shape.now w self.now self.now host.old host.new result }
+            → MadeAs H.tells H.world H.faults shape.now w (settler_step w) self.now self.now host.old host.new result }
         ensures disk { IsTrue H.tells → (H.world host.new).disk ≡ (H.world host.old).disk }
         ensures ready { StaysReady (H.is_ready host.old) (H.is_ready host.new) }
     {
@@ -167,8 +212,37 @@ impl Settler {
                 writes: true,
                 doubts: false,
             }),
-            Err(_) => Ok(Made::Cut),
+            Err(_) => Ok(Made::Stopped(StopCause::WriteFault)),
         }
+    }
+
+    /// The sixth case: a grain's last version is read, or its type's initial fields where it has none, and the core is told of it.
+    pub(crate) fn bring_in<H: Host>(
+        &self,
+        shape: &Shape,
+        host: &mut H,
+        grain: GrainId,
+    ) -> Result<Made, AllocError>
+        requires { self.now.writer.slot ≤ 1 }
+        ensures made { (w : CoreState) (s : Step) → s ≡ Loads grain
+            → MadeAs H.tells H.world H.faults shape.now w s self.now self.now host.old host.new result }
+        ensures asked { IsTrue H.tells → OnlyAsked (H.world host.old) (H.world host.new) }
+        ensures ready { StaysReady (H.is_ready host.old) (H.is_ready host.new) }
+    {
+        let file = FileId::Grain {
+            slot: self.writer.slot(),
+            grain,
+        };
+        let read = match self.writer.last_version(host, shape, grain) {
+            Ok(read) => read,
+            Err(fault) => return unread(file, fault),
+        };
+        let Version { unit, state } = loaded(self.alloc, shape, grain, read)?;
+        Ok(Made::Event {
+            event: CoreEvent::Load { grain, unit, state },
+            writes: false,
+            doubts: false,
+        })
     }
 
     /// Makes the host calls that belong to the case, and answers what the core is told.
@@ -181,7 +255,7 @@ impl Settler {
     ) -> Result<Made, AllocError>
         requires safe { IsSafe H.tells self.old.writer (H.world host.old) }
         ensures made { (w : CoreState) → ShowsWork w (settler_step w) work
-            → MadeAs H.tells H.world H.faults shape.now w self.old self.new host.old host.new result }
+            → MadeAs H.tells H.world H.faults shape.now w (settler_step w) self.old self.new host.old host.new result }
         ensures safe { IsSafe H.tells self.new.writer (H.world host.new) }
         ensures ready { StaysReady (H.is_ready host.old) (H.is_ready host.new) }
     {
@@ -203,8 +277,7 @@ impl Settler {
                 doubts: false,
             }),
             SettlerWork::Write { entry } => self.write(shape, host, entry),
-            // It keeps no places of versions.
-            SettlerWork::Load { .. } => Ok(Made::Idle),
+            SettlerWork::Load { grain } => self.bring_in(shape, host, grain),
             SettlerWork::Take => Ok(Made::Event {
                 event: CoreEvent::Take,
                 writes: false,

@@ -1,12 +1,14 @@
 ghost use Rattle.std.specs.Prelude.{◌≡◌, Bool, false, IfOk, OnErr};
 ghost use Rattle.core_model.specs.declared.events.CoreReply.{CoreReply as AReply};
 ghost use Rattle.core_model.specs.Settler.{settler_step};
+ghost use Rattle.core_model.specs.WantedGrains.{next_wanted};
 ghost use Rattle.core_access.specs.FitAccess.{StaysFit};
 ghost use Rattle.core_access.specs.Sights.{run_seen, Looks, Tells};
 ghost use Rattle.core_access.specs.CallsWithoutMemory.{is_spared};
 ghost use Rattle.settle_loop.specs.ShownWork.{ShowsWork, has_applied};
 ghost use Rattle.settle_loop.specs.SettlerStep.{state_shown, has_unwritten};
 
+use base_types::GrainId;
 use core_access::Access;
 use core_model::{CoreAnswer, CoreEvent, CoreQuestion, CoreReply, SettlerWork};
 use std::alloc::AllocError;
@@ -21,6 +23,19 @@ pub fn look<A: Access>(access: &mut A) -> Result<SettlerWork, AllocError>
 {
     match access.see(&CoreQuestion::NextStep)? {
         CoreAnswer::NextStep(work) => Ok(work),
+        _ => unreachable!(),
+    }
+}
+
+/// The lowest grain that a unit wants and that isn't in memory, by one look at the core.
+pub fn see_wanted<A: Access>(access: &mut A) -> Result<Option<GrainId>, AllocError>
+    requires fit { A.is_fit access.old }
+    ensures kept { StaysFit (A.is_fit access.new) (A.aside access.old) (A.aside access.new) }
+    ensures looked { Looks A.may_come (A.sight access.old) (A.sight access.new) }
+    ensures wanted { IfOk result (λ grain. grain ≡ next_wanted (state_shown (A.sight access.new))) }
+{
+    match access.see(&CoreQuestion::NextWanted)? {
+        CoreAnswer::NextWanted(grain) => Ok(grain),
         _ => unreachable!(),
     }
 }

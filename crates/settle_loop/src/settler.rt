@@ -2,22 +2,23 @@ ghost use Rattle.std.specs.Prelude.{◌≡◌, ◌^◌, ◌<◌, ◌≤◌, ◌&
 ghost use Rattle.base_types.specs.Stores.{end_in};
 ghost use Rattle.base_types.specs.declared.calls.GrainId.{GrainId as AGrain};
 ghost use Rattle.host_trait.specs.Files.{StaysReady};
+ghost use Rattle.host_trait.specs.Runs.{OnlyAsked};
 ghost use Rattle.core_model.specs.Settler.{settler_step, has_step, step_of};
 ghost use Rattle.core_access.specs.FitAccess.{StaysFit};
 ghost use Rattle.core_access.specs.Sights.{Looks};
 ghost use Rattle.batch_disk.specs.Writers.{file_end, kept_of, IsInBounds, IsSafe};
 ghost use Rattle.settle_loop.specs.ShownWork.{counted_up};
-ghost use Rattle.settle_loop.specs.SettlerStep.{state_shown, TurnsAs};
+ghost use Rattle.settle_loop.specs.SettlerStep.{state_shown, wanted_step, TurnsAs, TurnsBy};
 ghost use Rattle.settle_loop.specs.StepParts.{ToldAs};
 
 use crate::cases::Made;
 use crate::gate::Gate;
-use crate::looks::{has_applied, look, put, sees_unwritten};
+use crate::looks::{has_applied, look, put, see_wanted, sees_unwritten};
 use base_types::{Ends, Places, Shape};
 use batch_disk::BatchWriter;
 use core_access::Access;
 use core_model::{CoreEvent, SettlerWork};
-use host_trait::Host;
+use host_trait::{FileId, Host};
 use std::alloc::{AllocError, Global};
 
 /// Why the settler stops.
@@ -27,6 +28,10 @@ pub enum StopCause {
     InDoubt,
     /// The output failed.
     WriteFault,
+    /// A call on the file of a grain that was to be brought into memory failed, and its count has risen.
+    LoadFault { file: FileId },
+    /// The grain's last version doesn't stand there: the file is damaged at this offset.
+    LoadDamaged { file: FileId, place: u64 },
 }
 
 /// What a step of the settler came to.
@@ -34,8 +39,7 @@ pub enum StopCause {
 pub enum Turned {
     /// The event of the first case that applies was put.
     Stepped,
-    /// No case applies, or only the one that brings a grain into memory: the settler keeps no places of versions, and no core
-    /// whose memory has no limit asks for it.
+    /// No case applies.
     Nothing,
     Stop(StopCause),
 }
@@ -155,10 +159,11 @@ impl Settler {
     }
 
     /// Goes on by at most one event: that of the first case that applies in what it looks at, with the host calls that belong
-    /// to it. One write and one sync at most for a vote, two of each for a seal, one emit for an entry, and none else.
+    /// to it. One write and one sync at most for a vote, two of each for a seal, one emit for an entry, one read at most for a grain
+    /// that is brought into memory, and none else.
     ///
-    /// It stops where the output fails, with no event put, and where a doubt of its own stands and all that is settled is
-    /// written.
+    /// It stops where the output fails or a grain's last version isn't read, with no event put, and where a doubt of its own stands
+    /// and all that is settled is written.
     ///
     /// Without memory for its look, or for what it makes before the host is called, nothing happened. Where it can't look
     /// whether all is written its event stands.
@@ -192,7 +197,48 @@ impl Settler {
                 doubts,
             } => self.tell(access, event, writes, doubts),
             Made::Idle => Ok(Turned::Nothing),
-            Made::Cut => Ok(Turned::Stop(StopCause::WriteFault)),
+            Made::Stopped(cause) => Ok(Turned::Stop(cause)),
+        }
+    }
+
+    /// Brings the lowest grain that a unit wants, and that isn't in memory, into memory: by at most one read, and one event. `Nothing`
+    /// where there is none.
+    ///
+    /// It stops where the grain's last version isn't read, with no event put; and, as `step`, where a doubt of its own stands and all
+    /// that is settled is written.
+    pub fn load<A: Access, H: Host>(
+        &mut self,
+        shape: &Shape,
+        access: &mut A,
+        host: &mut H,
+    ) -> Result<Turned, AllocError>
+        requires fit { A.is_fit access.old }
+        requires slot { self.old.writer.slot ≤ 1 }
+        ensures kept { StaysFit (A.is_fit access.new) (A.aside access.old) (A.aside access.new) }
+
+        // What it did to the core and to the host, for each answer and for want of memory.
+        ensures turns { TurnsBy H.tells H.world H.faults A.may_come shape.now wanted_step self.old self.new (A.sight access.old)
+            (A.sight access.new) host.old host.new result }
+
+        ensures asked { IsTrue H.tells → OnlyAsked (H.world host.old) (H.world host.new) }
+        ensures writer { self.new.writer ≡ self.old.writer }
+        ensures ready { StaysReady (H.is_ready host.old) (H.is_ready host.new) }
+    {
+        let Some(grain) = see_wanted(access)? else {
+            return Ok(Turned::Nothing);
+        };
+        let made = match self.bring_in(shape, host, grain) {
+            Ok(made) => made,
+            Err(lack) => return Err(lack),
+        };
+        match made {
+            Made::Event {
+                event,
+                writes,
+                doubts,
+            } => self.tell(access, event, writes, doubts),
+            Made::Idle => Ok(Turned::Nothing),
+            Made::Stopped(cause) => Ok(Turned::Stop(cause)),
         }
     }
 }

@@ -1,12 +1,16 @@
 // A settler over a core of accounts and a recorder.
 ghost use Rattle.std.specs.Prelude.{◌≤◌};
 ghost use Rattle.std.proofs.Props.{props};
+ghost use Rattle.host_trait.specs.Files.{HasSlot};
 ghost use Rattle.batch_disk.specs.Writers.{IsInBounds};
 
-use crate::recorder::{Recorder, new_recorder};
-use crate::units::{Add, carry_out, new_core, new_shape};
-use base_types::{Ends, Places, Shape};
+use crate::recorder::{Recorder, bytes_in, new_recorder};
+use crate::units::{
+    Add, Waiting, account, carry_out, go_on, new_core, new_shape, number_state, want,
+};
+use base_types::{Ends, KnownVersion, Place, Placed, Places, Shape, UnitNo, Version};
 use history_core::Core;
+use host_trait::FileId;
 use settle_loop::{Gate, GatePlace, Settler, Turned};
 use std::alloc::{AllocError, Global};
 
@@ -17,7 +21,7 @@ impl Gate for OpenGate {
     fn reach(&self, _place: GatePlace) {}
 }
 
-/// A settler in a slot, its core and its host.
+/// A settler in a slot, its core and its host, and the unit that waits for its account.
 #[derive(Drop)]
 pub struct Bench {
     alloc: Global,
@@ -26,17 +30,25 @@ pub struct Bench {
     core: Core,
     pub host: Recorder,
     settler: Settler,
+    waiting: Option<Waiting>,
+    ghost in_slot: { slot ≤ 1 },
     ghost bounds: { IsInBounds settler.writer } by { Prim.hlevel props },
 }
 
-/// One over a new silo in this slot, 0 or 1, whose accounts are all 0.
-pub fn new_bench(alloc: Global, slot: u8, quiet: bool) -> Result<Bench, AllocError>
+// One over a host with an empty log in this slot, where the accounts' last versions stand at these places.
+fn bench_over(
+    host: Recorder,
+    alloc: Global,
+    slot: u8,
+    quiet: bool,
+    limit: usize,
+    places: Places,
+) -> Result<Bench, AllocError>
     requires { slot ≤ 1 }
 {
     let shape = new_shape(alloc)?;
-    let core = new_core(alloc)?;
-    let host = new_recorder(alloc, slot)?;
-    let settler = Settler::new(alloc, slot, 15, Ends::new(alloc), quiet, Places::new(alloc))?;
+    let core = new_core(alloc, limit)?;
+    let settler = Settler::new(alloc, slot, 15, Ends::new(alloc), quiet, places)?;
     Ok(Bench {
         alloc,
         slot,
@@ -44,13 +56,86 @@ pub fn new_bench(alloc: Global, slot: u8, quiet: bool) -> Result<Bench, AllocErr
         core,
         host,
         settler,
+        waiting: None,
     })
+}
+
+/// One over a new silo in this slot, 0 or 1, whose accounts are all 0. So many that aren't in use stay in memory; where that is 0 each
+/// one is there from the first.
+pub fn new_bench(alloc: Global, slot: u8, quiet: bool, limit: usize) -> Result<Bench, AllocError>
+    requires { slot ≤ 1 }
+{
+    let host = new_recorder(alloc, slot)?;
+    bench_over(host, alloc, slot, quiet, limit, Places::new(alloc))
 }
 
 impl Bench {
     /// The next line's unit makes these additions, and answers what the first account has then. Whether each event applied.
     pub fn carry_out(&mut self, line: u32, first: Add, adds: &[Add]) -> Result<bool, AllocError> {
         carry_out(self.alloc, &mut self.core, line, first, adds)
+    }
+
+    /// The next line's unit begins, and wants the account of this addition to be in memory. Whether each event applied.
+    pub fn want(&mut self, line: u32, first: Add) -> Result<bool, AllocError> {
+        self.waiting = want(self.alloc, &mut self.core, line, first)?;
+        Ok(self.waiting.is_some())
+    }
+
+    /// The unit that waits makes its addition, and ends. Whose version it added to; none where there is no unit, or an event doesn't
+    /// apply.
+    pub fn go_on(&mut self) -> Result<Option<UnitNo>, AllocError> {
+        match self.waiting.take() {
+            Some(waiting) => go_on(self.alloc, &mut self.core, waiting),
+            None => Ok(None),
+        }
+    }
+
+    /// The settler brings a grain that is wanted into memory.
+    pub fn load(&mut self) -> Result<Turned, AllocError> {
+        self.settler
+            .load(&self.shape, &mut self.core, &mut self.host)
+    }
+
+    // An account's file.
+    fn file(&self, key: u32) -> FileId
+        ensures { HasSlot result }
+    {
+        FileId::Grain {
+            slot: self.slot,
+            grain: account(key),
+        }
+    }
+
+    /// An account's file loses all its bytes.
+    pub fn damage(&mut self, key: u32) -> Result<(), AllocError> {
+        let file = self.file(key);
+        self.host.inner.set_file(file, b"")
+    }
+
+    /// Another one with an empty log, where this account, alone in memory when it isn't in use, has its whole file as its last version,
+    /// with this number, from before.
+    pub fn reopened(&self, key: u32, number: i64) -> Result<Bench, AllocError> {
+        let alloc = self.alloc;
+        let file = self.file(key);
+        let bytes = bytes_in(&self.host.inner, file);
+        let mut host = new_recorder(alloc, self.slot)?;
+        host.inner.set_file(file, bytes)?;
+        let place = Place {
+            offset: 0,
+            len: bytes.len().min(4096) as u32,
+        };
+        let version = Version {
+            unit: UnitNo(1),
+            state: number_state(alloc, number)?,
+        };
+        let placed = Placed {
+            place,
+            is_new: false,
+            known: KnownVersion::of(&version),
+        };
+        let mut places = Places::new(alloc);
+        places.put(account(key), placed)?;
+        bench_over(host, alloc, self.slot, false, 1, places)
     }
 
     /// A step of the settler.

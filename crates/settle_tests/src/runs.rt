@@ -36,6 +36,8 @@ fn turn_name(turned: Turned) -> &'static str {
         Turned::Nothing => "rests",
         Turned::Stop(StopCause::InDoubt) => "stops in doubt",
         Turned::Stop(StopCause::WriteFault) => "stops by a write fault",
+        Turned::Stop(StopCause::LoadFault { .. }) => "stops by a read fault",
+        Turned::Stop(StopCause::LoadDamaged { .. }) => "stops by a damaged file",
     }
 }
 
@@ -55,7 +57,7 @@ impl Run {
     pub fn new(alloc: Global) -> Result<Run, AllocError> {
         Ok(Run {
             alloc,
-            bench: new_bench(alloc, 0, false)?,
+            bench: new_bench(alloc, 0, false, 0)?,
             said: String::new(alloc),
         })
     }
@@ -78,7 +80,7 @@ impl Run {
 
     fn obey(&mut self, verb: Verb, numbers: Numbers) -> Result<(), AllocError> {
         match verb {
-            Verb::Open => self.open(numbers.first == 1, numbers.second == 1),
+            Verb::Open => self.open(numbers.first == 1, numbers.second == 1, numbers.third),
             Verb::FailWrite => self.fail_file(CallKind::Write, numbers),
             Verb::FailSync => self.fail_file(CallKind::Sync, numbers),
             Verb::FailRead => self.fail_file(CallKind::Read, numbers),
@@ -88,15 +90,20 @@ impl Run {
             Verb::CutEmit => self.cut_emit(natural(numbers.first)),
             Verb::Add => self.add(numbers),
             Verb::Transfer => self.transfer(numbers),
+            Verb::Want => self.want(numbers),
+            Verb::GoOn => self.go_on(),
+            Verb::Damage => self.damage(short(numbers.first)),
+            Verb::Reopen => self.reopen(short(numbers.first), numbers.second),
+            Verb::Load => self.load(),
             Verb::Step => self.step(),
             Verb::Settle => self.settle(),
             Verb::Look(look) => self.look(look, numbers),
         }
     }
 
-    fn open(&mut self, quiet: bool, second: bool) -> Result<(), AllocError> {
+    fn open(&mut self, quiet: bool, second: bool, limit: i64) -> Result<(), AllocError> {
         let slot = if second { 1 } else { 0 };
-        self.bench = new_bench(self.alloc, slot, quiet)?;
+        self.bench = new_bench(self.alloc, slot, quiet, natural(limit) as usize)?;
         self.said.push_str("opened")
     }
 
@@ -120,10 +127,43 @@ impl Run {
         self.said.push_str("planned")
     }
 
-    fn carry_out(&mut self, line: i64, first: Add, adds: &[Add]) -> Result<(), AllocError> {
-        let carried = self.bench.carry_out(short(line), first, adds)?;
+    fn say_carried(&mut self, carried: bool) -> Result<(), AllocError> {
         self.said
             .push_str(if carried { "carried" } else { "not carried" })
+    }
+
+    fn carry_out(&mut self, line: i64, first: Add, adds: &[Add]) -> Result<(), AllocError> {
+        let carried = self.bench.carry_out(short(line), first, adds)?;
+        self.say_carried(carried)
+    }
+
+    fn want(&mut self, numbers: Numbers) -> Result<(), AllocError> {
+        let add = Add {
+            key: short(numbers.second),
+            number: numbers.third,
+        };
+        let wanted = self.bench.want(short(numbers.first), add)?;
+        self.say_carried(wanted)
+    }
+
+    fn go_on(&mut self) -> Result<(), AllocError> {
+        match self.bench.go_on()? {
+            Some(source) => {
+                let unit = source.0;
+                write!(self.said, "carried, from unit {unit}")
+            }
+            None => self.say_carried(false),
+        }
+    }
+
+    fn damage(&mut self, key: u32) -> Result<(), AllocError> {
+        self.bench.damage(key)?;
+        self.said.push_str("damaged")
+    }
+
+    fn reopen(&mut self, key: u32, number: i64) -> Result<(), AllocError> {
+        self.bench = self.bench.reopened(key, number)?;
+        self.said.push_str("opened")
     }
 
     fn add(&mut self, numbers: Numbers) -> Result<(), AllocError> {
@@ -146,13 +186,23 @@ impl Run {
         self.carry_out(numbers.first, from, &[from, onto])
     }
 
-    // A step, and how many host calls it made.
-    fn step(&mut self) -> Result<(), AllocError> {
-        let before = self.bench.host.inner.calls();
-        let turned = self.bench.step()?;
+    // What a step came to, and how many host calls it made.
+    fn say_turned(&mut self, turned: Turned, before: u64) -> Result<(), AllocError> {
         let calls = self.bench.host.inner.calls().wrapping_sub(before);
         let name = turn_name(turned);
         write!(self.said, "{name}, calls {calls}")
+    }
+
+    fn step(&mut self) -> Result<(), AllocError> {
+        let before = self.bench.host.inner.calls();
+        let turned = self.bench.step()?;
+        self.say_turned(turned, before)
+    }
+
+    fn load(&mut self) -> Result<(), AllocError> {
+        let before = self.bench.host.inner.calls();
+        let turned = self.bench.load()?;
+        self.say_turned(turned, before)
     }
 
     fn settle(&mut self) -> Result<(), AllocError> {

@@ -1,17 +1,24 @@
 // Units that add to accounts, as a core takes them.
+ghost use Rattle.std.specs.Prelude.{◌≡◌, [], IfOk};
+ghost use Rattle.cell_table.specs.Table.{used_of};
+
+use activations::Recent;
 use base_types::{
     Call, GrainId, List, Mode, Origin, Outcome, Shape, State, Store, Text, TypeShape, UnitNo, Value,
 };
+use cell_table::OpeningStates;
 use core_model::{CoreEvent, CoreReply, Effect, Read};
 use history_core::{Core, Opening};
 use std::alloc::{AllocError, Global};
+use std::num::NonZeroUsize;
 
 /// An account.
 pub fn account(key: u32) -> GrainId {
     GrainId { kind: 0, key }
 }
 
-fn number_state(alloc: Global, number: i64) -> Result<State, AllocError> {
+/// The state of an account with this number.
+pub fn number_state(alloc: Global, number: i64) -> Result<State, AllocError> {
     let mut state = State::new(alloc);
     state.push(Value::Int(number))?;
     Ok(state)
@@ -34,15 +41,28 @@ pub fn new_shape(alloc: Global) -> Result<Shape, AllocError> {
     Ok(Shape { types })
 }
 
-/// Its core, whose next unit is 1.
-pub fn new_core(alloc: Global) -> Result<Core, AllocError> {
+// The accounts that were used last, of which there are at most so many: none yet.
+fn recent_of(alloc: Global, limit: usize) -> Result<Option<Recent>, AllocError>
+    ensures { IfOk result (λ recent. used_of recent ≡ []) }
+{
+    match NonZeroUsize::new(limit) {
+        Some(limit) => Ok(Some(Recent::new(alloc, limit)?)),
+        None => Ok(None),
+    }
+}
+
+/// Its core, whose next unit is 1. So many accounts that aren't in use stay in memory; where that is 0 each one is there from the first.
+pub fn new_core(alloc: Global, limit: usize) -> Result<Core, AllocError> {
     let shape = new_shape(alloc)?;
+    let recent = recent_of(alloc, limit)?;
     Ok(Core::new(
         alloc,
         Opening {
             shape,
-            store: Store::new(alloc),
+            opened: OpeningStates::Stored(Store::new(alloc)),
             next_unit: UnitNo(1),
+            recent,
+            keeps_last: false,
         },
     ))
 }
@@ -207,4 +227,49 @@ pub fn carry_out(
         }
         None => Ok(false),
     }
+}
+
+/// A unit that has begun, and wants the account of its first addition to be in memory.
+#[derive(Clone, Copy)]
+pub struct Waiting {
+    unit: UnitNo,
+    line: u32,
+    first: Add,
+}
+
+/// The next line's unit begins, called for this addition, and wants its account to be in memory. None where an event doesn't apply.
+pub fn want(
+    alloc: Global,
+    core: &mut Core,
+    line: u32,
+    first: Add,
+) -> Result<Option<Waiting>, AllocError> {
+    let Some(unit) = begin(alloc, core, line, first)? else {
+        return Ok(None);
+    };
+    let grain = account(first.key);
+    let reply = put(core, CoreEvent::Want { unit, grain })?;
+    if !is_done(&reply) {
+        return Ok(None);
+    }
+    Ok(Some(Waiting { unit, line, first }))
+}
+
+/// A unit that waited makes its addition, and ends. Whose version it added to; none where an event doesn't apply.
+pub fn go_on(
+    alloc: Global,
+    core: &mut Core,
+    waiting: Waiting,
+) -> Result<Option<UnitNo>, AllocError> {
+    let Waiting { unit, line, first } = waiting;
+    let Some(read) = grant(core, unit, account(first.key))? else {
+        return Ok(None);
+    };
+    let source = read.source;
+    let mut effect = empty_effect(alloc, line, unit, call_on(alloc, first)?);
+    make(alloc, &mut effect, first, read)?;
+    if !finish(core, effect)? || !release_all(core, unit, &[first])? {
+        return Ok(None);
+    }
+    Ok(Some(source))
 }

@@ -1,7 +1,8 @@
 /// The first word of a line.
 #[derive(Clone, Copy)]
 pub enum Verb {
-    /// A new bench; a quiet settler where the number is 1, in slot 1 where the second is.
+    /// A new bench; a quiet settler where the number is 1, in slot 1 where the second is, and with so many accounts in memory that
+    /// aren't in use as the third says, or all where that is 0.
     Open,
     /// The nth call of this kind fails: a file, -1 for the manager's or an account's number, and n.
     FailWrite,
@@ -18,6 +19,15 @@ pub enum Verb {
     Add,
     /// The unit of a line moves 1 from an account to another one.
     Transfer,
+    /// The unit of a line begins, called to add a number to an account, and wants that to be in memory; and it goes on.
+    Want,
+    GoOn,
+    /// An account's file loses its bytes.
+    Damage,
+    /// A new bench with an empty log, where an account's file has its last version, with this number, from before.
+    Reopen,
+    /// The settler brings a wanted grain into memory.
+    Load,
     /// One step of the settler; all of them, up to a stop.
     Step,
     Settle,
@@ -70,6 +80,11 @@ fn act(word: &str) -> Option<Verb> {
     match word {
         "add" => Some(Verb::Add),
         "transfer" => Some(Verb::Transfer),
+        "want" => Some(Verb::Want),
+        "go_on" => Some(Verb::GoOn),
+        "damage" => Some(Verb::Damage),
+        "reopen" => Some(Verb::Reopen),
+        "load" => Some(Verb::Load),
         "step" => Some(Verb::Step),
         "settle" => Some(Verb::Settle),
         _ => look_of(word),

@@ -1,28 +1,28 @@
 -- The books of a run whose settler goes on among others, step by step.
-use Rattle.std.proofs.Common.{◌≡◌, inl, inr, ℕ, ◌≤◌, ◌<◌, length, Bool, true, false, true≢false, Option, Some, None, refl, sym, ap, ◌∙◌, subst, arith}
+use Rattle.std.proofs.Common.{◌≡◌, ℕ, ◌≤◌, ◌<◌, length, Bool, true, false, true≢false, Option, Some, None, refl, sym, ap, ◌∙◌, subst, arith}
 use Rattle.std.specs.Prelude.{Result, Ok, Err, if◌then◌else◌, is_some, nat_lt}
 use Rattle.std.proofs.lemmas.Bool.{lt-ltb}
 use Rattle.base_types.specs.declared.shapes.Shape.{Shape}
 use Rattle.host_trait.specs.declared.channels.Channel.{Channel}
 use Rattle.host_trait.specs.declared.channels.Channel.TheVariants.{File}
+use Rattle.host_trait.specs.declared.channels.FileId.{FileId}
 use Rattle.host_trait.specs.declared.channels.FileId.TheVariants.{Manager}
 use Rattle.host_trait.specs.World.{World}
 use Rattle.core_model.specs.CoreState.{GrainId, CoreState, Batch}
 use Rattle.core_model.specs.LearnQueue.{next_learn}
 use Rattle.core_model.specs.LegalRuns.{Run, ends}
-use Rattle.core_model.specs.Settler.{Votes, Decides, Seals, Writes, Loads, Rests, settler_step, batch_step, last_step, learn_step, undecided_step, first_unvoted}
+use Rattle.core_model.specs.Settler.{Votes, Decides, Seals, Writes, Rests, settler_step, batch_step, last_step, learn_step, undecided_step, first_unvoted}
 use Rattle.core_model.specs.declared.events.CoreEvent.{CoreEvent}
 use Rattle.core_access.specs.Sights.{Sight, run_seen}
 use Rattle.promise_spec.proofs.Doubts.{doubt_left}
 use Rattle.promise_laws.proofs.DoubtedBatches.{doubt-rose}
-use Rattle.settle_loop.specs.ShownWork.{LeavesUndone}
 use Rattle.settle_loop.specs.SettlerStep.{TurnsAs}
 use Rattle.settle_loop.specs.declared.settler.Settler.{Settler}
 use Rattle.settle_loop.specs.declared.settler.Turned.{Turned}
 use Rattle.settle_loop.specs.declared.settler.Turned.TheVariants.{Stepped, Nothing, Stop}
 use Rattle.settle_loop.specs.declared.settler.StopCause.TheVariants as cause
 use Rattle.run_books.specs.declared.faults.RunFault.{RunFault}
-use Rattle.run_books.specs.declared.faults.RunFault.TheVariants.{InDoubt, WriteFault, Memory}
+use Rattle.run_books.specs.declared.faults.RunFault.TheVariants.{InDoubt, WriteFault, Memory, LoadFault, LoadDamaged}
 use Rattle.run_books.specs.Beginnings.{Outset}
 use Rattle.run_books.specs.Books.{Books}
 use Rattle.run_books.specs.SharedSteps.{MayRely, StepKeeps, SharedStepsKeep}
@@ -38,29 +38,25 @@ some-of None q = absurd (true≢false (sym q))
 some-of (Some a) q = (a, refl)
 
 -- who does nothing in doubt has written all
-rests-written : (w : CoreState) → is_some w.manager.doubt ≡ true → LeavesUndone (settler_step w) → length w.manager.settled ≤ w.manager.emitted
-rests-written w d undone = by w.manager.batch undone
+rests-written : (w : CoreState) → is_some w.manager.doubt ≡ true → settler_step w ≡ Rests → length w.manager.settled ≤ w.manager.emitted
+rests-written w d rests = by w.manager.batch rests
   where
-    of-last : (b : Bool) → nat_lt w.manager.emitted (length w.manager.settled) ≡ b → LeavesUndone (if b then Writes else Rests) → length w.manager.settled ≤ w.manager.emitted
-    of-last true t (inl q) = absurd (let z : Writes ≡ Rests = q in cc)
-    of-last true t (inr q) = absurd (let z : Writes ≡ Loads q.0 = q.1 in cc)
+    of-last : (b : Bool) → nat_lt w.manager.emitted (length w.manager.settled) ≡ b → (if b then Writes else Rests) ≡ Rests → length w.manager.settled ≤ w.manager.emitted
+    of-last true t q = absurd (let z : Writes ≡ Rests = q in cc)
     of-last false t q = search (arith, lt-ltb)
 
-    of-open : (b : Bool) (n : ℕ) (b' : Batch) → LeavesUndone (if b then Seals n else undecided_step n (first_unvoted b')) → ⊥
-    of-open true n b' (inl q) = absurd (let z : Seals n ≡ Rests = q in cc)
-    of-open true n b' (inr q) = absurd (let z : Seals n ≡ Loads q.0 = q.1 in cc)
+    of-open : (b : Bool) (n : ℕ) (b' : Batch) → (if b then Seals n else undecided_step n (first_unvoted b')) ≡ Rests → ⊥
+    of-open true n b' q = absurd (let z : Seals n ≡ Rests = q in cc)
     of-open false n b' q = none (first_unvoted b') q
       where
-        none : (g : Option GrainId) → LeavesUndone (undecided_step n g) → ⊥
-        none None (inl q) = absurd cc
-        none None (inr q) = absurd (let z : Decides n ≡ Loads q.0 = q.1 in cc)
-        none (Some g) (inl q) = absurd cc
-        none (Some g) (inr q) = absurd (let z : Votes n g ≡ Loads q.0 = q.1 in cc)
+        none : (g : Option GrainId) → undecided_step n g ≡ Rests → ⊥
+        none None q = absurd (let z : Decides n ≡ Rests = q in cc)
+        none (Some g) q = absurd (let z : Votes n g ≡ Rests = q in cc)
 
-    by : (b : Option Batch) → LeavesUndone (batch_step w b) → length w.manager.settled ≤ w.manager.emitted
+    by : (b : Option Batch) → batch_step w b ≡ Rests → length w.manager.settled ≤ w.manager.emitted
     by None q =
         of-last (nat_lt w.manager.emitted (length w.manager.settled)) refl
-        (subst LeavesUndone (ap (λ (x : Bool). if x then last_step w false else learn_step w (next_learn w)) d) q)
+        (sym (ap (λ (x : Bool). if x then last_step w false else learn_step w (next_learn w)) d) ∙ q)
     by (Some b) q = absurd (of-open (is_some b.decisions) b.number b q)
 
 -- ---- one step
@@ -91,6 +87,12 @@ module _ {H E : Type 0} (tells : Bool) (world : H → World) (faults : H → Cha
 
   pub on-cut : (T : Type 0) → result ≡ Ok (Stop cause.WriteFault) → Settled {T = T} (Err WriteFault)
   on-cut T q = let k : Says (Ok (Stop cause.WriteFault)) = subst Says q said in record { goes = k.0; says = k.1 }
+
+  pub on-unread : (T : Type 0) (file : FileId) → result ≡ Ok (Stop (cause.LoadFault file)) → Settled {T = T} (Err (LoadFault file))
+  on-unread T file q = let k : Says (Ok (Stop (cause.LoadFault file))) = subst Says q said in record { goes = k.0; says = k.1 }
+
+  pub on-damaged : (T : Type 0) (file : FileId) (place : ℕ) → result ≡ Ok (Stop (cause.LoadDamaged file place)) → Settled {T = T} (Err (LoadDamaged file place))
+  on-damaged T file place q = let k : Says (Ok (Stop (cause.LoadDamaged file place))) = subst Says q said in record { goes = k.0; says = k.1 }
 
   pub on-lack : {T : Type 0} (lack : E) → result ≡ Err lack → (answer : Result T RunFault) → answer ≡ Err Memory → Settled answer
   on-lack lack q answer is = let k : Says (Err lack) = subst Says q said in subst Settled (sym is) (record { goes = k.0; says = k.1 })
@@ -154,10 +156,12 @@ module _ (tells : Bool) (o : Outset) (b : Books) (x y : Stage) where
   pub settled-fault : {T U : Type 0} (f : RunFault) → SettledAmong {T = T} tells o b x y (Err f) → SettledAmong {T = U} tells o b x y (Err f)
   settled-fault {T} {U} f g = record { goes = g.goes; says = by f g.says }
     where
-      by : (e : RunFault) → SaysAmong o g.goes.books y {T = T} (Err e) → SaysAmong o g.goes.books y {T = U} (Err e)
+      by : (e : RunFault) → SaysAmong tells o g.goes.books y {T = T} (Err e) → SaysAmong tells o g.goes.books y {T = U} (Err e)
       by InDoubt e = e
       by WriteFault e = e
       by Memory e = e
+      by (LoadFault file) e = e
+      by (LoadDamaged file place) e = e
 
   -- want of memory between two steps
   pub settled-lack : {T U : Type 0} (one : T) → SettledAmong {T = T} tells o b x y (Ok one) → SettledAmong {T = U} tells o b x y (Err Memory)

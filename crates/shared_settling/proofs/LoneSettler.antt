@@ -56,7 +56,7 @@ settling-may b r (EndSnapshot u at outcome) q = absurd (true≢false (sym q))
 settling-may b r (Release u g) q = absurd (true≢false (sym q))
 settling-may b r Halt q = absurd (true≢false (sym q))
 settling-may b r (Want u g) q = absurd (true≢false (sym q))
-settling-may b r (Load g u state) q = absurd (true≢false (sym q))
+settling-may b r (Load g u state) q = λ a. tt
 
 -- Units and lines are as many.
 record CountsAlike (w w' : CoreState) : Type 0 where
@@ -84,7 +84,7 @@ alike-change w e w' (learn v g wrote final fresh) o = record { next = refl; line
 alike-change w e w' (emit q) o = record { next = refl; lines = refl }
 alike-change w e w' (halt_run q) o = absurd (true≢false (sym o))
 alike-change w e w' (want v g running free fresh) o = absurd (true≢false (sym o))
-alike-change w e w' (load g v state gone wanted) o = absurd (true≢false (sym o))
+alike-change w e w' (load g v state gone wanted) o = record { next = refl; lines = refl }
 
 alike-swept : (w w' : CoreState) → CountsAlike w w' → CountsAlike w (swept w')
 alike-swept w w' k = go w'.cells.capacity

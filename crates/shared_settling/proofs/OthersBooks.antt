@@ -1,14 +1,18 @@
 -- The books, and what a fault says of them, behind entries of others and a stop.
-use Rattle.std.proofs.Common.{◌≡◌, ⊎_elim, inl, inr, ℕ, ◌<◌, ◌≤◌, List, [], ◌∷◌, ◌++◌, length, Bool, true, false, true≢false, refl, sym, ap, ◌∙◌, subst}
-use Rattle.std.specs.Prelude.{Err, not}
+use Rattle.std.proofs.Common.{◌≡◌, ⊎_elim, inl, inr, ℕ, ◌<◌, ◌≤◌, List, [], ◌∷◌, ◌++◌, length, Bool, true, false, true≢false, refl, sym, ap, ◌∙◌, subst, arith}
+use Rattle.std.specs.Prelude.{◌+◌, take, Err, not}
+use Rattle.std.proofs.lemmas.List.{length-append, take-append-le}
 use Rattle.host_trait.specs.declared.channels.Channel.{Channel}
+use Rattle.host_trait.specs.declared.channels.FileId.{FileId}
 use Rattle.host_trait.specs.World.{World}
 use Rattle.core_model.specs.CoreState.{Entry}
 use Rattle.core_model.specs.declared.events.CoreEvent.{CoreEvent}
 use Rattle.core_model.specs.declared.events.CoreEvent.TheVariants.{Halt}
 use Rattle.core_model.specs.declared.events.CoreReply.{CoreReply}
 use Rattle.core_model.specs.Laws.{extended}
-use Rattle.core_model.specs.LegalRuns.{Run, ends}
+use Rattle.core_model.specs.WantedGrains.{next_wanted}
+use Rattle.core_model.specs.Events.{run}
+use Rattle.core_model.specs.LegalRuns.{Run, begins, ends}
 use Rattle.turn_cell.specs.History.{entry}
 use Rattle.core_access.specs.Histories.{Told, run_after}
 use Rattle.core_access.specs.SettlerEvents.{is_settling, leaves_settling}
@@ -16,6 +20,7 @@ use Rattle.core_access.specs.Sights.{Sight, run_seen, AllPass, Looks, Tells, Cou
 use Rattle.core_access.proofs.Entries.{run-on}
 use Rattle.core_access.proofs.SettlerEvents.{others-leave}
 use Rattle.core_access.proofs.Sights.{looks-before, tells-before, pass-append}
+use Rattle.promise_spec.specs.Causes.{RunHasDoubt}
 use Rattle.promise_spec.specs.UnitRule.{KeepsUnitRule}
 use Rattle.promise_spec.proofs.Doubts.{doubt_left}
 use Rattle.settler_rules.proofs.Commits.{doubt-stays}
@@ -23,10 +28,10 @@ use Rattle.settle_loop.specs.declared.settler.Settler.{Settler}
 use Rattle.worker_rules.specs.Work.{is_work}
 use Rattle.worker_rules.proofs.Workers.{work-settles}
 use Rattle.run_books.specs.declared.faults.RunFault.{RunFault}
-use Rattle.run_books.specs.declared.faults.RunFault.TheVariants.{InDoubt, WriteFault, Memory}
+use Rattle.run_books.specs.declared.faults.RunFault.TheVariants.{InDoubt, WriteFault, Memory, LoadFault, LoadDamaged}
 use Rattle.run_books.specs.Beginnings.{Outset, basis_of}
 use Rattle.run_books.specs.Books.{Books}
-use Rattle.run_books.specs.Records.{KeepsBooks, HasDoubted}
+use Rattle.run_books.specs.Records.{KeepsBooks, HasDoubted, HasFailedToLoad, HasFoundNone}
 use Rattle.run_books.specs.BooksSteps.{BooksGoOn}
 use Rattle.run_books.specs.SharedSteps.{MayRely}
 use Rattle.run_books.proofs.BooksCounts.{doubt-ends}
@@ -50,6 +55,29 @@ doubted-next o r e counts other d =
       rose = d.rose;
     }
 
+-- nothing is in doubt by others' events
+sure-next : (r : Run) (e : CoreEvent) → is_settling e ≡ false → (RunHasDoubt r → ⊥) → RunHasDoubt (extended r (e ∷ [])) → ⊥
+sure-next r e other sure d = let there = doubt-ends (extended r (e ∷ [])) d in sure (doubt_left r there.0 (sym (others-leave r e other).doubt ∙ there.1))
+
+-- a grain that wasn't brought into memory, since its file failed, stays so
+unloaded-next : (o : Outset) (r : Run) (e : CoreEvent) (counts : Channel → ℕ) (file : FileId) → is_settling e ≡ false → HasFailedToLoad o r counts file → HasFailedToLoad o (extended r (e ∷ [])) counts file
+unloaded-next o r e counts file other u =
+    let at : ℕ = u.unloaded.0 in
+    let low : at ≤ length r.events = u.unloaded.1 in
+    let longer : length (r.events ++ (e ∷ [])) ≡ length r.events + 1 = length-append r.events (e ∷ []) in
+    let same : take at (r.events ++ (e ∷ [])) ≡ take at r.events = take-append-le at r.events (e ∷ []) low in
+    record {
+      grain = u.grain;
+      file_is = u.file_is;
+      unloaded = (at, omega (arith, low, longer), ap (λ (es : List CoreEvent). next_wanted (run (begins r) es)) same ∙ u.unloaded.2);
+      sure = sure-next r e other u.sure;
+      rose = u.rose;
+    }
+
+-- and one whose version didn't stand at its place
+found-next : (tells : Bool) (r : Run) (e : CoreEvent) → is_settling e ≡ false → HasFoundNone tells r → HasFoundNone tells (extended r (e ∷ []))
+found-next tells r e other u = record { untold = u.untold; sure = sure-next r e other u.sure }
+
 -- The books go on, and of a line as much is cut off.
 record GoesStill (tells : Bool) (o : Outset) (b : Books) (r r' : Run) (settler : Settler) (counts : Channel → ℕ) (now : World) : Type 0 where
   goes : BooksGoOn tells o b (stage_by r settler counts now) (stage_by r' settler counts now)
@@ -70,6 +98,16 @@ pub doubted-on : (o : Outset) (rest : List Told) (r : Run) (counts : Channel →
 doubted-on o [] r counts all d = d
 doubted-on o (x ∷ rest) r counts all d =
     doubted-on o rest (extended r (x.event ∷ [])) counts (λ y i. all y (inr i)) (doubted-next o r x.event counts (is-other x.event (all x (inl refl))) d)
+
+-- and a grain that wasn't brought into memory
+unloaded-on : (o : Outset) (rest : List Told) (r : Run) (counts : Channel → ℕ) → AllPass leaves_settling rest → (file : FileId) → HasFailedToLoad o r counts file → HasFailedToLoad o (run_after r rest) counts file
+unloaded-on o [] r counts all file u = u
+unloaded-on o (x ∷ rest) r counts all file u =
+    unloaded-on o rest (extended r (x.event ∷ [])) counts (λ y i. all y (inr i)) file (unloaded-next o r x.event counts file (is-other x.event (all x (inl refl))) u)
+
+found-on : (tells : Bool) (rest : List Told) (r : Run) → AllPass leaves_settling rest → HasFoundNone tells r → HasFoundNone tells (run_after r rest)
+found-on tells [] r all u = u
+found-on tells (x ∷ rest) r all u = found-on tells rest (extended r (x.event ∷ [])) (λ y i. all y (inr i)) (found-next tells r x.event (is-other x.event (all x (inl refl))) u)
 
 -- and the books
 goes-still : (tells : Bool) (o : Outset) (rest : List Told) (b : Books) (r : Run) (settler : Settler) (counts : Channel → ℕ) (now : World) → 0 < r.base → KeepsUnitRule (basis_of o) (run_after r rest)
@@ -95,11 +133,13 @@ module _ (tells : Bool) (o : Outset) (b : Books) (r r' : Run) (rest : List Told)
         says = by f more g.says;
       }
     where
-      by : (x : RunFault) (m : GoesStill tells o g.goes.books r' (run_after r' rest) settler' counts' now') → SaysAmong o g.goes.books (stage_by r' settler' counts' now') {T = T} (Err x)
-          → SaysAmong o m.goes.books (stage_by (run_after r' rest) settler' counts' now') {T = T} (Err x)
+      by : (x : RunFault) (m : GoesStill tells o g.goes.books r' (run_after r' rest) settler' counts' now') → SaysAmong tells o g.goes.books (stage_by r' settler' counts' now') {T = T} (Err x)
+          → SaysAmong tells o m.goes.books (stage_by (run_after r' rest) settler' counts' now') {T = T} (Err x)
       by InDoubt m e = (doubted-on o rest r' counts' all e.0, m.rest ∙ e.1)
       by WriteFault m e = e
       by Memory m e = m.rest ∙ e
+      by (LoadFault file) m e = (unloaded-on o rest r' counts' all file e.0, m.rest ∙ e.1)
+      by (LoadDamaged file place) m e = (found-on tells rest r' all e.0, m.rest ∙ e.1)
 
 -- ---- a stop behind a fault
 

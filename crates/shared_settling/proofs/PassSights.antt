@@ -5,9 +5,9 @@ use Rattle.base_types.specs.declared.shapes.Shape.{Shape}
 use Rattle.host_trait.specs.declared.channels.Channel.{Channel}
 use Rattle.host_trait.specs.World.{World}
 use Rattle.core_model.specs.declared.events.CoreEvent.{CoreEvent}
-use Rattle.core_model.specs.declared.events.CoreEvent.TheVariants.{Halt, Load}
+use Rattle.core_model.specs.declared.events.CoreEvent.TheVariants.{Halt}
 use Rattle.core_model.specs.declared.events.CoreReply.{CoreReply}
-use Rattle.core_model.specs.CoreState.{UnitNo, GrainId, Value, CoreState}
+use Rattle.core_model.specs.CoreState.{CoreState}
 use Rattle.core_model.specs.Events.{applies}
 use Rattle.core_model.specs.Laws.{extended}
 use Rattle.core_model.specs.LegalRuns.{Run, ends}
@@ -22,13 +22,12 @@ use Rattle.promise_spec.specs.UnitRule.{Basis}
 use Rattle.worker_rules.specs.UnitOwnership.{KeepsPromise}
 use Rattle.worker_rules.specs.Work.{is_work}
 use Rattle.worker_rules.proofs.CallPromises.{looks-promise, tells-promise, settles-promise}
-use Rattle.settle_loop.specs.HostSteps.{DoesFor}
 use Rattle.settle_loop.specs.ShownWork.{has_applied}
 use Rattle.settle_loop.specs.SettlerStep.{TurnsAs, LooksOn, PutsNext, state_shown}
 use Rattle.settle_loop.specs.declared.settler.Settler.{Settler}
 use Rattle.settle_loop.specs.declared.settler.Turned.{Turned}
 use Rattle.settle_loop.specs.declared.settler.Turned.TheVariants.{Stepped, Nothing, Stop}
-use Rattle.settle_loop.specs.declared.settler.StopCause.TheVariants.{InDoubt, WriteFault}
+use Rattle.settle_loop.specs.declared.settler.StopCause.TheVariants.{InDoubt, WriteFault, LoadFault, LoadDamaged}
 use Rattle.run_books.specs.SharedSteps.{SeesOn}
 use Rattle.run_books.proofs.BooksCore.{is_halt, moves-run, unapplied-run}
 use Rattle.run_books.proofs.Reliance.{sees-none, sees-look, sees-tell, sees-both}
@@ -36,18 +35,18 @@ use Rattle.shared_settling.specs.SharedSettler.{SettlesAmong}
 
 -- ---- the calls of a step
 
--- the events of its steps are the settler's, but for a load, which isn't put
-makes-settling : (x : Step) (e : CoreEvent) → ((g : GrainId) (u : UnitNo) (state : List Value) → e ≡ Load g u state → ⊥) → MakesEvent x e → is_settling e ≡ true
-makes-settling (Votes n g) e unloaded m = ap is_settling m.1
-makes-settling (Decides n) e unloaded m = ap is_settling m
-makes-settling (Seals n) e unloaded (inl m) = ap is_settling m
-makes-settling (Seals n) e unloaded (inr (inl m)) = ap is_settling m
-makes-settling (Seals n) e unloaded (inr (inr m)) = ap is_settling m
-makes-settling (Learns u g) e unloaded m = ap is_settling m
-makes-settling Writes e unloaded m = ap is_settling m
-makes-settling (Loads g) e unloaded m = absurd (unloaded g m.0 m.1 m.2)
-makes-settling Takes e unloaded m = ap is_settling m
-makes-settling Rests e unloaded m = absurd m
+-- the events of its steps are the settler's
+makes-settling : (x : Step) (e : CoreEvent) → MakesEvent x e → is_settling e ≡ true
+makes-settling (Votes n g) e m = ap is_settling m.1
+makes-settling (Decides n) e m = ap is_settling m
+makes-settling (Seals n) e (inl m) = ap is_settling m
+makes-settling (Seals n) e (inr (inl m)) = ap is_settling m
+makes-settling (Seals n) e (inr (inr m)) = ap is_settling m
+makes-settling (Learns u g) e m = ap is_settling m
+makes-settling Writes e m = ap is_settling m
+makes-settling (Loads g) e m = ap is_settling m.2
+makes-settling Takes e m = ap is_settling m
+makes-settling Rests e m = absurd m
 
 -- what stays by each look, and by the event of a step that is put, stays by the whole step
 module _ (may : CoreEvent → Bool) (P : Sight → Type 0) (looks : (s t : Sight) → Looks may s t → P s → P t)
@@ -58,20 +57,20 @@ module _ (may : CoreEvent → Bool) (P : Sight → Type 0) (looks : (s t : Sight
 
   module _ {H : Type 0} (told_world : Bool) (world : H → World) (faults : H → Channel → ℕ) (shape : Shape) (before after : Settler) (s : Sight) (old new : H) (p : P s) where
     puts : (e : CoreEvent) (r : CoreReply) (mid : Sight) → PutsNext told_world world faults may shape before after s e r mid old new → P mid
-    puts e r mid u = tells u.acts.seen mid e r u.told (makes-settling (settler_step (state_shown u.acts.seen)) e unloaded u.acts.makes) (looks s u.acts.seen u.acts.looked p)
-      where
-        unloaded : (g : GrainId) (v : UnitNo) (state : List Value) → e ≡ Load g v state → ⊥
-        unloaded g v state is = subst (λ (x : CoreEvent). DoesFor told_world world faults before.writer.slot x before.quiet shape (state_shown u.acts.seen) before.writer after.writer old new) is u.acts.does
+    puts e r mid u = tells u.acts.seen mid e r u.told (makes-settling (settler_step (state_shown u.acts.seen)) e u.acts.makes) (looks s u.acts.seen u.acts.looked p)
 
     pub turns-keep : {E : Type 0} (t : Sight) (result : Result Turned E) → TurnsAs told_world world faults may shape before after s t old new result → P t
     turns-keep t (Ok Stepped) u = looks-last (after.doubted && has_applied u.r) u.mid t u.looked (puts u.e u.r u.mid u.put)
     turns-keep t (Ok Nothing) u = looks s t u.looked p
     turns-keep t (Ok (Stop InDoubt)) u = looks u.mid t u.looked (puts u.e u.r u.mid u.put)
     turns-keep t (Ok (Stop WriteFault)) u = looks s t u.looked p
+    turns-keep t (Ok (Stop (LoadFault file))) u = looks s t u.0.looked p
+    turns-keep t (Ok (Stop (LoadDamaged file place))) u = looks s t u.0.looked p
     turns-keep t (Err lack) (inl u) = looks s t u.looked p
     turns-keep t (Err lack) (inr (inl u)) = looks s t u.looked p
     turns-keep t (Err lack) (inr (inr (inl u))) = looks u.1.acts.seen t u.1.unput (looks s u.1.acts.seen u.1.acts.looked p)
-    turns-keep t (Err lack) (inr (inr (inr u))) = looks u.mid t u.looked (puts u.e u.r u.mid u.put)
+    turns-keep t (Err lack) (inr (inr (inr (inl u)))) = looks u.mid t u.looked (puts u.e u.r u.mid u.put)
+    turns-keep t (Err lack) (inr (inr (inr (inr u)))) = looks s t u.looked p
 
 -- ---- what was put oneself
 

@@ -14,7 +14,7 @@ use Rattle.worker_rules.specs.UnitOwnership.{KeepsPromise}
 use Rattle.worker_rules.proofs.CallPromises.{looks-promise}
 use Rattle.settle_loop.specs.declared.settler.Settler.{Settler}
 use Rattle.run_books.specs.declared.faults.RunFault.{RunFault}
-use Rattle.run_books.specs.declared.faults.RunFault.TheVariants.{InDoubt, WriteFault, Memory}
+use Rattle.run_books.specs.declared.faults.RunFault.TheVariants.{InDoubt, WriteFault, Memory, LoadFault, LoadDamaged}
 use Rattle.run_books.specs.RecordFrame.{TurnsBeside}
 use Rattle.run_books.specs.SharedSteps.{SeesOn}
 use Rattle.run_books.proofs.Reliance.{sees-look, sees-tell, sees-both, counts-on, relies-before}
@@ -98,6 +98,8 @@ module _ (may : CoreEvent → Bool) (s t u : Sight) where
   may-stop InDoubt same = inl (subst (Looks may t) (sym same) (looks-none may t))
   may-stop WriteFault ends = ends.0
   may-stop Memory ends = ends.0
+  may-stop (LoadFault file) ends = ends.0
+  may-stop (LoadDamaged file place) ends = ends.0
 
   settles-or-stops : SettlesAmong s t → MayStop may t u → SettlesAmong s u ⊎ StopsAmong may s u
   settles-or-stops among stop = ⊎_elim (λ l. inl (among-both s t u among (among-look may t u l))) (λ l. inr (record { mid = t; settles = among; reply = l.0; stop = l.1 })) stop
@@ -106,6 +108,8 @@ module _ (may : CoreEvent → Bool) (s t u : Sight) where
   own-ends InDoubt same among = subst (SettlesAmong s) (sym same) among
   own-ends WriteFault ends among = settles-or-stops among ends.0
   own-ends Memory ends among = settles-or-stops among ends.0
+  own-ends (LoadFault file) ends among = settles-or-stops among ends.0
+  own-ends (LoadDamaged file place) ends among = settles-or-stops among ends.0
 
   -- and then a stop or a doubt stands
   pub fault-stopped : (fault : RunFault) → EndsOthers may fault t u → (before after : Settler) → (KnowsTruly before (run_seen s) → KnowsTruly after (run_seen t)) → (fault ≡ InDoubt → after.doubted ≡ true)
@@ -113,6 +117,8 @@ module _ (may : CoreEvent → Bool) (s t u : Sight) where
   fault-stopped InDoubt same before after knows doubted = λ truly. subst (λ (x : Sight). is_some (ends (run_seen x)).manager.doubt ≡ true) (sym same) (knows truly (doubted refl))
   fault-stopped WriteFault ends before after knows doubted = ends.1
   fault-stopped Memory ends before after knows doubted = ends.1
+  fault-stopped (LoadFault file) ends before after knows doubted = ends.1
+  fault-stopped (LoadDamaged file place) ends before after knows doubted = ends.1
 
 -- so what a fault leaves
 module _ (may : CoreEvent → Bool) (tells : Bool) (shape : Shape) (s t u : Sight) (x y : Settler) (f g : Channel → ℕ) (w v : World) (fault : RunFault) (among : SettlesAmong s t) (ends : EndsOthers may fault t u) where

@@ -6,6 +6,7 @@ use Rattle.host_trait.specs.declared.channels.Channel.{Channel}
 use Rattle.host_trait.specs.World.{World}
 use Rattle.core_model.specs.Laws.{extended}
 use Rattle.core_model.specs.LegalRuns.{Run}
+use Rattle.core_model.specs.Settler.{settler_step}
 use Rattle.core_model.specs.declared.events.CoreEvent.{CoreEvent}
 use Rattle.core_access.specs.Sights.{Sight, run_seen}
 use Rattle.settle_loop.specs.SettlerStep.{TurnsAs}
@@ -30,7 +31,7 @@ pub step-leaves : {H E T : Type 0} (tells : Bool) (world : H → World) (faults 
     → TurnsBeside {T = T} tells (stage_of world faults (run_seen s) before old) (stage_of world faults (run_seen t) after new) answer
 step-leaves tells world faults may shape before after s t old new result turns x same answer is =
     let on = (step-among tells world faults may shape before after s t old new result turns).on in
-    step-beside tells world faults may shape s t (run_seen s) (run_seen t) (events_told on.rest) (run-goes s t on) before after old new answer x is
+    step-beside tells world faults may shape settler_step s t (run_seen s) (run_seen t) (events_told on.rest) (run-goes s t on) before after old new answer x is
     (subst (λ (y : Result Turned _). TurnsAs tells world faults may shape before after s t old new y) same turns)
 
 -- where more was seen behind a fault

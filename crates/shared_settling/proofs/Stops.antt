@@ -25,7 +25,7 @@ use Rattle.settle_loop.specs.SettlerStep.{TurnsAs, PutsNext}
 use Rattle.settle_loop.specs.declared.settler.Settler.{Settler}
 use Rattle.settle_loop.specs.declared.settler.Turned.{Turned}
 use Rattle.settle_loop.specs.declared.settler.Turned.TheVariants.{Stepped, Nothing, Stop}
-use Rattle.settle_loop.specs.declared.settler.StopCause.TheVariants.{InDoubt, WriteFault}
+use Rattle.settle_loop.specs.declared.settler.StopCause.TheVariants.{InDoubt, WriteFault, LoadFault, LoadDamaged}
 use Rattle.run_books.specs.SharedSteps.{SeesOn}
 use Rattle.run_books.proofs.BooksCore.{moves-run, unapplied-run}
 use Rattle.run_books.proofs.BooksShared.{looks-behind}
@@ -119,8 +119,11 @@ module _ {H : Type 0} (tells : Bool) (world : H → World) (faults : H → Chann
   step-knows (Ok Nothing) u = knows-on (ap (λ (x : Settler). x.doubted) u.settler) (sees-look may s t u.looked)
   step-knows (Ok (Stop InDoubt)) u = knows-put u.e u.r u.mid u.put u.looked
   step-knows (Ok (Stop WriteFault)) u = knows-on (ap (λ (x : Settler). x.doubted) u.settler) (sees-look may s t u.looked)
+  step-knows (Ok (Stop (LoadFault file))) u = knows-on (ap (λ (x : Settler). x.doubted) u.0.settler) (sees-look may s t u.0.looked)
+  step-knows (Ok (Stop (LoadDamaged file place))) u = knows-on (ap (λ (x : Settler). x.doubted) u.0.settler) (sees-look may s t u.0.looked)
   step-knows (Err lack) (inl u) = knows-on (ap (λ (x : Settler). x.doubted) u.settler) (sees-look may s t u.looked)
   step-knows (Err lack) (inr (inl u)) = knows-on (ap (λ (x : Settler). x.doubted) u.settler) (sees-look may s t u.looked)
   step-knows (Err lack) (inr (inr (inl u))) =
       knows-on (ap (λ (x : Settler). x.doubted) u.1.settler) (sees-both s u.1.acts.seen t (sees-look may s u.1.acts.seen u.1.acts.looked) (sees-look may u.1.acts.seen t u.1.unput))
-  step-knows (Err lack) (inr (inr (inr u))) = knows-put u.e u.r u.mid u.put u.looked
+  step-knows (Err lack) (inr (inr (inr (inl u)))) = knows-put u.e u.r u.mid u.put u.looked
+  step-knows (Err lack) (inr (inr (inr (inr u)))) = knows-on (ap (λ (x : Settler). x.doubted) u.settler) (sees-look may s t u.looked)

@@ -17,11 +17,11 @@ use Rattle.promise_spec.specs.UnitRule.{Basis, KeepsUnitRule}
 use Rattle.worker_rules.specs.UnitOwnership.{KeepsPromise}
 use Rattle.settle_loop.specs.declared.settler.Settler.{Settler}
 use Rattle.run_books.specs.declared.faults.RunFault.{RunFault}
-use Rattle.run_books.specs.declared.faults.RunFault.TheVariants.{InDoubt, WriteFault, Memory}
+use Rattle.run_books.specs.declared.faults.RunFault.TheVariants.{InDoubt, WriteFault, Memory, LoadFault, LoadDamaged}
 use Rattle.run_books.specs.Beginnings.{Outset, basis_of}
 use Rattle.run_books.specs.RecordFrame.{TurnsBeside}
 use Rattle.run_books.specs.Books.{Books}
-use Rattle.run_books.specs.Records.{KeepsBooks, HasDoubted}
+use Rattle.run_books.specs.Records.{KeepsBooks, HasDoubted, HasFailedToLoad, HasFoundNone}
 use Rattle.run_books.specs.BooksSteps.{AreEven, BooksGoOn}
 use Rattle.run_books.specs.SharedSteps.{SeesOn, CanShare, MayRely}
 use Rattle.run_books.specs.Stages.{Side, Stage, stage_with}
@@ -40,13 +40,15 @@ pub record StopsAmong (may_come : CoreEvent → Bool) (s t : Sight) : Type 0 whe
   pub reply : CoreReply
   pub stop : Tells may_come mid Halt reply t
 
--- A stop is put last, and only where the answer says that the output failed or that memory ran out. None need be put where a stop or
--- a doubt stands already.
+-- A stop is put last, and only where the answer says that the output failed, that a grain's last version wasn't read, or that memory
+-- ran out. None need be put where a stop or a doubt stands already.
 abbrev pub EndsAmong : (CoreEvent → Bool) → Sight → Sight → {T : Type 0} → Result T RunFault → Type 0
 EndsAmong may_come s t (Ok done) = SettlesAmong s t
 EndsAmong may_come s t (Err InDoubt) = SettlesAmong s t
 EndsAmong may_come s t (Err WriteFault) = SettlesAmong s t ⊎ StopsAmong may_come s t
 EndsAmong may_come s t (Err Memory) = SettlesAmong s t ⊎ StopsAmong may_come s t
+EndsAmong may_come s t (Err (LoadFault file)) = SettlesAmong s t ⊎ StopsAmong may_come s t
+EndsAmong may_come s t (Err (LoadDamaged file place)) = SettlesAmong s t ⊎ StopsAmong may_come s t
 
 -- A stop or a doubt stands, so whoever goes on ends by it.
 pub record HasToStop (r : Run) : Type 0 where
@@ -66,6 +68,8 @@ abbrev pub EndsOthers : (CoreEvent → Bool) → RunFault → Sight → Sight �
 EndsOthers may_come InDoubt s t = t ≡ s
 EndsOthers may_come WriteFault s t = MayStop may_come s t × HasToStop (run_seen t)
 EndsOthers may_come Memory s t = MayStop may_come s t × HasToStop (run_seen t)
+EndsOthers may_come (LoadFault file) s t = MayStop may_come s t × HasToStop (run_seen t)
+EndsOthers may_come (LoadDamaged file place) s t = MayStop may_come s t × HasToStop (run_seen t)
 
 -- However it failed, a stop or a doubt stands behind all that was seen: a doubt where one is answered, unless the settler knew of one
 -- before any stood.
@@ -74,6 +78,8 @@ LeavesStopped before s t (Ok done) = ⊤
 LeavesStopped before s t (Err InDoubt) = KnowsTruly before (run_seen s) → is_some (ends (run_seen t)).manager.doubt ≡ true
 LeavesStopped before s t (Err WriteFault) = HasToStop (run_seen t)
 LeavesStopped before s t (Err Memory) = HasToStop (run_seen t)
+LeavesStopped before s t (Err (LoadFault file)) = HasToStop (run_seen t)
+LeavesStopped before s t (Err (LoadDamaged file place)) = HasToStop (run_seen t)
 
 -- What is known where a settler begins among others: it may share the core, no stop stands, and the books are kept and even.
 pub record CanSettleAmong (tells : Bool) (o : Outset) (b : Books) (shape : Shape) (s : Sight) (beside : Side) : Type 0 where
@@ -94,16 +100,18 @@ pub record CanSettleRest (o : Outset) (shape : Shape) (r : Run) : Type 0 where
   pub going : (ends r).units.halt ≡ false
 
 -- what an answer says of the run that is known by now, and of its books
-abbrev pub SaysAmong : Outset → Books → Stage → {T : Type 0} → Result T RunFault → Type 0
-SaysAmong o b s (Ok done) = AreEven s.settler.quiet b (ends s.run) × ((ends s.run).units.halt ≡ false)
-SaysAmong o b s (Err InDoubt) = HasDoubted o s.run s.faults × (b.rest ≡ [])
-SaysAmong o b s (Err WriteFault) = Rose (o.faults Output) (s.faults Output)
-SaysAmong o b s (Err Memory) = b.rest ≡ []
+abbrev pub SaysAmong : Bool → Outset → Books → Stage → {T : Type 0} → Result T RunFault → Type 0
+SaysAmong tells o b s (Ok done) = AreEven s.settler.quiet b (ends s.run) × ((ends s.run).units.halt ≡ false)
+SaysAmong tells o b s (Err InDoubt) = HasDoubted o s.run s.faults × (b.rest ≡ [])
+SaysAmong tells o b s (Err WriteFault) = Rose (o.faults Output) (s.faults Output)
+SaysAmong tells o b s (Err Memory) = b.rest ≡ []
+SaysAmong tells o b s (Err (LoadFault file)) = HasFailedToLoad o s.run s.faults file × (b.rest ≡ [])
+SaysAmong tells o b s (Err (LoadDamaged file place)) = HasFoundNone tells s.run × (b.rest ≡ [])
 
 -- The books go on from one run to a later one, and the answer says so.
 pub record SettledAmong {T : Type 0} (tells : Bool) (o : Outset) (b : Books) (before after : Stage) (result : Result T RunFault) : Type 0 where
   pub goes : BooksGoOn tells o b before after
-  pub says : SaysAmong o goes.books after result
+  pub says : SaysAmong tells o goes.books after result
 
 -- The books of what was seen by now go on to those of what is seen then, once it is known that others put events of lines and units
 -- alone.

@@ -26,6 +26,8 @@ use settle_loop::{Gate, Settler};
 ///
 /// - `InDoubt`: a batch was left in doubt, and all that is settled is written.
 /// - `WriteFault`: the output failed.
+/// - `LoadFault`: a grain's file failed, where its last version was to be read.
+/// - `LoadDamaged`: no version stands where the log names a grain's last one. It doesn't come over a host that tells.
 /// - `Memory`: memory ran out. So is told what hasn't ended by 2 to the 64 less one steps.
 pub fn settle_rest<H: Host, G: Gate>(
     shape: &Shape,

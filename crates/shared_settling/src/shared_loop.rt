@@ -1,9 +1,8 @@
 ghost use Rattle.std.specs.Prelude.{◌≡◌, IfOk};
 ghost use Rattle.host_trait.specs.Files.{StaysReady};
-ghost use Rattle.core_model.specs.Settler.{settler_step};
+ghost use Rattle.core_model.specs.Settler.{settler_step, Rests};
 ghost use Rattle.core_access.specs.FitAccess.{StaysFit};
 ghost use Rattle.core_access.specs.Sights.{run_seen};
-ghost use Rattle.settle_loop.specs.ShownWork.{LeavesUndone};
 ghost use Rattle.settle_loop.specs.SettlerStep.{state_shown};
 ghost use Rattle.run_books.specs.SharedSteps.{SeesOn};
 ghost use Rattle.shared_settling.specs.SharedSettler.{EndsAmong, HasToStop, MayStop, EndsOthers, LeavesStopped, LeavesBeside};
@@ -50,19 +49,24 @@ fn end_others<A: Access>(access: &mut A, signals: &Signals, fault: &RunFault)
         }
         RunFault::WriteFault => stop(access, signals),
         RunFault::Memory => stop(access, signals),
+        RunFault::LoadFault { .. } => stop(access, signals),
+        RunFault::LoadDamaged { .. } => stop(access, signals),
     }
 }
 
 /// Settles what others do, who have the core too, until they have ended their work and nothing is left to do.
 ///
 /// After each step the others are told. Where there is nothing to do it sleeps until a worker waits or ends, but no longer than
-/// `Signals` does: what others finish meanwhile comes into one batch. Where the output fails or memory runs out, here or at a
-/// worker, a stop is put, unless one or a doubt stands already: so however it failed, one of them stands, and the others end by it.
+/// `Signals` does: what others finish meanwhile comes into one batch. Where the output fails, a grain's last version isn't read or memory
+/// runs out, here or at a worker, a stop is put, unless one or a doubt stands already: so however it failed, one of them stands, and the
+/// others end by it.
 ///
 /// # Errors
 ///
 /// - `InDoubt`: a batch was left in doubt, and all that is settled is written.
 /// - `WriteFault`: the output failed.
+/// - `LoadFault`: a grain's file failed, where its last version was to be read.
+/// - `LoadDamaged`: no version stands where the log names a grain's last one. It doesn't come over a host that tells.
 /// - `Memory`: memory ran out, here or at a worker.
 pub fn settle_beside<A: Access, H: Host, G: Gate, R: Wait>(
     rt: &R,
@@ -86,7 +90,7 @@ pub fn settle_beside<A: Access, H: Host, G: Gate, R: Wait>(
     ensures stopped { LeavesStopped settler.old (A.sight access.old) (A.sight access.new) result }
 
     // Where all is well the last that it saw left it nothing to do.
-    ensures rests { IfOk result (λ _. LeavesUndone (settler_step (state_shown (A.sight access.new)))) }
+    ensures rests { IfOk result (λ _. settler_step (state_shown (A.sight access.new)) ≡ Rests) }
 
     // The run's books, once it is known that others put events of lines and units alone, and what it leaves beside them.
     ensures leaves { LeavesBeside H.tells shape.now (side_of H.world H.faults settler.old host.old)

@@ -1,9 +1,8 @@
 ghost use Rattle.std.specs.Prelude.{◌≡◌, true, false, IfOk, IfErr};
 ghost use Rattle.host_trait.specs.Files.{StaysReady};
-ghost use Rattle.core_model.specs.Settler.{settler_step};
+ghost use Rattle.core_model.specs.Settler.{settler_step, Rests};
 ghost use Rattle.core_access.specs.FitAccess.{StaysFit};
 ghost use Rattle.core_access.specs.Sights.{run_seen};
-ghost use Rattle.settle_loop.specs.ShownWork.{LeavesUndone};
 ghost use Rattle.settle_loop.specs.SettlerStep.{state_shown};
 ghost use Rattle.run_books.specs.declared.faults.RunFault.TheVariants.{InDoubt};
 ghost use Rattle.shared_settling.specs.SharedSettler.{SettlesAmong, KnowsTruly, LeavesBeside};
@@ -31,7 +30,7 @@ pub(crate) fn settle_once<A: Access, H: Host, G: Gate>(
     ensures own { SettlesAmong (A.sight access.old) (A.sight access.new) }
     ensures leaves { LeavesBeside H.tells shape.now (side_of H.world H.faults settler.old host.old)
         (side_of H.world H.faults settler.new host.new) result (A.sight access.old) (A.sight access.new) }
-    ensures rests { IfOk result (λ more. more ≡ false → LeavesUndone (settler_step (state_shown (A.sight access.new))) × (settler.new.doubted ≡ false)) }
+    ensures rests { IfOk result (λ more. more ≡ false → (settler_step (state_shown (A.sight access.new)) ≡ Rests) × (settler.new.doubted ≡ false)) }
     ensures knows { KnowsTruly settler.old (run_seen (A.sight access.old)) → KnowsTruly settler.new (run_seen (A.sight access.new)) }
     ensures doubted { IfErr result (λ fault. fault ≡ InDoubt → settler.new.doubted ≡ true) }
     ensures safe { IsSafe H.tells settler.new.writer (H.world host.new) }
@@ -47,5 +46,9 @@ pub(crate) fn settle_once<A: Access, H: Host, G: Gate>(
         }
         Turned::Stop(StopCause::InDoubt) => Err(RunFault::InDoubt),
         Turned::Stop(StopCause::WriteFault) => Err(RunFault::WriteFault),
+        Turned::Stop(StopCause::LoadFault { file }) => Err(RunFault::LoadFault { file }),
+        Turned::Stop(StopCause::LoadDamaged { file, place }) => {
+            Err(RunFault::LoadDamaged { file, place })
+        }
     }
 }

@@ -1,14 +1,12 @@
-use Rattle.std.proofs.Common.{◌∙◌, refl, sym, ap, subst, Bool, true, false, []}
+use Rattle.std.proofs.Common.{◌≡◌, ◌∙◌, sym, ap, subst, Bool, true, false, []}
 use Rattle.std.specs.Prelude.{Ok, Err}
 use Rattle.std.proofs.lemmas.Result.{err_from_is_err_and}
 use Rattle.core_model.specs.LegalRuns.{Run, ends}
-use Rattle.core_model.specs.Settler.{settler_step}
+use Rattle.core_model.specs.Settler.{settler_step, Rests}
 use Rattle.core_access.specs.OneHolder.{own_sight}
 use Rattle.core_access.specs.Sights.{run_seen}
 use Rattle.core_access.proofs.OneHolder.{own-run}
 use Rattle.history_core.specs.Cores.{run_of}
-use Rattle.settle_loop.specs.ShownWork.{LeavesUndone}
-use Rattle.settle_loop.proofs.ShownWork.{rests-without-limit}
 use Rattle.run_books.specs.declared.faults.RunFault.TheVariants.{Memory}
 use Rattle.shared_settling.proofs.LoneSettler.{alone-rule, can-alone, rely-alone, settled-alone, beside-alone}
 use Rattle.shared_settling.proofs.SettlerLoop.{booked-on, beside-on}
@@ -102,8 +100,7 @@ returns-then-not-branch-clause-beside g c =
 
 pub returns-then-not-branch-clause-rests : goal.returns-then-not-branch-clause-rests
 returns-then-not-branch-clause-rests g c =
-    rests-without-limit (run_of c.settle_once.new.access) refl
-    (subst (λ (x : Run). LeavesUndone (settler_step (ends x))) (own-run (run_of c.settle_once.new.access)) (c.in_ok-settle_once.ensures.rests c.if-not-branch.true).0)
+    subst (λ (x : Run). settler_step (ends x) ≡ Rests) (own-run (run_of c.settle_once.new.access)) (c.in_ok-settle_once.ensures.rests c.if-not-branch.true).0
 
 pub returns-clause-own : goal.returns-clause-own
 returns-clause-own g c =

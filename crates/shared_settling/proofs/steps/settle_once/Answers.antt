@@ -3,9 +3,9 @@ use Rattle.std.specs.Prelude.{Ok, Err}
 use Rattle.std.proofs.lemmas.Result.{err_from_is_err_and}
 use Rattle.settle_loop.specs.declared.settler.Turned.TheVariants.{Stepped, Nothing, Stop}
 use Rattle.settle_loop.specs.declared.settler.StopCause.TheVariants as cause
-use Rattle.run_books.specs.declared.faults.RunFault.TheVariants.{InDoubt, WriteFault}
+use Rattle.run_books.specs.declared.faults.RunFault.TheVariants.{InDoubt, WriteFault, LoadFault, LoadDamaged}
 use Rattle.run_books.proofs.BooksShared.{shared-keep}
-use Rattle.shared_settling.proofs.KeptBooks.{on-stepped, on-idle, on-idle-doubt, on-doubt, on-cut, on-lack}
+use Rattle.shared_settling.proofs.KeptBooks.{on-stepped, on-idle, on-idle-doubt, on-doubt, on-cut, on-unread, on-damaged, on-lack}
 use Rattle.shared_settling.proofs.PassSights.{step-among, step-promise}
 use Rattle.shared_settling.proofs.StepsBeside.{step-leaves}
 use Rattle.shared_settling.proofs.Stops.{step-knows}
@@ -103,3 +103,35 @@ returns-in-Stop-WriteFault-clause-leaves g c = record {
 
 pub returns-in-Stop-WriteFault-clause-knows : goal.returns-in-Stop-WriteFault-clause-knows
 returns-in-Stop-WriteFault-clause-knows g c = λ truly. step-knows g.H.Host.tells g.H.Host.world g.H.Host.faults g.A.Access.may_come c.args.shape.now c.args.settler.now c.step.new.self (g.A.Access.sight c.args.access.now) (g.A.Access.sight c.step.new.access) c.args.host.now c.step.new.host truly c.step.result c.step.ensures.turns
+
+pub returns-in-Stop-LoadFault-clause-own : goal.returns-in-Stop-LoadFault-clause-own
+returns-in-Stop-LoadFault-clause-own g c = step-among g.H.Host.tells g.H.Host.world g.H.Host.faults g.A.Access.may_come c.args.shape.now c.args.settler.now c.step.new.self (g.A.Access.sight c.args.access.now) (g.A.Access.sight c.step.new.access) c.args.host.now c.step.new.host c.step.result c.step.ensures.turns
+
+pub returns-in-Stop-LoadFault-clause-leaves : goal.returns-in-Stop-LoadFault-clause-leaves
+returns-in-Stop-LoadFault-clause-leaves g c = record {
+  promise = λ basis. step-promise g.H.Host.tells g.H.Host.world g.H.Host.faults g.A.Access.may_come c.args.shape.now c.args.settler.now c.step.new.self (g.A.Access.sight c.args.access.now) (g.A.Access.sight c.step.new.access) c.args.host.now c.step.new.host c.step.result c.step.ensures.turns basis;
+  books = λ o b can rely.
+      on-unread g.H.Host.tells g.H.Host.world g.H.Host.faults (shared-keep _ _ g.H.Host.tells g.H.Host.world g.H.Host.faults) g.A.Access.may_come c.args.shape.now (g.A.Access.sight c.args.access.now) (g.A.Access.sight c.step.new.access) c.args.settler.now c.step.new.self c.args.host.now c.step.new.host
+      c.step.result c.step.ensures.turns o b can rely Bool c.in-Stop-LoadFault.file (c.in_ok-step.was ∙ ap Ok (c.in-Stop-LoadFault.is ∙ ap Stop c.in-Stop-LoadFault.field-0-is));
+  beside = step-leaves {T = Bool} g.H.Host.tells g.H.Host.world g.H.Host.faults g.A.Access.may_come c.args.shape.now c.args.settler.now c.step.new.self (g.A.Access.sight c.args.access.now) (g.A.Access.sight c.step.new.access) c.args.host.now c.step.new.host c.step.result c.step.ensures.turns
+      (Ok (Stop (cause.LoadFault c.in-Stop-LoadFault.file))) (c.in_ok-step.was ∙ ap Ok (c.in-Stop-LoadFault.is ∙ ap Stop c.in-Stop-LoadFault.field-0-is)) (Err (LoadFault c.in-Stop-LoadFault.file)) refl;
+}
+
+pub returns-in-Stop-LoadFault-clause-knows : goal.returns-in-Stop-LoadFault-clause-knows
+returns-in-Stop-LoadFault-clause-knows g c = λ truly. step-knows g.H.Host.tells g.H.Host.world g.H.Host.faults g.A.Access.may_come c.args.shape.now c.args.settler.now c.step.new.self (g.A.Access.sight c.args.access.now) (g.A.Access.sight c.step.new.access) c.args.host.now c.step.new.host truly c.step.result c.step.ensures.turns
+
+pub returns-in-Stop-LoadDamaged-clause-own : goal.returns-in-Stop-LoadDamaged-clause-own
+returns-in-Stop-LoadDamaged-clause-own g c = step-among g.H.Host.tells g.H.Host.world g.H.Host.faults g.A.Access.may_come c.args.shape.now c.args.settler.now c.step.new.self (g.A.Access.sight c.args.access.now) (g.A.Access.sight c.step.new.access) c.args.host.now c.step.new.host c.step.result c.step.ensures.turns
+
+pub returns-in-Stop-LoadDamaged-clause-leaves : goal.returns-in-Stop-LoadDamaged-clause-leaves
+returns-in-Stop-LoadDamaged-clause-leaves g c = record {
+  promise = λ basis. step-promise g.H.Host.tells g.H.Host.world g.H.Host.faults g.A.Access.may_come c.args.shape.now c.args.settler.now c.step.new.self (g.A.Access.sight c.args.access.now) (g.A.Access.sight c.step.new.access) c.args.host.now c.step.new.host c.step.result c.step.ensures.turns basis;
+  books = λ o b can rely.
+      on-damaged g.H.Host.tells g.H.Host.world g.H.Host.faults (shared-keep _ _ g.H.Host.tells g.H.Host.world g.H.Host.faults) g.A.Access.may_come c.args.shape.now (g.A.Access.sight c.args.access.now) (g.A.Access.sight c.step.new.access) c.args.settler.now c.step.new.self c.args.host.now c.step.new.host
+      c.step.result c.step.ensures.turns o b can rely Bool c.in-Stop-LoadDamaged.file c.in-Stop-LoadDamaged.place (c.in_ok-step.was ∙ ap Ok (c.in-Stop-LoadDamaged.is ∙ ap Stop c.in-Stop-LoadDamaged.field-0-is));
+  beside = step-leaves {T = Bool} g.H.Host.tells g.H.Host.world g.H.Host.faults g.A.Access.may_come c.args.shape.now c.args.settler.now c.step.new.self (g.A.Access.sight c.args.access.now) (g.A.Access.sight c.step.new.access) c.args.host.now c.step.new.host c.step.result c.step.ensures.turns
+      (Ok (Stop (cause.LoadDamaged c.in-Stop-LoadDamaged.file c.in-Stop-LoadDamaged.place))) (c.in_ok-step.was ∙ ap Ok (c.in-Stop-LoadDamaged.is ∙ ap Stop c.in-Stop-LoadDamaged.field-0-is)) (Err (LoadDamaged c.in-Stop-LoadDamaged.file c.in-Stop-LoadDamaged.place)) refl;
+}
+
+pub returns-in-Stop-LoadDamaged-clause-knows : goal.returns-in-Stop-LoadDamaged-clause-knows
+returns-in-Stop-LoadDamaged-clause-knows g c = λ truly. step-knows g.H.Host.tells g.H.Host.world g.H.Host.faults g.A.Access.may_come c.args.shape.now c.args.settler.now c.step.new.self (g.A.Access.sight c.args.access.now) (g.A.Access.sight c.step.new.access) c.args.host.now c.step.new.host truly c.step.result c.step.ensures.turns

@@ -1,4 +1,4 @@
-use Rattle.std.proofs.Common.{inl, inr, refl, sym, subst}
+use Rattle.std.proofs.Common.{refl, sym, subst}
 use Rattle.core_model.specs.Settler.{settler_step}
 use Rattle.batch_disk.specs.Writers.{FitsDisk}
 use Rattle.core_model.specs.declared.questions.SettlerWork.{SettlerWork}
@@ -34,10 +34,16 @@ returns-in-Take-clause-made g c = λ w shown.
     take_made g.H.Host.tells g.H.Host.world g.H.Host.faults c.args.shape.now w a a h h refl refl refl (subst (λ (x : SettlerWork). ShowsWork w (settler_step w) x) c.in-Take.is shown)
 
 pub returns-in-Nothing-clause-made : goal.returns-in-Nothing-clause-made
-returns-in-Nothing-clause-made g c = λ w shown. (inl (subst (λ (x : SettlerWork). ShowsWork w (settler_step w) x) c.in-Nothing.is shown), (refl, refl))
+returns-in-Nothing-clause-made g c = λ w shown. (subst (λ (x : SettlerWork). ShowsWork w (settler_step w) x) c.in-Nothing.is shown, (refl, refl))
 
 pub returns-in-Load-clause-made : goal.returns-in-Load-clause-made
-returns-in-Load-clause-made g c = λ w shown. (inr (c.in-Load.grain, subst (λ (x : SettlerWork). ShowsWork w (settler_step w) x) c.in-Load.is shown), (refl, refl))
+returns-in-Load-clause-made g c = λ w shown. c.bring_in.ensures.made w (settler_step w) (subst (λ (x : SettlerWork). ShowsWork w (settler_step w) x) c.in-Load.is shown)
+
+pub returns-in-Load-clause-safe : goal.returns-in-Load-clause-safe
+returns-in-Load-clause-safe g c = record {
+  bounds = c.requires.safe.bounds;
+  fits = λ told. subst (FitsDisk c.args.self.now.writer) (sym (c.bring_in.ensures.asked told).disk) (c.requires.safe.fits told);
+}
 
 pub returns-in-Write-clause-safe : goal.returns-in-Write-clause-safe
 returns-in-Write-clause-safe g c = record {

@@ -3,6 +3,7 @@ use Rattle.core_model.specs.declared.events.CoreEvent.TheVariants as event
 use Rattle.settle_loop.specs.ShownWork.{event_of}
 use Rattle.settle_loop.specs.HostSteps.{SealsUnits}
 use Rattle.settle_loop.specs.declared.settler.Settler.{Settler}
+use Rattle.core_model.specs.Settler.{settler_step}
 use Rattle.settle_loop.proofs.HostAnswers.{seal_made, doubt_made, none_made}
 use Rattle.settle_loop.proofs.settler.Settler.seal.Goals as goal
 
@@ -16,7 +17,7 @@ pub returns-in_err-made-clause-made : goal.returns-in_err-made-clause-made
 returns-in_err-made-clause-made g c = λ shape w shown.
     let a = c.args.self.now in
     let h = c.args.host.now in
-    none_made g.H.Host.tells g.H.Host.world g.H.Host.faults shape w a a h h c.from_residual.result c.from_residual.ensures.0 (inl (refl, refl))
+    none_made g.H.Host.tells g.H.Host.world g.H.Host.faults shape w (settler_step w) a a h h c.from_residual.result c.from_residual.ensures.0 (inl (refl, refl))
 
 pub returns-in-Sealed-clause-made : goal.returns-in-Sealed-clause-made
 returns-in-Sealed-clause-made g c = λ shape w shown.

@@ -1,5 +1,6 @@
-use Rattle.std.proofs.Common.{inr, refl}
+use Rattle.std.proofs.Common.{inl, inr, refl}
 use Rattle.settle_loop.specs.declared.settler.Settler.{Settler}
+use Rattle.core_model.specs.Settler.{settler_step}
 use Rattle.settle_loop.proofs.HostAnswers.{vote_made, vote_lacks, none_made}
 use Rattle.settle_loop.proofs.settler.Settler.vote.Goals as goal
 
@@ -15,5 +16,5 @@ returns-in_err-kept-clause-made g c = λ shape w shown.
     let b : Settler = record { alloc = a.alloc; writer = c.write_work.new.self; quiet = a.quiet; written = a.written; doubted = a.doubted } in
     let h = c.args.host.now in
     let h' = c.write_work.new.host in
-    none_made g.H.Host.tells g.H.Host.world g.H.Host.faults shape w a b h h' c.from_residual.result c.from_residual.ensures.0
-    (inr (vote_lacks g.H.Host.tells g.H.Host.world g.H.Host.faults shape w a b h h' refl c.args.batch c.args.grain c.args.versions shown c.in_err-kept.ensures.lacked))
+    none_made g.H.Host.tells g.H.Host.world g.H.Host.faults shape w (settler_step w) a b h h' c.from_residual.result c.from_residual.ensures.0
+    (inr (inl (vote_lacks g.H.Host.tells g.H.Host.world g.H.Host.faults shape w a b h h' refl c.args.batch c.args.grain c.args.versions shown c.in_err-kept.ensures.lacked)))

@@ -2,6 +2,7 @@ use Rattle.std.proofs.Common.{inl, ℕ, List, Bool, refl, sym, ap, subst, ◌∙
 use Rattle.std.specs.Prelude.{is_ok}
 use Rattle.host_trait.specs.World.{IsEmitted}
 use Rattle.settle_loop.specs.HostSteps.{HasLine}
+use Rattle.core_model.specs.Settler.{settler_step}
 use Rattle.settle_loop.proofs.HostAnswers.{write_made, none_made}
 use Rattle.settle_loop.proofs.settler.Settler.write.Goals as goal
 
@@ -22,7 +23,7 @@ pub returns-in_err-text-clause-made : goal.returns-in_err-text-clause-made
 returns-in_err-text-clause-made g c = λ w shown.
     let a = c.args.self.now in
     let h = c.args.host.now in
-    none_made g.H.Host.tells g.H.Host.world g.H.Host.faults c.args.shape.now w a a h h c.from_residual.result c.from_residual.ensures.0 (inl (refl, refl))
+    none_made g.H.Host.tells g.H.Host.world g.H.Host.faults c.args.shape.now w (settler_step w) a a h h c.from_residual.result c.from_residual.ensures.0 (inl (refl, refl))
 
 pub returns-in-Ok-clause-made : goal.returns-in-Ok-clause-made
 returns-in-Ok-clause-made g c = λ w shown.
