@@ -6,6 +6,7 @@ ghost use Rattle.agent_tests.specs.BenchState.{IsCarrying};
 use crate::event_texts::Told;
 use crate::told_core::ToldCore;
 use base_types::{BadRequest, Call, Store, UnitNo};
+use cell_table::OpeningStates;
 use core_access::Access;
 use core_model::{CoreAnswer, CoreEvent, CoreQuestion, SettlerWork};
 use history_core::{Core, Opening};
@@ -32,8 +33,10 @@ impl Bench {
     {
         let opened = Opening {
             shape: checked.shape()?,
-            store: Store::new(alloc),
+            opened: OpeningStates::Stored(Store::new(alloc)),
             next_unit: UnitNo(1),
+            recent: None,
+            keeps_last: false,
         };
         Ok(Bench {
             core: ToldCore {

@@ -1,6 +1,6 @@
 // What another who shares the core does, as words say it: an event, and before which look or event of the worker it comes.
 use crate::texts::kind_named;
-use base_types::{Call, GrainId, List, Mode, Origin, UnitNo};
+use base_types::{Call, GrainId, List, Mode, Origin, State, UnitNo, Value};
 use core_model::CoreEvent;
 use std::alloc::{AllocError, Global};
 
@@ -24,6 +24,15 @@ pub enum Deed {
         grain: GrainId,
     },
     Learn {
+        unit: UnitNo,
+        grain: GrainId,
+    },
+    Want {
+        unit: UnitNo,
+        grain: GrainId,
+    },
+    /// The grain comes into memory, with the number 0 and that unit as its source.
+    Load {
         unit: UnitNo,
         grain: GrainId,
     },
@@ -82,6 +91,8 @@ fn deed_at_grain(what: &str, behind: &str) -> Option<Deed> {
         "refuse" => Some(Deed::Refuse { unit, grain }),
         "free" => Some(Deed::Release { unit, grain }),
         "learn" => Some(Deed::Learn { unit, grain }),
+        "want" => Some(Deed::Want { unit, grain }),
+        "load" => Some(Deed::Load { unit, grain }),
         _ => None,
     }
 }
@@ -131,10 +142,17 @@ fn call_of(alloc: Global) -> Call {
     }
 }
 
+// The state of a grain of one field, with the number 0.
+fn zero_state(alloc: Global) -> Result<State, AllocError> {
+    let mut state = State::new(alloc);
+    state.push(Value::Int(0))?;
+    Ok(state)
+}
+
 /// The event.
-pub fn event_of(alloc: Global, deed: Deed) -> CoreEvent {
+pub fn event_of(alloc: Global, deed: Deed) -> Result<CoreEvent, AllocError> {
     let batch = FIRST_BATCH;
-    match deed {
+    let event = match deed {
         Deed::Begin { line } => CoreEvent::Begin {
             origin: Origin::Line(line),
             call: call_of(alloc),
@@ -148,6 +166,12 @@ pub fn event_of(alloc: Global, deed: Deed) -> CoreEvent {
         },
         Deed::Release { unit, grain } => CoreEvent::Release { unit, grain },
         Deed::Learn { unit, grain } => CoreEvent::Learn { unit, grain },
+        Deed::Want { unit, grain } => CoreEvent::Want { unit, grain },
+        Deed::Load { unit, grain } => CoreEvent::Load {
+            grain,
+            unit,
+            state: zero_state(alloc)?,
+        },
         Deed::Take => CoreEvent::Take,
         Deed::Vote { grain } => CoreEvent::Vote {
             batch,
@@ -159,5 +183,6 @@ pub fn event_of(alloc: Global, deed: Deed) -> CoreEvent {
         Deed::Lose => CoreEvent::NotSealed { batch },
         Deed::Doubt => CoreEvent::Doubt { batch },
         Deed::Halt => CoreEvent::Halt,
-    }
+    };
+    Ok(event)
 }

@@ -13,7 +13,8 @@
 //! A line that begins with `race` is played over a new core that a worker shares with another: the worker carries its requests by
 //! `carry_lines`, and before its N-th event comes what `N<DEED` says of the other, before its N-th look what `N?DEED` says. So an
 //! event may be answered otherwise than the look before it had shown. Deeds are `begin:LINE`; `read`, `update`, `refuse`, `free` or `learn`
-//! with `:UNIT:GRAIN`; `take`, `vote:GRAIN`, `decide`, `seal`, `lose`, `doubt`; and `halt`.
+//! with `:UNIT:GRAIN`; `want:UNIT:GRAIN`, and `load:UNIT:GRAIN` with that unit as the source; `take`, `vote:GRAIN`, `decide`, `seal`,
+//! `lose`, `doubt`; and `halt`. The word `memory:N` gives that core memory for N grains; else it has it for all.
 #![tactic(auto)]
 
 mod bench;

@@ -1,12 +1,15 @@
 // Rows of races: a worker carries lines while another puts events of its own between its calls.
 ghost use Rattle.std.specs.Prelude.{◌≡◌, [], IfOk, ◌<◌};
+ghost use Rattle.cell_table.specs.Table.{used_of};
 ghost use Rattle.history_core.specs.Cores.{run_of};
 ghost use Rattle.turn_cell.specs.Passes.{IsPassOf, pass_view};
 
 use crate::deeds::{Planned, planned_by};
 use crate::event_texts::Told;
 use crate::shared_core::SharedCore;
+use activations::Recent;
 use base_types::{Store, UnitNo};
+use cell_table::OpeningStates;
 use core_model::{CoreAnswer, CoreQuestion};
 use history_core::{Core, Opening};
 use run_lines::InputLines;
@@ -14,6 +17,7 @@ use script_check::Checked;
 use settle_loop::{Gate, GatePlace};
 use std::alloc::{AllocError, Global};
 use std::marker::PhantomData;
+use std::num::NonZeroUsize;
 use std::sync::Wait;
 use turn_cell::{Pass, TurnCell, TurnObject};
 use unit_crew::carry_lines;
@@ -30,23 +34,34 @@ impl Gate for Unwatched {
     fn reach(&self, _place: GatePlace) {}
 }
 
-/// What a row of a race says: the lines of the worker, and what another does between its looks and its events.
+/// What a row of a race says: the lines of the worker, what another does between its looks and its events, and of how many grains
+/// the core keeps the cells in memory; of all where that isn't said.
 #[derive(Drop)]
 struct Race {
     input: String,
     plan: Vec<Planned>,
+    memory: Option<NonZeroUsize>,
 }
 
-// What the words of a row say. A word that is neither a request nor a plan is left out.
+// The number of grains that a word gives the core memory for, as `memory:2`.
+fn memory_of(word: &str) -> Option<NonZeroUsize> {
+    let count = word.strip_prefix("memory:")?;
+    NonZeroUsize::new(count.parse::<usize>().ok()?)
+}
+
+// What the words of a row say. A word that says nothing is left out.
 fn race_of(alloc: Global, words: &str) -> Result<Race, AllocError> {
     let mut race = Race {
         input: String::new(alloc),
         plan: Vec::new(alloc),
+        memory: None,
     };
     for word in words.split(' ') {
         if word.starts_with("{") {
             race.input.push_str(word)?;
             race.input.push_str("\n")?;
+        } else if let Some(count) = memory_of(word) {
+            race.memory = Some(count);
         } else if let Some(planned) = planned_by(word) {
             race.plan.push(planned)?;
         }
@@ -78,14 +93,32 @@ fn add_times(out: &mut String, line: &str, times: u32) -> Result<(), AllocError>
     }
 }
 
-// A core without units, whose grains all have the fields of their types.
-fn new_core(alloc: Global, checked: &Checked) -> Result<Core, AllocError>
+// None of the grains used last yet, of which so many stay in memory.
+fn unused(alloc: Global, memory: Option<NonZeroUsize>) -> Result<Option<Recent>, AllocError>
+    ensures { IfOk result (λ made. used_of made ≡ []) }
+{
+    let Some(limit) = memory else {
+        return Ok(None);
+    };
+    let recent = Recent::new(alloc, limit)?;
+    Ok(Some(recent))
+}
+
+// A core without units, whose grains all have the fields of their types, with memory for so many.
+fn new_core(
+    alloc: Global,
+    checked: &Checked,
+    memory: Option<NonZeroUsize>,
+) -> Result<Core, AllocError>
     ensures { IfOk result (λ core. 0 < (run_of core).base) }
 {
+    let recent = unused(alloc, memory)?;
     let opened = Opening {
         shape: checked.shape()?,
-        store: Store::new(alloc),
+        opened: OpeningStates::Stored(Store::new(alloc)),
         next_unit: UnitNo(1),
+        recent,
+        keeps_last: false,
     };
     Ok(Core::new(alloc, opened))
 }
@@ -162,7 +195,7 @@ pub fn play_race<R: Wait>(
 ) -> Result<String, AllocError> {
     let _named: PhantomData<(CoreQuestion, CoreAnswer)> = PhantomData;
     let race = race_of(alloc, words)?;
-    let core = new_core(alloc, checked)?;
+    let core = new_core(alloc, checked, race.memory)?;
     match TurnCell::new(alloc, core) {
         Ok((cell, pass)) => {
             let (pass, other) = cell.split(pass);

@@ -37,8 +37,11 @@ impl<'a, R: Wait> SharedCore<'a, R> {
         ensures other { IsPassOf self.new.cell.now self.new.other }
     {
         let _named: PhantomData<(CoreQuestion, CoreAnswer)> = PhantomData;
-        let event = event_of(self.alloc, deed);
         self.told.tell("another: ");
+        let Ok(event) = event_of(self.alloc, deed) else {
+            self.told.tell("no memory\n");
+            return;
+        };
         self.told.tell_event(&event);
         match self.cell.put(self.rt, &mut self.other, event) {
             Ok(reply) => self.told.tell_reply(&reply),

@@ -176,9 +176,16 @@ pub fn add_event(out: &mut String, event: &CoreEvent) -> Result<(), AllocError> 
         }
         CoreEvent::Refuse { unit, grain, .. } => add_lock(out, *unit, "dies at", *grain),
         CoreEvent::Release { unit, grain } => add_lock(out, *unit, "frees", *grain),
+        CoreEvent::Want { unit, grain } => add_lock(out, *unit, "wants", *grain),
         CoreEvent::Finish { effect, .. } => add_end(out, "finishes", effect),
         CoreEvent::EndPlain { effect, .. } => add_end(out, "ends", effect),
         CoreEvent::Bad { line, why: _why } => write!(out, "line {line} is bad"),
+        CoreEvent::Load { grain, unit, state } => {
+            out.push_str("loads ")?;
+            add_state(out, *grain, state)?;
+            let unit = unit.0;
+            write!(out, " of {unit}")
+        }
         _ => add_settling(out, event),
     }
 }

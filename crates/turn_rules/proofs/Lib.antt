@@ -11,6 +11,8 @@ pub mod AgentLinks
 pub mod OthersEvents
 pub mod Picks
 pub mod Settlers
-pub mod PlainTurns
+pub mod WantedHere
+pub mod TurnChoices
+pub mod Passes
 pub mod WithinWindows
 pub mod Turns

@@ -16,11 +16,12 @@ use Rattle.script_tree.specs.Programs.{ProgramTree}
 use Rattle.promise_spec.specs.Cores.{AppliesAt, applied_from}
 use Rattle.promise_spec.specs.UnitAnswers.{Got, got_from, got_in, got_by}
 use Rattle.promise_spec.specs.Windows.{window_lines}
-use Rattle.promise_spec.specs.TurnRule.{Mover, OfLine, OfWant, OfLoad, OfUnit, OfSettler, IsTurnOf, KeepsTurnRule, at_seam, is_nobody, can_move, units_from, in_flight, line_can_begin, movers, mover_of, takes_pick, picked}
-use Rattle.turn_rules.specs.NextEvent.{with_event, IsNext, movers_in, next_pick, line_has_place, wish_in}
+use Rattle.promise_spec.specs.TurnRule.{Mover, OfLine, OfWant, OfLoad, OfUnit, OfSettler, IsTurn, IsTurnOf, KeepsTurnRule, and_wish, at_seam, can_move, grain_due, in_flight, is_nobody, line_can_begin, lock_asked, movers, mover_of, next_wish, picked, takes_pick, units_from, units_of}
+use Rattle.turn_rules.specs.NextEvent.{with_event, IsNext, NobodyGoes, movers_in, next_pick, line_has_place, wish_in}
 use Rattle.turn_rules.specs.Windows.{InWindow}
 use Rattle.turn_rules.proofs.Growth.{ends-more, got-event}
-use Rattle.turn_rules.proofs.PlainTurns.{IsPlainTurn, by-plain, is-plain}
+use Rattle.turn_rules.proofs.TurnChoices.{none-due, other-turn}
+use Rattle.turn_rules.proofs.Passes.{passed-still}
 
 -- ---- how many lines have begun
 
@@ -88,6 +89,23 @@ movers-still types r e a = (λ i. movers types r (same i) (got i))
     got : got_in (with_event r e) ≡ got_in r
     got = (λ i u. got_same u i)
 
+-- and so nobody goes where nobody went
+goes-still : (types : ProgramTree) (r : Run) (e : CoreEvent) → applies (ends r) e ≡ false → NobodyGoes types r → NobodyGoes types (with_event r e)
+goes-still types r e a n = (
+  movers-still types r e a ∙ n.0,
+  (λ i. next_wish (same i) (units_of r (same i)) (lock_asked types (same i) (got i)) (passed-still r e a i)) ∙ n.1,
+  ap grain_due same ∙ n.2,
+)
+  where
+    same : ends (with_event r e) ≡ ends r
+    same = ends-more r e ∙ no-change (ends r) e a
+
+    got_same : (u : UnitNo) → got_in (with_event r e) u ≡ got_in r u
+    got_same u = got-event r e u ∙ ap (λ (l : List Got). got_in r u ++ l) (cond-false (applies (ends r) e) (got_by (ends r) u e) [] a) ∙ append-nil (got_in r u)
+
+    got : got_in (with_event r e) ≡ got_in r
+    got = (λ i u. got_same u i)
+
 -- ---- tests
 
 -- a mover that is picked is there
@@ -99,6 +117,10 @@ empty-nobody : (ms : List Mover) → ms ≡ [] → is_nobody ms ≡ true
 empty-nobody [] e = refl
 empty-nobody (m ∷ ms) e = absurd cc
 
+-- nobody goes where nobody can move or wants a grain
+nobody-goes : (types : ProgramTree) (r : Run) → NobodyGoes types r → is_nobody (and_wish (wish_in types r) (movers_in types r)) ≡ true
+nobody-goes types r n = ap (λ (o : Option UnitNo). is_nobody (and_wish o (movers_in types r))) n.1 ∙ empty-nobody (movers_in types r) n.0
+
 or-right : (a b : Bool) → b ≡ true → (a || b) ≡ true
 or-right true b e = refl
 or-right false b e = e
@@ -107,23 +129,24 @@ and-true : (b : Bool) → (b && true) ≡ b
 and-true true = refl
 and-true false = refl
 
--- where a line is left, no window ends here or nobody can move
+-- where a line is left, no window ends here, or nobody can move or wants a grain
 opens : (types : ProgramTree) (windowed : Bool) (lines : ℕ) (r : Run) → InWindow types windowed lines r → (ends r).units.lines < lines
-    → (not (at_seam windowed (ends r).units.lines) || is_nobody (movers_in types r)) ≡ true
+    → (not (at_seam windowed (ends r).units.lines) || is_nobody (and_wish (wish_in types r) (movers_in types r))) ≡ true
 opens types windowed lines r w less = elim (cases_lt w.start (ends r).units.lines) [
-  | inl later ↦ ap (λ (b : Bool). not b || is_nobody (movers_in types r)) (w.inner (ends r).units.lines later less)
+  | inl later ↦ ap (λ (b : Bool). not b || is_nobody (and_wish (wish_in types r) (movers_in types r))) (w.inner (ends r).units.lines later less)
   | inr not_later ↦
       let from = w.from in
       let same : (ends r).units.lines ≡ w.start = omega (arith, from, not_later) in
       elim (cases_Bool (at_seam windowed w.start)) [
-        | inl seam ↦ or-right (not (at_seam windowed (ends r).units.lines)) (is_nobody (movers_in types r)) (empty-nobody (movers_in types r) (w.first seam same (omega (arith, same, less))))
-        | inr inner ↦ ap (λ (b : Bool). not b || is_nobody (movers_in types r)) (ap (at_seam windowed) same ∙ inner)
+        | inl seam ↦ or-right (not (at_seam windowed (ends r).units.lines)) (is_nobody (and_wish (wish_in types r) (movers_in types r)))
+            (nobody-goes types r (w.first seam same (omega (arith, same, less))))
+        | inr inner ↦ ap (λ (b : Bool). not b || is_nobody (and_wish (wish_in types r) (movers_in types r))) (ap (at_seam windowed) same ∙ inner)
       ]
 ]
 
 -- within a window a line can begin where it has a place
 pub tests : (types : ProgramTree) (windowed : Bool) (width lines : ℕ) (r : Run) → InWindow types windowed lines r
-    → line_can_begin windowed width lines r (ends r) (movers_in types r) ≡ line_has_place width lines r
+    → line_can_begin windowed width lines r (ends r) (and_wish (wish_in types r) (movers_in types r)) ≡ line_has_place width lines r
 tests types windowed width lines r w =
     ap (λ (b : Bool). is_none (ends r).manager.doubt && (nat_lt (in_flight r (ends r)) width && b))
     (elim (cases_Bool (nat_lt (ends r).units.lines lines)) [
@@ -140,47 +163,55 @@ nobody-tests windowed width lines r ms none =
 
 -- ---- turns
 
--- each turn stays within it, where every grain is in memory
-pub stays : (types : ProgramTree) (windowed : Bool) (lines width : ℕ) (picks : List ℕ) (r : Run) (e : CoreEvent) → r.capacity ≡ None → InWindow types windowed lines r → IsNext types windowed lines width picks r e
+-- each turn stays within it
+pub stays : (types : ProgramTree) (windowed : Bool) (lines width : ℕ) (picks : List ℕ) (r : Run) (e : CoreEvent) → InWindow types windowed lines r → IsNext types windowed lines width picks r e
     → InWindow types windowed lines (with_event r e)
-stays types windowed lines width picks r e limit w next = elim (cases_Bool (applies (ends r) e)) [
-  | inl a ↦ by (mover_of e) (lines-next r e a) (is-plain types windowed lines width r limit (next_pick picks r) e (next a))
+stays types windowed lines width picks r e w next = elim (cases_Bool (applies (ends r) e)) [
+  | inl a ↦ by (mover_of e) refl (lines-next r e a) (next a)
   | inr fails ↦
-      let same : (ends (with_event r e)).units.lines ≡ (ends r).units.lines = ap (λ (x : CoreState). x.units.lines) (ends-more r e ∙ no-change (ends r) e fails) in
+      let same : ends (with_event r e) ≡ ends r = ends-more r e ∙ no-change (ends r) e fails in
+      let count : (ends (with_event r e)).units.lines ≡ (ends r).units.lines = ap (λ (x : CoreState). x.units.lines) same in
       let from = w.from in
       record {
         start = w.start;
-        from = omega (arith, same, from);
+        from = omega (arith, count, from);
         inner = w.inner;
-        first = λ seam q less. movers-still types r e fails ∙ w.first seam (sym same ∙ q) less;
+        first = λ seam q less. goes-still types r e fails (w.first seam (sym count ∙ q) less);
       }
 ]
   where
     -- by a move that no line makes
-    moved : (m : Mover) → (ends (with_event r e)).units.lines ≡ (ends r).units.lines + 0 → picked (movers_in types r) (next_pick picks r) ≡ Some m → InWindow types windowed lines (with_event r e)
-    moved m count pick =
+    moved : (m : Mover) → (m ≡ OfLine → ⊥) → mover_of e ≡ m → (ends (with_event r e)).units.lines ≡ (ends r).units.lines + 0 → IsTurnOf windowed lines width r (ends r) (wish_in types r) (movers_in types r) (next_pick picks r) e
+        → InWindow types windowed lines (with_event r e)
+    moved m other is count turn =
         let from = w.from in
         record {
           start = w.start;
           from = omega (arith, count, from);
           inner = w.inner;
-          first = λ seam q less. absurd (none-picked (movers_in types r) (next_pick picks r) m pick (w.first seam (omega (arith, count, q)) less));
+          first = λ seam q less. absurd (
+              let none = w.first seam (omega (arith, count, q)) less in
+              elim (other-turn types windowed lines width r (next_pick picks r) e m other turn is) [
+                | inl due ↦ due none.2
+                | inr rest ↦ elim rest [ inl wish ↦ wish none.1 | inr pick ↦ none-picked (movers_in types r) (next_pick picks r) m pick none.0 ]
+              ]);
         }
 
-    by : (m : Mover) → (ends (with_event r e)).units.lines ≡ (ends r).units.lines + lines_by m
-        → IsPlainTurn (line_can_begin windowed width lines r (ends r) (movers_in types r)) (picked (movers_in types r) (next_pick picks r)) (ends r) e m → InWindow types windowed lines (with_event r e)
-    by OfLine count turn =
+    by : (m : Mover) → mover_of e ≡ m → (ends (with_event r e)).units.lines ≡ (ends r).units.lines + lines_by (mover_of e)
+        → IsTurnOf windowed lines width r (ends r) (wish_in types r) (movers_in types r) (next_pick picks r) e → InWindow types windowed lines (with_event r e)
+    by OfLine is count turn =
         (let from = w.from in
+        let one : (ends (with_event r e)).units.lines ≡ (ends r).units.lines + 1 = count ∙ ap (λ (m : Mover). (ends r).units.lines + lines_by m) is in
         record {
           start = w.start;
-          from = omega (arith, count, from);
+          from = omega (arith, one, from);
           inner = w.inner;
-          first = λ seam q less. absurd (omega (arith, count, from, q));
+          first = λ seam q less. absurd (omega (arith, one, from, q));
         })
-    by (OfUnit u) count turn = moved (OfUnit u) count turn.1
-    by OfSettler count turn = moved OfSettler count turn.1
-    by (OfWant u) count turn = absurd turn
-    by OfLoad count turn = absurd turn
+    by (OfUnit u) is count turn = moved (OfUnit u) (λ q. absurd cc) is (count ∙ ap (λ (m : Mover). (ends r).units.lines + lines_by m) is) turn
+    by OfSettler is count turn = moved OfSettler (λ q. absurd cc) is (count ∙ ap (λ (m : Mover). (ends r).units.lines + lines_by m) is) turn
+    by (OfWant u) is count turn = moved (OfWant u) (λ q. absurd cc) is (count ∙ ap (λ (m : Mover). (ends r).units.lines + lines_by m) is) turn
+    by OfLoad is count turn = moved OfLoad (λ q. absurd cc) is (count ∙ ap (λ (m : Mover). (ends r).units.lines + lines_by m) is) turn
 
 -- ---- where a window begins
 
@@ -195,8 +226,8 @@ inside s n z low high = elim (cases_Bool (eqb (n % 4096) 0)) [
   | inl holds ↦ absurd (let q : n % 4096 ≡ 0 = eqb-true _ _ holds in omega (arith, q, z, low, high))
 ]
 
--- where a window ended and nobody can move the next one begins
-pub begins-window : (types : ProgramTree) (lines : ℕ) (r : Run) → (ends r).units.lines % window_lines ≡ 0 → lines ≤ (ends r).units.lines + window_lines → movers_in types r ≡ []
+-- where a window ended and nobody goes on the next one begins
+pub begins-window : (types : ProgramTree) (lines : ℕ) (r : Run) → (ends r).units.lines % window_lines ≡ 0 → lines ≤ (ends r).units.lines + window_lines → NobodyGoes types r
     → InWindow types true lines r
 begins-window types lines r whole few none = record {
   start = (ends r).units.lines;
@@ -205,12 +236,15 @@ begins-window types lines r whole few none = record {
   first = λ seam q less. none;
 }
 
--- in a run without events nobody can move
-pub nobody-fresh : (types : ProgramTree) (r : Run) → r.events ≡ [] → movers_in types r ≡ []
-nobody-fresh types r none = subst (λ (l : List CoreEvent). movers_in types (record r { events = l }) ≡ []) (sym none) fresh
+-- in a run without events nobody can move or wants a grain
+pub nobody-fresh : (types : ProgramTree) (r : Run) → r.events ≡ [] → NobodyGoes types r
+nobody-fresh types r none = subst (λ (l : List CoreEvent). NobodyGoes types (record r { events = l })) (sym none) (fresh, wish, none-due (begins r) refl)
   where
     no_units : (n : ℕ) → n - n ≡ 0
     no_units n = omega arith
+
+    wish : wish_in types (record r { events = [] }) ≡ None
+    wish = ap (λ (n : ℕ). next_wish (begins r) (units_from n r.base) (lock_asked types (begins r) (λ u. [])) 0) (no_units r.base)
 
     fresh : movers_in types (record r { events = [] }) ≡ []
     fresh = ap (λ (n : ℕ). map OfUnit (filter (can_move types (begins r) (λ u. [])) (units_from n r.base)) ++ (if has_step (settler_step (begins r)) then OfSettler ∷ [] else [])) (no_units r.base)
@@ -239,10 +273,10 @@ next-front (x ∷ xs) (suc at) = elim (next-front xs at) [
 abbrev front_of : Run → List CoreEvent → Run
 front_of r events = record r { events = events }
 
-module _ (types : ProgramTree) (lines width : ℕ) (picks : List ℕ) (r : Run) (limit : r.capacity ≡ None) (few : lines ≤ window_lines) where
+module _ (types : ProgramTree) (lines width : ℕ) (picks : List ℕ) (r : Run) (few : lines ≤ window_lines) where
   -- a line begins behind these events
   abbrev begins_line : Bool → List CoreEvent → Bool
-  begins_line windowed es = line_can_begin windowed width lines r (run (begins r) es) (movers types r (run (begins r) es) (got_from (begins r) es))
+  begins_line windowed es = line_can_begin windowed width lines r (run (begins r) es) (and_wish (wish_in types (front_of r es)) (movers types r (run (begins r) es) (got_from (begins r) es)))
 
   -- within the first window it is the same with windows and without
   same-test : (windowed : Bool) (es : List CoreEvent) → InWindow types true lines (front_of r es) → begins_line windowed es ≡ begins_line true es
@@ -259,9 +293,8 @@ module _ (types : ProgramTree) (lines width : ℕ) (picks : List ℕ) (r : Run) 
 
   -- with windows or without it is the same turn within the first window
   same-turn : (one other : Bool) (es : List CoreEvent) (pick : ℕ) (e : CoreEvent) → begins_line one es ≡ begins_line other es → TurnBehind one es pick e → TurnBehind other es pick e
-  same-turn one other es pick e same t = by-plain types other lines width (front_of r es) limit pick e
-      (subst (λ (b : Bool). IsPlainTurn b (picked (movers types r (run (begins r) es) (got_from (begins r) es)) pick) (run (begins r) es) e (mover_of e)) same
-      (is-plain types one lines width (front_of r es) limit pick e t))
+  same-turn one other es pick e same t =
+      subst (λ (b : Bool). IsTurn b (wish_in types (front_of r es)) (picked (movers types r (run (begins r) es) (got_from (begins r) es)) pick) (run (begins r) es) e) same t
 
   module _ (windowed : Bool) (keeps : KeepsTurnRule types windowed lines width picks r) where
     -- an event that keeps one rule there keeps the other
@@ -276,7 +309,7 @@ module _ (types : ProgramTree) (lines width : ℕ) (picks : List ℕ) (r : Run) 
       | inl p ↦
           let w = all-within at in
           subst (λ (l : List CoreEvent). InWindow types true lines (front_of r l)) (sym p.2)
-          (stays types true lines width picks (front_of r (take at r.events)) p.0 limit w
+          (stays types true lines width picks (front_of r (take at r.events)) p.0 w
           (λ a. subst (λ (l : List CoreEvent). TurnBehind true (take at r.events) (pick_behind l) p.0)
           (sym (take-length (take at r.events))) (next-turn at p.0 w (record { there = p.1; applied = a }))))
     ]

@@ -1,5 +1,5 @@
 -- A run that goes on by one event: whose event it is, what a unit gets by it, and when it may come.
-use Rattle.std.specs.Prelude.{◌≡◌, ℕ, List, [], ◌∷◌, length, get_or, Bool, true, false, ◌&&◌, nat_lt, Option, is_none, if◌then◌else◌}
+use Rattle.std.specs.Prelude.{◌≡◌, ℕ, List, [], ◌∷◌, length, get_or, Bool, true, false, ◌&&◌, nat_lt, Option, None, is_none, if◌then◌else◌}
 use Rattle.base_types.specs.declared.calls.Origin.TheVariants.{Line, Child}
 use Rattle.core_model.specs.CoreState.{UnitNo, same_unit, CoreState}
 use Rattle.core_model.specs.declared.events.CoreEvent.{CoreEvent}
@@ -11,7 +11,7 @@ use Rattle.script_tree.specs.Programs.{ProgramTree}
 use Rattle.promise_spec.specs.Cores.{applied_in}
 use Rattle.promise_spec.specs.UnitAnswers.{Got, got_by, got_in}
 use Rattle.promise_spec.specs.UnitRule.{Basis, IsDue}
-use Rattle.promise_spec.specs.TurnRule.{Mover, IsTurnOf, in_flight, lock_asked, movers, next_wish, passed, picks_used, units_of, waits_for_load}
+use Rattle.promise_spec.specs.TurnRule.{Mover, IsTurnOf, grain_due, in_flight, lock_asked, movers, next_wish, passed, picks_used, units_of, waits_for_load}
 
 -- the run with one more event
 abbrev pub with_event : Run → CoreEvent → Run
@@ -85,6 +85,10 @@ wish_in types r = next_wish (ends r) (units_of r (ends r)) (lock_asked types (en
 -- no unit waits for a grain to be brought into memory
 abbrev pub NobodyWaitsForLoad : ProgramTree → Run → Type 0
 NobodyWaitsForLoad types r = (u : UnitNo) → waits_for_load (ends r) u (lock_asked types (ends r) (got_in r) u) ≡ false
+
+-- nobody can move or wants a grain, and none is due
+abbrev pub NobodyGoes : ProgramTree → Run → Type 0
+NobodyGoes types r = (movers_in types r ≡ []) × (wish_in types r ≡ None) × (grain_due (ends r) ≡ None)
 
 -- a line has a place, whether its window has begun or not: one is left, fewer than the width are in flight, and there is no doubt
 abbrev pub line_has_place : ℕ → ℕ → Run → Bool

@@ -1,5 +1,5 @@
 -- What holds of the units and lines of every run.
-use Rattle.std.specs.Prelude.{◌≡◌, ◌⊎◌, ◌≤◌, ◌<◌, ℕ, List, [], ◌∷◌}
+use Rattle.std.specs.Prelude.{◌≡◌, ◌⊎◌, ◌≤◌, ◌<◌, ℕ, List}
 use Rattle.base_types.specs.declared.entries.Entry.{Entry}
 use Rattle.base_types.specs.declared.calls.Origin.TheVariants.{Line}
 use Rattle.core_model.specs.CoreState.{UnitNo, Member, CoreState}

@@ -20,5 +20,7 @@ pub use frames::others_leave_a_unit;
 pub use links::{freed_locks_are_due, links_stay, what_is_asked_for_is_due};
 pub use next_event::rules_go_on;
 pub use run_ends::{runs_are_counted, without_a_mover_all_is_settled};
-pub use turn_loop::{turns_begin_and_end, turns_go_on_by_lines, turns_go_on_by_movers};
+pub use turn_loop::{
+    turns_begin_and_end, turns_go_on_by_lines, turns_go_on_by_movers, turns_go_on_by_wishes,
+};
 pub use windows::turns_stay_in_a_window;

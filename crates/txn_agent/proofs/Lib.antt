@@ -17,3 +17,4 @@ pub mod MoveAnswers
 pub mod StepPromises
 pub mod OwnWishes
 pub mod WishAnswers
+pub mod ShownGrains

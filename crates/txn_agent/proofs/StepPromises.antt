@@ -77,7 +77,7 @@ moves-own u (Want v g) q = want-not v u q
 moves-own u (Load g v state) q = load-not u q
 
 -- and of no other unit
-moves-one : (u w : UnitNo) (e : CoreEvent) → mover_of e ≡ OfUnit u → is_own w e ≡ true → w ≡ u
+pub moves-one : (u w : UnitNo) (e : CoreEvent) → mover_of e ≡ OfUnit u → is_own w e ≡ true → w ≡ u
 moves-one u w (Bad n why) q o = line-not u q
 moves-one u w (Begin (Line n) call plain) q o = line-not u q
 moves-one u w (Begin (Child parent index depth) call plain) q o = own-by u parent w q o

@@ -17,7 +17,7 @@ use Rattle.core_model.specs.declared.questions.AskAnswer.TheVariants as answer
 use Rattle.core_model.specs.LockAnswers.{AskedLocks, IsGoing}
 use Rattle.core_model.specs.LoadlessLaws.{HeldAreHere}
 use Rattle.core_model.specs.Events.{applies, reply_to}
-use Rattle.core_model.specs.Tests.{any, ask_answer, ask_doom, ask_lock, doomed_by, first_grain, first_of_two, is_active, is_over, is_running}
+use Rattle.core_model.specs.Tests.{any, ask_answer, ask_doom, ask_lock, doomed_by, first_grain, first_of_two, is_active, is_over, is_running, outcome_of}
 use Rattle.core_model.specs.WantedGrains.{next_wanted}
 use Rattle.core_model.specs.LegalRuns.{Run, ends}
 use Rattle.core_laws.proofs.HeldGrains.{here-ends}
@@ -46,7 +46,7 @@ use Rattle.txn_agent.specs.declared.work.Work.{Work}
 use Rattle.txn_agent.specs.declared.work.Doing.{Doing}
 use Rattle.txn_agent.specs.declared.work.Doing.TheVariants.{Asks, Awaits, Frees, Stopped}
 use Rattle.txn_agent.specs.Replies.{is_done}
-use Rattle.txn_agent.specs.CoreLink.{IsPaused, KnowsDoing, KnowsPaused}
+use Rattle.txn_agent.specs.CoreLink.{IsPaused, KnowsDoing, KnowsPaused, KnowsWaiting}
 use Rattle.txn_agent.specs.AgentStep.{Hears, IsDueFor}
 use Rattle.txn_agent.specs.Wishes.{GoesByWish, HasNoWish, PutsWish, WishSays, Wishes, lock_of}
 use Rattle.txn_agent.proofs.AgentCalls.{paused-looks, paused-there}
@@ -71,7 +71,7 @@ idle-waits w u None e = refl
 idle-waits w u (Some asked) e = ap is_absent (idle-asks w u asked.0 asked.1 e)
 
 -- who is over doesn't run
-over-idle : (p : Phase) → is_over p ≡ true → is_running p ≡ false
+pub over-idle : (p : Phase) → is_over p ≡ true → is_running p ≡ false
 over-idle Unborn e = refl
 over-idle Running e = absurd (true≢false (sym e))
 over-idle Finished e = refl
@@ -85,15 +85,24 @@ other-lock (WantRaise g) pause e f = absurd (true≢false (sym (ap for_grain e) 
 other-lock (WantUnit call depth) pause e f = refl
 other-lock (Over o) pause e f = refl
 
+module _ (types : ProgramTree) (s : Sight) (c : Carried) where
+  -- who stands for something else asks for no lock
+  pub other-asks : (work : Work) (pause : Pause) → for_grain pause ≡ false → KnowsPaused types s c work pause → IfAlone (leaves_unit c.unit) s (λ r. lock_asked types (ends r) (got_in r) c.unit ≡ None)
+  other-asks work pause f k = λ alone. (let p = k.linked alone in
+      ap wanted_lock (wants types (run_seen s) c.unit k.trail p.given ∙ ap Some (next-is types (run_seen s) c work k.trail _ k.at_work p))
+      ∙ other-lock (asks (rest types work.machine)) pause k.ready.asks_for f)
+
+  -- nor does who waits for a child that isn't decided
+  pub awaits-asks : (work : Work) (child : UnitNo) → KnowsWaiting types s c work child → outcome_of (ends (run_seen s)) child ≡ None → IfAlone (leaves_unit c.unit) s (λ r. lock_asked types (ends r) (got_in r) c.unit ≡ None)
+  awaits-asks work child k heard = λ alone. (let w = k.linked alone in
+      ap wanted_lock (ap (wanted_by types (ends (run_seen s)) c.unit) w.awaits.got ∙ ap (option_map _) (given-none (ends (run_seen s)) k.call k.depth child w.awaits.before heard)))
+
 module _ (may : CoreEvent → Bool) (types : ProgramTree) (s : Sight) (c : Carried) where
   -- where the script stands for something else
   other-wish : (work : Work) (pause : Pause) → for_grain pause ≡ false → KnowsPaused types s c work pause → HasNoWish may types c.unit s (Asks work pause) s
   other-wish work pause f k = record {
     looked = looks_self may s;
-    here = λ heard alone going. (let p = k.linked alone in
-        no-lock (ends (run_seen s)) c.unit (lock_asked types (ends (run_seen s)) (got_in (run_seen s)) c.unit)
-        (ap wanted_lock (wants types (run_seen s) c.unit k.trail p.given ∙ ap Some (next-is types (run_seen s) c work k.trail _ k.at_work p))
-        ∙ other-lock (asks (rest types work.machine)) pause k.ready.asks_for f));
+    here = λ heard alone going. no-lock (ends (run_seen s)) c.unit (lock_asked types (ends (run_seen s)) (got_in (run_seen s)) c.unit) (other-asks types s c work pause f k alone);
   }
 
   -- a unit that stands for no lock has no wish
@@ -103,9 +112,7 @@ module _ (may : CoreEvent → Bool) (types : ProgramTree) (s : Sight) (c : Carri
   no_wish (Asks work (Done outcome)) e k = other-wish work (Done outcome) refl k
   no_wish (Awaits work child) e k = record {
     looked = looks_self may s;
-    here = λ heard alone going. (let w = k.linked alone in
-        no-lock (ends (run_seen s)) c.unit (lock_asked types (ends (run_seen s)) (got_in (run_seen s)) c.unit)
-        (ap wanted_lock (ap (wanted_by types (ends (run_seen s)) c.unit) w.awaits.got ∙ ap (option_map _) (given-none (ends (run_seen s)) k.call k.depth child w.awaits.before heard))));
+    here = λ heard alone going. no-lock (ends (run_seen s)) c.unit (lock_asked types (ends (run_seen s)) (got_in (run_seen s)) c.unit) (awaits-asks types s c work child k heard alone);
   }
   no_wish (Frees held) e k = record {
     looked = looks_self may s;
@@ -165,6 +172,10 @@ module _ (may : CoreEvent → Bool) (types : ProgramTree) (s t : Sight) (c : Car
   -- the lock, wherever the unit stands so
   asked-in : (r : Run) → IsPaused types r c (asks-lock doing g mode is).0 there.trail → lock_asked types (ends r) (got_in r) c.unit ≡ Some (g, mode)
   asked-in r p = lock-asked types r c (asks-lock doing g mode is).0 there.trail _ there.at_work p g mode there.ready.asks_for
+
+  -- so it is behind the look
+  pub asked-here : IfAlone (leaves_unit c.unit) t (λ r. lock_asked types (ends r) (got_in r) c.unit ≡ Some (g, mode))
+  asked-here alone = asked-in (run_seen t) (there.linked alone)
 
   -- the grain is in memory, or the lock can't be had
   pub shown_here : (a : AskAnswer) → a ≡ ask_answer (ends (run_seen t)) c.unit g mode → (b : Bool) → b ≡ is_absent a → b ≡ false → HasNoWish may types c.unit s doing t

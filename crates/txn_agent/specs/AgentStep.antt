@@ -103,6 +103,13 @@ is_freeing (Awaits work child) = false
 is_freeing (Frees held) = true
 is_freeing Stopped = false
 
+-- the unit waits for its child
+abbrev pub is_awaiting : Doing → Bool
+is_awaiting (Asks work pause) = false
+is_awaiting (Awaits work child) = true
+is_awaiting (Frees held) = false
+is_awaiting Stopped = false
+
 -- where a unit waits for its child still, the core showed that the child isn't decided
 abbrev pub Hears : Sight → Doing → Type 0
 Hears s (Asks work pause) = ⊤

@@ -6,7 +6,10 @@ use Rattle.core_model.specs.declared.events.CoreEvent.{CoreEvent}
 use Rattle.core_model.specs.declared.events.CoreEvent.TheVariants.{Want}
 use Rattle.core_model.specs.declared.events.CoreReply.{CoreReply}
 use Rattle.core_model.specs.declared.events.CoreReply.TheVariants.{Done, Unapplied}
+use Rattle.core_model.specs.declared.questions.AskAnswer.{AskAnswer}
+use Rattle.core_model.specs.declared.questions.AskAnswer.TheVariants as answer
 use Rattle.core_model.specs.Events.{applies}
+use Rattle.core_model.specs.Tests.{is_running}
 use Rattle.core_model.specs.LockAnswers.{IsGoing}
 use Rattle.core_model.specs.LegalRuns.{Run, ends}
 use Rattle.core_access.specs.Sights.{Sight, saw, Looks, Tells, IfAlone}
@@ -49,6 +52,25 @@ module _ (may_come : CoreEvent → Bool) (types : ProgramTree) (u : UnitNo) (s :
 abbrev pub WishSays : (CoreEvent → Bool) → ProgramTree → UnitNo → Doing → Sight → Sight → Bool → Type 0
 WishSays may types u doing s t true = PutsWish may types u s Done t
 WishSays may types u doing s t false = HasNoWish may types u s doing t ⊎ PutsWish may types u s Unapplied t
+
+-- where the unit runs and its script asks for a lock, the grain of that is in memory
+abbrev pub LacksNoGrain : ProgramTree → UnitNo → Run → Type 0
+LacksNoGrain types u r = (g : GrainId) (mode : Mode) → is_running ((ends r).units.phase u) ≡ true → lock_asked types (ends r) (got_in r) u ≡ Some (g, mode)
+    → (ends r).cells.here g ≡ true
+
+-- so it is, where nobody else made an event of the unit, and there is no doubt and no stop, if its script has heard of its child
+abbrev pub HasItsGrain : ProgramTree → Sight → UnitNo → Doing → Type 0
+HasItsGrain types s u doing = Hears s doing → IfAlone (leaves_unit u) s (λ r. IsGoing (ends r) → LacksNoGrain types u r)
+
+-- the core's answer to who asks for a lock shows that the grain is in memory
+abbrev pub shows_grain : AskAnswer → Bool
+shows_grain answer.Free = true
+shows_grain answer.Held = true
+shows_grain (answer.MustWait holder) = true
+shows_grain (answer.MustDie holder) = true
+shows_grain answer.Absent = false
+shows_grain (answer.Doomed source) = false
+shows_grain answer.NotActive = false
 
 -- The unit waits for the grain of the lock for which its script asks, and its wish for that grain is all by which the run goes on.
 pub record GoesByWish (types : ProgramTree) (u : UnitNo) (r r' : Run) : Type 0 where

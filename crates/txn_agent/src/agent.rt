@@ -1,15 +1,15 @@
-ghost use Rattle.std.specs.Prelude.{◌≡◌, IfErr, IfOk, IsOk};
+ghost use Rattle.std.specs.Prelude.{◌≡◌, true, IfErr, IfOk, IsOk};
 ghost use Rattle.core_access.specs.FitAccess.{StaysFit};
 ghost use Rattle.core_access.specs.Sights.{Sight, Counts, Looks};
 ghost use Rattle.script_tree.specs.Programs.{ProgramTree, program_tree};
 ghost use Rattle.txn_agent.specs.CoreLink.{IfOwn, IsNew, Knows};
 ghost use Rattle.promise_spec.specs.TurnRule.{is_line};
-ghost use Rattle.txn_agent.specs.AgentStep.{Acts, AnswerSays, Hears, children_of, has_freed_all, is_freeing};
+ghost use Rattle.txn_agent.specs.AgentStep.{Acts, AnswerSays, Hears, children_of, has_freed_all, is_awaiting, is_freeing};
 ghost use Rattle.txn_agent.specs.ShownMoves.{ShowsMove};
-ghost use Rattle.txn_agent.specs.Wishes.{WishSays};
+ghost use Rattle.txn_agent.specs.Wishes.{HasItsGrain, WishSays};
 
 use crate::steps::{hear_child, moves_now, step};
-use crate::wishes::wish;
+use crate::wishes::{has_grain, wish};
 use crate::work::{Carried, Doing, Work};
 use base_types::{Call, GrainId, List, Origin, UnitNo};
 use core_access::Access;
@@ -141,6 +141,18 @@ impl Agent {
         }
     }
 
+    /// Whether the unit waits for its child.
+    pub fn is_awaiting(&self) -> bool
+        ensures { result ≡ is_awaiting self.now.doing }
+    {
+        match &self.doing {
+            Doing::Asks { .. } => false,
+            Doing::Awaits { .. } => true,
+            Doing::Frees { .. } => false,
+            Doing::Stopped => false,
+        }
+    }
+
     /// How many units of its own the unit has begun, while it runs: the number of the next one among them.
     pub fn children(&self) -> u32
         ensures { result ≡ children_of self.now.doing }
@@ -240,6 +252,18 @@ impl Agent {
     {
         let done = wish(access, self.carried, &self.doing)?;
         Ok(done)
+    }
+
+    /// Whether the unit asks for no lock, or the core shows in this call that the grain of the one for which it asks is in memory.
+    /// `ready` was called since the last move. It takes no memory.
+    pub fn has_grain<A: Access>(&self, access: &mut A) -> bool
+        requires fit { A.is_fit access.old }
+        ensures kept { StaysFit (A.is_fit access.new) (A.aside access.old) (A.aside access.new) }
+        ensures looked { Looks A.may_come (A.sight access.old) (A.sight access.new) }
+        ensures has { (types : ProgramTree) → Counts (A.sight access.old) → Knows types (A.sight access.old) self.now → result ≡ true
+            → HasItsGrain types (A.sight access.new) self.now.carried.unit self.now.doing }
+    {
+        has_grain(access, self.carried, &self.doing)
     }
 
     /// Goes on by at most one event of the unit.

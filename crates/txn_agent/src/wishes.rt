@@ -4,7 +4,7 @@ ghost use Rattle.core_access.specs.Sights.{Counts, Looks};
 ghost use Rattle.script_tree.specs.Programs.{ProgramTree};
 ghost use Rattle.promise_spec.specs.TurnRule.{is_absent};
 ghost use Rattle.txn_agent.specs.CoreLink.{KnowsDoing};
-ghost use Rattle.txn_agent.specs.Wishes.{WishSays, lock_of};
+ghost use Rattle.txn_agent.specs.Wishes.{HasItsGrain, WishSays, lock_of, shows_grain};
 
 use crate::looks::ask_for;
 use crate::puts::put_want;
@@ -44,6 +44,35 @@ fn is_absent(answer: AskAnswer) -> bool
         AskAnswer::NotActive => false,
         AskAnswer::Held => false,
     }
+}
+
+/// Whether the answer shows that the grain is in memory.
+fn shows_grain(answer: AskAnswer) -> bool
+    ensures { result ≡ shows_grain answer }
+{
+    match answer {
+        AskAnswer::Free => true,
+        AskAnswer::Held => true,
+        AskAnswer::MustWait { holder: _holder } => true,
+        AskAnswer::MustDie { holder: _holder } => true,
+        AskAnswer::Absent => false,
+        AskAnswer::Doomed { source: _source } => false,
+        AskAnswer::NotActive => false,
+    }
+}
+
+/// Whether the script stands for no lock, or the core shows that the grain of the one for which it stands is in memory.
+pub fn has_grain<A: Access>(access: &mut A, carried: Carried, doing: &Doing) -> bool
+    requires fit { A.is_fit access.old }
+    ensures kept { StaysFit (A.is_fit access.new) (A.aside access.old) (A.aside access.new) }
+    ensures looked { Looks A.may_come (A.sight access.old) (A.sight access.new) }
+    ensures has { (types : ProgramTree) → Counts (A.sight access.old) → KnowsDoing types (A.sight access.old) carried doing.now → result ≡ true
+        → HasItsGrain types (A.sight access.new) carried.unit doing.now }
+{
+    let Some((grain, mode)) = lock_of(doing) else {
+        return true;
+    };
+    shows_grain(ask_for(access, carried.unit, grain, mode))
 }
 
 /// Puts the unit's wish for the grain of the lock for which its script asks, where that isn't in memory, and answers whether it

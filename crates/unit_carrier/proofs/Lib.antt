@@ -2,6 +2,7 @@ pub mod Origins
 pub mod CarriedUnits
 pub mod MoverSearch
 pub mod HeardChildren
+pub mod CarriedWishes
 pub mod FreedUnits
 pub mod Places
 pub mod Movers

@@ -14,11 +14,11 @@ use Rattle.core_model.specs.Changes.{new_unit}
 use Rattle.core_model.specs.Events.{applies}
 use Rattle.core_model.specs.LegalRuns.{Run, ends}
 use Rattle.core_model.specs.declared.events.CoreEvent.{CoreEvent}
-use Rattle.core_model.specs.declared.events.CoreEvent.TheVariants.{Begin}
+use Rattle.core_model.specs.declared.events.CoreEvent.TheVariants.{Begin, Want}
 use Rattle.core_model.specs.declared.events.CoreReply.{CoreReply}
 use Rattle.core_model.specs.declared.events.CoreReply.TheVariants as reply
 use Rattle.core_access.specs.Sights.{Sight, run_seen, Counts, Tells}
-use Rattle.core_access.proofs.Sights.{reply-alone, run-alone}
+use Rattle.core_access.proofs.Sights.{reply-alone, run-alone, tells-on}
 use Rattle.core_access.specs.OneHolder.{none_comes}
 use Rattle.script_tree.specs.Programs.{ProgramTree}
 use Rattle.script_meaning.specs.Play.{IsTransaction}
@@ -34,6 +34,8 @@ use Rattle.txn_agent.specs.CoreLink.{IfOwn, IsNew, Knows}
 use Rattle.txn_agent.specs.AgentStep.{Acts, AnswerSays, children_of}
 use Rattle.txn_agent.proofs.ChildBegins.{began-reply}
 use Rattle.txn_agent.proofs.StepPromises.{knows-steps, knows-tells, new-carried}
+use Rattle.txn_agent.specs.Wishes.{Wishes}
+use Rattle.txn_agent.proofs.WishAnswers.{knows-wishes}
 use Rattle.unit_carrier.specs.CarriedUnits.{HasCoreAlone, AreCarried, CameAs, CarriesOneMore, StepsOn, as_carried, units_carried, unit_at, went_by, with_child}
 use Rattle.unit_carrier.proofs.MoverSearch.{all-at, all-set, map-set, map-at}
 use Rattle.unit_carrier.proofs.CarriedUnits.{acts-holds, acts-next, acts-origin, below-more, all-each, came-still, map-member, tells-holds, tells-next, tells-origin}
@@ -96,25 +98,30 @@ at-member (y ∷ xs) (suc i) x q = inr (at-member xs i x q)
 older-apart : (u v : UnitNo) → u.0 < v.0 → u ≡ v → ⊥
 older-apart u v less e = let n : u.0 ≡ v.0 = ap (λ (x : UnitNo). x.0) e in absurd (omega (arith, n, less))
 
+-- each other agent knows its unit still, and the one at the index does
+pub others-known : (types : ProgramTree) (s t : Sight) (agents : List Agent) (i : ℕ) (old new : Agent) → ((b : Agent) → (b.carried.unit ≡ old.carried.unit → ⊥) → Knows types s b → Knows types t b)
+    → slice_get agents i ≡ Some old → Knows types t new → UnitsAscend (units_carried agents) → AllByRecursion (Knows types s) agents → AllByRecursion (Knows types t) (slice_set agents i new)
+others-known types s t [] i old new others q knows older all = absurd cc
+others-known types s t (a ∷ agents) zero old new others q knows older all =
+    (knows, all-each (Knows types s) (Knows types t) agents (λ b m k. others b (apart b m) k) all.1)
+  where
+    first : (x y : Agent) → Some x ≡ Some y → x ≡ y
+    first x y e = cc
+
+    apart : (b : Agent) → Member b agents → b.carried.unit ≡ old.carried.unit → ⊥
+    apart b m e = older-apart a.carried.unit b.carried.unit (older.0 b.carried.unit (map-member (λ (x : Agent). x.carried.unit) agents b m))
+        (ap (λ (x : Agent). x.carried.unit) (first a old q) ∙ sym e)
+others-known types s t (a ∷ agents) (suc i) old new others q knows older all = (
+  others a (older-apart a.carried.unit old.carried.unit (older.0 old.carried.unit (map-member (λ (x : Agent). x.carried.unit) agents old (at-member agents i old q)))) all.0,
+  others-known types s t agents i old new others q knows older.1 all.1,
+)
+
 module _ (types : ProgramTree) (may : CoreEvent → Bool) (s t : Sight) (counts : Counts s) where
-  -- each other agent knows its unit still, and the one at the index does
+  -- so behind a step
   pub steps-known : (agents : List Agent) (i : ℕ) (old new : Agent) → Acts may types old.carried.unit s t → slice_get agents i ≡ Some old → Knows types t new
       → UnitsAscend (units_carried agents) → AllByRecursion (Knows types s) agents → AllByRecursion (Knows types t) (slice_set agents i new)
-  steps-known [] i old new acts q knows older all = absurd cc
-  steps-known (a ∷ agents) zero old new acts q knows older all =
-      (knows, all-each (Knows types s) (Knows types t) agents (λ b m k. knows-steps may types b.carried b.doing old.carried.unit s t acts (apart b m) counts k) all.1)
-    where
-      first : (x y : Agent) → Some x ≡ Some y → x ≡ y
-      first x y e = cc
-
-      apart : (b : Agent) → Member b agents → b.carried.unit ≡ old.carried.unit → ⊥
-      apart b m e = older-apart a.carried.unit b.carried.unit (older.0 b.carried.unit (map-member (λ (x : Agent). x.carried.unit) agents b m))
-          (ap (λ (x : Agent). x.carried.unit) (first a old q) ∙ sym e)
-  steps-known (a ∷ agents) (suc i) old new acts q knows older all = (
-    knows-steps may types a.carried a.doing old.carried.unit s t acts
-        (older-apart a.carried.unit old.carried.unit (older.0 old.carried.unit (map-member (λ (x : Agent). x.carried.unit) agents old (at-member agents i old q)))) counts all.0,
-    steps-known agents i old new acts q knows older.1 all.1,
-  )
+  steps-known agents i old new acts q knows older all =
+      others-known types s t agents i old new (λ b apart k. knows-steps may types b.carried b.doing old.carried.unit s t acts apart counts k) q knows older all
 
 -- what is known of all, behind the step of one
 pub steps-carried : (types : ProgramTree) (may : CoreEvent → Bool) (s t : Sight) (agents : List Agent) (i : ℕ) (old new : Agent) → slice_get agents i ≡ Some old → new.carried ≡ old.carried
@@ -126,6 +133,21 @@ steps-carried types may s t agents i old new q e acts knows c =
       came = came-set t agents i old new q e (came-still s t agents (λ v less. acts-origin may types old.carried.unit s t v c.holds.none acts less) c.below c.came);
       older = subst UnitsAscend (sym same) c.older;
       below = λ u m. below-more (units_carried agents) (ends (run_seen s)).units.next (ends (run_seen t)).units.next (acts-next may types old.carried.unit s t c.holds.none acts) c.below u (subst (Member u) same m);
+    }
+
+-- and behind a wish of one
+pub wishes-carried : (types : ProgramTree) (may : CoreEvent → Bool) (s t : Sight) (agents : List Agent) (i : ℕ) (old new : Agent) → slice_get agents i ≡ Some old → new.carried ≡ old.carried
+    → Wishes may types old.carried.unit s t → Knows types t new → AreCarried types may s agents → AreCarried types may t (slice_set agents i new)
+wishes-carried types may s t agents i old new q e (inl l) knows c =
+    steps-carried types may s t agents i old new q e (inl l) knows c
+wishes-carried types may s t agents i old new q e (inr (r, p)) knows c =
+    let told = tells-on may s p.seen t p.waits.looked (Want old.carried.unit p.grain) r p.told in
+    let same = units-set agents i old new q e in record {
+      holds = tells-holds may s t (Want old.carried.unit p.grain) r told c.holds;
+      known = others-known types s t agents i old new (λ b apart k. knows-wishes may types b.carried b.doing old.carried.unit s t (inr (r, p)) apart c.holds.counts k) q knows c.older c.known;
+      came = came-set t agents i old new q e (came-still s t agents (λ v less. tells-origin may s t (Want old.carried.unit p.grain) r v c.holds.none told less) c.below c.came);
+      older = subst UnitsAscend (sym same) c.older;
+      below = λ u m. below-more (units_carried agents) (ends (run_seen s)).units.next (ends (run_seen t)).units.next (tells-next may s t (Want old.carried.unit p.grain) r c.holds.none told) c.below u (subst (Member u) same m);
     }
 
 -- the unit at the index

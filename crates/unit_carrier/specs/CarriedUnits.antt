@@ -1,5 +1,5 @@
 -- The units that a run carries, what is known of them, and who of them moves.
-use Rattle.std.specs.Prelude.{◌≡◌, ◌<◌, ◌≤◌, ℕ, ⊤, Bool, List, [], ◌∷◌, ◌++◌, length, map, filter, slice_get, get_or, take, true, Some}
+use Rattle.std.specs.Prelude.{◌≡◌, ◌<◌, ◌≤◌, ℕ, ⊤, Bool, List, [], ◌∷◌, ◌++◌, length, map, filter, slice_get, get_or, take, true, false, Some, None}
 use Rattle.std.specs.List.{AllByRecursion}
 use Rattle.base_types.specs.declared.calls.Call.{Call}
 use Rattle.base_types.specs.declared.calls.Origin.{Origin}
@@ -11,13 +11,16 @@ use Rattle.core_access.specs.OneHolder.{none_comes}
 use Rattle.core_access.specs.Sights.{Sight, Counts, IsAlone, run_seen}
 use Rattle.script_tree.specs.Programs.{ProgramTree}
 use Rattle.promise_spec.specs.UnitAnswers.{got_in}
-use Rattle.promise_spec.specs.TurnRule.{can_move}
+use Rattle.core_model.specs.LockAnswers.{IsGoing}
+use Rattle.core_model.specs.WantedGrains.{next_wanted}
+use Rattle.promise_spec.specs.TurnRule.{can_move, lock_asked, waits_for_load}
 use Rattle.txn_agent.specs.declared.agent.Advanced.{Advanced}
 use Rattle.txn_agent.specs.declared.agent.Advanced.TheVariants as advanced
 use Rattle.txn_agent.specs.declared.agent.Agent.{Agent}
 use Rattle.txn_agent.specs.declared.work.Carried.{Carried}
 use Rattle.txn_agent.specs.CoreLink.{IfOwn, IsNew, Knows}
 use Rattle.txn_agent.specs.AgentStep.{AnswerSays, has_freed_all}
+use Rattle.txn_agent.specs.Wishes.{GoesByWish}
 use Rattle.unit_carrier.specs.declared.agents.Found.{Found}
 use Rattle.unit_carrier.specs.declared.agents.Found.TheVariants.{At, Few}
 use Rattle.unit_carrier.specs.declared.agents.Went.{Went}
@@ -101,3 +104,10 @@ pub record CarriesOneMore (types : ProgramTree) (unit : UnitNo) (origin : Origin
   pub list : after ≡ before ++ agent ∷ []
   pub carried : agent.carried ≡ record { unit = unit; origin = origin; plain = plain }
   pub knows : (s : Sight) → IfOwn agent.carried s (λ r. IsNew types r agent.carried call) → Knows types s agent
+
+-- The unit's wish was done, and is all by which the run went on; or it has none, and nothing changed, where there is no doubt and no
+-- stop and each wanted grain is in memory: then it waits for none.
+abbrev pub WishesAt : ProgramTree → UnitNo → Sight → Sight → Bool → Type 0
+WishesAt types u s t true = GoesByWish types u (run_seen s) (run_seen t)
+WishesAt types u s t false = IsGoing (ends (run_seen s)) → next_wanted (ends (run_seen s)) ≡ None
+    → (t ≡ s) × (waits_for_load (ends (run_seen s)) u (lock_asked types (ends (run_seen s)) (got_in (run_seen s)) u) ≡ false)

@@ -1,13 +1,14 @@
-ghost use Rattle.std.specs.Prelude.{◌≡◌, ◌<◌, ◌≤◌, ℕ, [], length, IfOk, OnErr, MatchResult};
+ghost use Rattle.std.specs.Prelude.{◌≡◌, ◌<◌, ◌≤◌, ℕ, true, [], length, IfOk, OnErr, MatchResult};
 ghost use Rattle.core_model.specs.LockAnswers.{IsGoing};
 ghost use Rattle.core_model.specs.LegalRuns.{ends};
 ghost use Rattle.core_access.specs.FitAccess.{StaysFit};
 ghost use Rattle.core_access.specs.Sights.{run_seen};
 ghost use Rattle.script_tree.specs.Programs.{program_tree};
 ghost use Rattle.txn_agent.specs.AgentStep.{Acts};
-ghost use Rattle.unit_carrier.specs.CarriedUnits.{AreCarried, AreFreed, CarriesOneMore, FindsMover, FindsWithin, StepsOn, as_carried, units_carried, unit_at};
+ghost use Rattle.txn_agent.specs.Wishes.{LacksNoGrain, Wishes};
+ghost use Rattle.unit_carrier.specs.CarriedUnits.{AreCarried, AreFreed, CarriesOneMore, FindsMover, FindsWithin, StepsOn, WishesAt, as_carried, units_carried, unit_at};
 
-use crate::moves::can_move_now;
+use crate::moves::{can_move_now, has_grain_now, want_now};
 use base_types::{Call, GrainId, Origin, UnitNo};
 use core_access::Access;
 use script_check::Checked;
@@ -97,6 +98,55 @@ impl Agents {
             }
         }
         Ok(Found::Few(movers))
+    }
+
+    /// Whether the unit at this index asks for no lock, or for one whose grain is shown to be in memory. First it hears of a child that is
+    /// decided. Whether there is memory or not, the same units are carried as before.
+    pub fn has_grain<A: Access>(
+        &mut self,
+        alloc: Global,
+        checked: &Checked,
+        access: &mut A,
+        index: usize,
+    ) -> Result<bool, AllocError>
+        requires fit { A.is_fit access.old }
+        requires within { index < length self.old.list.items }
+        requires carried { AreCarried (program_tree checked.now) A.may_come (A.sight access.old) self.old.list.items }
+        ensures kept { StaysFit (A.is_fit access.new) (A.aside access.old) (A.aside access.new) }
+        ensures same { A.sight access.new ≡ A.sight access.old }
+        ensures has { IfOk result (λ has. has ≡ true → IsGoing (ends (run_seen (A.sight access.old)))
+            → LacksNoGrain (program_tree checked.now) (unit_at self.old.list.items index) (run_seen (A.sight access.old))) }
+        ensures carried { IfOk result (λ _. AreCarried (program_tree checked.now) A.may_come (A.sight access.new) self.new.list.items) }
+        ensures units { as_carried self.new.list.items ≡ as_carried self.old.list.items }
+        ensures freed { (front : ℕ) → front ≤ index → AreFreed front self.old.list.items → AreFreed front self.new.list.items }
+    {
+        let has = has_grain_now(alloc, checked, access, &mut self.list[index])?;
+        Ok(has)
+    }
+
+    /// The unit at this index wishes for the grain of the lock for which its script asks, where that isn't in memory, and answers
+    /// whether the wish was done. First it hears of a child that is decided. Whether there is memory or not, the same units are carried
+    /// as before.
+    pub fn want<A: Access>(
+        &mut self,
+        alloc: Global,
+        checked: &Checked,
+        access: &mut A,
+        index: usize,
+    ) -> Result<bool, AllocError>
+        requires fit { A.is_fit access.old }
+        requires within { index < length self.old.list.items }
+        requires carried { AreCarried (program_tree checked.now) A.may_come (A.sight access.old) self.old.list.items }
+        ensures kept { StaysFit (A.is_fit access.new) (A.aside access.old) (A.aside access.new) }
+        ensures wishes { Wishes A.may_come (program_tree checked.now) (unit_at self.old.list.items index) (A.sight access.old) (A.sight access.new) }
+        ensures told { IfOk result (λ wished. WishesAt (program_tree checked.now) (unit_at self.old.list.items index) (A.sight access.old)
+            (A.sight access.new) wished) }
+        ensures carried { IfOk result (λ _. AreCarried (program_tree checked.now) A.may_come (A.sight access.new) self.new.list.items) }
+        ensures units { as_carried self.new.list.items ≡ as_carried self.old.list.items }
+        ensures freed { (front : ℕ) → front ≤ index → AreFreed front self.old.list.items → AreFreed front self.new.list.items }
+    {
+        let wished = want_now(alloc, checked, access, &mut self.list[index])?;
+        Ok(wished)
     }
 
     /// Carries a unit that has just begun, behind all others. Without memory the units that are carried stay as they were.

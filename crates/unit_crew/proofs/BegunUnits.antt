@@ -1,17 +1,17 @@
 -- Which units begin by a step and by a line's event, and that they are carried.
 use Rattle.std.proofs.Common.{◌≡◌, ◌⊎◌, ℕ, ◌+◌, ◌≤◌, ◌<◌, List, [], ◌∷◌, ◌++◌, inl, inr, Bool, true, false, true≢false, refl, sym, ap, ◌∙◌, subst, arith, Option, Some, None, Ok, Err}
-use Rattle.std.specs.Prelude.{Result, slice_get, slice_set}
+use Rattle.std.specs.Prelude.{Result, if◌then◌else◌, slice_get, slice_set}
 use Rattle.std.specs.List.{AllByRecursion}
 use Rattle.base_types.specs.declared.calls.Call.{Call}
 use Rattle.base_types.specs.declared.calls.Origin.{Origin}
 use Rattle.base_types.specs.declared.calls.Origin.TheVariants.{Line as OfLine, Child}
 use Rattle.base_types.specs.declared.entries.BadRequest.{BadRequest}
 use Rattle.cell_model.specs.Units.{UnitsAscend}
-use Rattle.core_model.specs.CoreState.{UnitNo, Member, CoreState}
+use Rattle.core_model.specs.CoreState.{UnitNo, GrainId, Member, CoreState}
 use Rattle.core_model.specs.Changes.{swept}
-use Rattle.core_model.specs.Events.{applies, does, step}
+use Rattle.core_model.specs.Events.{applies, does, reply_to, step}
 use Rattle.core_model.specs.declared.events.CoreEvent.{CoreEvent}
-use Rattle.core_model.specs.declared.events.CoreEvent.TheVariants.{Bad, Begin}
+use Rattle.core_model.specs.declared.events.CoreEvent.TheVariants.{Bad, Begin, Want}
 use Rattle.core_model.specs.declared.events.CoreReply.{CoreReply}
 use Rattle.core_model.specs.declared.events.CoreReply.TheVariants as reply
 use Rattle.core_model.specs.LegalRuns.{Run, ends}
@@ -32,6 +32,7 @@ use Rattle.txn_agent.specs.CoreLink.{IfOwn, IsNew, Knows}
 use Rattle.txn_agent.specs.AgentStep.{AnswerSays, Misses, Puts, children_of}
 use Rattle.txn_agent.proofs.StepPromises.{new-began, new-carried}
 use Rattle.txn_agent.specs.Replies.{began_by}
+use Rattle.txn_agent.specs.Wishes.{Wishes}
 use Rattle.unit_carrier.specs.CarriedUnits.{CarriesOneMore, units_carried}
 use Rattle.unit_carrier.specs.Lines.{CarriesBegun, PutsLine, StartsCall, StartsLine}
 use Rattle.unit_carrier.proofs.LineUnit.{bad-none, began-is, plain-makes-none, puts-call}
@@ -86,6 +87,22 @@ module _ (may : CoreEvent → Bool) (types : ProgramTree) (u : UnitNo) (kids : �
 
   pub ended-back : AnswerSays may types u kids s t came.Ended → BeganHere v t → BeganHere v s
   ended-back says b = looks-back may v s t says.0 b
+
+-- a wish's reply names no unit
+wish-names-none : (w : CoreState) (u : UnitNo) (g : GrainId) → began_by (reply_to w (Want u g)) ≡ None
+wish-names-none w u g = by (applies w (Want u g))
+  where
+    by : (b : Bool) → began_by (if b then reply.Done else reply.Unapplied) ≡ None
+    by true = refl
+    by false = refl
+
+-- nor does one begin by a wish
+pub wishes-back : (may : CoreEvent → Bool) (types : ProgramTree) (u : UnitNo) (s t : Sight) (v : UnitNo) → Wishes may types u s t → BeganHere v t → BeganHere v s
+wishes-back may types u s t v (inl l) b = looks-back may v s t l b
+wishes-back may types u s t v (inr (r, p)) b = elim (tells-back may v p.seen t (Want u p.grain) r p.told b) [
+  | inl old ↦ looks-back may v s p.seen p.waits.looked old
+  | inr q ↦ granted-began r v (ap began_by p.told.reply ∙ wish-names-none (ends (run_seen (saw p.seen p.told.rest))) u p.grain) q
+]
 
 -- ---- one unit begins
 

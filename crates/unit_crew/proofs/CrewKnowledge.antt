@@ -13,7 +13,7 @@ use Rattle.core_model.specs.declared.events.CoreReply.TheVariants as reply
 use Rattle.core_model.specs.LegalRuns.{Run, ends}
 use Rattle.core_access.specs.Histories.{Told}
 use Rattle.core_access.specs.Sights.{Sight, Counts, IfAlone, Looks, Tells, run_seen, saw, told}
-use Rattle.core_access.proofs.Sights.{looks-counts, tells-counts, run-told}
+use Rattle.core_access.proofs.Sights.{looks-counts, tells-counts, tells-on, run-told}
 use Rattle.script_tree.specs.Programs.{ProgramTree}
 use Rattle.promise_spec.specs.TurnRule.{OfLine, OfWant, OfLoad, OfUnit, OfSettler, mover_of}
 use Rattle.promise_spec.specs.UnitRule.{Basis}
@@ -27,17 +27,19 @@ use Rattle.txn_agent.specs.declared.agent.Agent.{Agent}
 use Rattle.txn_agent.specs.declared.work.Carried.{Carried}
 use Rattle.txn_agent.specs.CoreLink.{Knows}
 use Rattle.txn_agent.specs.AgentStep.{Acts}
+use Rattle.txn_agent.specs.Wishes.{Wishes}
 use Rattle.txn_agent.proofs.ComposedSteps.{acts-counts}
+use Rattle.txn_agent.proofs.WishAnswers.{knows-wishes, wishes-began, wishes-counts}
 use Rattle.txn_agent.proofs.StepPromises.{acts-began, knows-looks, knows-tells}
 use Rattle.unit_carrier.specs.CarriedUnits.{units_carried}
 use Rattle.unit_carrier.proofs.MoverSearch.{all-at, all-set}
 use Rattle.unit_carrier.proofs.CarriedUnits.{all-each, next-more}
-use Rattle.unit_carrier.proofs.Places.{steps-known, units-set}
+use Rattle.unit_carrier.proofs.Places.{others-known, steps-known, units-set}
 use Rattle.unit_carrier.proofs.MoverSearch.{map-at}
 use Rattle.unit_crew.specs.Crews.{IsCrew, IsOwnUnit}
 use Rattle.unit_crew.specs.FinishedUnits.{IsThrough}
 use Rattle.unit_crew.proofs.FinishedUnits.{looks-through, saw-next, tells-through}
-use Rattle.unit_crew.proofs.Works.{works-acts, works-tells}
+use Rattle.unit_crew.proofs.Works.{works-acts, works-tells, works-wishes}
 
 -- ---- whose event it is
 
@@ -100,6 +102,10 @@ pub record IsCrewSo (types : ProgramTree) (s t : Sight) (agents : List Agent) : 
   pub own : AllByRecursion (IsOwnUnit s) agents
   pub older : UnitsAscend (units_carried agents)
   pub rest : (u : UnitNo) → BeganHere u s → Member u (units_carried agents) ⊎ IfAlone (leaves_unit u) t (λ r. IsThrough r u)
+
+-- the agent at an index knows its unit
+pub crew-knows : (types : ProgramTree) (s : Sight) (agents : List Agent) → IsCrew types s agents → (i : ℕ) (a : Agent) → slice_get agents i ≡ Some a → Knows types s a
+crew-knows types s agents c i a q = all-at (Knows types s) agents i a q c.known
 
 -- where no unit began, that is all
 pub crew-so : (types : ProgramTree) (s t : Sight) (agents : List Agent) → ((u : UnitNo) → BeganHere u t → BeganHere u s) → IsCrewSo types s t agents → IsCrew types t agents
@@ -226,4 +232,45 @@ module _ (types : ProgramTree) (may : CoreEvent → Bool) (s t : Sight) (agents 
           older = subst UnitsAscend (sym units) c.older;
           rest = λ u b. subst (λ (us : List UnitNo). Member u us ⊎ IfAlone (leaves_unit u) t (λ r. IsThrough r u)) (sym units)
               (elim (c.rest u b) [ inl m ↦ inl m | inr k ↦ rest-acts u acts k ]);
+        }
+
+    -- ---- its wish
+
+    -- the same list, with the same agent in its place
+    set-same : {A : Type 0} (xs : List A) (k : ℕ) (x : A) → slice_get xs k ≡ Some x → slice_set xs k x ≡ xs
+    set-same [] k x e = refl
+    set-same {A} (y ∷ xs) zero x e = ap (λ (z : A). z ∷ xs) (one y x e)
+      where
+        one : (a b : A) → Some a ≡ Some b → b ≡ a
+        one a b q = cc
+    set-same (y ∷ xs) (suc k) x e = ap (λ (zs : List _). y ∷ zs) (set-same xs k x e)
+
+    -- a unit that is through stays so, or is the one that wishes
+    rest-wishes : (u : UnitNo) → Wishes may types old.carried.unit s t → IfAlone (leaves_unit u) s (λ r. IsThrough r u) → Member u (units_carried agents) ⊎ IfAlone (leaves_unit u) t (λ r. IsThrough r u)
+    rest-wishes u (inl l) k = inr (looks-through may u s t l c.counts k)
+    rest-wishes u (inr (r, p)) k = by (same_unit old.carried.unit u) refl
+      where
+        by : (b : Bool) → same_unit old.carried.unit u ≡ b → Member u (units_carried agents) ⊎ IfAlone (leaves_unit u) t (λ r. IsThrough r u)
+        by true o = inl (subst (λ (x : UnitNo). Member x (units_carried agents)) (same_unit-true old.carried.unit u o) member-here)
+        by false o = inr (tells-through may u s t (Want old.carried.unit p.grain) r (tells-on may s p.seen t p.waits.looked (Want old.carried.unit p.grain) r p.told) (is-harmless u (Want old.carried.unit p.grain) o) c.counts k)
+
+    wishes-next : Wishes may types old.carried.unit s t → (ends (run_seen s)).units.next ≤ (ends (run_seen t)).units.next
+    wishes-next (inl l) = looks-next may s t l
+    wishes-next (inr (r, p)) = tells-next may s t (Want old.carried.unit p.grain) r (tells-on may s p.seen t p.waits.looked (Want old.carried.unit p.grain) r p.told)
+
+    -- all is known behind it, of those units that began before
+    pub wishes-so : Wishes may types old.carried.unit s t → Knows types t old → IsCrewSo types s t agents
+    wishes-so w knows =
+        let works = works-wishes may types old.carried.unit s t w own-here in record {
+          counts = wishes-counts may types old.carried.unit s t w c.counts;
+          above = subst (λ (r : Run). 0 < r.base) (sym works.first) c.above;
+          only = works.only c.only;
+          next = wishes-next w;
+          below = c.below;
+          began = λ u b. wishes-began may types old.carried.unit u s t w b;
+          known = subst (AllByRecursion (Knows types t)) (set-same agents i old q)
+              (others-known types s t agents i old old (λ b apart k. knows-wishes may types b.carried b.doing old.carried.unit s t w apart c.counts k) q knows c.older c.known);
+          own = c.own;
+          older = c.older;
+          rest = λ u b. elim (c.rest u b) [ inl m ↦ inl m | inr k ↦ rest-wishes u w k ];
         }

@@ -6,12 +6,12 @@ use Rattle.base_types.specs.declared.calls.Origin.TheVariants.{Line as OfLine}
 use Rattle.base_types.specs.declared.entries.BadRequest.{BadRequest}
 use Rattle.core_model.specs.CoreState.{UnitNo}
 use Rattle.core_model.specs.declared.events.CoreEvent.{CoreEvent}
-use Rattle.core_model.specs.declared.events.CoreEvent.TheVariants.{Bad, Begin}
+use Rattle.core_model.specs.declared.events.CoreEvent.TheVariants.{Bad, Begin, Want}
 use Rattle.core_model.specs.declared.events.CoreReply.{CoreReply}
 use Rattle.core_model.specs.LegalRuns.{Run}
 use Rattle.core_access.specs.Histories.{Told, run_after}
 use Rattle.core_access.specs.Sights.{Sight, Looks, Tells, run_seen}
-use Rattle.core_access.proofs.Sights.{looks-counts, tells-counts}
+use Rattle.core_access.proofs.Sights.{looks-counts, tells-counts, tells-on}
 use Rattle.request_wire.specs.declared.requests.Line.{Line}
 use Rattle.script_tree.specs.Programs.{ProgramTree}
 use Rattle.script_meaning.specs.Play.{IsTransaction}
@@ -24,7 +24,9 @@ use Rattle.worker_rules.specs.UnitOwnership.{BeganHere, KeepsPromise}
 use Rattle.worker_rules.specs.Work.{OnlyWorks, is_of_worker, is_work}
 use Rattle.worker_rules.proofs.CallPromises.{looks-promise, tells-promise}
 use Rattle.txn_agent.specs.AgentStep.{Acts}
+use Rattle.txn_agent.specs.Wishes.{Wishes}
 use Rattle.txn_agent.proofs.StepPromises.{acts-promise}
+use Rattle.txn_agent.proofs.WishAnswers.{wishes-promise}
 use Rattle.unit_carrier.specs.Lines.{PutsLine, IsEventOf}
 use Rattle.unit_crew.specs.Crews.{IsBasisOf, HasTypes, ReadsLinesAs, WorksOn}
 use Rattle.unit_crew.specs.FinishedUnits.{Showed}
@@ -93,6 +95,13 @@ works-acts may types u s t (inl l) began = works-looks (HasTypes types) may s t 
 works-acts may types u s t (inr (e, (r, x))) began =
     works-tells (HasTypes types) may s t e r x.told (ap is_of_worker x.own)
     (λ b same p. acts-promise may b u s t (subst (λ (z : ProgramTree). Acts may z u s t) (sym same) (inr (e, (r, x)))) began p)
+
+-- its wish
+pub works-wishes : (may : CoreEvent → Bool) (types : ProgramTree) (u : UnitNo) (s t : Sight) → Wishes may types u s t → BeganHere u s → WorksOn (HasTypes types) s t
+works-wishes may types u s t (inl l) began = works-looks (HasTypes types) may s t l
+works-wishes may types u s t (inr (r, p)) began =
+    works-tells (HasTypes types) may s t (Want u p.grain) r (tells-on may s p.seen t p.waits.looked (Want u p.grain) r p.told) refl
+    (λ b same k. wishes-promise may b u s t (subst (λ (z : ProgramTree). Wishes may z u s t) (sym same) (inr (r, p))) began k)
 
 -- a line's event is of no unit
 line-owns : {A : Type 0} → false ≡ true → A

@@ -1,7 +1,7 @@
 ghost use Rattle.std.specs.Prelude.{◌≡◌, ◌<◌, ◌≤◌, IfOk, length, filter, count_by, not};
 ghost use Rattle.core_access.specs.FitAccess.{StaysFit};
 ghost use Rattle.core_access.specs.Sights.{Looks};
-ghost use Rattle.script_tree.specs.Programs.{program_tree};
+ghost use Rattle.script_tree.specs.Programs.{ProgramTree, program_tree};
 ghost use Rattle.txn_agent.specs.declared.agent.Agent.{Agent as AnAgent};
 ghost use Rattle.txn_agent.specs.AgentStep.{has_freed_all, is_freeing};
 ghost use Rattle.unit_crew.specs.Crews.{IsCrew, HasTypes, WorksOn};
@@ -19,8 +19,16 @@ use worker_signals::{Signals, Stand};
 /// How many events a unit makes at most before a stop is looked for.
 const MOST_STEPS: usize = 64;
 
-/// The unit of the agent at this index goes on by at most one event; a child that it begins is carried too. Answers whether it
-/// moved.
+/// What a step of a unit came to.
+#[derive(Clone, Copy)]
+enum Stepped {
+    Moved,
+    /// The grain for whose lock the unit asks isn't in memory.
+    LacksGrain,
+    Stays,
+}
+
+/// The unit of the agent at this index goes on by at most one event; a child that it begins is carried too.
 fn step<A: Access, G: Gate>(
     alloc: Global,
     checked: &Checked,
@@ -28,7 +36,7 @@ fn step<A: Access, G: Gate>(
     agents: &mut Agents,
     gate: &G,
     index: usize,
-) -> Result<bool, AllocError>
+) -> Result<Stepped, AllocError>
     requires fit { A.is_fit access.old }
     requires within { index < length agents.old.list.items }
     requires crew { IsCrew (program_tree checked.now) (A.sight access.old) agents.old.list.items }
@@ -49,7 +57,7 @@ fn step<A: Access, G: Gate>(
             };
             agents.carry(alloc, checked, child, origin, call, false)?;
             gate.reach(GatePlace::Begun { unit: child });
-            Ok(true)
+            Ok(Stepped::Moved)
         }
         Advanced::Granted { grain, source } => {
             gate.reach(GatePlace::Granted {
@@ -57,14 +65,39 @@ fn step<A: Access, G: Gate>(
                 grain,
                 source,
             });
-            Ok(true)
+            Ok(Stepped::Moved)
         }
-        Advanced::Moved => Ok(true),
-        Advanced::Waits { holder: _holder } => Ok(false),
-        Advanced::WaitsLoad { grain: _grain } => Ok(false),
-        Advanced::WaitsFor { child: _child } => Ok(false),
-        Advanced::Ended => Ok(false),
+        Advanced::Moved => Ok(Stepped::Moved),
+        Advanced::Waits { holder: _holder } => Ok(Stepped::Stays),
+        Advanced::WaitsLoad { grain: _grain } => Ok(Stepped::LacksGrain),
+        Advanced::WaitsFor { child: _child } => Ok(Stepped::Stays),
+        Advanced::Ended => Ok(Stepped::Stays),
     }
+}
+
+/// The unit of the agent at this index wishes for the grain of the lock for which its script asks, where that isn't in memory. Answers
+/// whether the wish was done.
+fn wish<A: Access>(access: &mut A, agents: &Agents, index: usize) -> Result<bool, AllocError>
+    requires fit { A.is_fit access.old }
+    requires within { index < length agents.now.list.items }
+    ensures kept { StaysFit (A.is_fit access.new) (A.aside access.old) (A.aside access.new) }
+    ensures works { (types : ProgramTree) → IsCrew types (A.sight access.old) agents.now.list.items
+        → WorksOn (HasTypes types) (A.sight access.old) (A.sight access.new) }
+    ensures crew { (types : ProgramTree) → IsCrew types (A.sight access.old) agents.now.list.items
+        → IsCrew types (A.sight access.new) agents.now.list.items }
+{
+    let wished = agents.list[index].want(access)?;
+    Ok(wished)
+}
+
+/// Tells the others that something was put, where it was, and answers whether it was.
+fn tell_others(signals: &Signals, put: bool) -> bool
+    ensures { result ≡ put }
+{
+    if put {
+        signals.changed();
+    }
+    put
 }
 
 /// The unit of the agent at this index goes on as far as it can, by at most so many events; where the run is halted, only to
@@ -91,11 +124,13 @@ fn go_far<A: Access, G: Gate>(
         return Ok(false);
     }
     for count in 0..MOST_STEPS {
-        if !step(alloc, checked, access, agents, gate, index)? {
-            if count > 0 {
-                signals.changed();
+        match step(alloc, checked, access, agents, gate, index)? {
+            Stepped::Moved => {}
+            Stepped::Stays => return Ok(tell_others(signals, count > 0)),
+            Stepped::LacksGrain => {
+                let wished = wish(access, agents, index)?;
+                return Ok(tell_others(signals, count > 0 || wished));
             }
-            return Ok(count > 0);
         }
     }
     signals.changed();

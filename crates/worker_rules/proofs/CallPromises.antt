@@ -92,7 +92,7 @@ settling-none (EndSnapshot v at outcome) q u = absurd (true≢false (sym q))
 settling-none (Release v g) q u = absurd (true≢false (sym q))
 settling-none Halt q u = absurd (true≢false (sym q))
 settling-none (Want v g) q u = absurd (true≢false (sym q))
-settling-none (Load g v state) q u = absurd (true≢false (sym q))
+settling-none (Load g v state) q u = refl
 
 -- they may come anywhere
 settling-due : (b : Basis) (run : Run) (e : CoreEvent) → is_settling e ≡ true → MayCome b run e
@@ -114,7 +114,7 @@ settling-due b run (EndSnapshot v at outcome) q = absurd (true≢false (sym q))
 settling-due b run (Release v g) q = absurd (true≢false (sym q))
 settling-due b run Halt q = absurd (true≢false (sym q))
 settling-due b run (Want v g) q = absurd (true≢false (sym q))
-settling-due b run (Load g v state) q = absurd (true≢false (sym q))
+settling-due b run (Load g v state) q = λ a. tt
 
 -- so one who puts them keeps the promise
 pub settles-promise : (b : Basis) (may : CoreEvent → Bool) (s t : Sight) (e : CoreEvent) (r : CoreReply) → Tells may s e r t → is_settling e ≡ true → KeepsPromise b s → KeepsPromise b t
