@@ -256,7 +256,7 @@ def DEPOSIT_FRONT(unit):
 
 
 def pieces():
-    title("Versions that stand one behind the other are read at once, others by themselves: the read behind the last fails nobody.")
+    title("Versions that stand one behind the other are read at once, others by themselves, and each grain's last one once more for its state: the read behind these fails nobody.")
     for offsets, reads in [([0], 1), ([0, 19, 38], 1), ([1, 20, 39], 1), ([0, 20, 39], 2), ([0, 20, 40], 3), ([19, 38, 0], 2),
                            ([38, 19, 0], 3)]:
         grain = bytearray(b"\7" * (max(offsets) + 19))
@@ -282,10 +282,11 @@ def pieces():
 
 
 def failing_reads(reads, told):
+    """Reads of an opening, and behind them the one that brings the last state."""
     for nth in range(1, reads + 1):
         case(f"fail read 0/1 {nth}")
         case("open", "fault of 0/1")
-    case(f"fail read 0/1 {reads + 1}")
+    case(f"fail read 0/1 {reads + 2}")
     case("open", told)
 
 

@@ -1,4 +1,4 @@
-ghost use Rattle.std.specs.Prelude.{◌≡◌, ◌^◌, ◌≤ℤ◌, pos, neg_ℤ, IfOk, string_bytes};
+ghost use Rattle.std.specs.Prelude.{◌≡◌, true, ◌^◌, ◌≤ℤ◌, pos, neg_ℤ, IfOk, string_bytes};
 ghost use Rattle.core_model.specs.LegalRuns.{ends};
 ghost use Rattle.history_core.specs.ClosedUnits.{last_state};
 ghost use Rattle.history_core.specs.Cores.{run_of};
@@ -11,6 +11,7 @@ use std::alloc::{AllocError, Global};
 
 /// The balance of an account, 0 where no committed unit wrote one.
 fn balance(core: &Core, key: u32) -> i128
+    requires keeps { core.now.keeps ≡ true }
     ensures low { neg_ℤ (pos (2 ^ 63)) ≤ℤ result }
     ensures high { result ≤ℤ pos (2 ^ 63) }
     ensures value { result ≡ kept_balance (last_state (ends (run_of core.now)) (account key)) }
@@ -34,8 +35,9 @@ fn first_number(state: &State) -> i128
     }
 }
 
-/// The sum of the balances of the 64 accounts, as the last committed units left them.
+/// The sum of the balances of the 64 accounts, as the last committed units left them, in a core that keeps the last states.
 pub fn total_balance(core: &Core) -> i128
+    requires keeps { core.now.keeps ≡ true }
     ensures { result ≡ total_kept (ends (run_of core.now)) 64 }
 {
     let mut total = 0;

@@ -1,11 +1,11 @@
 -- What an audit found, in the words of the promise.
-use Rattle.std.proofs.Common.{◌≡◌, ℕ, List, [], ◌∷◌, ◌++◌, map, Option, Some, None, refl, sym, ◌∙◌, ap, subst}
+use Rattle.std.proofs.Common.{◌≡◌, List, [], ◌∷◌, ◌++◌, map, Option, Some, None, refl, sym, ◌∙◌, ap, subst}
 use Rattle.std.proofs.lemmas.List.{map-append}
 use Rattle.base_types.specs.declared.calls.UnitNo.{UnitNo}
 use Rattle.promise_spec.specs.Programs.{Program}
 use Rattle.promise_spec.specs.Records.{Commit, States}
 use Rattle.promise_spec.specs.Entries.{LogEntry, Recorded, Standing, Log, after_entry, after_entries, records_of}
-use Rattle.promise_spec.specs.SerialExecution.{IsSerial, IsSerialFrom, Replays}
+use Rattle.promise_spec.specs.SerialExecution.{IsSerialFrom, Replays}
 use Rattle.promise_spec.specs.Family.{states_after}
 use Rattle.promise_spec.specs.Commands.{IsFirstBad}
 use Rattle.promise_spec.proofs.Standings.{in_force, serial_from}

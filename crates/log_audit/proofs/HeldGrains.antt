@@ -9,7 +9,7 @@ use Rattle.host_trait.specs.World.{Image}
 use Rattle.commit_log.specs.declared.records.CommitRecord.{CommitRecord}
 use Rattle.commit_log.specs.declared.records.Written.{Written}
 use Rattle.promise_spec.specs.Programs.{Program, shape_in}
-use Rattle.promise_spec.specs.Records.{Commit, written}
+use Rattle.promise_spec.specs.Records.{Commit}
 use Rattle.promise_spec.specs.Entries.{Recorded, Standing, is_among, after_entry, after_entries, standing_of}
 use Rattle.field_codec.specs.declared.formats.Format.TheVariants.{One}
 use Rattle.promise_spec.specs.Openings.{LogRead, commit_of, version_named, state_of, log_of}

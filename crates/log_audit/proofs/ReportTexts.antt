@@ -2,15 +2,12 @@
 use Rattle.std.proofs.Common.{◌≡◌, ℕ, List, [], ◌∷◌, ◌++◌, map, refl, sym, ◌∙◌, ap}
 use Rattle.std.specs.List.{flat_map, list_any}
 use Rattle.base_types.specs.declared.calls.GrainId.{GrainId}
-use Rattle.base_types.specs.declared.calls.Value.{Value}
 use Rattle.base_types.specs.declared.shapes.Shape.{Shape}
 use Rattle.base_types.specs.declared.stores.Store.{Store}
 use Rattle.base_types.specs.Grains.{same_grain}
 use Rattle.host_trait.specs.World.{Image}
 use Rattle.commit_log.specs.declared.records.CommitRecord.{CommitRecord}
-use Rattle.commit_log.specs.declared.records.Written.{Written}
 use Rattle.log_reading.specs.Versions.{ascending}
-use Rattle.script_tree.specs.Programs.{program_tree}
 use Rattle.script_meaning.specs.Play.{found_in}
 use Rattle.silo_opening.specs.OpenedSilo.{program_in, AreStates, IsOpenedFrom}
 use Rattle.silo_opening.specs.declared.opened_silo.Opened.{Opened}
@@ -18,10 +15,10 @@ use Rattle.promise_spec.specs.Programs.{Program, shape_in}
 use Rattle.promise_spec.specs.Records.{Commit}
 use Rattle.promise_spec.specs.Entries.{Recorded, Standing, Log, after_entry, records_of, standing_of}
 use Rattle.promise_spec.proofs.Standings.{records_back}
-use Rattle.promise_spec.specs.Openings.{LogRead, commit_of, states_read, log_of}
+use Rattle.promise_spec.specs.Openings.{commit_of, log_of}
 use Rattle.promise_spec.specs.Reports.{line_of, AreHeld, grain_line, show_text, record_line, entries_text, history_text}
-use Rattle.log_audit.specs.Lines.{grain_data, grain_lines, count_data, record_data, record_lines}
-use Rattle.log_audit.specs.WrittenGrains.{grains_recorded, grains_of_log, grains_added}
+use Rattle.log_audit.specs.Lines.{grain_data, grain_lines, count_data, record_lines}
+use Rattle.log_audit.specs.WrittenGrains.{grains_of_log, grains_added}
 use Rattle.log_audit.proofs.GrainOrder.{are_ascending, ascending_twice, any_ascending}
 use Rattle.log_audit.proofs.HeldGrains.{held_of_log}
 use Rattle.log_audit.proofs.ShownReports.{HasParts, parts_of}

@@ -1,11 +1,15 @@
 -- The states of the versions that a record names, one after another, and the faults of versions.
-use Rattle.std.proofs.Common.{◌≡◌, inl, inr, ℕ, zero, suc, ◌<◌, List, [], ◌∷◌, ◌++◌, map, length, get_or, arith, Option, Some, Result, Ok, Err, refl, sym, ◌∙◌, ap, subst, append_assoc, append-nil}
+use Rattle.std.proofs.Common.{◌≡◌, inl, inr, ℕ, zero, suc, ◌<◌, List, [], ◌∷◌, ◌++◌, map, length, get_or, arith, Bool, true, false, if◌then◌else◌, Some, None, Result, Ok, Err, refl, sym, ◌∙◌, ap, subst, append_assoc, append-nil}
 use Rattle.std.specs.Prelude.{zip}
 use Rattle.base_types.specs.declared.calls.GrainId.{GrainId}
 use Rattle.base_types.specs.declared.calls.UnitNo.{UnitNo}
 use Rattle.base_types.specs.declared.calls.Value.{Value}
 use Rattle.base_types.specs.declared.shapes.Shape.{Shape}
 use Rattle.base_types.specs.declared.stores.Version.{Version}
+use Rattle.base_types.specs.declared.stores.Store.{Store}
+use Rattle.base_types.specs.Stores.{state_in, PutsState}
+use Rattle.host_trait.specs.Files.{same_grain}
+use Rattle.host_trait.proofs.Names.{same_grain-is, same_grain-refl}
 use Rattle.host_trait.specs.declared.channels.FileId.{FileId}
 use Rattle.host_trait.specs.declared.channels.FileId.TheVariants.{Grain}
 use Rattle.host_trait.specs.World.{Image}
@@ -68,6 +72,33 @@ version_fault {A} live shape image r w in_it e damaged fails = by e damaged fail
     by (FolderFault.Damaged at place) damaged fails = (named_as r.unit w, there, damaged at place refl)
     by (FolderFault.Failed at) damaged fails = (named_as r.unit w, there, fails at refl)
     by FolderFault.Memory damaged fails = tt
+
+-- ---- the versions of a checkpoint
+
+-- a version that a checkpoint names, whichever unit's it is
+abbrev pub saved_as : Written → Named
+saved_as w = record { unit = None; written = w }
+
+in_saved : (w : Written) (ws : List Written) → Member w ws → Member (saved_as w) (map saved_as ws)
+in_saved w [] none = absurd none
+in_saved w (x ∷ ws) (inl here) = inl (ap saved_as here)
+in_saved w (x ∷ ws) (inr there) = inr (in_saved w ws there)
+
+-- a fault of reading one
+pub saved_fault : {A : Type 0} (live : ℕ) (shape : Shape) (image : Image) (ws : List Written) (w : Written) → Member w ws → (e : FolderFault)
+    → ((at : FileId) (place : ℕ) → failed {A = A} e ≡ failed (FolderFault.Damaged at place) → version_named live One shape image (saved_as w) ≡ Err place)
+    → ((at : FileId) → failed {A = A} e ≡ failed (FolderFault.Failed at) → at ≡ Grain live w.grain) → IsVersionFault live shape image (map saved_as ws) e
+saved_fault live shape image ws w in_it (FolderFault.Damaged at place) damaged fails = (saved_as w, in_saved w ws in_it, damaged at place refl)
+saved_fault live shape image ws w in_it (FolderFault.Failed at) damaged fails = (saved_as w, in_saved w ws in_it, fails at refl)
+saved_fault live shape image ws w in_it FolderFault.Memory damaged fails = tt
+
+-- a state that is put is the grain's, and others have theirs
+pub state_put : (old new : Store) (grain other : GrainId) (state : List Value) → PutsState old new grain state → state_in new other ≡ (if same_grain grain other then Some state else state_in old other)
+state_put old new grain other state puts = by_test (same_grain grain other) refl
+  where
+    by_test : (b : Bool) → same_grain grain other ≡ b → state_in new other ≡ (if b then Some state else state_in old other)
+    by_test true same = ap (state_in new) (sym (same_grain-is grain other same)) ∙ puts.put
+    by_test false differ = puts.others other (λ is. (let z : true ≡ false = sym (ap (λ (h : GrainId). same_grain grain h) is ∙ same_grain-refl grain) ∙ differ in cc z))
 
 module _ (live : ℕ) (shape : Shape) (image : Image) where
   -- by the first of them

@@ -20,12 +20,12 @@ ghost use Rattle.promise_spec.specs.Openings.{commit_of};
 ghost use Rattle.log_audit.specs.RereadFaults.{IsVersionFault, IsRereadFault};
 ghost use Rattle.log_audit.specs.Replays.{same_write, agree, base_states, as_commits, ReplaysTo, AllReplayTo, IsFirstFailure};
 
-use base_types::{Ends, GrainId, List, Outcome, Places, Shape, State, Store, UnitNo};
+use base_types::{GrainId, List, Outcome, Shape, State, Store, UnitNo};
 use commit_log::{CommitRecord, Named, Written};
 use core_parts::Same;
 use field_codec::Format;
 use host_trait::Host;
-use log_reading::{FolderFault, named_version, next_block, read_base, read_versions};
+use log_reading::{FolderFault, named_version, next_block, read_base};
 use script_check::Checked;
 use script_player::{Played, play};
 use std::alloc::{AllocError, Global};
@@ -174,20 +174,6 @@ fn replay_block<H: Host>(
     Ok(None)
 }
 
-// The versions that a checkpoint names, whichever unit's they are.
-fn saved_names(alloc: Global, saved: &[Written]) -> Result<List<Named>, AllocError>
-    ensures { IfOk result (λ named. named ≡ map (λ w. record { unit = None; written = w }) saved.now) }
-{
-    let mut named = List::new(alloc);
-    for written in saved {
-        named.push(Named {
-            unit: None,
-            written: *written,
-        })?;
-    }
-    Ok(named)
-}
-
 // The states of the versions that a checkpoint names in a slot's files.
 fn saved_store<H: Host>(
     alloc: Global,
@@ -207,21 +193,15 @@ fn saved_store<H: Host>(
     ensures fault { IfErr result (λ e. ReadFaulted e (H.faults host.old) (H.faults host.new)) }
     ensures ready { StaysReady (H.is_ready host.old) (H.is_ready host.new) }
 {
-    let named = saved_names(alloc, saved)?;
     let mut store = Store::new(alloc);
-    let mut places = Places::new(alloc);
-    let mut ends = Ends::new(alloc);
-    read_versions(
-        alloc,
-        host,
-        slot,
-        shape,
-        Format::One,
-        named.as_slice(),
-        &mut store,
-        &mut places,
-        &mut ends,
-    )?;
+    for written in saved {
+        let named = Named {
+            unit: None,
+            written: *written,
+        };
+        let version = named_version(alloc, host, slot, shape, Format::One, named)?;
+        store.put(written.grain, version.state)?;
+    }
     Ok(store)
 }
 

@@ -75,7 +75,7 @@ module _ (live : ℕ) (format : Format) (shape : Shape) (image : Image) where
       (stands_by (same_grain n.written.grain g) g n t.0.0 p refl t.0.1 on)
 
   -- the state of what is kept of a grain's place
-  abbrev known_state : Option Placed → Option (List Value)
+  abbrev pub known_state : Option Placed → Option (List Value)
   known_state None = None
   known_state (Some p) = Some p.known.version.state
 
@@ -85,7 +85,7 @@ module _ (live : ℕ) (format : Format) (shape : Shape) (image : Image) where
   known_by true n v p s e on = ap (λ (r : Result Version ℕ). Some (version_found r).state) e ∙ sym (ap (λ (r : Result Version ℕ). Some (state_of r)) e)
 
   -- it is the state that the log leaves
-  known_after : (named : List Named) → first_missing live format shape image named ≡ None → (g : GrainId) (p : Option Placed) (s : Option (List Value)) → known_state p ≡ s
+  pub known_after : (named : List Named) → first_missing live format shape image named ≡ None → (g : GrainId) (p : Option Placed) (s : Option (List Value)) → known_state p ≡ s
       → known_state (placed_after live format shape image p named g) ≡ state_after live format shape image s named g
   known_after [] whole g p s on = on
   known_after (n ∷ named) whole g p s on =

@@ -2,7 +2,7 @@
 use Rattle.std.specs.Prelude.{◌≡◌, ◌⊎◌, ℕ, ◌+◌, length, Some, None, Ok, Err, ⊤}
 use Rattle.base_types.specs.declared.calls.GrainId.{GrainId}
 use Rattle.base_types.specs.declared.shapes.Shape.{Shape}
-use Rattle.base_types.specs.Stores.{state_in, end_in}
+use Rattle.base_types.specs.Stores.{end_in}
 use Rattle.base_types.specs.Places.{placed_in}
 use Rattle.host_trait.specs.declared.channels.FileId.{FileId}
 use Rattle.host_trait.specs.declared.channels.FileId.TheVariants.{Manager}
@@ -14,18 +14,17 @@ use Rattle.log_reading.specs.declared.contents.Contents.{Contents}
 use Rattle.log_reading.specs.declared.faults.FolderFault.{FolderFault}
 use Rattle.log_reading.specs.Blocks.{LogRead, log_in_file}
 use Rattle.log_reading.specs.Versions.{named_in, named_by_grain, first_missing}
-use Rattle.log_reading.specs.Sums.{next_after, state_after, placed_after, end_after, StopsAt}
+use Rattle.log_reading.specs.Sums.{next_after, placed_after, end_after, StopsAt}
 
 -- The live manager file has this log, and each version that it names is there. Of them is kept how many records there are, those before
--- the log's beginning too, the number of the next unit, the state of each grain that has a version and where its last one stands, the
--- greatest end in its file, and the gate at which the log ends, behind which no block counts.
+-- the log's beginning too, the number of the next unit, where the last version of each grain that has one stands, the greatest end in its
+-- file, and the gate at which the log ends, behind which no block counts.
 pub record HasContents (live : ℕ) (format : Format) (shape : Shape) (image : Image) (kept : Contents) : Type 0 where
   pub log : LogRead
   pub read : log_in_file format shape (image (Manager live)) ≡ Ok log
   pub whole : first_missing live format shape image (named_by_grain (named_in log)) ≡ None
   pub count : kept.count ≡ log.base.count + length log.records
   pub next : kept.next_unit.0 ≡ next_after log.base.next log.records
-  pub states : (grain : GrainId) → state_in kept.store grain ≡ state_after live format shape image None (named_by_grain (named_in log)) grain
   pub places : (grain : GrainId) → placed_in kept.places grain ≡ placed_after live format shape image None (named_by_grain (named_in log)) grain
   pub ends : (grain : GrainId) → end_in kept.ends grain ≡ end_after None (named_by_grain (named_in log)) grain
   pub gate : gate_of (image (Manager live)) ≡ kept.gate_at

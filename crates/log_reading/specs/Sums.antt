@@ -5,8 +5,7 @@ use Rattle.base_types.specs.declared.calls.GrainId.{GrainId}
 use Rattle.base_types.specs.declared.calls.Value.{Value}
 use Rattle.base_types.specs.declared.shapes.Shape.{Shape}
 use Rattle.base_types.specs.declared.stores.Ends.{Ends}
-use Rattle.base_types.specs.declared.stores.Store.{Store}
-use Rattle.base_types.specs.Stores.{state_in, end_in}
+use Rattle.base_types.specs.Stores.{end_in}
 use Rattle.base_types.specs.declared.stores.Place.{Place}
 use Rattle.base_types.specs.declared.stores.Version.{Version}
 use Rattle.base_types.specs.declared.places.Placed.{Placed}
@@ -85,11 +84,10 @@ pub record StopsAt (live : ℕ) (format : Format) (shape : Shape) (image : Image
   pub whole : first_missing live format shape image front ≡ None
   pub is : file ≡ Grain live here.written.grain
 
--- All of these versions are there, and what is kept of them goes on from what was kept before: the last state of each grain, and where
--- its last version stands.
-pub record AreKept (live : ℕ) (format : Format) (shape : Shape) (image : Image) (named : List Named) (old new : Store) (before after : Places) : Type 0 where
+-- All of these versions are there, and what is kept of them goes on from what was kept before: where the last version of each grain
+-- stands.
+pub record AreKept (live : ℕ) (format : Format) (shape : Shape) (image : Image) (named : List Named) (before after : Places) : Type 0 where
   pub whole : first_missing live format shape image named ≡ None
-  pub states : (grain : GrainId) → state_in new grain ≡ state_after live format shape image (state_in old grain) named grain
   pub places : (grain : GrainId) → placed_in after grain ≡ placed_after live format shape image (placed_in before grain) named grain
 
 -- what a fault says of versions that are read one after the other: where the first is that isn't there, or whose file failed

@@ -10,19 +10,18 @@ ghost use Rattle.log_reading.specs.Sums.{AreNear};
 use crate::faults::FolderFault;
 use crate::log::{read_log, sort_by_grain};
 use crate::versions::read_versions;
-use base_types::{Ends, Places, Shape, Store, UnitNo};
+use base_types::{Ends, Places, Shape, UnitNo};
 use field_codec::Format;
 use host_trait::Host;
 use std::alloc::{AllocError, Global};
 
 /// What is kept of a log and of its versions: how many records it has, the number of the next unit, the gate at which it ends,
-/// each grain's last state, where its last version stands, and where the places in its file end.
+/// where each grain's last version stands, and where the places in its file end. No state is kept.
 #[derive(Drop)]
 pub struct Contents {
     pub count: u64,
     pub next_unit: UnitNo,
     pub gate_at: u64,
-    pub store: Store,
     pub places: Places,
     pub ends: Ends,
 }
@@ -55,7 +54,6 @@ pub fn read_contents<H: Host>(
         Ok(()) => {}
         Err(AllocError) => return Err(FolderFault::Memory),
     }
-    let mut store = Store::new(alloc);
     let mut places = Places::new(alloc);
     let mut ends = Ends::new(alloc);
     match read_versions(
@@ -65,7 +63,6 @@ pub fn read_contents<H: Host>(
         shape,
         format,
         named.as_slice(),
-        &mut store,
         &mut places,
         &mut ends,
     ) {
@@ -73,7 +70,6 @@ pub fn read_contents<H: Host>(
             count: log.count,
             next_unit: log.next_unit,
             gate_at: log.gate_at,
-            store,
             places,
             ends,
         }),

@@ -1,7 +1,7 @@
 ghost use Rattle.std.specs.Prelude.{◌≡◌, ◌+◌, ◌^◌, ◌<◌, ◌≤◌, ℕ, List, IsTrue, true, false, if◌then◌else◌, length, take, drop, Ok, Err, Some, None, OnOk, IfOk, IfErr, IsErrOf};
 ghost use Rattle.std.specs.Int.{w64, to_le_bytes};
 ghost use Rattle.base_types.specs.declared.calls.GrainId.{GrainId};
-ghost use Rattle.base_types.specs.Stores.{state_in, end_in};
+ghost use Rattle.base_types.specs.Stores.{end_in};
 ghost use Rattle.base_types.specs.Places.{placed_in};
 ghost use Rattle.host_trait.specs.Files.{MayAsk, StaysReady};
 ghost use Rattle.host_trait.specs.Faults.{Counted, NoneFailed};
@@ -19,7 +19,7 @@ ghost use Rattle.log_reading.specs.Sums.{placed_as, end_after, greater_end, AreN
 
 use crate::faults::FolderFault;
 use crate::pieces::{Piece, no_piece, refill, text_in, version_of};
-use base_types::{Ends, KnownVersion, Place, Placed, Places, Shape, Store, Version};
+use base_types::{Ends, KnownVersion, Place, Placed, Places, Shape, Version};
 use commit_log::Named;
 use field_codec::Format;
 use grain_log::{VersionFault, read_named};
@@ -117,19 +117,16 @@ fn placed_as(place: Place, version: &Version) -> Placed
     }
 }
 
-// Gives a grain a version's state and its place, and its file the later end.
+// Gives a grain a version's place, and its file the later end.
 fn keep(
-    store: &mut Store,
     places: &mut Places,
     ends: &mut Ends,
     named: Named,
-    version: Version,
+    version: &Version,
 ) -> Result<(), FolderFault>
     requires { named.written.place.offset + named.written.place.len < 2 ^ 63 }
-    ensures states { OnOk result ((grain : GrainId)
-        → state_in store.new grain ≡ (if same_grain named.written.grain grain then Some version.state else state_in store.old grain)) }
     ensures places { OnOk result ((grain : GrainId)
-        → placed_in places.new grain ≡ (if same_grain named.written.grain grain then Some (placed_as named.written.place version)
+        → placed_in places.new grain ≡ (if same_grain named.written.grain grain then Some (placed_as named.written.place version.now)
         else placed_in places.old grain)) }
     ensures ends { OnOk result ((grain : GrainId)
         → end_in ends.new grain ≡ (if same_grain named.written.grain grain then greater_end (end_in ends.old grain)
@@ -138,15 +135,14 @@ fn keep(
 {
     let grain = named.written.grain;
     let place = named.written.place;
-    places.put(grain, placed_as(place, &version))?;
-    store.put(grain, version.state)?;
+    places.put(grain, placed_as(place, version))?;
     let end = greater_end(ends.get(grain), place.offset + place.len as u64);
     ends.put(grain, end)?;
     Ok(())
 }
 
-/// Reads these versions one by one, in pieces of a slot's files, and keeps the last state of each grain, where its version stands, and
-/// the greatest end in its file, which lies below 2^63. `Damaged` names the first that isn't there, and `Failed` the file of one before
+/// Reads these versions one by one, in pieces of a slot's files, and keeps where the last one of each grain stands and the greatest end
+/// in its file, which lies below 2^63, and no state. `Damaged` names the first that isn't there, and `Failed` the file of one before
 /// which all are there.
 pub fn read_versions<H: Host>(
     alloc: Global,
@@ -155,13 +151,12 @@ pub fn read_versions<H: Host>(
     shape: &Shape,
     format: Format,
     named: &[Named],
-    store: &mut Store,
     places: &mut Places,
     ends: &mut Ends,
 ) -> Result<(), FolderFault>
     requires slot { slot ≤ 1 }
     ensures kept { OnOk result (IsTrue H.tells
-        → AreKept slot format shape.now (seen_in (H.world host.old).disk) named.now store.old store.new places.old places.new) }
+        → AreKept slot format shape.now (seen_in (H.world host.old).disk) named.now places.old places.new) }
     ensures ends { OnOk result ((grain : GrainId) → end_in ends.new grain ≡ end_after (end_in ends.old grain) named.now grain) }
     ensures near { OnOk result (AreNear ends.old → AreNear ends.new) }
     ensures unread { IfErr result (λ e. IsTrue H.tells → AreUnread slot format shape.now (seen_in (H.world host.old).disk) named.now e) }
@@ -175,7 +170,7 @@ pub fn read_versions<H: Host>(
     for one in named {
         refill(alloc, host, slot, &mut piece, *one, &named[at..])?;
         let version = next_version(alloc, host, slot, shape, format, &piece, *one)?;
-        keep(store, places, ends, *one, version)?;
+        keep(places, ends, *one, &version)?;
         at += 1;
     }
     Ok(())

@@ -1,8 +1,10 @@
+ghost use Rattle.std.specs.Prelude.{◌≤◌};
+
 use crate::names::{NAMES, add_bytes, add_file, grain_of};
-use base_types::{GrainId, State};
+use base_types::{GrainId, State, Store};
 use field_codec::put_state;
 use host_memory::MemoryHost;
-use silo_opening::{InitFault, OpenFault, Opened, init, open_silo};
+use silo_opening::{InitFault, OpenFault, Opened, init, open_silo, states};
 use std::alloc::{AllocError, Global};
 
 fn add_open_fault(out: &mut String, fault: OpenFault) -> Result<(), AllocError> {
@@ -32,10 +34,11 @@ fn add_grain(
     alloc: Global,
     out: &mut String,
     opened: &Opened,
+    store: &Store,
     grain: GrainId,
 ) -> Result<(), AllocError> {
     let GrainId { kind, key } = grain;
-    if let Some(state) = opened.store.get(grain) {
+    if let Some(state) = store.get(grain) {
         write!(out, "; {kind}/{key} ")?;
         add_state(alloc, out, state)?;
     }
@@ -45,7 +48,19 @@ fn add_grain(
     Ok(())
 }
 
-fn add_opened(alloc: Global, out: &mut String, opened: &Opened) -> Result<(), AllocError> {
+// An opened silo, with the states that are read at its places.
+fn add_opened(
+    alloc: Global,
+    out: &mut String,
+    host: &mut MemoryHost,
+    opened: &Opened,
+) -> Result<(), AllocError>
+    requires { opened.now.slot ≤ 1 }
+{
+    let store = match states(alloc, host, opened) {
+        Ok(store) => store,
+        Err(fault) => return add_open_fault(out, fault),
+    };
     let count = opened.count;
     let next = opened.next_unit.0;
     let gate = opened.gate_at;
@@ -55,7 +70,7 @@ fn add_opened(alloc: Global, out: &mut String, opened: &Opened) -> Result<(), Al
     write!(out, "{count} records, next unit {next}, gate {gate}")?;
     for name in NAMES {
         if let Some(grain) = grain_of(name) {
-            add_grain(alloc, out, opened, grain)?;
+            add_grain(alloc, out, opened, &store, grain)?;
         }
     }
     Ok(())
@@ -68,7 +83,7 @@ pub fn add_opening(
     host: &mut MemoryHost,
 ) -> Result<(), AllocError> {
     match open_silo(alloc, host) {
-        Ok(opened) => add_opened(alloc, out, &opened),
+        Ok(opened) => add_opened(alloc, out, host, &opened),
         Err(fault) => add_open_fault(out, fault),
     }
 }

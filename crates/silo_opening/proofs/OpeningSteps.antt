@@ -1,7 +1,5 @@
 -- What was read, as an opened silo.
-use Rattle.std.proofs.Common.{◌≡◌, ℕ, true, Option, Some, None, List, map, length, Ok, refl, sym, ◌∙◌, ap}
-use Rattle.std.specs.Prelude.{unwrap_or}
-use Rattle.base_types.specs.declared.calls.Value.{Value}
+use Rattle.std.proofs.Common.{◌≡◌, ℕ, true, Some, None, List, map, length, Ok, refl, sym, ◌∙◌}
 use Rattle.base_types.specs.Stores.{end_in}
 use Rattle.host_trait.specs.declared.channels.FileId.TheVariants.{Manager, Program as ProgramFile, Grain}
 use Rattle.host_trait.specs.World.{Image}
@@ -11,12 +9,12 @@ use Rattle.log_reading.specs.Contents.{HasContents}
 use Rattle.silo_spec.specs.Slots.{generation}
 use Rattle.promise_spec.specs.Programs.{Program, shape_in}
 use Rattle.promise_spec.specs.Records.{Commit}
-use Rattle.promise_spec.specs.Entries.{Recorded, initial_states, Log}
+use Rattle.promise_spec.specs.Entries.{Recorded, Log}
 use Rattle.promise_spec.proofs.Standings.{in_force}
 use Rattle.promise_spec.specs.Openings.{is_silo, program_in_file, commit_of, log_of, live_in}
 use Rattle.silo_opening.specs.declared.opened_silo.Opened.{Opened}
 use Rattle.silo_opening.specs.OpenedSilo.{program_in, IsOpenedFrom}
-use Rattle.silo_opening.proofs.LogStates.{counts, count_is, next_is, states_are}
+use Rattle.silo_opening.proofs.LogStates.{count_is, next_is}
 use Rattle.silo_opening.proofs.WholeReadings.{reads_log}
 use Rattle.silo_opening.proofs.FileEnds.{ends_lie, end_lies}
 use Rattle.silo_opening.proofs.Gates.{closed_at}
@@ -24,7 +22,7 @@ use Rattle.silo_opening.proofs.Gates.{closed_at}
 -- what was read, as an opened silo
 pub is_opened : (image : Image) (o : Opened) → live_in image ≡ Some o.slot → generation (image (Manager o.slot)) ≡ o.generation → is_silo (image (Manager o.slot)) ≡ true
     → program_in_file (image (ProgramFile o.slot)) ≡ Ok (program_in o)
-    → HasContents o.slot One (shape_in (program_in o)) image (record { count = o.count; next_unit = o.next_unit; gate_at = o.gate_at; store = o.store; places = o.places; ends = o.ends }) → IsOpenedFrom image o
+    → HasContents o.slot One (shape_in (program_in o)) image (record { count = o.count; next_unit = o.next_unit; gate_at = o.gate_at; places = o.places; ends = o.ends }) → IsOpenedFrom image o
 is_opened image o found generation_is silo program h =
     let slot : ℕ = o.slot in
     let p : Program = program_in o in
@@ -38,7 +36,6 @@ is_opened image o found generation_is silo program h =
       program = in_force log.base (map Recorded commits);
       count = h.count ∙ sym (count_is slot shape image log.base h.log.records);
       next = h.next ∙ sym (next_is slot shape image log.base h.log.records);
-      states = λ grain. ap (λ (s : Option (List Value)). unwrap_or s (initial_states p grain)) (h.states grain) ∙ counts slot shape image (initial_states p) h.log grain ∙ sym (λ i. states_are slot shape image log.base h.log.records i grain);
       read = h.log;
       read_as = h.read;
       log_is = refl;

@@ -1,5 +1,5 @@
 -- The states at the places of an opened silo are those for which its log stands.
-use Rattle.std.proofs.Common.{◌≡◌, ◌⊎◌, inl, inr, ℕ, Option, Some, None, List, Result, Ok, Err, sym, ◌∙◌, ap, subst}
+use Rattle.std.proofs.Common.{◌≡◌, ◌⊎◌, inl, inr, ℕ, Option, Some, None, List, Result, Ok, Err, refl, sym, ◌∙◌, ap, subst}
 use Rattle.std.specs.Prelude.{unwrap_or}
 use Rattle.base_types.specs.declared.calls.GrainId.{GrainId}
 use Rattle.base_types.specs.declared.calls.Value.{Value}
@@ -12,7 +12,7 @@ use Rattle.field_codec.specs.declared.formats.Format.TheVariants.{One}
 use Rattle.log_reading.specs.declared.faults.FolderFault.{FolderFault}
 use Rattle.log_reading.specs.Versions.{named_in, named_by_grain}
 use Rattle.log_reading.specs.PlacedVersions.{version_placed, state_placed, IsUnreadAt}
-use Rattle.log_reading.proofs.PlacedVersions.{IsStanding, all_stand, placed_states}
+use Rattle.log_reading.proofs.PlacedVersions.{IsStanding, known_state, known_after, all_stand, placed_states}
 use Rattle.promise_spec.specs.Programs.{Program, shape_in}
 use Rattle.promise_spec.specs.Entries.{Log, initial_states, standing_of}
 use Rattle.promise_spec.specs.Openings.{log_of}
@@ -36,6 +36,20 @@ states_stand image o is grain =
     let log : Log = log_of slot p image is.read in
     ap (λ (s : Option (List Value)). unwrap_or s (initial_states p grain))
     (ap (λ (q : Option Placed). state_placed slot One shape image grain q None) (is.places grain) ∙ placed_states slot One shape image (named_by_grain (named_in is.read)) is.whole grain)
+    ∙ counts slot shape image (initial_states p) is.read grain
+    ∙ sym (λ i. states_are slot shape image log.base is.read.records i grain)
+    ∙ ap (λ (l : Log). (standing_of l).states grain) (sym is.log_is)
+
+-- what is known of the versions at the places are the log's states too
+pub known_stand : (image : Image) (o : Opened) (is : IsOpenedFrom image o) (grain : GrainId)
+    → unwrap_or (known_state o.slot One (shape_in (program_in o)) image (placed_in o.places grain)) (initial_states (program_in o) grain) ≡ (standing_of is.log).states grain
+known_stand image o is grain =
+    let slot : ℕ = o.slot in
+    let p : Program = program_in o in
+    let shape = shape_in p in
+    let log : Log = log_of slot p image is.read in
+    ap (λ (s : Option (List Value)). unwrap_or s (initial_states p grain))
+    (ap (λ (q : Option Placed). known_state slot One shape image q) (is.places grain) ∙ known_after slot One shape image (named_by_grain (named_in is.read)) is.whole grain None None refl)
     ∙ counts slot shape image (initial_states p) is.read grain
     ∙ sym (λ i. states_are slot shape image log.base is.read.records i grain)
     ∙ ap (λ (l : Log). (standing_of l).states grain) (sym is.log_is)

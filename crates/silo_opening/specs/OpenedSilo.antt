@@ -60,11 +60,10 @@ program_in o = record { text = o.text; types = program_tree o.checked }
 abbrev pub AreStates : Program → Store → Log → Type 0
 AreStates p store log = (grain : GrainId) → unwrap_or (state_in store grain) (initial_states p grain) ≡ (standing_of log).states grain
 
--- The folder reads as a silo with this live slot, of this generation, and a log, whose program is this. The log's standing is kept:
--- how many entries there are, the number of the next unit, and each grain's state, which is its type's initial fields where it isn't
--- kept. Each grain's place is the last that the log names, with the version that stands there. The ends are the greatest of the places
--- that it names in each grain's file, those that it begins with too, and lie in the file. The gate is that at which the log ends, and
--- closed.
+-- The folder reads as a silo with this live slot, of this generation, and a log, whose program is this. Of the log's standing is kept
+-- how many entries there are and the number of the next unit. Each grain's place is the last that the log names, with the version that
+-- stands there, whose state is the log's. The ends are the greatest of the places that it names in each grain's file, those that it
+-- begins with too, and lie in the file. The gate is that at which the log ends, and closed.
 pub record IsOpenedFrom (image : Image) (o : Opened) : Type 0 where
   pub log : Log
   pub reads : opened_as image ≡ Reads o.slot log
@@ -72,7 +71,6 @@ pub record IsOpenedFrom (image : Image) (o : Opened) : Type 0 where
   pub program : (standing_of log).program ≡ program_in o
   pub count : o.count ≡ (standing_of log).count
   pub next : o.next_unit.0 ≡ (standing_of log).next
-  pub states : AreStates (program_in o) o.store log
   pub read : LogRead
   pub read_as : log_in_file One (shape_in (program_in o)) (image (Manager o.slot)) ≡ Ok read
   pub log_is : log ≡ log_of o.slot (program_in o) image read

@@ -17,7 +17,7 @@ ghost use Rattle.silo_opening.specs.Counts.{OpenFaulted};
 ghost use Rattle.silo_opening.specs.OpenedSilo.{is_header, header_in, live_header, in_program_file, in_folder, ending_of, LeavesOpened, IsOpenedInBounds};
 
 use crate::faults::OpenFault;
-use base_types::{Ends, List, Places, Store, UnitNo};
+use base_types::{Ends, List, Places, UnitNo};
 use field_codec::Format;
 use host_trait::{Failed, FileId, Host, read_full};
 use log_reading::{FolderFault, read_contents};
@@ -26,8 +26,8 @@ use script_check::Checked;
 use std::alloc::{AllocError, Global};
 
 /// An opened silo: the slot that is live and its generation, its program with the text, how many records its log has, those before the
-/// log's beginning too, the state of each grain that has a version and where its last one stands, the greatest end among the places that
-/// are named in each grain's file, the number of the next unit, and the place of the gate at which the log ends.
+/// log's beginning too, where the last version of each grain that has one stands, the greatest end among the places that are named in each
+/// grain's file, the number of the next unit, and the place of the gate at which the log ends. Its states aren't kept: `states` reads them.
 #[derive(Drop)]
 pub struct Opened {
     pub slot: u8,
@@ -35,7 +35,6 @@ pub struct Opened {
     pub text: List<u8>,
     pub checked: Checked,
     pub count: u64,
-    pub store: Store,
     pub places: Places,
     pub ends: Ends,
     pub next_unit: UnitNo,
@@ -254,7 +253,6 @@ pub fn open_silo<H: Host>(alloc: Global, host: &mut H) -> Result<Opened, OpenFau
             text,
             checked,
             count: contents.count,
-            store: contents.store,
             places: contents.places,
             ends: contents.ends,
             next_unit: contents.next_unit,

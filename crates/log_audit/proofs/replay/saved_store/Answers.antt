@@ -1,27 +1,75 @@
-use Rattle.std.proofs.Common.{◌≡◌, List, None, map, ◌∙◌, subst}
+use Rattle.std.proofs.Common.{rules, ◌≡◌, ◌+◌, Option, List, map, drop, get_or, Ok, Err, refl, ap, subst}
 use Rattle.std.proofs.lemmas.Result.{err_from_is_err_and}
+use Rattle.base_types.specs.declared.calls.Value.{Value}
+use Rattle.host_trait.specs.World.{Disk}
+use Rattle.host_trait.proofs.Runs.{asked_then}
+use Rattle.host_trait.proofs.Counts.{none_then}
 use Rattle.field_codec.specs.declared.formats.Format.TheVariants.{One}
-use Rattle.commit_log.specs.declared.records.Named.{Named}
+use Rattle.commit_log.specs.declared.records.Written.{Written}
 use Rattle.log_reading.specs.Steps.{seen_in}
-use Rattle.log_reading.specs.Sums.{state_after, AreUnread}
-use Rattle.log_audit.proofs.Versions.{versions_fault}
+use Rattle.log_reading.specs.Sums.{state_after}
+use Rattle.log_reading.specs.Versions.{version_named}
+use Rattle.log_reading.proofs.NamedVersions.{state_more, state_all}
+use Rattle.log_reading.proofs.RecordSums.{next_default, no_item}
+use Rattle.log_audit.proofs.Versions.{saved_as, saved_fault, state_put, in_seam}
+use Rattle.log_audit.proofs.RereadFaults.{read_then}
 use Rattle.log_audit.proofs.replay.saved_store.Goals as goal
 
-pub returns-in_err-read_versions-clause-unread : goal.returns-in_err-read_versions-clause-unread
-returns-in_err-read_versions-clause-unread g c =
-    let p = err_from_is_err_and c.from_residual-in_err-read_versions.result c.from_residual-in_err-read_versions.ensures.1 in
+abbrev no_write : Written
+no_write = record { grain = record { kind = 0; key = 0 }; place = record { offset = 0; len = 0 } }
+
+pub loop-written-init : goal.loop-written-init
+loop-written-init g c = record {
+  states = λ told grain. ap (λ (s : Option (List Value)). state_after c.args.slot One c.args.shape.now (seen_in (g.H.Host.world c.args.host.now).disk) s (map saved_as c.args.saved.now) grain) (c.new-store.ensures grain);
+  asked = search rules;
+  calm = λ channel. refl;
+  ready = λ file was. was;
+}
+
+pub returns-in_err-version-clause-unread : goal.returns-in_err-version-clause-unread
+returns-in_err-version-clause-unread g c =
+    let p = err_from_is_err_and c.from_residual.result c.from_residual.ensures.1 in
+    let inv = c.loop-written.invariant in
+    let shape = c.args.shape.now in
+    let i = c.loop-written.written-index in
+    let xs = c.args.saved.now in
+    let x : Written = get_or xs i no_write in
+    rw (p.1, p.2) λ told.
+    saved_fault c.args.slot shape (seen_in (g.H.Host.world c.args.host.now).disk) xs x (in_seam xs i no_write xs c.loop-written-test.true refl) c.in_err-version.field-0.0
+    (λ at place is. subst (λ (d : Disk). version_named c.args.slot One shape (seen_in d) (saved_as x) ≡ Err place) (inv.asked told).disk (c.in_err-version.ensures.damaged at place is told))
+    (λ at is. c.in_err-version.ensures.failed at is)
+
+pub returns-in_err-version-clause-fault : goal.returns-in_err-version-clause-fault
+returns-in_err-version-clause-fault g c =
+    let p = err_from_is_err_and c.from_residual.result c.from_residual.ensures.1 in
+    rw (p.1, p.2) (read_then _ _ _ c.in_err-version.field-0.0 c.loop-written.invariant.calm c.in_err-version.ensures.fault)
+
+pub returns-in_err-version-clause-asked : goal.returns-in_err-version-clause-asked
+returns-in_err-version-clause-asked g c told = asked_then _ _ _ (c.loop-written.invariant.asked told) (c.named_version.ensures.asked told)
+
+pub returns-in_err-put-clause-asked : goal.returns-in_err-put-clause-asked
+returns-in_err-put-clause-asked g c told = asked_then _ _ _ (c.loop-written.invariant.asked told) (c.named_version.ensures.asked told)
+
+pub loop-written-preserved : goal.loop-written-preserved
+loop-written-preserved g c =
+    let inv = c.loop-written.invariant in
     let shape = c.args.shape.now in
     let image = seen_in (g.H.Host.world c.args.host.now).disk in
-    let names : List Named = map (λ w. record { unit = None; written = w }) c.args.saved.now in
-    let order : c.as_slice.result.now ≡ names = c.as_slice.ensures ∙ c.in_ok-named.ensures in
-    rw (p.1, p.2) λ told.
-    let e = c.in_err-read_versions.field-0.0 in
-    versions_fault c.args.slot shape image names e (subst (λ (ns : List Named). AreUnread c.args.slot One shape image ns e) order (c.in_err-read_versions.ensures.unread told))
+    let i = c.loop-written.written-index in
+    let xs = c.args.saved.now in
+    let x : Written = get_or xs i no_write in
+    let v = c.in_ok-version.version in
+    record {
+      states = λ told grain.
+          let found = subst (λ (d : Disk). version_named c.args.slot One shape (seen_in d) (saved_as x) ≡ Ok v) (inv.asked told).disk (c.in_ok-version.ensures.found told) in
+          state_more c.args.slot One shape image (saved_as x) (map saved_as (drop (i + 1) xs)) (map saved_as (drop i xs)) grain v _ _ _ (ap (map saved_as) (next_default i xs no_write c.loop-written-test.true)) found
+          (state_put c.loop-written.store c.put.new.self x.grain grain v.state c.in_ok-put.ensures.ok) (inv.states told grain);
+      asked = λ told. asked_then _ _ _ (inv.asked told) (c.named_version.ensures.asked told);
+      calm = none_then _ _ _ inv.calm c.in_ok-version.ensures.calm;
+      ready = λ file was. c.named_version.ensures.ready file (inv.ready file was);
+    }
 
 pub returns-clause-states : goal.returns-clause-states
 returns-clause-states g c told grain =
-    let shape = c.args.shape.now in
-    let image = seen_in (g.H.Host.world c.args.host.now).disk in
-    let names : List Named = map (λ w. record { unit = None; written = w }) c.args.saved.now in
-    let order : c.as_slice.result.now ≡ names = c.as_slice.ensures ∙ c.in_ok-named.ensures in
-    (c.in_ok-read_versions.ensures.kept told).states grain ∙ (λ i. state_after c.args.slot One shape image (c.new-store.ensures grain i) (order i) grain)
+    state_all c.args.slot One c.args.shape.now (seen_in (g.H.Host.world c.args.host.now).disk) (map saved_as (drop c.loop-written.written-index c.args.saved.now)) grain _ _
+    (ap (map saved_as) (no_item c.loop-written.written-index c.args.saved.now c.loop-written-test.false)) (c.loop-written.invariant.states told grain)

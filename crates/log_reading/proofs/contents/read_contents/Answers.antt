@@ -5,7 +5,7 @@ use Rattle.host_trait.proofs.Runs.{asked_then}
 use Rattle.commit_log.specs.declared.records.Named.{Named}
 use Rattle.log_reading.specs.Steps.{seen_in}
 use Rattle.log_reading.specs.Versions.{named_in, named_by_grain, first_missing}
-use Rattle.log_reading.specs.Sums.{state_after, placed_after, end_after, AreUnread}
+use Rattle.log_reading.specs.Sums.{placed_after, end_after, AreUnread}
 use Rattle.log_reading.proofs.StepFaults.{read_refused, versions_refused}
 use Rattle.log_reading.proofs.contents.read_contents.Goals as goal
 
@@ -25,7 +25,6 @@ returns-in-Ok-read_versions-clause-opened g c told =
       whole = sym (λ i. first_missing c.args.slot format shape (same i) (order i)) ∙ kept.whole;
       count = l.count;
       next = l.next;
-      states = λ grain. kept.states grain ∙ (λ i. state_after c.args.slot format shape (same i) (c.new-store.ensures grain i) (order i) grain);
       places = λ grain. kept.places grain ∙ (λ i. placed_after c.args.slot format shape (same i) (c.new-places.ensures grain i) (order i) grain);
       ends = λ grain. v.ends grain ∙ (λ i. end_after (c.new-ends.ensures grain i) (order i) grain);
       gate = l.gate told;

@@ -12,7 +12,7 @@ use Rattle.log_reading.proofs.Errors.{failed}
 use Rattle.log_reading.proofs.FilePieces.{still_piece}
 use Rattle.log_reading.proofs.RecordSums.{next_default, no_item}
 use Rattle.log_reading.proofs.StepFaults.{versions_unread}
-use Rattle.log_reading.proofs.NamedVersions.{passed_none, passed_more, passed_all, passed_here, stops_here, state_more, state_all, place_more, place_all, end_more, end_all, near_more}
+use Rattle.log_reading.proofs.NamedVersions.{passed_none, passed_more, passed_all, passed_here, stops_here, place_more, place_all, end_more, end_all, near_more}
 use Rattle.log_reading.proofs.versions.read_versions.Goals as goal
 
 abbrev no_name : Named
@@ -23,7 +23,6 @@ loop-one-init g c = record {
   at = refl;
   piece = c.no_piece-piece.ensures _ _ _;
   passed = λ told. passed_none _ _ _ _ c.args.named.now;
-  states = λ told grain. refl;
   places = λ told grain. refl;
   ends = λ grain. refl;
   near = λ was. was;
@@ -104,7 +103,6 @@ loop-one-preserved g c =
       at = ap (λ (n : ℕ). n + 1) inv.at;
       piece = still_piece _ _ _ _ _ (λ told. ap seen_in (inv.asked told).disk) c.in_ok-refill.ensures.piece;
       passed = λ told. passed_more c.args.slot format shape image xs (drop i xs) (inv.passed told) x (drop (i + 1) xs) next v (found told);
-      states = λ told grain. state_more c.args.slot format shape image x (drop (i + 1) xs) (drop i xs) grain v _ _ _ next (found told) (c.in_ok-keep.ensures.states grain) (inv.states told grain);
       places = λ told grain. place_more c.args.slot format shape image x (drop (i + 1) xs) (drop i xs) grain v _ _ _ next (found told) (c.in_ok-keep.ensures.places grain) (inv.places told grain);
       ends = λ grain. end_more x (drop (i + 1) xs) (drop i xs) grain _ _ _ next (c.in_ok-keep.ensures.ends grain) (inv.ends grain);
       near = λ was grain. near_more x grain _ _ (c.in_ok-version.ensures.near) (c.in_ok-keep.ensures.ends grain) (inv.near was grain);
@@ -122,7 +120,6 @@ returns-clause-kept g c told =
     let none = no_item c.loop-one.one-index c.args.named.now c.loop-one-test.false in
     record {
       whole = passed_all c.args.slot format shape _ c.args.named.now rest (c.loop-one.invariant.passed told) none;
-      states = λ grain. state_all c.args.slot format shape image rest grain _ _ none (c.loop-one.invariant.states told grain);
       places = λ grain. place_all c.args.slot format shape image rest grain _ _ none (c.loop-one.invariant.places told grain);
     }
 

@@ -80,7 +80,7 @@ returns-in-Ok-read_contents-clause-opened g c told =
     let shape : c.in-Ok-shape.shape ≡ shape_in p = (λ i. record { types = c.in-Ok-shape.ensures i }) in
     let left : (g.H.Host.world c.read_contents.new.host).disk ≡ opened_disk old = (c.read_contents.ensures.asked told).disk ∙ (c.read_program.ensures.asked told).disk ∙ both_left _ _ (c.in_ok-slot.ensures.settles told) in
     record {
-      opened = is_opened image (record { slot = slot; generation = c.in-Some.generation; text = c.in-Ok.found.0; checked = c.in-Ok.found.1; count = o.count; store = o.store; places = o.places; ends = o.ends; next_unit = o.next_unit; gate_at = o.gate_at })
+      opened = is_opened image (record { slot = slot; generation = c.in-Some.generation; text = c.in-Ok.found.0; checked = c.in-Ok.found.1; count = o.count; places = o.places; ends = o.ends; next_unit = o.next_unit; gate_at = o.gate_at })
           live.0 live.1 (live_silo image slot live.0) program
           (subst (λ (im : Image). HasContents slot One (shape_in p) im o) same (subst (λ (s : Shape). HasContents slot One s (seen_in (g.H.Host.world c.read_program.new.host).disk) o) shape (c.in-Ok-read_contents.ensures.opened told)));
       settles = both_more _ _ _ (both_more _ _ _ (c.in_ok-slot.ensures.settles told) (c.read_program.ensures.asked told)) (c.read_contents.ensures.asked told);
