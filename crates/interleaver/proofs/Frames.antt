@@ -6,7 +6,7 @@ use Rattle.std.proofs.lemmas.Bool.{cond-true, cond_both, and_parts, cases_Bool}
 use Rattle.base_types.specs.declared.calls.Origin.TheVariants.{Line, Child}
 use Rattle.core_model.specs.CoreState.{UnitNo, Call, Origin, CoreState}
 use Rattle.core_model.specs.declared.events.CoreEvent.{CoreEvent}
-use Rattle.core_model.specs.declared.events.CoreEvent.TheVariants.{Bad, Begin, Take, Vote, Decide, Sealed, NotSealed, Doubt, Learn, Emitted, Halt}
+use Rattle.core_model.specs.declared.events.CoreEvent.TheVariants.{Bad, Begin, Take, Vote, Decide, Sealed, NotSealed, Doubt, Learn, Emitted, Halt, Load}
 use Rattle.core_model.specs.declared.events.CoreReply.TheVariants.{Done, Began}
 use Rattle.core_model.specs.Changes.{swept, swept_by, new_unit}
 use Rattle.core_laws.proofs.EventCases.{Change, bad, begin, lock, raise, refuse, finish, end_plain, end_snapshot, release, take_batch, vote, decide_some, decide_none, seal_batch, spoil_batch, doubt_batch, learn, emit, halt_run, want, load, decode}
@@ -67,6 +67,7 @@ unit-others u (NotSealed n) q = absurd cc
 unit-others u (Doubt n) q = absurd cc
 unit-others u (Learn v g) q = absurd cc
 unit-others u Emitted q = absurd cc
+unit-others u (Load g v state) q = absurd cc
 unit-others u _ q = refl
 
 pub unit-no-halt : (u : UnitNo) (e : CoreEvent) → mover_of e ≡ OfUnit u → e ≡ Halt → ⊥

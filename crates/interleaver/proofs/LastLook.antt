@@ -7,8 +7,10 @@ use Rattle.std.proofs.lemmas.List.Sums.{length-filter}
 use Rattle.request_wire.specs.declared.requests.Line.{Line}
 use Rattle.core_model.specs.CoreState.{UnitNo, Member, Entry, CoreState, same_unit}
 use Rattle.core_model.specs.LegalRuns.{Run, ends}
+use Rattle.core_model.specs.Settler.{Step}
 use Rattle.core_model.specs.Tests.{any, is_decided}
 use Rattle.core_model.specs.declared.events.CoreEvent.{CoreEvent}
+use Rattle.core_model.specs.declared.events.CoreEvent.TheVariants.{Want}
 use Rattle.core_laws.proofs.Replies.{extends-ends}
 use Rattle.core_access.specs.OneHolder.{none_comes, own_sight}
 use Rattle.core_access.proofs.OneHolder.{own-run}
@@ -19,14 +21,15 @@ use Rattle.turn_rules.proofs.Growth.{ends-more}
 use Rattle.txn_agent.specs.declared.agent.Agent.{Agent}
 use Rattle.txn_agent.specs.CoreLink.{Knows}
 use Rattle.txn_agent.specs.AgentStep.{Acts, has_freed_all}
+use Rattle.txn_agent.specs.Wishes.{Wishes}
 use Rattle.txn_agent.specs.declared.agent.Advanced.{Advanced}
 use Rattle.txn_agent.specs.declared.agent.Advanced.TheVariants as advanced
 use Rattle.unit_carrier.specs.CarriedUnits.{AreCarried, StepsOn, units_carried, went_by, with_child}
 use Rattle.unit_carrier.proofs.Origins.{origin-event}
 use Rattle.interleaver.specs.Flights.{is_flown, is_open_line, lines_carried, next_line_by}
 use Rattle.interleaver.specs.LastLook.{IsLooked, IsLastLook, IsNow, looked_after}
-use Rattle.interleaver.specs.TurnStages.{SettlesBy}
-use Rattle.interleaver.proofs.LonePasses.{own-same, own-told}
+use Rattle.interleaver.specs.TurnStages.{GoesBy}
+use Rattle.interleaver.proofs.LonePasses.{own-same, own-told, own-wished}
 use Rattle.interleaver.proofs.UnitsInFlight.{told-agent}
 
 -- ---- lists
@@ -150,12 +153,19 @@ event-looked (Some settled) r e us below known =
 below-of : (types : ProgramTree) (r : Run) (agents : List Agent) → AreCarried types none_comes (own_sight r) agents → (u : UnitNo) → Member u (units_carried agents) → u.0 < (ends r).units.next
 below-of types r agents c u m = subst (λ (x : Run). u.0 < (ends x).units.next) (own-run r) (c.below u m)
 
--- behind a step of the settler
-pub settles-looked : (types : ProgramTree) (looked : Option ℕ) (r r' : Run) (agents : List Agent) → AreCarried types none_comes (own_sight r) agents → SettlesBy r r'
+-- behind a step of the settler, or a load
+pub goes-looked : (types : ProgramTree) (looked : Option ℕ) (next : CoreState → Step) (r r' : Run) (agents : List Agent) → AreCarried types none_comes (own_sight r) agents → GoesBy next r r'
     → IsLooked looked r (units_carried agents) → IsLooked looked r' (units_carried agents)
-settles-looked types looked r r' agents c (inl q) known = subst (λ (x : Run). IsLooked looked x (units_carried agents)) (sym q) known
-settles-looked types looked r r' agents c (inr s) known =
+goes-looked types looked next r r' agents c (inl q) known = subst (λ (x : Run). IsLooked looked x (units_carried agents)) (sym q) known
+goes-looked types looked next r r' agents c (inr s) known =
     subst (λ (x : Run). IsLooked looked x (units_carried agents)) (sym s.2) (event-looked looked r s.0 (units_carried agents) (below-of types r agents c) known)
+
+-- behind a unit's wish, or none
+pub wish-looked : (types : ProgramTree) (looked : Option ℕ) (r r' : Run) (u : UnitNo) (agents : List Agent) → AreCarried types none_comes (own_sight r) agents → Wishes none_comes types u (own_sight r) (own_sight r')
+    → IsLooked looked r (units_carried agents) → IsLooked looked r' (units_carried agents)
+wish-looked types looked r r' u agents c (inl looks) known = subst (λ (x : Run). IsLooked looked x (units_carried agents)) (sym (own-same r r' looks)) known
+wish-looked types looked r r' u agents c (inr w) known =
+    subst (λ (x : Run). IsLooked looked x (units_carried agents)) (sym (own-wished types r r' u w)) (event-looked looked r (Want u w.1.grain) (units_carried agents) (below-of types r agents c) known)
 
 -- behind a step of a unit
 pub moves-looked : (types : ProgramTree) (looked : Option ℕ) (r r' : Run) (u : UnitNo) (before after : List Agent) (went : _) → AreCarried types none_comes (own_sight r) before

@@ -11,6 +11,11 @@ pub mod UnitsInFlight
 pub mod LastLook
 pub mod RunEnds
 pub mod PickedTurns
+pub mod SureUnits
+pub mod AskedUnits
+pub mod PassTurns
+pub mod PassAnswers
+pub mod SureTurns
 pub mod Rooms
 pub mod RunStart
 pub mod TurnSequence

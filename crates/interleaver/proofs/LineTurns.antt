@@ -20,7 +20,7 @@ use Rattle.core_access.proofs.Sights.{reply-alone}
 use Rattle.promise_spec.specs.Lines.{ReadsLineAs}
 use Rattle.promise_spec.specs.UnitRule.{KeepsUnitRule}
 use Rattle.turn_rules.specs.NextEvent.{with_event, MayCome}
-use Rattle.turn_rules.specs.TurnLoop.{IsTurning, TurnLoop, has_room, with_new}
+use Rattle.turn_rules.specs.TurnLoop.{IsTurning, TurnLoop, has_room, no_pass, with_new}
 use Rattle.turn_rules.proofs.Growth.{ends-more}
 use Rattle.turn_rules.proofs.Turns.{turn-bad, turn-line}
 use Rattle.txn_agent.specs.Replies.{began_by}
@@ -56,9 +56,9 @@ allowed-with d h e p q t =
     ap (λ (a : Bool). ((a || false) && (not h || false)) && e) p ∙ ap (λ (a : Bool). ((true || false) && (not a || false)) && e) q ∙ t
 
 module _ (keeps : OthersKeep) (tells : Bool) (o : Outset) (lines : List Line) (b : Books) (s s' : TurnStage) (way : IsUnderWay tells o o.program.types lines o.width o.picks b s)
-    (line : Line) (next : slice_get lines s.begun ≡ Some line) (room : has_room (loop_at o s.at.run s.agents s.used) ≡ true) where
+    (line : Line) (next : slice_get lines s.begun ≡ Some line) (due : s.pass.due ≡ None) (room : has_room (loop_at o s.at.run s.agents s.used s.pass) ≡ true) where
   abbrev l : TurnLoop
-  l = loop_at o s.at.run s.agents s.used
+  l = loop_at o s.at.run s.agents s.used s.pass
 
   abbrev rest : List Line
   rest = drop (suc s.begun) lines
@@ -83,7 +83,7 @@ module _ (keeps : OthersKeep) (tells : Bool) (o : Outset) (lines : List Line) (b
 
   -- all goes on by the line's event
   line-on : (e : CoreEvent) → s'.at.run ≡ with_event s.at.run e → is_settling e ≡ false → (e ≡ Halt → ⊥) → (ends s'.at.run).units.lines ≡ (ends s.at.run).units.lines + 1 → (ends s'.at.run).units.next ≤ 2 ^ 63
-      → line.number < 2 ^ 32 → IsTurning (loop_at o s'.at.run s'.agents s'.used) → s'.begun ≡ s.begun + 1 → s'.at.settler ≡ s.at.settler → s'.at.faults ≡ s.at.faults → s'.at.world ≡ s.at.world → s.at.settler.doubted ≡ false
+      → line.number < 2 ^ 32 → IsTurning (loop_at o s'.at.run s'.agents s'.used s'.pass) → s'.begun ≡ s.begun + 1 → s'.at.settler ≡ s.at.settler → s'.at.faults ≡ s.at.faults → s'.at.world ≡ s.at.world → s.at.settler.doubted ≡ false
       → WentOn tells o o.program.types lines o.width o.picks b s s'
   line-on e run other halt more few small turning begun settler counts world calm =
       let rule : KeepsUnitRule (basis_of o) (with_event s.at.run e) = subst (KeepsUnitRule (basis_of o)) run turning.unit_rule in
@@ -121,9 +121,9 @@ module _ (keeps : OthersKeep) (tells : Bool) (o : Outset) (lines : List Line) (b
       }
 
   -- a line's turn
-  pub line-went : BeganOn o.program.types line s.at.run s'.at.run s.agents s'.agents → s'.used ≡ s.used → s'.begun ≡ s.begun + 1 → s'.at.settler ≡ s.at.settler → s'.at.faults ≡ s.at.faults → s'.at.world ≡ s.at.world
+  pub line-went : BeganOn o.program.types line s.at.run s'.at.run s.agents s'.agents → s'.used ≡ s.used → s'.pass ≡ no_pass → s'.begun ≡ s.begun + 1 → s'.at.settler ≡ s.at.settler → s'.at.faults ≡ s.at.faults → s'.at.world ≡ s.at.world
       → s.at.settler.doubted ≡ false → WentOn tells o o.program.types lines o.width o.picks b s s'
-  line-went g used begun settler counts world calm = by line.what refl g.on.put.is
+  line-went g used fresh begun settler counts world calm = by line.what refl g.on.put.is
     where
       e : CoreEvent
       e = g.on.put.e
@@ -139,7 +139,7 @@ module _ (keeps : OthersKeep) (tells : Bool) (o : Outset) (lines : List Line) (b
           let plain = is.0 in
           let ev : CoreEvent = Begin (OfLineOrigin line.number) call plain in
           let a : applies (ends s.at.run) ev ≡ true = allowed-with (ends s.at.run).manager.doubt (ends s.at.run).units.halt (line.number == (ends s.at.run).units.lines + 1) sure (way-unstopped way) (same-number line.number ((ends s.at.run).units.lines + 1) numbers.0) in
-          let due : MayCome (basis_of o) s.at.run ev = (λ x. (subst (ReadsLineAs o.program.types o.asked line.number) q this-reads, is.2)) in
+          let may : MayCome (basis_of o) s.at.run ev = (λ x. (subst (ReadsLineAs o.program.types o.asked line.number) q this-reads, is.2)) in
           let on : s'.at.run ≡ with_event s.at.run ev = run ∙ ap (with_event s.at.run) is.1 in
           let new : began_by g.on.r ≡ Some (new_unit (ends s.at.run)) =
           ap began_by (replied ∙ ap (reply_to (ends s.at.run)) is.1 ∙ cond-true (applies (ends s.at.run) ev) (reply_with (ends s.at.run) ev) (reply_without (ends s.at.run) ev) a) in
@@ -147,7 +147,7 @@ module _ (keeps : OthersKeep) (tells : Bool) (o : Outset) (lines : List Line) (b
           let more : (ends s'.at.run).units.lines ≡ (ends s.at.run).units.lines + 1 =
           ap (λ (x : Run). (ends x).units.lines) on ∙ ap (λ (x : CoreState). x.units.lines) (ends-more s.at.run ev) ∙ lines-begun (ends s.at.run) line.number call plain a in
           line-on ev on refl (λ h. apart call plain h) more g.few g.small
-          (loop-into o (with_event s.at.run ev) s'.at.run (with_new l) (units_carried s'.agents) s.used s'.used on us used (turn-line l way.turning line.number call plain room due a))
+          (loop-into o (with_event s.at.run ev) s'.at.run (with_new l) (units_carried s'.agents) s.used s'.used no_pass s'.pass on us used fresh (turn-line l way.turning line.number call plain due room may a))
           begun settler counts world calm
         where
           apart : (c : Call) (p : Bool) → Begin (OfLineOrigin line.number) c p ≡ Halt → ⊥
@@ -155,7 +155,7 @@ module _ (keeps : OthersKeep) (tells : Bool) (o : Outset) (lines : List Line) (b
       by (Err why) q is =
           let ev : CoreEvent = Bad line.number why in
           let a : applies (ends s.at.run) ev ≡ true = allowed-with (ends s.at.run).manager.doubt (ends s.at.run).units.halt (line.number == (ends s.at.run).units.lines + 1) sure (way-unstopped way) (same-number line.number ((ends s.at.run).units.lines + 1) numbers.0) in
-          let due : MayCome (basis_of o) s.at.run ev = (λ x. subst (ReadsLineAs o.program.types o.asked line.number) q this-reads) in
+          let may : MayCome (basis_of o) s.at.run ev = (λ x. subst (ReadsLineAs o.program.types o.asked line.number) q this-reads) in
           let on : s'.at.run ≡ with_event s.at.run ev = run ∙ ap (with_event s.at.run) is in
           let none : began_by g.on.r ≡ None =
           ap began_by (replied ∙ ap (reply_to (ends s.at.run)) is ∙ cond-true (applies (ends s.at.run) ev) (reply_with (ends s.at.run) ev) (reply_without (ends s.at.run) ev) a) in
@@ -163,7 +163,7 @@ module _ (keeps : OthersKeep) (tells : Bool) (o : Outset) (lines : List Line) (b
           let more : (ends s'.at.run).units.lines ≡ (ends s.at.run).units.lines + 1 =
           ap (λ (x : Run). (ends x).units.lines) on ∙ ap (λ (x : CoreState). x.units.lines) (ends-more s.at.run ev) ∙ lines-bad (ends s.at.run) line.number why a in
           line-on ev on refl (λ h. apart why h) more g.few g.small
-          (loop-into o (with_event s.at.run ev) s'.at.run (units_carried s.agents) (units_carried s'.agents) s.used s'.used on us used (turn-bad l way.turning ev refl refl room due))
+          (loop-into o (with_event s.at.run ev) s'.at.run (units_carried s.agents) (units_carried s'.agents) s.used s'.used no_pass s'.pass on us used fresh (turn-bad l way.turning ev due refl refl room may a))
           begun settler counts world calm
         where
           apart : (y : BadRequest) → Bad line.number y ≡ Halt → ⊥

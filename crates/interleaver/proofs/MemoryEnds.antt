@@ -1,6 +1,6 @@
 -- How a run ends where memory runs out in a turn.
-use Rattle.std.proofs.Common.{◌≡◌, ◌⊎◌, ℕ, suc, ◌+◌, arith, Some, List, ◌∷◌, length, Bool, true, false, inl, inr, refl, sym, ap, ◌∙◌, subst}
-use Rattle.std.specs.Prelude.{get_or, slice_get, drop, Err, Result, Ok}
+use Rattle.std.proofs.Common.{◌≡◌, ◌⊎◌, ℕ, suc, ◌+◌, arith, Some, None, List, ◌∷◌, length, Bool, true, false, inl, inr, refl, sym, ap, ◌∙◌, subst}
+use Rattle.std.specs.Prelude.{slice_get, drop, Err, Result, Ok}
 use Rattle.base_types.specs.declared.entries.BadRequest.{BadRequest}
 use Rattle.base_types.specs.declared.calls.Origin.TheVariants.{Line as OfLineOrigin}
 use Rattle.request_wire.specs.declared.requests.Line.{Line}
@@ -17,14 +17,11 @@ use Rattle.core_access.proofs.Sights.{looks-alone}
 use Rattle.worker_rules.specs.UnitOwnership.{leaves_unit}
 use Rattle.promise_spec.specs.Lines.{ReadsLineAs}
 use Rattle.promise_spec.specs.UnitRule.{KeepsUnitRule}
-use Rattle.promise_spec.specs.TurnRule.{Mover, OfUnit, OfLine, line_can_begin, mover_of, picked}
-use Rattle.turn_rules.specs.NextEvent.{with_event, MayCome, IsNext, movers_in, next_pick}
-use Rattle.turn_rules.specs.CarriedUnits.{movers_of}
+use Rattle.promise_spec.specs.TurnRule.{OfUnit, OfLine, mover_of}
+use Rattle.turn_rules.specs.NextEvent.{with_event, MayCome, IsNext}
 use Rattle.turn_rules.specs.TurnLoop.{IsPicked, TurnLoop, has_room}
 use Rattle.turn_rules.proofs.Growth.{unit-grows, turn-grows}
-use Rattle.turn_rules.proofs.Movers.{begins-kept, movers-kept}
-use Rattle.turn_rules.proofs.PlainTurns.{IsPlainTurn, by-plain}
-use Rattle.turn_rules.proofs.WithinWindows.{tests}
+use Rattle.turn_rules.proofs.Turns.{lines-next, picks-next}
 use Rattle.txn_agent.specs.AgentStep.{Acts}
 use Rattle.unit_carrier.specs.Lines.{PutsLine, IsEventOf}
 use Rattle.run_books.specs.declared.faults.RunFault.TheVariants.{Memory}
@@ -41,7 +38,7 @@ use Rattle.run_books.specs.Stages.{stage_by}
 
 module _ (keeps : OthersKeep) (tells : Bool) (o : Outset) (lines : List Line) (b : Books) (s : TurnStage) (r' : Run) (way : IsUnderWay tells o o.program.types lines o.width o.picks b s) where
   abbrev l : TurnLoop
-  l = loop_at o s.at.run s.agents s.used
+  l = loop_at o s.at.run s.agents s.used s.pass
 
   abbrev Ends : Run → Type 0
   Ends x = RecordGoesOn {T = Bool} tells o b s.at (stage_by x s.at.settler s.at.faults s.at.world) (Err Memory)
@@ -72,26 +69,13 @@ module _ (keeps : OthersKeep) (tells : Bool) (o : Outset) (lines : List Line) (b
         ended = on.1.rest;
       })
 
-  -- whether a line can begin is told by the units that are carried
-  can-begin : o.ruled ≡ true → line_can_begin o.windowed o.width (length o.asked) s.at.run (ends s.at.run) (movers_in o.program.types s.at.run) ≡ has_room l
-  can-begin ruled = tests o.program.types o.windowed o.width (length o.asked) s.at.run (way.turning.within ruled) ∙ begins-kept o.width (length o.asked) s.at.run l.units way.turning.kept
-
-  -- an event whose turn it is, is the next
-  next-plain : (m : Mover) (e : CoreEvent) → mover_of e ≡ m → IsPlainTurn (line_can_begin o.windowed o.width (length o.asked) s.at.run (ends s.at.run) (movers_in o.program.types s.at.run)) (picked (movers_in o.program.types s.at.run) (next_pick o.picks s.at.run)) (ends s.at.run) e m
-      → IsNext o.program.types o.windowed (length o.asked) o.width o.picks s.at.run e
-  next-plain m e own turn a = by-plain o.program.types o.windowed (length o.asked) o.width s.at.run way.turning.unlimited (next_pick o.picks s.at.run) e
-      (subst (λ (x : Mover). IsPlainTurn (line_can_begin o.windowed o.width (length o.asked) s.at.run (ends s.at.run) (movers_in o.program.types s.at.run)) (picked (movers_in o.program.types s.at.run) (next_pick o.picks s.at.run)) (ends s.at.run) e x) (sym own) turn)
-
   -- the picked unit's event is the next
   unit-next : o.ruled ≡ true → (u : UnitNo) → IsPicked l (OfUnit u) → (e : CoreEvent) → mover_of e ≡ OfUnit u → IsNext o.program.types o.windowed (length o.asked) o.width o.picks s.at.run e
-  unit-next ruled u pick e own = next-plain (OfUnit u) e own (
-    can-begin ruled ∙ pick.none,
-    ap (λ (ms : List Mover). picked ms (next_pick o.picks s.at.run)) (movers-kept o.program.types s.at.run l.units way.turning.kept)
-        ∙ ap (λ (n : ℕ). picked (movers_of o.program.types s.at.run l.units) (get_or o.picks n 0)) (sym (way.turning.count ruled)) ∙ pick.pick,
-  )
+  unit-next ruled u pick e own = picks-next l way.turning (OfUnit u) e pick own tt ruled
 
-  line-next : o.ruled ≡ true → has_room l ≡ true → (e : CoreEvent) → mover_of e ≡ OfLine → IsNext o.program.types o.windowed (length o.asked) o.width o.picks s.at.run e
-  line-next ruled room e own = next-plain OfLine e own (can-begin ruled ∙ room)
+  -- and so is a line's, where no wanted grain is missing
+  line-next : o.ruled ≡ true → s.pass.due ≡ None → has_room l ≡ true → (e : CoreEvent) → mover_of e ≡ OfLine → IsNext o.program.types o.windowed (length o.asked) o.width o.picks s.at.run e
+  line-next ruled due room e own = lines-next l way.turning e due own room ruled
 
   -- a unit's step that had no memory
   pub unit-lacks : (u : UnitNo) → IsPicked l (OfUnit u) → Acts none_comes o.program.types u (own_sight s.at.run) (own_sight r') → Ends r'
@@ -103,10 +87,10 @@ module _ (keeps : OthersKeep) (tells : Bool) (o : Outset) (lines : List Line) (b
       lacks-event e (own-told s.at.run r' e y p.told) due (λ ruled. unit-next ruled u pick e p.own) (unit-others u e p.own) (unit-no-halt u e p.own)
 
   -- a line's event that had none
-  pub line-lacks : (line : Line) → slice_get lines s.begun ≡ Some line → has_room l ≡ true
+  pub line-lacks : (line : Line) → slice_get lines s.begun ≡ Some line → s.pass.due ≡ None → has_room l ≡ true
       → Looks none_comes (own_sight s.at.run) (own_sight r') ⊎ ((y : CoreReply) × PutsLine none_comes o.program.types line.number line.what (own_sight s.at.run) (own_sight r') y) → Ends r'
-  line-lacks line next room (inl looked) = lacks-none (own-same s.at.run r' looked)
-  line-lacks line next room (inr (y, p)) = by line.what refl p.is
+  line-lacks line next due room (inl looked) = lacks-none (own-same s.at.run r' looked)
+  line-lacks line next due room (inr (y, p)) = by line.what refl p.is
     where
       numbers : GoUpFrom (ends s.at.run).units.lines (line ∷ drop (suc s.begun) lines)
       numbers = subst (GoUpFrom (ends s.at.run).units.lines) (drop-at lines s.begun line next) way.numbers
@@ -121,13 +105,13 @@ module _ (keeps : OthersKeep) (tells : Bool) (o : Outset) (lines : List Line) (b
       by : (what : Result Call BadRequest) → line.what ≡ what → IsEventOf o.program.types line.number what p.e → Ends r'
       by (Ok call) q is =
           lacks-event (Begin (OfLineOrigin line.number) call is.0) (run ∙ ap (with_event s.at.run) is.1) (λ x. (subst (ReadsLineAs o.program.types o.asked line.number) q this-reads, is.2))
-          (λ ruled. line-next ruled room (Begin (OfLineOrigin line.number) call is.0) refl) refl (λ h. apart call is.0 h)
+          (λ ruled. line-next ruled due room (Begin (OfLineOrigin line.number) call is.0) refl) refl (λ h. apart call is.0 h)
         where
           apart : (c : Call) (f : Bool) → Begin (OfLineOrigin line.number) c f ≡ Halt → ⊥
           apart c f t = absurd cc
       by (Err why) q is =
           lacks-event (Bad line.number why) (run ∙ ap (with_event s.at.run) is) (λ x. subst (ReadsLineAs o.program.types o.asked line.number) q this-reads)
-          (λ ruled. line-next ruled room (Bad line.number why) refl) refl (λ h. apart why h)
+          (λ ruled. line-next ruled due room (Bad line.number why) refl) refl (λ h. apart why h)
         where
           apart : (f : BadRequest) → Bad line.number f ≡ Halt → ⊥
           apart f t = absurd cc

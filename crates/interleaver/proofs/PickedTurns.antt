@@ -1,50 +1,42 @@
 -- A turn of who was picked, by what the calls of a turn say.
-use Rattle.std.proofs.Common.{◌≡◌, ℕ, zero, suc, ◌+◌, ◌%◌, ◌++◌, ◌≤◌, ◌<◌, ◌^◌, Some, None, List, [], ◌∷◌, length, Bool, true, false, inl, inr, refl, sym, ap, ◌∙◌, subst}
+use Rattle.std.proofs.Common.{◌≡◌, ℕ, zero, suc, ◌+◌, ◌%◌, ◌++◌, Some, None, List, [], ◌∷◌, length, Bool, true, false, inl, inr, refl, sym, ap, ◌∙◌, subst}
 use Rattle.std.specs.Prelude.{drop, filter, map, if◌then◌else◌, get_or, slice_get, Result, Ok, Err, is_some}
 use Rattle.std.proofs.lemmas.Option.{get_or_from_slice_get}
 use Rattle.request_wire.specs.declared.requests.Line.{Line}
-use Rattle.core_model.specs.CoreState.{UnitNo, GrainId, nobody}
+use Rattle.core_model.specs.CoreState.{UnitNo, CoreState, nobody}
 use Rattle.core_model.specs.LegalRuns.{Run, ends}
-use Rattle.core_model.specs.Settler.{has_step, settler_step, MakesEvent, Step, Votes, Decides, Seals, Learns, Writes, Loads, Takes, Rests}
-use Rattle.core_laws.proofs.WithoutLimit.{no-load-step}
-use Rattle.core_model.specs.declared.events.CoreEvent.{CoreEvent}
+use Rattle.core_model.specs.Settler.{has_step, settler_step, Step, Rests}
 use Rattle.core_access.specs.Histories.{reply_in}
 use Rattle.core_access.specs.OneHolder.{none_comes, own_sight}
-use Rattle.core_access.specs.SettlerEvents.{is_settling}
 use Rattle.core_access.proofs.OneHolder.{own-tells}
 use Rattle.script_tree.specs.Programs.{ProgramTree}
 use Rattle.promise_spec.specs.TurnRule.{Mover, can_move, OfUnit, OfSettler, picked}
 use Rattle.promise_spec.specs.UnitAnswers.{got_in}
 use Rattle.turn_rules.specs.CarriedUnits.{movers_of}
-use Rattle.turn_rules.specs.TurnLoop.{has_room, IsPicked}
+use Rattle.turn_rules.specs.TurnLoop.{IsPicked, no_pass}
+use Rattle.turn_rules.proofs.Settlers.{settlers-others}
 use Rattle.txn_agent.specs.declared.agent.Agent.{Agent}
 use Rattle.txn_agent.specs.AgentStep.{Acts}
 use Rattle.unit_carrier.specs.CarriedUnits.{AreCarried, StepsOn, as_carried, unit_at, units_carried}
-use Rattle.unit_carrier.proofs.CarriedUnits.{settles-carried}
-use Rattle.unit_carrier.proofs.Places.{units-same}
-use Rattle.run_books.specs.Beginnings.{Outset, IsOutset, GoUpFrom}
+use Rattle.unit_carrier.proofs.Places.{tells-carried, units-same}
+use Rattle.run_books.specs.Beginnings.{Outset, IsOutset}
 use Rattle.run_books.specs.Books.{Books}
 use Rattle.interleaver.specs.Flights.{loop_at, IsNextMover}
-use Rattle.run_books.specs.Records.{HasCarriedAll, KeepsBooks}
+use Rattle.run_books.specs.Records.{HasCarriedAll}
 use Rattle.promise_spec.specs.Causes.{RunHasDoubt}
 use Rattle.turn_rules.specs.QuietRun.{HasRun}
 use Rattle.interleaver.specs.Turns.{TurnsGoOn as RecordGoesOn}
 use Rattle.run_books.specs.declared.faults.RunFault.TheVariants.{Memory}
 use Rattle.interleaver.specs.declared.movers.NextMover.TheVariants.{Unit as OfIndex}
-use Rattle.interleaver.specs.TurnStages.{TurnSays, TurnStage, IsUnderWay, WentOn, MovedOn, SettlesBy, SettlesOne, SettledOn}
+use Rattle.interleaver.specs.TurnStages.{TurnSays, TurnStage, GoesBy, HasPassed, IsUnderWay, WentOn, MovedOn, SettlesBy, SettlesOne, SettledOn}
 use Rattle.interleaver.proofs.RunningTurns.{way-unstopped}
 use Rattle.run_books.proofs.BooksStated.{OthersKeep}
 use Rattle.interleaver.proofs.UnitTurns.{by-step, picked-moves, unit-went}
 use Rattle.interleaver.proofs.MemoryEnds.{unit-lacks, lacks-none}
 use Rattle.interleaver.proofs.RunEnds.{has-carried}
-use Rattle.interleaver.proofs.OtherTurns.{loop-into, settler-went, settler-ends}
-use Rattle.host_trait.specs.World.{World}
-use Rattle.host_trait.specs.declared.channels.Channel.{Channel}
+use Rattle.interleaver.proofs.OtherTurns.{loop-into, settler-went, settler-ends, still-went}
 use Rattle.settle_loop.specs.declared.settler.Settler.{Settler}
-use Rattle.settle_loop.specs.SettlerStep.{has_unwritten}
 use Rattle.run_books.specs.declared.faults.RunFault.{RunFault}
-use Rattle.run_books.specs.Images.{LastsSo}
-use Rattle.run_books.specs.BooksSteps.{AreEven}
 use Rattle.run_books.specs.Stages.{stage_by}
 
 -- what the outset says it is told of
@@ -53,28 +45,15 @@ pub at-outset : (P : ProgramTree → ℕ → List ℕ → Type 0) (o : Outset) (
 at-outset P o types r lines width picks is p =
     subst (λ (t : ProgramTree). P t width picks) is.types_are (subst (λ (n : ℕ). P o.program.types n picks) is.width_is (subst (P o.program.types o.width) is.picks_are p))
 
--- the events of a settler that brings no grain into memory
-settlers-settle : (s : Step) (e : CoreEvent) → ((g : GrainId) → s ≡ Loads g → ⊥) → MakesEvent s e → is_settling e ≡ true
-settlers-settle (Votes n g) e stays m = ap is_settling m.1
-settlers-settle (Decides n) e stays m = ap is_settling m
-settlers-settle (Seals n) e stays (inl m) = ap is_settling m
-settlers-settle (Seals n) e stays (inr (inl m)) = ap is_settling m
-settlers-settle (Seals n) e stays (inr (inr m)) = ap is_settling m
-settlers-settle (Learns u g) e stays m = ap is_settling m
-settlers-settle Writes e stays m = ap is_settling m
-settlers-settle (Loads g) e stays m = absurd (stays g refl)
-settlers-settle Takes e stays m = ap is_settling m
-settlers-settle Rests e stays m = absurd m
-
--- what is known of carried units stays by a step of the settler
-pub settles-known : (types : ProgramTree) (agents : List Agent) (r r' : Run) → r.capacity ≡ None → SettlesBy r r' → AreCarried types none_comes (own_sight r) agents → AreCarried types none_comes (own_sight r') agents
-settles-known types agents r r' limit (inl q) c = subst (λ (x : Run). AreCarried types none_comes (own_sight x) agents) (sym q) c
-settles-known types agents r r' limit (inr (e, makes, q)) c =
+-- what is known of carried units stays by a step of the settler, or a load
+pub goes-known : (types : ProgramTree) (agents : List Agent) (next : CoreState → Step) (r r' : Run) → GoesBy next r r' → AreCarried types none_comes (own_sight r) agents → AreCarried types none_comes (own_sight r') agents
+goes-known types agents next r r' (inl q) c = subst (λ (x : Run). AreCarried types none_comes (own_sight x) agents) (sym q) c
+goes-known types agents next r r' (inr (e, makes, q)) c =
     subst (λ (x : Run). AreCarried types none_comes (own_sight x) agents) (sym q)
-    (settles-carried types none_comes (own_sight r) _ e (reply_in r e) agents (own-tells r e) (settlers-settle (settler_step (ends r)) e (no-load-step r limit) makes) c)
+    (tells-carried types none_comes (own_sight r) _ e (reply_in r e) agents (own-tells r e) (λ u. settlers-others u (next (ends r)) e makes) c)
 
-module _ (keeps : OthersKeep) (tells : Bool) (o : Outset) (lines : List Line) (b : Books) (s : TurnStage) (r1 : Run) (agents1 : List Agent) (here : s.at.run.capacity ≡ None)
-    (way : IsUnderWay tells o o.program.types lines o.width o.picks b s) (full : has_room (loop_at o s.at.run s.agents s.used) ≡ false)
+module _ (keeps : OthersKeep) (tells : Bool) (o : Outset) (lines : List Line) (b : Books) (s : TurnStage) (r1 : Run) (agents1 : List Agent)
+    (way : IsUnderWay tells o o.program.types lines o.width o.picks b s) (passed : HasPassed o s)
     (index : ℕ) (is : IsNextMover o.program.types s.at.run (units_carried s.agents) (get_or o.picks s.used 0) (OfIndex index)) (run : r1 ≡ s.at.run) (same : as_carried agents1 ≡ as_carried s.agents) where
   u : UnitNo
   u = is.0
@@ -85,21 +64,21 @@ module _ (keeps : OthersKeep) (tells : Bool) (o : Outset) (lines : List Line) (b
   at : unit_at agents1 index ≡ is.0
   at = ap (λ (us : List UnitNo). get_or us index nobody) units ∙ get_or_from_slice_get (units_carried s.agents) index is.0 nobody is.1
 
-  pick : IsPicked (loop_at o s.at.run s.agents s.used) (OfUnit is.0)
-  pick = record { none = full; pick = is.2 }
+  pick : IsPicked (loop_at o s.at.run s.agents s.used s.pass) (OfUnit is.0)
+  pick = record { none = passed.full; through = passed.through; pick = is.2 }
 
   -- the unit moves
-  pub unit-turn : (s' : TurnStage) → MovedOn o.program.types index r1 s'.at.run agents1 s'.agents → s'.used ≡ s.used + 1 → s'.begun ≡ s.begun → s'.at.settler ≡ s.at.settler → s'.at.faults ≡ s.at.faults → s'.at.world ≡ s.at.world
+  pub unit-turn : (s' : TurnStage) → MovedOn o.program.types index r1 s'.at.run agents1 s'.agents → s'.used ≡ s.used + 1 → s'.pass ≡ no_pass → s'.begun ≡ s.begun → s'.at.settler ≡ s.at.settler → s'.at.faults ≡ s.at.faults → s'.at.world ≡ s.at.world
       → WentOn tells o o.program.types lines o.width o.picks b s s'
-  unit-turn s' m used begun settler counts world =
+  unit-turn s' m used fresh begun settler counts world =
       let moves = picked-moves o.program.types s.at.run (units_carried s.agents) (get_or o.picks s.used 0) is.0 is.2 in
       let on : StepsOn none_comes o.program.types is.0 (own_sight s.at.run) (own_sight s'.at.run) (units_carried s.agents) (units_carried s'.agents) m.went =
       subst (λ (x : Run). StepsOn none_comes o.program.types is.0 (own_sight x) (own_sight s'.at.run) (units_carried s.agents) (units_carried s'.agents) m.went) run
       (subst (λ (us : List UnitNo). StepsOn none_comes o.program.types is.0 (own_sight r1) (own_sight s'.at.run) us (units_carried s'.agents) m.went) units
       (subst (λ (v : UnitNo). StepsOn none_comes o.program.types v (own_sight r1) (own_sight s'.at.run) (units_carried agents1) (units_carried s'.agents) m.went) at m.on)) in
-      unit-went keeps tells o lines b s s' here way is.0 pick
+      unit-went keeps tells o lines b s s' way is.0 pick
       (by-step o s.at.run s'.at.run is.0 (units_carried s.agents) (units_carried s'.agents) (moves.1, (way-unstopped way)) way.outset.kinds way.turning.first way.turning.unit_rule m.went on moves.0)
-      used begun settler counts world (way.books.doubt ∙ ap is_some moves.1) m.few
+      used fresh begun settler counts world (way.books.doubt ∙ ap is_some moves.1) m.few
 
   -- or has no memory
   pub unit-out : (r' : Run) → Acts none_comes o.program.types (unit_at agents1 index) (own_sight r1) (own_sight r') → RecordGoesOn {T = Bool} tells o b s.at (stage_by r' s.at.settler s.at.faults s.at.world) (Err Memory)
@@ -134,8 +113,8 @@ pub says-lack : (tells : Bool) (o : Outset) (types : ProgramTree) (lines : List 
     → RecordGoesOn {T = Bool} tells o b s.at s'.at (Err f) → TurnSays tells o types lines width picks b s s' result
 says-lack tells o types lines width picks b s s' result f q g = subst (TurnSays tells o types lines width picks b s s') (sym q) g
 
-module _ (keeps : OthersKeep) (tells : Bool) (o : Outset) (types : ProgramTree) (lines : List Line) (width : ℕ) (picks : List ℕ) (b : Books) (s : TurnStage) (here : s.at.run.capacity ≡ None)
-    (way : IsUnderWay tells o types lines width picks b s) (full : has_room (loop_at o s.at.run s.agents s.used) ≡ false) where
+module _ (keeps : OthersKeep) (tells : Bool) (o : Outset) (types : ProgramTree) (lines : List Line) (width : ℕ) (picks : List ℕ) (b : Books) (s : TurnStage)
+    (way : IsUnderWay tells o types lines width picks b s) (passed : HasPassed o s) where
   -- nothing was put
   pub none-out : (r' : Run) → r' ≡ s.at.run → RecordGoesOn {T = Bool} tells o b s.at (stage_by r' s.at.settler s.at.faults s.at.world) (Err Memory)
   none-out r' q =
@@ -148,7 +127,7 @@ module _ (keeps : OthersKeep) (tells : Bool) (o : Outset) (types : ProgramTree) 
   nobody-says s' run us used begun settler counts world none =
       at-outset (λ t n ps. IsUnderWay tells o t lines n ps b s → movers_of t s.at.run (units_carried s.agents) ≡ [] → TurnSays tells o t lines n ps b s s' (Ok false))
       o types s.at.run (drop s.begun lines) width picks way.outset
-      (λ w m. (went w, carried (has-carried tells o lines b s w m full))) way none
+      (λ w m. (s.pass, went w, carried (has-carried tells o lines b s w m passed.full passed.through))) way none
     where
       carried : HasCarriedAll o s.at → HasCarriedAll o s'.at
       carried all = record {
@@ -161,36 +140,18 @@ module _ (keeps : OthersKeep) (tells : Bool) (o : Outset) (types : ProgramTree) 
             (subst (λ (x : Run). s.at.settler.written ≡ (ends x).units.lines) (sym run) all.written);
       }
 
-      went : IsUnderWay tells o o.program.types lines o.width o.picks b s → WentOn tells o o.program.types lines o.width o.picks b s s'
-      went w = record {
-        books = b;
-        under_way = record {
-          outset = subst (λ (n : ℕ). IsOutset o o.program.types s'.at.run (drop n lines) o.width o.picks) (sym begun) (subst (λ (x : Run). IsOutset o o.program.types x (drop s.begun lines) o.width o.picks) (sym run) w.outset);
-          numbers = subst (λ (n : ℕ). GoUpFrom (ends s'.at.run).units.lines (drop n lines)) (sym begun) (subst (λ (x : Run). GoUpFrom (ends x).units.lines (drop s.begun lines)) (sym run) w.numbers);
-          accepted = w.accepted;
-          few = subst (λ (x : Run). (ends x).units.next ≤ 2 ^ 63) (sym run) w.few;
-          room = subst (λ (x : Run). (ends x).units.lines < 2 ^ 32) (sym run) w.room;
-          turning = loop-into o s.at.run s'.at.run (units_carried s.agents) (units_carried s'.agents) s.used s'.used run us used w.turning;
-          books = subst (λ (x : World). KeepsBooks tells o b (stage_by s'.at.run s'.at.settler s'.at.faults x)) (sym world)
-              (subst (λ (x : Channel → ℕ). KeepsBooks tells o b (stage_by s'.at.run s'.at.settler x s.at.world)) (sym counts)
-              (subst (λ (x : Settler). KeepsBooks tells o b (stage_by s'.at.run x s.at.faults s.at.world)) (sym settler)
-              (subst (λ (x : Run). KeepsBooks tells o b (stage_by x s.at.settler s.at.faults s.at.world)) (sym run) w.books)));
-          even = subst (λ (x : Settler). AreEven x.quiet b (ends s'.at.run)) (sym settler) (subst (λ (x : Run). AreEven s.at.settler.quiet b (ends x)) (sym run) w.even);
-          left = subst (λ (x : Settler). x.doubted ≡ true → has_unwritten (ends s'.at.run) ≡ true) (sym settler) (subst (λ (x : Run). s.at.settler.doubted ≡ true → has_unwritten (ends x) ≡ true) (sym run) w.left);
-        };
-        lasts = λ t head was. subst (λ (x : World). LastsSo o head b s'.at.run s'.at.settler.writer x) (sym world)
-            (subst (λ (x : Settler). LastsSo o head b s'.at.run x.writer s.at.world) (sym settler)
-            (subst (λ (x : Run). LastsSo o head b x s.at.settler.writer s.at.world) (sym run) was));
-      }
+      went : IsUnderWay tells o o.program.types lines o.width o.picks b s → WentOn tells o o.program.types lines o.width o.picks b s (record s' { pass = s.pass })
+      went w = still-went tells o lines b s (record s' { pass = s.pass }) w begun settler counts world run
+          (loop-into o s.at.run s'.at.run (units_carried s.agents) (units_carried s'.agents) s.used s'.used s.pass s.pass run us used refl w.turning)
 
   -- the picked unit's step
   pub unit-says : (s' : TurnStage) (r1 : Run) (agents1 : List Agent) (index : ℕ) (pick : ℕ) → pick ≡ get_or picks s.used 0 → IsNextMover types s.at.run (units_carried s.agents) pick (OfIndex index) → r1 ≡ s.at.run → as_carried agents1 ≡ as_carried s.agents
-      → MovedOn types index r1 s'.at.run agents1 s'.agents → s'.used ≡ s.used + 1 → s'.begun ≡ s.begun → s'.at.settler ≡ s.at.settler → s'.at.faults ≡ s.at.faults → s'.at.world ≡ s.at.world
+      → MovedOn types index r1 s'.at.run agents1 s'.agents → s'.used ≡ s.used + 1 → s'.pass ≡ no_pass → s'.begun ≡ s.begun → s'.at.settler ≡ s.at.settler → s'.at.faults ≡ s.at.faults → s'.at.world ≡ s.at.world
       → WentOn tells o types lines width picks b s s'
-  unit-says s' r1 agents1 index pick at is run same m used begun settler counts world =
+  unit-says s' r1 agents1 index pick at is run same m used fresh begun settler counts world =
       at-outset (λ t n ps. IsUnderWay tells o t lines n ps b s → IsNextMover t s.at.run (units_carried s.agents) (get_or ps s.used 0) (OfIndex index) → MovedOn t index r1 s'.at.run agents1 s'.agents → WentOn tells o t lines n ps b s s')
       o types s.at.run (drop s.begun lines) width picks way.outset
-      (λ w i x. unit-turn keeps tells o lines b s r1 agents1 here w full index i run same s' x used begun settler counts world) way
+      (λ w i x. unit-turn keeps tells o lines b s r1 agents1 w passed index i run same s' x used fresh begun settler counts world) way
       (subst (λ (p : ℕ). IsNextMover types s.at.run (units_carried s.agents) p (OfIndex index)) at is) m
 
   pub unit-out-says : (r' r1 : Run) (agents1 : List Agent) (index : ℕ) (pick : ℕ) → pick ≡ get_or picks s.used 0 → IsNextMover types s.at.run (units_carried s.agents) pick (OfIndex index) → r1 ≡ s.at.run → as_carried agents1 ≡ as_carried s.agents
@@ -199,18 +160,18 @@ module _ (keeps : OthersKeep) (tells : Bool) (o : Outset) (types : ProgramTree) 
       at-outset (λ t n ps. IsUnderWay tells o t lines n ps b s → IsNextMover t s.at.run (units_carried s.agents) (get_or ps s.used 0) (OfIndex index) → Acts none_comes t (unit_at agents1 index) (own_sight r1) (own_sight r')
       → RecordGoesOn {T = Bool} tells o b s.at (stage_by r' s.at.settler s.at.faults s.at.world) (Err Memory))
       o types s.at.run (drop s.begun lines) width picks way.outset
-      (λ w i x. unit-out keeps tells o lines b s r1 agents1 here w full index i run same r' x) way
+      (λ w i x. unit-out keeps tells o lines b s r1 agents1 w passed index i run same r' x) way
       (subst (λ (p : ℕ). IsNextMover types s.at.run (units_carried s.agents) p (OfIndex index)) at is) acts
 
   -- the settler's step
   pub settler-says : (s' : TurnStage) (pick : ℕ) → pick ≡ get_or picks s.used 0 → picked (movers_of types s.at.run (units_carried s.agents)) pick ≡ Some OfSettler
       → (has_step (settler_step (ends s.at.run)) ≡ true → SettlesOne s.at.run s'.at.run) → SettledOn {T = Unit} tells o b s.at s'.at (Ok tt)
-      → units_carried s'.agents ≡ units_carried s.agents → s'.used ≡ s.used + 1 → s'.begun ≡ s.begun → WentOn tells o types lines width picks b s s'
-  settler-says s' pick at is acts on us used begun =
+      → units_carried s'.agents ≡ units_carried s.agents → s'.used ≡ s.used + 1 → s'.begun ≡ s.begun → s'.pass ≡ no_pass → WentOn tells o types lines width picks b s s'
+  settler-says s' pick at is acts on us used begun fresh =
       at-outset (λ t n ps. IsUnderWay tells o t lines n ps b s → picked (movers_of t s.at.run (units_carried s.agents)) (get_or ps s.used 0) ≡ Some OfSettler → WentOn tells o t lines n ps b s s')
       o types s.at.run (drop s.begun lines) width picks way.outset
       (λ w i. let e = acts (picked-steps o.program.types s.at.run (units_carried s.agents) (get_or o.picks s.used 0) i) in
-      settler-went tells o lines b s s' w tt (record { none = full; pick = i }) e.0 e.1 e.2 on us used begun) way
+      settler-went tells o lines b s s' w tt (record { none = passed.full; through = passed.through; pick = i }) e.0 e.1 e.2 on us used begun fresh) way
       (subst (λ (p : ℕ). picked (movers_of types s.at.run (units_carried s.agents)) p ≡ Some OfSettler) at is)
 
   pub settler-out-says : (s' : TurnStage) (pick : ℕ) → pick ≡ get_or picks s.used 0 → picked (movers_of types s.at.run (units_carried s.agents)) pick ≡ Some OfSettler
@@ -219,5 +180,5 @@ module _ (keeps : OthersKeep) (tells : Bool) (o : Outset) (types : ProgramTree) 
   settler-out-says s' pick at is by f on =
       at-outset (λ t n ps. IsUnderWay tells o t lines n ps b s → picked (movers_of t s.at.run (units_carried s.agents)) (get_or ps s.used 0) ≡ Some OfSettler → RecordGoesOn {T = Bool} tells o b s.at s'.at (Err f))
       o types s.at.run (drop s.begun lines) width picks way.outset
-      (λ w i. settler-ends tells o lines b s s' w (record { none = full; pick = i }) by f on) way
+      (λ w i. settler-ends tells o lines b s s' w (record { none = passed.full; through = passed.through; pick = i }) by f on) way
       (subst (λ (p : ℕ). picked (movers_of types s.at.run (units_carried s.agents)) p ≡ Some OfSettler) at is)

@@ -11,7 +11,7 @@ use Rattle.core_access.specs.Sights.{Looks}
 use Rattle.core_access.proofs.OneHolder.{own-run}
 use Rattle.script_tree.specs.Programs.{ProgramTree}
 use Rattle.turn_rules.specs.CarriedUnits.{is_flying, is_kept}
-use Rattle.turn_rules.specs.TurnLoop.{IsTurning, has_room}
+use Rattle.turn_rules.specs.TurnLoop.{IsTurning, has_room, no_pass}
 use Rattle.txn_agent.specs.declared.agent.Agent.{Agent}
 use Rattle.unit_carrier.specs.CarriedUnits.{AreCarried, units_carried}
 use Rattle.unit_carrier.specs.Lines.{PutsLine}
@@ -73,10 +73,10 @@ module _ (tells : Bool) (o : Outset) (types : ProgramTree) (lines : List Line) (
       by true q = refl
       by false q = kept-flown types s.at.run way.turning.first (calm q) s.agents carried.known came
 
-  turning : IsTurning (loop_at o s.at.run agents s.used)
+  turning : IsTurning (loop_at o s.at.run agents s.used s.pass)
   turning = record {
     first = way.turning.first;
-    unlimited = way.turning.unlimited;
+    passing = way.turning.passing;
     unit_rule = way.turning.unit_rule;
     unstopped = way.turning.unstopped;
     turn_rule = way.turning.turn_rule;
@@ -116,11 +116,11 @@ module _ (tells : Bool) (o : Outset) (types : ProgramTree) (lines : List Line) (
 
   -- the line that begins next has room
   pub room-some : (line : Line) → Some line ≡ next_line_by s.at.settler.doubted agents width s.begun lines
-      → (slice_get lines s.begun ≡ Some line) × (has_room (loop_at o s.at.run agents s.used) ≡ true) × (s.at.settler.doubted ≡ false)
+      → (slice_get lines s.begun ≡ Some line) × (has_room (loop_at o s.at.run agents s.used s.pass) ≡ true) × (s.at.settler.doubted ≡ false)
   room-some line = by s.at.settler.doubted refl (nat_lt (lines_carried agents) width) refl
     where
       by : (d : Bool) → s.at.settler.doubted ≡ d → (few : Bool) → nat_lt (lines_carried agents) width ≡ few → Some line ≡ (if d || not few then None else slice_get lines s.begun)
-          → (slice_get lines s.begun ≡ Some line) × (has_room (loop_at o s.at.run agents s.used) ≡ true) × (s.at.settler.doubted ≡ false)
+          → (slice_get lines s.begun ≡ Some line) × (has_room (loop_at o s.at.run agents s.used s.pass) ≡ true) × (s.at.settler.doubted ≡ false)
       by true q few p x = absurd cc
       by false q false p x = absurd cc
       by false q true p x =
@@ -135,10 +135,10 @@ module _ (tells : Bool) (o : Outset) (types : ProgramTree) (lines : List Line) (
           )
 
   -- where none begins, none has
-  pub room-none : None ≡ next_line_by s.at.settler.doubted agents width s.begun lines → has_room (loop_at o s.at.run agents s.used) ≡ false
+  pub room-none : None ≡ next_line_by s.at.settler.doubted agents width s.begun lines → has_room (loop_at o s.at.run agents s.used s.pass) ≡ false
   room-none = by s.at.settler.doubted refl (nat_lt (lines_carried agents) width) refl
     where
-      by : (d : Bool) → s.at.settler.doubted ≡ d → (few : Bool) → nat_lt (lines_carried agents) width ≡ few → None ≡ (if d || not few then None else slice_get lines s.begun) → has_room (loop_at o s.at.run agents s.used) ≡ false
+      by : (d : Bool) → s.at.settler.doubted ≡ d → (few : Bool) → nat_lt (lines_carried agents) width ≡ few → None ≡ (if d || not few then None else slice_get lines s.begun) → has_room (loop_at o s.at.run agents s.used s.pass) ≡ false
       by true q few p x =
           ap (λ (z : Bool). z && (nat_lt (length (filter (is_flying (ends s.at.run)) (units_carried agents))) o.width && Left)) (some-is (ends s.at.run).manager.doubt (sym way.books.doubt ∙ q))
       by false q false p x =
@@ -163,29 +163,29 @@ module _ (tells : Bool) (o : Outset) (types : ProgramTree) (lines : List Line) (
   -- what a turn says behind the dropping it says of the whole
   pub says-from : (s' : TurnStage) (result : Result Bool RunFault) → TurnSays tells o types lines width picks b (record s { agents = agents }) s' result → TurnSays tells o types lines width picks b s s' result
   says-from s' (Ok true) w = went-from s' w
-  says-from s' (Ok false) w = (went-from s' w.0, w.1)
+  says-from s' (Ok false) w = (w.0, went-from (record s' { pass = w.0 }) w.1, w.2)
   says-from s' (Err f) g = g
 
   -- a line's turn
-  pub line-says : (keeps : OthersKeep) (line : Line) → Some line ≡ next_line_by s.at.settler.doubted agents width s.begun lines → (s' : TurnStage) → BeganOn types line s.at.run s'.at.run agents s'.agents
-      → s'.used ≡ s.used → s'.begun ≡ s.begun + 1 → s'.at.settler ≡ s.at.settler → s'.at.faults ≡ s.at.faults → s'.at.world ≡ s.at.world → WentOn tells o types lines width picks b s s'
-  line-says keeps line next s' g used begun settler counts world =
+  pub line-says : (keeps : OthersKeep) → s.pass.due ≡ None → (line : Line) → Some line ≡ next_line_by s.at.settler.doubted agents width s.begun lines → (s' : TurnStage) → BeganOn types line s.at.run s'.at.run agents s'.agents
+      → s'.used ≡ s.used → s'.pass ≡ no_pass → s'.begun ≡ s.begun + 1 → s'.at.settler ≡ s.at.settler → s'.at.faults ≡ s.at.faults → s'.at.world ≡ s.at.world → WentOn tells o types lines width picks b s s'
+  line-says keeps due line next s' g used fresh begun settler counts world =
       let found = room-some line next in
       went-from s'
       (at-outset (λ t n ps. IsUnderWay tells o t lines n ps b (record s { agents = agents }) → BeganOn t line s.at.run s'.at.run agents s'.agents → WentOn tells o t lines n ps b (record s { agents = agents }) s')
       o types s.at.run (drop s.begun lines) width picks way.outset
-      (λ w x. line-went keeps tells o lines b (record s { agents = agents }) s' w line found.0 found.1 x used begun settler counts world found.2) dropped-way g)
+      (λ w x. line-went keeps tells o lines b (record s { agents = agents }) s' w line found.0 due found.1 x used fresh begun settler counts world found.2) dropped-way g)
 
   -- or its event has no memory
-  pub line-out-says : (keeps : OthersKeep) (line : Line) → Some line ≡ next_line_by s.at.settler.doubted agents width s.begun lines → (r' : Run)
+  pub line-out-says : (keeps : OthersKeep) → s.pass.due ≡ None → (line : Line) → Some line ≡ next_line_by s.at.settler.doubted agents width s.begun lines → (r' : Run)
       → Looks none_comes (own_sight s.at.run) (own_sight r') ⊎ ((y : CoreReply) × PutsLine none_comes types line.number line.what (own_sight s.at.run) (own_sight r') y)
       → RecordGoesOn {T = Bool} tells o b s.at (stage_by r' s.at.settler s.at.faults s.at.world) (Err Memory)
-  line-out-says keeps line next r' put =
+  line-out-says keeps due line next r' put =
       let found = room-some line next in
       at-outset (λ t n ps. IsUnderWay tells o t lines n ps b (record s { agents = agents }) → Looks none_comes (own_sight s.at.run) (own_sight r') ⊎ ((y : CoreReply) × PutsLine none_comes t line.number line.what (own_sight s.at.run) (own_sight r') y)
       → RecordGoesOn {T = Bool} tells o b s.at (stage_by r' s.at.settler s.at.faults s.at.world) (Err Memory))
       o types s.at.run (drop s.begun lines) width picks way.outset
-      (λ w x. line-lacks keeps tells o lines b (record s { agents = agents }) r' w line found.0 found.1 x) dropped-way put
+      (λ w x. line-lacks keeps tells o lines b (record s { agents = agents }) r' w line found.0 due found.1 x) dropped-way put
 
   -- or there was none for the line itself
   pub unread-says : (keeps : OthersKeep) → RecordGoesOn {T = Bool} tells o b s.at s.at (Err Memory)

@@ -33,7 +33,7 @@ use Rattle.core_laws.proofs.LineEntries.{once-ends}
 use Rattle.promise_spec.specs.Causes.{RunHasDoubt}
 use Rattle.turn_rules.specs.CarriedUnits.{movers_of}
 use Rattle.turn_rules.specs.QuietRun.{HasRun}
-use Rattle.turn_rules.specs.TurnLoop.{has_room}
+use Rattle.turn_rules.specs.TurnLoop.{IsThrough, has_room}
 use Rattle.turn_rules.proofs.ListTests.{empty-append}
 use Rattle.turn_rules.proofs.SettlerRest.{no-step}
 use Rattle.turn_rules.proofs.Turns.{turn-ended}
@@ -134,7 +134,8 @@ doubt-steps w d left = by w.manager.batch
     by (Some b) = of-open (is_some b.decisions) b.number b
 
 module _ (tells : Bool) (o : Outset) (lines : List Line) (b : Books) (s : TurnStage) (way : IsUnderWay tells o o.program.types lines o.width o.picks b s)
-    (nobody : movers_of o.program.types s.at.run (units_carried s.agents) ≡ []) (full : has_room (loop_at o s.at.run s.agents s.used) ≡ false) where
+    (nobody : movers_of o.program.types s.at.run (units_carried s.agents) ≡ []) (full : has_room (loop_at o s.at.run s.agents s.used s.pass) ≡ false)
+    (through : IsThrough (loop_at o s.at.run s.agents s.used s.pass)) where
   w : CoreState
   w = ends s.at.run
 
@@ -158,7 +159,7 @@ module _ (tells : Bool) (o : Outset) (lines : List Line) (b : Books) (s : TurnSt
 
   pub has-carried : HasCarriedAll o s.at
   has-carried =
-      let run : HasRun (length o.asked) (ends s.at.run) = turn-ended (loop_at o s.at.run s.agents s.used) way.turning no-doubt nobody (subst (λ (n : ℕ). 0 < n) (sym way.outset.width_is) way.outset.wide) full in
+      let run : HasRun (length o.asked) (ends s.at.run) = (turn-ended (loop_at o s.at.run s.agents s.used s.pass) way.turning no-doubt nobody through (subst (λ (n : ℕ). 0 < n) (sym way.outset.width_is) way.outset.wide) full).0 in
       let once : EntriesAreOnce (ends s.at.run) = once-ends s.at.run way.turning.first in
       let le = once.written in
       let ge = run.quiet.written in

@@ -1,7 +1,7 @@
 -- Where a run of turns begins.
-use Rattle.std.proofs.Common.{◌≡◌, ◌⊎◌, ℕ, zero, suc, ◌+◌, ◌-◌, ◌≤◌, ◌<◌, Option, None, List, [], ◌∷◌, ◌++◌, map, Bool, true, false, true≢false, inl, inr, refl, sym, ap, ◌∙◌, arith}
-use Rattle.std.specs.Prelude.{not, ◌&&◌, ◌||◌, is_some, filter, if◌then◌else◌}
-use Rattle.std.proofs.lemmas.Bool.{cases_Bool}
+use Rattle.std.proofs.Common.{◌≡◌, ◌⊎◌, ℕ, zero, suc, ◌+◌, ◌-◌, ◌≤◌, ◌<◌, Option, None, Some, List, [], ◌∷◌, ◌++◌, map, Bool, true, false, true≢false, inl, inr, refl, sym, ap, ◌∙◌, subst, arith}
+use Rattle.std.specs.Prelude.{not, ◌&&◌, ◌||◌, is_some, filter, fold, length, nat_lt, if◌then◌else◌}
+use Rattle.std.proofs.lemmas.Bool.{and_parts, cases_Bool, cond-false, cond-true}
 use Rattle.base_types.specs.declared.calls.Origin.{Origin}
 use Rattle.base_types.specs.declared.entries.Entry.{Entry}
 use Rattle.base_types.specs.declared.calls.Origin.TheVariants.{Line as OfLineOrigin, Child}
@@ -10,22 +10,33 @@ use Rattle.host_trait.specs.World.{World}
 use Rattle.host_trait.specs.declared.channels.Channel.{Channel}
 use Rattle.request_wire.specs.declared.requests.Line.{Line}
 use Rattle.cell_model.proofs.Units.{same_unit-is, any-member}
-use Rattle.core_model.specs.CoreState.{UnitNo, Member, CoreState, same_unit}
+use Rattle.core_model.specs.CoreState.{UnitNo, GrainId, Batch, Member, CoreState, same_grain, same_unit}
+use Rattle.core_model.specs.Changes.{swept, swept_by}
+use Rattle.core_model.specs.Events.{applies, can, does, is_allowed, run, step}
+use Rattle.core_model.specs.LearnQueue.{next_learn}
+use Rattle.core_model.specs.WantedGrains.{next_wanted}
+use Rattle.core_model.specs.declared.events.CoreEvent.{CoreEvent}
+use Rattle.core_model.specs.declared.events.CoreEvent.TheVariants.{Bad, Begin, Grant, Refuse, Finish, EndPlain, EndSnapshot, Release, Take, Vote, Decide, Sealed, NotSealed, Doubt, Learn, Emitted, Halt, Want, Load}
 use Rattle.core_model.specs.declared.phases.Phase.{Phase}
 use Rattle.core_model.specs.declared.phases.Phase.TheVariants.{Finished, Refused, Ended}
-use Rattle.core_model.specs.Tests.{is_free, is_over, is_running}
-use Rattle.core_model.specs.LegalRuns.{Run, ends}
+use Rattle.cell_model.specs.Locks.{holds_lock}
+use Rattle.core_model.specs.Tests.{any, is_active, is_free, is_over, is_running}
+use Rattle.core_model.specs.LegalRuns.{Run, begins, ends}
 use Rattle.core_model.specs.Lines.{EntriesAreOnce, IsSettled}
-use Rattle.core_model.specs.Settler.{Step, has_step, settler_step}
+use Rattle.core_model.specs.Settler.{Step, Seals, Writes, Rests, batch_step, first_unvoted, has_step, last_step, learn_step, load_step, settler_step, undecided_step}
 use Rattle.core_laws.proofs.BatchPrefix.{unfree-holds}
 use Rattle.core_laws.proofs.LineEntries.{once-ends}
+use Rattle.core_laws.proofs.Replies.{no-change}
 use Rattle.script_check.specs.AcceptedPrograms.{IsAcceptedProgram}
 use Rattle.script_tree.specs.Programs.{ProgramTree}
-use Rattle.promise_spec.specs.Cores.{HasBegun}
+use Rattle.promise_spec.specs.Cores.{HasBegun, applied_from, applied_in}
 use Rattle.promise_spec.specs.UnitRule.{KeepsUnitRule}
 use Rattle.promise_spec.specs.UnitAnswers.{got_in}
-use Rattle.promise_spec.specs.TurnRule.{OfUnit, OfSettler, can_move, units_from, is_line, is_settled, units_of}
-use Rattle.turn_rules.specs.NextEvent.{movers_in}
+use Rattle.promise_spec.specs.TurnRule.{OfUnit, OfSettler, can_move, units_from, is_line, is_settled, lock_asked, passed, passed_by, units_of}
+use Rattle.turn_rules.specs.NextEvent.{NobodyGoes}
+use Rattle.turn_rules.specs.TurnLoop.{IsPassing, no_pass, waits_in}
+use Rattle.turn_rules.proofs.Passes.{waits-run}
+use Rattle.turn_rules.proofs.TurnChoices.{none-due, none-wish}
 use Rattle.turn_rules.specs.CarriedUnits.{is_flying, is_kept, AreKept}
 use Rattle.turn_rules.specs.QuietRun.{IsQuiet}
 use Rattle.turn_rules.proofs.RunCounts.{counted-ends}
@@ -98,18 +109,137 @@ module _ (o : Outset) (r : Run) (first : 0 < r.base) (rule : KeepsUnitRule (basi
     below = λ u m. absurd m;
   }
 
--- where a run can begin, nobody can move
-pub nobody-moves : (types : ProgramTree) (o : Outset) (r : Run) (settler : Settler) (lines : List Line) → 0 < r.base → KeepsUnitRule (basis_of o) r → CanTurn r settler lines → movers_in types r ≡ []
-nobody-moves types o r settler lines above units can =
+-- ---- nobody wants a grain
+
+-- what is to be brought into memory is the settler's step
+load-rests : (w : CoreState) (o : Option GrainId) → load_step w o ≡ Rests → o ≡ None
+load-rests w None q = refl
+load-rests w (Some g) q = absurd cc
+
+last-rests : (w : CoreState) (unwritten h : Bool) (o : Option GrainId) → h ≡ false → (if unwritten then Writes else (if true && not h then load_step w o else Rests)) ≡ Rests → o ≡ None
+last-rests w true h o going q = absurd cc
+last-rests w false h o going q = load-rests w o (sym (ap (λ (x : Bool). if true && not x then load_step w o else Rests) going) ∙ q)
+
+later-rests : (w : CoreState) (d : Option ℕ) (next : Option (UnitNo × GrainId)) → d ≡ None → w.units.halt ≡ false → (if is_some d then last_step w false else learn_step w next) ≡ Rests → next_wanted w ≡ None
+later-rests w (Some n) next sure going q = absurd cc
+later-rests w None (Some x) sure going q = absurd cc
+later-rests w None None sure going q = last-rests w (nat_lt w.manager.emitted (length w.manager.settled)) w.units.halt (next_wanted w) going q
+
+batch-rests : (w : CoreState) (b : Option Batch) → w.manager.doubt ≡ None → w.units.halt ≡ false → batch_step w b ≡ Rests → next_wanted w ≡ None
+batch-rests w None sure going q = later-rests w w.manager.doubt (next_learn w) sure going q
+batch-rests w (Some b) sure going q = absurd (by (is_some b.decisions) (first_unvoted b) q)
+  where
+    by : (decided : Bool) (o : Option GrainId) → (if decided then Seals b.number else undecided_step b.number o) ≡ Rests → ⊥
+    by true o z = absurd cc
+    by false None z = absurd cc
+    by false (Some k) z = absurd cc
+
+-- so none is missing where it has no step
+pub rests-asks : (w : CoreState) → w.manager.doubt ≡ None → w.units.halt ≡ false → settler_step w ≡ Rests → next_wanted w ≡ None
+rests-asks w sure going q = batch-rests w w.manager.batch sure going q
+
+-- ---- how far the pass has come
+
+-- it has come to nobody, or some unit runs
+abbrev RunsOn : ℕ → CoreState → Type 0
+RunsOn n w = (n ≡ 0) ⊎ ((u : UnitNo) × (is_running (w.units.phase u) ≡ true))
+
+swept-runs : (n : ℕ) (w : CoreState) → RunsOn n w → RunsOn n (swept w)
+swept-runs n w p = go w.cells.capacity
+  where
+    go : (c : Option ℕ) → RunsOn n (swept_by w c)
+    go None = p
+    go (Some m) = p
+
+-- by an event that applies
+event-runs : (n : ℕ) (w : CoreState) (e : CoreEvent) → can w e ≡ true → RunsOn n w → RunsOn (passed_by n e) (does w e)
+event-runs n w (Want u g) a p = inr (u, (and_parts (is_running (w.units.phase u)) (nat_lt g.kind w.units.kinds) (and_parts (is_active w u g) (not (holds_lock u (w.cells.holds g)) && not (any (λ t. same_unit t.0 u && same_grain t.1 g) w.units.wants)) a).0).0)
+event-runs n w (Load g u state) a p = p
+event-runs n w (Bad line why) a p = inl refl
+event-runs n w (Begin origin call plain) a p = inl refl
+event-runs n w (Grant v g mode) a p = inl refl
+event-runs n w (Refuse v g mode) a p = inl refl
+event-runs n w (Finish v effect) a p = inl refl
+event-runs n w (EndPlain v effect) a p = inl refl
+event-runs n w (EndSnapshot v at outcome) a p = inl refl
+event-runs n w (Release v g) a p = inl refl
+event-runs n w Take a p = inl refl
+event-runs n w (Vote m g kept) a p = inl refl
+event-runs n w (Decide m) a p = inl refl
+event-runs n w (Sealed m) a p = inl refl
+event-runs n w (NotSealed m) a p = inl refl
+event-runs n w (Doubt m) a p = inl refl
+event-runs n w (Learn v g) a p = inl refl
+event-runs n w Emitted a p = inl refl
+event-runs n w Halt a p = inl refl
+
+step-runs : (n : ℕ) (w : CoreState) (e : CoreEvent) → applies w e ≡ true → RunsOn n w → RunsOn (passed_by n e) (step w e)
+step-runs n w e a p =
+    subst (RunsOn (passed_by n e)) (sym (cond-true (applies w e) (swept (does w e)) w a))
+    (swept-runs (passed_by n e) (does w e) (event-runs n w e (and_parts (is_allowed w e) (can w e) a).1 p))
+
+run-runs : (n : ℕ) (w : CoreState) (es : List CoreEvent) → RunsOn n w → RunsOn (fold passed_by n (applied_from w es)) (run w es)
+run-runs n w [] p = p
+run-runs n w (e ∷ es) p = elim (cases_Bool (applies w e)) [
+  | inl a ↦
+      subst (λ (xs : List CoreEvent). RunsOn (fold passed_by n xs) (run (step w e) es)) (sym (cond-true (applies w e) (e ∷ applied_from (step w e) es) (applied_from (step w e) es) a))
+      (run-runs (passed_by n e) (step w e) es (step-runs n w e a p))
+  | inr a ↦
+      subst (λ (xs : List CoreEvent). RunsOn (fold passed_by n xs) (run (step w e) es)) (sym (cond-false (applies w e) (e ∷ applied_from (step w e) es) (applied_from (step w e) es) a))
+      (run-runs n (step w e) es (subst (RunsOn n) (sym (no-change w e a)) p))
+]
+
+-- so where no unit runs it has come to nobody
+pub passed-none : (r : Run) → ((u : UnitNo) → is_running ((ends r).units.phase u) ≡ false) → passed (applied_in r) ≡ 0
+passed-none r idle = elim (run-runs 0 (begins r) r.events (inl refl)) [ inl none ↦ none | inr some ↦ absurd (true≢false (sym some.1 ∙ idle some.0)) ]
+
+-- ---- where a run can begin
+
+module _ (types : ProgramTree) (o : Outset) (r : Run) (settler : Settler) (lines : List Line) (above : 0 < r.base) (units : KeepsUnitRule (basis_of o) r) (can : CanTurn r settler lines) where
+  -- no unit runs
+  idle : (u : UnitNo) → is_running ((ends r).units.phase u) ≡ false
+  idle u = elim (cases_Bool (is_running ((ends r).units.phase u))) [
+    | inr fails ↦ fails
+    | inl runs ↦ absurd (true≢false (sym runs ∙ still o r above units can.quiet u (λ unborn. true≢false (sym runs ∙ ap is_running unborn))))
+  ]
+
+  -- so none waits for a grain
+  calm : (u : UnitNo) → waits_in types r u ≡ false
+  calm u = elim (cases_Bool (waits_in types r u)) [
+    | inr fails ↦ fails
+    | inl waits ↦ absurd (true≢false (sym (waits-run (ends r) u (lock_asked types (ends r) (got_in r) u) waits) ∙ idle u))
+  ]
+
+  -- none is missing
+  pub wanted-none : next_wanted (ends r) ≡ None
+  wanted-none = rests-asks (ends r) can.going.0 can.going.1 can.rests
+
+  -- and nobody can move or wants a grain
+  pub nobody-goes : NobodyGoes types r
+  nobody-goes = (
     movers-kept types r [] (kept-none o r above units can.quiet)
-    ∙ ap (λ (d : Option ℕ). (if is_some d then [] else map OfUnit (filter (can_move types (ends r) (got_in r)) [])) ++ (if has_step (settler_step (ends r)) then OfSettler ∷ [] else [])) can.going.0
-    ∙ ap (λ (s : Step). if has_step s then OfSettler ∷ [] else []) can.rests
+        ∙ ap (λ (d : Option ℕ). (if is_some d then [] else map OfUnit (filter (can_move types (ends r) (got_in r)) [])) ++ (if has_step (settler_step (ends r)) then OfSettler ∷ [] else [])) can.going.0
+        ∙ ap (λ (s : Step). if has_step s then OfSettler ∷ [] else []) can.rests,
+    none-wish (ends r) (units_of r (ends r)) (lock_asked types (ends r) (got_in r)) (passed (applied_in r)) (λ u m from. calm u),
+    none-due (ends r) wanted-none,
+  )
+
+  -- and no pass has begun
+  pub unpassed : IsPassing types o.ruled r no_pass
+  unpassed = record {
+    missing = wanted-none;
+    asked = λ u low high. calm u;
+    wished = inl refl;
+    after = omega arith;
+    still = λ some. absurd (true≢false (sym some));
+    reached = λ ruled. passed-none r idle;
+  }
 
 module _ (tells : Bool) (o : Outset) (types : ProgramTree) (lines : List Line) (width : ℕ) (picks : List ℕ) (b : Books) (used : ℕ) (r : Run) (settler : Settler) (counts : Channel → ℕ) (now : World) where
   -- all that holds on the way holds where nobody is carried yet
-  pub start : r.capacity ≡ None → IsOutset o types r lines width picks → CanTurn r settler lines → IsFreshRecord o b used r → KeepsRecord tells o b (stage_by r settler counts now) → IsAcceptedProgram types → HasFewNumbers (ends r)
-      → IsUnderWay tells o types lines width picks b (record { at = stage_by r settler counts now; agents = []; begun = 0; used = used })
-  start limit is can fresh k accepted few = record {
+  pub start : IsOutset o types r lines width picks → CanTurn r settler lines → IsFreshRecord o b used r → KeepsRecord tells o b (stage_by r settler counts now) → IsAcceptedProgram types → HasFewNumbers (ends r)
+      → IsUnderWay tells o types lines width picks b (record { at = stage_by r settler counts now; agents = []; begun = 0; used = used; pass = no_pass })
+  start is can fresh k accepted few = record {
     outset = is;
     numbers = can.numbers;
     accepted = accepted;
@@ -117,7 +247,7 @@ module _ (tells : Bool) (o : Outset) (types : ProgramTree) (lines : List Line) (
     room = few.lines;
     turning = record {
       first = k.above;
-      unlimited = limit;
+      passing = unpassed o.program.types o r settler lines k.above k.units can;
       unit_rule = k.units;
       unstopped = can.going.1;
       turn_rule = k.turns;
@@ -125,7 +255,7 @@ module _ (tells : Bool) (o : Outset) (types : ProgramTree) (lines : List Line) (
         start = (ends r).units.lines;
         from = omega arith;
         inner = is.inner;
-        first = λ seam same some. nobody-moves o.program.types o r settler lines k.above k.units can;
+        first = λ seam same some. nobody-goes o.program.types o r settler lines k.above k.units can;
       };
       kept = kept-none o r k.above k.units can.quiet;
       older = tt;

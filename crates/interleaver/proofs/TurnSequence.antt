@@ -8,7 +8,7 @@ use Rattle.request_wire.specs.declared.requests.Line.{Line}
 use Rattle.promise_spec.specs.TurnRule.{KeepsTurnRule, picks_used}
 use Rattle.script_tree.specs.Programs.{ProgramTree}
 use Rattle.run_books.specs.declared.faults.RunFault.{RunFault}
-use Rattle.run_books.specs.declared.faults.RunFault.TheVariants.{InDoubt, WriteFault, Memory}
+use Rattle.run_books.specs.declared.faults.RunFault.TheVariants.{InDoubt, WriteFault, LoadFault, LoadDamaged, Memory}
 use Rattle.core_model.specs.declared.events.CoreEvent.{CoreEvent}
 use Rattle.core_model.specs.LegalRuns.{Run}
 use Rattle.settle_loop.specs.declared.settler.Settler.{Settler}
@@ -31,9 +31,11 @@ module _ (tells : Bool) (o : Outset) (types : ProgramTree) (lines : List Line) (
       → RecordGoesOn {T = T} tells o b s.at u.at (Err f)
   ends-then {T} u w f g = record { books = g.books; record_kept = g.record_kept; lasts = λ tell head was. g.lasts tell head (w.lasts tell head was); ended = by f g.ended }
     where
-      by : (x : RunFault) → TurnsEndAs o g.books u.at {T = Bool} (Err x) → TurnsEndAs o g.books u.at {T = T} (Err x)
+      by : (x : RunFault) → TurnsEndAs tells o g.books u.at {T = Bool} (Err x) → TurnsEndAs tells o g.books u.at {T = T} (Err x)
       by InDoubt e = e
       by WriteFault e = e
+      by (LoadFault file) e = e
+      by (LoadDamaged file place) e = e
       by Memory e = e
 
   kept-of : (w : WentOn tells o types lines width picks b s t) → KeepsRecord tells o w.books t.at
@@ -49,6 +51,13 @@ module _ (tells : Bool) (o : Outset) (types : ProgramTree) (lines : List Line) (
   -- or memory runs out between turns
   pub out-then : {T : Type 0} (w : WentOn tells o types lines width picks b s t) → RecordGoesOn {T = T} tells o b s.at t.at (Err Memory)
   out-then w = record { books = w.books; record_kept = kept-of w; lasts = w.lasts; ended = w.under_way.even.rest }
+
+-- what a move says behind the pass it says of the whole turn
+pub says-behind : (tells : Bool) (o : Outset) (types : ProgramTree) (lines : List Line) (width : ℕ) (picks : List ℕ) (b : Books) (s t u : TurnStage) (w : WentOn tells o types lines width picks b s t)
+    (result : Result Bool RunFault) → TurnSays tells o types lines width picks w.books t u result → TurnSays tells o types lines width picks b s u result
+says-behind tells o types lines width picks b s t u w (Ok true) v = went-then tells o types lines width picks b s t u w v
+says-behind tells o types lines width picks b s t u w (Ok false) v = (v.0, went-then tells o types lines width picks b s t (record u { pass = v.0 }) w v.1, v.2)
+says-behind tells o types lines width picks b s t u w (Err f) g = ends-then tells o types lines width picks b s t {T = Bool} u w f g
 
 -- where a run of turns is under way, it has gone on by no turn
 pub nothing-went : (tells : Bool) (o : Outset) (types : ProgramTree) (lines : List Line) (width : ℕ) (picks : List ℕ) (b : Books) (s : TurnStage)
@@ -77,12 +86,13 @@ module _ (tells : Bool) (o : Outset) (types : ProgramTree) (lines lines' : List 
   -- or that nothing is left
   pub done-after : {T : Type 0} (done : T) → result ≡ Ok false → RecordGoesOn {T = T} tells o b s.at u.at (Ok done)
   done-after {T} done q =
-      let both = says-of (Ok false) q in
-      done-then tells o types lines width picks b s u {T = T} done (went-then tells o types lines width picks b s t u w both.0) both.1
+      let all = says-of (Ok false) q in
+      let end : TurnStage = record u { pass = all.0 } in
+      done-then tells o types lines width picks b s end {T = T} done (went-then tells o types lines width picks b s t end w all.1) all.2
 
   -- by then so many picks were used
   pub picks-after : result ≡ Ok false → o.ruled ≡ true → picks_used u.at.run (length u.at.run.events) ≡ u.used
-  picks-after q ruled = (let both = says-of (Ok false) q in sym (both.0.under_way.turning.count ruled))
+  picks-after q ruled = (let all = says-of (Ok false) q in sym (all.1.under_way.turning.count ruled))
 
   -- or how the run has ended
   pub fault-after : {T : Type 0} (f : RunFault) → result ≡ Err f → RecordGoesOn {T = T} tells o b s.at u.at (Err f)

@@ -1,9 +1,9 @@
 -- A turn of a unit that was picked.
 use Rattle.std.proofs.Common.{◌≡◌, ◌⊎◌, ℕ, zero, suc, ◌+◌, ◌^◌, ◌≤◌, ◌<◌, ◌%◌, Option, Some, None, List, [], ◌∷◌, ◌++◌, length, Bool, true, false, true≢false, inl, inr, refl, sym, ap, ◌∙◌, subst, map}
-use Rattle.std.specs.Prelude.{if◌then◌else◌, is_some, slice_get, filter, drop}
+use Rattle.std.specs.Prelude.{if◌then◌else◌, is_some, slice_get, filter}
 use Rattle.base_types.specs.declared.calls.Origin.TheVariants.{Child}
 use Rattle.request_wire.specs.declared.requests.Line.{Line}
-use Rattle.core_model.specs.CoreState.{UnitNo, Call, CoreState}
+use Rattle.core_model.specs.CoreState.{UnitNo, Call}
 use Rattle.core_model.specs.LockAnswers.{IsGoing}
 use Rattle.core_model.specs.declared.events.CoreEvent.{CoreEvent}
 use Rattle.core_model.specs.declared.events.CoreEvent.TheVariants as event
@@ -18,11 +18,10 @@ use Rattle.core_access.proofs.OneHolder.{own-run, own-alone}
 use Rattle.core_access.proofs.Sights.{reply-alone, run-alone, looks-alone}
 use Rattle.worker_rules.specs.UnitOwnership.{leaves_unit}
 use Rattle.promise_spec.specs.UnitRule.{KeepsUnitRule}
-use Rattle.promise_spec.specs.TurnRule.{OfUnit, OfSettler, at_seam, mover_of, can_move, picked, Mover}
+use Rattle.promise_spec.specs.TurnRule.{OfUnit, OfSettler, mover_of, can_move, picked, Mover}
 use Rattle.turn_rules.specs.NextEvent.{with_event, is_begin, MayCome}
 use Rattle.turn_rules.specs.CarriedUnits.{movers_of}
-use Rattle.turn_rules.specs.TurnLoop.{IsTurning, IsPicked, turned, with_new, TurnLoop}
-use Rattle.turn_rules.proofs.Growth.{ends-more}
+use Rattle.turn_rules.specs.TurnLoop.{IsTurning, IsPicked, no_pass, turned, with_new, TurnLoop}
 use Rattle.turn_rules.proofs.Turns.{turn-unit, turn-child}
 use Rattle.txn_agent.specs.declared.agent.Advanced.{Advanced}
 use Rattle.txn_agent.specs.declared.agent.Advanced.TheVariants as advanced
@@ -31,23 +30,16 @@ use Rattle.txn_agent.proofs.LoneSteps.{puts-applied, missed-not}
 use Rattle.txn_agent.proofs.MoveAnswers.{alone-tells}
 use Rattle.unit_carrier.specs.CarriedUnits.{StepsOn, units_carried, with_child}
 use Rattle.unit_carrier.specs.declared.agents.Went.{Went}
-use Rattle.run_books.specs.Beginnings.{Outset, GoUpFrom, basis_of}
+use Rattle.run_books.specs.Beginnings.{Outset, basis_of}
 use Rattle.run_books.specs.Books.{Books}
 use Rattle.interleaver.specs.Flights.{loop_at}
-use Rattle.run_books.specs.BooksSteps.{AreEven}
 use Rattle.interleaver.specs.TurnStages.{TurnStage, IsUnderWay, WentOn}
-use Rattle.interleaver.proofs.Frames.{lines-stay, unit-others, unit-no-line, done-begins-none, began-is-new}
+use Rattle.interleaver.proofs.Frames.{unit-others, unit-no-line, done-begins-none, began-is-new}
+use Rattle.interleaver.proofs.OtherTurns.{event-went, loop-into}
 use Rattle.run_books.proofs.BooksStated.{OthersKeep}
 use Rattle.core_model.specs.Settler.{has_step, settler_step}
-use Rattle.host_trait.specs.World.{World}
-use Rattle.host_trait.specs.declared.channels.Channel.{Channel}
-use Rattle.settle_loop.specs.declared.settler.Settler.{Settler}
 use Rattle.script_tree.specs.Programs.{ProgramTree}
 use Rattle.promise_spec.specs.UnitAnswers.{got_in}
-use Rattle.promise_spec.specs.Lines.{ReadsLineAs}
-use Rattle.run_books.specs.Images.{LastsSo}
-use Rattle.run_books.specs.Records.{KeepsBooks}
-use Rattle.run_books.specs.Stages.{stage_by}
 
 -- the event of a unit by which the run went on, and the units that are carried then
 pub record GoesByUnit (o : Outset) (u : UnitNo) (r r' : Run) (units units' : List UnitNo) : Type 0 where
@@ -184,24 +176,21 @@ picked-moves types r units pick u q = by (ends r).manager.doubt refl
 
 -- ---- the loop
 
-module _ (keeps : OthersKeep) (tells : Bool) (o : Outset) (lines : List Line) (b : Books) (s s' : TurnStage) (here : s.at.run.capacity ≡ None)
+module _ (keeps : OthersKeep) (tells : Bool) (o : Outset) (lines : List Line) (b : Books) (s s' : TurnStage)
     (way : IsUnderWay tells o o.program.types lines o.width o.picks b s) where
   abbrev l : TurnLoop
-  l = loop_at o s.at.run s.agents s.used
+  l = loop_at o s.at.run s.agents s.used s.pass
 
   -- the rules go on by the unit's event
-  pub unit-turning : (u : UnitNo) → IsPicked l (OfUnit u) → GoesByUnit o u s.at.run s'.at.run (units_carried s.agents) (units_carried s'.agents) → s'.used ≡ s.used + 1
-      → IsTurning (loop_at o s'.at.run s'.agents s'.used)
-  unit-turning u pick g used = by g.carries
+  pub unit-turning : (u : UnitNo) → IsPicked l (OfUnit u) → GoesByUnit o u s.at.run s'.at.run (units_carried s.agents) (units_carried s'.agents) → s'.used ≡ s.used + 1 → s'.pass ≡ no_pass
+      → IsTurning (loop_at o s'.at.run s'.agents s'.used s'.pass)
+  unit-turning u pick g used fresh = by g.carries
     where
-      into : (us : List UnitNo) → units_carried s'.agents ≡ us → IsTurning (turned l g.e us (s.used + 1)) → IsTurning (loop_at o s'.at.run s'.agents s'.used)
-      into us q t =
-          subst (λ (x : Run). IsTurning (record { basis = basis_of o; windowed = o.windowed; ruled = o.ruled; width = o.width; picks = o.picks; run = x; units = units_carried s'.agents; used = s'.used })) (sym g.run)
-          (subst (λ (v : List UnitNo). IsTurning (record { basis = basis_of o; windowed = o.windowed; ruled = o.ruled; width = o.width; picks = o.picks; run = with_event s.at.run g.e; units = v; used = s'.used })) (sym q)
-          (subst (λ (n : ℕ). IsTurning (record { basis = basis_of o; windowed = o.windowed; ruled = o.ruled; width = o.width; picks = o.picks; run = with_event s.at.run g.e; units = us; used = n })) (sym used) t))
+      into : (us : List UnitNo) → units_carried s'.agents ≡ us → IsTurning (turned l g.e us (s.used + 1)) → IsTurning (loop_at o s'.at.run s'.agents s'.used s'.pass)
+      into us q t = loop-into o (with_event s.at.run g.e) s'.at.run us (units_carried s'.agents) (s.used + 1) s'.used no_pass s'.pass g.run q used fresh t
 
       by : ((is_begin g.e ≡ false) × (units_carried s'.agents ≡ units_carried s.agents)) ⊎ ((index : ℕ) × (depth : ℕ) × (call : Call) × (g.e ≡ event.Begin (Child u index depth) call false) × (units_carried s'.agents ≡ units_carried s.agents ++ (new_unit (ends s.at.run) ∷ [])))
-          → IsTurning (loop_at o s'.at.run s'.agents s'.used)
+          → IsTurning (loop_at o s'.at.run s'.agents s'.used s'.pass)
       by (inl x) = into (units_carried s.agents) x.1 (turn-unit l way.turning u g.e pick g.own x.0 g.due g.applied)
       by (inr (index, depth, call, is, us)) =
           into (units_carried s.agents ++ (new_unit (ends s.at.run) ∷ [])) us
@@ -209,42 +198,8 @@ module _ (keeps : OthersKeep) (tells : Bool) (o : Outset) (lines : List Line) (b
           (turn-child l way.turning u index depth call pick (subst (MayCome (basis_of o) s.at.run) is g.due) (subst (λ (e : CoreEvent). applies (ends s.at.run) e ≡ true) is g.applied)))
 
   -- and so does all
-  pub unit-went : (u : UnitNo) → IsPicked l (OfUnit u) → GoesByUnit o u s.at.run s'.at.run (units_carried s.agents) (units_carried s'.agents) → s'.used ≡ s.used + 1 → s'.begun ≡ s.begun
+  pub unit-went : (u : UnitNo) → IsPicked l (OfUnit u) → GoesByUnit o u s.at.run s'.at.run (units_carried s.agents) (units_carried s'.agents) → s'.used ≡ s.used + 1 → s'.pass ≡ no_pass → s'.begun ≡ s.begun
       → s'.at.settler ≡ s.at.settler → s'.at.faults ≡ s.at.faults → s'.at.world ≡ s.at.world → s.at.settler.doubted ≡ false → (ends s'.at.run).units.next ≤ 2 ^ 63
       → WentOn tells o o.program.types lines o.width o.picks b s s'
-  unit-went u pick g used begun settler counts world sure few =
-      let turning : IsTurning (loop_at o s'.at.run s'.agents s'.used) = unit-turning u pick g used in
-      let rule : KeepsUnitRule (basis_of o) (with_event s.at.run g.e) = subst (KeepsUnitRule (basis_of o)) g.run turning.unit_rule in
-      let on = keeps tells o b s.at.run g.e s.at.settler s.at.faults s.at.world way.turning.first way.turning.unit_rule rule (unit-others u g.e g.own) way.even way.books in
-      let same : (ends s'.at.run).units.lines ≡ (ends s.at.run).units.lines =
-      ap (λ (x : Run). (ends x).units.lines) g.run ∙ ap (λ (x : CoreState). x.units.lines) (ends-more s.at.run g.e) ∙ lines-stay (ends s.at.run) g.e (unit-no-line u g.e g.own) in
-      record {
-        books = on.0.books;
-        under_way = record {
-          outset = record {
-            types_are = refl;
-            kinds = ap (λ (x : Run). x.kinds) g.run ∙ way.outset.kinds;
-            width_is = refl;
-            wide = way.outset.wide;
-            picks_are = refl;
-            all = way.outset.all ∙ ap (λ (n : ℕ). n + length (drop s.begun lines)) (sym same) ∙ ap (λ (n : ℕ). (ends s'.at.run).units.lines + length (drop n lines)) (sym begun);
-            reads = subst (λ (n : ℕ). (at : ℕ) (line : Line) → slice_get (drop n lines) at ≡ Some line → ReadsLineAs o.program.types o.asked ((ends s'.at.run).units.lines + at + 1) line.what) (sym begun)
-                (subst (λ (k : ℕ). (at : ℕ) (line : Line) → slice_get (drop s.begun lines) at ≡ Some line → ReadsLineAs o.program.types o.asked (k + at + 1) line.what) (sym same) way.outset.reads);
-            inner = subst (λ (k : ℕ). (n : ℕ) → k < n → n < length o.asked → at_seam o.windowed n ≡ false) (sym same) way.outset.inner;
-          };
-          numbers = subst (λ (n : ℕ). GoUpFrom (ends s'.at.run).units.lines (drop n lines)) (sym begun) (subst (λ (k : ℕ). GoUpFrom k (drop s.begun lines)) (sym same) way.numbers);
-          accepted = way.accepted;
-          few = few;
-          room = subst (λ (k : ℕ). k < 2 ^ 32) (sym same) way.room;
-          turning = turning;
-          books = subst (λ (x : World). KeepsBooks tells o on.0.books (stage_by s'.at.run s'.at.settler s'.at.faults x)) (sym world)
-              (subst (λ (x : Channel → ℕ). KeepsBooks tells o on.0.books (stage_by s'.at.run s'.at.settler x s.at.world)) (sym counts)
-              (subst (λ (x : Settler). KeepsBooks tells o on.0.books (stage_by s'.at.run x s.at.faults s.at.world)) (sym settler)
-              (subst (λ (x : Run). KeepsBooks tells o on.0.books (stage_by x s.at.settler s.at.faults s.at.world)) (sym g.run) on.0.kept)));
-          even = subst (λ (x : Settler). AreEven x.quiet on.0.books (ends s'.at.run)) (sym settler) (subst (λ (x : Run). AreEven s.at.settler.quiet on.0.books (ends x)) (sym g.run) on.1);
-          left = λ d. absurd (true≢false (sym d ∙ ap (λ (x : Settler). x.doubted) settler ∙ sure));
-        };
-        lasts = λ t head was. subst (λ (x : World). LastsSo o head on.0.books s'.at.run s'.at.settler.writer x) (sym world)
-            (subst (λ (x : Settler). LastsSo o head on.0.books s'.at.run x.writer s.at.world) (sym settler)
-            (subst (λ (x : Run). LastsSo o head on.0.books x s.at.settler.writer s.at.world) (sym g.run) (on.0.lasts t head was)));
-      }
+  unit-went u pick g used fresh begun settler counts world sure few =
+      event-went tells o lines b s s' way begun settler counts world keeps g.e g.run (unit-others u g.e g.own) (unit-no-line u g.e g.own) (unit-turning u pick g used fresh) sure few

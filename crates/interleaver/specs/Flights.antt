@@ -7,7 +7,7 @@ use Rattle.core_model.specs.LegalRuns.{Run}
 use Rattle.script_tree.specs.Programs.{ProgramTree}
 use Rattle.promise_spec.specs.TurnRule.{OfUnit, OfSettler, is_line, picked}
 use Rattle.turn_rules.specs.CarriedUnits.{movers_of}
-use Rattle.turn_rules.specs.TurnLoop.{TurnLoop}
+use Rattle.turn_rules.specs.TurnLoop.{TurnLoop, Pass}
 use Rattle.txn_agent.specs.declared.agent.Agent.{Agent}
 use Rattle.txn_agent.specs.AgentStep.{has_freed_all}
 use Rattle.unit_carrier.specs.CarriedUnits.{units_carried}
@@ -28,8 +28,8 @@ abbrev pub flown_unless : Bool → CoreState → List Agent → List Agent
 flown_unless doubted w agents = if doubted then agents else filter (is_flown w) agents
 
 -- where a loop of turns stands
-abbrev pub loop_at : Outset → Run → List Agent → ℕ → TurnLoop
-loop_at o r agents used = record { basis = basis_of o; windowed = o.windowed; ruled = o.ruled; width = o.width; picks = o.picks; run = r; units = units_carried agents; used = used }
+abbrev pub loop_at : Outset → Run → List Agent → ℕ → Pass → TurnLoop
+loop_at o r agents used pass = record { basis = basis_of o; windowed = o.windowed; ruled = o.ruled; width = o.width; picks = o.picks; run = r; units = units_carried agents; used = used; pass = pass }
 
 -- it is the mover at the pick; where nobody is, there is none
 abbrev pub IsNextMover : ProgramTree → Run → List UnitNo → ℕ → NextMover → Type 0

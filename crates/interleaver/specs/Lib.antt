@@ -2,3 +2,4 @@ pub mod Flights
 pub mod LastLook
 pub mod Turns
 pub mod TurnStages
+pub mod SureUnits

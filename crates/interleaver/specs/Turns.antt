@@ -34,7 +34,7 @@ pub record TurnsGoOn {T : Type 0} (tells : Bool) (o : Outset) (b : Books) (befor
   pub record_kept : KeepsTurns tells o books after
   pub lasts : IsTrue tells → (head : List ℕ) → LastsSo o head b before.run before.settler.writer before.world
       → LastsSo o head books after.run after.settler.writer after.world
-  pub ended : TurnsEndAs o books after result
+  pub ended : TurnsEndAs tells o books after result
 
 -- This holds of each outset and of each books from which lines may begin here: the outset is that of the call, nobody can move, the
 -- record is fresh, and it is kept so far.

@@ -5,7 +5,7 @@ ghost use Rattle.script_tree.specs.Programs.{ProgramTree};
 ghost use Rattle.promise_spec.specs.TurnRule.{at_seam, picks_used};
 ghost use Rattle.promise_spec.specs.UnitRule.{KeepsUnitRule};
 ghost use Rattle.promise_spec.specs.Windows.{window_lines};
-ghost use Rattle.turn_rules.specs.NextEvent.{movers_in};
+ghost use Rattle.turn_rules.specs.NextEvent.{NobodyGoes};
 ghost use Rattle.settle_loop.specs.declared.settler.Settler.{Settler as ASettler};
 ghost use Rattle.run_lines.specs.LineReadings.{lines_from_texts};
 ghost use Rattle.run_books.specs.Beginnings.{Outset, CanTurn, GoUpFrom, basis_of, with_more};
@@ -14,10 +14,10 @@ ghost use Rattle.run_books.specs.Records.{KeepsRecord, HasCarriedAll};
 ghost use Rattle.interleaver.specs.Turns.{IsFreshRecord, KeepsTurns, LinesMayBegin, StandsBehind};
 ghost use Rattle.run_books.specs.Stages.{Stage};
 
-/// Where lines can begin to be carried, nobody can move.
+/// Where lines can begin to be carried, nobody can move or wants a grain, and none is due.
 pub fn nobody_moves_where_lines_begin()
     ensures { (types : ProgramTree) (o : Outset) (r : Run) (settler : ASettler) (lines : List ALine) → 0 < r.base
-        → KeepsUnitRule (basis_of o) r → CanTurn r settler lines → movers_in types r ≡ [] }
+        → KeepsUnitRule (basis_of o) r → CanTurn r settler lines → NobodyGoes types r }
 {}
 
 /// Where all is carried, in turns or by workers, lines that are numbered behind those so far can be carried from there; and their

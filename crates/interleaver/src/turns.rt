@@ -1,7 +1,9 @@
-ghost use Rattle.std.specs.Prelude.{◌≡◌, ◌+◌, ◌-◌, ◌<◌, ◌≤◌, ◌^◌, ◌⊎◌, List as AList, true, false, IfOk, IfErr, OnErr, length};
+ghost use Rattle.std.specs.Prelude.{◌≡◌, ◌&&◌, not, is_some, ◌+◌, ◌-◌, ◌<◌, ◌≤◌, ◌^◌, ◌⊎◌, ℕ, List as AList, Some, true, false, IfOk, IfErr, OnErr, length};
 ghost use Rattle.host_trait.specs.Files.{StaysReady};
+ghost use Rattle.core_model.specs.CoreState.{UnitNo as AUnit, Member};
 ghost use Rattle.core_model.specs.LegalRuns.{Run, ends};
 ghost use Rattle.core_model.specs.Settler.{has_step, settler_step};
+ghost use Rattle.settle_loop.specs.SettlerStep.{wanted_step};
 ghost use Rattle.core_model.specs.declared.events.CoreReply.{CoreReply as AReply};
 ghost use Rattle.core_access.specs.OneHolder.{none_comes, own_sight};
 ghost use Rattle.core_access.specs.Sights.{Looks};
@@ -17,8 +19,9 @@ ghost use Rattle.run_books.specs.declared.faults.RunFault.TheVariants.{Memory};
 ghost use Rattle.run_books.specs.RecordFrame.{TurnsBeside};
 ghost use Rattle.interleaver.specs.Flights.{lines_carried, next_line_by};
 ghost use Rattle.interleaver.specs.LastLook.{IsLooked, looked_after};
+ghost use Rattle.interleaver.specs.SureUnits.{AreSure, LackNone, LacksNone, SureBySpace};
 ghost use Rattle.interleaver.specs.Turns.{TurnsCarry, WhereTurnsBegin};
-ghost use Rattle.interleaver.specs.TurnStages.{turn_stage, BeganOn, HoldsUnits, MoveGoesOn, MovedOn, SettlesBy, SettlesOne, StepSettles, TurnGoesOn};
+ghost use Rattle.interleaver.specs.TurnStages.{turn_stage, AsksOne, BeganOn, HoldsUnits, LeavesTurns, LoadsBy, LoadsOne, MoveGoesOn, MovedOn, PassGoesOn, PickedGoesOn, SettlesBy, SettlesOne, StepLoads, StepSettles, TurnGoesOn};
 ghost use Rattle.run_books.specs.Stages.{stage_of, IsSafe};
 
 use crate::flights::{drop_unless_doubted, lines_in};
@@ -44,6 +47,10 @@ pub(crate) struct Turns {
     pub(crate) front: usize,
     /// How many entries were settled when all units that are carried were lines' that weren't decided, where that is known.
     pub(crate) looked: Option<usize>,
+    /// The units below this number lacked no grain when they were asked last, but for the one that moved since.
+    pub(crate) sure: u64,
+    /// The unit that moved since, which may lack one.
+    pub(crate) moved: Option<UnitNo>,
     pub(crate) begun: usize,
     pub(crate) used: usize,
 }
@@ -73,7 +80,50 @@ fn settle<H: Host, G: Gate>(
         Turned::Nothing => Ok(()),
         Turned::Stop(StopCause::InDoubt) => Err(RunFault::InDoubt),
         Turned::Stop(StopCause::WriteFault) => Err(RunFault::WriteFault),
+        Turned::Stop(StopCause::LoadFault { file }) => Err(RunFault::LoadFault { file }),
+        Turned::Stop(StopCause::LoadDamaged { file, place }) => {
+            Err(RunFault::LoadDamaged { file, place })
+        }
     }
+}
+
+/// The grain that a unit of the pass wants is brought into memory.
+fn load<H: Host>(
+    shape: &Shape,
+    core: &mut Core,
+    settler: &mut Settler,
+    host: &mut H,
+) -> Result<(), RunFault>
+    requires safe { IsSafe H.tells settler.old.writer (H.world host.old) }
+    ensures loads { LoadsBy (run_of core.old) (run_of core.new) }
+    ensures acted { IfOk result (λ _. has_step (wanted_step (ends (run_of core.old))) ≡ true → LoadsOne (run_of core.old) (run_of core.new)) }
+    ensures goes { StepLoads H.tells shape.now
+        (stage_of H.world H.faults (run_of core.old) settler.old host.old)
+        (stage_of H.world H.faults (run_of core.new) settler.new host.new) result }
+    ensures beside { TurnsBeside H.tells
+        (stage_of H.world H.faults (run_of core.old) settler.old host.old)
+        (stage_of H.world H.faults (run_of core.new) settler.new host.new) result }
+    ensures doubted { settler.new.doubted ≡ settler.old.doubted }
+    ensures safe { IsSafe H.tells settler.new.writer (H.world host.new) }
+    ensures ready { StaysReady (H.is_ready host.old) (H.is_ready host.new) }
+{
+    match settler.load(shape, core, host)? {
+        Turned::Stepped => Ok(()),
+        Turned::Nothing => Ok(()),
+        Turned::Stop(StopCause::InDoubt) => Err(RunFault::InDoubt),
+        Turned::Stop(StopCause::WriteFault) => Err(RunFault::WriteFault),
+        Turned::Stop(StopCause::LoadFault { file }) => Err(RunFault::LoadFault { file }),
+        Turned::Stop(StopCause::LoadDamaged { file, place }) => {
+            Err(RunFault::LoadDamaged { file, place })
+        }
+    }
+}
+
+/// Whether a grain that a unit waits for may be brought into memory: memory has a limit, and nothing is in doubt.
+fn can_miss(core: &Core, settler: &Settler) -> bool
+    ensures { result ≡ (is_some (run_of core.now).capacity && not settler.now.doubted) }
+{
+    core.has_limit() && !settler.doubted()
 }
 
 /// Reaches the place that a line's begin has come to.
@@ -125,6 +175,28 @@ fn looked_after(looked: Option<usize>, went: Went) -> Option<usize>
     }
 }
 
+/// Below which number units lack no grain still, where one moves: none does for sure where another had moved already.
+fn sure_after(sure: u64, moved: Option<UnitNo>) -> u64
+    ensures below { result ≤ sure }
+    ensures none { (u : AUnit) → moved ≡ Some u → result ≡ 0 }
+{
+    match moved {
+        None => sure,
+        Some(_unit) => 0,
+    }
+}
+
+/// Below which number units lack no grain still: a grain may have left memory where that has no space for one more.
+fn sure_with(sure: u64, core: &Core) -> u64
+    ensures below { result ≤ sure }
+    ensures space { SureBySpace result (run_of core.now) }
+{
+    if core.has_space() {
+        return sure;
+    }
+    0
+}
+
 impl Turns {
     /// How many lines are in flight.
     fn in_flight(&self) -> usize
@@ -168,6 +240,7 @@ impl Turns {
         gate: &G,
     ) -> Result<(), RunFault>
         requires carried { AreCarried (program_tree checked.now) none_comes (own_sight (run_of core.old)) self.old.agents.list.items }
+        requires sure { AreSure (program_tree checked.now) (run_of core.old) (units_carried self.old.agents.list.items) self.old.sure self.old.moved }
         requires room { self.old.begun < 2 ^ 64 - 1 }
         ensures put { OnErr result (Looks none_comes (own_sight (run_of core.old)) (own_sight (run_of core.new))
             ⊎ ((r : AReply) × PutsLine none_comes (program_tree checked.now) line.now.number line.now.what (own_sight (run_of core.old))
@@ -217,10 +290,219 @@ impl Turns {
         core.show_few();
         reach_step(gate, unit, went);
         self.looked = looked_after(self.looked, went);
+        self.sure = sure_after(self.sure, self.moved);
+        self.moved = Some(unit);
+        Ok(())
+    }
+
+    /// Whether the unit lacks no grain for sure: it lacked none when it was asked last, and hasn't moved since.
+    fn is_sure(&self, unit: UnitNo) -> bool
+        ensures { result ≡ true → (unit.0 < self.now.sure) × (self.now.moved ≡ Some unit → ⊥) }
+    {
+        match self.moved {
+            None => unit.0 < self.sure,
+            Some(moved) => moved.0 != unit.0 && unit.0 < self.sure,
+        }
+    }
+
+    /// One above the number of the last unit that is carried, 0 where none is.
+    fn above_all(&self) -> u64
+        ensures { (n : ℕ) → ((u : AUnit) → Member u (units_carried self.now.agents.list.items) → u.0 < n) → result ≤ n }
+    {
+        match self.agents.list.last() {
+            None => 0,
+            Some(agent) => agent.unit().0.saturating_add(1),
+        }
+    }
+
+    /// The unit at this index is asked in the pass: where it waits for a grain it wants it, and the grain is brought into memory right
+    /// behind the wish.
+    fn ask_one<H: Host>(
+        &mut self,
+        checked: &Checked,
+        core: &mut Core,
+        settler: &mut Settler,
+        host: &mut H,
+        index: usize,
+    ) -> Result<(), RunFault>
+        requires within { index < length self.old.agents.list.items }
+        requires front { self.old.front ≤ index }
+        requires units { HoldsUnits (program_tree checked.now) (run_of core.old) self.old }
+        requires unsure { self.old.sure ≡ 0 }
+        requires shape { self.old.shape.types ≡ type_shapes (program_tree checked.now) }
+        requires safe { IsSafe H.tells settler.old.writer (H.world host.old) }
+        ensures asks { AsksOne H.tells (program_tree checked.now) index
+            (stage_of H.world H.faults (run_of core.old) settler.old host.old) self.old
+            (stage_of H.world H.faults (run_of core.new) settler.new host.new) self.new result }
+        ensures units { IfOk result (λ _. HoldsUnits (program_tree checked.now) (run_of core.new) self.new) }
+        ensures leaves { LeavesTurns self.old settler.old.doubted self.new settler.new.doubted }
+        ensures unsure { self.new.sure ≡ 0 }
+        ensures safe { IsSafe H.tells settler.new.writer (H.world host.new) }
+        ensures ready { StaysReady (H.is_ready host.old) (H.is_ready host.new) }
+    {
+        if !self.agents.want(self.alloc, checked, core, index)? {
+            return Ok(());
+        }
+        load(&self.shape, core, settler, host)?;
+        Ok(())
+    }
+
+    /// The unit at this index is asked, unless it lacks no grain for sure. Answers whether it lacks none behind that, and nothing was put.
+    fn ask_unless_sure<H: Host>(
+        &mut self,
+        checked: &Checked,
+        core: &mut Core,
+        settler: &mut Settler,
+        host: &mut H,
+        index: usize,
+    ) -> Result<bool, RunFault>
+        requires within { index < length self.old.agents.list.items }
+        requires front { self.old.front ≤ index }
+        requires units { HoldsUnits (program_tree checked.now) (run_of core.old) self.old }
+        requires space { SureBySpace self.old.sure (run_of core.old) }
+        requires shape { self.old.shape.types ≡ type_shapes (program_tree checked.now) }
+        requires safe { IsSafe H.tells settler.old.writer (H.world host.old) }
+        ensures asks { AsksOne H.tells (program_tree checked.now) index
+            (stage_of H.world H.faults (run_of core.old) settler.old host.old) self.old
+            (stage_of H.world H.faults (run_of core.new) settler.new host.new) self.new result }
+        ensures units { IfOk result (λ _. HoldsUnits (program_tree checked.now) (run_of core.new) self.new) }
+        ensures space { IfOk result (λ _. SureBySpace self.new.sure (run_of core.new)) }
+        ensures lacks { IfOk result (λ sure. sure ≡ true → LacksNone (program_tree checked.now) (run_of core.old) (run_of core.new)
+            (unit_at self.old.agents.list.items index)) }
+        ensures leaves { LeavesTurns self.old settler.old.doubted self.new settler.new.doubted }
+        ensures safe { IsSafe H.tells settler.new.writer (H.world host.new) }
+        ensures ready { StaysReady (H.is_ready host.old) (H.is_ready host.new) }
+    {
+        let unit = self.agents.list[index].unit();
+        if self.is_sure(unit) {
+            return Ok(true);
+        }
+        let here = self.agents.has_grain(self.alloc, checked, core, index)?;
+        if here {
+            let awaits = self.agents.list[index].is_awaiting();
+            return Ok(!awaits);
+        }
+        self.sure = 0;
+        self.ask_one(checked, core, settler, host, index)?;
+        Ok(false)
+    }
+
+    /// The units that are carried are asked, in number order, but for those that lack no grain for sure. Answers whether all of them lack
+    /// none behind that.
+    fn ask_all<H: Host>(
+        &mut self,
+        checked: &Checked,
+        core: &mut Core,
+        settler: &mut Settler,
+        host: &mut H,
+    ) -> Result<bool, RunFault>
+        requires units { HoldsUnits (program_tree checked.now) (run_of core.old) self.old }
+        requires space { SureBySpace self.old.sure (run_of core.old) }
+        requires calm { settler.old.doubted ≡ false }
+        requires shape { self.old.shape.types ≡ type_shapes (program_tree checked.now) }
+        requires safe { IsSafe H.tells settler.old.writer (H.world host.old) }
+        ensures passes { PassGoesOn H.tells (program_tree checked.now)
+            (turn_stage (stage_of H.world H.faults (run_of core.old) settler.old host.old) self.old)
+            (stage_of H.world H.faults (run_of core.new) settler.new host.new) self.new result }
+        ensures units { IfOk result (λ _. HoldsUnits (program_tree checked.now) (run_of core.new) self.new) }
+        ensures lack { IfOk result (λ sure. sure ≡ true → LackNone (program_tree checked.now) (run_of core.new)
+            (units_carried self.new.agents.list.items)) }
+        ensures begun { self.new.begun ≡ self.old.begun }
+        ensures used { self.new.used ≡ self.old.used }
+        ensures shape { self.new.shape ≡ self.old.shape }
+        ensures safe { IsSafe H.tells settler.new.writer (H.world host.new) }
+        ensures ready { StaysReady (H.is_ready host.old) (H.is_ready host.new) }
+    {
+        let mut sure = true;
+        for index in self.front..self.agents.list.len() {
+            let lacks_none = self.ask_unless_sure(checked, core, settler, host, index)?;
+            sure = sure & lacks_none;
+        }
+        Ok(sure)
+    }
+
+    /// The pass of a turn. Who lacked no grain in the last one and hasn't moved since isn't asked while memory has space for one grain
+    /// more, since none left it then. Where memory has no limit, or something is in doubt, nobody is asked.
+    fn load_pass<H: Host>(
+        &mut self,
+        checked: &Checked,
+        core: &mut Core,
+        settler: &mut Settler,
+        host: &mut H,
+    ) -> Result<(), RunFault>
+        requires units { HoldsUnits (program_tree checked.now) (run_of core.old) self.old }
+        requires shape { self.old.shape.types ≡ type_shapes (program_tree checked.now) }
+        requires safe { IsSafe H.tells settler.old.writer (H.world host.old) }
+        ensures passes { PassGoesOn H.tells (program_tree checked.now)
+            (turn_stage (stage_of H.world H.faults (run_of core.old) settler.old host.old) self.old)
+            (stage_of H.world H.faults (run_of core.new) settler.new host.new) self.new result }
+        ensures units { IfOk result (λ _. HoldsUnits (program_tree checked.now) (run_of core.new) self.new) }
+        ensures begun { self.new.begun ≡ self.old.begun }
+        ensures used { self.new.used ≡ self.old.used }
+        ensures shape { self.new.shape ≡ self.old.shape }
+        ensures safe { IsSafe H.tells settler.new.writer (H.world host.new) }
+        ensures ready { StaysReady (H.is_ready host.old) (H.is_ready host.new) }
+    {
+        if !can_miss(core, settler) {
+            return Ok(());
+        }
+        self.sure = sure_with(self.sure, core);
+        if self.ask_all(checked, core, settler, host)? {
+            self.sure = self.above_all();
+            self.moved = None;
+        }
         Ok(())
     }
 
     /// The mover at the next pick moves. Answers whether there was one.
+    fn move_picked<H: Host, G: Gate>(
+        &mut self,
+        checked: &Checked,
+        core: &mut Core,
+        settler: &mut Settler,
+        host: &mut H,
+        gate: &G,
+        picks: &[u32],
+    ) -> Result<bool, RunFault>
+        requires units { HoldsUnits (program_tree checked.now) (run_of core.old) self.old }
+        requires room { self.old.used < 2 ^ 64 - 1 }
+        requires shape { self.old.shape.types ≡ type_shapes (program_tree checked.now) }
+        requires safe { IsSafe H.tells settler.old.writer (H.world host.old) }
+        ensures turns { PickedGoesOn H.tells (program_tree checked.now) picks.now
+            (stage_of H.world H.faults (run_of core.old) settler.old host.old) self.old
+            (turn_stage (stage_of H.world H.faults (run_of core.new) settler.new host.new) self.new) result }
+        ensures units { IfOk result (λ _. HoldsUnits (program_tree checked.now) (run_of core.new) self.new) }
+        ensures used { IfOk result (λ _. self.new.used ≤ self.old.used + 1) }
+        ensures goes { IfOk result (λ more. more ≡ true → self.new.begun + self.new.used ≡ self.old.begun + self.old.used + 1) }
+        ensures shape { self.new.shape ≡ self.old.shape }
+        ensures safe { IsSafe H.tells settler.new.writer (H.world host.new) }
+        ensures ready { StaysReady (H.is_ready host.old) (H.is_ready host.new) }
+    {
+        let pick = pick_at(picks, self.used);
+        match next_mover(
+            self.alloc,
+            checked,
+            core,
+            &mut self.agents,
+            self.front,
+            settler,
+            pick,
+        )? {
+            NextMover::Nobody => Ok(false),
+            NextMover::Settler => {
+                settle(&self.shape, core, settler, host, gate)?;
+                self.used += 1;
+                Ok(true)
+            }
+            NextMover::Unit(index) => {
+                self.move_unit(checked, core, gate, index)?;
+                self.used += 1;
+                Ok(true)
+            }
+        }
+    }
+
+    /// The pass, and then the mover at the next pick moves. Answers whether there was one.
     fn move_one<H: Host, G: Gate>(
         &mut self,
         checked: &Checked,
@@ -245,28 +527,8 @@ impl Turns {
         ensures ready { StaysReady (H.is_ready host.old) (H.is_ready host.new) }
     {
         self.front = self.agents.freed_front(self.front);
-        let pick = pick_at(picks, self.used);
-        match next_mover(
-            self.alloc,
-            checked,
-            core,
-            &mut self.agents,
-            self.front,
-            settler,
-            pick,
-        )? {
-            NextMover::Nobody => Ok(false),
-            NextMover::Settler => {
-                settle(&self.shape, core, settler, host, gate)?;
-                self.used += 1;
-                Ok(true)
-            }
-            NextMover::Unit(index) => {
-                self.move_unit(checked, core, gate, index)?;
-                self.used += 1;
-                Ok(true)
-            }
-        }
+        self.load_pass(checked, core, settler, host)?;
+        self.move_picked(checked, core, settler, host, gate, picks)
     }
 
     /// One turn: the next line begins, where one may, or else the mover at the next pick moves. Answers whether anything was
@@ -371,6 +633,8 @@ pub fn run_turns<H: Host, G: Gate, L: Lines>(
         agents: Agents::new(alloc),
         front: 0,
         looked: None,
+        sure: 0,
+        moved: None,
         begun: 0,
         used: *used,
     };

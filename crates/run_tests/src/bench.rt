@@ -45,6 +45,15 @@ fn blanks(alloc: Global, count: u64) -> Result<String, AllocError> {
     Ok(text)
 }
 
+// A request that deposits 1 on an account.
+fn deposit_on(alloc: Global, account: u64) -> Result<String, AllocError> {
+    let mut line = String::new(alloc);
+    line.push_str("{\"args\":[1],\"call\":\"account/")?;
+    write!(line, "{account}")?;
+    line.push_str(".deposit\"}")?;
+    Ok(line)
+}
+
 impl Bench {
     /// An empty folder.
     pub fn new(alloc: Global) -> Result<Bench, AllocError> {
@@ -112,6 +121,12 @@ impl Bench {
                     self.add_input(READ)?;
                 }
             }
+            "deposits" => {
+                for account in 0..count {
+                    let line = deposit_on(self.alloc, account)?;
+                    self.add_input(line.as_str())?;
+                }
+            }
             "feeds" => {
                 for _line in 0..count {
                     self.input.push('\n')?;
@@ -150,7 +165,7 @@ impl Bench {
             "last" => self.give_last(),
             "byte" => self.give_byte(rest),
             "fail" => self.fail(rest),
-            "pulls" | "blanks" | "reads" | "feeds" => self.add_many(word, rest),
+            "pulls" | "blanks" | "reads" | "deposits" | "feeds" => self.add_many(word, rest),
             "<" => {
                 self.add_input(rest)?;
                 Ok(true)

@@ -78,15 +78,8 @@ fn count_faults(host: &MemoryHost) -> u64 {
     count
 }
 
-fn is_grain(file: FileId) -> bool {
-    match file {
-        FileId::Grain { .. } => true,
-        FileId::Manager { .. } => false,
-        FileId::Program { .. } => false,
-    }
-}
-
-// Whether a fault of its own kind bears the end of a command out of which a call failed. Once lines are carried no grain's file ends them.
+// Whether a fault of its own kind bears the end of a command out of which a call failed. A grain's file ends a run too, where a version of
+// it was to be read for a line.
 fn is_borne_out(host: &MemoryHost, status: Status, is_begun: bool) -> bool {
     match status {
         Status::Done => {
@@ -94,9 +87,7 @@ fn is_borne_out(host: &MemoryHost, status: Status, is_begun: bool) -> bool {
         }
         Status::ReadFault => host.faults(Channel::Input) > 0,
         Status::WriteFault => host.faults(Channel::Output) > 0,
-        Status::DiskFault { file } => {
-            host.faults(Channel::File(file)) > 0 && !(is_begun && is_grain(file))
-        }
+        Status::DiskFault { file } => host.faults(Channel::File(file)) > 0,
         _ => false,
     }
 }

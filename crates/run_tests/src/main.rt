@@ -11,7 +11,7 @@
 //! | `last` | gives the manager file the last generation |
 //! | `fail CALL CHANNEL N` | has the N-th call of this kind on this channel fail, counted from here on |
 //! | `crash` | takes what a crash leaves that loses all that is pending |
-//! | `< ..`, `reads N`, `blanks N`, `feeds N` | gives the next command a line more, N lines that ask for a balance, a line of N blanks, N line feeds |
+//! | `< ..`, `reads N`, `deposits N`, `blanks N`, `feeds N` | gives the next command a line more, N lines that ask for a balance, N that deposit 1 on the accounts from 0 on, a line of N blanks, N line feeds |
 //! | `bank`, `rounds N`, `mixed N`, `hot N` | gives it the bank program, N rounds of three transfers, N of six lines of which some begin units of their own, N of four that all want one account |
 //! | `pulls N` | has no pull of this host give more than N bytes |
 //! | `silo WORDS` | carries the command, and tells how it ended and all that the host has put out by then |

@@ -11,7 +11,7 @@ use Rattle.history_core.specs.Cores.{run_of}
 use Rattle.history_core.specs.declared.whole_core.Core.{Core}
 use Rattle.settle_loop.specs.declared.settler.Settler.{Settler}
 use Rattle.run_books.specs.declared.faults.RunFault.{RunFault}
-use Rattle.run_books.specs.declared.faults.RunFault.TheVariants.{InDoubt, WriteFault, Memory}
+use Rattle.run_books.specs.declared.faults.RunFault.TheVariants.{InDoubt, WriteFault, Memory, LoadFault, LoadDamaged}
 use Rattle.run_books.specs.Beginnings.{Outset}
 use Rattle.run_books.specs.RecordFrame.{TurnsBeside, EmitsAs}
 use Rattle.run_books.specs.Books.{Books}
@@ -29,17 +29,21 @@ with_core core (Ok done) = Ok core
 with_core core (Err fault) = Err fault
 
 -- what it says is the same
-ends_so : {T : Type 0} (o : Outset) (b : Books) (s : Stage) (core : Core) (result : Result T RunFault) → TurnsEndAs o b s result → TurnsEndAs o b s (with_core core result)
-ends_so o b s core (Ok done) e = e
-ends_so o b s core (Err InDoubt) e = e
-ends_so o b s core (Err WriteFault) e = e
-ends_so o b s core (Err Memory) e = e
+ends_so : {T : Type 0} (tells : Bool) (o : Outset) (b : Books) (s : Stage) (core : Core) (result : Result T RunFault) → TurnsEndAs tells o b s result → TurnsEndAs tells o b s (with_core core result)
+ends_so tells o b s core (Ok done) e = e
+ends_so tells o b s core (Err InDoubt) e = e
+ends_so tells o b s core (Err WriteFault) e = e
+ends_so tells o b s core (Err Memory) e = e
+ends_so tells o b s core (Err (LoadFault file)) e = e
+ends_so tells o b s core (Err (LoadDamaged file place)) e = e
 
 emits_so : {T : Type 0} (core : Core) (result : Result T RunFault) (old new : ℕ) → EmitsAs result old new → EmitsAs (with_core core result) old new
 emits_so core (Ok done) old new e = e
 emits_so core (Err InDoubt) old new e = e
 emits_so core (Err WriteFault) old new e = e
 emits_so core (Err Memory) old new e = e
+emits_so core (Err (LoadFault file)) old new e = e
+emits_so core (Err (LoadDamaged file place)) old new e = e
 
 -- what holds where all is done
 with_done : {T : Type 0} (core : Core) (P : Type 0) (result : Result T RunFault) → IfOk result (λ _. P) → IfOk (with_core core result) (λ _. P)
@@ -69,7 +73,7 @@ module _ {T : Type 0} (tells : Bool) (types : ProgramTree) (lines : List Line) (
   turns_carried width picks used used' turns counted o b st =
       let g = turns o b st.outset st.can st.fresh st.kept in
       record {
-        on = record { books = g.books; record_kept = turns-record g.record_kept; lasts = g.lasts; ended = ends_so o g.books (stage_by r' s' f' w') core result g.ended };
+        on = record { books = g.books; record_kept = turns-record g.record_kept; lasts = g.lasts; ended = ends_so tells o g.books (stage_by r' s' f' w') core result g.ended };
         turns = λ one. g.record_kept.turns st.ruled;
         used_by = λ one. with_done core (picks_used r' (length r'.events) ≡ used') result (counted o b st.outset st.can st.fresh st.kept st.ruled);
       }
@@ -85,7 +89,7 @@ module _ {T : Type 0} (tells : Bool) (types : ProgramTree) (lines : List Line) (
   workers_carried r' used kept o b st =
       let g = kept o b st.outset st.can (record { picks = λ ruled. absurd (true≢false (sym ruled ∙ st.ruled)); doubted = st.fresh.doubted; rest = st.fresh.rest }) st.kept in
       record {
-        on = record { books = g.books; record_kept = g.record_kept; lasts = g.lasts; ended = ends_so o g.books (stage_by r' s' f' w') core result g.ended };
+        on = record { books = g.books; record_kept = g.record_kept; lasts = g.lasts; ended = ends_so tells o g.books (stage_by r' s' f' w') core result g.ended };
         turns = λ one. absurd (true≢false one);
         used_by = λ one. absurd (true≢false one);
       }

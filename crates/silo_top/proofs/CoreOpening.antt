@@ -2,7 +2,9 @@
 use Rattle.std.proofs.Common.{◌≡◌, ℕ, suc, ◌≤◌, List, [], ◌∷◌, Option, Some, None, length, slice_get, unwrap_or, refl, sym, ◌∙◌, ap, subst, arith}
 use Rattle.std.specs.Prelude.{option_map}
 use Rattle.std.proofs.lemmas.Option.{slice_get-map}
-use Rattle.base_types.specs.Stores.{state_in, end_in}
+use Rattle.base_types.specs.Stores.{end_in}
+use Rattle.base_types.specs.Places.{placed_in}
+use Rattle.base_types.specs.declared.places.Placed.{Placed}
 use Rattle.base_types.specs.declared.calls.GrainId.{GrainId}
 use Rattle.base_types.specs.declared.calls.Value.{Value}
 use Rattle.std.specs.List.{AllByRecursion}
@@ -12,18 +14,22 @@ use Rattle.host_trait.specs.World.{Image, Disk}
 use Rattle.gate_block.specs.Gates.{IsClosedAt}
 use Rattle.batch_disk.specs.ImagesAtRest.{Voted, write_end}
 use Rattle.batch_disk.specs.Writers.{FitsSlot, FitsDisk}
-use Rattle.cell_table.specs.Table.{opening_state, initial_fields, state_or}
+use Rattle.cell_table.specs.Table.{initial_fields, known_in, state_or}
 use Rattle.script_tree.specs.Programs.{TypeTree, ProgramTree, program_tree}
 use Rattle.script_check.specs.Shapes.{type_shape, type_shapes}
 use Rattle.script_meaning.specs.Play.{initial_of}
-use Rattle.promise_spec.specs.Entries.{standing_of}
-use Rattle.promise_spec.specs.Cores.{core_from}
+use Rattle.field_codec.specs.declared.formats.Format.TheVariants.{One}
+use Rattle.promise_spec.specs.Entries.{initial_states, standing_of}
+use Rattle.promise_spec.specs.Programs.{shape_in}
+use Rattle.promise_spec.specs.Cores.{core_from, memory_limit}
 use Rattle.history_core.specs.Cores.{run_of}
-use Rattle.silo_opening.specs.OpenedSilo.{IsOpenedFrom}
+use Rattle.silo_opening.specs.OpenedSilo.{IsOpenedFrom, program_in}
+use Rattle.silo_opening.proofs.PlacedStates.{known_stand}
+use Rattle.log_reading.proofs.PlacedVersions.{known_state}
 use Rattle.silo_opening.specs.declared.opened_silo.Opened.{Opened}
 use Rattle.log_reading.specs.Steps.{seen_in}
 use Rattle.silo_top.specs.LoadSteps.{LiesWithin}
-use Rattle.silo_top.specs.RunStart.{IsStartOf}
+use Rattle.silo_top.specs.RunStart.{IsStartOf, placed_state}
 use Rattle.silo_top.specs.declared.run_start.Started.{Started}
 
 -- ---- the core's run
@@ -38,13 +44,19 @@ kept_or : (state : Option (List Value)) (initial : List Value) → state_or stat
 kept_or None initial = refl
 kept_or (Some state) initial = refl
 
+-- what is known of a place is its version's state
+known_same : (image : Image) (o : Opened) (p : Option Placed) → known_in p ≡ known_state o.slot One (shape_in (program_in o)) image p
+known_same image o None = refl
+known_same image o (Some p) = refl
+
 -- the core opens with what the log stands for
 states_are : (image : Image) (o : Opened) (is : IsOpenedFrom image o) (g : GrainId)
-    → opening_state (record { types = type_shapes (program_tree o.checked) }) o.store g ≡ (standing_of is.log).states g
+    → placed_state (record { types = type_shapes (program_tree o.checked) }) o.places g ≡ (standing_of is.log).states g
 states_are image o is g =
-    kept_or (state_in o.store g) (initial_fields (slice_get (type_shapes (program_tree o.checked)) g.kind))
-    ∙ ap (λ (initial : List Value). unwrap_or (state_in o.store g) initial) (ap initial_fields (slice_get-map type_shape (program_tree o.checked) g.kind) ∙ initial_at (slice_get (program_tree o.checked) g.kind))
-    ∙ is.states g
+    kept_or (known_in (placed_in o.places g)) (initial_fields (slice_get (type_shapes (program_tree o.checked)) g.kind))
+    ∙ ap (λ (initial : List Value). unwrap_or (known_in (placed_in o.places g)) initial) (ap initial_fields (slice_get-map type_shape (program_tree o.checked) g.kind) ∙ initial_at (slice_get (program_tree o.checked) g.kind))
+    ∙ ap (λ (s : Option (List Value)). unwrap_or s (initial_states (program_in o) g)) (known_same image o (placed_in o.places g))
+    ∙ known_stand image o is g
 
 pub many_types : (types : ProgramTree) → length (type_shapes types) ≡ length types
 many_types [] = refl
@@ -55,7 +67,7 @@ pub start_is : (image : Image) (o : Opened) (s : Started) → (is : IsOpenedFrom
 start_is image o s is start = start.run ∙ (λ i. record {
   base = is.next i;
   kinds = many_types (program_tree o.checked) i;
-  capacity = None;
+  capacity = memory_limit;
   opening = λ g. states_are image o is g i;
   events = [];
 })

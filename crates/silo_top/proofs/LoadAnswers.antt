@@ -11,16 +11,15 @@ use Rattle.core_model.specs.LegalRuns.{Run}
 use Rattle.history_core.specs.Cores.{run_of}
 use Rattle.promise_spec.specs.Entries.{new_log}
 use Rattle.promise_spec.specs.Endings as ending
-use Rattle.promise_spec.specs.Endings.{Ending, HasRisen, HasFailedAs, IsLoadCarried, BadUse, ReadFault, WriteFault as Unwritten}
+use Rattle.promise_spec.specs.Endings.{Ending, HasRisen, HasFailedAs, IsLoadCarried, MayEndLoad, BadUse, ReadFault, WriteFault as Unwritten}
 use Rattle.settle_loop.specs.declared.settler.Settler.{Settler}
 use Rattle.run_books.specs.declared.faults.RunFault.{RunFault}
-use Rattle.run_books.specs.declared.faults.RunFault.TheVariants.{InDoubt, WriteFault, Memory}
+use Rattle.run_books.specs.declared.faults.RunFault.TheVariants.{InDoubt, WriteFault, Memory, LoadFault, LoadDamaged}
 use Rattle.run_books.specs.Beginnings.{Outset}
 use Rattle.run_books.specs.RecordFrame.{TurnsBeside}
 use Rattle.run_books.specs.Records.{TurnsEndAs}
 use Rattle.promise_spec.specs.Words.{Manner}
 use Rattle.silo_opening.specs.declared.opened_silo.Opened.{Opened}
-use Rattle.cell_table.specs.Table.{opening_state}
 use Rattle.script_check.specs.Shapes.{type_shapes}
 use Rattle.input_windows.specs.Pulls.{PulledOnly}
 use Rattle.silo_top.specs.declared.run_start.Started.{Started}
@@ -28,7 +27,7 @@ use Rattle.silo_top.specs.CallAnswers.{AnswersRun}
 use Rattle.silo_top.specs.LineExecution.{StartsRun, CarriedOn, CarriesOn}
 use Rattle.silo_top.specs.LoadSteps.{MaySaySummary, load_ending}
 use Rattle.silo_top.proofs.ReadLines.{AreReadFrom}
-use Rattle.silo_top.specs.RunStart.{IsStartOf}
+use Rattle.silo_top.specs.RunStart.{IsStartOf, placed_state}
 use Rattle.silo_top.proofs.OpenedPlaces.{OpensSo, versions_behind}
 use Rattle.silo_top.proofs.TurnStart.{no_books, starts_kept, starts_quiet, starts_fresh, starts_outset}
 use Rattle.silo_top.proofs.CoreOpening.{many_types}
@@ -45,7 +44,7 @@ start_fresh tells m x st texts lines w0 w1 f0 f1 start opens still later wide ab
     let o : Outset = record { live = x.slot; program = record { text = []; types = types }; asked = texts; opening = new_log (record { text = []; types = types }); ruled = not m.threaded; windowed = false; width = m.width; picks = m.picks; faults = f0; world = w0 } in
     let base : ℕ = x.next_unit.0 in
     let kinds : ℕ = length (type_shapes types) in
-    let opening = opening_state (record { types = type_shapes types }) x.store in
+    let opening = placed_state (record { types = type_shapes types }) x.places in
     subst (λ (r : Run). StartsRun tells m o no_books types lines 0 (stage_by r st.settler f1 w1)) (sym start.run) (record {
       outset = starts_outset base kinds opening o types texts lines m.width m.picks are (many_types types) refl refl refl wide refl (λ n low high. refl);
       can = starts_quiet base kinds opening types texts lines st.settler are start.doubted start.written;
@@ -55,7 +54,7 @@ start_fresh tells m x st texts lines w0 w1 f0 f1 start opens still later wide ab
     })
 
 -- a load whose turns ended by a fault names it, and nothing of the input or the output failed
-faulted_answers : (live : ℕ) (fault : RunFault) (old new : Channel → ℕ) → HasRisen (load_ending live fault) old new → new Input ≡ old Input → new Output ≡ old Output → AnswersRun IsLoadCarried (load_ending live fault) old new
+faulted_answers : (live : ℕ) (fault : RunFault) (old new : Channel → ℕ) → HasRisen (load_ending live fault) old new → new Input ≡ old Input → new Output ≡ old Output → AnswersRun MayEndLoad (load_ending live fault) old new
 faulted_answers live fault old new risen pulled calm = record {
   good = good fault;
   risen = risen;
@@ -68,26 +67,30 @@ faulted_answers live fault old new risen pulled calm = record {
     good InDoubt t = cc t
     good WriteFault t = cc t
     good Memory t = cc t
+    good (LoadFault file) t = cc t
+    good (LoadDamaged file place) t = cc t
 
-    begun : (f : RunFault) → IsLoadCarried (load_ending live f)
-    begun InDoubt = tt
-    begun WriteFault = tt
-    begun Memory = tt
+    begun : (f : RunFault) → MayEndLoad (load_ending live f)
+    begun InDoubt = inl tt
+    begun WriteFault = inl tt
+    begun Memory = inl tt
+    begun (LoadFault file) = inl tt
+    begun (LoadDamaged file place) = inr tt
 
 -- so it is over every host
 pub turns_faulted : {T : Type 0} (tells : Bool) (m : Manner) (x : Opened) (st : Started) (texts : List (List ℕ)) (lines : List Line) (w1 w2 : World) (f1 f2 : Channel → ℕ) (result : Result T RunFault) (r' : Run) (s' : Settler) (used : ℕ)
     → IsStartOf x st → (IsTrue tells → (old : World) × OpensSo old w1 x) → st.settler.quiet ≡ true → 0 < m.width → 0 < x.next_unit.0 → AreReadFrom (program_tree x.checked) 0 texts lines
     → CarriesOn tells m (program_tree x.checked) lines 0 used (stage_by (run_of st.core) st.settler f1 w1) (stage_by r' s' f2 w2) result
-    → TurnsBeside tells (stage_by (run_of st.core) st.settler f1 w1) (stage_by r' s' f2 w2) result → (fault : RunFault) → result ≡ Err fault → AnswersRun IsLoadCarried (load_ending x.slot fault) f1 f2
+    → TurnsBeside tells (stage_by (run_of st.core) st.settler f1 w1) (stage_by r' s' f2 w2) result → (fault : RunFault) → result ≡ Err fault → AnswersRun MayEndLoad (load_ending x.slot fault) f1 f2
 turns_faulted {T} tells m x st texts lines w1 w2 f1 f2 result r' s' used start opens hush wide above are carries beside fault q =
     let o : Outset = record { live = x.slot; program = record { text = []; types = program_tree x.checked }; asked = texts; opening = new_log (record { text = []; types = program_tree x.checked }); ruled = not m.threaded; windowed = false; width = m.width; picks = m.picks; faults = f1; world = w1 } in
     let goes : CarriedOn {T = T} tells m o no_books used (stage_by (run_of st.core) st.settler f1 w1) (stage_by r' s' f2 w2) result =
     carries o no_books (start_fresh tells m x st texts lines w1 w1 f1 f1 start opens (λ told. still_none w1) (λ c. omega arith) wide above are) in
-    let ended : TurnsEndAs o goes.on.books (stage_by r' s' f2 w2) {T = T} (Err fault) = subst (TurnsEndAs o goes.on.books (stage_by r' s' f2 w2)) q goes.on.ended in
-    faulted_answers x.slot fault f1 f2 (load_risen T o goes.on.books r' s' f2 w2 fault ended) beside.pulled (beside.calm hush)
+    let ended : TurnsEndAs tells o goes.on.books (stage_by r' s' f2 w2) {T = T} (Err fault) = subst (TurnsEndAs tells o goes.on.books (stage_by r' s' f2 w2)) q goes.on.ended in
+    faulted_answers x.slot fault f1 f2 (load_risen T tells o goes.on.books r' s' f2 w2 fault ended) beside.pulled (beside.calm hush)
 
 -- where the summary was to be printed
-pub summary_answers : (e : Ending) (old mid new : Channel → ℕ) → MaySaySummary e → HasFailedAs e mid new → mid Input ≡ old Input → mid Output ≡ old Output → AnswersRun IsLoadCarried e old new
+pub summary_answers : (e : Ending) (old mid new : Channel → ℕ) → MaySaySummary e → HasFailedAs e mid new → mid Input ≡ old Input → mid Output ≡ old Output → AnswersRun MayEndLoad e old new
 summary_answers e old mid new may failed pulled calm =
     record {
       good = good_by e may;
@@ -117,7 +120,7 @@ summary_answers e old mid new may failed pulled calm =
     good_by y (inr (inl q)) t = (let z : Unwritten ≡ BadUse = sym q ∙ t in cc z)
     good_by y (inr (inr q)) t = (let z : ending.Memory ≡ BadUse = sym q ∙ t in cc z)
 
-    begun_by : (y : Ending) → MaySaySummary y → IsLoadCarried y
-    begun_by y (inl q) = subst IsLoadCarried (sym q) tt
-    begun_by y (inr (inl q)) = subst IsLoadCarried (sym q) tt
-    begun_by y (inr (inr q)) = subst IsLoadCarried (sym q) tt
+    begun_by : (y : Ending) → MaySaySummary y → MayEndLoad y
+    begun_by y (inl q) = inl (subst IsLoadCarried (sym q) tt)
+    begun_by y (inr (inl q)) = inl (subst IsLoadCarried (sym q) tt)
+    begun_by y (inr (inr q)) = inl (subst IsLoadCarried (sym q) tt)

@@ -12,7 +12,7 @@ use Rattle.request_wire.specs.declared.requests.Line.{Line}
 use Rattle.script_tree.specs.Programs.{program_tree}
 use Rattle.settle_loop.specs.declared.settler.Settler.{Settler}
 use Rattle.run_books.specs.declared.faults.RunFault.{RunFault}
-use Rattle.promise_spec.specs.Endings.{Ending, IsLoadCarried}
+use Rattle.promise_spec.specs.Endings.{Ending, MayEndLoad}
 use Rattle.promise_spec.specs.Words.{Manner}
 use Rattle.promise_spec.specs.Loads.{bank_text, load_calls, AskFor}
 use Rattle.bank_load.specs.Requests.{load_texts}
@@ -52,10 +52,10 @@ load_carries n seed m x st old mid new before between after (Ok core) behind sta
 -- over any host
 pub load_answers : (tells : Bool) (n seed : ℕ) (m : Manner) (x : Opened) (st : Started) (mid new : World) (between after : Channel → ℕ) (result : Result Core RunFault) → IsStartOf x st → (IsTrue tells → (old : World) × OpensSo old mid x) → st.settler.quiet ≡ true → (lines : List Line)
     → AreReadFrom (program_tree x.checked) 0 (load_texts n seed) lines → 0 < m.width → 0 < x.next_unit.0 → (settler' : Settler) (used : ℕ)
-    → CarriedLines tells m (program_tree x.checked) lines 0 used (stage_by (run_of st.core) st.settler between mid) (side_by settler' after new) result → (status : Status) (final : Channel → ℕ) → LoadCounts x.slot result status after final → AnswersRun IsLoadCarried (status_ending status) between final
+    → CarriedLines tells m (program_tree x.checked) lines 0 used (stage_by (run_of st.core) st.settler between mid) (side_by settler' after new) result → (status : Status) (final : Channel → ℕ) → LoadCounts x.slot result status after final → AnswersRun MayEndLoad (status_ending status) between final
 load_answers tells n seed m x st mid new between after (Err fault) start opens quiet lines are wide above settler' used carried status final counts =
-    subst (λ (f : Channel → ℕ). AnswersRun IsLoadCarried (status_ending status) between f) (sym counts.1)
-    (subst (λ (e : Ending). AnswersRun IsLoadCarried e between after) (sym counts.0)
+    subst (λ (f : Channel → ℕ). AnswersRun MayEndLoad (status_ending status) between f) (sym counts.1)
+    (subst (λ (e : Ending). AnswersRun MayEndLoad e between after) (sym counts.0)
     (turns_faulted tells m x st (load_texts n seed) lines mid new between after (Err fault) carried.left settler' used start opens quiet wide above are carried.carries carried.beside fault refl))
 load_answers tells n seed m x st mid new between after (Ok core) start opens quiet lines are wide above settler' used carried status final counts =
     summary_answers (status_ending status) between after final counts.1 counts.0 carried.beside.pulled (carried.beside.calm quiet)

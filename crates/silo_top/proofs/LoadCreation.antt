@@ -21,7 +21,7 @@ use Rattle.promise_spec.specs.Openings.{opened_as}
 use Rattle.promise_spec.specs.Refusals.{IsRefusedBy}
 use Rattle.promise_spec.specs.Words.{Manner}
 use Rattle.promise_spec.specs.Endings as ending
-use Rattle.promise_spec.specs.Endings.{Ending, HasFailedAs, HasRisen, IsLoadCarried}
+use Rattle.promise_spec.specs.Endings.{Ending, HasFailedAs, HasRisen, MayEndLoad}
 use Rattle.promise_spec.specs.Courses.{Observed}
 use Rattle.promise_spec.specs.Loads.{bank_text, IsUnmade, Loads}
 use Rattle.promise_laws.specs.Closings.{ReadsMayStay}
@@ -104,12 +104,12 @@ module _ (m : Manner) (asked : List (List ℕ)) (old new : World) (before after 
         failed = f.1;
       }
 
-pub uncreated_answers : (e : CreateFault) (status : Status) (before after : Channel → ℕ) → status_ending status ≡ creation_ending e → CreateFaulted e before after → AnswersRun IsLoadCarried (status_ending status) before after
-uncreated_answers e status before after is faulted = subst (λ (y : Ending). AnswersRun IsLoadCarried y before after) (sym is) (by e faulted)
+pub uncreated_answers : (e : CreateFault) (status : Status) (before after : Channel → ℕ) → status_ending status ≡ creation_ending e → CreateFaulted e before after → AnswersRun MayEndLoad (status_ending status) before after
+uncreated_answers e status before after is faulted = subst (λ (y : Ending). AnswersRun MayEndLoad y before after) (sym is) (by e faulted)
   where
-    by : (x : CreateFault) → CreateFaulted x before after → AnswersRun IsLoadCarried (creation_ending x) before after
-    by CreateFault.AlreadyASilo f = exactly_answers before after IsLoadCarried ending.AlreadyASilo (λ q. cc q) f
-    by (CreateFault.DiskFault file) f = exactly_answers before after IsLoadCarried (ending.DiskFault file) (λ q. cc q) f.1
+    by : (x : CreateFault) → CreateFaulted x before after → AnswersRun MayEndLoad (creation_ending x) before after
+    by CreateFault.AlreadyASilo f = exactly_answers before after MayEndLoad ending.AlreadyASilo (λ q. cc q) f
+    by (CreateFault.DiskFault file) f = exactly_answers before after MayEndLoad (ending.DiskFault file) (λ q. cc q) f.1
 
 -- ---- it was made
 
@@ -148,7 +148,7 @@ live_seen old new made = record {
     looked (inr looked_at) = ap (λ (f : FileState). f.seen) looked_at
 
 pub made_loads : (n seed : ℕ) (m : Manner) (asked : List (List ℕ)) (old made new : World) (before between after : Channel → ℕ) (status : Status) → IsMadeFrom old made → NoneFailed before between
-    → AnswersRun IsLoadCarried (status_ending status) before after → (ShowsSilos magic old.disk → CarriesLoad n seed (observed_call m asked made new between after status)) → Loads n seed m (observed_call m asked old new before after status)
+    → AnswersRun MayEndLoad (status_ending status) before after → (ShowsSilos magic old.disk → CarriesLoad n seed (observed_call m asked made new between after status)) → Loads n seed m (observed_call m asked old new before after status)
 made_loads n seed m asked old made new before between after status is none answers carries = record {
   manner = refl;
   windowed = refl;

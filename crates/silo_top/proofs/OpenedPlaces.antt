@@ -23,7 +23,6 @@ use Rattle.log_reading.proofs.PlacedVersions.{IsStanding}
 use Rattle.log_reading.specs.Sums.{placed_as, placed_after, greater_end, end_after}
 use Rattle.script_tree.specs.Programs.{ProgramTree, program_tree}
 use Rattle.script_check.specs.Shapes.{type_shapes}
-use Rattle.cell_table.specs.Table.{opening_state}
 use Rattle.core_model.specs.LegalRuns.{Run}
 use Rattle.log_reading.specs.Steps.{seen_in}
 use Rattle.silo_spec.specs.OpenedDisks.{OnlyOpens}
@@ -40,7 +39,7 @@ use Rattle.run_books.specs.Places.{IsPlacedAs, IsOfOpening, KeepsVersions}
 use Rattle.silo_opening.specs.OpenedSilo.{program_in, IsOpenedFrom}
 use Rattle.silo_opening.specs.declared.opened_silo.Opened.{Opened}
 use Rattle.silo_opening.proofs.PlacedStates.{opened_stand, states_stand}
-use Rattle.silo_top.specs.RunStart.{IsStartOf}
+use Rattle.silo_top.specs.RunStart.{IsStartOf, placed_state}
 use Rattle.silo_top.specs.declared.run_start.Started.{Started}
 use Rattle.silo_top.proofs.TurnStart.{start_run, no_books}
 
@@ -142,8 +141,8 @@ pub record OpensSo (old mid : World) (x : Opened) : Type 0 where
 
 -- so the versions are known where the run begins
 pub versions_behind : (old mid : World) (x : Opened) (st : Started) → IsStartOf x st → OpensSo old mid x → (o : Outset) → o.live ≡ x.slot → o.program.types ≡ (program_in x).types
-    → KeepsVersions o no_books (start_run x.next_unit.0 (length (type_shapes (program_tree x.checked))) (opening_state (record { types = type_shapes (program_tree x.checked) }) x.store)) st.settler.writer mid.disk
+    → KeepsVersions o no_books (start_run x.next_unit.0 (length (type_shapes (program_tree x.checked))) (placed_state (record { types = type_shapes (program_tree x.checked) }) x.places)) st.settler.writer mid.disk
 versions_behind old mid x st start so o live types =
     versions_begin (seen_in old.disk) x so.opened st.settler.writer start.places start.kept start.ends o live types mid.disk (λ g. (opens_untouched _ old mid so.run).seen (Grain x.slot g))
-    x.next_unit.0 (length (type_shapes (program_tree x.checked))) (opening_state (record { types = type_shapes (program_tree x.checked) }) x.store)
+    x.next_unit.0 (length (type_shapes (program_tree x.checked))) (placed_state (record { types = type_shapes (program_tree x.checked) }) x.places)
     (ap (λ (r : Run). r.opening) (sym start.run ∙ start_is (seen_in old.disk) x st so.opened start))

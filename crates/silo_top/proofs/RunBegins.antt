@@ -10,7 +10,6 @@ use Rattle.host_trait.specs.World.{World, IsImage}
 use Rattle.host_trait.proofs.Crashes.{settled_only}
 use Rattle.script_tree.specs.Programs.{ProgramTree, program_tree}
 use Rattle.script_check.specs.Shapes.{type_shapes}
-use Rattle.cell_table.specs.Table.{opening_state}
 use Rattle.core_model.specs.LegalRuns.{Run}
 use Rattle.history_core.specs.Cores.{run_of}
 use Rattle.log_reading.specs.Steps.{seen_in}
@@ -31,7 +30,7 @@ use Rattle.run_books.specs.Records.{HasCarriedAll}
 use Rattle.run_books.specs.Stages.{stage_by}
 use Rattle.silo_opening.specs.declared.opened_silo.Opened.{Opened}
 use Rattle.silo_top.specs.RunBehindOpening.{IsBehindOpening}
-use Rattle.silo_top.specs.RunStart.{IsStartOf}
+use Rattle.silo_top.specs.RunStart.{IsStartOf, placed_state}
 use Rattle.silo_top.specs.RunWindows.{WasOpened, outset_of, IsBetweenWindows, KeepsRunImages, IsRunUnderWay}
 use Rattle.silo_top.specs.declared.run_start.Started.{Started}
 use Rattle.silo_top.proofs.CoreOpening.{start_is, many_types}
@@ -66,7 +65,7 @@ module _ (tells : Bool) (m : Manner) (x : Opened) (st : Started) (old mid : Worl
   o = outset_of m x text log [] before mid
 
   abbrev first : Run
-  first = start_run x.next_unit.0 (length (type_shapes types)) (opening_state (record { types = type_shapes types }) x.store)
+  first = start_run x.next_unit.0 (length (type_shapes types)) (placed_state (record { types = type_shapes types }) x.places)
 
   kept : KeepsTurns tells o no_books (stage_by first st.settler counts mid)
   kept = starts_kept first.base first.kinds first.opening tells o st.settler counts mid above (λ c. let e = calm c in omega (arith, e)) start.written start.doubted start.sealing start.settles

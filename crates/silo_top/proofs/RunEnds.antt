@@ -155,7 +155,7 @@ module _ (m : Manner) (x : Opened) (asked : List (List ℕ)) (old mid new : Worl
   answers : ShowsAnywhere p seen c
   answers = record {
     in_force = is.opened.program;
-    explains = explains true out b r' s' seen c kept ends_so leaves.turns course
+    explains = explains true out b r' s' seen c kept (kept.books.versions refl).loads ends_so leaves.turns course
         (unvoted_behind p seen c mid stands (λ g none. (kept.books.outside told).calls.unvoted g (subst (λ (r : Run). how_many (is_vote_of g) r ≡ 0) run_is none)));
     settled = are_settled;
     output = subst (λ (l : List ℕ). Grew (shape_in p) l new.output (entries_of b.said) b.rest) is.run.now.output (kept.books.outside told).output;

@@ -23,7 +23,7 @@ use Rattle.input_windows.specs.declared.windows.InputWindows.{InputWindows}
 use Rattle.input_windows.proofs.GivenWindows.{given_still, given_front, given_allows}
 use Rattle.promise_spec.specs.Cores.{core_from}
 use Rattle.promise_spec.specs.Endings as ending
-use Rattle.promise_spec.specs.Endings.{Ending, IsCarried, IsDiskFault, IsAllWritten, HasRisen, HasFailedAs}
+use Rattle.promise_spec.specs.Endings.{Ending, IsCarried, MayEndRun, IsDiskFault, IsAllWritten, HasRisen, HasFailedAs}
 use Rattle.promise_spec.specs.Entries.{Log, standing_of}
 use Rattle.promise_spec.specs.Courses.{Observed}
 use Rattle.promise_spec.specs.Promise.{AllowsAll, AllowsSome, AllowedBy}
@@ -42,7 +42,7 @@ use Rattle.run_books.specs.Records.{KeepsRecord, HasCarriedAll, TurnsEndAs}
 use Rattle.run_books.specs.RunCourse.{turns_ending}
 use Rattle.run_books.specs.Stages.{IsSafe, Stage, stage_by, side_by}
 use Rattle.run_books.specs.declared.faults.RunFault.{RunFault}
-use Rattle.run_books.specs.declared.faults.RunFault.TheVariants.{InDoubt, WriteFault, Memory}
+use Rattle.run_books.specs.declared.faults.RunFault.TheVariants.{InDoubt, WriteFault, LoadFault, LoadDamaged, Memory}
 use Rattle.run_books.proofs.MoreLines.{lasts-more}
 use Rattle.run_books.proofs.ShownRecord.{ends-by, ends-carried}
 use Rattle.silo_opening.specs.declared.opened_silo.Opened.{Opened}
@@ -295,53 +295,77 @@ ends_kept tells m before old run f f' now now' status u pulled i failed stay =
         risen = risen_by tells i.pulled u.asked now' before f f' u.between.pulled e i.by failed;
         input = named_by tells i.pulled u.asked now' before f f' u.between.pulled e i.by failed;
         output = λ other. absurd (other ((others_by tells i.pulled u.asked now' f f' e i.by failed).0 ∙ u.between.emitted));
-        exact = λ none. absurd (none (carried_by tells i.pulled u.asked now' e i.by));
+        exact = λ none. absurd (none (inl (carried_by tells i.pulled u.asked now' e i.by)));
       };
     }
 
 -- ---- what a fault of the turns says
 
-fault_carried : (live : ℕ) (fault : RunFault) → IsCarried (ending_by_turns live fault)
-fault_carried live InDoubt = tt
-fault_carried live WriteFault = tt
-fault_carried live Memory = tt
+fault_carried : (tells : Bool) → IsTrue tells → (o : Outset) (b : Books) (s : Stage) (fault : RunFault) → TurnsEndAs tells o b s {T = Core} (Err fault) → IsCarried (ending_by_turns o.live fault)
+fault_carried tells told o b s InDoubt e = tt
+fault_carried tells told o b s WriteFault e = tt
+fault_carried tells told o b s Memory e = tt
+fault_carried tells told o b s (LoadFault file) e = tt
+fault_carried tells told o b s (LoadDamaged file place) e = absurd (e.0.untold told)
+
+-- over any host
+fault_goes : (live : ℕ) (fault : RunFault) → MayEndRun (ending_by_turns live fault)
+fault_goes live InDoubt = inl tt
+fault_goes live WriteFault = inl tt
+fault_goes live Memory = inl tt
+fault_goes live (LoadFault file) = inl tt
+fault_goes live (LoadDamaged file place) = inr tt
 
 fault_good : (live : ℕ) (fault : RunFault) → ending_by_turns live fault ≢ ending.BadUse
 fault_good live InDoubt q = cc q
 fault_good live WriteFault q = cc q
 fault_good live Memory q = cc q
+fault_good live (LoadFault file) q = cc q
+fault_good live (LoadDamaged file place) q = cc q
 
 fault_unwritten : (live : ℕ) (fault : RunFault) → IsAllWritten (ending_by_turns live fault) → ⊥
 fault_unwritten live InDoubt w = w
 fault_unwritten live WriteFault w = w
 fault_unwritten live Memory w = w
+fault_unwritten live (LoadFault file) w = w
+fault_unwritten live (LoadDamaged file place) w = w
 
 fault_output : (live : ℕ) (fault : RunFault) (old mid new : ℕ) → mid ≡ old → EmitsAs {T = Core} (Err fault) mid new → new ≢ old → ending_by_turns live fault ≡ ending.WriteFault
 fault_output live InDoubt old mid new calm e other = absurd (other (e ∙ calm))
 fault_output live WriteFault old mid new calm e other = refl
 fault_output live Memory old mid new calm e other = absurd (other (e ∙ calm))
+fault_output live (LoadFault file) old mid new calm e other = absurd (other (e ∙ calm))
+fault_output live (LoadDamaged file place) old mid new calm e other = absurd (other (e ∙ calm))
 
-fault_risen : (o : Outset) (b : Books) (s : Stage) (fault : RunFault) → TurnsEndAs o b s {T = Core} (Err fault) → HasRisen (ending_by_turns o.live fault) o.faults s.faults
-fault_risen o b s InDoubt e = e.0.rose
-fault_risen o b s WriteFault e = e
-fault_risen o b s Memory e = tt
+fault_risen : (tells : Bool) (o : Outset) (b : Books) (s : Stage) (fault : RunFault) → TurnsEndAs tells o b s {T = Core} (Err fault) → HasRisen (ending_by_turns o.live fault) o.faults s.faults
+fault_risen tells o b s InDoubt e = e.0.rose
+fault_risen tells o b s WriteFault e = e
+fault_risen tells o b s Memory e = tt
+fault_risen tells o b s (LoadFault file) e = e.0.rose
+fault_risen tells o b s (LoadDamaged file place) e = tt
 
-fault_rest : (o : Outset) (b : Books) (s : Stage) (fault : RunFault) → TurnsEndAs o b s {T = Core} (Err fault) → ending_by_turns o.live fault ≢ ending.WriteFault → b.rest ≡ []
-fault_rest o b s InDoubt e other = e.1
-fault_rest o b s WriteFault e other = absurd (other refl)
-fault_rest o b s Memory e other = e
+fault_rest : (tells : Bool) (o : Outset) (b : Books) (s : Stage) (fault : RunFault) → TurnsEndAs tells o b s {T = Core} (Err fault) → ending_by_turns o.live fault ≢ ending.WriteFault → b.rest ≡ []
+fault_rest tells o b s InDoubt e other = e.1
+fault_rest tells o b s WriteFault e other = absurd (other refl)
+fault_rest tells o b s Memory e other = e
+fault_rest tells o b s (LoadFault file) e other = e.1
+fault_rest tells o b s (LoadDamaged file place) e other = e.1
 
 -- and which lines may begin, where it comes in a window
 fault_allowed : (live : ℕ) (fault : RunFault) (pulled : List ℕ) (r : Observed) (allowed : ℕ) → AllowsAll r allowed ⊎ AllowsSome pulled allowed → AllowedBy (ending_by_turns live fault) pulled r allowed
 fault_allowed live InDoubt pulled r allowed a = a
 fault_allowed live WriteFault pulled r allowed a = a
 fault_allowed live Memory pulled r allowed a = a
+fault_allowed live (LoadFault file) pulled r allowed a = a
+fault_allowed live (LoadDamaged file place) pulled r allowed a = a
 
 -- whatever else it would have come to
 same_ending : (live : ℕ) (fault : RunFault) → ending_by_turns live fault ≡ turns_ending {T = Core} live (Err fault)
 same_ending live InDoubt = refl
 same_ending live WriteFault = refl
 same_ending live Memory = refl
+same_ending live (LoadFault file) = refl
+same_ending live (LoadDamaged file place) = refl
 
 -- on one thread
 alone_by : (threaded : Bool) → not threaded ≡ true → threaded ≡ false
@@ -426,8 +450,8 @@ module _ (tells : Bool) (m : Manner) (before : Counts) (old : World) (run : Runn
   -- ---- all its lines are carried
 
   module _ (core : Core) (is : result ≡ Ok core) where
-    ended : TurnsEndAs out books then_at {T = Core} (Ok core)
-    ended = subst (TurnsEndAs out books then_at) is goes.on.ended
+    ended : TurnsEndAs tells out books then_at {T = Core} (Ok core)
+    ended = subst (TurnsEndAs tells out books then_at) is goes.on.ended
 
     core_is : run_of core ≡ left
     core_is = subst (λ (y : Result Core RunFault). IfOk y (λ c. run_of c ≡ left)) is carried_so.core
@@ -466,8 +490,8 @@ module _ (tells : Bool) (m : Manner) (before : Counts) (old : World) (run : Runn
   -- ---- a fault ends it
 
   module _ (fault : RunFault) (is : result ≡ Err fault) (status : Status) (ends_as : status_ending status ≡ ending_by_turns u.opened.slot fault) where
-    faulted : TurnsEndAs out books then_at {T = Core} (Err fault)
-    faulted = subst (TurnsEndAs out books then_at) is goes.on.ended
+    faulted : TurnsEndAs tells out books then_at {T = Core} (Err fault)
+    faulted = subst (TurnsEndAs tells out books then_at) is goes.on.ended
 
     reads_so : IsTrue tells → ReadSo (observed_run m old now' before f' status) asked
     reads_so told = record {
@@ -488,10 +512,10 @@ module _ (tells : Bool) (m : Manner) (before : Counts) (old : World) (run : Runn
     leaves told = record {
       kept = subst (λ (t : Bool). KeepsRecord t out books then_at) told goes.on.record_kept;
       turns = goes.turns;
-      ends_so = ends-by out books then_at result (status_ending status) goes.on.ended (ends_as ∙ same_ending u.opened.slot fault ∙ ap (turns_ending u.opened.slot) (sym is));
-      whole = λ other. fault_rest out books then_at fault faulted (λ q. other (ends_as ∙ q));
-      risen = subst (λ (e : Ending). HasRisen e before f') (sym ends_as) (fault_risen out books then_at fault faulted);
-      carried = subst IsCarried (sym ends_as) (fault_carried u.opened.slot fault);
+      ends_so = ends-by tells out books then_at result (status_ending status) goes.on.ended (ends_as ∙ same_ending u.opened.slot fault ∙ ap (turns_ending u.opened.slot) (sym is));
+      whole = λ other. fault_rest tells out books then_at fault faulted (λ q. other (ends_as ∙ q));
+      risen = subst (λ (e : Ending). HasRisen e before f') (sym ends_as) (fault_risen tells out books then_at fault faulted);
+      carried = subst IsCarried (sym ends_as) (fault_carried tells told out books then_at fault faulted);
       loud = beside.quiet ∙ u.between.loud;
       run = (images told).run;
       none = λ q. absurd (some_lines q);
@@ -508,13 +532,13 @@ module _ (tells : Bool) (m : Manner) (before : Counts) (old : World) (run : Runn
           leaves_promised m u.opened asked old u.mid now' before f' status books left settler w.behind w.stays (stay told)
           (subst (λ (t : List ℕ). RunLeaves m (outset_of m u.opened t w.behind.opened.log asked before u.mid) books left settler (observed_run m old now' before f' status)) (sym w.text_is)
           (subst (λ (l : Log). RunLeaves m (outset_of m u.opened u.text l asked before u.mid) books left settler (observed_run m old now' before f' status)) (sym w.log_is) (leaves told)));
-      answers = subst (λ (e : Ending). AnswersRun IsCarried e before f') (sym ends_as) (record {
+      answers = subst (λ (e : Ending). AnswersRun MayEndRun e before f') (sym ends_as) (record {
         good = fault_good u.opened.slot fault;
-        risen = fault_risen out books then_at fault faulted;
+        risen = fault_risen tells out books then_at fault faulted;
         input = λ other. absurd (other (beside.pulled ∙ calm Input ∙ u.between.pulled));
         output = fault_output u.opened.slot fault (before Output) (f Output) (f' Output) (calm Output ∙ u.between.emitted)
             (subst (λ (y : Result Core RunFault). EmitsAs y (f Output) (f' Output)) is beside.emitted);
-        exact = λ none. absurd (none (fault_carried u.opened.slot fault));
+        exact = λ none. absurd (none (fault_goes u.opened.slot fault));
       });
     }
 

@@ -1,5 +1,5 @@
 -- Where the turns of a run begin: there is no event yet, and nothing is settled.
-use Rattle.std.proofs.Common.{◌≡◌, inl, ℕ, ◌+◌, ◌*◌, ◌-◌, ◌^◌, ◌<◌, ◌≤◌, Bool, true, false, List, [], length, None, IsTrue, refl, sym, ◌∙◌, ap, subst, arith, append-nil}
+use Rattle.std.proofs.Common.{◌≡◌, inl, ℕ, ◌+◌, ◌*◌, ◌-◌, ◌^◌, ◌<◌, ◌≤◌, Bool, true, false, List, [], length, IsTrue, refl, sym, ◌∙◌, ap, subst, arith, append-nil}
 use Rattle.std.proofs.Math.Nat.{min-le_left}
 use Rattle.host_trait.specs.declared.channels.Channel.{Channel}
 use Rattle.host_trait.specs.declared.channels.Channel.TheVariants.{File}
@@ -10,7 +10,7 @@ use Rattle.script_tree.specs.Programs.{ProgramTree}
 use Rattle.core_model.specs.CoreState.{GrainId, Value}
 use Rattle.core_model.specs.declared.events.CoreEvent.{CoreEvent}
 use Rattle.core_model.specs.LegalRuns.{Run, ends}
-use Rattle.promise_spec.specs.Cores.{AppliesAt}
+use Rattle.promise_spec.specs.Cores.{AppliesAt, memory_limit}
 use Rattle.promise_spec.specs.Lines.{ReadsLineAs}
 use Rattle.promise_spec.specs.Causes.{RoseBy}
 use Rattle.promise_spec.specs.TurnRule.{at_seam}
@@ -27,7 +27,7 @@ use Rattle.run_books.specs.Stages.{stage_by}
 
 -- a run of the core without events
 abbrev pub start_run : ℕ → ℕ → (GrainId → List Value) → Run
-start_run base kinds opening = record { base = base; kinds = kinds; capacity = None; opening = opening; events = [] }
+start_run base kinds opening = record { base = base; kinds = kinds; capacity = memory_limit; opening = opening; events = [] }
 
 -- books without settlements
 abbrev pub no_books : Books

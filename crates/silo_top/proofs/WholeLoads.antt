@@ -40,7 +40,7 @@ use Rattle.promise_laws.proofs.KeptRuns.{opens_whole}
 use Rattle.settle_loop.specs.declared.settler.Settler.{Settler}
 use Rattle.batch_disk.specs.ImagesAtRest.{SomeImage}
 use Rattle.run_books.specs.declared.faults.RunFault.{RunFault}
-use Rattle.run_books.specs.declared.faults.RunFault.TheVariants.{InDoubt, WriteFault, Memory}
+use Rattle.run_books.specs.declared.faults.RunFault.TheVariants.{InDoubt, WriteFault, Memory, LoadFault, LoadDamaged}
 use Rattle.run_books.specs.Beginnings.{Outset}
 use Rattle.run_books.specs.RecordFrame.{IsHushed, TurnsBeside}
 use Rattle.run_books.specs.Books.{Books, booked_journal, IsPutOut}
@@ -82,7 +82,7 @@ use Rattle.silo_top.proofs.LoadStart.{bank_of, bank_checked, bank_whole, opened_
 use Rattle.silo_top.proofs.CoreOpening.{start_is}
 use Rattle.input_windows.proofs.Still.{still_none}
 use Rattle.silo_opening.proofs.OpeningCalls.{opens_untouched}
-use Rattle.run_books.specs.Stages.{stage_by}
+use Rattle.run_books.specs.Stages.{Stage, stage_by}
 
 -- what a list of books that are none says
 rest_by : (b : Books) (mid new : World) → new.output ≡ mid.output ++ b.rest → new.output ≡ mid.output → b.rest ≡ []
@@ -131,35 +131,47 @@ faults_same live r old mid new same f = record {
 }
 
 -- how a load ends whose turns ended by a fault
-load_begun : (live : ℕ) (fault : RunFault) → IsLoadCarried (load_ending live fault)
-load_begun live InDoubt = tt
-load_begun live WriteFault = tt
-load_begun live Memory = tt
+load_begun : (T : Type 0) (o : Outset) (b : Books) (s : Stage) (fault : RunFault) → TurnsEndAs true o b s {T = T} (Err fault) → IsLoadCarried (load_ending o.live fault)
+load_begun T o b s InDoubt e = tt
+load_begun T o b s WriteFault e = tt
+load_begun T o b s Memory e = tt
+load_begun T o b s (LoadFault file) e = tt
+load_begun T o b s (LoadDamaged file place) e = absurd (e.0.untold refl)
 
-load_doubt : (live : ℕ) (fault : RunFault) → EndingMayDoubt (load_ending live fault)
-load_doubt live InDoubt = tt
-load_doubt live WriteFault = tt
-load_doubt live Memory = tt
+load_doubt : (T : Type 0) (o : Outset) (b : Books) (s : Stage) (fault : RunFault) → TurnsEndAs true o b s {T = T} (Err fault) → EndingMayDoubt (load_ending o.live fault)
+load_doubt T o b s InDoubt e = tt
+load_doubt T o b s WriteFault e = tt
+load_doubt T o b s Memory e = tt
+load_doubt T o b s (LoadFault file) e = tt
+load_doubt T o b s (LoadDamaged file place) e = absurd (e.0.untold refl)
 
 load_undone : (live : ℕ) (fault : RunFault) → load_ending live fault ≢ ending.Done
 load_undone live InDoubt t = cc t
 load_undone live WriteFault t = cc t
 load_undone live Memory t = cc t
+load_undone live (LoadFault file) t = cc t
+load_undone live (LoadDamaged file place) t = cc t
 
 load_unwritten : (live : ℕ) (fault : RunFault) → load_ending live fault ≢ ending.WriteFault
 load_unwritten live InDoubt t = cc t
 load_unwritten live WriteFault t = cc t
 load_unwritten live Memory t = cc t
+load_unwritten live (LoadFault file) t = cc t
+load_unwritten live (LoadDamaged file place) t = cc t
 
 load_file : (live : ℕ) (fault : RunFault) (file : FileId) → load_ending live fault ≡ ending.DiskFault file → turns_ending {T = Unit {0}} live (Err fault) ≡ ending.DiskFault file
 load_file live InDoubt file t = t
 load_file live WriteFault file t = absurd (cc t)
 load_file live Memory file t = absurd (cc t)
+load_file live (LoadFault other) file t = t
+load_file live (LoadDamaged other place) file t = absurd (cc t)
 
-pub load_risen : (T : Type 0) (o : Outset) (b : Books) (r : Run) (s : Settler) (counts : Channel → ℕ) (now : World) (fault : RunFault) → TurnsEndAs o b (stage_by r s counts now) {T = T} (Err fault) → HasRisen (load_ending o.live fault) o.faults counts
-load_risen T o b r s counts now InDoubt e = e.0.rose
-load_risen T o b r s counts now WriteFault e = tt
-load_risen T o b r s counts now Memory e = tt
+pub load_risen : (T : Type 0) (tells : Bool) (o : Outset) (b : Books) (r : Run) (s : Settler) (counts : Channel → ℕ) (now : World) (fault : RunFault) → TurnsEndAs tells o b (stage_by r s counts now) {T = T} (Err fault) → HasRisen (load_ending o.live fault) o.faults counts
+load_risen T tells o b r s counts now InDoubt e = e.0.rose
+load_risen T tells o b r s counts now WriteFault e = tt
+load_risen T tells o b r s counts now Memory e = tt
+load_risen T tells o b r s counts now (LoadFault file) e = e.0.rose
+load_risen T tells o b r s counts now (LoadDamaged file place) e = tt
 
 module _ {T : Type 0} (n seed : ℕ) (m : Manner) (x : Opened) (st : Started) (old mid new : World) (before between after : Channel → ℕ) (result : Result T RunFault) (is : IsBehindOpening old mid x) (start : IsStartOf x st)
     (reads : program_in bank_text ≡ Ok (program_tree x.checked)) (bank : IsNewBank old) (stay_mid : ReadsMayStay mid) (stay_new : ReadsMayStay new) (hush : st.settler.quiet ≡ true) where
@@ -326,7 +338,7 @@ module _ {T : Type 0} (n seed : ℕ) (m : Manner) (x : Opened) (st : Started) (o
     unvoted_so g no_vote = (goes.on.record_kept.books.outside told).calls.unvoted g (subst (λ (y : Run). how_many (is_vote_of g) y ≡ 0) run_is no_vote)
 
     pub explains_so : ExplainsEvents p seen c0
-    explains_so = explains true out b r' s' seen c0 goes.on.record_kept (ends-by out b (stage_by r' s' after new) result (turns_ending x.slot result) goes.on.ended refl) goes.turns course (unvoted_behind p seen c0 mid stands unvoted_so)
+    explains_so = explains true out b r' s' seen c0 goes.on.record_kept (goes.on.record_kept.books.versions refl).loads (ends-by true out b (stage_by r' s' after new) result (turns_ending x.slot result) goes.on.ended refl) goes.turns course (unvoted_behind p seen c0 mid stands unvoted_so)
 
     -- ---- a load that ends so
 
@@ -423,17 +435,17 @@ module _ {T : Type 0} (n seed : ℕ) (m : Manner) (x : Opened) (st : Started) (o
     pub failed_carries : AskFor (program_tree x.checked) (load_texts n seed) (load_calls n seed) → (fault : RunFault) → result ≡ Err fault → (status : Status) → status_ending status ≡ load_ending x.slot fault
         → CarriesLoad n seed (observed_call m (load_texts n seed) old new before after status)
     failed_carries asks fault q status ends_as =
-        let ended : TurnsEndAs out b (stage_by r' s' after new) {T = T} (Err fault) = subst (TurnsEndAs out b (stage_by r' s' after new)) q goes.on.ended in
+        let ended : TurnsEndAs true out b (stage_by r' s' after new) {T = T} (Err fault) = subst (TurnsEndAs true out b (stage_by r' s' after new)) q goes.on.ended in
         let past : new.past ≡ new.past ++ [] = sym (append-nil new.past) in
         carries asks new after status [] past refl (λ m there. absurd there) refl (λ file. refl)
         (shows asks new after status [] past refl (λ m there. absurd there) refl (λ file. refl)
         (explains_at asks new after status [] past refl (λ m there. absurd there) refl (λ file. refl)
-        (λ file t. ap (turns_ending x.slot) q ∙ load_file x.slot fault file (sym ends_as ∙ t)) (λ d. subst EndingMayDoubt (sym ends_as) (load_doubt x.slot fault)))
+        (λ file t. ap (turns_ending x.slot) q ∙ load_file x.slot fault file (sym ends_as ∙ t)) (λ d. subst EndingMayDoubt (sym ends_as) (load_doubt T out b (stage_by r' s' after new) fault ended)))
         (inl (refl, same_output))
         (record { added = []; output = same_output ∙ sym (append-nil old.output); front = (_, refl); whole = λ t. absurd (load_undone x.slot fault (sym ends_as ∙ t)); none = inl refl })
         (λ one other. same_output)
-        (subst IsLoadCarried (sym ends_as) (load_begun x.slot fault))
-        (subst (λ (y : Ending). HasRisen y before after) (sym ends_as) (load_risen T out b r' s' after new fault ended))
+        (subst IsLoadCarried (sym ends_as) (load_begun T out b (stage_by r' s' after new) fault ended))
+        (subst (λ (y : Ending). HasRisen y before after) (sym ends_as) (load_risen T true out b r' s' after new fault ended))
         (λ which. elim which [ inl t ↦ absurd (load_undone x.slot fault (sym ends_as ∙ t)) | inr t ↦ absurd (load_unwritten x.slot fault (sym ends_as ∙ t)) ])
         (λ t d. load_unwritten x.slot fault (sym ends_as ∙ t))
         (λ calm t. absurd (load_undone x.slot fault (sym ends_as ∙ t))) refl)
@@ -443,7 +455,7 @@ module _ {T : Type 0} (n seed : ℕ) (m : Manner) (x : Opened) (st : Started) (o
         → SaysSummary (summary_line (ends r').manager.settled requests (total_kept (ends r') 64)) (status_ending status) new last → HasFailedAs (status_ending status) after final → MaySaySummary (status_ending status)
         → CarriesLoad n seed (observed_call m (load_texts n seed) old last before final status)
     summed_carries asks done q status last final requests many says failed may =
-        let ended : HasCarriedAll out (stage_by r' s' after new) = (subst (TurnsEndAs out b (stage_by r' s' after new)) q goes.on.ended).0 in
+        let ended : HasCarriedAll out (stage_by r' s' after new) = (subst (TurnsEndAs true out b (stage_by r' s' after new)) q goes.on.ended).0 in
         let same_files : (file : FileId) → final (File file) ≡ after (File file) = files_same (status_ending status) after final may failed in
         let sure : RunHasDoubt (core_run p c0) → ⊥ = λ d. ended.never (subst RunHasDoubt run_is d) in
         let explains_r = explains_at asks last final status says.told says.past says.disk says.left says.input same_files (λ file t. absurd (summary_no_file (status_ending status) may file t)) (λ d. absurd (sure d)) in

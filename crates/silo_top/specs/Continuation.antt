@@ -10,7 +10,7 @@ use Rattle.script_tree.specs.Programs.{program_tree}
 use Rattle.settle_loop.specs.declared.settler.Settler.{Settler}
 use Rattle.promise_laws.specs.Closings.{ReadsMayStay}
 use Rattle.promise_spec.specs.Words.{Manner, Load}
-use Rattle.promise_spec.specs.Endings.{HasFailedAs, IsLoadCarried}
+use Rattle.promise_spec.specs.Endings.{HasFailedAs, MayEndLoad}
 use Rattle.promise_spec.specs.Loads.{Loads}
 use Rattle.bank_load.specs.Summaries.{summary_line, total_kept}
 use Rattle.run_books.specs.Stages.{Side, stage_by, side_by, IsSafe}
@@ -57,4 +57,4 @@ LoadsOn n seed tells s lines before old counts now =
 abbrev pub LoadAnswersOn : Bool → Started → List Line → (Channel → ℕ) → (Channel → ℕ) → World → Type 0
 LoadAnswersOn tells s lines before counts now =
     (m : Manner) (settler' : Settler) (after : Channel → ℕ) (new : World) (result : Result Core RunFault) (status : Status) (final : Channel → ℕ)
-    → WasCarried tells s lines counts now m (side_by settler' after new) result → LoadCounts s.slot result status after final → AnswersRun IsLoadCarried (status_ending status) before final
+    → WasCarried tells s lines counts now m (side_by settler' after new) result → LoadCounts s.slot result status after final → AnswersRun MayEndLoad (status_ending status) before final

@@ -18,7 +18,7 @@ use Rattle.promise_spec.specs.Logs.{magic, IsPrefix}
 use Rattle.promise_spec.specs.Endings as ending
 use Rattle.promise_spec.specs.Courses.{Observed, Course, program_in_force}
 use Rattle.run_books.specs.declared.faults.RunFault.{RunFault}
-use Rattle.run_books.specs.declared.faults.RunFault.TheVariants.{InDoubt, WriteFault, Memory}
+use Rattle.run_books.specs.declared.faults.RunFault.TheVariants.{InDoubt, WriteFault, Memory, LoadFault, LoadDamaged}
 use Rattle.promise_spec.specs.Refusals.{IsUnopened}
 use Rattle.promise_spec.specs.Loads.{bank_text, KeepsLoad}
 
@@ -68,6 +68,8 @@ abbrev pub load_ending : ℕ → RunFault → ending.Ending
 load_ending live InDoubt = ending.DiskFault (Manager live)
 load_ending live WriteFault = ending.Memory
 load_ending live Memory = ending.Memory
+load_ending live (LoadFault file) = ending.DiskFault file
+load_ending live (LoadDamaged file place) = ending.Damaged file place
 
 -- how it ends where its silo wasn't made
 abbrev pub creation_ending : CreateFault → ending.Ending

@@ -8,7 +8,7 @@ use Rattle.history_core.specs.Cores.{run_of}
 use Rattle.script_tree.specs.Programs.{program_tree}
 use Rattle.input_windows.specs.GivenWindows.{HasGiven}
 use Rattle.promise_spec.specs.Cores.{core_from}
-use Rattle.promise_spec.specs.Endings.{IsCarried}
+use Rattle.promise_spec.specs.Endings.{MayEndRun}
 use Rattle.promise_spec.specs.Entries.{Log, standing_of}
 use Rattle.promise_spec.specs.Journals.{AllLog}
 use Rattle.promise_spec.specs.Promise.{Promises}
@@ -91,7 +91,7 @@ pub record IsRunUnderWay (tells : Bool) (m : Manner) (before : Channel → ℕ) 
 -- it ended so: over a host that tells it has kept its promise, and over any host what it answers is right
 pub record HasKept (tells : Bool) (m : Manner) (before : Channel → ℕ) (old : World) (status : Status) (after : Channel → ℕ) (new : World) : Type 0 where
   pub promises : IsTrue tells → Promises m (shown old new before after status (Run m))
-  pub answers : AnswersRun IsCarried (status_ending status) before after
+  pub answers : AnswersRun MayEndRun (status_ending status) before after
 
 -- wherever it was under way it has ended so
 abbrev pub GoesToItsEnd : Bool → Manner → Running → (Channel → ℕ) → World → Status → (Channel → ℕ) → World → Type 0

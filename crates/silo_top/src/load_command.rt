@@ -4,7 +4,7 @@ ghost use Rattle.host_trait.specs.Files.{StaysReady};
 ghost use Rattle.core_model.specs.LegalRuns.{ends};
 ghost use Rattle.history_core.specs.Cores.{run_of};
 ghost use Rattle.promise_spec.specs.Words as command;
-ghost use Rattle.promise_spec.specs.Endings.{HasFailedAs, IsLoadCarried};
+ghost use Rattle.promise_spec.specs.Endings.{HasFailedAs, MayEndLoad};
 ghost use Rattle.promise_spec.specs.Loads.{Loads};
 ghost use Rattle.bank_load.specs.Summaries.{summary_line, total_kept};
 ghost use Rattle.silo_top.specs.CallAnswers.{AnswersRun, shown, turns_manner, workers_manner};
@@ -39,6 +39,10 @@ fn print_summary<H: Host>(alloc: Global, core: &Core, requests: usize, host: &mu
     ensures may { MaySaySummary (status_ending result) }
     ensures ready { StaysReady (H.is_ready host.old) (H.is_ready host.new) }
 {
+    // The core of a load keeps the last states. One that didn't would have no sum, and ends as where memory is wanting.
+    if !core.keeps_last() {
+        return Status::Memory;
+    }
     let total = total_balance(core);
     let text = match load_summary(alloc, core, requests, total) {
         Ok(text) => text,
@@ -60,6 +64,8 @@ fn load_status(slot: u8, fault: RunFault) -> Status
         },
         RunFault::WriteFault => Status::Memory,
         RunFault::Memory => Status::Memory,
+        RunFault::LoadFault { file } => Status::DiskFault { file },
+        RunFault::LoadDamaged { file, place } => Status::Damaged { file, place },
     }
 }
 
@@ -117,7 +123,7 @@ fn begin_load<H: Host>(
     // Where it didn't begin, it has kept it.
     ensures loads { IfErr result (λ status. IsTrue H.tells → (m : Manner) → Loads transfers seed m
         (shown (H.world host.old) (H.world host.new) (H.faults host.old) (H.faults host.new) status (command.Load transfers seed m))) }
-    ensures answers { IfErr result (λ status. AnswersRun IsLoadCarried (status_ending status) (H.faults host.old) (H.faults host.new)) }
+    ensures answers { IfErr result (λ status. AnswersRun MayEndLoad (status_ending status) (H.faults host.old) (H.faults host.new)) }
     ensures ready { StaysReady (H.is_ready host.old) (H.is_ready host.new) }
 {
     let Ok(bank) = accept(alloc, bank_text()) else {
@@ -134,7 +140,6 @@ fn begin_load<H: Host>(
             text: opened.text,
             checked: bank,
             count: opened.count,
-            store: opened.store,
             places: opened.places,
             ends: opened.ends,
             next_unit: opened.next_unit,
@@ -167,7 +172,7 @@ pub(crate) fn load_in_turns<H: Host, G: Gate>(
     ensures loads { IsTrue H.tells → Loads transfers seed (turns_manner width picks.now)
         (shown (H.world host.old) (H.world host.new) (H.faults host.old) (H.faults host.new) result
         (command.Load transfers seed (turns_manner width picks.now))) }
-    ensures answers { AnswersRun IsLoadCarried (status_ending result) (H.faults host.old) (H.faults host.new) }
+    ensures answers { AnswersRun MayEndLoad (status_ending result) (H.faults host.old) (H.faults host.new) }
     ensures ready { StaysReady (H.is_ready host.old) (H.is_ready host.new) }
 {
     let BegunLoad { started, lines } = match begin_load(alloc, host, transfers, seed) {
@@ -212,7 +217,7 @@ pub(crate) fn load_by_workers<R: Threads + Wait + Sync, H: Host, G: Gate + Sync>
     requires many { transfers ≤ 100000 }
     ensures loads { IsTrue H.tells → Loads transfers seed workers_manner
         (shown (H.world host.old) (H.world host.new) (H.faults host.old) (H.faults host.new) result (command.Load transfers seed workers_manner)) }
-    ensures answers { AnswersRun IsLoadCarried (status_ending result) (H.faults host.old) (H.faults host.new) }
+    ensures answers { AnswersRun MayEndLoad (status_ending result) (H.faults host.old) (H.faults host.new) }
     ensures ready { StaysReady (H.is_ready host.old) (H.is_ready host.new) }
 {
     let BegunLoad { started, lines } = match begin_load(alloc, host, transfers, seed) {

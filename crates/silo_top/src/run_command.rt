@@ -2,7 +2,7 @@ ghost use Rattle.std.specs.Prelude.{◌≡◌, ◌<◌, ◌≤◌, IsTrue, IfOk,
 ghost use Rattle.promise_spec.specs.Words.{Manner};
 ghost use Rattle.host_trait.specs.Files.{StaysReady};
 ghost use Rattle.promise_spec.specs.Words as command;
-ghost use Rattle.promise_spec.specs.Endings.{IsCarried};
+ghost use Rattle.promise_spec.specs.Endings.{MayEndRun};
 ghost use Rattle.promise_spec.specs.Promise.{Promises};
 ghost use Rattle.silo_top.specs.CallAnswers.{AnswersRun, shown, turns_manner, workers_manner};
 ghost use Rattle.silo_opening.specs.OpenedSilo.{ending_of};
@@ -45,7 +45,7 @@ fn begin_run<H: Host>(alloc: Global, host: &mut H) -> Result<Running, Status>
     // Where it didn't begin, it has kept its promise.
     ensures promises { IfErr result (λ status. IsTrue H.tells → (m : Manner) → Promises m
         (shown (H.world host.old) (H.world host.new) (H.faults host.old) (H.faults host.new) status (command.Run m))) }
-    ensures answers { IfErr result (λ status. AnswersRun IsCarried (status_ending status) (H.faults host.old) (H.faults host.new)) }
+    ensures answers { IfErr result (λ status. AnswersRun MayEndRun (status_ending status) (H.faults host.old) (H.faults host.new)) }
     ensures ready { StaysReady (H.is_ready host.old) (H.is_ready host.new) }
 {
     let opened = match open_silo(alloc, host) {
@@ -76,7 +76,7 @@ pub(crate) fn run_in_turns<H: Host, G: Gate>(
     requires wide { 0 < width }
     ensures promises { IsTrue H.tells → Promises (turns_manner width picks.now)
         (shown (H.world host.old) (H.world host.new) (H.faults host.old) (H.faults host.new) result (command.Run (turns_manner width picks.now))) }
-    ensures answers { AnswersRun IsCarried (status_ending result) (H.faults host.old) (H.faults host.new) }
+    ensures answers { AnswersRun MayEndRun (status_ending result) (H.faults host.old) (H.faults host.new) }
     ensures ready { StaysReady (H.is_ready host.old) (H.is_ready host.new) }
 {
     match begin_run(alloc, host) {
@@ -96,7 +96,7 @@ pub(crate) fn run_by_workers<R: Threads + Wait + Sync, H: Host, G: Gate + Sync>(
     requires few { workers ≤ 16 }
     ensures promises { IsTrue H.tells → Promises workers_manner
         (shown (H.world host.old) (H.world host.new) (H.faults host.old) (H.faults host.new) result (command.Run workers_manner)) }
-    ensures answers { AnswersRun IsCarried (status_ending result) (H.faults host.old) (H.faults host.new) }
+    ensures answers { AnswersRun MayEndRun (status_ending result) (H.faults host.old) (H.faults host.new) }
     ensures ready { StaysReady (H.is_ready host.old) (H.is_ready host.new) }
 {
     match begin_run(alloc, host) {

@@ -1,13 +1,21 @@
-ghost use Rattle.std.specs.Prelude.{◌≡◌, ◌^◌, ◌<◌, ◌≤◌, IfOk};
+ghost use Rattle.std.specs.Prelude.{◌≡◌, ◌^◌, ◌<◌, ◌≤◌, [], Some, IfOk};
 ghost use Rattle.log_reading.specs.Sums.{AreNear};
+ghost use Rattle.promise_spec.specs.Cores.{memory_limit};
 ghost use Rattle.batch_disk.specs.Writers.{IsInBounds};
 ghost use Rattle.silo_top.specs.RunStart.{IsStartOf};
 
+use activations::Recent;
+use cell_table::OpeningStates;
 use history_core::{Core, Opening};
 use script_check::Checked;
 use settle_loop::Settler;
 use silo_opening::Opened;
 use std::alloc::{AllocError, Global};
+use std::num::NonZeroUsize;
+use std::snapshot::Snapshot;
+
+/// How many of the grains that were used last stay in memory.
+const KEPT_GRAINS: usize = 4_096;
 
 /// What carries the lines of a run: the slot of its files, the program, a core without events, and a settler at the end of the log.
 #[derive(Drop)]
@@ -18,7 +26,19 @@ pub(crate) struct Started {
     pub(crate) settler: Settler,
 }
 
-/// A core and a settler of an opened silo. A quiet settler writes no replies.
+/// No grain was used yet, of those that stay in memory.
+fn unused_memory(alloc: Global) -> Result<Recent, AllocError>
+    ensures grains { IfOk result (λ made. made.grains ≡ []) }
+    ensures limit { IfOk result (λ made. Some made.limit ≡ memory_limit) }
+{
+    let Some(limit) = NonZeroUsize::new(KEPT_GRAINS) else {
+        unreachable!()
+    };
+    let recent = Recent::new(alloc, limit)?;
+    Ok(recent)
+}
+
+/// A core and a settler of an opened silo. A quiet settler writes no replies, and its core keeps the last states.
 pub(crate) fn start(alloc: Global, opened: Opened, quiet: bool) -> Result<Started, AllocError>
     requires slot { opened.slot ≤ 1 }
     requires gate { opened.gate_at < 2 ^ 63 }
@@ -30,12 +50,15 @@ pub(crate) fn start(alloc: Global, opened: Opened, quiet: bool) -> Result<Starte
     ensures bounds { IfOk result (λ started. IsInBounds started.settler.writer) }
 {
     let shape = opened.checked.shape()?;
+    let recent = unused_memory(alloc)?;
     let core = Core::new(
         alloc,
         Opening {
             shape,
-            store: opened.store,
+            opened: OpeningStates::Placed(Snapshot::of(&opened.places)),
             next_unit: opened.next_unit,
+            recent: Some(recent),
+            keeps_last: quiet,
         },
     );
     let settler = Settler::new(

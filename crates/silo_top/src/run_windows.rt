@@ -41,6 +41,8 @@ fn fault_status(slot: u8, fault: RunFault) -> Status
         },
         RunFault::WriteFault => Status::WriteFault,
         RunFault::Memory => Status::Memory,
+        RunFault::LoadFault { file } => Status::DiskFault { file },
+        RunFault::LoadDamaged { file, place } => Status::Damaged { file, place },
     }
 }
 

@@ -26,7 +26,7 @@ use Rattle.worker_rules.specs.Work.{OnlyWorks}
 use Rattle.worker_rules.proofs.OwnEntries.{promise-none}
 use Rattle.worker_rules.proofs.Workers.{work-stops}
 use Rattle.run_books.specs.declared.faults.RunFault.{RunFault}
-use Rattle.run_books.specs.declared.faults.RunFault.TheVariants.{InDoubt, WriteFault, Memory}
+use Rattle.run_books.specs.declared.faults.RunFault.TheVariants.{InDoubt, WriteFault, Memory, LoadFault, LoadDamaged}
 use Rattle.run_books.specs.Beginnings.{Outset, basis_of}
 use Rattle.run_books.specs.RecordFrame.{TurnsBeside}
 use Rattle.run_books.specs.Books.{Books}
@@ -64,6 +64,8 @@ ends-settle s t (Ok done) none a = settles-only s t none a
 ends-settle s t (Err InDoubt) none a = settles-only s t none a
 ends-settle s t (Err WriteFault) none a = settles-or-stops s t none a
 ends-settle s t (Err Memory) none a = settles-or-stops s t none a
+ends-settle s t (Err (LoadFault file)) none a = settles-or-stops s t none a
+ends-settle s t (Err (LoadDamaged file place)) none a = settles-or-stops s t none a
 
 -- ---- the closed core
 

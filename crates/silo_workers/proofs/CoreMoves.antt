@@ -15,6 +15,7 @@ use Rattle.activations.specs.contracts.recent.Recent.TheInside as recent_inside
 use Rattle.core_model.specs.contracts.effects.Read as read
 use Rattle.core_parts.specs.contracts.entry_list.EntryList as entries
 use Rattle.core_parts.specs.contracts.entry_list.EntryList.TheInside as entries_inside
+use Rattle.core_parts.specs.contracts.last_states.LastStates as last
 use Rattle.dependency_sets.specs.contracts.set.DepSet as deps
 use Rattle.history_core.specs.contracts.parts.Parts as parts
 use Rattle.history_core.specs.contracts.whole_core.Core as core
@@ -56,6 +57,10 @@ entries_send = view_send _ _ _ _ _ (declared_send entries_inside.the_type (searc
 recent_send : IsSend recent.the_row
 recent_send = view_send _ _ _ _ _ (declared_send recent_inside.the_type (search (sendable, crosses, maps, KeyRef-send, List-send, Deed-send) depth 60 fits 90000, tt))
 
+-- the last states, kept or known to contracts alone
+last_send : IsSend last.the_row
+last_send = declared_send last.the_type (search (sendable, crosses, maps, state_send) depth 60 fits 90000, (search sendable depth 20, tt))
+
 parts_send : IsSend parts.the_row
 parts_send = declared_send parts.the_type (
   units_send,
@@ -74,7 +79,7 @@ parts_send = declared_send parts.the_type (
               (
                 search (sendable, crosses, maps) depth 40 fits 30000,
                 (
-                  search (sendable, crosses, maps) depth 40 fits 30000,
+                  last_send,
                   (search (sendable, crosses, maps) depth 40 fits 30000, tt),
                 ),
               ),

@@ -1,5 +1,5 @@
 -- What the calls of a pass leave of it.
-use Rattle.std.proofs.Common.{◌≡◌, inl, inr, ℕ, ◌≤◌, List, [], ◌∷◌, Bool, true, false, refl, sym, ap, ◌∙◌, subst, length, arith}
+use Rattle.std.proofs.Common.{◌≡◌, inl, inr, ℕ, ◌≤◌, List, [], ◌∷◌, Bool, true, false, true≢false, ◌⊎◌, ◌||◌, is_some, refl, sym, ap, ◌∙◌, subst, length, arith}
 use Rattle.std.specs.Prelude.{Result, Ok, Err, IfOk, not, ◌&&◌}
 use Rattle.base_types.specs.Lists.{Member}
 use Rattle.cell_model.specs.Locks.{holds_lock}
@@ -9,12 +9,13 @@ use Rattle.core_model.specs.declared.events.CoreEvent.{CoreEvent}
 use Rattle.core_model.specs.declared.events.CoreReply.{CoreReply}
 use Rattle.core_model.specs.Laws.{extended}
 use Rattle.core_model.specs.LegalRuns.{Run, ends}
+use Rattle.core_model.specs.LockAnswers.{IsGoing}
 use Rattle.core_model.specs.Tests.{all}
 use Rattle.turn_cell.specs.declared.view.View.{View}
 use Rattle.turn_cell.specs.History.{StartsWith, entries_of}
 use Rattle.turn_cell.specs.Passes.{Adds}
 use Rattle.turn_cell.proofs.Histories.{starts_self}
-use Rattle.core_access.specs.Histories.{Told, reply_in}
+use Rattle.core_access.specs.Histories.{Told, reply_in, run_after}
 use Rattle.core_access.specs.Sights.{Sight, Tells, Counts}
 use Rattle.core_access.specs.PassSights.{sight_of, all_come}
 use Rattle.core_access.proofs.ByPass.{pass-tells}
@@ -24,9 +25,9 @@ use Rattle.worker_rules.specs.UnitOwnership.{KeepsPromise}
 use Rattle.worker_rules.specs.SharedHistories.{Promised}
 use Rattle.worker_rules.specs.Work.{OnlyWorks}
 use Rattle.worker_rules.proofs.OwnEntries.{promise-none}
-use Rattle.unit_crew.specs.FinishedUnits.{IsThrough, AreThrough}
-use Rattle.worker_rules.specs.ClosedCore.{IsOverAndFree, AreOverAndFree, PutsNothing}
-use Rattle.worker_rules.specs.JoinedPasses.{Returns}
+use Rattle.unit_crew.specs.FinishedUnits.{IsHalted, IsPastLine, IsThrough, AreThrough, Showed}
+use Rattle.worker_rules.specs.ClosedCore.{HasBegunLines, IsOverAndFree, AreOverAndFree, PutsNothing}
+use Rattle.worker_rules.specs.JoinedPasses.{Returns, WasShown}
 use Rattle.silo_workers.specs.PassFrame.{PassAside, aside_of}
 use Rattle.silo_workers.specs.WorkerPasses.{HasWorked}
 use Rattle.silo_workers.specs.declared.work.WorkEnd.TheVariants.{Idle, Through, Lacking}
@@ -90,3 +91,16 @@ worked-idle state Asked v none = returned-same state (HasWorked Asked Idle) v re
   promise = λ b asked. subst (λ (l : List Told). Promised (MayCome b) (state v.first) v.hand.number v.seen l) (sym none) (promise-none (MayCome b) (state v.first) v.hand.number v.seen);
   units = none;
 }
+
+-- ---- the lines
+
+-- what a look showed where the work is through is that all lines have begun, unless there was a doubt or a stop
+halted-not : (r : Run) → IsHalted r → IsGoing (ends r) → ⊥
+halted-not r halted going = absurd (true≢false (sym halted ∙ (λ i. going.1 i || is_some (going.0 i))))
+
+pub begun-shown : (lines : ℕ) (s : Sight) → Showed IsHalted s ⊎ Showed (IsPastLine lines) s → (first : Run) → s.first ≡ first → WasShown (HasBegunLines lines) first s.seen
+begun-shown lines s shown first same = subst (λ (r : Run). WasShown (HasBegunLines lines) r s.seen) same (by shown)
+  where
+    by : Showed IsHalted s ⊎ Showed (IsPastLine lines) s → WasShown (HasBegunLines lines) s.first s.seen
+    by (inl h) = (h.0, h.1, λ going. absurd (halted-not (run_after s.first h.0) h.2 going))
+    by (inr p) = (p.0, p.1, λ going. (let q = p.2 in omega (arith, q)))

@@ -20,7 +20,7 @@ use Rattle.promise_spec.specs.UnitRule.{Basis, KeepsUnitRule}
 use Rattle.worker_rules.proofs.CallPromises.{settling-none}
 use Rattle.settle_loop.specs.declared.settler.Settler.{Settler}
 use Rattle.run_books.specs.declared.faults.RunFault.{RunFault}
-use Rattle.run_books.specs.declared.faults.RunFault.TheVariants.{InDoubt, WriteFault, Memory}
+use Rattle.run_books.specs.declared.faults.RunFault.TheVariants.{InDoubt, WriteFault, Memory, LoadFault, LoadDamaged}
 use Rattle.run_books.specs.Beginnings.{Outset, basis_of}
 use Rattle.run_books.specs.Books.{Books}
 use Rattle.run_books.specs.Records.{HasCarriedAll, TurnsEndAs, RecordGoesOn}
@@ -90,10 +90,12 @@ module _ {T : Type 0} (tells : Bool) (o : Outset) (b : Books) (shape : Shape) (s
     ended = by f h.books.says;
   }
     where
-      by : (x : RunFault) → SaysAmong o h.books.goes.books (stage_by r' after counts' now') {T = T} (Err x) → TurnsEndAs o h.books.goes.books (stage_by r' after counts' now') {T = U} (Err x)
+      by : (x : RunFault) → SaysAmong tells o h.books.goes.books (stage_by r' after counts' now') {T = T} (Err x) → TurnsEndAs tells o h.books.goes.books (stage_by r' after counts' now') {T = U} (Err x)
       by InDoubt e = e
       by WriteFault e = e
       by Memory e = e
+      by (LoadFault file) e = e
+      by (LoadDamaged file place) e = e
 
   pub lacking-ends : {U : Type 0} (end : WorkEnd) (done : T) → HasGathered {T = T} tells o b shape s (stage_by r' after counts' now') end (Ok done) → RecordGoesOn {T = U} tells o b s (stage_by r' after counts' now') (Err Memory)
   lacking-ends end done h = record {
@@ -128,7 +130,7 @@ module _ {T : Type 0} (tells : Bool) (o : Outset) (b : Books) (shape : Shape) (s
 
       carried : (x : U) → result ≡ Ok x → HasCarriedAll o (stage_by r'' last counts'' now'')
       carried x is =
-          let says : SaysAmong o g.goes.books (stage_by r'' last counts'' now'') {T = U} (Ok x) = subst (SaysAmong o g.goes.books (stage_by r'' last counts'' now'')) is g.says in
+          let says : SaysAmong tells o g.goes.books (stage_by r'' last counts'' now'') {T = U} (Ok x) = subst (SaysAmong tells o g.goes.books (stage_by r'' last counts'' now'')) is g.says in
           let sure : (ends r'').manager.doubt ≡ None = some-not (ends r'').manager.doubt (sym (rests x is).1 ∙ g.goes.kept.doubt) in
           let going : IsGoing (ends r'') = (sure, says.1) in
           carried-all tells o g.goes.books (stage_by r'' last counts'' now'') above' units g.goes.kept record {
@@ -139,11 +141,13 @@ module _ {T : Type 0} (tells : Bool) (o : Outset) (b : Books) (shape : Shape) (s
             rests = (rests x is).0;
           }
 
-      ended : (x : Result U RunFault) → result ≡ x → SaysAmong o g.goes.books (stage_by r'' last counts'' now'') x → TurnsEndAs o g.goes.books (stage_by r'' last counts'' now'') x
+      ended : (x : Result U RunFault) → result ≡ x → SaysAmong tells o g.goes.books (stage_by r'' last counts'' now'') x → TurnsEndAs tells o g.goes.books (stage_by r'' last counts'' now'') x
       ended (Ok x) is e = (carried x is, e.0.rest)
       ended (Err InDoubt) is e = e
       ended (Err WriteFault) is e = e
       ended (Err Memory) is e = e
+      ended (Err (LoadFault file)) is e = e
+      ended (Err (LoadDamaged file place)) is e = e
 
       pub rest-ends : RecordGoesOn {T = U} tells o b s (stage_by r'' last counts'' now'') result
       rest-ends = record {

@@ -100,6 +100,7 @@ fn carry_in_turns<H: Host, G: Gate, L: Lines + Copy>(
 ///
 /// - `InDoubt`: a batch was left in doubt, and all that is settled is written.
 /// - `WriteFault`: the output failed.
+/// - `LoadFault`, `LoadDamaged`: a version that a unit wants couldn't be read; the others have ended by a stop.
 /// - `Memory`: memory ran out, here or at a worker. What was put into the core and done to the host by then stands.
 pub fn run_with_workers<R: Threads + Wait + Sync, H: Host, G: Gate + Sync, L: Lines + Copy + Sync>(
     rt: &R,

@@ -1,5 +1,5 @@
-use Rattle.interleaver.proofs.RunStart.{nobody-moves}
+use Rattle.interleaver.proofs.RunStart.{nobody-goes}
 use Rattle.interleaver.proofs.laws.nobody_moves_where_lines_begin.Goals as goal
 
 pub returns : goal.returns
-returns c = λ types o r settler lines above units can. nobody-moves types o r settler lines above units can
+returns c = λ types o r settler lines above units can. nobody-goes types o r settler lines above units can

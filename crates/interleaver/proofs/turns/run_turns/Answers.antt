@@ -1,19 +1,21 @@
-use Rattle.std.proofs.Common.{◌≡◌, ◌+◌, ℕ, List, [], Bool, true, Result, Ok, Err, refl, sym, ap, ◌∙◌, subst, arith}
+use Rattle.std.proofs.Common.{◌≡◌, ◌+◌, ℕ, List, [], Bool, true, None, Result, Ok, Err, refl, sym, ap, ◌∙◌, subst, arith}
 use Rattle.std.proofs.lemmas.Result.{err_from_is_err_and}
 use Rattle.core_access.specs.OneHolder.{none_comes, own_sight}
 use Rattle.history_core.specs.Cores.{run_of}
 use Rattle.script_tree.specs.Programs.{program_tree}
 use Rattle.txn_agent.specs.declared.agent.Agent.{Agent}
-use Rattle.unit_carrier.specs.CarriedUnits.{AreCarried}
+use Rattle.unit_carrier.specs.CarriedUnits.{AreCarried, units_carried}
 use Rattle.unit_carrier.proofs.CarriedUnits.{none-carried}
 use Rattle.base_types.specs.declared.shapes.Shape.{Shape}
 use Rattle.run_books.specs.declared.faults.RunFault.{RunFault}
 use Rattle.run_books.specs.declared.faults.RunFault.TheVariants.{Memory}
 use Rattle.run_books.specs.RecordFrame.{TurnsBeside}
+use Rattle.turn_rules.specs.TurnLoop.{no_pass}
 use Rattle.interleaver.specs.TurnStages.{TurnStage, WentOn, turn_stage}
 use Rattle.run_books.proofs.SettlerFrame.{one-after-another, beside-fault, beside-well}
 use Rattle.interleaver.proofs.TurnSequence.{on-after, done-after, picks-after, fault-after, out-then, nothing-beside, at-once, nothing-went}
 use Rattle.interleaver.proofs.RunStart.{start}
+use Rattle.interleaver.proofs.SureUnits.{none-sure}
 use Rattle.interleaver.proofs.turns.run_turns.Goals as goal
 use Rattle.run_books.specs.Stages.{stage_of}
 
@@ -33,6 +35,7 @@ loop-turn-init g c = record {
         (none-carried (program_tree c.args.checked.now) (run_of c.args.core.now) c.requires.above);
     looked = tt;
     freed = tt;
+    sure = none-sure (program_tree c.args.checked.now) (run_of c.args.core.now) (units_carried c.new.result.list.items) 0 None refl;
   };
   shape = c.in_ok-shape.ensures;
   turns = omega arith;
@@ -42,11 +45,11 @@ loop-turn-init g c = record {
   ready = λ file was. was;
   beside = nothing-beside g.H.Host.tells (run_of c.args.core.now) c.args.settler.now (g.H.Host.faults c.args.host.now) (g.H.Host.world c.args.host.now);
   went = λ o b is can fresh kept.
-      let from : TurnStage = (record { at = stage_of g.H.Host.world g.H.Host.faults (run_of c.args.core.now) c.args.settler.now c.args.host.now; agents = []; begun = 0; used = c.args.used.now }) in
+      let from : TurnStage = (record { at = stage_of g.H.Host.world g.H.Host.faults (run_of c.args.core.now) c.args.settler.now c.args.host.now; agents = []; begun = 0; used = c.args.used.now; pass = no_pass }) in
       subst (λ (l : List Agent). WentOn g.H.Host.tells o (program_tree c.args.checked.now) (g.L.Lines.lines c.args.lines.now) c.args.width c.args.turns.now b from (record from { agents = l })) (sym c.new.ensures)
       (nothing-went g.H.Host.tells o (program_tree c.args.checked.now) (g.L.Lines.lines c.args.lines.now) c.args.width c.args.turns.now b from
       (start g.H.Host.tells o (program_tree c.args.checked.now) (g.L.Lines.lines c.args.lines.now) c.args.width c.args.turns.now b c.args.used.now (run_of c.args.core.now) c.args.settler.now (g.H.Host.faults c.args.host.now) (g.H.Host.world c.args.host.now)
-      refl is can fresh kept c.program-program.ensures.checked c.show_few.ensures));
+      is can fresh kept c.program-program.ensures.checked c.show_few.ensures));
 }
 
 pub returns-in_err-turn-clause-carries : goal.returns-in_err-turn-clause-carries
@@ -54,7 +57,7 @@ returns-in_err-turn-clause-carries g c = record {
   kept = λ o b is can fresh kept.
       let p = err_from_is_err_and c.from_residual-in_err-turn.result c.from_residual-in_err-turn.ensures.1 in
       rw p.1 (fault-after g.H.Host.tells o (program_tree c.args.checked.now) (g.L.Lines.lines c.args.lines.now) (g.L.Lines.lines c.loop-turn.lines) c.args.width c.args.turns.now c.as_slice.result.now b
-      (record { at = stage_of g.H.Host.world g.H.Host.faults (run_of c.args.core.now) c.args.settler.now c.args.host.now; agents = []; begun = 0; used = c.args.used.now })
+      (record { at = stage_of g.H.Host.world g.H.Host.faults (run_of c.args.core.now) c.args.settler.now c.args.host.now; agents = []; begun = 0; used = c.args.used.now; pass = no_pass })
       (turn_stage (stage_of g.H.Host.world g.H.Host.faults (run_of c.loop-turn.core) c.loop-turn.settler c.loop-turn.host) c.loop-turn.state)
       (turn_stage (stage_of g.H.Host.world g.H.Host.faults (run_of c.turn.new.core) c.turn.new.settler c.turn.new.host) c.turn.new.self)
       c.loop-turn.invariant.lines c.as_slice.ensures (c.loop-turn.invariant.went o b is can fresh kept) c.turn.result (c.turn.ensures.turns.says o)
@@ -75,7 +78,7 @@ pub returns-then-not-branch-clause-carries : goal.returns-then-not-branch-clause
 returns-then-not-branch-clause-carries g c = record {
   kept = λ o b is can fresh kept.
       done-after g.H.Host.tells o (program_tree c.args.checked.now) (g.L.Lines.lines c.args.lines.now) (g.L.Lines.lines c.loop-turn.lines) c.args.width c.args.turns.now c.as_slice.result.now b
-      (record { at = stage_of g.H.Host.world g.H.Host.faults (run_of c.args.core.now) c.args.settler.now c.args.host.now; agents = []; begun = 0; used = c.args.used.now })
+      (record { at = stage_of g.H.Host.world g.H.Host.faults (run_of c.args.core.now) c.args.settler.now c.args.host.now; agents = []; begun = 0; used = c.args.used.now; pass = no_pass })
       (turn_stage (stage_of g.H.Host.world g.H.Host.faults (run_of c.loop-turn.core) c.loop-turn.settler c.loop-turn.host) c.loop-turn.state)
       (turn_stage (stage_of g.H.Host.world g.H.Host.faults (run_of c.turn.new.core) c.turn.new.settler c.turn.new.host) c.turn.new.self)
       c.loop-turn.invariant.lines c.as_slice.ensures (c.loop-turn.invariant.went o b is can fresh kept) c.turn.result (c.turn.ensures.turns.says o)
@@ -89,7 +92,7 @@ returns-then-not-branch-clause-carries g c = record {
 pub returns-then-not-branch-clause-used : goal.returns-then-not-branch-clause-used
 returns-then-not-branch-clause-used g c = λ o b is can fresh kept ruled.
     picks-after g.H.Host.tells o (program_tree c.args.checked.now) (g.L.Lines.lines c.args.lines.now) (g.L.Lines.lines c.loop-turn.lines) c.args.width c.args.turns.now c.as_slice.result.now b
-    (record { at = stage_of g.H.Host.world g.H.Host.faults (run_of c.args.core.now) c.args.settler.now c.args.host.now; agents = []; begun = 0; used = c.args.used.now })
+    (record { at = stage_of g.H.Host.world g.H.Host.faults (run_of c.args.core.now) c.args.settler.now c.args.host.now; agents = []; begun = 0; used = c.args.used.now; pass = no_pass })
     (turn_stage (stage_of g.H.Host.world g.H.Host.faults (run_of c.loop-turn.core) c.loop-turn.settler c.loop-turn.host) c.loop-turn.state)
     (turn_stage (stage_of g.H.Host.world g.H.Host.faults (run_of c.turn.new.core) c.turn.new.settler c.turn.new.host) c.turn.new.self)
     c.loop-turn.invariant.lines c.as_slice.ensures (c.loop-turn.invariant.went o b is can fresh kept) c.turn.result (c.turn.ensures.turns.says o)
@@ -110,7 +113,7 @@ loop-turn-preserved g c = record {
       (subst (λ (x : Result Bool RunFault). TurnsBeside g.H.Host.tells (stage_of g.H.Host.world g.H.Host.faults (run_of c.loop-turn.core) c.loop-turn.settler c.loop-turn.host) (stage_of g.H.Host.world g.H.Host.faults (run_of c.turn.new.core) c.turn.new.settler c.turn.new.host) x) c.in_ok-turn.was c.turn.ensures.turns.beside));
   went = λ o b is can fresh kept.
       on-after g.H.Host.tells o (program_tree c.args.checked.now) (g.L.Lines.lines c.args.lines.now) (g.L.Lines.lines c.loop-turn.lines) c.args.width c.args.turns.now c.as_slice.result.now b
-      (record { at = stage_of g.H.Host.world g.H.Host.faults (run_of c.args.core.now) c.args.settler.now c.args.host.now; agents = []; begun = 0; used = c.args.used.now })
+      (record { at = stage_of g.H.Host.world g.H.Host.faults (run_of c.args.core.now) c.args.settler.now c.args.host.now; agents = []; begun = 0; used = c.args.used.now; pass = no_pass })
       (turn_stage (stage_of g.H.Host.world g.H.Host.faults (run_of c.loop-turn.core) c.loop-turn.settler c.loop-turn.host) c.loop-turn.state)
       (turn_stage (stage_of g.H.Host.world g.H.Host.faults (run_of c.turn.new.core) c.turn.new.settler c.turn.new.host) c.turn.new.self)
       c.loop-turn.invariant.lines c.as_slice.ensures (c.loop-turn.invariant.went o b is can fresh kept) c.turn.result (c.turn.ensures.turns.says o)
@@ -121,7 +124,7 @@ pub returns-clause-carries : goal.returns-clause-carries
 returns-clause-carries g c = record {
   kept = λ o b is can fresh kept.
       out-then g.H.Host.tells o (program_tree c.args.checked.now) (g.L.Lines.lines c.args.lines.now) c.args.width c.args.turns.now b
-      (record { at = stage_of g.H.Host.world g.H.Host.faults (run_of c.args.core.now) c.args.settler.now c.args.host.now; agents = []; begun = 0; used = c.args.used.now })
+      (record { at = stage_of g.H.Host.world g.H.Host.faults (run_of c.args.core.now) c.args.settler.now c.args.host.now; agents = []; begun = 0; used = c.args.used.now; pass = no_pass })
       (turn_stage (stage_of g.H.Host.world g.H.Host.faults (run_of c.loop-turn.core) c.loop-turn.settler c.loop-turn.host) c.loop-turn.state)
       (c.loop-turn.invariant.went o b is can fresh kept);
   beside = beside-well g.H.Host.tells (run_of c.args.core.now) (run_of c.loop-turn.core) c.args.settler.now c.loop-turn.settler (g.H.Host.faults c.args.host.now) (g.H.Host.faults c.loop-turn.host) (g.H.Host.world c.args.host.now) (g.H.Host.world c.loop-turn.host) true (Err Memory) c.loop-turn.invariant.beside;

@@ -5,6 +5,7 @@ use Rattle.history_core.specs.Cores.{run_of}
 use Rattle.script_tree.specs.Programs.{program_tree}
 use Rattle.script_check.specs.Shapes.{type_shapes}
 use Rattle.run_books.specs.RecordFrame.{TurnsBeside}
+use Rattle.turn_rules.specs.TurnLoop.{no_pass}
 use Rattle.interleaver.specs.TurnStages.{WentOn, turn_stage, HoldsUnits}
 use Rattle.interleaver.proofs.turns.run_turns.Given as goal
 use Rattle.interleaver.specs.Turns.{WhereTurnsBegin}
@@ -23,6 +24,6 @@ invariant-loop-turn g l = record {
   went : WhereTurnsBegin g.H.Host.tells (program_tree l.checked) (g.L.Lines.lines l.fn.lines) l.width l.turns l.fn.used
       (stage_of g.H.Host.world g.H.Host.faults (run_of l.fn.core) l.fn.settler l.fn.host)
       (λ o b. WentOn g.H.Host.tells o (program_tree l.checked) (g.L.Lines.lines l.fn.lines) l.width l.turns b
-      (record { at = stage_of g.H.Host.world g.H.Host.faults (run_of l.fn.core) l.fn.settler l.fn.host; agents = []; begun = 0; used = l.fn.used })
+      (record { at = stage_of g.H.Host.world g.H.Host.faults (run_of l.fn.core) l.fn.settler l.fn.host; agents = []; begun = 0; used = l.fn.used; pass = no_pass })
       (turn_stage (stage_of g.H.Host.world g.H.Host.faults (run_of l.core) l.settler l.host) l.state));
 }

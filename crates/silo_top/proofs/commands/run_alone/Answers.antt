@@ -1,7 +1,7 @@
 use Rattle.std.proofs.Common.{◌≡◌, ◌∙◌, inr, ℕ, List, Result, Err, false, refl, ap, subst}
 use Rattle.promise_spec.specs.Words.{Command, Init, Run, Show, History, Audit, Load, Check, Compact}
 use Rattle.promise_spec.specs.Calls.{any_option, Understands}
-use Rattle.promise_spec.specs.Endings.{IsCarried, IsLoadCarried}
+use Rattle.promise_spec.specs.Endings.{MayEndRun, MayEndLoad}
 use Rattle.promise_spec.proofs.Words.{one_command}
 use Rattle.command_words.specs.CutParts.{texts_of}
 use Rattle.command_words.specs.declared.faults.WordsFault.{WordsFault}
@@ -72,7 +72,7 @@ returns-in-Ok-Run-Turns-clause-serves g c = λ told. obeyed_serves (texts_of c.a
     (shown (g.H.Host.world c.args.host.now) (g.H.Host.world c.run_in_turns.new.host) (g.H.Host.faults c.args.host.now) (g.H.Host.faults c.run_in_turns.new.host) c.run_in_turns.result) (c.run_in_turns.ensures.promises told)
 
 pub returns-in-Ok-Run-Turns-clause-answers : goal.returns-in-Ok-Run-Turns-clause-answers
-returns-in-Ok-Run-Turns-clause-answers g c = run_answers (texts_of c.args.words.now) (Run (turns_manner c.in-Ok-Run-Turns.width c.in-Ok-Run-Turns.picks)) (understood (texts_of c.args.words.now) c.in-Ok-Run-Turns.field-0 (Asked.Run (Carriage.Turns c.in-Ok-Run-Turns.width c.in-Ok-Run-Turns.picks)) (run_how c.in-Ok-Run-Turns.field-0 c.in-Ok-Run-Turns.field-0-0 (Carriage.Turns c.in-Ok-Run-Turns.width c.in-Ok-Run-Turns.picks) c.in-Ok-Run-Turns.field-0-is c.in-Ok-Run-Turns.field-0-0-is) c.in-Ok-Run-Turns.ensures.asked) IsCarried (g.H.Host.faults c.args.host.now) (g.H.Host.faults c.run_in_turns.new.host) (status_ending c.run_in_turns.result) (λ begun. begun) c.run_in_turns.ensures.answers
+returns-in-Ok-Run-Turns-clause-answers g c = run_answers (texts_of c.args.words.now) (Run (turns_manner c.in-Ok-Run-Turns.width c.in-Ok-Run-Turns.picks)) (understood (texts_of c.args.words.now) c.in-Ok-Run-Turns.field-0 (Asked.Run (Carriage.Turns c.in-Ok-Run-Turns.width c.in-Ok-Run-Turns.picks)) (run_how c.in-Ok-Run-Turns.field-0 c.in-Ok-Run-Turns.field-0-0 (Carriage.Turns c.in-Ok-Run-Turns.width c.in-Ok-Run-Turns.picks) c.in-Ok-Run-Turns.field-0-is c.in-Ok-Run-Turns.field-0-0-is) c.in-Ok-Run-Turns.ensures.asked) MayEndRun (g.H.Host.faults c.args.host.now) (g.H.Host.faults c.run_in_turns.new.host) (status_ending c.run_in_turns.result) (λ begun. begun) c.run_in_turns.ensures.answers
 
 pub run_in_turns-requires : goal.run_in_turns-requires
 run_in_turns-requires g c = record { wide = subst MayBeCarried (run_how c.in-Ok-Run-Turns.field-0 c.in-Ok-Run-Turns.field-0-0 (Carriage.Turns c.in-Ok-Run-Turns.width c.in-Ok-Run-Turns.picks) c.in-Ok-Run-Turns.field-0-is c.in-Ok-Run-Turns.field-0-0-is) c.in-Ok-Run-Turns.ensures.bounds }
@@ -88,7 +88,7 @@ returns-in-Ok-Load-default-default-Turns-clause-serves g c = λ told. obeyed_ser
     (shown (g.H.Host.world c.args.host.now) (g.H.Host.world c.load_in_turns.new.host) (g.H.Host.faults c.args.host.now) (g.H.Host.faults c.load_in_turns.new.host) c.load_in_turns.result) (c.load_in_turns.ensures.loads told)
 
 pub returns-in-Ok-Load-default-default-Turns-clause-answers : goal.returns-in-Ok-Load-default-default-Turns-clause-answers
-returns-in-Ok-Load-default-default-Turns-clause-answers g c = run_answers (texts_of c.args.words.now) (Load c.in-Ok-Load-default-default-Turns.transfers c.in-Ok-Load-default-default-Turns.seed (turns_manner c.in-Ok-Load-default-default-Turns.width c.in-Ok-Load-default-default-Turns.picks)) (understood (texts_of c.args.words.now) c.in-Ok-Load-default-default-Turns.field-0 (Asked.Load c.in-Ok-Load-default-default-Turns.transfers c.in-Ok-Load-default-default-Turns.seed (Carriage.Turns c.in-Ok-Load-default-default-Turns.width c.in-Ok-Load-default-default-Turns.picks)) (load_how c.in-Ok-Load-default-default-Turns.field-0 c.in-Ok-Load-default-default-Turns.transfers c.in-Ok-Load-default-default-Turns.seed c.in-Ok-Load-default-default-Turns.field-0-2 (Carriage.Turns c.in-Ok-Load-default-default-Turns.width c.in-Ok-Load-default-default-Turns.picks) c.in-Ok-Load-default-default-Turns.field-0-is c.in-Ok-Load-default-default-Turns.field-0-2-is) c.in-Ok-Load-default-default-Turns.ensures.asked) IsLoadCarried (g.H.Host.faults c.args.host.now) (g.H.Host.faults c.load_in_turns.new.host) (status_ending c.load_in_turns.result) (λ begun. begun) c.load_in_turns.ensures.answers
+returns-in-Ok-Load-default-default-Turns-clause-answers g c = run_answers (texts_of c.args.words.now) (Load c.in-Ok-Load-default-default-Turns.transfers c.in-Ok-Load-default-default-Turns.seed (turns_manner c.in-Ok-Load-default-default-Turns.width c.in-Ok-Load-default-default-Turns.picks)) (understood (texts_of c.args.words.now) c.in-Ok-Load-default-default-Turns.field-0 (Asked.Load c.in-Ok-Load-default-default-Turns.transfers c.in-Ok-Load-default-default-Turns.seed (Carriage.Turns c.in-Ok-Load-default-default-Turns.width c.in-Ok-Load-default-default-Turns.picks)) (load_how c.in-Ok-Load-default-default-Turns.field-0 c.in-Ok-Load-default-default-Turns.transfers c.in-Ok-Load-default-default-Turns.seed c.in-Ok-Load-default-default-Turns.field-0-2 (Carriage.Turns c.in-Ok-Load-default-default-Turns.width c.in-Ok-Load-default-default-Turns.picks) c.in-Ok-Load-default-default-Turns.field-0-is c.in-Ok-Load-default-default-Turns.field-0-2-is) c.in-Ok-Load-default-default-Turns.ensures.asked) MayEndLoad (g.H.Host.faults c.args.host.now) (g.H.Host.faults c.load_in_turns.new.host) (status_ending c.load_in_turns.result) (λ begun. begun) c.load_in_turns.ensures.answers
 
 pub load_in_turns-requires-clause-wide : goal.load_in_turns-requires-clause-wide
 load_in_turns-requires-clause-wide g c = (subst MayBeCarried (load_how c.in-Ok-Load-default-default-Turns.field-0 c.in-Ok-Load-default-default-Turns.transfers c.in-Ok-Load-default-default-Turns.seed c.in-Ok-Load-default-default-Turns.field-0-2 (Carriage.Turns c.in-Ok-Load-default-default-Turns.width c.in-Ok-Load-default-default-Turns.picks) c.in-Ok-Load-default-default-Turns.field-0-is c.in-Ok-Load-default-default-Turns.field-0-2-is) c.in-Ok-Load-default-default-Turns.ensures.bounds).0

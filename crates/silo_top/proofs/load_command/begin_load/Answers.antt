@@ -5,7 +5,7 @@ use Rattle.history_core.specs.Cores.{run_of}
 use Rattle.silo_spec.specs.Silos.{IsNewSilo}
 use Rattle.silo_spec.specs.Slots.{ShowsSilos}
 use Rattle.silo_spec.specs.Creation.{CameThisFar}
-use Rattle.promise_spec.specs.Endings.{Memory, IsLoadCarried}
+use Rattle.promise_spec.specs.Endings.{Memory, MayEndLoad}
 use Rattle.promise_spec.specs.Logs.{magic}
 use Rattle.promise_spec.specs.Loads.{bank_text, load_calls}
 use Rattle.bank_load.specs.Requests.{load_texts}
@@ -41,8 +41,8 @@ pub returns-in-Err-clause-answers : goal.returns-in-Err-clause-answers
 returns-in-Err-clause-answers g c = uncreated_answers c.in-Err.fault c.creation_status.result (g.H.Host.faults c.args.host.now) (g.H.Host.faults c.create.new.host) c.creation_status.ensures c.in-Err.ensures.fault
 
 pub returns-in-Err-open_silo-clause-answers : goal.returns-in-Err-open_silo-clause-answers
-returns-in-Err-open_silo-clause-answers g c = answers_behind IsLoadCarried (status_ending c.open_status.result) (g.H.Host.faults c.args.host.now) (g.H.Host.faults c.create.new.host) (g.H.Host.faults c.open_silo.new.host) c.in-Ok-create.ensures.calm
-    (unopened_answers IsLoadCarried c.in-Err-open_silo.fault c.open_status.result (g.H.Host.faults c.create.new.host) (g.H.Host.faults c.open_silo.new.host) c.open_status.ensures c.in-Err-open_silo.ensures.fault)
+returns-in-Err-open_silo-clause-answers g c = answers_behind MayEndLoad (status_ending c.open_status.result) (g.H.Host.faults c.args.host.now) (g.H.Host.faults c.create.new.host) (g.H.Host.faults c.open_silo.new.host) c.in-Ok-create.ensures.calm
+    (unopened_answers MayEndLoad c.in-Err-open_silo.fault c.open_status.result (g.H.Host.faults c.create.new.host) (g.H.Host.faults c.open_silo.new.host) c.open_status.ensures c.in-Err-open_silo.ensures.fault)
 
 pub returns-in-Err-open_silo-clause-loads : goal.returns-in-Err-open_silo-clause-loads
 returns-in-Err-open_silo-clause-loads g c = λ told m.
@@ -56,7 +56,7 @@ returns-in-Err-open_silo-clause-loads g c = λ told m.
     (λ short. unopened_carries c.args.transfers c.args.seed m (load_texts c.args.transfers c.args.seed) c.in-Ok.bank (g.H.Host.world c.create.new.host) (g.H.Host.world c.open_silo.new.host) (g.H.Host.faults c.create.new.host) (g.H.Host.faults c.open_silo.new.host) c.in-Err-open_silo.fault c.open_status.result bank_is c.open_status.ensures (c.in-Err-open_silo.ensures.only told) (c.in-Err-open_silo.ensures.refused told) c.in-Err-open_silo.ensures.fault)
 
 pub returns-in-Err-start-clause-answers : goal.returns-in-Err-start-clause-answers
-returns-in-Err-start-clause-answers g c = exactly_answers (g.H.Host.faults c.args.host.now) (g.H.Host.faults c.open_silo.new.host) IsLoadCarried Memory (λ q. cc q) (λ channel. c.in-Ok-open_silo.ensures.calm channel ∙ c.in-Ok-create.ensures.calm channel)
+returns-in-Err-start-clause-answers g c = exactly_answers (g.H.Host.faults c.args.host.now) (g.H.Host.faults c.open_silo.new.host) MayEndLoad Memory (λ q. cc q) (λ channel. c.in-Ok-open_silo.ensures.calm channel ∙ c.in-Ok-create.ensures.calm channel)
 
 pub returns-in-Err-start-clause-loads : goal.returns-in-Err-start-clause-loads
 returns-in-Err-start-clause-loads g c = λ told m.
@@ -79,7 +79,7 @@ returns-in-Err-start-clause-loads g c = λ told m.
     (λ short. starved_carries c.args.transfers c.args.seed m (load_texts c.args.transfers c.args.seed) (with_checked c.in-Ok-open_silo.opened c.in-Ok.bank) (g.H.Host.world c.create.new.host) (g.H.Host.world c.open_silo.new.host) (g.H.Host.faults c.create.new.host) (g.H.Host.faults c.open_silo.new.host) bank_is (behind_bank short) c.in-Ok-open_silo.ensures.calm)
 
 pub returns-in-Err-load_lines-clause-answers : goal.returns-in-Err-load_lines-clause-answers
-returns-in-Err-load_lines-clause-answers g c = exactly_answers (g.H.Host.faults c.args.host.now) (g.H.Host.faults c.open_silo.new.host) IsLoadCarried Memory (λ q. cc q) (λ channel. c.in-Ok-open_silo.ensures.calm channel ∙ c.in-Ok-create.ensures.calm channel)
+returns-in-Err-load_lines-clause-answers g c = exactly_answers (g.H.Host.faults c.args.host.now) (g.H.Host.faults c.open_silo.new.host) MayEndLoad Memory (λ q. cc q) (λ channel. c.in-Ok-open_silo.ensures.calm channel ∙ c.in-Ok-create.ensures.calm channel)
 
 pub returns-in-Err-load_lines-clause-loads : goal.returns-in-Err-load_lines-clause-loads
 returns-in-Err-load_lines-clause-loads g c = λ told m.
@@ -133,8 +133,8 @@ returns-in-Ok-load_lines-clause-answers_on g c = λ m settler' after new result 
         run = c.in-Ok-open_silo.ensures.only told;
       },
     ))) in
-    answers_behind IsLoadCarried (status_ending status) (g.H.Host.faults c.args.host.now) (g.H.Host.faults c.create.new.host) final c.in-Ok-create.ensures.calm
-    (answers_behind IsLoadCarried (status_ending status) (g.H.Host.faults c.create.new.host) (g.H.Host.faults c.open_silo.new.host) final c.in-Ok-open_silo.ensures.calm
+    answers_behind MayEndLoad (status_ending status) (g.H.Host.faults c.args.host.now) (g.H.Host.faults c.create.new.host) final c.in-Ok-create.ensures.calm
+    (answers_behind MayEndLoad (status_ending status) (g.H.Host.faults c.create.new.host) (g.H.Host.faults c.open_silo.new.host) final c.in-Ok-open_silo.ensures.calm
     (load_answers g.H.Host.tells c.args.transfers c.args.seed m (with_checked c.in-Ok-open_silo.opened c.in-Ok.bank) c.in-Ok-start.started (g.H.Host.world c.open_silo.new.host) new (g.H.Host.faults c.open_silo.new.host) after result c.in-Ok-start.ensures.start opens c.in-Ok-start.ensures.quiet c.in-Ok-load_lines.lines are went.wide c.in-Ok-open_silo.ensures.bounds.next.0 settler' went.used carried status final (subst (λ (n : ℕ). LoadCounts n result status after final) c.in-Ok-start.ensures.start.slot counts)))
 
 pub returns-in-Ok-load_lines-clause-keeps : goal.returns-in-Ok-load_lines-clause-keeps

@@ -1,5 +1,5 @@
 use Rattle.std.proofs.Common.{rules, ◌≡◌, ◌∙◌, refl, ap, length}
-use Rattle.std.specs.Prelude.{is_ok}
+use Rattle.std.specs.Prelude.{is_err, is_ok}
 use Rattle.std.proofs.lemmas.Int.{to_z-of_z}
 use mir.Val.{SFits}
 use mir.Syntax.{w128}
@@ -32,3 +32,9 @@ returns-clause-says g c = λ told.
     c.as_slice.ensures ∙ c.in-Ok.ensures ∙ ap (summary_line w.manager.settled c.args.requests) (to_z-of_z w128 c.total_balance-total.result fits ∙ c.total_balance-total.ensures) in
     let part = c.emit.ensures.part told in
     emitted_so (summary_line w.manager.settled c.args.requests (total_kept w 64)) c.as_slice.result.now ending.WriteFault part.0 (g.H.Host.world c.args.host.now) (g.H.Host.world c.emit.new.self) bytes part.1 (λ q. absurd (let t : ⊥ = cc q in t)) (λ q. cc q)
+
+pub returns-then-not-keeps_last-clause-says : goal.returns-then-not-keeps_last-clause-says
+returns-then-not-keeps_last-clause-says g c = λ told. nothing_said (summary_line (ends (run_of c.args.core.now)).manager.settled c.args.requests (total_kept (ends (run_of c.args.core.now)) 64)) (g.H.Host.world c.args.host.now)
+
+pub returns-clause-exact : goal.returns-clause-exact
+returns-clause-exact g c = c.emit.ensures.faults.cause (ap is_err c.in-Err-emit.is)

@@ -1,6 +1,6 @@
 use Rattle.std.proofs.Common.{refl}
 use Rattle.log_reading.specs.Steps.{seen_in}
-use Rattle.promise_spec.specs.Endings.{IsCarried, Memory}
+use Rattle.promise_spec.specs.Endings.{MayEndRun, Memory}
 use Rattle.silo_top.specs.declared.status.Status.{Status}
 use Rattle.silo_top.proofs.Continuation.{can_carry}
 use Rattle.silo_top.proofs.CoreOpening.{fits_at}
@@ -17,7 +17,7 @@ returns-in-Err-clause-promises g c = λ told m. refused_promised m (g.H.Host.wor
     c.in-Err.fault c.open_status.result c.open_status.ensures (c.in-Err.ensures.only told) (c.in-Err.ensures.refused told) c.in-Err.ensures.fault
 
 pub returns-in-Err-clause-answers : goal.returns-in-Err-clause-answers
-returns-in-Err-clause-answers g c = unopened_answers IsCarried c.in-Err.fault c.open_status.result (g.H.Host.faults c.args.host.now) (g.H.Host.faults c.open_silo.new.host) c.open_status.ensures c.in-Err.ensures.fault
+returns-in-Err-clause-answers g c = unopened_answers MayEndRun c.in-Err.fault c.open_status.result (g.H.Host.faults c.args.host.now) (g.H.Host.faults c.open_silo.new.host) c.open_status.ensures c.in-Err.ensures.fault
 
 pub returns-in-Err-start-clause-promises : goal.returns-in-Err-start-clause-promises
 returns-in-Err-start-clause-promises g c = λ told m.
@@ -25,7 +25,7 @@ returns-in-Err-start-clause-promises g c = λ told m.
     (record { untouched = opens_untouched _ (g.H.Host.world c.args.host.now) (g.H.Host.world c.open_silo.new.host) (c.in-Ok.ensures.only told); unread = (c.in-Ok.ensures.only told).input; syncs = (c.in-Ok.ensures.only told).syncs; refused = tt; failed = c.in-Ok.ensures.calm })
 
 pub returns-in-Err-start-clause-answers : goal.returns-in-Err-start-clause-answers
-returns-in-Err-start-clause-answers g c = exactly_answers (g.H.Host.faults c.args.host.now) (g.H.Host.faults c.open_silo.new.host) IsCarried Memory (λ q. cc q) c.in-Ok.ensures.calm
+returns-in-Err-start-clause-answers g c = exactly_answers (g.H.Host.faults c.args.host.now) (g.H.Host.faults c.open_silo.new.host) MayEndRun Memory (λ q. cc q) c.in-Ok.ensures.calm
 
 pub returns-in-Ok-start-clause-can : goal.returns-in-Ok-start-clause-can
 returns-in-Ok-start-clause-can g c = can_carry g.H.Host.tells c.in-Ok.opened c.in-Ok-start.started (g.H.Host.world c.open_silo.new.host) c.in-Ok-start.ensures.start c.in-Ok.ensures.bounds.next.0 c.in-Ok-start.ensures.bounds

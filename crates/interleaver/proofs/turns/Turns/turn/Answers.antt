@@ -8,7 +8,9 @@ use Rattle.interleaver.proofs.RecordFrame.{begins-beside, none-beside, puts-besi
 use Rattle.run_books.proofs.BooksOthers.{others-keep}
 use Rattle.interleaver.proofs.PickedTurns.{says-lack}
 use Rattle.interleaver.proofs.Rooms.{dropped-way, line-out-says, line-says, room-none, says-from, still-carried, unread-says}
+use Rattle.interleaver.proofs.SureUnits.{dropped-sure}
 use Rattle.interleaver.proofs.turns.Turns.turn.Goals as goal
+use Rattle.turn_rules.specs.TurnLoop.{no_pass}
 use Rattle.interleaver.specs.TurnStages.{turn_stage}
 use Rattle.run_books.specs.Stages.{stage_of}
 
@@ -28,11 +30,14 @@ next_line-requires g c = record {
 pub begin-requires-clause-carried : goal.begin-requires-clause-carried
 begin-requires-clause-carried g c = still-carried (program_tree c.args.checked.now) (run_of c.args.core.now) c.args.settler.now.doubted c.args.self.now.agents.list.items c.drop_unless_doubted.new.agents.list.items c.drop_unless_doubted.ensures.flown c.requires.units.carried
 
+pub begin-requires-clause-sure : goal.begin-requires-clause-sure
+begin-requires-clause-sure g c = dropped-sure (program_tree c.args.checked.now) (run_of c.args.core.now) c.args.settler.now.doubted c.args.self.now.agents.list.items c.drop_unless_doubted.new.agents.list.items c.args.self.now.sure c.args.self.now.moved c.drop_unless_doubted.ensures.flown c.requires.units.sure
+
 pub returns-in_err-line-clause-turns : goal.returns-in_err-line-clause-turns
 returns-in_err-line-clause-turns g c = record {
   says = λ o b way.
       let p = err_from_is_err_and c.from_residual.result c.from_residual.ensures.1 in
-      says-lack g.H.Host.tells o (program_tree c.args.checked.now) (g.L.Lines.lines c.args.lines.now) c.args.width c.args.picks.now b (turn_stage (stage_of g.H.Host.world g.H.Host.faults (run_of c.args.core.now) c.args.settler.now c.args.host.now) c.args.self.now) (record { at = stage_of g.H.Host.world g.H.Host.faults (run_of c.args.core.now) c.args.settler.now c.args.host.now; agents = c.drop_unless_doubted.new.agents.list.items; begun = c.args.self.now.begun; used = c.args.self.now.used }) c.from_residual.result Memory (p.1 ∙ ap Err p.2)
+      says-lack g.H.Host.tells o (program_tree c.args.checked.now) (g.L.Lines.lines c.args.lines.now) c.args.width c.args.picks.now b (turn_stage (stage_of g.H.Host.world g.H.Host.faults (run_of c.args.core.now) c.args.settler.now c.args.host.now) c.args.self.now) (record { at = stage_of g.H.Host.world g.H.Host.faults (run_of c.args.core.now) c.args.settler.now c.args.host.now; agents = c.drop_unless_doubted.new.agents.list.items; begun = c.args.self.now.begun; used = c.args.self.now.used; pass = no_pass }) c.from_residual.result Memory (p.1 ∙ ap Err p.2)
       (unread-says g.H.Host.tells o (program_tree c.args.checked.now) (g.L.Lines.lines c.args.lines.now) c.args.width c.args.picks.now b (turn_stage (stage_of g.H.Host.world g.H.Host.faults (run_of c.args.core.now) c.args.settler.now c.args.host.now) c.args.self.now) c.drop_unless_doubted.new.agents.list.items c.drop_unless_doubted.ensures.flown c.requires.units.carried way others-keep);
   beside = none-beside g.H.Host.tells (run_of c.args.core.now) (run_of c.args.core.now) c.args.settler.now (g.H.Host.faults c.args.host.now) (g.H.Host.world c.args.host.now) c.from_residual.result refl;
 }
@@ -42,14 +47,14 @@ returns-in_err-begin-in-Some-clause-turns g c = record {
   says = λ o b way.
       let p = err_from_is_err_and c.from_residual-in_err-begin-in-Some.result c.from_residual-in_err-begin-in-Some.ensures.1 in
       says-lack g.H.Host.tells o (program_tree c.args.checked.now) (g.L.Lines.lines c.args.lines.now) c.args.width c.args.picks.now b (turn_stage (stage_of g.H.Host.world g.H.Host.faults (run_of c.args.core.now) c.args.settler.now c.args.host.now) c.args.self.now) (turn_stage (stage_of g.H.Host.world g.H.Host.faults (run_of c.begin.new.core) c.args.settler.now c.args.host.now) c.begin.new.self) c.from_residual-in_err-begin-in-Some.result Memory (p.1 ∙ ap Err (p.2 ∙ c.in_err-begin-in-Some.ensures.memory))
-      (line-out-says g.H.Host.tells o (program_tree c.args.checked.now) (g.L.Lines.lines c.args.lines.now) c.args.width c.args.picks.now b (turn_stage (stage_of g.H.Host.world g.H.Host.faults (run_of c.args.core.now) c.args.settler.now c.args.host.now) c.args.self.now) c.drop_unless_doubted.new.agents.list.items c.drop_unless_doubted.ensures.flown c.requires.units.carried way others-keep c.in-Some.line (sym c.in-Some.is ∙ c.in_ok-line.ensures.next) (run_of c.begin.new.core) c.in_err-begin-in-Some.ensures.put);
+      (line-out-says g.H.Host.tells o (program_tree c.args.checked.now) (g.L.Lines.lines c.args.lines.now) c.args.width c.args.picks.now b (turn_stage (stage_of g.H.Host.world g.H.Host.faults (run_of c.args.core.now) c.args.settler.now c.args.host.now) c.args.self.now) c.drop_unless_doubted.new.agents.list.items c.drop_unless_doubted.ensures.flown c.requires.units.carried way others-keep refl c.in-Some.line (sym c.in-Some.is ∙ c.in_ok-line.ensures.next) (run_of c.begin.new.core) c.in_err-begin-in-Some.ensures.put);
   beside = puts-beside g.H.Host.tells (run_of c.args.core.now) (run_of c.begin.new.core) c.args.settler.now (g.H.Host.faults c.args.host.now) (g.H.Host.world c.args.host.now) c.from_residual-in_err-begin-in-Some.result (program_tree c.args.checked.now) c.in-Some.line c.in_err-begin-in-Some.ensures.put;
 }
 
 pub returns-in_ok-begin-in-Some-clause-turns : goal.returns-in_ok-begin-in-Some-clause-turns
 returns-in_ok-begin-in-Some-clause-turns g c = record {
   says = λ o b way.
-      line-says g.H.Host.tells o (program_tree c.args.checked.now) (g.L.Lines.lines c.args.lines.now) c.args.width c.args.picks.now b (turn_stage (stage_of g.H.Host.world g.H.Host.faults (run_of c.args.core.now) c.args.settler.now c.args.host.now) c.args.self.now) c.drop_unless_doubted.new.agents.list.items c.drop_unless_doubted.ensures.flown c.requires.units.carried way others-keep c.in-Some.line (sym c.in-Some.is ∙ c.in_ok-line.ensures.next) (turn_stage (stage_of g.H.Host.world g.H.Host.faults (run_of c.begin.new.core) c.args.settler.now c.args.host.now) c.begin.new.self) c.in_ok-begin-in-Some.ensures.begins c.begin.ensures.used c.in_ok-begin-in-Some.ensures.begun refl refl refl;
+      line-says g.H.Host.tells o (program_tree c.args.checked.now) (g.L.Lines.lines c.args.lines.now) c.args.width c.args.picks.now b (turn_stage (stage_of g.H.Host.world g.H.Host.faults (run_of c.args.core.now) c.args.settler.now c.args.host.now) c.args.self.now) c.drop_unless_doubted.new.agents.list.items c.drop_unless_doubted.ensures.flown c.requires.units.carried way others-keep refl c.in-Some.line (sym c.in-Some.is ∙ c.in_ok-line.ensures.next) (turn_stage (stage_of g.H.Host.world g.H.Host.faults (run_of c.begin.new.core) c.args.settler.now c.args.host.now) c.begin.new.self) c.in_ok-begin-in-Some.ensures.begins c.begin.ensures.used refl c.in_ok-begin-in-Some.ensures.begun refl refl refl;
   beside = begins-beside g.H.Host.tells (run_of c.args.core.now) (run_of c.begin.new.core) c.args.settler.now (g.H.Host.faults c.args.host.now) (g.H.Host.world c.args.host.now) (Ok true) (program_tree c.args.checked.now) c.in-Some.line c.drop_unless_doubted.new.agents.list.items c.begin.new.self.agents.list.items c.in_ok-begin-in-Some.ensures.begins;
 }
 
@@ -58,6 +63,7 @@ move_one-requires-clause-units g c = record {
   carried = still-carried (program_tree c.args.checked.now) (run_of c.args.core.now) c.args.settler.now.doubted c.args.self.now.agents.list.items c.drop_unless_doubted.new.agents.list.items c.drop_unless_doubted.ensures.flown c.requires.units.carried;
   looked = c.drop_unless_doubted.ensures.looked;
   freed = c.drop_unless_doubted.ensures.freed;
+  sure = dropped-sure (program_tree c.args.checked.now) (run_of c.args.core.now) c.args.settler.now.doubted c.args.self.now.agents.list.items c.drop_unless_doubted.new.agents.list.items c.args.self.now.sure c.args.self.now.moved c.drop_unless_doubted.ensures.flown c.requires.units.sure;
 }
 
 pub returns-in-None-clause-turns : goal.returns-in-None-clause-turns
