@@ -9,7 +9,7 @@ use std::alloc::{AllocError, Global};
 use system_calls::{Refused, SystemCalls};
 
 // How many bytes the window of the manager and program files has, which are read from front to back.
-const LONG: usize = 65_536;
+const LONG: usize = 131_072;
 
 // How many bytes each of the others has, and how many of these there are.
 const SHORT: usize = 4_096;
@@ -146,7 +146,7 @@ pub struct Measured {
     length: u64,
 }
 
-/// A window of 65,536 bytes for the manager and program files, 64 of 4,096 for the grains' files, and the length that was asked last.
+/// A window of 131,072 bytes for the manager and program files, 64 of 4,096 for the grains' files, and the length that was asked last.
 /// What they say is so until a file is written or synced, and nothing is believed from then on until the next read.
 #[derive(Drop)]
 pub struct Windows {
