@@ -15,6 +15,9 @@ from core_rules import ABORTED, READ, UPDATE, UNIT_LIMIT, Effect, NoNumber, Plai
 TOP = os.path.dirname(os.path.dirname(os.path.abspath(__file__)))
 FOLDER = os.path.join(TOP, "crates", "core_tests")
 LISTS, EVENTS = 40, 100
+# So many lists more are over memory for one or two grains, and each worked list whose title begins so is over memory for two.
+LIMITED = 20
+IN_MEMORY = "memory for two grains"
 # The grains that lists speak of, the last one without a type.
 GRAINS = [(0, 0), (0, 1), (0, 2), (1, 1), (2, 0)]
 
@@ -88,6 +91,8 @@ def work_text(plain):
         return f"votes in {rest[0]} at {grain_text(rest[1])}{versions}"
     if name == "learns":
         return f"learns {rest[0]} at {grain_text(rest[1])}"
+    if name == "loads":
+        return f"loads {grain_text(*rest)}"
     if name == "writes":
         return f"writes {entry_text(rest[0])}"
     return " ".join([name, *map(str, rest)])
@@ -101,7 +106,7 @@ def ask_text(answer):
     return ASKS[answer[0]].format(*answer[1:])
 
 
-ASKS = {"not active": "n", "doomed": "doomed{}", "held": "h", "dies": "die{}", "waits": "wait{}", "free": "f"}
+ASKS = {"not active": "n", "doomed": "doomed{}", "held": "h", "dies": "die{}", "waits": "wait{}", "free": "f", "absent": "absent"}
 
 
 def unit_text(plain, number, whole):
@@ -124,7 +129,7 @@ def survey(plain, below, whole):
         str(plain.lines + 1),
         entry_text(entry) if entry else "-",
         flag_text(plain.is_stopped()),
-        "-",
+        grain_text(plain.next_wanted()) if plain.next_wanted() else "-",
         work_text(plain),
     ]
     states = [plain.last_state(grain) for grain in GRAINS]
@@ -159,10 +164,11 @@ class Script:
         self.write("title", text)
         self.replies.append(text)
 
-    def open(self, base):
-        self.write("open", base)
+    def open(self, base, limit=None):
+        """A new core; so many of the grains used last stay in memory, or every grain does."""
+        self.write("open", base, limit or 0)
         self.replies.append("opened")
-        return Plain(base)
+        return Plain(base, limit)
 
     def origin_and_call(self, origin, call):
         grain, method = call
@@ -297,6 +303,8 @@ def worked_event(plain, words):
         return ("end_snapshot", int(rest[0]), 3, int(rest[1]))
     if name in ("release", "learn", "want"):
         return (name, int(rest[0]), account(rest[1]))
+    if name == "load":
+        return ("load", int(rest[0]), account(rest[1]), (int(rest[2]),))
     if name in ("yes", "no"):
         return ("vote", int(rest[0]), account(rest[1]), name == "yes")
     return (name, *map(int, rest))
@@ -314,14 +322,15 @@ def worked_row(script, plain, words, reply):
 
 
 def worked_lists(script):
-    """A line that begins at the margin begins a list; the others have an event and the reply to it, with '->' between."""
+    """A line that begins at the margin begins a list, over memory for two grains where it says so; the others have an event and the
+    reply to it, with '->' between."""
     with open(os.path.join(TOP, "checks", "core_worked.txt"), encoding="utf-8") as file:
         rows = [row.rstrip() for row in file if row.strip() and not row.startswith("#")]
     plain = None
     for row in rows:
         if not row.startswith(" "):
             script.title(row)
-            plain = script.open(1)
+            plain = script.open(1, 2 if row.startswith(IN_MEMORY) else None)
             continue
         words, reply = row.split("->")
         worked_row(script, plain, words.split(), reply.strip())
@@ -424,8 +433,11 @@ def guided_grant(plain, draws):
         unit = draws.running(plain, is_plain, False)
         grain = draws.grain()
         mode = draws.mode()
-        if plain.ask(unit, grain, mode) == ("free",):
+        answer = plain.ask(unit, grain, mode)
+        if answer == ("free",):
             return ("grant", unit, grain, mode)
+        if answer == ("absent",) and (unit, grain) not in plain.wanted:
+            return ("want", unit, grain)
     if unit == 0 or draws.draw(3) == 0:
         return line(plain, grain, False)
     return ("grant", unit, grain, mode)
@@ -468,6 +480,12 @@ def guided_release(plain, draws):
     return ("release", lock[1], lock[0]) if lock else guided_grant(plain, draws)
 
 
+def true_load(plain, grain):
+    """The grain comes into memory with its last committed version."""
+    unit, state = plain.last_version(grain)
+    return ("load", unit, grain, state)
+
+
 def settler_event(plain, draws):
     """What the settler does next; now and then a decision is learnt out of turn."""
     if draws.draw(15) == 0:
@@ -484,6 +502,8 @@ def settler_event(plain, draws):
         return ("learn", *rest)
     if name == "writes":
         return ("emitted",)
+    if name == "loads":
+        return true_load(plain, rest[0])
     return ("take",) if name == "takes" else guided_finish(plain, draws)
 
 
@@ -498,7 +518,7 @@ def strange_unit_event(plain, draws):
             ("release", unit, grain),
             ("learn", unit, grain),
             ("want", unit, grain),
-            ("load", unit, grain, (7,)),
+            ("load", unit, grain, (7,)) if plain.limit is None else true_load(plain, grain),
         ][at]
     return ("finish", unit, effect_of(plain, draws.unit(plain), [], 3))
 
@@ -565,10 +585,10 @@ def next_event(plain, draws, past):
 SAYING_NO = ("no", "not", "held", "dies", "waits", "doomed")
 
 
-def random_list(script, seed, base, count):
+def random_list(script, seed, base, count, limit=None):
     """A random list: how many of its events applied, and how many of its units stand in closed batches."""
     script.title(f"random list {seed}")
-    plain, draws, past, applied = script.open(base), Draws(seed), [], 0
+    plain, draws, past, applied = script.open(base, limit), Draws(seed), [], 0
     for at in range(count):
         event = next_event(plain, draws, past)
         past.append(event)
@@ -595,6 +615,12 @@ def all_lists():
         applied, closed = applied + more[0], closed + more[1]
     if applied < 2200 or closed < 120:
         raise SystemExit(f"core_lists: {applied} events apply, {closed} units closed: that shows too little")
+    applied, closed = 0, 0
+    for seed in range(LISTS, LISTS + LIMITED):
+        more = random_list(script, seed, first_unit(seed), EVENTS, 1 + seed % 2)
+        applied, closed = applied + more[0], closed + more[1]
+    if applied < 1500 or closed < 100:
+        raise SystemExit(f"core_lists: with a limit {applied} events apply, {closed} units closed: that shows too little")
     return script
 
 

@@ -72,14 +72,20 @@ class NoNumber(Exception):
 
 
 class Plain:
-    """A run, from its first unit's number on. `step` carries an event and answers the reply."""
+    """A run, from its first unit's number on. `step` carries an event and answers the reply. Where memory has a limit, so many of
+    the grains used last stay in it, and those that are in use; without one every grain does."""
 
-    def __init__(self, base):
+    def __init__(self, base, limit=None):
         self.base = base
+        self.limit = limit
+        self.here = set()  # The grains in memory, where that has a limit.
+        self.recent = []  # Those used last, the last one first.
+        self.loaded = {}  # The unit and the state with which a grain was loaded.
+        self.settled_bottoms = set()  # The grains whose lowest version is a committed unit's, of this run.
         self.lines = 0
         self.units = []
         self.locks = []  # [grain, unit, mode]
-        self.versions = []  # (grain, unit, state), oldest first, without the opening states
+        self.versions = []  # (grain, unit, state), oldest first, without the opening states and the loaded ones
         self.gone = []  # (grain, unit): versions that were taken off
         self.order = []  # The finish order.
         self.closed = 0  # How many of it stand in closed batches.
@@ -144,7 +150,7 @@ class Plain:
     def top(self, grain):
         """The unit and the state on top of the grain."""
         placed = [(unit, state) for at, unit, state in self.versions if at == grain]
-        return placed[-1] if placed else (0, first_state(grain))
+        return placed[-1] if placed else self.loaded.get(grain, (0, first_state(grain)))
 
     def doomed_by(self, number):
         """The oldest source that the unit read and that was taken off since."""
@@ -163,8 +169,42 @@ class Plain:
             return ("held",)
         rivals = [unit for at, unit, held in self.locks if at == grain and unit != number and UPDATE in (held, mode)]
         if not rivals:
-            return ("free",)
+            return ("free",) if self.is_here(grain) else ("absent",)
         return ("dies" if min(rivals) < number else "waits", min(rivals))
+
+    # Memory.
+
+    def is_here(self, grain):
+        return self.limit is None or grain in self.here
+
+    def use(self, grain):
+        """The grain is the one used last."""
+        if self.limit is not None:
+            self.recent = [grain, *(other for other in self.recent if other != grain)][:self.limit]
+
+    def is_idle(self, grain):
+        """Nobody has a lock of the grain or waits for it, and one version of it is known."""
+        locked = any(at == grain for at, _, _ in self.locks)
+        waited = any(at == grain for _, at in self.wanted)
+        above = [unit for at, unit, _ in self.versions if at == grain]
+        single = not above or (len(above) == 1 and grain in self.settled_bottoms)
+        return not locked and not waited and single
+
+    def sweep(self):
+        """Idle grains that weren't used lately leave memory."""
+        self.here = {grain for grain in self.here if grain in self.recent or not self.is_idle(grain)}
+
+    def last_version(self, grain):
+        """The last committed writer of the grain and its state, or nobody with the state at the opening."""
+        writers = [number for number in self.order if self.fate(number) == "committed" and self.written(number, grain) is not None]
+        return (writers[-1], self.written(writers[-1], grain)) if writers else (0, first_state(grain))
+
+    def next_wanted(self):
+        """The lowest grain that somebody waits for and that isn't in memory."""
+        return min((grain for _, grain in self.wanted if not self.is_here(grain)), default=None)
+
+    def drop_waits(self, number):
+        self.wanted = [want for want in self.wanted if want[0] != number]
 
     def take_off(self, grain, unit):
         """Takes the unit's version of the grain off, and those above it."""
@@ -180,6 +220,8 @@ class Plain:
     def drop_under(self, grain, unit):
         """Drops what stands under the unit's version of the grain."""
         kept, under = [], any(version[:2] == (grain, unit) for version in self.versions)
+        if under:
+            self.settled_bottoms.add(grain)
         for version in self.versions:
             under = under and version[:2] != (grain, unit)
             if version[0] != grain or not under:
@@ -205,7 +247,9 @@ class Plain:
 
     def step(self, event):
         """Carries an event: its reply, as a text."""
-        return getattr(self, "on_" + event[0])(*event[1:])
+        reply = getattr(self, "on_" + event[0])(*event[1:])
+        self.sweep()
+        return reply
 
     def on_bad(self, line, why):
         if self.is_stopped() or line != self.lines + 1:
@@ -244,6 +288,7 @@ class Plain:
         source, state = self.top(grain)
         if self.mode_of(number, grain) is None:
             self.wanted = [want for want in self.wanted if want != (number, grain)]
+            self.use(grain)
             self.unit(number).reads.append((grain, state, source))
             if source != 0 and self.fate(source) != "committed":
                 self.unit(number).depends.append(source)
@@ -264,6 +309,7 @@ class Plain:
         self.settle(number, what)
         self.unit(number).life = "refused"
         self.unit(number).fate = "aborted"
+        self.drop_waits(number)
         return "done"
 
     def may_end(self, number, plain, effect):
@@ -285,11 +331,13 @@ class Plain:
             return "no"
         self.order.append(number)
         one.life, one.result, one.effect = "finished", effect.result, effect
+        self.drop_waits(number)
         return "done"
 
     def end(self, number, outcome):
         self.settle(number, ("done", outcome))
         self.unit(number).life = "ended"
+        self.drop_waits(number)
         self.unit(number).result = outcome
         return "done"
 
@@ -326,8 +374,15 @@ class Plain:
         self.wanted.append((number, grain))
         return "done"
 
-    def on_load(self, _unit, _grain, _state):
-        return "no"  # Every grain is in memory.
+    def on_load(self, unit, grain, state):
+        if self.is_stopped() or self.is_here(grain) or all(at != grain for _, at in self.wanted):
+            return "no"
+        self.versions = [version for version in self.versions if version[0] != grain]
+        self.settled_bottoms.discard(grain)
+        self.loaded[grain] = (unit, state)
+        self.here.add(grain)
+        self.use(grain)
+        return "done"
 
     # The events of the settler.
 
@@ -487,6 +542,8 @@ class Plain:
             return ("learns", *self.next_learn())
         if self.next_entry():
             return ("writes", self.next_entry())
+        if not self.is_stopped() and self.next_wanted() is not None:
+            return ("loads", self.next_wanted())
         return ("takes",) if self.can_take() else ("rests",)
 
 
@@ -501,4 +558,5 @@ REFUSALS = {
     "held": "held",
     "dies": "dies by {}",
     "waits": "waits for {}",
+    "absent": "not loaded",
 }

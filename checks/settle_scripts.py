@@ -11,6 +11,7 @@ import sys
 FOLDER = os.path.join(os.path.dirname(os.path.dirname(os.path.abspath(__file__))), "crates", "settle_tests")
 MANAGER = -1
 RESTS, WRITE_FAULT, IN_DOUBT = "rests", "stops by a write fault", "stops in doubt"
+READ_FAULT, DAMAGED = "stops by a read fault", "stops by a damaged file"
 VERSION = 19  # The bytes of a version whose state is one number.
 
 
@@ -169,6 +170,85 @@ def crashes():
     return rows + [row for after in range(10) for row in crashed(after)]
 
 
+# A core that keeps one account in memory which isn't in use. A version is read by one call.
+
+READ = 1
+
+
+def opened_small():
+    return [("open 0 0 1", "opened")]
+
+
+def wants(line, account, number):
+    """The line's unit wants the account, to which it will add the number."""
+    return carried(f"want {line} {account} {number}")
+
+
+def loads(end, count):
+    return [("load", f"{end}, calls {count}")]
+
+
+def goes_on(unit):
+    """The unit adds to what this unit wrote, nobody's where that is 0, and all is settled."""
+    return [("go_on", f"carried, from unit {unit}")] + settles(RESTS)
+
+
+def used(line, account, number, count, unit):
+    """The account is wanted, brought into memory by so many calls, and added to."""
+    return wants(line, account, number) + loads("stepped", count) + goes_on(unit)
+
+
+def not_in_memory():
+    """An account that isn't in memory is granted to nobody, and one that nobody wants isn't brought into it."""
+    return opened_small() + [("add 1 1 5", "not carried")] + loads(RESTS, 0)
+
+
+def without_a_version():
+    """It has its type's fields, which are nobody's, by no call of the host; and what is in memory isn't brought into it again."""
+    rows = opened_small() + wants(1, 1, 5) + loads("stepped", 0) + loads(RESTS, 0) + goes_on(0)
+    return rows + wants(2, 1, 4) + loads(RESTS, 0) + goes_on(1) + output(reply(1, 5), reply(2, 9))
+
+
+def two_used():
+    """Account 1 leaves memory for account 2."""
+    return opened_small() + used(1, 1, 5, 0, 0) + used(2, 2, 7, 0, 0)
+
+
+def with_a_version():
+    return two_used() + used(3, 1, 4, READ, 1) + output(reply(1, 5), reply(2, 7), reply(3, 9))
+
+
+def of_an_earlier_run():
+    """The file names unit 1, which isn't this run's."""
+    rows = opened_small() + used(1, 1, 5, 0, 0) + [("reopen 1 5", "opened")]
+    return rows + used(1, 1, 0, READ, 0) + output(reply(1, 5))
+
+
+def by_a_step():
+    """The settler's step does it too, before a batch is taken."""
+    rows = two_used() + wants(3, 1, 4) + [("applies", "yes")] + steps(READ) + goes_on(1)
+    return rows + output(reply(1, 5), reply(2, 7), reply(3, 9))
+
+
+def of_a_batch_that_failed():
+    """Its version was written, and its place isn't the last one's: what is read is the version before."""
+    rows = opened_small() + used(1, 1, 5, 0, 0) + planned(f"fail_sync {MANAGER} 1") + carried("add 2 1 4") + settles(RESTS)
+    rows += [("bytes 1", f"bytes {2 * VERSION}")] + used(3, 2, 7, 0, 0) + used(4, 1, 1, READ, 1)
+    return rows + output(reply(1, 5), disk(2), reply(3, 7), reply(4, 6))
+
+
+def failed_read(fault, count):
+    """No event is put, so the settler can do it again."""
+    rows = two_used() + wants(3, 1, 4) + planned(fault) + loads(READ_FAULT, count) + loads("stepped", READ)
+    return rows + goes_on(1) + output(reply(1, 5), reply(2, 7), reply(3, 9))
+
+
+def damaged_file():
+    """The recorder doesn't tell what its files hold, so that they may be damaged."""
+    rows = two_used() + wants(3, 1, 4) + [("damage 1", "damaged")] + loads(DAMAGED, 1)
+    return rows + [("step", f"{DAMAGED}, calls 1"), ("go_on", "not carried")]
+
+
 # Worked inputs: a first line deposits 5 on account 1.
 
 def two_lines(fault, second, end):
@@ -231,6 +311,14 @@ def scripts():
     for after in range(9):
         yield f"a stop after {after} calls leaves the whole batch or none", stopped(after)
     yield "a crash within each call leaves the whole batch or none", crashes()
+    yield "an account that isn't in memory is not granted", not_in_memory()
+    yield "an account without a version begins with its type's fields", without_a_version()
+    yield "an account that left memory is read at its place", with_a_version()
+    yield "a version of an earlier run is nobody's", of_an_earlier_run()
+    yield "a step brings in what is wanted", by_a_step()
+    yield "a version of a batch that failed is not read", of_a_batch_that_failed()
+    yield "a read that fails stops the settler", failed_read("fail_read 1 1", READ)
+    yield "a damaged file stops the settler", damaged_file()
     yield "a deposit and a read of it are one batch", one_batch()
     yield "a failed vote aborts what depends on it", failed_vote_and_dependent()
     yield "a failed vote leaves the others of its batch", failed_vote_and_another()
