@@ -16,6 +16,7 @@ pub mod AskedUnits
 pub mod PassTurns
 pub mod PassAnswers
 pub mod SureTurns
+pub mod SkippedUnits
 pub mod Rooms
 pub mod RunStart
 pub mod TurnSequence

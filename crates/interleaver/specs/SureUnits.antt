@@ -11,6 +11,8 @@ use Rattle.script_tree.specs.Programs.{ProgramTree}
 use Rattle.script_meaning.specs.Play.{Want}
 use Rattle.promise_spec.specs.TurnRule.{lock_asked}
 use Rattle.promise_spec.specs.UnitAnswers.{got_in, wanted_by}
+use Rattle.txn_agent.specs.declared.agent.Agent.{Agent}
+use Rattle.unit_carrier.specs.CarriedUnits.{unit_at}
 
 -- The grain was in memory once: where this run had come to.
 pub record WasHere (r : Run) (g : GrainId) : Type 0 where
@@ -30,6 +32,11 @@ pub record NeedsNone (types : ProgramTree) (r : Run) (u : UnitNo) : Type 0 where
 pub record AreSure (types : ProgramTree) (r : Run) (units : List UnitNo) (sure : ℕ) (moved : Option UnitNo) : Type 0 where
   pub below : sure ≤ (ends r).units.next
   pub need : IsGoing (ends r) → (u : UnitNo) → Member u units → u.0 < sure → (moved ≡ Some u → ⊥) → NeedsNone types r u
+
+-- the units from one index up to another are below the number, and none of them is the one that moved
+abbrev pub AreSureFrom : ℕ → Option UnitNo → List Agent → ℕ → ℕ → Type 0
+AreSureFrom sure moved agents from end =
+    (i : ℕ) → from ≤ i → i < end → ((unit_at agents i).0 < sure) × (moved ≡ Some (unit_at agents i) → ⊥)
 
 -- nothing came, and where there is no doubt and no stop the unit lacks none
 abbrev pub LacksNone : ProgramTree → Run → Run → UnitNo → Type 0

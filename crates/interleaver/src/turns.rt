@@ -1,5 +1,6 @@
 ghost use Rattle.std.specs.Prelude.{◌≡◌, ◌&&◌, not, is_some, ◌+◌, ◌-◌, ◌<◌, ◌≤◌, ◌^◌, ◌⊎◌, ℕ, List as AList, Some, true, false, IfOk, IfErr, OnErr, length};
 ghost use Rattle.host_trait.specs.Files.{StaysReady};
+ghost use Rattle.cell_model.specs.Units.{UnitsAscend};
 ghost use Rattle.core_model.specs.CoreState.{UnitNo as AUnit, Member};
 ghost use Rattle.core_model.specs.LegalRuns.{Run, ends};
 ghost use Rattle.core_model.specs.Settler.{has_step, settler_step};
@@ -19,7 +20,7 @@ ghost use Rattle.run_books.specs.declared.faults.RunFault.TheVariants.{Memory};
 ghost use Rattle.run_books.specs.RecordFrame.{TurnsBeside};
 ghost use Rattle.interleaver.specs.Flights.{lines_carried, next_line_by};
 ghost use Rattle.interleaver.specs.LastLook.{IsLooked, looked_after};
-ghost use Rattle.interleaver.specs.SureUnits.{AreSure, LackNone, LacksNone, SureBySpace};
+ghost use Rattle.interleaver.specs.SureUnits.{AreSure, AreSureFrom, LackNone, LacksNone, SureBySpace};
 ghost use Rattle.interleaver.specs.Turns.{TurnsCarry, WhereTurnsBegin};
 ghost use Rattle.interleaver.specs.TurnStages.{turn_stage, AsksOne, BeganOn, HoldsUnits, LeavesTurns, LoadsBy, LoadsOne, MoveGoesOn, MovedOn, PassGoesOn, PickedGoesOn, SettlesBy, SettlesOne, StepLoads, StepSettles, TurnGoesOn};
 ghost use Rattle.run_books.specs.Stages.{stage_of, IsSafe};
@@ -51,6 +52,8 @@ pub(crate) struct Turns {
     pub(crate) sure: u64,
     /// The unit that moved since, which may lack one.
     pub(crate) moved: Option<UnitNo>,
+    /// Where that one stood when it moved. It stands there still, unless units before it were dropped since.
+    pub(crate) moved_at: usize,
     pub(crate) begun: usize,
     pub(crate) used: usize,
 }
@@ -197,6 +200,22 @@ fn sure_with(sure: u64, core: &Core) -> u64
     0
 }
 
+/// The first index where it is one from the second one on and before the third one; else the third one.
+fn place_between(index: usize, from: usize, end: usize) -> usize
+    requires { from ≤ end }
+    ensures behind { from ≤ result }
+    ensures within { result ≤ end }
+    ensures place { (result ≡ index) ⊎ ((result ≡ end) × ((index < from) ⊎ (end ≤ index))) }
+{
+    if index < from {
+        return end;
+    }
+    if index >= end {
+        return end;
+    }
+    index
+}
+
 impl Turns {
     /// How many lines are in flight.
     fn in_flight(&self) -> usize
@@ -292,6 +311,7 @@ impl Turns {
         self.looked = looked_after(self.looked, went);
         self.sure = sure_after(self.sure, self.moved);
         self.moved = Some(unit);
+        self.moved_at = index;
         Ok(())
     }
 
@@ -303,6 +323,84 @@ impl Turns {
             None => unit.0 < self.sure,
             Some(moved) => moved.0 != unit.0 && unit.0 < self.sure,
         }
+    }
+
+    /// Whether this unit stands at the index.
+    fn stands_at(&self, index: usize, unit: UnitNo) -> bool
+        ensures stands { result ≡ true → (index < length self.now.agents.list.items) × (unit_at self.now.agents.list.items index ≡ unit) }
+        ensures other { result ≡ false → index < length self.now.agents.list.items → unit_at self.now.agents.list.items index ≡ unit → ⊥ }
+    {
+        match self.agents.list.get(index) {
+            None => false,
+            Some(agent) => agent.unit().0 == unit.0,
+        }
+    }
+
+    /// Whether the unit at this index has a number up to which units are sure.
+    fn is_below(&self, index: usize) -> bool
+        requires within { index < length self.now.agents.list.items }
+        ensures { result ≡ true → (unit_at self.now.agents.list.items index).0 < self.now.sure }
+    {
+        self.agents.list[index].unit().0 < self.sure
+    }
+
+    /// The index behind the last unit, from this one on, whose number is one up to which units are sure; or this one. It looks at the
+    /// units from the last one down to that.
+    fn sure_end(&self, from: usize) -> usize
+        requires within { from ≤ length self.now.agents.list.items }
+        ensures behind { from ≤ result }
+        ensures within { result ≤ length self.now.agents.list.items }
+        ensures last { from < result → (unit_at self.now.agents.list.items (result - 1)).0 < self.now.sure }
+    {
+        let mut end = self.agents.list.len();
+        while end > from {
+            if self.is_below(end - 1) {
+                return end;
+            }
+            end -= 1;
+        }
+        end
+    }
+
+    /// Where the unit that moved stands among those from the first index on and before the second one; which is answered where it isn't
+    /// among them. It looks for it only where units were dropped since.
+    fn moved_between(&self, from: usize, end: usize) -> usize
+        requires within { end ≤ length self.now.agents.list.items }
+        requires order { from ≤ end }
+        requires older { UnitsAscend (units_carried self.now.agents.list.items) }
+        ensures behind { from ≤ result }
+        ensures within { result ≤ end }
+        ensures others { (i : ℕ) → from ≤ i → i < result → self.now.moved ≡ Some (unit_at self.now.agents.list.items i) → ⊥ }
+    {
+        let Some(moved) = self.moved else {
+            return end;
+        };
+        if self.stands_at(self.moved_at, moved) {
+            return place_between(self.moved_at, from, end);
+        }
+        for index in from..end {
+            if self.stands_at(index, moved) {
+                return index;
+            }
+        }
+        end
+    }
+
+    /// The first index from this one on of a unit that may lack a grain; or how many units are carried, where there is none.
+    fn next_to_ask(&self, from: usize) -> usize
+        requires older { UnitsAscend (units_carried self.now.agents.list.items) }
+        ensures behind { from ≤ result }
+        ensures within { from < result → result ≤ length self.now.agents.list.items }
+        ensures sure { AreSureFrom self.now.sure self.now.moved self.now.agents.list.items from result }
+    {
+        if from >= self.agents.list.len() {
+            return from;
+        }
+        if !self.is_sure(self.agents.list[from].unit()) {
+            return from;
+        }
+        let end = self.sure_end(from);
+        self.moved_between(from, end)
     }
 
     /// One above the number of the last unit that is carried, 0 where none is.
@@ -387,8 +485,8 @@ impl Turns {
         Ok(false)
     }
 
-    /// The units that are carried are asked, in number order, but for those that lack no grain for sure. Answers whether all of them lack
-    /// none behind that.
+    /// The units that are carried are asked, in number order, but for those that lack no grain for sure, which aren't looked at. Answers
+    /// whether all of them lack none behind that.
     fn ask_all<H: Host>(
         &mut self,
         checked: &Checked,
@@ -414,9 +512,11 @@ impl Turns {
         ensures ready { StaysReady (H.is_ready host.old) (H.is_ready host.new) }
     {
         let mut sure = true;
-        for index in self.front..self.agents.list.len() {
+        let mut index = self.next_to_ask(self.front);
+        while index < self.agents.list.len() {
             let lacks_none = self.ask_unless_sure(checked, core, settler, host, index)?;
             sure = sure & lacks_none;
+            index = self.next_to_ask(index + 1);
         }
         Ok(sure)
     }
@@ -635,6 +735,7 @@ pub fn run_turns<H: Host, G: Gate, L: Lines>(
         looked: None,
         sure: 0,
         moved: None,
+        moved_at: 0,
         begun: 0,
         used: *used,
     };

@@ -1,4 +1,4 @@
-use Rattle.std.proofs.Common.{◌≡◌, ◌∙◌, refl, sym, ap, subst, arith, true}
+use Rattle.std.proofs.Common.{◌≡◌, ◌+◌, ◌∙◌, refl, sym, ap, subst, arith, true}
 use Rattle.std.specs.Prelude.{Bool, Result, Ok, Err, length}
 use Rattle.std.proofs.lemmas.Bool.{and_parts}
 use Rattle.std.proofs.lemmas.Result.{err_from_is_err_and}
@@ -9,17 +9,18 @@ use Rattle.run_books.specs.RecordFrame.{TurnsBeside}
 use Rattle.run_books.specs.Stages.{stage_of}
 use Rattle.run_books.proofs.SettlerFrame.{beside-well, one-after-another}
 use Rattle.interleaver.specs.TurnStages.{AsksOne, PassSays, passing_stage, turn_stage}
-use Rattle.interleaver.proofs.PassAnswers.{many-same, pass-begins, pass-ends}
+use Rattle.interleaver.proofs.PassAnswers.{pass-begins, pass-ends}
 use Rattle.interleaver.proofs.RecordFrame.{none-beside}
 use Rattle.interleaver.proofs.TurnSequence.{ends-then, went-then}
 use Rattle.interleaver.proofs.SureTurns.{lack-all, lack-freed, lack-next}
+use Rattle.interleaver.proofs.SkippedUnits.{lack-skipped, skipped}
 use Rattle.interleaver.proofs.turns.Turns.ask_all.Goals as goal
 
 pub loop-index-init : goal.loop-index-init
 loop-index-init g c = record {
   units = c.requires.units;
   same = refl;
-  past = omega arith;
+  past = c.next_to_ask-index.ensures.behind;
   front = refl;
   begun = refl;
   used = refl;
@@ -28,9 +29,11 @@ loop-index-init g c = record {
   safe = c.requires.safe;
   ready = λ file was. was;
   beside = none-beside g.H.Host.tells (run_of c.args.core.now) (run_of c.args.core.now) c.args.settler.now (g.H.Host.faults c.args.host.now) (g.H.Host.world c.args.host.now) {T = Bool} (Ok true) refl;
-  went = λ o b lines width picks way full. pass-begins g.H.Host.tells o (program_tree c.args.checked.now) lines width picks b (stage_of g.H.Host.world g.H.Host.faults (run_of c.args.core.now) c.args.settler.now c.args.host.now) c.args.self.now c.args.self.now.front c.requires.units.carried c.requires.units.freed way full;
+  went = λ o b lines width picks way full. skipped (program_tree c.args.checked.now) (stage_of g.H.Host.world g.H.Host.faults (run_of c.args.core.now) c.args.settler.now c.args.host.now) c.args.self.now c.requires.units.sure c.requires.space c.args.self.now.front c.next_to_ask-index.result c.next_to_ask-index.ensures.behind c.next_to_ask-index.ensures.within c.next_to_ask-index.ensures.sure g.H.Host.tells o lines width picks b (turn_stage (stage_of g.H.Host.world g.H.Host.faults (run_of c.args.core.now) c.args.settler.now c.args.host.now) c.args.self.now) c.requires.calm
+      (pass-begins g.H.Host.tells o (program_tree c.args.checked.now) lines width picks b (stage_of g.H.Host.world g.H.Host.faults (run_of c.args.core.now) c.args.settler.now c.args.host.now) c.args.self.now c.args.self.now.front c.requires.units.carried c.requires.units.freed way full);
   space = c.requires.space;
-  lack = λ is. lack-freed (program_tree c.args.checked.now) (run_of c.args.core.now) c.args.self.now.agents.list.items c.args.self.now.front c.requires.units.carried c.requires.units.freed;
+  lack = λ is. lack-skipped (program_tree c.args.checked.now) (stage_of g.H.Host.world g.H.Host.faults (run_of c.args.core.now) c.args.settler.now c.args.host.now) c.args.self.now c.requires.units.sure c.requires.space c.args.self.now.front c.next_to_ask-index.result c.next_to_ask-index.ensures.behind c.next_to_ask-index.ensures.within c.next_to_ask-index.ensures.sure
+      (lack-freed (program_tree c.args.checked.now) (run_of c.args.core.now) c.args.self.now.agents.list.items c.args.self.now.front c.requires.units.carried c.requires.units.freed);
 }
 
 pub loop-index-preserved : goal.loop-index-preserved
@@ -40,7 +43,7 @@ loop-index-preserved g c =
     record {
       units = c.in_ok-lacks_none.ensures.units;
       same = c.ask_unless_sure.ensures.leaves.same ∙ inv.same;
-      past = (let le = inv.past in let q = c.ask_unless_sure.ensures.leaves.front in omega (arith, le, q));
+      past = (let le = inv.past in let q = c.ask_unless_sure.ensures.leaves.front in let on = c.next_to_ask-index-in-loop-index.ensures.behind in omega (arith, le, q, on));
       front = c.ask_unless_sure.ensures.leaves.front ∙ inv.front;
       begun = c.ask_unless_sure.ensures.leaves.begun ∙ inv.begun;
       used = c.ask_unless_sure.ensures.leaves.used ∙ inv.used;
@@ -55,18 +58,19 @@ loop-index-preserved g c =
       went = λ o b lines width picks way full.
           let w = inv.went o b lines width picks way full in
           let on = asks.says o w.1.books lines width picks w.0 w.1.under_way (c.loop-index.invariant.doubted ∙ c.requires.calm) w.2 in
+          skipped (program_tree c.args.checked.now) (stage_of g.H.Host.world g.H.Host.faults (run_of c.ask_unless_sure.new.core) c.ask_unless_sure.new.settler c.ask_unless_sure.new.host) c.ask_unless_sure.new.self c.in_ok-lacks_none.ensures.units.sure c.in_ok-lacks_none.ensures.space (c.loop-index.index + 1) c.next_to_ask-index-in-loop-index.result c.next_to_ask-index-in-loop-index.ensures.behind c.next_to_ask-index-in-loop-index.ensures.within c.next_to_ask-index-in-loop-index.ensures.sure g.H.Host.tells o lines width picks b (turn_stage (stage_of g.H.Host.world g.H.Host.faults (run_of c.args.core.now) c.args.settler.now c.args.host.now) c.args.self.now) (c.ask_unless_sure.ensures.leaves.doubted ∙ inv.doubted ∙ c.requires.calm)
           (on.0, went-then g.H.Host.tells o (program_tree c.args.checked.now) lines width picks b (turn_stage (stage_of g.H.Host.world g.H.Host.faults (run_of c.args.core.now) c.args.settler.now c.args.host.now) c.args.self.now) (passing_stage (stage_of g.H.Host.world g.H.Host.faults (run_of c.loop-index.core) c.loop-index.settler c.loop-index.host) c.loop-index.self w.0) (passing_stage (stage_of g.H.Host.world g.H.Host.faults (run_of c.ask_unless_sure.new.core) c.ask_unless_sure.new.settler c.ask_unless_sure.new.host) c.ask_unless_sure.new.self on.0) w.1 on.1, on.2);
       space = c.in_ok-lacks_none.ensures.space;
       lack = λ is.
-          lack-next (program_tree c.args.checked.now) (run_of c.loop-index.core) (run_of c.ask_unless_sure.new.core) c.loop-index.self.agents.list.items c.ask_unless_sure.new.self.agents.list.items c.loop-index.index c.ask_unless_sure.ensures.leaves.same
-          (inv.lack (and_parts c.loop-index.sure c.in_ok-lacks_none.lacks_none is).0) (c.in_ok-lacks_none.ensures.lacks (and_parts c.loop-index.sure c.in_ok-lacks_none.lacks_none is).1);
+          lack-skipped (program_tree c.args.checked.now) (stage_of g.H.Host.world g.H.Host.faults (run_of c.ask_unless_sure.new.core) c.ask_unless_sure.new.settler c.ask_unless_sure.new.host) c.ask_unless_sure.new.self c.in_ok-lacks_none.ensures.units.sure c.in_ok-lacks_none.ensures.space (c.loop-index.index + 1) c.next_to_ask-index-in-loop-index.result c.next_to_ask-index-in-loop-index.ensures.behind c.next_to_ask-index-in-loop-index.ensures.within c.next_to_ask-index-in-loop-index.ensures.sure
+          (lack-next (program_tree c.args.checked.now) (run_of c.loop-index.core) (run_of c.ask_unless_sure.new.core) c.loop-index.self.agents.list.items c.ask_unless_sure.new.self.agents.list.items c.loop-index.index c.ask_unless_sure.ensures.leaves.same
+          (inv.lack (and_parts c.loop-index.sure c.in_ok-lacks_none.lacks_none is).0) (c.in_ok-lacks_none.ensures.lacks (and_parts c.loop-index.sure c.in_ok-lacks_none.lacks_none is).1));
     }
 
 pub ask_unless_sure-requires-clause-within : goal.ask_unless_sure-requires-clause-within
 ask_unless_sure-requires-clause-within g c =
-    let many = many-same c.loop-index.self.agents.list.items c.args.self.now.agents.list.items c.loop-index.invariant.same in
-    let end : c.len-index-end.result ≡ length c.args.self.now.agents.list.items = search in
-    let less = c.loop-index-test.true in omega (arith, many, end, less)
+    let end : c.len.result ≡ length c.loop-index.self.agents.list.items = search in
+    let less = c.loop-index-test.true in omega (arith, end, less)
 
 pub returns-in_err-lacks_none-clause-passes : goal.returns-in_err-lacks_none-clause-passes
 returns-in_err-lacks_none-clause-passes g c =
@@ -88,13 +92,12 @@ returns-in_err-lacks_none-clause-passes g c =
 pub returns-clause-passes : goal.returns-clause-passes
 returns-clause-passes g c =
     let inv = c.loop-index.invariant in
-    let many = many-same c.loop-index.self.agents.list.items c.args.self.now.agents.list.items inv.same in
-    let end : c.len-index-end.result ≡ length c.args.self.now.agents.list.items = search in
+    let end : c.len.result ≡ length c.loop-index.self.agents.list.items = search in
     let past = c.loop-index-test.false in
     record {
       says = λ o b lines width picks way full.
           let w = inv.went o b lines width picks way full in
-          let e = pass-ends g.H.Host.tells o (program_tree c.args.checked.now) lines width picks w.1.books (stage_of g.H.Host.world g.H.Host.faults (run_of c.loop-index.core) c.loop-index.settler c.loop-index.host) c.loop-index.self w.0 c.loop-index.index w.1.under_way w.2 (omega (arith, many, end, past)) in
+          let e = pass-ends g.H.Host.tells o (program_tree c.args.checked.now) lines width picks w.1.books (stage_of g.H.Host.world g.H.Host.faults (run_of c.loop-index.core) c.loop-index.settler c.loop-index.host) c.loop-index.self w.0 c.loop-index.index w.1.under_way w.2 (omega (arith, end, past)) in
           (e.0, went-then g.H.Host.tells o (program_tree c.args.checked.now) lines width picks b (turn_stage (stage_of g.H.Host.world g.H.Host.faults (run_of c.args.core.now) c.args.settler.now c.args.host.now) c.args.self.now) (passing_stage (stage_of g.H.Host.world g.H.Host.faults (run_of c.loop-index.core) c.loop-index.settler c.loop-index.host) c.loop-index.self w.0) (passing_stage (stage_of g.H.Host.world g.H.Host.faults (run_of c.loop-index.core) c.loop-index.settler c.loop-index.host) c.loop-index.self e.0) w.1 e.1, e.2);
       beside = beside-well g.H.Host.tells (run_of c.args.core.now) (run_of c.loop-index.core) c.args.settler.now c.loop-index.settler (g.H.Host.faults c.args.host.now) (g.H.Host.faults c.loop-index.host) (g.H.Host.world c.args.host.now) (g.H.Host.world c.loop-index.host)
           {T = Bool} {U = Bool} true (Ok c.loop-index.sure) inv.beside;
@@ -103,7 +106,6 @@ returns-clause-passes g c =
 pub returns-clause-lack : goal.returns-clause-lack
 returns-clause-lack g c = λ is.
     let inv = c.loop-index.invariant in
-    let many = many-same c.loop-index.self.agents.list.items c.args.self.now.agents.list.items inv.same in
-    let end : c.len-index-end.result ≡ length c.args.self.now.agents.list.items = search in
+    let end : c.len.result ≡ length c.loop-index.self.agents.list.items = search in
     let past = c.loop-index-test.false in
-    lack-all (program_tree c.args.checked.now) (run_of c.loop-index.core) c.loop-index.self.agents.list.items c.loop-index.index (omega (arith, many, end, past)) (inv.lack is)
+    lack-all (program_tree c.args.checked.now) (run_of c.loop-index.core) c.loop-index.self.agents.list.items c.loop-index.index (omega (arith, end, past)) (inv.lack is)

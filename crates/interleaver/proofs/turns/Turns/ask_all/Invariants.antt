@@ -1,4 +1,4 @@
-use Rattle.std.proofs.Common.{◌≡◌, ◌≤◌, ℕ, List, Bool, true, false, Ok}
+use Rattle.std.proofs.Common.{◌≡◌, ◌-◌, ◌≤◌, length, ℕ, List, Bool, true, false, Ok}
 use Rattle.std.specs.Prelude.{take}
 use Rattle.host_trait.specs.Files.{StaysReady}
 use Rattle.request_wire.specs.declared.requests.Line.{Line}
@@ -36,3 +36,6 @@ invariant-loop-index g l = record {
   space : SureBySpace l.self.sure (run_of l.core);
   lack : l.sure ≡ true → LackNone (program_tree l.checked) (run_of l.core) (take l.index (units_carried l.self.agents.list.items));
 }
+
+abbrev pub decreases-loop-index : goal.decreases-loop-index
+decreases-loop-index g l = length l.self.agents.list.items - l.index
