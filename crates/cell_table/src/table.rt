@@ -331,9 +331,12 @@ impl CellTable {
         let Some(recent) = &self.recent else {
             return false;
         };
+        if recent.has(grain) {
+            return false;
+        }
         let Some(cell) = self.cells.get(&grain) else {
             return false;
         };
-        !recent.has(grain) && cell.is_idle() && !wanted
+        cell.is_idle() && !wanted
     }
 }

@@ -1,13 +1,12 @@
 -- The pass goes on over units that lack no grain for sure, without a look at them.
-use Rattle.std.proofs.Common.{◌≡◌, ◌⊎◌, inl, inr, ℕ, zero, suc, ◌+◌, ◌-◌, ◌<◌, ◌≤◌, Option, Some, List, [], ◌∷◌, length, Bool, true, false, refl, sym, ap, ◌∙◌, subst, arith}
+use Rattle.std.proofs.Common.{◌≡◌, inl, inr, ℕ, zero, suc, ◌+◌, ◌-◌, ◌<◌, ◌≤◌, Option, Some, List, [], ◌∷◌, length, Bool, true, false, refl, sym, ap, ◌∙◌, subst, arith}
 use Rattle.std.specs.Prelude.{get_or, take}
 use Rattle.std.proofs.lemmas.Bool.{cases_lt}
 use Rattle.std.proofs.lemmas.Option.{slice_get-get_or}
 use Rattle.cell_model.specs.Units.{UnitsAscend}
 use Rattle.cell_memory.specs.SpareMemory.{has_space}
 use Rattle.core_model.specs.CoreState.{UnitNo, nobody}
-use Rattle.core_model.specs.LegalRuns.{Run, ends}
-use Rattle.core_access.specs.OneHolder.{own_sight}
+use Rattle.core_model.specs.LegalRuns.{ends}
 use Rattle.request_wire.specs.declared.requests.Line.{Line}
 use Rattle.script_tree.specs.Programs.{ProgramTree}
 use Rattle.turn_rules.specs.TurnLoop.{Pass}

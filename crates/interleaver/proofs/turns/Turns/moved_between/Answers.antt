@@ -1,4 +1,4 @@
-use Rattle.std.proofs.Common.{◌≡◌, ◌∙◌, inl, inr, sym, ap, subst, arith, ◌<◌, Some, ℕ}
+use Rattle.std.proofs.Common.{◌≡◌, ◌∙◌, inl, inr, sym, subst, arith, ℕ}
 use Rattle.std.proofs.lemmas.Bool.{cases_lt}
 use Rattle.unit_carrier.specs.CarriedUnits.{unit_at}
 use Rattle.interleaver.proofs.SkippedUnits.{not-twice, some-same}

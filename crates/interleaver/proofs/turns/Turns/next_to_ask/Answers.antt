@@ -1,5 +1,4 @@
-use Rattle.std.proofs.Common.{◌≡◌, ◌<◌, arith}
-use Rattle.unit_carrier.specs.CarriedUnits.{unit_at}
+use Rattle.std.proofs.Common.{arith}
 use Rattle.interleaver.proofs.SkippedUnits.{all-below}
 use Rattle.interleaver.proofs.turns.Turns.next_to_ask.Goals as goal
 
