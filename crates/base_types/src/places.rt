@@ -13,11 +13,13 @@ use crate::stores::Place;
 use std::alloc::{AllocError, Global};
 use std::collections::BTreeMap;
 
-/// Where a version stands in its grain's file, and whether a unit of the run that goes on wrote it: else the log that was opened
-/// names it. Contracts see the version too.
+/// Where a version stands in its grain's file, by which program it was written, and whether a unit of the run that goes on wrote it: else
+/// the log that was opened names it. Programs have numbers by the order in which they came into force, from 0, that of the program file.
+/// Contracts see the version too.
 #[derive(Drop)]
 pub struct Placed {
     pub place: Place,
+    pub program: u32,
     pub is_new: bool,
     pub known: KnownVersion,
 }
@@ -29,6 +31,7 @@ impl Placed {
     {
         Placed {
             place: self.place,
+            program: self.program,
             is_new: self.is_new,
             known: self.known.same(),
         }

@@ -1,6 +1,9 @@
-ghost use Rattle.std.specs.Prelude.{◌≡◌, [], true, Some, None, IfOk, OnOk, OnErr};
+ghost use Rattle.std.specs.Prelude.{◌≡◌, [], true, Some, None, is_some, IfOk, OnOk, OnErr};
+ghost use Rattle.std.specs.Ordering.{eq_by_cmp};
+ghost use Rattle.std.specs.Set.{is_member};
+ghost use Rattle.std.specs.List.Sorted.{IsStrictlySortedBy};
 ghost use Rattle.std.specs.Option.{option_copied};
-ghost use Rattle.base_types.specs.Stores.{state_in, end_in, has_room, later_end, PutsState, PutsEnd, RaisesEnd, KeepsRoom};
+ghost use Rattle.base_types.specs.Stores.{grain_cmp, state_in, end_in, has_room, later_end, PutsState, PutsEnd, RaisesEnd, KeepsRoom};
 ghost use Rattle.base_types.specs.declared.calls.GrainId.{GrainId};
 
 use crate::calls::{GrainId, UnitNo};
@@ -62,6 +65,18 @@ impl Store {
         ensures { option_copied result ≡ state_in self.now grain }
     {
         self.states.get(&grain)
+    }
+
+    /// The grains that are there, in ascending order, each once.
+    pub fn grains(&self, alloc: Global) -> Result<Vec<GrainId>, AllocError>
+        ensures listed { IfOk result (λ grains. (grain : GrainId) → is_member (eq_by_cmp grain_cmp) grains.items grain ≡ is_some (state_in self.now grain)) }
+        ensures ordered { IfOk result (λ grains. IsStrictlySortedBy grain_cmp grains.items) }
+    {
+        let mut grains = Vec::with_capacity(alloc, self.states.len())?;
+        for grain in self.states.keys() {
+            grains.push(*grain)?;
+        }
+        Ok(grains)
     }
 
     /// Gives a grain a state. Without memory the store stays as it was.

@@ -33,6 +33,7 @@ fn placed(alloc: Global, offset: u64, is_new: bool) -> Placed {
     };
     Placed {
         place: Place { offset, len: 16 },
+        program: 0,
         is_new,
         known: KnownVersion::of(&version),
     }
