@@ -5,3 +5,5 @@ pub mod Agreement
 pub mod Lengths
 pub mod SpellingsApart
 pub mod Seals
+pub mod ContentsRead
+pub mod BodiesRead

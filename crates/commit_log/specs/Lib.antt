@@ -7,3 +7,5 @@ pub mod Checkpoints
 pub mod EncodableRecords
 pub mod Examples
 pub mod SealImages
+pub mod Contents
+pub mod UpgradeExample

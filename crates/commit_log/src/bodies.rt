@@ -142,7 +142,7 @@ fn get_body(
 /// [`Format::One`]. The fault is the first from left to right; its place is an offset in the body. `BadOrder`: a written grain
 /// isn't above the one before it. `Unknown`: a type, a method or a number of arguments isn't the shape's. `Trailing`: bytes follow
 /// the last record. A unit's or a parent's number may be any.
-pub fn decode_body(
+pub fn decode_records(
     alloc: Global,
     body: &[u8],
     shape: &Shape,
@@ -158,7 +158,7 @@ pub fn decode_body(
     get_body(alloc, body, shape, Numbers::Free, Format::One)
 }
 
-/// The records of a body in a log of a format, as [`decode_body`] reads them, but for that format's limits, and for the numbers that
+/// The records of a body in a log of a format, as [`decode_records`] reads them, but for that format's limits, and for the numbers that
 /// no log has: a unit's that is 0 or 2 to the 63 or more, and a parent's that is 2 to the 63 or more. Such a number is `Unknown`
 /// at its own field, before any fault of a later one. So the fault's place is the first of all that is wrong in the body.
 pub fn read_records(

@@ -1,23 +1,30 @@
 //! Commit records: the units that a batch commits, as the blocks of the log spell them, and the sealing of a block.
 //!
-//! [`encode_block`] spells a batch's block, and [`decode_body`] and [`read_records`] read a body back, by the tables of
-//! `docs/FORMATS.md`. [`encode_piece`] spells a block of the checkpoint that a log may begin with, and [`get_piece`] reads its body.
+//! [`encode_block`] spells a batch's block and [`encode_upgrade`] that of an upgrade, and [`decode_body`] and [`read_body`] read a body
+//! back, whichever it says, by the tables of `docs/FORMATS.md`; [`read_records`] reads records alone. [`encode_piece`] spells a block of the checkpoint that a log may begin with, and [`get_piece`] reads its body.
 //! [`seal`] puts a block behind the closed gate of a slot's log and opens that gate.
 #![tactic(auto)]
 
 mod bodies;
+mod contents;
 mod encoding;
 mod gate;
 mod grains;
 mod laws;
 mod pieces;
 mod records;
+mod upgrades;
 mod writes;
 
-pub use bodies::{decode_body, read_records};
+pub use bodies::{decode_records, read_records};
+pub use contents::{Body, decode_body, get_upgrade, is_upgrade, read_body};
 pub use encoding::encode_block;
 pub use gate::{Sealing, seal};
-pub use laws::{first_deposit_is_spelled, readings_agree, spellings_are_apart};
+pub use laws::{
+    bodies_agree, bodies_are_apart, first_deposit_is_spelled, readings_agree,
+    small_upgrade_is_spelled, spellings_are_apart,
+};
 pub use pieces::{encode_piece, get_piece, put_piece};
 pub use records::{CheckpointHead, CheckpointPiece, CommitRecord, Named, Written};
+pub use upgrades::encode_upgrade;
 pub use writes::is_above;

@@ -23,11 +23,13 @@ pub struct CheckpointPiece {
     pub writes: List<Written>,
 }
 
-/// A version that a record or a checkpoint names: whose it is, the grain that it is of, and its place in the grain's file. A checkpoint
-/// names no unit: the version may be any unit's of a log.
+/// A version that a record or a checkpoint names: whose it is, the number of the program that was in force where it was named, the grain
+/// that it is of, and its place in the grain's file. A checkpoint names no unit: the version may be any unit's of a log. Programs have
+/// numbers by the order in which they came into force, from 0, that of the program file.
 #[derive(Clone, Copy, Debug, PartialEq, Eq)]
 pub struct Named {
     pub unit: Option<UnitNo>,
+    pub program: u32,
     pub written: Written,
 }
 

@@ -12,8 +12,8 @@ use Rattle.field_codec.specs.declared.faults.CodecFault.TheVariants.{Short, NotU
 use Rattle.field_codec.specs.declared.formats.Format.{Format}
 use Rattle.field_codec.specs.declared.formats.Format.TheVariants.{One}
 use Rattle.field_codec.specs.Formats.{text_limit, field_limit}
-use Rattle.field_codec.specs.Spelling.{Stands, spelling_of_text, TextFits}
-use Rattle.field_codec.specs.Readers.{AreBytes, Reader, whole, refused, field, choice, number_at, count_at, letters, text_at, times, list_at}
+use Rattle.field_codec.specs.Spelling.{Stands, spelling_of_text, TextFits, spelling_of_program, ProgramFits}
+use Rattle.field_codec.specs.Readers.{AreBytes, Reader, whole, refused, field, choice, number_at, count_at, letters, text_at, bytes_at, program_at, times, list_at}
 use Rattle.field_codec.specs.Results.{place_of}
 use Rattle.field_codec.proofs.TextPlaces.{stands_end, stands_within}
 use Rattle.field_codec.proofs.Readers.{Reads, Any, then, done, choose, never, said, past, chosen, ok_is}
@@ -216,3 +216,40 @@ unfolding text_at
 text_reads f low =
     then (λ (t : List ℕ). length t) (to_le_bytes w16) (λ n. n ≤ text_limit f) (count_at w16 (text_limit f)) low Any (λ t. t) IsUtf8 (λ n place. letters n)
     (count_reads w16 (2 ^ 16) (text_limit f) wide16 (text_limit_small f) low) (λ n from. letters_read from n)
+
+either_short : {A : Type 0} (P : CodecFault → Type 0) (b : Bool) (c : CodecFault) (x : A) (e : CodecFault) → P c → cond b (Err c) (Ok x) ≡ Err e → P e
+either_short P true c x e one h = let is : c ≡ e = cc in subst P is one
+either_short P false c x e one h = absurd cc
+
+pub bytes_read : (low n : ℕ) → Reads low (λ t. Any t × (length t ≡ n)) (λ t. t) (λ t. Unit {0}) (bytes_at n)
+unfolding bytes_at
+bytes_read low n = record {
+  takes = λ bytes at t end are le e.
+      let text = take n (drop at bytes) in
+      let one = past (ltb (length bytes) (at + n)) (Short at) (Ok (text, at + n)) (t, end) e in
+      let is = ok_is text t (at + n) end one.1 in
+      let long : at + n ≤ length bytes = ltb-false _ _ one.0 in
+      let len : length text ≡ n = omega (arith, long, length-take n (drop at bytes), length-drop at bytes) in
+      subst (λ (u : List ℕ). (Any u × (length u ≡ n)) × Unit {0} × Stands bytes at u end) is.0
+      ((tt, len), tt, record { end_at = sym is.1 ∙ ap (λ (k : ℕ). at + k) (sym len); here = rw len refl });
+  again = λ bytes at t end le known fits stands.
+      let text_is : take n (drop at bytes) ≡ t = subst (λ (k : ℕ). take k (drop at bytes) ≡ t) known.1 stands.here in
+      let end_is : end ≡ at + n = stands.end_at ∙ ap (λ (k : ℕ). at + k) known.1 in
+      let short : ltb (length bytes) (at + n) ≡ false = le-ltb _ _ (subst (λ (k : ℕ). k ≤ length bytes) end_is (stands_end bytes at end t le stands)) in
+      rw (short, text_is, end_is) refl;
+  falls = λ bytes at fault are low_le le e.
+      either_short (λ f. place_of f ≤ length bytes) (ltb (length bytes) (at + n)) (Short at) (take n (drop at bytes), at + n) fault le e;
+  goes = λ bytes at t end e.
+      let one = past (ltb (length bytes) (at + n)) (Short at) (Ok (take n (drop at bytes), at + n)) (t, end) e in
+      let is = ok_is (take n (drop at bytes)) t (at + n) end one.1 in
+      omega (arith, is.1);
+  later = λ bytes at fault low_le e.
+      either_short (λ f. low ≤ place_of f) (ltb (length bytes) (at + n)) (Short at) (take n (drop at bytes), at + n) fault low_le e;
+}
+
+pub program_reads : (low : ℕ) → Reads low Any spelling_of_program ProgramFits program_at
+unfolding program_at
+program_reads low =
+    said low Any Any spelling_of_program spelling_of_program (λ t. (length t ≤ 262144) × Unit {0}) ProgramFits program_at (λ t p. tt) (λ t p. tt) (λ t p. refl) (λ t p fits. fits.0) (λ t p fits. (fits, tt))
+    (then (λ (t : List ℕ). length t) (to_le_bytes w32) (λ n. n ≤ 262144) (count_at w32 262144) low Any (λ t. t) (λ t. Unit {0}) (λ n place. bytes_at n)
+    (count_reads w32 (2 ^ 32) 262144 wide32 (omega arith) low) (λ n from. bytes_read from n))

@@ -179,6 +179,49 @@ put_in {A} {C} f spell Fits read low P all AllFit back when_known same into read
       ];
 }
 
+-- one field, put into a value, of which what is known follows from the limits
+pub put_fit : {A C : Type 0} (f : A → C) (spell : A → List ℕ) (Fits : A → Type 0) (read : Reader A) (low : ℕ) (P : C → Type 0) (all : C → List ℕ) (AllFit : C → Type 0)
+    → ((c : C) → P c → AllFit c → (a : A) × (c ≡ f a) × Fits a) → ((a : A) → Fits a → P (f a)) → ((a : A) → Fits a → all (f a) ≡ spell a) → ((a : A) → Fits a → AllFit (f a))
+    → Reads low Any spell Fits read → Reads low P all AllFit (field read (λ a place. whole (f a)))
+unfolding field whole
+put_fit {A} {C} f spell Fits read low P all AllFit back when_known same into reads = record {
+  takes = λ bytes at c end are le e.
+      let b = then_ok (read bytes at) (λ x. Ok (f x.0, x.1)) (c, end) e in
+      let t = reads.takes bytes at b.0.0 b.0.1 are le b.1 in
+      let is = ok_is (f b.0.0) c b.0.1 end b.2 in
+      let stands : Stands bytes at (all (f b.0.0)) b.0.1 = subst (λ (l : List ℕ). Stands bytes at l b.0.1) (sym (same b.0.0 t.1)) t.2 in
+      (subst P is.0 (when_known b.0.0 t.1), subst AllFit is.0 (into b.0.0 t.1), subst (λ c. Stands bytes at (all c) end) is.0 (subst (λ (n : ℕ). Stands bytes at (all (f b.0.0)) n) is.1 stands));
+  again = λ bytes at c end le also fits stands.
+      let a = back c also fits in
+      let one = reads.again bytes at a.0 end le tt a.2 (subst (λ (l : List ℕ). Stands bytes at l end) (same a.0 a.2) (subst (λ c. Stands bytes at (all c) end) a.1 stands)) in
+      ap (λ (r : Result (A × ℕ) CodecFault). and_then r (λ x. Ok (f x.0, x.1))) one ∙ ap (λ (c : C). is_read {A = C × ℕ} (c, end)) (sym a.1);
+  falls = λ bytes at fault are low_le le e.
+      elim (then_err (read bytes at) (λ x. Ok (f x.0, x.1)) fault e) [
+        | inl here ↦ reads.falls bytes at fault are low_le le here
+        | inr later ↦ absurd (let clash : is_read {A = C × ℕ} (f later.0.0, later.0.1) ≡ Err fault = later.2 in cc)
+      ];
+  goes = λ bytes at c end e.
+      let b = then_ok (read bytes at) (λ x. Ok (f x.0, x.1)) (c, end) e in
+      let one = reads.goes bytes at b.0.0 b.0.1 b.1 in
+      let is = ok_is (f b.0.0) c b.0.1 end b.2 in
+      omega (arith, one, is.1);
+  later = λ bytes at fault low_le e.
+      elim (then_err (read bytes at) (λ x. Ok (f x.0, x.1)) fault e) [
+        | inl here ↦ reads.later bytes at fault low_le here
+        | inr more ↦ absurd (let clash : is_read {A = C × ℕ} (f more.0.0, more.0.1) ≡ Err fault = more.2 in cc)
+      ];
+}
+
+-- what was known is a limit
+pub known_fits : {C : Type 0} (low : ℕ) (P : C → Type 0) (spell : C → List ℕ) (Fits : C → Type 0) (read : Reader C) → Reads low P spell Fits read → Reads low Any spell (λ c. P c × Fits c) read
+known_fits low P spell Fits read reads = record {
+  takes = λ bytes at c end are le e. let t = reads.takes bytes at c end are le e in (tt, (t.0, t.1), t.2);
+  again = λ bytes at c end le known fits stands. reads.again bytes at c end le fits.0 fits.1 stands;
+  falls = λ bytes at fault are low_le le e. reads.falls bytes at fault are low_le le e;
+  goes = λ bytes at c end e. reads.goes bytes at c end e;
+  later = λ bytes at fault low_le e. reads.later bytes at fault low_le e;
+}
+
 -- the same reader, spelling and limits, said in other words
 pub said : {C : Type 0} (low : ℕ) (P Q : C → Type 0) (spell also : C → List ℕ) (Fits AlsoFits : C → Type 0) (read : Reader C)
     → ((c : C) → P c → Q c) → ((c : C) → Q c → P c) → ((c : C) → P c → spell c ≡ also c) → ((c : C) → P c → Fits c → AlsoFits c) → ((c : C) → P c → AlsoFits c → Fits c)

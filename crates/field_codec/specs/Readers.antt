@@ -1,6 +1,6 @@
 -- Reading fields from left to right. The first fault that is met is the answer, with its place.
 use Rattle.std.specs.Prelude.{ℕ, zero, suc, ◌+◌, ◌<◌, List, [], ◌∷◌, length, take, drop, slice_index, Result, Ok, Err, Bool, Option, Some, None, nat_lt, ◌==◌, if◌then◌else◌}
-use Rattle.std.specs.Int.{Width, w16, byte_len, from_le_bytes}
+use Rattle.std.specs.Int.{Width, w16, w32, byte_len, from_le_bytes}
 use Rattle.std.specs.Str.{is_utf8}
 use Rattle.field_codec.specs.declared.formats.Format.{Format}
 use Rattle.field_codec.specs.Formats.{text_limit}
@@ -69,6 +69,14 @@ count_at w limit = field (number_at w) λ n place. choice (nat_lt limit n) (refu
 -- so many bytes of UTF-8
 unfoldable pub letters : ℕ → Reader (List ℕ)
 letters n bytes at = if nat_lt (length bytes) (at + n) then Err (Short at) else (let text = take n (drop at bytes) in if is_utf8 text then Ok (text, at + n) else Err (NotUtf8 at))
+
+-- so many bytes, whatever they are
+unfoldable pub bytes_at : ℕ → Reader (List ℕ)
+bytes_at n bytes at = if nat_lt (length bytes) (at + n) then Err (Short at) else Ok (take n (drop at bytes), at + n)
+
+-- a program's text: its length, and its bytes
+unfoldable pub program_at : Reader (List ℕ)
+program_at = field (count_at w32 262144) λ n place. bytes_at n
 
 -- a text within the format's limit: its length, and its bytes
 unfoldable pub text_at : Format → Reader (List ℕ)

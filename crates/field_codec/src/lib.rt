@@ -25,5 +25,6 @@ pub use numbers::{get_count, get_u8, get_u16, get_u32, get_u64, put_u16, put_u32
 pub use origins::get_origin;
 pub use outcomes::{get_answer, get_result};
 pub use spelling::{Spelled, append_all, put};
+pub use texts::get_program;
 pub use units::{Numbers, get_unit};
 pub use values::{get_exactly, get_state, get_value, put_state, put_value};

@@ -1,14 +1,14 @@
 ghost use Rattle.std.specs.Prelude.{◌≡◌, ◌++◌, length, take, IfSome, IfNone, OnOk, true, false};
 ghost use Rattle.std.specs.Str.{is_utf8};
-ghost use Rattle.field_codec.specs.Readers.{text_at};
+ghost use Rattle.field_codec.specs.Readers.{text_at, program_at};
 ghost use Rattle.field_codec.specs.Results.{GivesRead};
 ghost use Rattle.field_codec.specs.Spelling.{spelling_of_text, TextFits};
 ghost use Rattle.field_codec.specs.declared.formats.Format.TheVariants.{One};
 
 use crate::faults::CodecFault;
 use crate::formats::Format;
-use crate::numbers::{get_count, put_u16};
-use base_types::Text;
+use crate::numbers::{get_count, get_u32, put_u16};
+use base_types::{List, Text};
 use std::alloc::{AllocError, Global};
 
 // The bytes as a text, where they are UTF-8.
@@ -58,4 +58,27 @@ pub fn append_text(into: &mut Vec<u8>, text: &Text) -> Result<(), AllocError>
     put_u16(into, bytes.len() as u16)?;
     into.extend_from_slice(bytes)?;
     Ok(())
+}
+
+/// A program's text that stands at a place, and the place behind it.
+#[tactic(auto, unfolding(crate::specs::Readers::program_at, crate::specs::Readers::bytes_at, crate::specs::Readers::count_at, crate::specs::Readers::field, crate::specs::Readers::choice, crate::specs::Readers::refused, crate::specs::Readers::whole))]
+pub fn get_program(alloc: Global, bytes: &[u8], at: usize) -> Result<(List<u8>, usize), CodecFault>
+    ensures { GivesRead result (program_at bytes.now at) }
+{
+    let (len, after) = get_u32(bytes, at)?;
+    if len > 262_144 {
+        return Err(CodecFault::Over {
+            place: at,
+            limit: 262_144,
+        });
+    }
+    let len = len as usize;
+    if bytes.len() < after || bytes.len() - after < len {
+        return Err(CodecFault::Short { place: after });
+    }
+    let (_, rest) = bytes.split_at(after);
+    let (text, _) = rest.split_at(len);
+    let mut copied = Vec::new(alloc);
+    copied.extend_from_slice(text)?;
+    Ok((List::from_vec(copied), after + len))
 }

@@ -5,7 +5,7 @@ ghost use Rattle.gate_block.specs.Blocks.{IsBlockOfBody};
 
 use crate::printer::add_record;
 use base_types::{List, Shape};
-use commit_log::{CommitRecord, decode_body, encode_block, read_records};
+use commit_log::{CommitRecord, decode_records, encode_block, read_records};
 use field_codec::{CodecFault, Format};
 use std::alloc::{AllocError, Global};
 
@@ -22,7 +22,7 @@ pub fn records_in(
     if logged {
         return read_records(alloc, body, shape, Format::One);
     }
-    decode_body(alloc, body, shape)
+    decode_records(alloc, body, shape)
 }
 
 /// The block of these records.

@@ -1,0 +1,14 @@
+-- An upgrade to a program of one type.
+use Rattle.std.specs.Prelude.{ℕ, List, [], ◌∷◌, codes}
+
+-- one type, without fields or methods
+abbrev pub small_text : List ℕ
+small_text = codes "type a { }"
+
+-- its block: the body's length, the mark, the text's length, the text, the next gate
+abbrev pub small_block : List ℕ
+small_block =
+    18 ∷ 0 ∷ 0 ∷ 0 ∷ 255 ∷ 255 ∷ 255 ∷ 255
+    ∷ 10 ∷ 0 ∷ 0 ∷ 0
+    ∷ 116 ∷ 121 ∷ 112 ∷ 101 ∷ 32 ∷ 97 ∷ 32 ∷ 123 ∷ 32 ∷ 125
+    ∷ 0 ∷ []
