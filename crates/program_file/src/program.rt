@@ -105,10 +105,11 @@ pub fn read_program<H: Host>(
 ) -> Result<(List<u8>, Checked), ProgramFileFault>
     requires slot { slot ≤ 1 }
 
-    // The program is the file's, and else the first damage is named.
+    // The program is the file's and that of the text, and else the first damage is named.
     ensures found { IfOk result (λ found. IsTrue H.tells
         → program_in_file ((H.world host.old).disk (ProgramFile slot)).seen ≡ Ok (record { text = found.0; types = program_tree found.1 })) }
     ensures small { IfOk result (λ found. length found.0 ≤ 262144) }
+    ensures program { IfOk result (λ found. program_in found.0 ≡ Ok (program_tree found.1)) }
     ensures damaged { (place : ℕ) → IsErrOf result (Fault.Damaged place) → IsTrue H.tells
         → program_in_file ((H.world host.old).disk (ProgramFile slot)).seen ≡ Err place }
 
