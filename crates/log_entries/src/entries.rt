@@ -1,0 +1,117 @@
+ghost use Rattle.std.specs.Prelude.{◌≡◌, ◌<◌, ◌+◌, ◌^◌, true, length, IfErr};
+ghost use Rattle.field_codec.specs.Results.{named_place};
+ghost use Rattle.script_tree.specs.Programs.{program_tree};
+ghost use Rattle.script_check.specs.Shapes.{type_shapes};
+ghost use Rattle.program_file.specs.Answers.{program_fault_place};
+ghost use Rattle.commit_log.specs.Contents.{is_upgrade};
+ghost use Rattle.log_entries.specs.Entries.{entry_of_body, damage_from, IsRead, IsNear};
+
+use base_types::{List, Shape};
+use commit_log::{CommitRecord, get_upgrade, is_upgrade, read_records};
+use field_codec::{CodecFault, Format};
+use program_file::{ProgramFault, accept};
+use script_check::{Checked, compare};
+use std::alloc::Global;
+
+/// What a body says: records of the program in force, or the text of the program that comes into force and that program.
+#[derive(Drop)]
+pub enum Said {
+    Records(List<CommitRecord>),
+    Upgrade { text: List<u8>, checked: Checked },
+}
+
+/// Why a body says nothing: it is damaged at this offset, or there was no memory.
+#[derive(Clone, Copy, Debug, PartialEq, Eq)]
+pub enum EntryFault {
+    Damaged { place: usize },
+    Memory,
+}
+
+// The fault of a body that isn't in the grammar.
+fn in_body(fault: CodecFault) -> EntryFault
+    ensures { result ≡ damage_from 0 (named_place fault) }
+{
+    match fault.place() {
+        Some(place) => EntryFault::Damaged { place },
+        None => EntryFault::Memory,
+    }
+}
+
+// The fault of a text that is no program, and stands at an offset of the body.
+fn in_text(start: usize, fault: ProgramFault) -> EntryFault
+    requires { start < 2 ^ 63 }
+    ensures is { result ≡ damage_from start (program_fault_place fault) }
+    ensures near { IsNear (start + 2 ^ 32) result }
+{
+    match fault.place() {
+        Some(at) => EntryFault::Damaged {
+            place: start + at as usize,
+        },
+        None => EntryFault::Memory,
+    }
+}
+
+// The fault of a type's name at this place of a text that stands at an offset of the body.
+fn in_name(start: usize, at: u32) -> EntryFault
+    requires { start < 2 ^ 63 }
+    ensures is { result ≡ damage_from start (Some at) }
+    ensures near { IsNear (start + 2 ^ 32) result }
+{
+    EntryFault::Damaged {
+        place: start + at as usize,
+    }
+}
+
+// The program of an upgrade's body.
+fn read_upgrade(
+    alloc: Global,
+    body: &[u8],
+    program: &Checked,
+    shape: &Shape,
+    format: Format,
+) -> Result<Said, EntryFault>
+    requires { is_upgrade body.now ≡ true }
+    ensures said { IsRead result (entry_of_body format (program_tree program.now) shape.now body.now) }
+    ensures near { IfErr result (λ fault. IsNear (length body.now + 2 ^ 32) fault) }
+{
+    let (text, end) = match get_upgrade(alloc, body) {
+        Ok(found) => found,
+        Err(fault) => return Err(in_body(fault)),
+    };
+    let start = end - text.len();
+    let checked = match accept(alloc, text.as_slice()) {
+        Ok(checked) => checked,
+        Err(fault) => return Err(in_text(start, fault)),
+    };
+    if let Err(fault) = compare(program, &checked, text.len() as u32) {
+        return Err(in_name(start, fault.at));
+    }
+    if end == body.len() {
+        return Ok(Said::Upgrade { text, checked });
+    }
+    Err(EntryFault::Damaged { place: end })
+}
+
+/// What a body of a log of a format says, under the program in force, of which this is the shape. The fault names the first place that
+/// is damaged, in this order: what isn't in the grammar; in an upgrade's text what is no program; a type's name in it that isn't the
+/// program's in force, or the text's end where types are missing; and bytes that follow.
+pub fn read_entry(
+    alloc: Global,
+    body: &[u8],
+    program: &Checked,
+    shape: &Shape,
+    format: Format,
+) -> Result<Said, EntryFault>
+    ensures said { IsRead result (entry_of_body format (program_tree program.now) shape.now body.now) }
+
+    // A place in a text is below 2 to the 32.
+    ensures near { IfErr result (λ fault. IsNear (length body.now + 2 ^ 32) fault) }
+{
+    if is_upgrade(body) {
+        return read_upgrade(alloc, body, program, shape, format);
+    }
+    match read_records(alloc, body, shape, format) {
+        Ok(records) => Ok(Said::Records(records)),
+        Err(fault) => Err(in_body(fault)),
+    }
+}
