@@ -4,7 +4,7 @@ use Rattle.std.specs.Option.{option_map_or}
 use Rattle.std.specs.Str.{bytes_eq}
 use Rattle.std.specs.Fmt.{decimal}
 use Rattle.std.specs.declared.alloc.Global.{Global}
-use Rattle.promise_spec.specs.Words.{Choice, Width, Turns, Workers, GivenOption, Manner, IsWithin, list_text, Command, Init, Run, Show, History, Audit, Load, Check, Compact}
+use Rattle.promise_spec.specs.Words.{Choice, Width, Turns, Workers, GivenOption, Manner, IsWithin, list_text, Command, Init, Run, Show, History, Audit, Load, Check, Compact, Upgrade}
 use Rattle.command_words.specs.declared.word_parts.CutWords.{CutWords}
 use Rattle.command_words.specs.declared.words.RunOptions.{RunOptions}
 use Rattle.command_words.specs.declared.words.LoadOptions.{LoadOptions}
@@ -99,6 +99,7 @@ command_of words.Audit = Audit
 command_of (words.Load options) = Load options.transfers options.seed (chosen_manner (load_chosen options))
 command_of (words.Check numbers) = Check numbers.starts numbers.seed
 command_of words.Compact = Compact
+command_of words.Upgrade = Upgrade
 
 -- an option that the answer may stem from: workers are as many as it has
 abbrev pub workers_of : Words → Option ℕ

@@ -138,5 +138,8 @@ pub fn read_words(alloc: Global, words: &[String]) -> Result<Words, WordsFault>
     if first_is(words, "compact") {
         return Ok(Words::Compact);
     }
+    if first_is(words, "upgrade") {
+        return Ok(Words::Upgrade);
+    }
     Err(WordsFault::BadUse)
 }

@@ -52,4 +52,6 @@ pub enum Words {
     Check(CheckNumbers),
     /// Writes the next generation of a silo.
     Compact,
+    /// Brings a program into force in a silo.
+    Upgrade,
 }

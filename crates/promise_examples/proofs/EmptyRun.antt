@@ -6,7 +6,7 @@ use Rattle.host_trait.specs.declared.channels.Channel.TheVariants.{Input}
 use Rattle.promise_spec.specs.Programs.{Program}
 use Rattle.promise_spec.specs.Entries.{Log}
 use Rattle.promise_spec.specs.Causes.{RoseBy, NoneRose}
-use Rattle.promise_spec.specs.Endings.{Ending, Done, BadUse, Memory, ReadFault, WriteFault, DiskFault, NotASilo, AlreadyASilo, Damaged, BadProgram, InputTooLong, LastGeneration, HasRisen, IsCarried, IsAllWritten, IsCalm}
+use Rattle.promise_spec.specs.Endings.{Ending, Done, BadUse, Memory, ReadFault, WriteFault, DiskFault, NotASilo, AlreadyASilo, Damaged, BadProgram, InputTooLong, LastGeneration, UpgradeRefused, HasRisen, IsCarried, IsAllWritten, IsCalm}
 use Rattle.promise_spec.specs.Courses.{Observed}
 use Rattle.promise_spec.specs.Promise.{Keeps}
 use Rattle.promise_spec.proofs.Lists.{none_at}
@@ -31,6 +31,7 @@ module _ (p : Program) (r : Observed) (opening : Log) (run : IsEmptyRun p r open
   carried (BadProgram fault) all = absurd all
   carried (InputTooLong line) all = tt
   carried LastGeneration all = absurd all
+  carried (UpgradeRefused at) all = absurd all
 
   -- and where no count rose, no fault ended it
   calm : (e : Ending) → IsAllWritten e → HasRisen e r.faults_before r.faults_after → NoneRose r.faults_before r.faults_after → IsCalm e
@@ -46,6 +47,7 @@ module _ (p : Program) (r : Observed) (opening : Log) (run : IsEmptyRun p r open
   calm (BadProgram fault) all risen none = absurd all
   calm (InputTooLong line) all risen none = tt
   calm LastGeneration all risen none = absurd all
+  calm (UpgradeRefused at) all risen none = absurd all
 
   pub kept : Keeps p r (empty_course r opening)
   kept = record {

@@ -10,10 +10,11 @@ use Rattle.field_codec.specs.Readers.{whole, refused, field, choice, when_known,
 use Rattle.field_codec.specs.Fields.{value_at, exactly_at, unit_at, origin_at, answer_at, result_at}
 use Rattle.gate_block.specs.Blocks.{found_at}
 use Rattle.gate_block.specs.Log.{bodies_of, gate_of}
+use Rattle.commit_log.specs.Contents.{content_in}
 use Rattle.commit_log.specs.Fields.{grain_in, call_in, write_in, writes_in, record_in}
 use Rattle.grain_log.specs.Reads.{version_in}
 use Rattle.silo_spec.specs.Silos.{manager, program_file}
-use Rattle.promise_spec.specs.Programs.{Program, shape_in}
+use Rattle.promise_spec.specs.Programs.{Program}
 use Rattle.promise_spec.specs.Logs.{magic}
 use Rattle.promise_spec.specs.Openings.{NoSilo, DamagedAt, Reads, is_silo, header_damage, behind_header, log_as, with_program, live_of, with_slot, with_log, opened_as}
 use Rattle.promise_spec.proofs.Openings.{no_silo_is_read}
@@ -51,7 +52,7 @@ pub record Logs : Type 0 where
   pub earlier : opened_as (log_folder (changed 24 0 (changed 93 65 same_account))) ≡ DamagedAt manager 24
 
 pub logs_read : Logs
-unfolding whole refused field choice when_known chain count_at list_at value_at exactly_at unit_at origin_at answer_at result_at grain_in call_in write_in writes_in record_in version_in
+unfolding whole refused field choice when_known chain count_at list_at value_at exactly_at unit_at origin_at answer_at result_at grain_in call_in write_in writes_in record_in version_in content_in
 logs_read = record {
   deposit = ap (λ (r : Result Program ℕ). with_program 0 (folder 1 grain_bytes) r) file_is_read;
   closed = ap (λ (r : Result Program ℕ). with_program 0 (folder 0 grain_bytes) r) file_is_read;
@@ -90,7 +91,7 @@ pub record Versions : Type 0 where
   pub block_first : opened_as (folder_of program_bytes (take 80 (manager_bytes 1)) (take 10 grain_bytes)) ≡ DamagedAt manager 16
 
 pub versions_read : Versions
-unfolding whole refused field choice when_known chain count_at list_at value_at exactly_at unit_at origin_at answer_at result_at grain_in call_in write_in writes_in record_in version_in
+unfolding whole refused field choice when_known chain count_at list_at value_at exactly_at unit_at origin_at answer_at result_at grain_in call_in write_in writes_in record_in version_in content_in
 versions_read = record {
   cut = ap (λ (r : Result Program ℕ). with_program 0 (grain_folder (take 10 grain_bytes)) r) file_is_read;
   owner = ap (λ (r : Result Program ℕ). with_program 0 (grain_folder (version_by 2)) r) file_is_read;
@@ -137,7 +138,7 @@ header_damaged : (file : List ℕ) (place : ℕ) → is_silo file ≡ true → h
 header_damaged file place silo damage =
     ap (λ (b : Bool). with_slot (log_folder file) (live_of b false (nat_lt (generation file) (generation [])))) silo
     ∙ ap (λ (r : Result Program ℕ). with_program 0 (log_folder file) r) file_is_read
-    ∙ ap (λ (d : Option ℕ). with_log 0 account_program (log_folder file) (behind_header d (log_as One (shape_in account_program) (slice_index file 13 == 1) (bodies_of file) (gate_of file) (found_at (gate_of file) file)))) damage
+    ∙ ap (λ (d : Option ℕ). with_log 0 account_program (log_folder file) (behind_header d (log_as One account_program (slice_index file 13 == 1) (bodies_of file) (gate_of file) (found_at (gate_of file) file)))) damage
 
 pub header_byte : (byte : ℕ) → 1 < byte → opened_as (log_changed 13 byte) ≡ DamagedAt manager 13
 header_byte byte above = header_damaged (changed 13 byte (manager_bytes 1)) 13 refl (rw (lt-leb byte 1 above) refl)

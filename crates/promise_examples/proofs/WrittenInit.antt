@@ -18,7 +18,7 @@ use Rattle.promise_spec.proofs.Slots.{only_live}
 use Rattle.promise_examples.proofs.AccountLogs.{no_bytes}
 use Rattle.promise_spec.specs.Programs.{text_limit, program_in}
 use Rattle.promise_spec.specs.Logs.{magic}
-use Rattle.promise_spec.specs.Words.{Command, Init, Run, Show, History, Audit, Load, Check, Compact, Say}
+use Rattle.promise_spec.specs.Words.{Command, Init, Run, Show, History, Audit, Load, Check, Compact, Upgrade, Say}
 use Rattle.promise_spec.specs.Courses.{Observed}
 use Rattle.promise_spec.specs.Promise.{IsSoundFolder}
 use Rattle.promise_spec.specs.Commands.{IsProgramText, WasSilo, MakesSilo, ManagersLast}
@@ -472,6 +472,7 @@ other_say Audit says = absurd (cc says)
 other_say (Load n seed m) says = let letter : ◌≡◌ {A = ℕ} 105 108 = ap (λ (l : List (List ℕ)). get_or (get_or l 0 []) 0 0) says.words_are in absurd (omega (arith, letter))
 other_say (Check n seed) says = let letter : ◌≡◌ {A = ℕ} 105 99 = ap (λ (l : List (List ℕ)). get_or (get_or l 0 []) 0 0) says.words_are in absurd (omega (arith, letter))
 other_say Compact says = let letter : ◌≡◌ {A = ℕ} 105 99 = ap (λ (l : List (List ℕ)). get_or (get_or l 0 []) 0 0) says in absurd (omega (arith, letter))
+other_say Upgrade says = let letter : ◌≡◌ {A = ℕ} 105 117 = ap (λ (l : List (List ℕ)). get_or (get_or l 0 []) 0 0) says in absurd (omega (arith, letter))
 
 pub serves_none : (words : List (List ℕ)) → ((c : Command) → Say (λ g. true) words c → ⊥) → Serves words (λ c. unused)
 serves_none words none = record {

@@ -24,7 +24,7 @@ use Rattle.promise_spec.specs.Logs.{magic, IsLog}
 use Rattle.promise_spec.specs.Images.{IsSound}
 use Rattle.promise_spec.specs.Openings.{Reading, NoSilo, DamagedAt, Reads, opened_as}
 use Rattle.promise_spec.specs.Outputs.{reply_lines}
-use Rattle.promise_spec.specs.Words.{Command, Init, Run, Show, History, Audit, Load, Check, Compact, Manner}
+use Rattle.promise_spec.specs.Words.{Command, Init, Run, Show, History, Audit, Load, Check, Compact, Upgrade, Manner}
 use Rattle.promise_spec.specs.Endings as ending
 use Rattle.promise_spec.specs.Windows.{first_bad, told_number, before_bad, whole_windows}
 use Rattle.promise_spec.specs.Courses.{Observed, lines, seen_at_entry}
@@ -35,6 +35,7 @@ use Rattle.promise_laws.specs.AnsweredRuns.{HasAnswered, HasOpened}
 use Rattle.promise_laws.proofs.OpenedRuns.{anywhere_opened}
 use Rattle.promise_spec.specs.Commands.{MakesAs, MakesSilo, MayCut, IsReported, Reports, ShowsStates, Audits}
 use Rattle.promise_spec.specs.Compaction.{IsRewritten, Compacts}
+use Rattle.promise_spec.specs.Upgrading.{RefusesInput, UpgradesAs, UpgradesSilo}
 use Rattle.promise_spec.proofs.Slots.{some_live}
 use Rattle.promise_spec.specs.Loads.{IsUnmadeBy, Loads}
 use Rattle.promise_spec.specs.Checks.{Checks}
@@ -406,6 +407,13 @@ uncompacted r (inl unopened) is = unopened_bad r unopened is
 uncompacted r (inr (inl last)) is = (let e : ending.LastGeneration ≡ ending.BadUse = sym last.ending ∙ is in absurd (cc e))
 uncompacted r (inr (inr compacted)) is = rewritten_bad r.ending compacted.ending is
 
+-- an upgrade ends otherwise
+unupgraded : (r : Observed) → UpgradesSilo r → r.ending ≡ ending.BadUse → ⊥
+unupgraded r (inl input) is = subst (λ (e : ending.Ending). RefusesInput e r) is input.refused
+unupgraded r (inr (inl unopened)) is = subst (λ (e : ending.Ending). IsRefusedBy (seen_at_entry r) (opened_as (seen_at_entry r)) e) is unopened.refused
+unupgraded r (inr (inr (inl refused))) is = (let e : ending.UpgradeRefused refused.at ≡ ending.BadUse = sym refused.ending ∙ is in absurd (cc e))
+unupgraded r (inr (inr (inr upgraded))) is = subst (λ (e : ending.Ending). UpgradesAs e upgraded.live r) is upgraded.ends_as
+
 unaudited : (r : Observed) → Audits r → r.ending ≡ ending.BadUse → ⊥
 unaudited r (inl unopened) is = unopened_bad r unopened is
 unaudited r (inr audited) is = reported_bad _ r audited.report is
@@ -435,6 +443,7 @@ never_bad_use Audit r audits is = unaudited r audits is
 never_bad_use (Load n seed m) r loads is = unloaded n seed m r loads is
 never_bad_use (Check n seed) r checks is = unchecked n seed r checks is
 never_bad_use Compact r compacts is = uncompacted r compacts is
+never_bad_use Upgrade r upgrades is = unupgraded r upgrades is
 
 module _ (words : List (List ℕ)) (shown : Command → Observed) (c : Command) (serves : Serves words shown) where
   pub other_answer : ((d : Command) → Understands words d → ⊥) → (shown c).ending ≢ ending.BadUse → (shown c).ending ≢ ending.Memory → ⊥

@@ -81,7 +81,7 @@ use Rattle.promise_examples.proofs.WholeBatches.{not_between}
 use Rattle.promise_examples.proofs.EmittedReplies.{emitted_before, nothing_unwritten}
 use Rattle.promise_spec.proofs.OneLog.{one_log}
 use Rattle.silo_spec.specs.Slots.{IsLive}
-use Rattle.promise_spec.specs.Blocks.{body_of, Block, Records, BlockFits, Saved, Checkpoint, spelled_piece, Beginning, Fresh, From, bodies_before}
+use Rattle.promise_spec.specs.Blocks.{body_of, Block, Records, Upgrade, BlockFits, Saved, Checkpoint, spelled_piece, Beginning, Fresh, From, bodies_before}
 
 ok_is : (x y : Result Call BadRequest) (a b : Call) → x ≡ Ok a → y ≡ Ok b → x ≡ y → a ≡ b
 ok_is x y a b is_a is_b same = cc
@@ -132,6 +132,10 @@ many (Records batch ∷ blocks) records sizes long same =
     let other : from_le_bytes w32 (take 4 (spelling_of_body records)) ≡ length records = count_of records (omega (arith, long)) in
     let same_count : length (map (λ (c : Commit). c.logged) batch) ≡ length records = sym one ∙ ap (λ (l : List ℕ). from_le_bytes w32 (take 4 l)) body ∙ other in
     omega (arith, same_count, size, few, long)
+many (Upgrade p ∷ blocks) records sizes long same =
+    let body : body_of (Upgrade p) ≡ spelling_of_body records = head_of (body_of (Upgrade p)) (spelling_of_body records) (map body_of blocks) [] same in
+    let byte : 255 ≡ 65 = ap (λ (l : List ℕ). slice_index l 0) body ∙ ap (λ (n : ℕ). slice_index (to_le_bytes w32 n ++ flat_map spelling_of_record records) 0) long in
+    absurd (omega (arith, byte))
 
 -- a piece of a checkpoint begins with 0 or 1, and so many records with another byte
 no_piece : (ck : Checkpoint) (front : List (List Saved)) (last : List Saved) (more : List (List ℕ)) (records : List CommitRecord) → length records ≡ 65

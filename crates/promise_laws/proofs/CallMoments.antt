@@ -11,7 +11,7 @@ use Rattle.promise_spec.specs.Logs.{magic}
 use Rattle.promise_spec.specs.Moments.{IsImageOf}
 use Rattle.promise_spec.specs.Endings as ending
 use Rattle.promise_spec.specs.Endings.{Ending}
-use Rattle.promise_spec.specs.Words.{Manner, Command, Init, Run, Show, History, Audit, Load, Check, Compact}
+use Rattle.promise_spec.specs.Words.{Manner, Command, Init, Run, Show, History, Audit, Load, Check, Compact, Upgrade}
 use Rattle.promise_spec.specs.Courses.{Observed, Course, moments, program_in_force}
 use Rattle.promise_spec.specs.Crashes.{SurvivesCrashes, StaySound}
 use Rattle.promise_spec.specs.Refusals.{IsUnopened}
@@ -26,6 +26,7 @@ use Rattle.promise_laws.specs.SoundMoments.{IsSoundAt}
 use Rattle.promise_spec.proofs.Lists.{all_of, in_append, either_in}
 use Rattle.promise_spec.proofs.WholeFolders.{whole_folder}
 use Rattle.promise_laws.proofs.RewrittenFolders.{entry_sound, compact_moments}
+use Rattle.promise_laws.proofs.SoundUpgrades.{upgrade_moments}
 use Rattle.promise_laws.proofs.SoundFolders.{input_program, new_moment, made_sound}
 
 -- the moments of a call that leaves all as it was
@@ -100,6 +101,7 @@ init_moments r makes sound = by r.ending makes.ends_as
     by (ending.BadProgram fault) is = stays is.1
     by (ending.InputTooLong line) is = stays is.2
     by ending.LastGeneration is = absurd is
+    by (ending.UpgradeRefused at) is = absurd is
 
 -- of a load
 load_moments : (n seed : ℕ) (m : Manner) (bank : Program) (r : Observed) → IsChecked bank → bank.text ≡ bank_text → Loads n seed m r → IsSoundFolder r.old
@@ -139,3 +141,4 @@ obeying_moments Audit bank r checked text stay obeys sound = audit_moments r obe
 obeying_moments (Load n seed m) bank r checked text stay obeys sound = load_moments n seed m bank r checked text obeys sound
 obeying_moments (Check n seed) bank r checked text stay obeys sound = check_moments n seed r obeys sound
 obeying_moments Compact bank r checked text stay obeys sound = compact_moments r stay obeys sound
+obeying_moments Upgrade bank r checked text stay obeys sound = upgrade_moments r stay obeys sound

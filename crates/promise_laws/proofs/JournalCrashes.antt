@@ -5,7 +5,7 @@ use Rattle.core_model.specs.CoreState.{Member}
 use Rattle.host_trait.specs.World.{Moment, Image}
 use Rattle.promise_spec.specs.Programs.{Program}
 use Rattle.promise_spec.specs.Records.{Commit}
-use Rattle.promise_spec.specs.Entries.{LogEntry, Recorded, Standing, after_entry, Log, records_of, grown}
+use Rattle.promise_spec.specs.Entries.{LogEntry, Recorded, Upgraded, Standing, after_entry, Log, records_of, grown}
 use Rattle.promise_spec.specs.SerialExecution.{IsSerialFrom}
 use Rattle.promise_spec.specs.Logs.{IsLog, IsPrefix}
 use Rattle.promise_spec.specs.Prefixes.{IsPrefixOf}
@@ -98,6 +98,7 @@ holds p r c journal m image backs k written = record {
 serial_front : (before : Standing) (a b : List LogEntry) → IsSerialFrom before (a ++ b) → IsSerialFrom before a
 serial_front before [] b serial = tt
 serial_front before (Recorded c ∷ a) b serial = (serial.0, serial_front (after_entry before (Recorded c)) a b serial.1)
+serial_front before (Upgraded p ∷ a) b serial = serial_front (after_entry before (Upgraded p)) a b serial
 
 pub numbered_front : (first : ℕ) (a b : List Commit) → AreNumbered first (a ++ b) → AreNumbered first a
 numbered_front first [] b numbered = tt

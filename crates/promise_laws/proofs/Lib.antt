@@ -9,6 +9,7 @@ pub mod GateBytes
 pub mod MovedLogs
 pub mod OtherSlots
 pub mod RewrittenFolders
+pub mod SoundUpgrades
 pub mod SoundFolders
 pub mod CallMoments
 pub mod SamePrograms

@@ -1,6 +1,8 @@
 -- A slot's log rests on that slot's files alone.
-use Rattle.std.proofs.Common.{◌≡◌, ℕ, List, [], ◌∷◌, length, slice_index, refl, sym, ap, subst, ◌∙◌}
+use Rattle.std.proofs.Common.{◌≡◌, ℕ, ◌<◌, List, [], ◌∷◌, length, take, slice_index, refl, sym, ap, subst, ◌∙◌, arith}
 use Rattle.std.specs.List.{AllByRecursion}
+use Rattle.std.proofs.lemmas.List.{get_or-take}
+use Rattle.base_types.specs.declared.calls.GrainId.{GrainId}
 use Rattle.base_types.specs.declared.calls.UnitNo.{UnitNo}
 use Rattle.base_types.specs.declared.calls.Value.{Value}
 use Rattle.base_types.specs.declared.shapes.Shape.{Shape}
@@ -16,19 +18,19 @@ use Rattle.silo_spec.specs.Silos.{IsSilo, HasProgram}
 use Rattle.promise_spec.specs.Programs.{Program, shape_in}
 use Rattle.promise_spec.specs.Records.{Commit}
 use Rattle.promise_spec.specs.Versions.{WriteStands, WritesStand, IsKept}
-use Rattle.promise_spec.specs.Entries.{LogEntry, Recorded, Log}
+use Rattle.promise_spec.specs.Entries.{LogEntry, Recorded, Upgraded, Log}
 use Rattle.promise_spec.specs.Blocks.{Saved, saved_by, IsSaved, AreKept, Beginning, Fresh, From, begin_byte, BeginsWhole}
 use Rattle.promise_spec.specs.Logs.{magic, StandsUpTo, IsLogIn}
+use Rattle.promise_spec.proofs.Slots.{header_silo}
 
-module _ (slot : ℕ) (one other : Image) (same : (file : FileId) → slot_of file ≡ slot → other file ≡ one file) where
-  manager_same : one (Manager slot) ≡ other (Manager slot)
-  manager_same = sym (same (Manager slot) refl)
+-- ---- what rests on the files of grains alone
 
+module _ (slot : ℕ) (one other : Image) (same : (grain : GrainId) → other (Grain slot grain) ≡ one (Grain slot grain)) where
   write_moves : (shape : Shape) (unit : UnitNo) (w : Written) (state : List Value) → WriteStands slot shape one unit w state → WriteStands slot shape other unit w state
   write_moves shape unit w state s = record {
     near = s.near;
     fields = s.fields;
-    version = subst (λ (l : List ℕ). IsVersionAt One (length state) w.place l (record { unit = unit; state = state })) (sym (same (Grain slot w.grain) refl)) s.version;
+    version = subst (λ (l : List ℕ). IsVersionAt One (length state) w.place l (record { unit = unit; state = state })) (sym (same w.grain)) s.version;
   }
 
   writes_move : (shape : Shape) (unit : UnitNo) (ws : List Written) (states : List (List Value)) → WritesStand slot shape one unit ws states → WritesStand slot shape other unit ws states
@@ -43,6 +45,7 @@ module _ (slot : ℕ) (one other : Image) (same : (file : FileId) → slot_of fi
   kept_moves : (p : Program) (entries : List LogEntry) → AreKept slot one p entries → AreKept slot other p entries
   kept_moves p [] all = tt
   kept_moves p (Recorded c ∷ entries) all = (commit_moves (shape_in p) c all.0, kept_moves p entries all.1)
+  kept_moves p (Upgraded q ∷ entries) all = (all.0, kept_moves q entries all.1)
 
   saved_moves : (p : Program) (all_saved : List Saved) → AllByRecursion (IsSaved slot p one) all_saved → AllByRecursion (IsSaved slot p other) all_saved
   saved_moves p [] all = tt
@@ -59,6 +62,37 @@ module _ (slot : ℕ) (one other : Image) (same : (file : FileId) → slot_of fi
     each = saved_moves p (saved_by ck) whole.each;
   }
 
+-- ---- the log
+
+-- It stands in an image with other bytes in the manager file, where the header is the same and its blocks stand there too.
+pub stands_behind : (slot : ℕ) (one other : Image) (log : Log) (bodies : List (List ℕ)) (gate : ℕ) → StandsUpTo slot one log bodies gate
+    → ((grain : GrainId) → other (Grain slot grain) ≡ one (Grain slot grain)) → other (ProgramFile slot) ≡ one (ProgramFile slot)
+    → take 15 (other (Manager slot)) ≡ take 15 (one (Manager slot)) → HasBlocks bodies gate (other (Manager slot)) → StandsUpTo slot other log bodies gate
+stands_behind slot one other log bodies gate is grains program head there =
+    let byte : (i : ℕ) → i < 15 → slice_index (other (Manager slot)) i ≡ slice_index (one (Manager slot)) i =
+    λ i low. sym (get_or-take 15 (other (Manager slot)) i 0 low) ∙ ap (λ (l : List ℕ). slice_index l i) head ∙ get_or-take 15 (one (Manager slot)) i 0 low in
+    record {
+      silo = header_silo (other (Manager slot)) (one (Manager slot)) head (omega (arith, there.at, there.within)) is.silo;
+      program = is.program;
+      checked = is.checked;
+      text = subst (HasProgram is.program.text) (sym program) is.text;
+      begins = is.begins;
+      kind = byte 13 (omega arith) ∙ is.kind;
+      zero = byte 14 (omega arith) ∙ is.zero;
+      base = is.base;
+      whole = begins_moves slot one other grains is.program is.begins is.whole;
+      blocks = is.blocks;
+      fit = is.fit;
+      spelled = is.spelled;
+      stand = there;
+      entries = is.entries;
+      kept = kept_moves slot one other grains is.program log.entries is.kept;
+    }
+
+module _ (slot : ℕ) (one other : Image) (same : (file : FileId) → slot_of file ≡ slot → other file ≡ one file) where
+  manager_same : one (Manager slot) ≡ other (Manager slot)
+  manager_same = sym (same (Manager slot) refl)
+
   stands_moves : (log : Log) (bodies : List (List ℕ)) (gate : ℕ) → StandsUpTo slot one log bodies gate → StandsUpTo slot other log bodies gate
   stands_moves log bodies gate is = record {
     silo = subst (IsSilo magic) manager_same is.silo;
@@ -69,13 +103,13 @@ module _ (slot : ℕ) (one other : Image) (same : (file : FileId) → slot_of fi
     kind = subst (λ (l : List ℕ). slice_index l 13 ≡ begin_byte is.begins) manager_same is.kind;
     zero = subst (λ (l : List ℕ). slice_index l 14 ≡ 0) manager_same is.zero;
     base = is.base;
-    whole = begins_moves is.program is.begins is.whole;
+    whole = begins_moves slot one other (λ grain. same (Grain slot grain) refl) is.program is.begins is.whole;
     blocks = is.blocks;
     fit = is.fit;
     spelled = is.spelled;
     stand = subst (HasBlocks bodies gate) manager_same is.stand;
     entries = is.entries;
-    kept = kept_moves is.program log.entries is.kept;
+    kept = kept_moves slot one other (λ grain. same (Grain slot grain) refl) is.program log.entries is.kept;
   }
 
   pub log_moves : (log : Log) → IsLogIn slot one log → IsLogIn slot other log

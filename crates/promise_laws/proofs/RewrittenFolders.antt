@@ -44,7 +44,7 @@ module _ (a b : Log) (front : IsPrefixOf a b) (m : Moment) (either : (image : Im
   sound_by image (inr x) good good_too live is =
       subst (λ (slot : ℕ). IsSound slot image) (one_slot x.0 live image x.1.is_live is) (record { log = b; is = x.1; serial = good_too.0; numbered = good_too.1 })
 
-  two_logs : IsGood a → IsGood b → IsSoundAt m
+  pub two_logs : IsGood a → IsGood b → IsSoundAt m
   two_logs good good_too = record {
     chain = λ one other left left_too x y is_x is_y. two_chain x y (of_two one (either one left) x is_x) (of_two other (either other left_too) y is_y);
     sound = λ image left live is. sound_by image (either image left) good good_too live is;
@@ -61,7 +61,7 @@ compacting_sound live log m either serial numbered = two_logs log (checkpointed 
 -- ---- `compact`
 
 -- over a sound folder the log that the files read as is sound
-log_good : (live : ℕ) (log : Log) (r : Observed) → ReadsMayStay r.old → IsSoundFolder r.old → IsLog live (seen_at_entry r) log → IsGood log
+pub log_good : (live : ℕ) (log : Log) (r : Observed) → ReadsMayStay r.old → IsSoundFolder r.old → IsLog live (seen_at_entry r) log → IsGood log
 log_good live log r stay sound read =
     let s : IsSound live (seen_at_entry r) = sound.sound (seen_at_entry r) stay live read.is_live in
     subst IsGood (one_log live live (seen_at_entry r) s.log log s.is read) (s.serial, s.numbered)
@@ -86,7 +86,7 @@ compacted_keeps r stay is sound =
     let now : IsSoundAt (moment_of r.new) = rewrites_sound is.live is.log r stay sound rewrites (moment_of r.new) last.either in
     record { chain = now.chain; sound = now.sound; shows = rewrites.shows }
 
-left_untouched : (old new : World) → IsUntouched old new → IsSoundFolder old → IsSoundFolder new
+pub left_untouched : (old new : World) → IsUntouched old new → IsSoundFolder old → IsSoundFolder new
 left_untouched old new u sound = record {
   chain = λ one other left left_too. sound.chain one other (u.now.images one left) (u.now.images other left_too);
   sound = λ image left. sound.sound image (u.now.images image left);
@@ -114,7 +114,7 @@ compacted_moments r stay is sound = record {
     by m (inl early) = entry_sound r.old m sound (rewrites.before m early).images
     by m (inr late) = rewrites_sound is.live is.log r stay sound rewrites m (rewrites.moments m (inr (in_append m rewrites.late (moment_of r.new ∷ []) (inl late)))).either
 
-untouched_so : (old new : World) → IsUntouched old new → IsSoundFolder old → Passes IsSoundAt old.past new.past
+pub untouched_so : (old new : World) → IsUntouched old new → IsSoundFolder old → Passes IsSoundAt old.past new.past
 untouched_so old new u sound = weaker (IsAsAtEntry old) IsSoundAt (λ m is. entry_sound old m sound is.images) u.moments
 
 pub compact_moments : (r : Observed) → ReadsMayStay r.old → Compacts r → IsSoundFolder r.old → Passes IsSoundAt r.old.past r.new.past

@@ -1,7 +1,7 @@
 -- A call over a sound folder leaves it one of the same program: each log has the base that each had before which begins at its position.
 use Rattle.std.proofs.Common.{◌≡◌, ◌⊎◌, inl, inr, ℕ, ◌-◌, List, [], ◌∷◌, refl, sym, ap, subst, ◌∙◌}
 use Rattle.host_trait.specs.World.{World, Disk, Image, IsImage, moment_of}
-use Rattle.promise_spec.specs.Entries.{Log, checkpointed, grown}
+use Rattle.promise_spec.specs.Entries.{Log, standing_of, checkpointed, grown, upgraded}
 use Rattle.promise_spec.specs.Logs.{IsLog, HasLog}
 use Rattle.promise_spec.specs.Images.{AreChained, IsSoundFolder}
 use Rattle.promise_spec.specs.Words.{Manner}
@@ -12,10 +12,11 @@ use Rattle.promise_spec.specs.Calls.{IsBadUse}
 use Rattle.promise_spec.specs.Promise.{Keeps, Promises}
 use Rattle.promise_spec.specs.EitherSlot.{HasEither}
 use Rattle.promise_spec.specs.Compaction.{Compacts}
+use Rattle.promise_spec.specs.Programs.{Program}
+use Rattle.promise_spec.specs.Upgrading.{IsUpgraded, UpgradesSilo, program_read}
 use Rattle.promise_spec.proofs.Chains.{chains}
 use Rattle.promise_spec.proofs.Lists.{in_append}
 use Rattle.promise_spec.proofs.OneLog.{one_log}
-use Rattle.promise_spec.proofs.Standings.{in_force}
 use Rattle.promise_spec.proofs.WholeFolders.{whole_folder}
 use Rattle.promise_laws.specs.SoundMoments.{IsRestarted}
 use Rattle.promise_laws.proofs.SoundFolders.{exit_of, restarted_image}
@@ -85,24 +86,47 @@ pub restart_stays : (w after : World) (image : Image) → IsSoundFolder w → Is
 restart_stays w after image sound left restarted =
     stays w after (λ other may. subst (IsImage w.disk) (sym (restarted_image image after restarted other may)) left) sound
 
+-- ---- `upgrade`
+
+-- a log with an upgrade more begins as it did
+same_begin : (live : ℕ) (image : Image) (log b : Log) (q : Program) → IsLog live image log ⊎ IsLog live image (upgraded log q) → HasLog image b → b.base ≡ log.base
+same_begin live image log b q (inl is) has = ap (λ (l : Log). l.base) (one_log has.0 live image b log has.1 is)
+same_begin live image log b q (inr is) has = ap (λ (l : Log). l.base) (one_log has.0 live image b (upgraded log q) has.1 is)
+
+upgraded_stays : (r : Observed) → IsUpgraded r → IsSoundFolder r.old → IsImage r.old.disk (seen_at_entry r)
+    → (one two : Image) (a b : Log) → IsImage r.old.disk one → IsImage r.new.disk two → HasLog one a → HasLog two b → a.base.count ≡ b.base.count → a.base ≡ b.base
+upgraded_stays r is sound seen one two a b left later has also same =
+    let upgrades = is.over_whole (whole_folder r.old sound) in
+    let last = upgrades.moments (moment_of r.new) (inr (in_append (moment_of r.new) upgrades.late (moment_of r.new ∷ []) (inr (inl refl)))) in
+    let begins : b.base ≡ is.log.base = same_begin is.live two is.log b (program_read is.text) (last.either two later) also in
+    let count : a.base.count ≡ is.log.base.count = same ∙ (λ i. (begins i).count) in
+    based one (seen_at_entry r) a is.log (sound.chain one (seen_at_entry r) left seen) has (is.live, upgrades.read) count ∙ sym begins
+
+-- a program that comes into force leaves the log's beginning
+pub upgrade_stays : (r : Observed) → UpgradesSilo r → IsSoundFolder r.old → IsImage r.old.disk (seen_at_entry r)
+    → (one two : Image) (a b : Log) → IsImage r.old.disk one → IsImage r.new.disk two → HasLog one a → HasLog two b → a.base.count ≡ b.base.count → a.base ≡ b.base
+upgrade_stays r (inl input) sound seen = stays r.old r.new input.untouched.now.images sound
+upgrade_stays r (inr (inl unopened)) sound seen = stays r.old r.new unopened.untouched.now.images sound
+upgrade_stays r (inr (inr (inl refused))) sound seen = stays r.old r.new refused.untouched.now.images sound
+upgrade_stays r (inr (inr (inr is))) sound seen = upgraded_stays r is sound seen
+
 -- ---- `compact`
 
 -- where no image is new, a log behind is one at entry
 as_at_entry : (r : Observed) → ((image : Image) → IsImage r.new.disk image → IsImage r.old.disk image) → (image : Image) (after : Log) → IsImage r.new.disk image → HasLog image after
-    → ((entry : Image) × IsImage r.old.disk entry × HasLog entry after) ⊎ ((read : Log) × HasLog (seen_at_entry r) read × (after.base.program ≡ read.base.program))
+    → ((entry : Image) × IsImage r.old.disk entry × HasLog entry after) ⊎ ((read : Log) × HasLog (seen_at_entry r) read × ((after ≡ read) ⊎ (after.base.program ≡ (standing_of read).program)))
 as_at_entry r images image after left has = inl (image, images image left, has)
 
 -- the log that was read, or what stands for it alone
 either_stays : (r : Observed) (live : ℕ) (log : Log) → IsLog live (seen_at_entry r) log → (image : Image) (after : Log) → HasEither live log (checkpointed log) image → HasLog image after
-    → ((entry : Image) × IsImage r.old.disk entry × HasLog entry after) ⊎ ((read : Log) × HasLog (seen_at_entry r) read × (after.base.program ≡ read.base.program))
-either_stays r live log read image after (inl is) has =
-    inr (log, (live, read), ap (λ (l : Log). l.base.program) (one_log has.0 live image after log has.1 is))
+    → ((entry : Image) × IsImage r.old.disk entry × HasLog entry after) ⊎ ((read : Log) × HasLog (seen_at_entry r) read × ((after ≡ read) ⊎ (after.base.program ≡ (standing_of read).program)))
+either_stays r live log read image after (inl is) has = inr (log, (live, read), inl (one_log has.0 live image after log has.1 is))
 either_stays r live log read image after (inr is) has =
-    inr (log, (live, read), ap (λ (l : Log). l.base.program) (one_log has.0 (1 - live) image after (checkpointed log) has.1 is) ∙ in_force log.base log.entries)
+    inr (log, (live, read), inr (ap (λ (l : Log). l.base.program) (one_log has.0 (1 - live) image after (checkpointed log) has.1 is)))
 
--- a folder that is written anew keeps its program
+-- a folder that is written anew keeps the program in force
 pub compact_stays : (r : Observed) → Compacts r → IsSoundFolder r.old → (image : Image) (after : Log) → IsImage r.new.disk image → HasLog image after
-    → ((entry : Image) × IsImage r.old.disk entry × HasLog entry after) ⊎ ((read : Log) × HasLog (seen_at_entry r) read × (after.base.program ≡ read.base.program))
+    → ((entry : Image) × IsImage r.old.disk entry × HasLog entry after) ⊎ ((read : Log) × HasLog (seen_at_entry r) read × ((after ≡ read) ⊎ (after.base.program ≡ (standing_of read).program)))
 compact_stays r (inl unopened) sound image after left has = as_at_entry r unopened.untouched.now.images image after left has
 compact_stays r (inr (inl last)) sound image after left has = as_at_entry r last.untouched.now.images image after left has
 compact_stays r (inr (inr is)) sound image after left has =

@@ -21,7 +21,7 @@ use Rattle.script_meaning.proofs.Lists.{pairs_first, pairs_rest}
 use Rattle.script_meaning.proofs.Plays.{play_rests_on_reads_lem, plays_are_orderly_lem}
 use Rattle.promise_spec.specs.Programs.{Program}
 use Rattle.promise_spec.specs.Records.{Commit, States, put_state, after_writes, IsRecordOf, AreRecordsOf}
-use Rattle.promise_spec.specs.Entries.{LogEntry, Recorded, Standing, after_entry, after_entries, standing_of}
+use Rattle.promise_spec.specs.Entries.{LogEntry, Recorded, Upgraded, Standing, after_entry, after_entries, standing_of}
 use Rattle.base_types.specs.Origins.{depth_of}
 use Rattle.promise_spec.specs.SerialExecution.{IsSerial, Replays, played}
 use Rattle.promise_spec.specs.UnitRule.{played_by, IsPlayOf}
@@ -121,6 +121,7 @@ serial_records types store states (e ∷ es) (l ∷ log) same serial are =
 pub above_entries : (before : Standing) (entries : List LogEntry) → 0 < before.next → 0 < (after_entries before entries).next
 above_entries before [] above = above
 above_entries before (Recorded c ∷ entries) above = above_entries (after_entry before (Recorded c)) entries (omega (arith, above))
+above_entries before (Upgraded p ∷ entries) above = above_entries (after_entry before (Upgraded p)) entries above
 
 pub explained_serial : (p : Program) (r : Observed) (c : Course) → 0 < c.opening.base.next → IsExplained p r c → IsSerial p.types (standing_of c.opening).states c.added
 explained_serial p r c based is =

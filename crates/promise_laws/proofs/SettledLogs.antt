@@ -16,17 +16,17 @@ use Rattle.commit_log.specs.Spelling.{spelling_of_write}
 use Rattle.silo_spec.specs.Silos.{IsSilo}
 use Rattle.silo_spec.specs.Slots.{IsLive}
 use Rattle.promise_spec.specs.Programs.{Program, shape_in}
-use Rattle.promise_spec.specs.Records.{Commit}
-use Rattle.promise_spec.specs.Entries.{LogEntry, Recorded, records_among, Standing, Log, records_of}
+use Rattle.promise_spec.specs.Entries.{LogEntry, Recorded, Standing, Log}
 use Rattle.promise_spec.specs.Blocks.{body_of, Saved, spelled_piece, Checkpoint, Beginning, Fresh, From, begin_byte, base_of, bodies_before, BeginsWhole}
 use Rattle.promise_spec.specs.Logs.{magic, IsLogIn, IsLog, IsPrefix}
-use Rattle.promise_spec.specs.Openings.{LogRead, log_in_file}
+use Rattle.promise_spec.specs.Openings.{ReadEntry, LogRead, log_in_file}
 use Rattle.promise_spec.specs.Prefixes.{IsPrefixOf}
 use Rattle.promise_spec.specs.Images.{AreChained, IsWholeSilo, IsWholeIfSilo, IsWholeFolder}
 use Rattle.promise_spec.specs.Journals.{AllLog}
 use Rattle.promise_spec.proofs.Growing.{program_begins}
 use Rattle.promise_spec.proofs.Prefixes.{of_one_position}
 use Rattle.promise_spec.proofs.ReadLogs.{IsReadIn, read_in}
+use Rattle.promise_spec.proofs.ReadVersions.{entry_seen}
 use Rattle.promise_spec.proofs.Slots.{live_moves}
 
 -- ---- where the logs of one manager file begin
@@ -69,10 +69,9 @@ counts_same live one other a b same is too =
 
 -- ---- how many entries they have
 
--- as many entries as records
-pub entries_count : (entries : List LogEntry) → length (records_among entries) ≡ length entries
-entries_count [] = refl
-entries_count (Recorded c ∷ entries) = omega (arith, entries_count entries)
+-- as many as were read
+entries_count : (live : ℕ) (p : Program) (image : Image) (log : Log) (is : IsReadIn live p image log) → length is.l.entries ≡ length log.entries
+entries_count live p image log is = ap length is.entries ∙ length-map log.entries entry_seen
 
 read_same : (a b : LogRead) (r : Result LogRead ℕ) → r ≡ Ok a → r ≡ Ok b → a ≡ b
 read_same a b r e f = let is : Ok a ≡ Ok b = sym e ∙ f in cc
@@ -80,9 +79,8 @@ read_same a b r e f = let is : Ok a ≡ Ok b = sym e ∙ f in cc
 -- under one program they have equally many
 lengths_same : (live : ℕ) (p : Program) (one other : Image) (a b : Log) → one (Manager live) ≡ other (Manager live) → IsReadIn live p one a → IsReadIn live p other b → length a.entries ≡ length b.entries
 lengths_same live p one other a b same x y =
-    let read : x.l ≡ y.l = read_same x.l y.l (log_in_file One (shape_in p) (one (Manager live))) x.read (ap (log_in_file One (shape_in p)) same ∙ y.read) in
-    let records : map (λ (c : Commit). c.logged) (records_of a) ≡ map (λ (c : Commit). c.logged) (records_of b) = sym x.records ∙ ap (λ (l : LogRead). l.records) read ∙ y.records in
-    sym (entries_count a.entries) ∙ sym (length-map (records_of a) (λ (c : Commit). c.logged)) ∙ ap length records ∙ length-map (records_of b) (λ (c : Commit). c.logged) ∙ entries_count b.entries
+    let read : x.l ≡ y.l = read_same x.l y.l (log_in_file One p (one (Manager live))) x.read (ap (log_in_file One p) same ∙ y.read) in
+    sym (entries_count live p one a x) ∙ ap (λ (l : LogRead). length l.entries) read ∙ entries_count live p other b y
 
 -- a first part that is no shorter is all
 front_is : (a b : List LogEntry) → IsPrefix a b → length a ≡ length b → a ≡ b

@@ -26,6 +26,7 @@ use Rattle.promise_laws.proofs.TrueReplies.{Known, known_of, Recorded, recorded,
 serial_after : (before : Standing) (entries : List LogEntry) (more : List Commit) → IsSerialFrom before entries → IsSerialFrom (after_entries before entries) (map entry.Recorded more) → IsSerialFrom before (entries ++ map entry.Recorded more)
 serial_after before [] more first later = later
 serial_after before (entry.Recorded c ∷ entries) more first later = (first.0, serial_after (after_entry before (entry.Recorded c)) entries more first.1 later)
+serial_after before (entry.Upgraded p ∷ entries) more first later = serial_after (after_entry before (entry.Upgraded p)) entries more first later
 
 -- the order is serial where the opening log is
 pub order_serial : (p : Program) (r : Observed) (c : Course) → program_in_force c ≡ p → 0 < c.opening.base.next → IsExplained p r c → IsSerialFrom c.opening.base c.opening.entries → IsSerialFrom (order c).base (order c).entries

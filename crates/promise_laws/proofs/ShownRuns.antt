@@ -104,6 +104,7 @@ module _ (p : Program) (r : Observed) (c : Course) (based : 0 < c.opening.base.n
       go (ending.BadProgram fault) carried risen = absurd carried
       go (ending.InputTooLong line) carried risen = tt
       go ending.LastGeneration carried risen = absurd carried
+      go (ending.UpgradeRefused at) carried risen = absurd carried
 
   -- and no line was aborted for one; at width 1 none for a lock
   pub ended_anywhere : HasEnded p r c

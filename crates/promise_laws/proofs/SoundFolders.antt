@@ -22,7 +22,7 @@ use Rattle.promise_spec.specs.Images.{IsSound}
 use Rattle.promise_spec.specs.Moments.{IsImageOf}
 use Rattle.promise_spec.specs.Endings as ending
 use Rattle.promise_spec.specs.Endings.{Ending}
-use Rattle.promise_spec.specs.Words.{Manner, Command, Init, Run, Show, History, Audit, Load, Check, Compact}
+use Rattle.promise_spec.specs.Words.{Manner, Command, Init, Run, Show, History, Audit, Load, Check, Compact, Upgrade}
 use Rattle.promise_spec.specs.Courses.{Observed, Course, moments, program_in_force}
 use Rattle.promise_spec.specs.Crashes.{SurvivesCrashes, StaySound, LeavesAlone}
 use Rattle.promise_spec.specs.Refusals.{IsUnopened}
@@ -41,6 +41,7 @@ use Rattle.promise_spec.proofs.Lists.{in_append}
 use Rattle.promise_spec.proofs.Openings.{program_checked}
 use Rattle.promise_spec.proofs.WholeFolders.{whole_folder}
 use Rattle.promise_laws.proofs.RewrittenFolders.{compact_keeps}
+use Rattle.promise_laws.proofs.SoundUpgrades.{upgrade_keeps}
 
 -- ---- what an opening leaves of a file
 
@@ -260,6 +261,7 @@ init_keeps r makes sound = by r.ending makes.ends_as
     by (ending.BadProgram fault) is = stays is.1
     by (ending.InputTooLong line) is = stays is.2
     by ending.LastGeneration is = absurd is
+    by (ending.UpgradeRefused at) is = absurd is
 
 -- one that is done leaves a sound folder, whatever there was, in which each image has the empty log of its input
 pub init_makes : (r : Observed) → ShowsSilos magic r.old.disk → MakesSilo r → r.ending ≡ ending.Done
@@ -310,6 +312,7 @@ obeying_keeps Audit bank r checked text stay_old stay_new obeys sound = audits_k
 obeying_keeps (Load n seed m) bank r checked text stay_old stay_new obeys sound = load_keeps n seed m bank r checked text stay_new obeys sound
 obeying_keeps (Check n seed) bank r checked text stay_old stay_new obeys sound = checks_keep n seed r obeys sound
 obeying_keeps Compact bank r checked text stay_old stay_new obeys sound = compact_keeps r stay_old obeys sound
+obeying_keeps Upgrade bank r checked text stay_old stay_new obeys sound = upgrade_keeps r stay_old obeys sound
 
 -- ---- after a crash
 

@@ -209,11 +209,13 @@ answer_in (l ∷ log) u i a all some =
 pub next-grows : (before : Standing) (entries : List LogEntry) → before.next ≤ (after_entries before entries).next
 next-grows before [] = omega arith
 next-grows before (entry.Recorded l ∷ entries) = (let t = next-grows (after_entry before (entry.Recorded l)) entries in omega (arith, t))
+next-grows before (entry.Upgraded p ∷ entries) = next-grows (after_entry before (entry.Upgraded p)) entries
 
 pub below-next : (before : Standing) (entries : List LogEntry) (l : Commit) → Member l (records_among entries) → l.logged.unit.0 < (after_entries before entries).next
 below-next before [] l m = absurd m
 below-next before (entry.Recorded k ∷ entries) l (inl same) = (let t = next-grows (after_entry before (entry.Recorded k)) entries in let q = ap (λ (z : Commit). z.logged.unit.0) same in omega (arith, t, q))
 below-next before (entry.Recorded k ∷ entries) l (inr m) = below-next (after_entry before (entry.Recorded k)) entries l m
+below-next before (entry.Upgraded p ∷ entries) l m = below-next (after_entry before (entry.Upgraded p)) entries l m
 
 above-parent : (first : ℕ) (log : List Commit) (l : Commit) → AreNumbered first log → Member l log → IsAboveParent l.logged.origin l.logged.unit.0
 above-parent first [] l all m = absurd m

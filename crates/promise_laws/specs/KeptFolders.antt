@@ -2,7 +2,7 @@
 use Rattle.std.specs.Prelude.{◌≡◌, ◌⊎◌}
 use Rattle.host_trait.specs.World.{Disk, Image, IsImage}
 use Rattle.promise_spec.specs.Programs.{Program, IsChecked}
-use Rattle.promise_spec.specs.Entries.{Log}
+use Rattle.promise_spec.specs.Entries.{Log, standing_of}
 use Rattle.promise_spec.specs.Logs.{HasLog}
 use Rattle.promise_spec.specs.Loads.{bank_text}
 use Rattle.promise_spec.specs.Courses.{Observed, seen_at_entry}
@@ -17,11 +17,11 @@ abbrev pub KeepsBases : Disk → Disk → Type 0
 KeepsBases old new = (one two : Image) (a b : Log) → IsImage old one → IsImage new two → HasLog one a → HasLog two b
     → a.base.count ≡ b.base.count → a.base ≡ b.base
 
--- the log is that of an image at entry, or has the program of the log that the files read as
+-- the log is that of an image at entry, or that which the files read as, or begins with the program in force at the end of that
 abbrev pub HasSameProgram : Observed → Log → Type 0
 HasSameProgram r after =
     ((entry : Image) × IsImage r.old.disk entry × HasLog entry after)
-    ⊎ ((read : Log) × HasLog (seen_at_entry r) read × (after.base.program ≡ read.base.program))
+    ⊎ ((read : Log) × HasLog (seen_at_entry r) read × ((after ≡ read) ⊎ (after.base.program ≡ (standing_of read).program)))
 
 -- the program of a load's silo
 pub record IsBank (bank : Program) : Type 0 where

@@ -15,6 +15,7 @@ ghost use Rattle.promise_spec.specs.Calls.{Obeys, IsBadUse};
 ghost use Rattle.promise_spec.specs.Images.{IsSoundFolder};
 ghost use Rattle.promise_spec.specs.Promise.{Promises};
 ghost use Rattle.promise_spec.specs.Compaction.{Compacts};
+ghost use Rattle.promise_spec.specs.Upgrading.{UpgradesSilo};
 ghost use Rattle.promise_laws.specs.Closings.{ReadsMayStay};
 ghost use Rattle.promise_laws.specs.SoundMoments.{IsSoundAt, IsRestarted};
 ghost use Rattle.promise_laws.specs.KeptFolders.{LeavesSound, KeepsBases, HasSameProgram, IsBank};
@@ -30,6 +31,7 @@ pub fn folders_stay_sound()
     ensures load { (n seed : ℕ) (m : Manner) (bank : Program) (r : Observed) → IsBank bank → ReadsMayStay r.new → Loads n seed m r → LeavesSound r }
     ensures check { (n seed : ℕ) (r : Observed) → Checks n seed r → LeavesSound r }
     ensures compact { (r : Observed) → ReadsMayStay r.old → Compacts r → LeavesSound r }
+    ensures upgrade { (r : Observed) → ReadsMayStay r.old → UpgradesSilo r → LeavesSound r }
     ensures any { (c : Command) (bank : Program) (r : Observed) → IsBank bank → ReadsMayStay r.old → ReadsMayStay r.new → Obeys c r → LeavesSound r }
 {}
 
@@ -43,8 +45,9 @@ pub fn made_folders_are_sound()
 {}
 
 /// A call over a sound folder leaves one of the same program, but after a silo was made: the log of each image after it has the base of
-/// each before it that begins at its position, where what the files read as is one of the images at entry. So does a crash. Behind a
-/// `compact` each log is one of those at entry, or has the program of the one that was read.
+/// each before it that begins at its position, where what the files read as is one of the images at entry: behind an `upgrade` the
+/// program that was in force at that position is the same. So does a crash. Behind a
+/// `compact` each log is one of those at entry, or the one that was read, or begins with the program in force at the end of that.
 pub fn folders_keep_their_program()
     ensures run { (m : Manner) (r : Observed) → Promises m r → IsSoundFolder r.old → IsImage r.old.disk (seen_at_entry r)
         → KeepsBases r.old.disk r.new.disk }
@@ -53,6 +56,8 @@ pub fn folders_keep_their_program()
     ensures audits { (r : Observed) → Audits r → IsSoundFolder r.old → KeepsBases r.old.disk r.new.disk }
     ensures bad_use { (r : Observed) → IsBadUse r → IsSoundFolder r.old → KeepsBases r.old.disk r.new.disk }
     ensures check { (n seed : ℕ) (r : Observed) → Checks n seed r → IsSoundFolder r.old → KeepsBases r.old.disk r.new.disk }
+    ensures upgrade { (r : Observed) → UpgradesSilo r → IsSoundFolder r.old → IsImage r.old.disk (seen_at_entry r)
+        → KeepsBases r.old.disk r.new.disk }
     ensures compact { (r : Observed) → Compacts r → IsSoundFolder r.old → (image : Image) (after : Log) → IsImage r.new.disk image
         → HasLog image after → HasSameProgram r after }
     ensures restart { (w after : World) (image : Image) → IsSoundFolder w → IsImage w.disk image → IsRestarted image after

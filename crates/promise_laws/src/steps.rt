@@ -16,7 +16,7 @@ ghost use Rattle.promise_spec.specs.Images.{IsWholeFolder, AreChained, IsSoundIf
 ghost use Rattle.request_wire.specs.Reply.{reply_line};
 ghost use Rattle.promise_spec.specs.Programs.{Program, shape_in};
 ghost use Rattle.promise_spec.specs.Records.{Commit};
-ghost use Rattle.promise_spec.specs.Entries.{Log, grown};
+ghost use Rattle.promise_spec.specs.Entries.{Log, standing_of, grown};
 ghost use Rattle.promise_spec.specs.Blocks.{Records, body_of};
 ghost use Rattle.core_model.specs.CoreState.{Member};
 ghost use Rattle.promise_spec.specs.Crashes.{Acknowledges, Holds};
@@ -109,8 +109,8 @@ pub fn journals_back_entries()
 /// Where the live manager file may be left with the block of a batch in doubt behind the bodies of a log, an image has the batch.
 pub fn doubts_have_an_image()
     ensures { (live : ℕ) (disk : Disk) (some : Image) (before : Log) (bodies : List (List ℕ)) (at : ℕ) (batch : List Commit) (gate : ℕ) (c : List ℕ)
-        → (s : StandsUpTo live some before bodies at) → length batch ≤ 64
-        → AllByRecursion (λ (l : Commit). IsRecordIn One Logged (shape_in s.program) l.logged) batch
+        → StandsUpTo live some before bodies at → length batch ≤ 64
+        → AllByRecursion (λ (l : Commit). IsRecordIn One Logged (shape_in (standing_of before).program) l.logged) batch
         → MayLeave (disk (Manager live)) c → LogsUpTo (bodies ++ body_of (Records batch) ∷ []) gate c → (rest : Image) → IsImage disk rest
         → ((image : Image) → IsImage disk image → IsLog live image before ⊎ IsLog live image (grown before batch))
         → (image : Image) × (IsImage disk image × IsLog live image (grown before batch)) }

@@ -9,64 +9,38 @@ use Rattle.gate_block.specs.Log.{LogsUpTo}
 use Rattle.silo_spec.specs.Silos.{IsSilo, HasProgram}
 use Rattle.promise_spec.specs.Programs.{Program, IsChecked, shape_in}
 use Rattle.promise_spec.specs.Records.{Commit}
-use Rattle.promise_spec.specs.Entries.{LogEntry, Recorded, records_among, new_log, grown}
+use Rattle.promise_spec.specs.Entries.{LogEntry, Recorded, Standing, Log, new_log, grown}
 use Rattle.promise_spec.specs.Versions.{IsKept}
-use Rattle.promise_spec.specs.Blocks.{Block, Records, entries_in, body_of, BlockFits, AreKept, Fresh}
-use Rattle.promise_spec.specs.Logs.{magic, IsLogIn}
-use Rattle.promise_spec.proofs.Standings.{records_append, records_back}
+use Rattle.promise_spec.specs.Blocks.{Records, entries_in, body_of, BlockFits, AreKept, Fresh}
+use Rattle.promise_spec.specs.Logs.{magic, StandsUpTo, IsLogIn}
+use Rattle.promise_spec.proofs.Growing.{program_begins}
 
--- ---- entries and blocks of records alone
-
--- entries are their records
-pub recorded_back : (entries : List LogEntry) → map Recorded (records_among entries) ≡ entries
-recorded_back [] = refl
-recorded_back (Recorded c ∷ entries) = ap (λ (l : List LogEntry). Recorded c ∷ l) (recorded_back entries)
-
--- the batch of a block, and the body of a batch
-pub batch_in : Block → List Commit
-batch_in (Records batch) = batch
+-- ---- blocks of records alone
 
 abbrev pub batch_body : List Commit → List ℕ
 batch_body batch = body_of (Records batch)
 
-pub bodies_are : (blocks : List Block) → map body_of blocks ≡ map batch_body (map batch_in blocks)
-unfolding batch_in
-bodies_are [] = refl
-bodies_are (Records batch ∷ blocks) = ap (λ (l : List (List ℕ)). batch_body batch ∷ l) (bodies_are blocks)
-
-pub bodies_again : (batches : List (List Commit)) → map batch_body batches ≡ map body_of (map Records batches)
+bodies_again : (batches : List (List Commit)) → map batch_body batches ≡ map body_of (map Records batches)
 bodies_again [] = refl
 bodies_again (batch ∷ batches) = ap (λ (l : List (List ℕ)). batch_body batch ∷ l) (bodies_again batches)
 
-pub sizes_are : (blocks : List Block) → AllByRecursion BlockFits blocks → AllByRecursion (λ (batch : List Commit). length batch ≤ 64) (map batch_in blocks)
-unfolding batch_in
-sizes_are [] all = tt
-sizes_are (Records batch ∷ blocks) all = (all.0, sizes_are blocks all.1)
-
-pub sizes_again : (batches : List (List Commit)) → AllByRecursion (λ (batch : List Commit). length batch ≤ 64) batches → AllByRecursion BlockFits (map Records batches)
+sizes_again : (batches : List (List Commit)) → AllByRecursion (λ (batch : List Commit). length batch ≤ 64) batches → AllByRecursion BlockFits (map Records batches)
 sizes_again [] all = tt
 sizes_again (batch ∷ batches) all = (all.0, sizes_again batches all.1)
 
-pub entries_are : (blocks : List Block) → records_among (flat_map entries_in blocks) ≡ flat_map (λ (batch : List Commit). batch) (map batch_in blocks)
-unfolding batch_in
-entries_are [] = refl
-entries_are (Records batch ∷ blocks) =
-    records_append (map Recorded batch) (flat_map entries_in blocks)
-    ∙ ap (λ (l : List Commit). l ++ records_among (flat_map entries_in blocks)) (records_back batch)
-    ∙ ap (λ (l : List Commit). batch ++ l) (entries_are blocks)
-
-pub entries_again : (batches : List (List Commit)) → map Recorded (flat_map (λ (batch : List Commit). batch) batches) ≡ flat_map entries_in (map Records batches)
+entries_again : (batches : List (List Commit)) → map Recorded (flat_map (λ (batch : List Commit). batch) batches) ≡ flat_map entries_in (map Records batches)
 entries_again [] = refl
 entries_again (batch ∷ batches) = map-append Recorded batch (flat_map (λ (b : List Commit). b) batches) ∙ ap (λ (l : List LogEntry). map Recorded batch ++ l) (entries_again batches)
 
-module _ (live : ℕ) (p : Program) (image : Image) where
-  pub kept_are : (entries : List LogEntry) → AreKept live image p entries → AllByRecursion (IsKept live (shape_in p) image) (records_among entries)
-  kept_are [] all = tt
-  kept_are (Recorded c ∷ entries) all = (all.0, kept_are entries all.1)
+kept_again : (live : ℕ) (p : Program) (image : Image) (commits : List Commit) → AllByRecursion (IsKept live (shape_in p) image) commits → AreKept live image p (map Recorded commits)
+kept_again live p image [] all = tt
+kept_again live p image (c ∷ commits) all = (all.0, kept_again live p image commits all.1)
 
-  pub kept_again : (commits : List Commit) → AllByRecursion (IsKept live (shape_in p) image) commits → AreKept live image p (map Recorded commits)
-  kept_again [] all = tt
-  kept_again (c ∷ commits) all = (all.0, kept_again commits all.1)
+-- ---- where a log begins
+
+-- the program of the folder is in force there
+pub base_program : (live : ℕ) (image : Image) (log : Log) (bodies : List (List ℕ)) (gate : ℕ) → (s : StandsUpTo live image log bodies gate) → log.base.program ≡ s.program
+base_program live image log bodies gate s = ap (λ (b : Standing). b.program) s.base ∙ program_begins s.program s.begins
 
 -- ---- a log behind a new silo
 

@@ -1,5 +1,5 @@
--- What a log becomes by a sealed batch, and which grains have their type's initial fields.
-use Rattle.std.proofs.Common.{◌≡◌, ℕ, ◌≤◌, Bool, true, false, ◌||◌, if◌then◌else◌, List, [], ◌∷◌, ◌++◌, length, map, fold, refl, sym, ap, subst, ◌∙◌, append_assoc, append-nil}
+-- What a log becomes by a sealed block, and which grains have their type's initial fields.
+use Rattle.std.proofs.Common.{◌≡◌, ℕ, ◌≤◌, Bool, true, false, ◌||◌, cond, if◌then◌else◌, List, [], ◌∷◌, ◌++◌, length, map, fold, refl, sym, ap, subst, ◌∙◌, append_assoc, append-nil}
 use Rattle.std.specs.List.{flat_map, AllByRecursion}
 use Rattle.std.proofs.lemmas.Bool.{false≢true}
 use Rattle.std.proofs.lemmas.List.{map-append}
@@ -8,17 +8,17 @@ use Rattle.base_types.specs.declared.calls.Value.{Value}
 use Rattle.host_trait.specs.declared.channels.FileId.TheVariants.{Manager}
 use Rattle.host_trait.specs.World.{Image}
 use Rattle.gate_block.specs.Log.{HasBlocks}
+use Rattle.script_check.specs.Carrying.{carried_state}
 use Rattle.script_holding.specs.Holding.{same_grain}
 use Rattle.promise_spec.specs.Programs.{Program, shape_in}
 use Rattle.promise_spec.specs.Records.{Commit, States, written, put_state}
-use Rattle.promise_spec.specs.Entries.{LogEntry, Recorded, records_among, Standing, initial_states, is_among, new_silo, after_entry, after_entries, Log, standing_of, grown}
+use Rattle.promise_spec.specs.Entries.{LogEntry, Recorded, Upgraded, records_among, Standing, initial_states, is_among, new_silo, after_entry, after_entries, Log, standing_of, grown, upgraded}
 use Rattle.promise_spec.specs.Versions.{IsKept}
-use Rattle.promise_spec.specs.Blocks.{Block, Records, entries_in, body_of, BlockFits, AreKept, states_saved, Beginning, Fresh, From, base_of, bodies_before}
+use Rattle.promise_spec.specs.Blocks.{Block, Records, Upgrade, entries_in, body_of, BlockFits, MayFollow, AreKept, states_saved, Beginning, Fresh, From, base_of, bodies_before}
 use Rattle.promise_spec.specs.Logs.{StandsUpTo}
 use Rattle.promise_spec.proofs.Lists.{both_parts}
-use Rattle.promise_spec.proofs.Standings.{in_force}
 
--- ---- a sealed batch
+-- ---- a sealed block
 
 pub entries_more : (blocks : List Block) (b : Block) → flat_map entries_in (blocks ++ b ∷ []) ≡ flat_map entries_in blocks ++ entries_in b
 entries_more [] b = append-nil (entries_in b)
@@ -29,22 +29,23 @@ module _ (slot : ℕ) (image : Image) (p : Program) where
   records_kept [] all = tt
   records_kept (c ∷ batch) all = (all.0, records_kept batch all.1)
 
-  kept_more : (entries : List LogEntry) (batch : List Commit) → AreKept slot image p entries → AllByRecursion (IsKept slot (shape_in p) image) batch → AreKept slot image p (entries ++ map Recorded batch)
-  kept_more [] batch kept all = records_kept batch all
-  kept_more (Recorded c ∷ entries) batch kept all = (kept.0, kept_more entries batch kept.1 all)
+-- entries that are kept under the program in force, behind others that are kept
+kept_both : (slot : ℕ) (image : Image) (before : Standing) (entries more : List LogEntry) → AreKept slot image before.program entries → AreKept slot image (after_entries before entries).program more → AreKept slot image before.program (entries ++ more)
+kept_both slot image before [] more kept all = all
+kept_both slot image before (Recorded c ∷ entries) more kept all = (kept.0, kept_both slot image (after_entry before (Recorded c)) entries more kept.1 all)
+kept_both slot image before (Upgraded q ∷ entries) more kept all = (kept.0, kept_both slot image (after_entry before (Upgraded q)) entries more kept.1 all)
 
 pub program_begins : (p : Program) (b : Beginning) → (base_of p b).program ≡ p
 program_begins p Fresh = refl
 program_begins p (From ck) = refl
 
--- the block of a batch stands behind the log, and its records are kept under the program in force
-pub sealed : (slot : ℕ) (image : Image) (log : Log) (bodies : List (List ℕ)) (gate : ℕ) → StandsUpTo slot image log bodies gate
-    → (batch : List Commit) (next : ℕ) → length batch ≤ 64 → AllByRecursion (IsKept slot (shape_in (standing_of log).program) image) batch
-    → HasBlocks (bodies ++ body_of (Records batch) ∷ []) next (image (Manager slot))
-    → StandsUpTo slot image (grown log batch) (bodies ++ body_of (Records batch) ∷ []) next
-sealed slot image log bodies gate is batch next few kept there =
-    let block : Block = Records batch in
-    let program : (standing_of log).program ≡ is.program = in_force log.base log.entries ∙ ap (λ (s : Standing). s.program) is.base ∙ program_begins is.program is.begins in
+-- a block stands behind the log, and its entries are kept under the program in force
+pub block_more : (slot : ℕ) (image : Image) (log : Log) (bodies : List (List ℕ)) (gate : ℕ) → StandsUpTo slot image log bodies gate
+    → (block : Block) (next : ℕ) → BlockFits block → AreKept slot image (standing_of log).program (entries_in block)
+    → HasBlocks (bodies ++ body_of block ∷ []) next (image (Manager slot))
+    → StandsUpTo slot image (record { base = log.base; entries = log.entries ++ entries_in block }) (bodies ++ body_of block ∷ []) next
+block_more slot image log bodies gate is block next fits kept there =
+    let begins : log.base.program ≡ is.program = ap (λ (s : Standing). s.program) is.base ∙ program_begins is.program is.begins in
     record {
       silo = is.silo;
       program = is.program;
@@ -56,22 +57,38 @@ sealed slot image log bodies gate is batch next few kept there =
       base = is.base;
       whole = is.whole;
       blocks = is.blocks ++ block ∷ [];
-      fit = both_parts BlockFits is.blocks (block ∷ []) is.fit (few, tt);
+      fit = both_parts BlockFits is.blocks (block ∷ []) is.fit (fits, tt);
       spelled =
           ap (λ (l : List (List ℕ)). l ++ body_of block ∷ []) is.spelled
           ∙ append_assoc (bodies_before is.begins) (map body_of is.blocks) (body_of block ∷ [])
           ∙ ap (λ (l : List (List ℕ)). bodies_before is.begins ++ l) (sym (map-append body_of is.blocks (block ∷ [])));
       stand = there;
-      entries = ap (λ (l : List LogEntry). l ++ map Recorded batch) is.entries ∙ sym (entries_more is.blocks block);
-      kept = kept_more slot image is.program log.entries batch is.kept (subst (λ (p : Program). AllByRecursion (IsKept slot (shape_in p) image) batch) program kept);
+      entries = ap (λ (l : List LogEntry). l ++ entries_in block) is.entries ∙ sym (entries_more is.blocks block);
+      kept = subst (λ (p : Program). AreKept slot image p (log.entries ++ entries_in block)) begins
+          (kept_both slot image log.base log.entries (entries_in block) (subst (λ (p : Program). AreKept slot image p log.entries) (sym begins) is.kept) kept);
     }
 
--- it begins as before
+-- the block of a batch, whose records are kept under the program in force
+pub sealed : (slot : ℕ) (image : Image) (log : Log) (bodies : List (List ℕ)) (gate : ℕ) → StandsUpTo slot image log bodies gate
+    → (batch : List Commit) (next : ℕ) → length batch ≤ 64 → AllByRecursion (IsKept slot (shape_in (standing_of log).program) image) batch
+    → HasBlocks (bodies ++ body_of (Records batch) ∷ []) next (image (Manager slot))
+    → StandsUpTo slot image (grown log batch) (bodies ++ body_of (Records batch) ∷ []) next
+sealed slot image log bodies gate is batch next few kept there =
+    block_more slot image log bodies gate is (Records batch) next few (records_kept slot image (standing_of log).program batch kept) there
+
+-- the block of an upgrade, whose program may follow the one in force
+pub sealed_upgrade : (slot : ℕ) (image : Image) (log : Log) (bodies : List (List ℕ)) (gate : ℕ) → StandsUpTo slot image log bodies gate
+    → (q : Program) (next : ℕ) → MayFollow (standing_of log).program q
+    → HasBlocks (bodies ++ body_of (Upgrade q) ∷ []) next (image (Manager slot))
+    → StandsUpTo slot image (upgraded log q) (bodies ++ body_of (Upgrade q) ∷ []) next
+sealed_upgrade slot image log bodies gate is q next may there = block_more slot image log bodies gate is (Upgrade q) next tt (may, tt) there
+
+-- with a batch it begins as before
 pub sealed_begins : (slot : ℕ) (image : Image) (log : Log) (bodies : List (List ℕ)) (gate : ℕ) → (is : StandsUpTo slot image log bodies gate)
     → (batch : List Commit) (next : ℕ) → (few : length batch ≤ 64) → (kept : AllByRecursion (IsKept slot (shape_in (standing_of log).program) image) batch)
     → (there : HasBlocks (bodies ++ body_of (Records batch) ∷ []) next (image (Manager slot)))
     → (sealed slot image log bodies gate is batch next few kept there).begins ≡ is.begins
-unfolding sealed
+unfolding sealed block_more
 sealed_begins slot image log bodies gate is batch next few kept there = refl
 
 -- ---- grains without a state in the store
@@ -115,11 +132,14 @@ held_are before (Recorded c ∷ entries) grain =
     held_are (after_entry before (Recorded c)) entries grain
     ∙ sym (first_last (is_among (written c) grain) (is_among later grain) (before.held grain))
     ∙ ap (λ (b : Bool). b || before.held grain) (sym (among_either (written c) later grain))
+held_are before (Upgraded p ∷ entries) grain = held_are (after_entry before (Upgraded p)) entries grain
 
 plain_entry : (before : Standing) (entry : LogEntry) → IsPlain before → IsPlain (after_entry before entry)
 plain_entry before (Recorded c) plain grain none =
     let parts = neither (is_among (written c) grain) (before.held grain) none in
     others_stay (written c) before.states grain parts.0 ∙ plain grain parts.1
+plain_entry before (Upgraded p) plain grain none =
+    ap (λ (b : Bool). cond b (carried_state before.program.types p.types grain.kind (before.states grain)) (initial_states p grain)) none
 
 pub plain_entries : (before : Standing) (entries : List LogEntry) → IsPlain before → IsPlain (after_entries before entries)
 plain_entries before [] plain = plain
@@ -130,6 +150,5 @@ pub plain_base : (p : Program) (b : Beginning) → IsPlain (base_of p b)
 plain_base p Fresh grain none = refl
 plain_base p (From ck) grain none = others_stay (states_saved ck) (initial_states p) grain none
 
-pub unheld : (p : Program) (entries : List LogEntry) (grain : GrainId) → (after_entries (new_silo p) entries).held grain ≡ false → (after_entries (new_silo p) entries).states grain ≡ initial_states p grain
-unheld p entries grain none =
-    plain_entries (new_silo p) entries (λ g no. refl) grain none ∙ ap (λ (q : Program). initial_states q grain) (in_force (new_silo p) entries)
+pub unheld : (p : Program) (entries : List LogEntry) (grain : GrainId) → (after_entries (new_silo p) entries).held grain ≡ false → (after_entries (new_silo p) entries).states grain ≡ initial_states (after_entries (new_silo p) entries).program grain
+unheld p entries grain none = plain_entries (new_silo p) entries (λ g no. refl) grain none

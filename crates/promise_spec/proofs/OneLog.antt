@@ -3,7 +3,7 @@ use Rattle.std.proofs.Common.{◌≡◌, ℕ, Result, Ok, sym, ap, subst, ◌∙
 use Rattle.host_trait.specs.World.{Image}
 use Rattle.host_trait.specs.declared.channels.FileId.TheVariants.{Manager, Program as ProgramFile}
 use Rattle.field_codec.specs.declared.formats.Format.TheVariants.{One}
-use Rattle.promise_spec.specs.Programs.{Program, shape_in}
+use Rattle.promise_spec.specs.Programs.{Program}
 use Rattle.promise_spec.specs.Entries.{Log}
 use Rattle.promise_spec.specs.Logs.{IsLogIn, IsLog}
 use Rattle.promise_spec.specs.Openings.{LogRead, log_in_file, log_of}
@@ -22,7 +22,7 @@ one_in live image a b x y =
     one_program (image (ProgramFile live)) x.stands.program y.stands.program x.stands.checked y.stands.checked x.stands.text y.stands.text in
     let one : IsReadIn live y.stands.program image a = subst (λ (p : Program). IsReadIn live p image a) program (read_in live image a x) in
     let other : IsReadIn live y.stands.program image b = read_in live image b y in
-    let same : one.l ≡ other.l = read_same one.l other.l (log_in_file One (shape_in y.stands.program) (image (Manager live))) one.read other.read in
+    let same : one.l ≡ other.l = read_same one.l other.l (log_in_file One y.stands.program (image (Manager live))) one.read other.read in
     sym one.is ∙ ap (log_of live y.stands.program image) same ∙ other.is
 
 -- An image has one log, whichever slots are said to be live.

@@ -1,26 +1,15 @@
--- The blocks of a manager file and the records in them, from what is read and back.
-use Rattle.std.proofs.Common.{◌≡◌, ◌≢◌, ℕ, zero, suc, ◌+◌, ◌^◌, ◌<◌, ◌≤◌, nat_lt, Bool, true, false, if◌then◌else◌, List, [], ◌∷◌, ◌++◌, length, map, slice_index, take, drop, Result, Ok, Err, refl, sym, ◌∙◌, ap, subst, arith, append_assoc, append-nil, length-take, length-drop}
+-- The blocks of a manager file, from what is read and back.
+use Rattle.std.proofs.Common.{◌≡◌, ◌≢◌, ℕ, zero, suc, ◌+◌, ◌^◌, ◌<◌, ◌≤◌, nat_lt, Bool, true, false, if◌then◌else◌, List, [], ◌∷◌, ◌++◌, length, slice_index, take, drop, Ok, refl, sym, ◌∙◌, ap, subst, arith, append_assoc, append-nil, length-take, length-drop}
 use Rattle.std.proofs.lemmas.Bool.{eqb-true, eq-eqb, ltb-true, false≢true}
 use Rattle.std.specs.Int.{w32, to_le_bytes}
-use Rattle.std.specs.List.{flat_map, AllByRecursion}
-use Rattle.base_types.specs.declared.shapes.Shape.{Shape}
-use Rattle.field_codec.specs.declared.formats.Format.TheVariants.{One}
-use Rattle.field_codec.specs.declared.faults.CodecFault.{CodecFault}
-use Rattle.field_codec.specs.declared.units.Numbers.TheVariants.{Logged}
+use Rattle.std.specs.List.{AllByRecursion}
 use Rattle.field_codec.specs.Readers.{AreBytes}
 use Rattle.field_codec.proofs.Counts.{wide32, AreBytes-cut}
-use Rattle.field_codec.proofs.Wholes.{whole_takes, whole_again}
 use Rattle.gate_block.specs.Gates.{is_open_at}
 use Rattle.gate_block.specs.Blocks.{BehindGate, shut, bad, whole, found_at, size_at, block_at}
 use Rattle.gate_block.specs.Log.{then_bodies, then_gate, bodies_from, bodies_of, gate_from, gate_of, HasBlocks, LogsUpTo, first_gate}
 use Rattle.gate_block.proofs.Logs.{is_whole, no_blocks, read_more, spelled, whole_fits}
-use Rattle.commit_log.specs.declared.records.CommitRecord.{CommitRecord}
-use Rattle.commit_log.specs.Spelling.{spelling_of_body}
-use Rattle.commit_log.specs.Bodies.{IsRecordIn}
-use Rattle.commit_log.specs.Fields.{records_in, body_in}
-use Rattle.commit_log.proofs.Fields.{AreRecords, records_reads}
-use Rattle.promise_spec.specs.Openings.{and_records, no_more, records_behind}
-use Rattle.promise_spec.proofs.Lists.{parts_of, both_parts}
+use Rattle.promise_spec.specs.Openings.{ReadEntry, no_more}
 
 -- ---- blocks
 
@@ -116,56 +105,7 @@ module _ (file : List ℕ) where
   no_whole = ends (length file) 15 (omega arith)
 
 -- what ends a log whose last block isn't damaged
-pub ended : (gate : ℕ) (found : BehindGate) (last : List CommitRecord) → is_whole found ≡ false → no_more gate found ≡ Ok last → (found ≡ shut) × (last ≡ [])
+pub ended : (gate : ℕ) (found : BehindGate) (last : List ReadEntry) → is_whole found ≡ false → no_more gate found ≡ Ok last → (found ≡ shut) × (last ≡ [])
 ended gate shut last stop e = (refl, cc)
 ended gate bad last stop e = absurd cc
 ended gate (whole body) last stop e = absurd (false≢true (sym stop))
-
--- ---- records
-
-both_read : (at : ℕ) (first : Result (List CommitRecord) CodecFault) (more : Result (List CommitRecord) ℕ) (all : List CommitRecord) → and_records at first more ≡ Ok all
-    → (a : List CommitRecord) × (b : List CommitRecord) × (first ≡ Ok a) × (more ≡ Ok b) × (a ++ b ≡ all)
-both_read at (Err fault) more all e = absurd cc
-both_read at (Ok a) (Err place) all e = absurd cc
-both_read at (Ok a) (Ok b) all e = (a, b, refl, refl, cc)
-
-module _ (shape : Shape) where
-  -- These bodies are read as these records, body by body, and then others.
-  pub record AreBatches (bodies : List (List ℕ)) (all last : List CommitRecord) : Type 0 where
-    pub batches : List (List CommitRecord)
-    pub spelled : bodies ≡ map spelling_of_body batches
-    pub sizes : AllByRecursion (λ batch. length batch ≤ 64) batches
-    pub fit : AllByRecursion (IsRecordIn One Logged shape) (flat_map (λ batch. batch) batches)
-    pub all_are : all ≡ flat_map (λ batch. batch) batches ++ last
-
-  -- what is read of bodies is what they spell
-  pub batches_of : (gate : ℕ) (bodies : List (List ℕ)) (end : Result (List CommitRecord) ℕ) (all : List CommitRecord) → AllByRecursion AreBytes bodies → records_behind One shape gate bodies end ≡ Ok all
-      → (last : List CommitRecord) × (end ≡ Ok last) × AreBatches bodies all last
-  batches_of gate [] end all are e = (all, e, record { batches = []; spelled = refl; sizes = tt; fit = tt; all_are = refl })
-  batches_of gate (body ∷ bodies) end all are e =
-      let t = both_read (gate + 5) (body_in One Logged shape body) (records_behind One shape (gate + 5 + length body) bodies end) all e in
-      let more = batches_of (gate + 5 + length body) bodies end t.1 are.1 t.3 in
-      let is = whole_takes spelling_of_body (AreRecords One Logged shape) (records_in One Logged shape) (records_reads One Logged shape 0) body are.0 t.0 t.2 in
-      let rest : List CommitRecord = flat_map (λ batch. batch) more.2.batches in (
-        more.0,
-        more.1,
-        record {
-          batches = t.0 ∷ more.2.batches;
-          spelled = λ i. is.1 i ∷ more.2.spelled i;
-          sizes = (is.0.0, more.2.sizes);
-          fit = both_parts (IsRecordIn One Logged shape) t.0 rest is.0.1 more.2.fit;
-          all_are = sym t.4 ∙ ap (λ (l : List CommitRecord). t.0 ++ l) more.2.all_are ∙ sym (append_assoc t.0 rest more.0);
-        },
-      )
-
-  -- and what bodies spell is read of them
-  pub batches_read : (gate : ℕ) (batches : List (List CommitRecord)) → AllByRecursion (λ batch. length batch ≤ 64) batches → AllByRecursion (IsRecordIn One Logged shape) (flat_map (λ batch. batch) batches)
-      → records_behind One shape gate (map spelling_of_body batches) (Ok []) ≡ Ok (flat_map (λ batch. batch) batches)
-  batches_read gate [] sizes fit = refl
-  batches_read gate (batch ∷ batches) sizes fit =
-      let t = parts_of (IsRecordIn One Logged shape) batch (flat_map (λ b. b) batches) fit in
-      let one : body_in One Logged shape (spelling_of_body batch) ≡ Ok batch =
-      whole_again spelling_of_body (AreRecords One Logged shape) (records_in One Logged shape) (records_reads One Logged shape 0) (spelling_of_body batch) batch (sizes.0, t.0) refl in
-      let more : records_behind One shape (gate + 5 + length (spelling_of_body batch)) (map spelling_of_body batches) (Ok []) ≡ Ok (flat_map (λ b. b) batches) =
-      batches_read (gate + 5 + length (spelling_of_body batch)) batches sizes.1 t.1 in
-      λ i. and_records (gate + 5) (one i) (more i)

@@ -15,12 +15,12 @@ use Rattle.field_codec.specs.Readers.{AreBytes, Reader, whole, refused, field, c
 use Rattle.field_codec.proofs.Readers.{then_ok, ok_is, chosen}
 use Rattle.commit_log.specs.declared.records.CheckpointHead.{CheckpointHead}
 use Rattle.commit_log.specs.declared.records.CheckpointPiece.{CheckpointPiece}
-use Rattle.commit_log.specs.declared.records.CommitRecord.{CommitRecord}
 use Rattle.commit_log.specs.declared.records.Written.{Written}
 use Rattle.commit_log.specs.Orders.{grain_after}
 use Rattle.commit_log.specs.Checkpoints.{flag_of, spelling_of_piece, IsAsFirst, IsSavedIn, IsPieceBody, is_as, next_in, may_be_next, tested_at, piece_in, piece_body_in}
 use Rattle.commit_log.proofs.CheckpointPieces.{piece_again, piece_taken}
-use Rattle.promise_spec.specs.Openings.{LogBase, LogRead, behind_base, and_piece, saved_behind, records_behind}
+use Rattle.promise_spec.specs.Programs.{Program, shape_in}
+use Rattle.promise_spec.specs.Openings.{LogBase, ReadEntry, LogRead, behind_base, and_piece, saved_behind, entries_behind}
 
 -- the pieces' writes, one behind the other
 abbrev pub joined : List (List Written) → List Written → List Written
@@ -38,19 +38,19 @@ IsSmallPiece piece = length piece ≤ 65536
 abbrev pub last_of_all : List Written → Option GrainId
 last_of_all before = fold grain_after None before
 
-module _ (shape : Shape) where
+module _ (q : Program) where
   -- the writes hang together behind those before
   abbrev pub Goes : List Written → List Written → Type 0
-  Goes before ws = Chained (IsSavedIn shape) grain_after (last_of_all before) ws
+  Goes before ws = Chained (IsSavedIn (shape_in q)) grain_after (last_of_all before) ws
 
   -- of two parts each does
-  chained_parts : (last : Option GrainId) (a b : List Written) → Chained (IsSavedIn shape) grain_after last (a ++ b)
-      → Chained (IsSavedIn shape) grain_after last a × Chained (IsSavedIn shape) grain_after (fold grain_after last a) b
+  chained_parts : (last : Option GrainId) (a b : List Written) → Chained (IsSavedIn (shape_in q)) grain_after last (a ++ b)
+      → Chained (IsSavedIn (shape_in q)) grain_after last a × Chained (IsSavedIn (shape_in q)) grain_after (fold grain_after last a) b
   chained_parts last [] b all = (tt, all)
   chained_parts last (w ∷ a) b all = let more = chained_parts (grain_after last w) a b all.1 in ((all.0, more.0), more.1)
 
-  chained_both : (last : Option GrainId) (a b : List Written) → Chained (IsSavedIn shape) grain_after last a → Chained (IsSavedIn shape) grain_after (fold grain_after last a) b
-      → Chained (IsSavedIn shape) grain_after last (a ++ b)
+  chained_both : (last : Option GrainId) (a b : List Written) → Chained (IsSavedIn (shape_in q)) grain_after last a → Chained (IsSavedIn (shape_in q)) grain_after (fold grain_after last a) b
+      → Chained (IsSavedIn (shape_in q)) grain_after last (a ++ b)
   chained_both last [] b one two = two
   chained_both last (w ∷ a) b one two = (one.0, chained_both (grain_after last w) a b one.1 two)
 
@@ -60,7 +60,7 @@ module _ (shape : Shape) where
 
   -- ---- what is spelled is read
 
-  module _ (head : CheckpointHead) (low : head.count < 2 ^ 63) (next : (0 < head.next_unit.0) × (head.next_unit.0 ≤ 2 ^ 63)) (bodies : List (List ℕ)) (end : Result (List CommitRecord) ℕ) (missing : ℕ) where
+  module _ (head : CheckpointHead) (low : head.count < 2 ^ 63) (next : (0 < head.next_unit.0) × (head.next_unit.0 ≤ 2 ^ 63)) (bodies : List (List ℕ)) (end : Result (List ReadEntry) ℕ) (missing : ℕ) where
     -- the base of these writes
     abbrev based : List Written → LogBase
     based writes = record { count = head.count; next = head.next_unit.0; writes = writes }
@@ -69,42 +69,42 @@ module _ (shape : Shape) where
     piece_with more writes = record { more = more; head = head; writes = writes }
 
     is_piece : (first : Option CheckpointHead) → IsAsFirst first head → (more : Bool) (before ws : List Written) → IsSmallPiece ws → Goes before ws
-        → piece_body_in shape first (last_of_all before) (spelling_of_piece (flag_of more) head.count head.next_unit.0 ws) ≡ Ok (piece_with more ws)
+        → piece_body_in (shape_in q) first (last_of_all before) (spelling_of_piece (flag_of more) head.count head.next_unit.0 ws) ≡ Ok (piece_with more ws)
     is_piece first same more before ws size goes =
-        piece_again shape first (last_of_all before) (piece_with more ws) (spelling_of_piece (flag_of more) head.count head.next_unit.0 ws)
+        piece_again (shape_in q) first (last_of_all before) (piece_with more ws) (spelling_of_piece (flag_of more) head.count head.next_unit.0 ws)
         (record { fits = record { count = low; next = next; same = same; size = size; named = goes }; spelled = refl })
 
-    -- The bodies of a checkpoint are read, and the records behind them.
+    -- The bodies of a checkpoint are read, and the entries behind them.
     pub pieces_read : (gate : ℕ) (first : Option CheckpointHead) → IsAsFirst first head → (before : List Written) (front : List (List Written)) (last : List Written)
         → AllByRecursion IsSmallPiece front → IsSmallPiece last → Goes before (joined front last)
-        → (behind : ℕ) × (saved_behind One shape gate first before (map (spelling_of_piece 1 head.count head.next_unit.0) front ++ spelling_of_piece 0 head.count head.next_unit.0 last ∷ bodies) end missing
-        ≡ behind_base (based (before ++ joined front last)) (records_behind One shape behind bodies end))
+        → (behind : ℕ) × (saved_behind One q gate first before (map (spelling_of_piece 1 head.count head.next_unit.0) front ++ spelling_of_piece 0 head.count head.next_unit.0 last ∷ bodies) end missing
+        ≡ behind_base (based (before ++ joined front last)) (entries_behind One q behind bodies end))
     pieces_read gate first same before [] last sizes size goes =
         let body : List ℕ = spelling_of_piece 0 head.count head.next_unit.0 last in
-        let is : piece_body_in shape first (last_of_all before) body ≡ Ok (piece_with false last) = is_piece first same false before last size goes in (
+        let is : piece_body_in (shape_in q) first (last_of_all before) body ≡ Ok (piece_with false last) = is_piece first same false before last size goes in (
           gate + 5 + length body,
-          λ i. and_piece (gate + 5) (λ piece. if piece.more then saved_behind One shape (gate + 5 + length body) (Some piece.head) (before ++ piece.writes) bodies end missing
-              else behind_base (record { count = piece.head.count; next = piece.head.next_unit.0; writes = before ++ piece.writes }) (records_behind One shape (gate + 5 + length body) bodies end)) (is i),
+          λ i. and_piece (gate + 5) (λ piece. if piece.more then saved_behind One q (gate + 5 + length body) (Some piece.head) (before ++ piece.writes) bodies end missing
+              else behind_base (record { count = piece.head.count; next = piece.head.next_unit.0; writes = before ++ piece.writes }) (entries_behind One q (gate + 5 + length body) bodies end)) (is i),
         )
     pieces_read gate first same before (ws ∷ front) last sizes size goes =
         let body : List ℕ = spelling_of_piece 1 head.count head.next_unit.0 ws in
         let later : List (List ℕ) = map (spelling_of_piece 1 head.count head.next_unit.0) front ++ spelling_of_piece 0 head.count head.next_unit.0 last ∷ bodies in
         let split : Goes before (ws ++ joined front last) = subst (Goes before) (append_assoc ws (flat_map (λ piece. piece) front) last) goes in
         let parts = chained_parts (last_of_all before) ws (joined front last) split in
-        let is : piece_body_in shape first (last_of_all before) body ≡ Ok (piece_with true ws) = is_piece first same true before ws sizes.0 parts.0 in
-        let on : Goes (before ++ ws) (joined front last) = subst (λ (g : Option GrainId). Chained (IsSavedIn shape) grain_after g (joined front last)) (sym (last_more before ws)) parts.1 in
+        let is : piece_body_in (shape_in q) first (last_of_all before) body ≡ Ok (piece_with true ws) = is_piece first same true before ws sizes.0 parts.0 in
+        let on : Goes (before ++ ws) (joined front last) = subst (λ (g : Option GrainId). Chained (IsSavedIn (shape_in q)) grain_after g (joined front last)) (sym (last_more before ws)) parts.1 in
         let more = pieces_read (gate + 5 + length body) (Some head) refl (before ++ ws) front last sizes.1 size on in
         let writes : (before ++ ws) ++ joined front last ≡ before ++ joined (ws ∷ front) last =
         append_assoc before ws (joined front last) ∙ ap (λ (l : List Written). before ++ l) (sym (append_assoc ws (flat_map (λ piece. piece) front) last)) in
-        let here : saved_behind One shape gate first before (body ∷ later) end missing ≡ saved_behind One shape (gate + 5 + length body) (Some head) (before ++ ws) later end missing =
-        λ i. and_piece (gate + 5) (λ piece. if piece.more then saved_behind One shape (gate + 5 + length body) (Some piece.head) (before ++ piece.writes) later end missing
-        else behind_base (record { count = piece.head.count; next = piece.head.next_unit.0; writes = before ++ piece.writes }) (records_behind One shape (gate + 5 + length body) later end)) (is i) in
-        (more.0, here ∙ more.1 ∙ ap (λ (l : List Written). behind_base (based l) (records_behind One shape more.0 bodies end)) writes)
+        let here : saved_behind One q gate first before (body ∷ later) end missing ≡ saved_behind One q (gate + 5 + length body) (Some head) (before ++ ws) later end missing =
+        λ i. and_piece (gate + 5) (λ piece. if piece.more then saved_behind One q (gate + 5 + length body) (Some piece.head) (before ++ piece.writes) later end missing
+        else behind_base (record { count = piece.head.count; next = piece.head.next_unit.0; writes = before ++ piece.writes }) (entries_behind One q (gate + 5 + length body) later end)) (is i) in
+        (more.0, here ∙ more.1 ∙ ap (λ (l : List Written). behind_base (based l) (entries_behind One q more.0 bodies end)) writes)
 
   -- ---- what is read is spelled
 
-  -- These bodies were read as the pieces of a checkpoint, behind these writes, and the records behind them.
-  pub record AreSavedPieces (first : Option CheckpointHead) (before : List Written) (bodies : List (List ℕ)) (end : Result (List CommitRecord) ℕ) (l : LogRead) : Type 0 where
+  -- These bodies were read as the pieces of a checkpoint, behind these writes, and the entries behind them.
+  pub record AreSavedPieces (first : Option CheckpointHead) (before : List Written) (bodies : List (List ℕ)) (end : Result (List ReadEntry) ℕ) (l : LogRead) : Type 0 where
     pub head : CheckpointHead
     pub same : IsAsFirst first head
     pub low : head.count < 2 ^ 63
@@ -118,30 +118,30 @@ module _ (shape : Shape) where
     pub size : IsSmallPiece last
     pub goes : Goes before (joined front last)
     pub base : l.base ≡ record { count = head.count; next = head.next_unit.0; writes = before ++ joined front last }
-    pub records : records_behind One shape gate rest end ≡ Ok l.records
+    pub entries : entries_behind One q gate rest end ≡ Ok l.entries
     pub bytes : AllByRecursion AreBytes rest
 
   piece_by : (at : ℕ) (behind : CheckpointPiece → Result LogRead ℕ) (read : Result CheckpointPiece CodecFault) (l : LogRead) → and_piece at behind read ≡ Ok l → (p : CheckpointPiece) × (read ≡ Ok p) × (behind p ≡ Ok l)
   piece_by at behind (Ok p) l e = (p, refl, e)
   piece_by at behind (Err fault) l e = absurd cc
 
-  pub base_by : (base : LogBase) (read : Result (List CommitRecord) ℕ) (l : LogRead) → behind_base base read ≡ Ok l → (l.base ≡ base) × (read ≡ Ok l.records)
-  base_by base (Ok records) l e = (let is : record { base = base; records = records } ≡ l = cc e in (ap (λ (x : LogRead). x.base) (sym is), ap (λ (x : LogRead). Ok x.records) is))
+  pub base_by : (base : LogBase) (read : Result (List ReadEntry) ℕ) (l : LogRead) → behind_base base read ≡ Ok l → (l.base ≡ base) × (read ≡ Ok l.entries)
+  base_by base (Ok entries) l e = (let is : record { base = base; entries = entries } ≡ l = cc e in (ap (λ (x : LogRead). x.base) (sym is), ap (λ (x : LogRead). Ok x.entries) is))
   base_by base (Err place) l e = absurd cc
 
   -- behind a piece that was read
-  module _ (gate : ℕ) (first : Option CheckpointHead) (before : List Written) (body : List ℕ) (bodies : List (List ℕ)) (end : Result (List CommitRecord) ℕ) (missing : ℕ) (l : LogRead) (are : AllByRecursion AreBytes bodies)
-      (p : CheckpointPiece) (is : IsPieceBody shape first (last_of_all before) p body) where
-    -- the log that goes on with more pieces, or with records
+  module _ (gate : ℕ) (first : Option CheckpointHead) (before : List Written) (body : List ℕ) (bodies : List (List ℕ)) (end : Result (List ReadEntry) ℕ) (missing : ℕ) (l : LogRead) (are : AllByRecursion AreBytes bodies)
+      (p : CheckpointPiece) (is : IsPieceBody (shape_in q) first (last_of_all before) p body) where
+    -- the log that goes on with more pieces, or with entries
     abbrev goes_on : Result LogRead ℕ
-    goes_on = saved_behind One shape (gate + 5 + length body) (Some p.head) (before ++ p.writes) bodies end missing
+    goes_on = saved_behind One q (gate + 5 + length body) (Some p.head) (before ++ p.writes) bodies end missing
 
     abbrev ends_here : Result LogRead ℕ
-    ends_here = behind_base (record { count = p.head.count; next = p.head.next_unit.0; writes = before ++ p.writes }) (records_behind One shape (gate + 5 + length body) bodies end)
+    ends_here = behind_base (record { count = p.head.count; next = p.head.next_unit.0; writes = before ++ p.writes }) (entries_behind One q (gate + 5 + length body) bodies end)
 
     last_piece : p.more ≡ false → ends_here ≡ Ok l → AreSavedPieces first before (body ∷ bodies) end l
     last_piece flag e =
-        let read = base_by (record { count = p.head.count; next = p.head.next_unit.0; writes = before ++ p.writes }) (records_behind One shape (gate + 5 + length body) bodies end) l e in
+        let read = base_by (record { count = p.head.count; next = p.head.next_unit.0; writes = before ++ p.writes }) (entries_behind One q (gate + 5 + length body) bodies end) l e in
         let body_is : body ≡ spelling_of_piece 0 p.head.count p.head.next_unit.0 p.writes = is.spelled ∙ ap (λ (b : Bool). spelling_of_piece (flag_of b) p.head.count p.head.next_unit.0 p.writes) flag in
         record {
           head = p.head;
@@ -157,7 +157,7 @@ module _ (shape : Shape) where
           size = is.fits.size;
           goes = is.fits.named;
           base = read.0;
-          records = read.1;
+          entries = read.1;
           bytes = are;
         }
 
@@ -167,7 +167,7 @@ module _ (shape : Shape) where
         is.spelled ∙ (λ i. spelling_of_piece (flag_of (flag i)) (sym r.same i).count (sym r.same i).next_unit.0 p.writes) in
         let goes : Goes before (p.writes ++ joined r.front r.last) =
         chained_both (last_of_all before) p.writes (joined r.front r.last) is.fits.named
-        (subst (λ (g : Option GrainId). Chained (IsSavedIn shape) grain_after g (joined r.front r.last)) (last_more before p.writes) r.goes) in
+        (subst (λ (g : Option GrainId). Chained (IsSavedIn (shape_in q)) grain_after g (joined r.front r.last)) (last_more before p.writes) r.goes) in
         let writes : (before ++ p.writes) ++ joined r.front r.last ≡ before ++ joined (p.writes ∷ r.front) r.last =
         append_assoc before p.writes (joined r.front r.last) ∙ ap (λ (x : List Written). before ++ x) (sym (append_assoc p.writes (flat_map (λ piece. piece) r.front) r.last)) in
         record {
@@ -184,7 +184,7 @@ module _ (shape : Shape) where
           size = r.size;
           goes = subst (Goes before) (sym (append_assoc p.writes (flat_map (λ piece. piece) r.front) r.last)) goes;
           base = r.base ∙ ap (λ (x : List Written). record { count = r.head.count; next = r.head.next_unit.0; writes = x }) writes;
-          records = r.records;
+          entries = r.entries;
           bytes = r.bytes;
         }
 
@@ -192,14 +192,14 @@ module _ (shape : Shape) where
     piece_read later false flag e = last_piece flag (sym (ap (λ (b : Bool). if b then goes_on else ends_here) flag) ∙ e)
     piece_read later true flag e = front_piece flag (later (sym (ap (λ (b : Bool). if b then goes_on else ends_here) flag) ∙ e))
 
-  pub pieces_of_read : (gate : ℕ) (first : Option CheckpointHead) (before : List Written) (bodies : List (List ℕ)) (end : Result (List CommitRecord) ℕ) (missing : ℕ) (l : LogRead)
-      → AllByRecursion AreBytes bodies → saved_behind One shape gate first before bodies end missing ≡ Ok l → AreSavedPieces first before bodies end l
+  pub pieces_of_read : (gate : ℕ) (first : Option CheckpointHead) (before : List Written) (bodies : List (List ℕ)) (end : Result (List ReadEntry) ℕ) (missing : ℕ) (l : LogRead)
+      → AllByRecursion AreBytes bodies → saved_behind One q gate first before bodies end missing ≡ Ok l → AreSavedPieces first before bodies end l
   pieces_of_read gate first before [] end missing l are e = absurd cc
   pieces_of_read gate first before (body ∷ bodies) end missing l are e =
-      let t = piece_by (gate + 5) (λ piece. if piece.more then saved_behind One shape (gate + 5 + length body) (Some piece.head) (before ++ piece.writes) bodies end missing
-      else behind_base (record { count = piece.head.count; next = piece.head.next_unit.0; writes = before ++ piece.writes }) (records_behind One shape (gate + 5 + length body) bodies end))
-      (piece_body_in shape first (last_of_all before) body) l e in
-      piece_read gate first before body bodies end missing l are.1 t.0 (piece_taken shape first (last_of_all before) t.0 body are.0 t.1)
+      let t = piece_by (gate + 5) (λ piece. if piece.more then saved_behind One q (gate + 5 + length body) (Some piece.head) (before ++ piece.writes) bodies end missing
+      else behind_base (record { count = piece.head.count; next = piece.head.next_unit.0; writes = before ++ piece.writes }) (entries_behind One q (gate + 5 + length body) bodies end))
+      (piece_body_in (shape_in q) first (last_of_all before) body) l e in
+      piece_read gate first before body bodies end missing l are.1 t.0 (piece_taken (shape_in q) first (last_of_all before) t.0 body are.0 t.1)
       (λ on. pieces_of_read (gate + 5 + length body) (Some t.0.head) (before ++ t.0.writes) bodies end missing l are.1 on) t.0.more refl t.2
 
 -- ---- the number of the next unit, whatever the bytes are
@@ -243,20 +243,20 @@ body_next shape first last body p e =
     ltb-true 0 p.head.next_unit.0 (and_parts (nat_lt 0 p.head.next_unit.0) (nat_lt p.head.next_unit.0 9223372036854775809) low.0).0
 
 -- behind a piece it is above 0
-next_by : (shape : Shape) (base : LogBase) (on : Result LogRead ℕ) (records : Result (List CommitRecord) ℕ) (l : LogRead) → 0 < base.next → (on ≡ Ok l → 0 < l.base.next)
-    → (more : Bool) → (if more then on else behind_base base records) ≡ Ok l → 0 < l.base.next
-next_by shape base on records l above later true e = later e
-next_by shape base on records l above later false e = subst (λ (b : LogBase). 0 < b.next) (sym (base_by shape base records l e).0) above
+next_by : (q : Program) (base : LogBase) (on : Result LogRead ℕ) (entries : Result (List ReadEntry) ℕ) (l : LogRead) → 0 < base.next → (on ≡ Ok l → 0 < l.base.next)
+    → (more : Bool) → (if more then on else behind_base base entries) ≡ Ok l → 0 < l.base.next
+next_by q base on entries l above later true e = later e
+next_by q base on entries l above later false e = subst (λ (b : LogBase). 0 < b.next) (sym (base_by q base entries l e).0) above
 
 -- so it is of the base of a checkpoint that is read
-pub saved_next : (shape : Shape) (gate : ℕ) (first : Option CheckpointHead) (before : List Written) (bodies : List (List ℕ)) (end : Result (List CommitRecord) ℕ) (missing : ℕ) (l : LogRead)
-    → saved_behind One shape gate first before bodies end missing ≡ Ok l → 0 < l.base.next
-saved_next shape gate first before [] end missing l e = absurd cc
-saved_next shape gate first before (body ∷ bodies) end missing l e =
-    let t = piece_by shape (gate + 5) (λ piece. if piece.more then saved_behind One shape (gate + 5 + length body) (Some piece.head) (before ++ piece.writes) bodies end missing
-    else behind_base (record { count = piece.head.count; next = piece.head.next_unit.0; writes = before ++ piece.writes }) (records_behind One shape (gate + 5 + length body) bodies end))
-    (piece_body_in shape first (last_of_all before) body) l e in
-    next_by shape (record { count = t.0.head.count; next = t.0.head.next_unit.0; writes = before ++ t.0.writes })
-    (saved_behind One shape (gate + 5 + length body) (Some t.0.head) (before ++ t.0.writes) bodies end missing) (records_behind One shape (gate + 5 + length body) bodies end) l
-    (body_next shape first (last_of_all before) body t.0 t.1)
-    (λ on. saved_next shape (gate + 5 + length body) (Some t.0.head) (before ++ t.0.writes) bodies end missing l on) t.0.more t.2
+pub saved_next : (q : Program) (gate : ℕ) (first : Option CheckpointHead) (before : List Written) (bodies : List (List ℕ)) (end : Result (List ReadEntry) ℕ) (missing : ℕ) (l : LogRead)
+    → saved_behind One q gate first before bodies end missing ≡ Ok l → 0 < l.base.next
+saved_next q gate first before [] end missing l e = absurd cc
+saved_next q gate first before (body ∷ bodies) end missing l e =
+    let t = piece_by q (gate + 5) (λ piece. if piece.more then saved_behind One q (gate + 5 + length body) (Some piece.head) (before ++ piece.writes) bodies end missing
+    else behind_base (record { count = piece.head.count; next = piece.head.next_unit.0; writes = before ++ piece.writes }) (entries_behind One q (gate + 5 + length body) bodies end))
+    (piece_body_in (shape_in q) first (last_of_all before) body) l e in
+    next_by q (record { count = t.0.head.count; next = t.0.head.next_unit.0; writes = before ++ t.0.writes })
+    (saved_behind One q (gate + 5 + length body) (Some t.0.head) (before ++ t.0.writes) bodies end missing) (entries_behind One q (gate + 5 + length body) bodies end) l
+    (body_next (shape_in q) first (last_of_all before) body t.0 t.1)
+    (λ on. saved_next q (gate + 5 + length body) (Some t.0.head) (before ++ t.0.writes) bodies end missing l on) t.0.more t.2

@@ -32,16 +32,18 @@ use Rattle.commit_log.specs.Checkpoints.{spelling_of_piece, IsSavedIn}
 use Rattle.silo_spec.specs.Silos.{IsSilo, HasProgram}
 use Rattle.promise_spec.specs.Programs.{Program, IsChecked, shape_in}
 use Rattle.promise_spec.specs.Records.{Commit}
-use Rattle.promise_spec.specs.Entries.{Recorded, records_among, Standing, Log, records_of}
-use Rattle.promise_spec.specs.Versions.{WriteStands, IsKept}
-use Rattle.promise_spec.specs.Blocks.{Block, Records, entries_in, body_of, BlockFits, Saved, Checkpoint, saved_by, spelled_piece, pieces_of, IsSaved, IsCheckpoint, standing_with, Beginning, Fresh, From, begin_byte, base_of, bodies_before, BeginsWhole}
+use Rattle.promise_spec.specs.Entries.{LogEntry, Recorded, Upgraded, Standing, Log}
+use Rattle.promise_spec.specs.Versions.{WriteStands}
+use Rattle.promise_spec.specs.Blocks.{Block, Records, Upgrade, entries_in, body_of, BlockFits, Saved, Checkpoint, saved_by, spelled_piece, pieces_of, IsSaved, IsCheckpoint, standing_with, Beginning, Fresh, From, begin_byte, base_of, bodies_before, BeginsWhole}
 use Rattle.promise_spec.specs.Logs.{magic, IsLogIn}
-use Rattle.promise_spec.specs.Openings.{LogBase, LogRead, fresh_base, header_damage, behind_header, behind_base, saved_behind, no_more, no_piece, records_behind, log_as, log_in_file, named_by, named_of_base, named_in, named_by_grain, version_named, first_missing, state_of, commit_of, states_read, log_of}
+use Rattle.promise_spec.specs.Openings.{LogBase, ReadEntry, ReadRecord, ReadUpgrade, LogRead, fresh_base, header_damage, behind_header, behind_base, saved_behind, entries_said, no_more, no_piece, entries_behind, AreEntriesIn, AreSaidBy, log_as, log_in_file, programs_read, shapes_read, named_by, named_of_base, named_in, named_by_grain, version_named, first_missing, state_of, commit_of, states_read, entries_logged, log_of}
 use Rattle.promise_spec.proofs.Lists.{parts_of, both_parts}
-use Rattle.promise_spec.proofs.Batched.{batch_in, batch_body, bodies_are, bodies_again, sizes_are, sizes_again, entries_are, entries_again, recorded_back, kept_are, kept_again}
-use Rattle.promise_spec.proofs.ReadBlocks.{AreBatches, bodies_bytes, is_logged, no_whole, ended, batches_of, batches_read}
+use Rattle.log_entries.specs.Entries as says
+use Rattle.log_entries.specs.Entries.{BodyEntry, body_said}
+use Rattle.log_reading.proofs.EntriesRead.{reads, only}
+use Rattle.promise_spec.proofs.ReadBlocks.{bodies_bytes, is_logged, no_whole, ended}
 use Rattle.promise_spec.proofs.ReadCheckpoints.{joined, pieces_read, AreSavedPieces, base_by, pieces_of_read, saved_next}
-use Rattle.promise_spec.proofs.ReadVersions.{IsThere, saved_as, saved_stands, saved_stood, all_in_order, all_of_order, all_are_kept, all_are_there, same_commits, none_missing, missing_none}
+use Rattle.promise_spec.proofs.ReadVersions.{IsThere, saved_as, saved_stands, saved_stood, by_number, all_in_order, all_of_order, entry_seen, AreFit, fit_of, same_entries, all_are_kept, all_are_there, none_missing, missing_none}
 
 -- ---- lists of lists
 
@@ -52,12 +54,6 @@ flat_mapped {A} {B} f (x ∷ xs) = ap (λ (l : List B). map f x ++ l) (flat_mapp
 sizes_map : {A B : Type 0} (most : ℕ) (f : A → B) (xs : List (List A)) → AllByRecursion (λ batch. length batch ≤ most) xs → AllByRecursion (λ batch. length batch ≤ most) (map (map f) xs)
 sizes_map most f [] all = tt
 sizes_map most f (x ∷ xs) all = (subst (λ (n : ℕ). n ≤ most) (sym (length-map x f)) all.0, sizes_map most f xs all.1)
-
--- ---- records and the bodies of their batches
-
-bodies_as : (batches : List (List Commit)) → map batch_body batches ≡ map spelling_of_body (map (map (λ (c : Commit). c.logged)) batches)
-bodies_as [] = refl
-bodies_as (batch ∷ batches) = ap (λ (l : List (List ℕ)). batch_body batch ∷ l) (bodies_as batches)
 
 -- ---- the header
 
@@ -128,11 +124,12 @@ module _ (live : ℕ) (p : Program) (image : Image) where
   hang last [] up all = tt
   hang last (s ∷ ss) up all = ((all.0.fits, (is_type s all.0, up.0)), hang (grain_after last s.write) ss up.1 all.1)
 
-  -- they are there
-  saved_there : (ss : List Saved) → AllByRecursion (IsSaved live p image) ss → AllByRecursion (IsThere live (shape_in p) image) (map (saved_as live (shape_in p) image) (writes_of ss))
-  saved_there [] all = tt
-  saved_there (s ∷ ss) all =
-      ((record { unit = s.unit; state = s.state }, saved_stood live (shape_in p) image s.write s.unit s.state all.0.unit.0 all.0.unit.1 all.0.stands), saved_there ss all.1)
+  -- they are there, by the shapes of a log of which this program is the first
+  saved_there : (shapes : List Shape) → slice_get shapes 0 ≡ Some (shape_in p) → (ss : List Saved) → AllByRecursion (IsSaved live p image) ss
+      → AllByRecursion (IsThere live shapes image) (map (saved_as live (shape_in p) image) (writes_of ss))
+  saved_there shapes first [] all = tt
+  saved_there shapes first (s ∷ ss) all =
+      ((record { unit = s.unit; state = s.state }, by_number live shapes image 0 (shape_in p) first None s.write ∙ saved_stood live (shape_in p) image s.write s.unit s.state all.0.unit.0 all.0.unit.1 all.0.stands), saved_there shapes first ss all.1)
 
   -- with the states that are read
   state_read : Written → GrainId × List Value
@@ -156,33 +153,33 @@ module _ (live : ℕ) (p : Program) (image : Image) where
   -- What is read of a slot's files is this log.
   pub record IsReadIn (log : Log) : Type 0 where
     pub l : LogRead
-    pub read : log_in_file One (shape_in p) (image (Manager live)) ≡ Ok l
-    pub whole : first_missing live One (shape_in p) image (named_by_grain (named_in l)) ≡ None
+    pub read : log_in_file One p (image (Manager live)) ≡ Ok l
+    pub whole : first_missing live One (shapes_read p l) image (named_by_grain (named_in l)) ≡ None
     pub is : log_of live p image l ≡ log
-    pub records : l.records ≡ map (λ (c : Commit). c.logged) (records_of log)
+    pub entries : l.entries ≡ map entry_seen log.entries
     pub count : l.base.count ≡ log.base.count
 
-  -- a beginning, and the records behind it
-  pub begins_read : (b : Beginning) → BeginsWhole live p image b → (bodies : List (List ℕ)) (records : List CommitRecord) → ((gate : ℕ) → records_behind One (shape_in p) gate bodies (Ok []) ≡ Ok records)
-      → (gate : ℕ) → log_as One (shape_in p) (begin_byte b == 1) (bodies_before b ++ bodies) gate shut ≡ Ok (record { base = read_base b; records = records })
-  begins_read Fresh whole bodies records reads gate = ap (behind_base fresh_base) (reads first_gate)
-  begins_read (From ck) whole bodies records reads gate =
+  -- a beginning, and the entries behind it
+  pub begins_read : (b : Beginning) → BeginsWhole live p image b → (bodies : List (List ℕ)) (entries : List ReadEntry) → ((gate : ℕ) → entries_behind One p gate bodies (Ok []) ≡ Ok entries)
+      → (gate : ℕ) → log_as One p (begin_byte b == 1) (bodies_before b ++ bodies) gate shut ≡ Ok (record { base = read_base b; entries = entries })
+  begins_read Fresh whole bodies entries reads gate = ap (behind_base fresh_base) (reads first_gate)
+  begins_read (From ck) whole bodies entries reads gate =
       let head : CheckpointHead = record { count = ck.count; next_unit = record { 0 = ck.next } } in
       let front : List (List Written) = map writes_of ck.front in
       let last : List Written = writes_of ck.last in
       let sizes = parts_of (λ (piece : List Saved). length piece ≤ 65536) ck.front (ck.last ∷ []) whole.sizes in
       let all : joined front last ≡ writes_of (saved_by ck) = joined_are ck.front ck.last in
       let goes = subst (λ (ws : List Written). Chained (IsSavedIn (shape_in p)) grain_after None ws) (sym all) (hang None (saved_by ck) whole.order whole.each) in
-      let t = pieces_read (shape_in p) head whole.count (omega (arith, whole.next.0), whole.next.1) bodies (Ok []) gate first_gate None tt [] front last (sizes_map 65536 (λ (s : Saved). s.write) ck.front sizes.0)
+      let t = pieces_read p head whole.count (omega (arith, whole.next.0), whole.next.1) bodies (Ok []) gate first_gate None tt [] front last (sizes_map 65536 (λ (s : Saved). s.write) ck.front sizes.0)
       (subst (λ (n : ℕ). n ≤ 65536) (sym (length-map ck.last (λ (s : Saved). s.write))) sizes.1.0) goes in
-      ap (λ (bs : List (List ℕ)). saved_behind One (shape_in p) first_gate None [] bs (Ok []) gate) (pieces_are ck bodies)
+      ap (λ (bs : List (List ℕ)). saved_behind One p first_gate None [] bs (Ok []) gate) (pieces_are ck bodies)
       ∙ t.1
       ∙ ap (behind_base (record { count = ck.count; next = ck.next; writes = joined front last })) (reads t.0)
-      ∙ (λ i. Ok (record { base = record { count = ck.count; next = ck.next; writes = all i }; records = records }))
+      ∙ (λ i. Ok (record { base = record { count = ck.count; next = ck.next; writes = all i }; entries = entries }))
 
-  pub begins_there : (b : Beginning) → BeginsWhole live p image b → AllByRecursion (IsThere live (shape_in p) image) (named_of_base (read_base b))
-  begins_there Fresh whole = tt
-  begins_there (From ck) whole = saved_there (saved_by ck) whole.each
+  pub begins_there : (shapes : List Shape) → slice_get shapes 0 ≡ Some (shape_in p) → (b : Beginning) → BeginsWhole live p image b → AllByRecursion (IsThere live shapes image) (named_of_base (read_base b))
+  begins_there shapes first Fresh whole = tt
+  begins_there shapes first (From ck) whole = saved_there shapes first (saved_by ck) whole.each
 
   pub begins_stand : (b : Beginning) → BeginsWhole live p image b
       → standing_with p (read_base b).count (read_base b).next (states_read live (shape_in p) image (read_base b)) ≡ base_of p b
@@ -194,22 +191,52 @@ module _ (live : ℕ) (p : Program) (image : Image) where
   base_count Fresh = refl
   base_count (From ck) = refl
 
-  pub fit_of : (cs : List Commit) → AllByRecursion (IsKept live (shape_in p) image) cs → AllByRecursion (IsRecordIn One Logged (shape_in p)) (map (λ c. c.logged) cs)
-  fit_of [] all = tt
-  fit_of (c ∷ cs) all = (all.0.fits, fit_of cs all.1)
+-- ---- blocks and what they say
 
-  -- the records of these blocks
-  pub blocks_read : (blocks : List Block) (log : Log) → AllByRecursion BlockFits blocks → log.entries ≡ flat_map entries_in blocks
-      → AllByRecursion (IsRecordIn One Logged (shape_in p)) (map (λ (c : Commit). c.logged) (records_of log)) → (gate : ℕ)
-      → records_behind One (shape_in p) gate (map body_of blocks) (Ok []) ≡ Ok (map (λ (c : Commit). c.logged) (records_of log))
-  blocks_read blocks log sizes are fits gate =
-      let batches : List (List CommitRecord) = map (map (λ (c : Commit). c.logged)) (map batch_in blocks) in
-      let records : records_of log ≡ flat_map (λ (batch : List Commit). batch) (map batch_in blocks) = ap records_among are ∙ entries_are blocks in
-      let flat : flat_map (λ batch. batch) batches ≡ map (λ (c : Commit). c.logged) (records_of log) = flat_mapped (λ (c : Commit). c.logged) (map batch_in blocks) ∙ ap (map (λ (c : Commit). c.logged)) (sym records) in
-      let fit : AllByRecursion (IsRecordIn One Logged (shape_in p)) (flat_map (λ batch. batch) batches) = subst (λ (l : List CommitRecord). AllByRecursion (IsRecordIn One Logged (shape_in p)) l) (sym flat) fits in
-      ap (λ (l : List (List ℕ)). records_behind One (shape_in p) gate l (Ok [])) (bodies_are blocks ∙ bodies_as (map batch_in blocks))
-      ∙ batches_read (shape_in p) gate batches (sizes_map 64 (λ (c : Commit). c.logged) (map batch_in blocks) (sizes_are blocks sizes)) fit
-      ∙ ap (λ (l : List CommitRecord). Ok l) flat
+-- what a block says
+said_of : Block → BodyEntry
+said_of (Records batch) = says.Recorded (map (λ (c : Commit). c.logged) batch)
+said_of (Upgrade p) = says.Upgraded p
+
+bodies_said : (blocks : List Block) → map body_of blocks ≡ map body_said (map said_of blocks)
+unfolding said_of
+bodies_said [] = refl
+bodies_said (Records batch ∷ blocks) = ap (λ (l : List (List ℕ)). body_of (Records batch) ∷ l) (bodies_said blocks)
+bodies_said (Upgrade p ∷ blocks) = ap (λ (l : List (List ℕ)). body_of (Upgrade p) ∷ l) (bodies_said blocks)
+
+seen_again : (batch : List Commit) → map entry_seen (map Recorded batch) ≡ map ReadRecord (map (λ (c : Commit). c.logged) batch)
+seen_again [] = refl
+seen_again (c ∷ batch) = ap (λ (l : List ReadEntry). ReadRecord c.logged ∷ l) (seen_again batch)
+
+entries_seen : (blocks : List Block) → flat_map entries_said (map said_of blocks) ≡ map entry_seen (flat_map entries_in blocks)
+unfolding said_of
+entries_seen [] = refl
+entries_seen (Records batch ∷ blocks) =
+    (λ i. sym (seen_again batch) i ++ entries_seen blocks i) ∙ sym (map-append entry_seen (map Recorded batch) (flat_map entries_in blocks))
+entries_seen (Upgrade p ∷ blocks) = ap (λ (l : List ReadEntry). ReadUpgrade p ∷ l) (entries_seen blocks)
+
+-- the records of a batch before other entries
+batch_fits : (p : Program) (batch : List Commit) (more : List LogEntry) → AreFit p (map entry_seen (map Recorded batch ++ more))
+    → AllByRecursion (IsRecordIn One Logged (shape_in p)) (map (λ (c : Commit). c.logged) batch) × AreFit p (map entry_seen more)
+batch_fits p [] more fit = (tt, fit)
+batch_fits p (c ∷ batch) more fit = let t = batch_fits p batch more fit.1 in ((fit.0, t.0), t.1)
+
+all_said : (p : Program) (blocks : List Block) → AllByRecursion BlockFits blocks → AreFit p (map entry_seen (flat_map entries_in blocks)) → AreEntriesIn One p (map said_of blocks)
+unfolding said_of
+all_said p [] sizes fit = tt
+all_said p (Records batch ∷ blocks) sizes fit =
+    let t = batch_fits p batch (flat_map entries_in blocks) fit in
+    ((subst (λ (n : ℕ). n ≤ 64) (sym (length-map batch (λ (c : Commit). c.logged))) sizes.0, t.0), all_said p blocks sizes.1 t.1)
+all_said p (Upgrade q ∷ blocks) sizes fit = (fit.0, all_said q blocks sizes.1 fit.1)
+
+-- the entries of these blocks are read
+pub blocks_read : (p : Program) (blocks : List Block) (entries : List LogEntry) → AllByRecursion BlockFits blocks → entries ≡ flat_map entries_in blocks → AreFit p (map entry_seen entries)
+    → (gate : ℕ) → entries_behind One p gate (map body_of blocks) (Ok []) ≡ Ok (map entry_seen entries)
+blocks_read p blocks entries sizes are fit gate =
+    let fits : AreFit p (map entry_seen (flat_map entries_in blocks)) = subst (λ (es : List LogEntry). AreFit p (map entry_seen es)) are fit in
+    ap (λ (l : List (List ℕ)). entries_behind One p gate l (Ok [])) (bodies_said blocks)
+    ∙ reads One p gate (map said_of blocks) [] (all_said p blocks sizes fits)
+    ∙ ap (λ (l : List ReadEntry). Ok l) (append-nil (flat_map entries_said (map said_of blocks)) ∙ entries_seen blocks ∙ ap (map entry_seen) (sym are))
 
 -- the log of a slot's files is read of them
 unfoldable pub read_in : (live : ℕ) (image : Image) (log : Log) → (is : IsLogIn live image log) → IsReadIn live is.stands.program image log
@@ -217,32 +244,35 @@ read_in live image log is =
     let s = is.stands in
     let p : Program = s.program in
     let file : List ℕ = image (Manager live) in
-    let bodies : List (List ℕ) = is.bodies in
-    let t = logged bodies is.gate file (record { blocks = s.stand; closed = is.closed }) in
-    let kept : AllByRecursion (IsKept live (shape_in p) image) (records_of log) = kept_are live p image log.entries s.kept in
-    let logged_records : List CommitRecord = map (λ (c : Commit). c.logged) (records_of log) in
-    let reads : (gate : ℕ) → records_behind One (shape_in p) gate (map body_of s.blocks) (Ok []) ≡ Ok logged_records =
-    λ gate. blocks_read live p image s.blocks log s.fit s.entries (fit_of live p image (records_of log) kept) gate in
-    let l : LogRead = record { base = read_base s.begins; records = logged_records } in
-    let named : AllByRecursion (IsThere live (shape_in p) image) (named_in l) =
-    both_parts (IsThere live (shape_in p) image) (named_of_base (read_base s.begins)) (named_by logged_records) (begins_there live p image s.begins s.whole) (all_are_there live (shape_in p) image (records_of log) kept) in
-    let entries : map Recorded (map (commit_of live (shape_in p) image) logged_records) ≡ log.entries =
-    ap (map Recorded) (same_commits live (shape_in p) image (records_of log) kept) ∙ recorded_back log.entries in
+    let t = logged is.bodies is.gate file (record { blocks = s.stand; closed = is.closed }) in
+    let seen : List ReadEntry = map entry_seen log.entries in
+    let fit : AreFit p seen = fit_of live image p log.entries s.kept in
+    let reads_all : (gate : ℕ) → entries_behind One p gate (map body_of s.blocks) (Ok []) ≡ Ok seen = λ gate. blocks_read p s.blocks log.entries s.fit s.entries fit gate in
+    let l : LogRead = record { base = read_base s.begins; entries = seen } in
+    let shapes : List Shape = shapes_read p l in
+    let named : AllByRecursion (IsThere live shapes image) (named_in l) =
+    both_parts (IsThere live shapes image) (named_of_base (read_base s.begins)) (named_by 0 seen) (begins_there live p image shapes refl s.begins s.whole) (all_are_there live shapes image 0 p log.entries refl s.kept) in
+    let entries : entries_logged live p image seen ≡ log.entries = same_entries live image p log.entries s.kept in
     let base : standing_with p l.base.count l.base.next (states_read live (shape_in p) image l.base) ≡ log.base = begins_stand live p image s.begins s.whole ∙ sym s.base in
     record {
       l = l;
       read =
-          ap (λ (damage : Option ℕ). behind_header damage (log_as One (shape_in p) (slice_index file 13 == 1) (bodies_of file) (gate_of file) (found_at (gate_of file) file)))
+          ap (λ (damage : Option ℕ). behind_header damage (log_as One p (slice_index file 13 == 1) (bodies_of file) (gate_of file) (found_at (gate_of file) file)))
           (none_header file (subst (λ (n : ℕ). n ≤ 1) (sym s.kind) (begin_low s.begins)) s.zero)
-          ∙ ap (λ (n : ℕ). log_as One (shape_in p) (n == 1) (bodies_of file) (gate_of file) (found_at (gate_of file) file)) s.kind
-          ∙ ap (λ (f : BehindGate). log_as One (shape_in p) (begin_byte s.begins == 1) (bodies_of file) (gate_of file) f) t.2
-          ∙ ap (λ (bs : List (List ℕ)). log_as One (shape_in p) (begin_byte s.begins == 1) bs (gate_of file) shut) (t.0 ∙ s.spelled)
-          ∙ begins_read live p image s.begins s.whole (map body_of s.blocks) logged_records reads (gate_of file);
-      whole = missing_none live (shape_in p) image (named_by_grain (named_in l)) (all_in_order (IsThere live (shape_in p) image) (named_in l) named);
+          ∙ ap (λ (n : ℕ). log_as One p (n == 1) (bodies_of file) (gate_of file) (found_at (gate_of file) file)) s.kind
+          ∙ ap (λ (f : BehindGate). log_as One p (begin_byte s.begins == 1) (bodies_of file) (gate_of file) f) t.2
+          ∙ ap (λ (bs : List (List ℕ)). log_as One p (begin_byte s.begins == 1) bs (gate_of file) shut) (t.0 ∙ s.spelled)
+          ∙ begins_read live p image s.begins s.whole (map body_of s.blocks) seen reads_all (gate_of file);
+      whole = missing_none live shapes image (named_by_grain (named_in l)) (all_in_order (IsThere live shapes image) (named_in l) named);
       is = λ i. record { base = base i; entries = entries i };
-      records = refl;
+      entries = refl;
       count = base_count live p image s.begins ∙ sym (ap (λ (b : Standing). b.count) s.base);
     }
+
+-- it is what the log begins with, and its entries
+pub read_is : (live : ℕ) (image : Image) (log : Log) (is : IsLogIn live image log) → (read_in live image log is).l ≡ record { base = read_base is.stands.begins; entries = map entry_seen log.entries }
+unfolding read_in
+read_is live image log is = refl
 
 -- ---- what is read stands
 
@@ -250,38 +280,73 @@ logged_back : (live : ℕ) (shape : Shape) (image : Image) (records : List Commi
 logged_back live shape image [] = refl
 logged_back live shape image (r ∷ records) = ap (λ (l : List CommitRecord). r ∷ l) (logged_back live shape image records)
 
-bodies_back : (live : ℕ) (shape : Shape) (image : Image) (batches : List (List CommitRecord)) → map batch_body (map (map (commit_of live shape image)) batches) ≡ map spelling_of_body batches
-bodies_back live shape image [] = refl
-bodies_back live shape image (batch ∷ batches) =
-    let one : batch_body (map (commit_of live shape image) batch) ≡ spelling_of_body batch = ap spelling_of_body (logged_back live shape image batch) in
-    let more = bodies_back live shape image batches in
-    λ i. one i ∷ more i
+module _ (live : ℕ) (image : Image) where
+  -- the blocks that say so, each record with its states by the program of its time
+  blocks_said : Program → List BodyEntry → List Block
+  blocks_said p [] = []
+  blocks_said p (says.Recorded records ∷ said) = Records (map (commit_of live (shape_in p) image) records) ∷ blocks_said p said
+  blocks_said p (says.Upgraded q ∷ said) = Upgrade q ∷ blocks_said q said
+
+  said_fit : (p : Program) (said : List BodyEntry) → AreEntriesIn One p said → AllByRecursion BlockFits (blocks_said p said)
+  unfolding blocks_said
+  said_fit p [] all = tt
+  said_fit p (says.Recorded records ∷ said) all = (subst (λ (n : ℕ). n ≤ 64) (sym (length-map records (commit_of live (shape_in p) image))) all.0.0, said_fit p said all.1)
+  said_fit p (says.Upgraded q ∷ said) all = (tt, said_fit q said all.1)
+
+  bodies_back : (p : Program) (said : List BodyEntry) → map body_said said ≡ map body_of (blocks_said p said)
+  unfolding blocks_said
+  bodies_back p [] = refl
+  bodies_back p (says.Recorded records ∷ said) =
+      let one : spelling_of_body records ≡ body_of (Records (map (commit_of live (shape_in p) image) records)) = ap spelling_of_body (sym (logged_back live (shape_in p) image records)) in
+      let more = bodies_back p said in
+      λ i. one i ∷ more i
+  bodies_back p (says.Upgraded q ∷ said) = ap (λ (l : List (List ℕ)). body_of (Upgrade q) ∷ l) (bodies_back q said)
+
+  -- records before other entries
+  records_before : (p : Program) (records : List CommitRecord) (more : List ReadEntry)
+      → entries_logged live p image (map ReadRecord records ++ more) ≡ map Recorded (map (commit_of live (shape_in p) image) records) ++ entries_logged live p image more
+  records_before p [] more = refl
+  records_before p (r ∷ records) more = ap (λ (l : List LogEntry). Recorded (commit_of live (shape_in p) image r) ∷ l) (records_before p records more)
+
+  entries_back : (p : Program) (said : List BodyEntry) → entries_logged live p image (flat_map entries_said said) ≡ flat_map entries_in (blocks_said p said)
+  unfolding blocks_said
+  entries_back p [] = refl
+  entries_back p (says.Recorded records ∷ said) =
+      records_before p records (flat_map entries_said said) ∙ ap (λ (l : List LogEntry). map Recorded (map (commit_of live (shape_in p) image) records) ++ l) (entries_back p said)
+  entries_back p (says.Upgraded q ∷ said) = ap (λ (l : List LogEntry). Upgraded q ∷ l) (entries_back q said)
+
+-- what is said of whole bodies fits
+records_fit : (p : Program) (records : List CommitRecord) (more : List ReadEntry) → AllByRecursion (IsRecordIn One Logged (shape_in p)) records → AreFit p more → AreFit p (map ReadRecord records ++ more)
+records_fit p [] more all rest = rest
+records_fit p (r ∷ records) more all rest = (all.0, records_fit p records more all.1 rest)
+
+entries_fit : (p : Program) (said : List BodyEntry) → AreEntriesIn One p said → AreFit p (flat_map entries_said said)
+entries_fit p [] all = tt
+entries_fit p (says.Recorded records ∷ said) all = records_fit p records (flat_map entries_said said) all.0.1 (entries_fit p said all.1)
+entries_fit p (says.Upgraded q ∷ said) all = (all.0, entries_fit q said all.1)
 
 module _ (live : ℕ) (p : Program) (image : Image) (are : (file : FileId) → AreBytes (image file)) (silo : IsSilo magic (image (Manager live))) (checked : IsChecked p) (text : HasProgram p.text (image (ProgramFile live)))
-    (l : LogRead) (whole : first_missing live One (shape_in p) image (named_by_grain (named_in l)) ≡ None) where
+    (l : LogRead) (whole : first_missing live One (shapes_read p l) image (named_by_grain (named_in l)) ≡ None) where
   abbrev manager_file : List ℕ
   manager_file = image (Manager live)
 
   -- each version that it names is there
-  named_there : AllByRecursion (IsThere live (shape_in p) image) (named_in l)
-  named_there = all_of_order (IsThere live (shape_in p) image) (named_in l) (none_missing live (shape_in p) image (named_by_grain (named_in l)) whole)
+  named_there : AllByRecursion (IsThere live (shapes_read p l) image) (named_in l)
+  named_there = all_of_order (IsThere live (shapes_read p l) image) (named_in l) (none_missing live (shapes_read p l) image (named_by_grain (named_in l)) whole)
 
-  -- behind a beginning that stands, records that were read are blocks
+  -- behind a beginning that stands, entries that were read are blocks
   finish : (b : Beginning) → slice_index manager_file 13 ≡ begin_byte b → slice_index manager_file 14 ≡ 0 → standing_with p l.base.count l.base.next (states_read live (shape_in p) image l.base) ≡ base_of p b
       → BeginsWhole live p image b → (rest : List (List ℕ)) → bodies_of manager_file ≡ bodies_before b ++ rest → AllByRecursion AreBytes rest
-      → (gate : ℕ) → records_behind One (shape_in p) gate rest (no_more (gate_of manager_file) (found_at (gate_of manager_file) manager_file)) ≡ Ok l.records → IsLogIn live image (log_of live p image l)
+      → (gate : ℕ) → entries_behind One p gate rest (no_more (gate_of manager_file) (found_at (gate_of manager_file) manager_file)) ≡ Ok l.entries → IsLogIn live image (log_of live p image l)
   finish b kind nought base begins rest split bytes gate read =
-      let t = batches_of (shape_in p) gate rest (no_more (gate_of manager_file) (found_at (gate_of manager_file) manager_file)) l.records bytes read in
-      let r : AreBatches (shape_in p) rest l.records t.0 = t.2 in
-      let end = ended (gate_of manager_file) (found_at (gate_of manager_file) manager_file) t.0 (no_whole manager_file) t.1 in
-      let all : List CommitRecord = flat_map (λ batch. batch) r.batches in
-      let same : l.records ≡ all = r.all_are ∙ ap (λ (x : List CommitRecord). all ++ x) end.1 ∙ append-nil all in
-      let fit : AllByRecursion (IsRecordIn One Logged (shape_in p)) l.records = subst (λ (x : List CommitRecord). AllByRecursion (IsRecordIn One Logged (shape_in p)) x) (sym same) r.fit in
-      let there = parts_of (IsThere live (shape_in p) image) (named_of_base l.base) (named_by l.records) named_there in
+      let r : AreSaidBy One p rest (no_more (gate_of manager_file) (found_at (gate_of manager_file) manager_file)) l.entries =
+      only One p gate rest (no_more (gate_of manager_file) (found_at (gate_of manager_file) manager_file)) l.entries bytes read in
+      let end = ended (gate_of manager_file) (found_at (gate_of manager_file) manager_file) r.rest (no_whole manager_file) r.ended in
+      let all : List ReadEntry = flat_map entries_said r.said in
+      let same : l.entries ≡ all = r.are ∙ ap (λ (x : List ReadEntry). all ++ x) end.1 ∙ append-nil all in
+      let fit : AreFit p l.entries = subst (AreFit p) (sym same) (entries_fit p r.said r.entries) in
+      let there = parts_of (IsThere live (shapes_read p l) image) (named_of_base l.base) (named_by 0 l.entries) named_there in
       let logs : LogsUpTo (bodies_of manager_file) (gate_of manager_file) manager_file = is_logged manager_file (are (Manager live)) (omega (arith, silo.long)) end.0 in
-      let batches : List (List Commit) = map (map (commit_of live (shape_in p) image)) r.batches in
-      let commits : List Commit = map (commit_of live (shape_in p) image) l.records in
-      let commits_are : commits ≡ flat_map (λ (batch : List Commit). batch) batches = ap (map (commit_of live (shape_in p) image)) same ∙ sym (flat_mapped (commit_of live (shape_in p) image) r.batches) in
       record {
         bodies = bodies_of manager_file;
         gate = gate_of manager_file;
@@ -295,12 +360,12 @@ module _ (live : ℕ) (p : Program) (image : Image) (are : (file : FileId) → A
           zero = nought;
           base = base;
           whole = begins;
-          blocks = map Records batches;
-          fit = sizes_again batches (sizes_map 64 (commit_of live (shape_in p) image) r.batches r.sizes);
-          spelled = split ∙ ap (λ (bs : List (List ℕ)). bodies_before b ++ bs) (r.spelled ∙ sym (bodies_back live (shape_in p) image r.batches) ∙ bodies_again batches);
+          blocks = blocks_said live image p r.said;
+          fit = said_fit live image p r.said r.entries;
+          spelled = split ∙ ap (λ (bs : List (List ℕ)). bodies_before b ++ bs) (r.bodies_are ∙ bodies_back live image p r.said);
           stand = logs.blocks;
-          entries = ap (map Recorded) commits_are ∙ entries_again batches;
-          kept = kept_again live p image commits (all_are_kept live (shape_in p) image are l.records fit there.1);
+          entries = ap (entries_logged live p image) same ∙ entries_back live image p r.said;
+          kept = all_are_kept live (shapes_read p l) image are 0 p l.entries refl fit there.1;
         };
         closed = logs.closed;
       }
@@ -331,7 +396,7 @@ module _ (live : ℕ) (p : Program) (image : Image) (are : (file : FileId) → A
   all_ascend last [] all = tt
   all_ascend last (w ∷ ws) all = (all.0.1.1, all_ascend (grain_after last w) ws all.1)
 
-  one_saved : (w : Written) → WriteFits w → IsThere live (shape_in p) image (saved_as live (shape_in p) image w) → IsSaved live p image (saved_read w)
+  one_saved : (w : Written) → WriteFits w → IsThere live (shapes_read p l) image (saved_as live (shape_in p) image w) → IsSaved live p image (saved_read w)
   unfolding saved_read unit_of
   one_saved w fits there =
       let is = saved_stands live (shape_in p) image w (are (Grain live w.grain)) there.0 there.1 in
@@ -344,13 +409,13 @@ module _ (live : ℕ) (p : Program) (image : Image) (are : (file : FileId) → A
             (subst (WriteStands live (shape_in p) image there.0.unit w) (sym state) is.1);
       }
 
-  each_saved : (last : Option GrainId) (ws : List Written) → Chained (IsSavedIn (shape_in p)) grain_after last ws → AllByRecursion (IsThere live (shape_in p) image) (map (saved_as live (shape_in p) image) ws)
+  each_saved : (last : Option GrainId) (ws : List Written) → Chained (IsSavedIn (shape_in p)) grain_after last ws → AllByRecursion (IsThere live (shapes_read p l) image) (map (saved_as live (shape_in p) image) ws)
       → AllByRecursion (IsSaved live p image) (map saved_read ws)
   each_saved last [] all there = tt
   each_saved last (w ∷ ws) all there = (one_saved w all.0.0 there.0, each_saved (grain_after last w) ws all.1 there.1)
 
   -- the checkpoint that was read
-  module _ (bodies : List (List ℕ)) (end : Result (List CommitRecord) ℕ) (r : AreSavedPieces (shape_in p) None [] bodies end l) where
+  module _ (bodies : List (List ℕ)) (end : Result (List ReadEntry) ℕ) (r : AreSavedPieces p None [] bodies end l) where
     ck : Checkpoint
     ck = record { count = r.head.count; next = r.head.next_unit.0; front = map (map saved_read) r.front; last = map saved_read r.last }
 
@@ -386,8 +451,8 @@ module _ (live : ℕ) (p : Program) (image : Image) (are : (file : FileId) → A
       order = subst (IsAscending None) (sym (ap writes_of saved_are ∙ writes_back (joined r.front r.last))) (all_ascend None (joined r.front r.last) r.goes);
       each = subst (AllByRecursion (IsSaved live p image)) (sym saved_are)
           (each_saved None (joined r.front r.last) r.goes
-          (subst (λ (ws : List Written). AllByRecursion (IsThere live (shape_in p) image) (map (saved_as live (shape_in p) image) ws)) base_writes
-          (parts_of (IsThere live (shape_in p) image) (named_of_base l.base) (named_by l.records) named_there).0));
+          (subst (λ (ws : List Written). AllByRecursion (IsThere live (shapes_read p l) image) (map (saved_as live (shape_in p) image) ws)) base_writes
+          (parts_of (IsThere live (shapes_read p l) image) (named_of_base l.base) (named_by 0 l.entries) named_there).0));
     }
 
     base_is : standing_with p l.base.count l.base.next (states_read live (shape_in p) image l.base) ≡ base_of p (From ck)
@@ -399,10 +464,10 @@ module _ (live : ℕ) (p : Program) (image : Image) (are : (file : FileId) → A
         ∙ sym (states_back (joined r.front r.last)) ∙ sym (ap (map (λ (s : Saved). (s.write.grain, s.state))) saved_are))
 
   by_kind : (flag : Bool) → (slice_index manager_file 13 == 1) ≡ flag → slice_index manager_file 13 ≤ 1 → slice_index manager_file 14 ≡ 0
-      → log_as One (shape_in p) flag (bodies_of manager_file) (gate_of manager_file) (found_at (gate_of manager_file) manager_file) ≡ Ok l → IsLogIn live image (log_of live p image l)
+      → log_as One p flag (bodies_of manager_file) (gate_of manager_file) (found_at (gate_of manager_file) manager_file) ≡ Ok l → IsLogIn live image (log_of live p image l)
   by_kind false kind low nought e =
       let none : slice_index manager_file 13 ≡ 0 = small (slice_index manager_file 13) low kind in
-      let t = base_by (shape_in p) fresh_base (records_behind One (shape_in p) first_gate (bodies_of manager_file) (no_more (gate_of manager_file) (found_at (gate_of manager_file) manager_file))) l e in
+      let t = base_by p fresh_base (entries_behind One p first_gate (bodies_of manager_file) (no_more (gate_of manager_file) (found_at (gate_of manager_file) manager_file))) l e in
       finish Fresh none nought (λ i. standing_with p (t.0 i).count (t.0 i).next (states_read live (shape_in p) image (t.0 i))) tt (bodies_of manager_file) refl
       (bodies_bytes manager_file (are (Manager live)) (length manager_file) first_gate) first_gate t.1
     where
@@ -413,26 +478,26 @@ module _ (live : ℕ) (p : Program) (image : Image) (are : (file : FileId) → A
   by_kind true kind low nought e =
       let one : slice_index manager_file 13 ≡ 1 = eqb-true (slice_index manager_file 13) 1 kind in
       let end = no_more (gate_of manager_file) (found_at (gate_of manager_file) manager_file) in
-      let r = pieces_of_read (shape_in p) first_gate None [] (bodies_of manager_file) end (no_piece (gate_of manager_file) (found_at (gate_of manager_file) manager_file)) l
+      let r = pieces_of_read p first_gate None [] (bodies_of manager_file) end (no_piece (gate_of manager_file) (found_at (gate_of manager_file) manager_file)) l
       (bodies_bytes manager_file (are (Manager live)) (length manager_file) first_gate) e in
-      finish (From (ck (bodies_of manager_file) end r)) one nought (base_is (bodies_of manager_file) end r) (is_checkpoint (bodies_of manager_file) end r) r.rest (bodies_split (bodies_of manager_file) end r) r.bytes r.gate r.records
+      finish (From (ck (bodies_of manager_file) end r)) one nought (base_is (bodies_of manager_file) end r) (is_checkpoint (bodies_of manager_file) end r) r.rest (bodies_split (bodies_of manager_file) end r) r.bytes r.gate r.entries
 
   -- a log that is read of a slot's files is theirs
-  pub stands_in : log_in_file One (shape_in p) manager_file ≡ Ok l → IsLogIn live image (log_of live p image l)
+  pub stands_in : log_in_file One p manager_file ≡ Ok l → IsLogIn live image (log_of live p image l)
   stands_in e =
-      let h = header_whole (header_damage manager_file) (log_as One (shape_in p) (slice_index manager_file 13 == 1) (bodies_of manager_file) (gate_of manager_file) (found_at (gate_of manager_file) manager_file)) l e in
+      let h = header_whole (header_damage manager_file) (log_as One p (slice_index manager_file 13 == 1) (bodies_of manager_file) (gate_of manager_file) (found_at (gate_of manager_file) manager_file)) l e in
       let parts = header_none manager_file h.0 in
       by_kind (slice_index manager_file 13 == 1) refl parts.0 parts.1 h.1
 
 -- The number of the unit that is next where a log begins that is read is above 0.
-pub next_read : (shape : Shape) (file : List ℕ) (l : LogRead) → log_in_file One shape file ≡ Ok l → 0 < l.base.next
-next_read shape file l e =
-    by (slice_index file 13 == 1) (header_whole (header_damage file) (log_as One shape (slice_index file 13 == 1) (bodies_of file) (gate_of file) (found_at (gate_of file) file)) l e).1
+pub next_read : (p : Program) (file : List ℕ) (l : LogRead) → log_in_file One p file ≡ Ok l → 0 < l.base.next
+next_read p file l e =
+    by (slice_index file 13 == 1) (header_whole (header_damage file) (log_as One p (slice_index file 13 == 1) (bodies_of file) (gate_of file) (found_at (gate_of file) file)) l e).1
   where
-    by : (flag : Bool) → log_as One shape flag (bodies_of file) (gate_of file) (found_at (gate_of file) file) ≡ Ok l → 0 < l.base.next
+    by : (flag : Bool) → log_as One p flag (bodies_of file) (gate_of file) (found_at (gate_of file) file) ≡ Ok l → 0 < l.base.next
     by false e =
-        let t = base_by shape fresh_base (records_behind One shape first_gate (bodies_of file) (no_more (gate_of file) (found_at (gate_of file) file))) l e in
+        let t = base_by p fresh_base (entries_behind One p first_gate (bodies_of file) (no_more (gate_of file) (found_at (gate_of file) file))) l e in
         let one : 0 < 1 = omega arith in
         subst (λ (b : LogBase). 0 < b.next) (sym t.0) one
     by true e =
-        saved_next shape first_gate None [] (bodies_of file) (no_more (gate_of file) (found_at (gate_of file) file)) (no_piece (gate_of file) (found_at (gate_of file) file)) l e
+        saved_next p first_gate None [] (bodies_of file) (no_more (gate_of file) (found_at (gate_of file) file)) (no_piece (gate_of file) (found_at (gate_of file) file)) l e

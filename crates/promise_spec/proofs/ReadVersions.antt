@@ -1,5 +1,5 @@
--- The versions that the records of a log name, from what is read and back.
-use Rattle.std.proofs.Common.{◌≡◌, inl, inr, ℕ, ◌^◌, ◌<◌, ◌≤◌, nat_lt, Bool, true, false, if◌then◌else◌, Option, Some, None, List, [], ◌∷◌, length, map, filter, take, drop, Result, Ok, Err, refl, sym, ◌∙◌, ap, subst, arith, length-append, slice_get}
+-- The versions that the entries of a log name, from what is read and back.
+use Rattle.std.proofs.Common.{◌≡◌, inl, inr, ℕ, zero, suc, ◌+◌, ◌^◌, ◌<◌, ◌≤◌, nat_lt, Bool, true, false, if◌then◌else◌, Option, Some, None, List, [], ◌∷◌, length, map, filter, take, drop, Result, Ok, Err, refl, sym, ◌∙◌, ap, subst, arith, length-append, slice_get}
 use Rattle.std.proofs.lemmas.Bool.{cond_both, ltb-false, ltb-true, lt-ltb, or_parts, and_parts, and_from}
 use Rattle.std.proofs.lemmas.List.{take-take, take_at}
 use Rattle.std.proofs.lemmas.Slice.Eq.{bytes_eq-Decides}
@@ -26,7 +26,6 @@ use Rattle.grain_log.specs.declared.faults.VersionFault.TheVariants.{Damaged}
 use Rattle.grain_log.specs.Places.{IsVersionAt}
 use Rattle.grain_log.specs.Reads.{fields_of, is_beyond, is_logged, text_in, version_at_place, GivesVersion}
 use Rattle.grain_log.proofs.Versions.{found_when, only_at}
-use Rattle.commit_log.specs.declared.records.CommitRecord.{CommitRecord}
 use Rattle.commit_log.specs.declared.records.Written.{Written}
 use Rattle.commit_log.specs.Bodies.{IsRecordIn}
 use Rattle.core_model.specs.CoreState.{Member}
@@ -34,9 +33,13 @@ use Rattle.core_model.specs.Tests.{is_before}
 use Rattle.cell_model.specs.Units as cell
 use Rattle.cell_model.proofs.Units.{same_grain-true, same_grain-is, filter-stays}
 use Rattle.script_holding.specs.Holding.{same_grain}
-use Rattle.promise_spec.specs.Records.{Commit, ascending_with, ascending}
-use Rattle.promise_spec.specs.Versions.{WriteStands, WritesStand, IsKept}
-use Rattle.promise_spec.specs.Openings.{Named, named_by, named_by_grain, is_owned, version_named, missing_or, first_missing, state_of, commit_of}
+use Rattle.program_file.specs.Succession.{shapes_in_turn}
+use Rattle.promise_spec.specs.Programs.{Program, shape_in}
+use Rattle.promise_spec.specs.Records.{ascending_with, ascending}
+use Rattle.promise_spec.specs.Entries.{LogEntry, Recorded, Upgraded}
+use Rattle.promise_spec.specs.Versions.{WriteStands, WritesStand}
+use Rattle.promise_spec.specs.Blocks.{MayFollow, AreKept}
+use Rattle.promise_spec.specs.Openings.{ReadEntry, ReadRecord, ReadUpgrade, Named, named_by, named_by_grain, is_owned, version_named, version_by_shape, version_numbered, missing_or, first_missing, state_of, programs_read, types_read, entries_logged}
 use Rattle.promise_spec.proofs.Lists.{parts_of, both_parts, each_of, all_of, in_flat, all_flat}
 
 -- ---- grains in ascending order
@@ -118,11 +121,11 @@ first_eight len file v here size =
 units_same : (m n : ℕ) → m < 2 ^ 64 → n < 2 ^ 64 → to_le_bytes w64 m ≡ to_le_bytes w64 n → m ≡ n
 units_same m n low also e = sym (wide64.again m low) ∙ ap (from_le_bytes w64) e ∙ wide64.again n also
 
-module _ (live : ℕ) (shape : Shape) (image : Image) where
-  -- the version that is named is there
-  abbrev pub IsThere : Named → Type 0
-  IsThere n = (v : Version) × (version_named live One shape image n ≡ Ok v)
+-- the version that is named is there, by the shape of its program
+abbrev pub IsThere : ℕ → List Shape → Image → Named → Type 0
+IsThere live shapes image n = (v : Version) × (version_numbered live One shapes image n ≡ Ok v)
 
+module _ (live : ℕ) (shape : Shape) (image : Image) where
   module _ (w : Written) where
     near_by : (o : Option ℕ) (v : Version) → version_at_place One o w.place (image (Grain live w.grain)) ≡ Ok v → w.place.offset < 2 ^ 63
     near_by None v e = absurd cc
@@ -164,7 +167,7 @@ module _ (live : ℕ) (shape : Shape) (image : Image) where
 
   module _ (unit : UnitNo) (w : Written) where
     abbrev pub named_as : Named
-    named_as = record { unit = Some unit; written = w }
+    named_as = record { unit = Some unit; program = 0; written = w }
 
     -- a version that is read stands there
     pub stands : AreBytes (image (Grain live w.grain)) → unit.0 < 2 ^ 64 → (v : Version) → version_named live One shape image named_as ≡ Ok v → WriteStands live shape image unit w v.state
@@ -188,7 +191,7 @@ module _ (live : ℕ) (shape : Shape) (image : Image) where
 
   module _ (w : Written) where
     abbrev pub saved_as : Named
-    saved_as = record { unit = None; written = w }
+    saved_as = record { unit = None; program = 0; written = w }
 
     -- a version that is read there is a unit's that may be logged, and stands
     pub saved_stands : AreBytes (image (Grain live w.grain)) → (v : Version) → version_named live One shape image saved_as ≡ Ok v
@@ -214,53 +217,111 @@ module _ (live : ℕ) (shape : Shape) (image : Image) where
 
   -- ---- the versions of a record
 
-  -- versions that are there stand, with the states that are read
-  all_stand : (unit : UnitNo) (ws : List Written) → ((file : FileId) → AreBytes (image file)) → unit.0 < 2 ^ 64 → AllByRecursion IsThere (map (λ w. record { unit = Some unit; written = w }) ws)
-      → WritesStand live shape image unit ws (map (λ w. state_of (version_named live One shape image (record { unit = Some unit; written = w }))) ws)
-  all_stand unit [] are low all = tt
-  all_stand unit (w ∷ ws) are low all =
-      let state : all.0.0.state ≡ state_of (version_named live One shape image (record { unit = Some unit; written = w })) = ap state_of (sym all.0.1) in
-      (subst (WriteStands live shape image unit w) state (stands unit w (are (Grain live w.grain)) low all.0.0 all.0.1), all_stand unit ws are low all.1)
-
-  -- versions that stand are there
-  all_there : (unit : UnitNo) (ws : List Written) (states : List (List Value)) → WritesStand live shape image unit ws states → AllByRecursion IsThere (map (λ w. record { unit = Some unit; written = w }) ws)
-  all_there unit [] states all = tt
-  all_there unit (w ∷ ws) [] all = absurd all
-  all_there unit (w ∷ ws) (state ∷ states) all = ((record { unit = unit; state = state }, stood unit w state all.0), all_there unit ws states all.1)
-
-  -- and their states are read
-  all_states : (unit : UnitNo) (ws : List Written) (states : List (List Value)) → WritesStand live shape image unit ws states → map (λ w. state_of (version_named live One shape image (record { unit = Some unit; written = w }))) ws ≡ states
+  -- states of versions that stand are read
+  all_states : (unit : UnitNo) (ws : List Written) (states : List (List Value)) → WritesStand live shape image unit ws states → map (λ w. state_of (version_named live One shape image (record { unit = Some unit; program = 0; written = w }))) ws ≡ states
   all_states unit [] [] all = refl
   all_states unit [] (state ∷ states) all = absurd all
   all_states unit (w ∷ ws) [] all = absurd all
   all_states unit (w ∷ ws) (state ∷ states) all =
-      let one : state_of (version_named live One shape image (record { unit = Some unit; written = w })) ≡ state = ap state_of (stood unit w state all.0) in
+      let one : state_of (version_named live One shape image (record { unit = Some unit; program = 0; written = w })) ≡ state = ap state_of (stood unit w state all.0) in
       let more = all_states unit ws states all.1 in
       λ i. one i ∷ more i
 
-  -- ---- the versions of a log
+-- ---- by the number of the program of their time
 
-  -- records whose versions are there are kept
-  pub all_are_kept : ((file : FileId) → AreBytes (image file)) → (records : List CommitRecord) → AllByRecursion (IsRecordIn One Logged shape) records → AllByRecursion IsThere (named_by records)
-      → AllByRecursion (IsKept live shape image) (map (commit_of live shape image) records)
-  all_are_kept are [] fit there = tt
-  all_are_kept are (r ∷ records) fit there =
-      let t = parts_of IsThere (map (λ w. record { unit = Some r.unit; written = w }) r.writes) (named_by records) there in
-      (record { fits = fit.0; whole = all_stand r.unit r.writes are fit.0.fits.unit t.0 }, all_are_kept are records fit.1 t.1)
+module _ (live : ℕ) (shapes : List Shape) (image : Image) (number : ℕ) (shape : Shape) (at : slice_get shapes number ≡ Some shape) where
+  -- the shape is taken by its number
+  pub by_number : (unit : Option UnitNo) (w : Written)
+      → version_numbered live One shapes image (record { unit = unit; program = number; written = w }) ≡ version_named live One shape image (record { unit = unit; program = 0; written = w })
+  by_number unit w = ap (λ (o : Option Shape). version_by_shape live One o image (record { unit = unit; program = number; written = w })) at
 
-  -- the versions of records that are kept are there
-  pub all_are_there : (log : List Commit) → AllByRecursion (IsKept live shape image) log → AllByRecursion IsThere (named_by (map (λ c. c.logged) log))
-  all_are_there [] kept = tt
-  all_are_there (c ∷ log) kept =
-      both_parts IsThere (map (λ w. record { unit = Some c.logged.unit; written = w }) c.logged.writes) (named_by (map (λ (d : Commit). d.logged) log)) (all_there c.logged.unit c.logged.writes c.states kept.0.whole) (all_are_there log kept.1)
+  -- versions that are there stand, with the states that are read
+  all_stand : (unit : UnitNo) (ws : List Written) → ((file : FileId) → AreBytes (image file)) → unit.0 < 2 ^ 64 → AllByRecursion (IsThere live shapes image) (map (λ w. record { unit = Some unit; program = number; written = w }) ws)
+      → WritesStand live shape image unit ws (map (λ w. state_of (version_named live One shape image (record { unit = Some unit; program = 0; written = w }))) ws)
+  all_stand unit [] are low all = tt
+  all_stand unit (w ∷ ws) are low all =
+      let read : version_named live One shape image (record { unit = Some unit; program = 0; written = w }) ≡ Ok all.0.0 = sym (by_number (Some unit) w) ∙ all.0.1 in
+      let state : all.0.0.state ≡ state_of (version_named live One shape image (record { unit = Some unit; program = 0; written = w })) = ap state_of (sym read) in
+      (subst (WriteStands live shape image unit w) state (stands live shape image unit w (are (Grain live w.grain)) low all.0.0 read), all_stand unit ws are low all.1)
 
-  -- and they are the states of these records
-  pub same_commits : (log : List Commit) → AllByRecursion (IsKept live shape image) log → map (commit_of live shape image) (map (λ c. c.logged) log) ≡ log
-  same_commits [] kept = refl
-  same_commits (c ∷ log) kept =
-      let states = all_states c.logged.unit c.logged.writes c.states kept.0.whole in
-      let more = same_commits log kept.1 in
-      λ i. record { logged = c.logged; states = states i } ∷ more i
+  -- versions that stand are there
+  all_there : (unit : UnitNo) (ws : List Written) (states : List (List Value)) → WritesStand live shape image unit ws states
+      → AllByRecursion (IsThere live shapes image) (map (λ w. record { unit = Some unit; program = number; written = w }) ws)
+  all_there unit [] states all = tt
+  all_there unit (w ∷ ws) [] all = absurd all
+  all_there unit (w ∷ ws) (state ∷ states) all =
+      ((record { unit = unit; state = state }, by_number (Some unit) w ∙ stood live shape image unit w state all.0), all_there unit ws states all.1)
+
+-- ---- the versions of a log
+
+-- an item of a list, and what stands behind it
+pub item_at : {A : Type 0} (n : ℕ) (xs : List A) (x : A) (rest : List A) → drop n xs ≡ x ∷ rest → (slice_get xs n ≡ Some x) × (drop (n + 1) xs ≡ rest)
+item_at zero [] x rest e = absurd cc
+item_at zero (a ∷ xs) x rest e = (cc, cc)
+item_at (suc n) [] x rest e = absurd cc
+item_at (suc n) (a ∷ xs) x rest e =
+    let t = item_at n xs x rest e in
+    let one : suc n + 1 ≡ suc (n + 1) = omega arith in
+    (t.0, ap (λ (m : ℕ). drop m (a ∷ xs)) one ∙ t.1)
+
+-- an entry as it is read
+abbrev pub entry_seen : LogEntry → ReadEntry
+entry_seen (Recorded c) = ReadRecord c.logged
+entry_seen (Upgraded q) = ReadUpgrade q
+
+-- Each record is one of the program in force, and each program may follow the one before it.
+abbrev pub AreFit : Program → List ReadEntry → Type 0
+AreFit p [] = Unit {0}
+AreFit p (ReadRecord r ∷ later) = IsRecordIn One Logged (shape_in p) r × AreFit p later
+AreFit p (ReadUpgrade q ∷ later) = MayFollow p q × AreFit q later
+
+-- entries that are kept are so
+pub fit_of : (live : ℕ) (image : Image) (p : Program) (entries : List LogEntry) → AreKept live image p entries → AreFit p (map entry_seen entries)
+fit_of live image p [] all = tt
+fit_of live image p (Recorded c ∷ entries) all = (all.0.fits, fit_of live image p entries all.1)
+fit_of live image p (Upgraded q ∷ entries) all = (all.0, fit_of live image q entries all.1)
+
+-- and are read with their states
+pub same_entries : (live : ℕ) (image : Image) (p : Program) (entries : List LogEntry) → AreKept live image p entries → entries_logged live p image (map entry_seen entries) ≡ entries
+same_entries live image p [] kept = refl
+same_entries live image p (Recorded c ∷ entries) kept =
+    let states = all_states live (shape_in p) image c.logged.unit c.logged.writes c.states kept.0.whole in
+    let more = same_entries live image p entries kept.1 in
+    λ i. Recorded (record { logged = c.logged; states = states i }) ∷ more i
+same_entries live image p (Upgraded q ∷ entries) kept = ap (λ (l : List LogEntry). Upgraded q ∷ l) (same_entries live image q entries kept.1)
+
+-- the shapes of the programs that come into force among entries
+abbrev pub later_shapes : List ReadEntry → List Shape
+later_shapes entries = shapes_in_turn (map (λ (q : Program). q.types) (programs_read entries))
+
+module _ (live : ℕ) (shapes : List Shape) (image : Image) where
+  -- from this number on the shapes are those of this program and of those that come into force among these entries
+  abbrev pub AreShapes : ℕ → Program → List ReadEntry → Type 0
+  AreShapes number p entries = drop number shapes ≡ shapes_in_turn (types_read p entries)
+
+  -- entries whose versions are there are kept
+  pub all_are_kept : ((file : FileId) → AreBytes (image file)) → (number : ℕ) (p : Program) (entries : List ReadEntry) → AreShapes number p entries → AreFit p entries
+      → AllByRecursion (IsThere live shapes image) (named_by number entries) → AreKept live image p (entries_logged live p image entries)
+  all_are_kept are number p [] goes fit there = tt
+  all_are_kept are number p (ReadRecord r ∷ entries) goes fit there =
+      let at = item_at number shapes (shape_in p) (later_shapes entries) goes in
+      let t = parts_of (IsThere live shapes image) (map (λ w. record { unit = Some r.unit; program = number; written = w }) r.writes) (named_by number entries) there in
+      (record { fits = fit.0; whole = all_stand live shapes image number (shape_in p) at.0 r.unit r.writes are fit.0.fits.unit t.0 }, all_are_kept are number p entries goes fit.1 t.1)
+  all_are_kept are number p (ReadUpgrade q ∷ entries) goes fit there =
+      let at = item_at number shapes (shape_in p) (later_shapes (ReadUpgrade q ∷ entries)) goes in
+      (fit.0, all_are_kept are (number + 1) q entries at.1 fit.1 there)
+
+  -- the versions of entries that are kept are there
+  pub all_are_there : (number : ℕ) (p : Program) (entries : List LogEntry) → AreShapes number p (map entry_seen entries) → AreKept live image p entries
+      → AllByRecursion (IsThere live shapes image) (named_by number (map entry_seen entries))
+  all_are_there number p [] goes kept = tt
+  all_are_there number p (Recorded c ∷ entries) goes kept =
+      let at = item_at number shapes (shape_in p) (later_shapes (map entry_seen entries)) goes in
+      both_parts (IsThere live shapes image) (map (λ w. record { unit = Some c.logged.unit; program = number; written = w }) c.logged.writes) (named_by number (map entry_seen entries))
+      (all_there live shapes image number (shape_in p) at.0 c.logged.unit c.logged.writes c.states kept.0.whole) (all_are_there number p entries goes kept.1)
+  all_are_there number p (Upgraded q ∷ entries) goes kept =
+      let at = item_at number shapes (shape_in p) (later_shapes (ReadUpgrade q ∷ map entry_seen entries)) goes in
+      all_are_there (number + 1) q entries at.1 kept.1
 
   -- ---- what is missing
 
@@ -268,12 +329,12 @@ module _ (live : ℕ) (shape : Shape) (image : Image) where
   none_by n (Ok v) later e = ((v, refl), e)
   none_by n (Err place) later e = absurd cc
 
-  pub none_missing : (named : List Named) → first_missing live One shape image named ≡ None → AllByRecursion IsThere named
+  pub none_missing : (named : List Named) → first_missing live One shapes image named ≡ None → AllByRecursion (IsThere live shapes image) named
   none_missing [] e = tt
   none_missing (n ∷ named) e =
-      let t = none_by n (version_named live One shape image n) (first_missing live One shape image named) e in
+      let t = none_by n (version_numbered live One shapes image n) (first_missing live One shapes image named) e in
       (t.0, none_missing named t.1)
 
-  pub missing_none : (named : List Named) → AllByRecursion IsThere named → first_missing live One shape image named ≡ None
+  pub missing_none : (named : List Named) → AllByRecursion (IsThere live shapes image) named → first_missing live One shapes image named ≡ None
   missing_none [] all = refl
-  missing_none (n ∷ named) all = ap (λ (r : Result Version ℕ). missing_or live n.written.grain r (first_missing live One shape image named)) all.0.1 ∙ missing_none named all.1
+  missing_none (n ∷ named) all = ap (λ (r : Result Version ℕ). missing_or live n.written.grain r (first_missing live One shapes image named)) all.0.1 ∙ missing_none named all.1

@@ -2,28 +2,20 @@
 use Rattle.std.proofs.Common.{◌≡◌, ◌↔◌, ℕ, ◌+◌, max, List, [], ◌∷◌, ◌++◌, length, map, fold, refl, sym, ap, ◌∙◌, arith, append_assoc, append-nil}
 use Rattle.std.proofs.lemmas.List.{map-append}
 use Rattle.promise_spec.specs.Records.{Commit, after_writes}
-use Rattle.promise_spec.specs.Entries.{LogEntry, Recorded, records_among, Standing, after_entry, after_entries, Log, records_of, standing_of, grown}
+use Rattle.promise_spec.specs.Entries.{LogEntry, Recorded, Upgraded, records_among, Standing, after_entry, after_entries, Log, records_of, standing_of, grown}
 use Rattle.promise_spec.specs.SerialExecution.{IsSerial, IsSerialFrom}
 
 -- how many entries there are
 pub counted : (before : Standing) (entries : List LogEntry) → (after_entries before entries).count ≡ before.count + length entries
 counted before [] = omega arith
 counted before (Recorded c ∷ entries) = (let more : (after_entries before (Recorded c ∷ entries)).count ≡ (before.count + 1) + length entries = counted (after_entry before (Recorded c)) entries in omega (arith, more))
+counted before (Upgraded p ∷ entries) = (let more : (after_entries before (Upgraded p ∷ entries)).count ≡ (before.count + 1) + length entries = counted (after_entry before (Upgraded p)) entries in omega (arith, more))
 
 -- the number of the next unit
 pub numbered : (before : Standing) (entries : List LogEntry) → (after_entries before entries).next ≡ fold (λ (next : ℕ) (c : Commit). max next (c.logged.unit.0 + 1)) before.next (records_among entries)
 numbered before [] = refl
 numbered before (Recorded c ∷ entries) = numbered (after_entry before (Recorded c)) entries
-
--- the program in force
-pub in_force : (before : Standing) (entries : List LogEntry) → (after_entries before entries).program ≡ before.program
-in_force before [] = refl
-in_force before (Recorded c ∷ entries) = in_force (after_entry before (Recorded c)) entries
-
--- the states
-pub written : (before : Standing) (entries : List LogEntry) → (after_entries before entries).states ≡ fold after_writes before.states (records_among entries)
-written before [] = refl
-written before (Recorded c ∷ entries) = written (after_entry before (Recorded c)) entries
+numbered before (Upgraded p ∷ entries) = numbered (after_entry before (Upgraded p)) entries
 
 -- the records that are entries
 pub records_back : (commits : List Commit) → records_among (map Recorded commits) ≡ commits
@@ -32,15 +24,17 @@ records_back (c ∷ commits) = ap (λ (l : List Commit). c ∷ l) (records_back 
 
 -- behind records alone: the program stays in force, and the states are those after their writes
 pub program_stays : (before : Standing) (more : List Commit) → (after_entries before (map Recorded more)).program ≡ before.program
-program_stays before more = in_force before (map Recorded more)
+program_stays before [] = refl
+program_stays before (c ∷ more) = program_stays (after_entry before (Recorded c)) more
 
 pub states_are : (before : Standing) (more : List Commit) → (after_entries before (map Recorded more)).states ≡ fold after_writes before.states more
-states_are before more = written before (map Recorded more) ∙ ap (fold after_writes before.states) (records_back more)
+states_are before [] = refl
+states_are before (c ∷ more) = states_are (after_entry before (Recorded c)) more
 
 -- first some, and then the others
 pub in_parts : (before : Standing) (entries more : List LogEntry) → after_entries before (entries ++ more) ≡ after_entries (after_entries before entries) more
 in_parts before [] more = refl
-in_parts before (Recorded c ∷ entries) more = in_parts (after_entry before (Recorded c)) entries more
+in_parts before (e ∷ entries) more = in_parts (after_entry before e) entries more
 
 -- ---- logs that have grown
 
@@ -67,6 +61,7 @@ serial_from before (c ∷ more) =
 pub records_append : (entries more : List LogEntry) → records_among (entries ++ more) ≡ records_among entries ++ records_among more
 records_append [] more = refl
 records_append (Recorded c ∷ entries) more = ap (λ (l : List Commit). c ∷ l) (records_append entries more)
+records_append (Upgraded p ∷ entries) more = records_append entries more
 
 pub grown_records : (log : Log) (more : List Commit) → records_of (grown log more) ≡ records_of log ++ more
 grown_records log more = records_append log.entries (map Recorded more) ∙ ap (λ (l : List Commit). records_of log ++ l) (records_back more)

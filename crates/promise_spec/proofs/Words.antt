@@ -7,7 +7,7 @@ use Rattle.std.specs.Str.Parse.{AllDigits, digits_value}
 use Rattle.std.proofs.lemmas.Bool.Decides.{nat_tests}
 use Rattle.std.proofs.lemmas.Fmt.{decimal_is_IsNumeral}
 use Rattle.std.proofs.lemmas.Str.Parse.{digit_from_value}
-use Rattle.promise_spec.specs.Words.{Choice, Width, Turns, Workers, Form, Apart, Joined, GivenOption, Manner, Command, Init, Run, Show, History, Audit, Load, Check, Compact, Say, SpellsRun, SpellsLoad, SpellsCheck, choice_name, value_text, list_text, words_in, words_of_all, manner_of, IsWithin, IsNoTurns, AreOptions}
+use Rattle.promise_spec.specs.Words.{Choice, Width, Turns, Workers, Form, Apart, Joined, GivenOption, Manner, Command, Init, Run, Show, History, Audit, Load, Check, Compact, Upgrade, Say, SpellsRun, SpellsLoad, SpellsCheck, choice_name, value_text, list_text, words_in, words_of_all, manner_of, IsWithin, IsNoTurns, AreOptions}
 use Rattle.promise_spec.proofs.Lists.{tail_of, none_is, parts_of}
 
 -- ---- what a word says
@@ -74,7 +74,8 @@ command_by letter second words =
     else (if letter == 104 then History
     else (if letter == 97 then Audit
     else (if letter == 99 then (if second == 111 then Compact else Check (get_or (numbers_in None words) 0 0) (get_or (numbers_in None words) 1 0))
-    else Load (get_or (numbers_in None words) 0 0) (get_or (numbers_in None words) 1 0) (manner_of (options_in None words)))))))
+    else (if letter == 117 then Upgrade
+    else Load (get_or (numbers_in None words) 0 0) (get_or (numbers_in None words) 1 0) (manner_of (options_in None words))))))))
 
 abbrev command_in : List (List ℕ) → Command
 command_in [] = Init
@@ -248,6 +249,7 @@ module _ (takes : GivenOption → Bool) (words : List (List ℕ)) where
   command_back (Load n seed m) k = load_back n seed m k
   command_back (Check n seed) k = check_back n seed k
   command_back Compact k = ap command_in k
+  command_back Upgrade k = ap command_in k
 
 -- ---- words that say nothing
 
@@ -265,6 +267,7 @@ no_run rest takes refused Audit k = absurd (cc (command_back takes (codes "run" 
 no_run rest takes refused (Load n seed m) k = absurd (cc (command_back takes (codes "run" ∷ rest) (Load n seed m) k))
 no_run rest takes refused (Check n seed) k = absurd (cc (command_back takes (codes "run" ∷ rest) (Check n seed) k))
 no_run rest takes refused Compact k = absurd (cc (command_back takes (codes "run" ∷ rest) Compact k))
+no_run rest takes refused Upgrade k = absurd (cc (command_back takes (codes "run" ∷ rest) Upgrade k))
 
 -- the words of a load say the two numbers and the options that are read in them, and nothing where these may not stand
 pub no_load : (rest : List (List ℕ)) (takes : GivenOption → Bool)
@@ -287,6 +290,7 @@ no_load rest takes refused (Load n seed m) k =
     (subst (AreOptions takes) read k.are) (subst (λ (l : List GivenOption). AllByRecursion (λ (g : GivenOption). IsNoTurns g.what) l) read k.no_turns)
 no_load rest takes refused (Check n seed) k = absurd (cc (command_back takes (codes "load" ∷ rest) (Check n seed) k))
 no_load rest takes refused Compact k = absurd (cc (command_back takes (codes "load" ∷ rest) Compact k))
+no_load rest takes refused Upgrade k = absurd (cc (command_back takes (codes "load" ∷ rest) Upgrade k))
 
 -- the words of a check say the two numbers that are read in them, and nothing where an option is
 pub no_check : (rest : List (List ℕ)) (takes : GivenOption → Bool) → ((n seed : ℕ) → numbers_in None rest ≡ n ∷ seed ∷ [] → options_in None rest ≡ [] → n ≤ 10000 → seed < 2 ^ 64 → ⊥)
@@ -302,6 +306,7 @@ no_check rest takes refused (Check n seed) k =
     let words : rest ≡ decimal n ∷ (decimal seed ∷ []) = tail_of (codes "check") (codes "check") rest (decimal n ∷ (decimal seed ∷ [])) k.words_are in
     refused n seed (ap (numbers_in None) words ∙ check_numbers n seed small k.small) (ap (options_in None) words ∙ check_options n seed small k.small) k.few k.small
 no_check rest takes refused Compact k = absurd (cc (command_back takes (codes "check" ∷ rest) Compact k))
+no_check rest takes refused Upgrade k = absurd (cc (command_back takes (codes "check" ∷ rest) Upgrade k))
 
 -- the word of a compaction stands alone
 pub no_compact : (word : List ℕ) (rest : List (List ℕ)) (takes : GivenOption → Bool) (c : Command) → Say takes (codes "compact" ∷ word ∷ rest) c → ⊥
@@ -313,6 +318,19 @@ no_compact word rest takes Audit k = absurd (cc (command_back takes (codes "comp
 no_compact word rest takes (Load n seed m) k = absurd (cc (command_back takes (codes "compact" ∷ word ∷ rest) (Load n seed m) k))
 no_compact word rest takes (Check n seed) k = absurd (cc (command_back takes (codes "compact" ∷ word ∷ rest) (Check n seed) k))
 no_compact word rest takes Compact k = absurd (none_is word rest (tail_of (codes "compact") (codes "compact") (word ∷ rest) [] k))
+no_compact word rest takes Upgrade k = absurd (cc (command_back takes (codes "compact" ∷ word ∷ rest) Upgrade k))
+
+-- the word of an upgrade stands alone
+pub no_upgrade : (word : List ℕ) (rest : List (List ℕ)) (takes : GivenOption → Bool) (c : Command) → Say takes (codes "upgrade" ∷ word ∷ rest) c → ⊥
+no_upgrade word rest takes Init k = absurd (cc (command_back takes (codes "upgrade" ∷ word ∷ rest) Init k))
+no_upgrade word rest takes (Run m) k = absurd (cc (command_back takes (codes "upgrade" ∷ word ∷ rest) (Run m) k))
+no_upgrade word rest takes Show k = absurd (cc (command_back takes (codes "upgrade" ∷ word ∷ rest) Show k))
+no_upgrade word rest takes History k = absurd (cc (command_back takes (codes "upgrade" ∷ word ∷ rest) History k))
+no_upgrade word rest takes Audit k = absurd (cc (command_back takes (codes "upgrade" ∷ word ∷ rest) Audit k))
+no_upgrade word rest takes (Load n seed m) k = absurd (cc (command_back takes (codes "upgrade" ∷ word ∷ rest) (Load n seed m) k))
+no_upgrade word rest takes (Check n seed) k = absurd (cc (command_back takes (codes "upgrade" ∷ word ∷ rest) (Check n seed) k))
+no_upgrade word rest takes Compact k = absurd (cc (command_back takes (codes "upgrade" ∷ word ∷ rest) Compact k))
+no_upgrade word rest takes Upgrade k = absurd (none_is word rest (tail_of (codes "upgrade") (codes "upgrade") (word ∷ rest) [] k))
 
 -- words say at most one command
 pub one_command : (takes : GivenOption → Bool) (words : List (List ℕ)) (c d : Command) → Say takes words c → Say takes words d → c ≡ d

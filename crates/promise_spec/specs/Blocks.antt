@@ -1,4 +1,4 @@
--- What stands in the blocks of a log: the pieces of a checkpoint first, where it begins with one, and then the records.
+-- What stands in the blocks of a log: the pieces of a checkpoint first, where it begins with one, and then the records and upgrades.
 use Rattle.std.specs.Prelude.{ℕ, ◌^◌, ◌<◌, ◌≤◌, ◌≡◌, List, [], ◌∷◌, ◌++◌, length, map, fold, None, ⊤}
 use Rattle.std.specs.List.{flat_map, AllByRecursion}
 use Rattle.base_types.specs.declared.calls.GrainId.{GrainId}
@@ -6,36 +6,45 @@ use Rattle.base_types.specs.declared.calls.UnitNo.{UnitNo}
 use Rattle.base_types.specs.declared.calls.Value.{Value}
 use Rattle.host_trait.specs.World.{Image}
 use Rattle.commit_log.specs.declared.records.Written.{Written}
+use Rattle.commit_log.specs.declared.contents.Body.TheVariants as body
+use Rattle.commit_log.specs.Contents.{spelling_of_content}
 use Rattle.commit_log.specs.Orders.{IsAscending}
 use Rattle.commit_log.specs.Spelling.{spelling_of_body, WriteFits}
 use Rattle.commit_log.specs.Checkpoints.{spelling_of_piece}
+-- when a program may come into force after another
+pub use Rattle.log_entries.specs.Entries.{MayFollow}
 use Rattle.promise_spec.specs.Programs.{Program, shape_in}
 use Rattle.promise_spec.specs.Records.{Commit, put_state}
-use Rattle.promise_spec.specs.Entries.{LogEntry, Recorded, Standing, initial_states, is_among, new_silo}
+use Rattle.promise_spec.specs.Entries.{LogEntry, Recorded, Upgraded, Standing, initial_states, is_among, new_silo}
 use Rattle.promise_spec.specs.Versions.{WriteStands, IsKept}
 
--- ---- records
+-- ---- records and upgrades
 
--- a block: the records of a batch
+-- a block: the records of a batch, or an upgrade to a program
 pub data Block : Type 0 where
   Records : List Commit → Block
+  Upgrade : Program → Block
 
 -- its entries
 abbrev pub entries_in : Block → List LogEntry
 entries_in (Records batch) = map Recorded batch
+entries_in (Upgrade p) = Upgraded p ∷ []
 
 -- its body
 abbrev pub body_of : Block → List ℕ
 body_of (Records batch) = spelling_of_body (map (λ c. c.logged) batch)
+body_of (Upgrade p) = spelling_of_content (body.Upgrade p.text)
 
 -- a batch has at most 64 records
 abbrev pub BlockFits : Block → Type 0
 BlockFits (Records batch) = length batch ≤ 64
+BlockFits (Upgrade p) = ⊤
 
--- each entry is kept whole, under the program of its time
+-- each entry is kept whole, under the program of its time; an upgrade is to a program that may follow the one in force
 abbrev pub AreKept : ℕ → Image → Program → List LogEntry → Type 0
 AreKept live image p [] = ⊤
 AreKept live image p (Recorded c ∷ later) = IsKept live (shape_in p) image c × AreKept live image p later
+AreKept live image p (Upgraded q ∷ later) = MayFollow p q × AreKept live image q later
 
 -- ---- checkpoints
 

@@ -3,7 +3,7 @@ use Rattle.std.specs.Prelude.{◌≡◌, ◌≢◌, ◌⊎◌, ℕ, Bool, true, 
 use Rattle.host_trait.specs.declared.channels.Channel.{Channel}
 use Rattle.host_trait.specs.declared.channels.Channel.TheVariants.{Input, Output}
 use Rattle.host_trait.specs.Faults.{NoneFailed}
-use Rattle.promise_spec.specs.Words.{GivenOption, Command, Init, Run, Show, History, Audit, Load, Check, Compact, Say}
+use Rattle.promise_spec.specs.Words.{GivenOption, Command, Init, Run, Show, History, Audit, Load, Check, Compact, Upgrade, Say}
 use Rattle.promise_spec.specs.Endings.{Ending, BadUse, Memory, ReadFault, WriteFault, HasRisen, HasFailedAs, MayEndRun, MayEndLoad}
 use Rattle.promise_spec.specs.Courses.{Observed}
 use Rattle.promise_spec.specs.Promise.{Promises}
@@ -12,6 +12,7 @@ use Rattle.promise_spec.specs.Commands.{MakesSilo, Reports, ShowsStates, Audits}
 use Rattle.promise_spec.specs.Loads.{Loads}
 use Rattle.promise_spec.specs.Checks.{Checks}
 use Rattle.promise_spec.specs.Compaction.{Compacts}
+use Rattle.promise_spec.specs.Upgrading.{UpgradesSilo}
 
 -- what each command promises
 abbrev pub Obeys : Command → Observed → Type 0
@@ -23,6 +24,7 @@ Obeys Audit r = Audits r
 Obeys (Load n seed m) r = Loads n seed m r
 Obeys (Check n seed) r = Checks n seed r
 Obeys Compact r = Compacts r
+Obeys Upgrade r = UpgradesSilo r
 
 -- nothing was done: the host is as it was. Only want of memory may come in place of bad use, where the words are read.
 pub record IsBadUse (r : Observed) : Type 0 where

@@ -38,4 +38,5 @@ pub mod Checks
 pub mod Journals
 pub mod EitherSlot
 pub mod Compaction
+pub mod Upgrading
 pub mod Calls

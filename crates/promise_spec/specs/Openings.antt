@@ -1,5 +1,5 @@
 -- What a folder reads as when it is opened: no silo, damaged at a first place, or a slot and a log.
-use Rattle.std.specs.Prelude.{ℕ, Bool, true, false, ◌&&◌, ◌==◌, nat_lt, nat_le, if◌then◌else◌, List, length, map, take, drop, slice_index, bytes_eq, Option, Some, None, Result, Ok, Err}
+use Rattle.std.specs.Prelude.{ℕ, Bool, true, false, ◌&&◌, ◌==◌, nat_lt, nat_le, if◌then◌else◌, List, [], ◌∷◌, length, map, take, drop, slice_index, bytes_eq, Option, Some, None, Result, Ok, Err}
 use Rattle.base_types.specs.declared.calls.GrainId.{GrainId}
 use Rattle.base_types.specs.declared.calls.Value.{Value}
 use Rattle.base_types.specs.declared.shapes.Shape.{Shape}
@@ -11,17 +11,17 @@ use Rattle.host_trait.specs.declared.channels.FileId.TheVariants.{Manager, Progr
 use Rattle.silo_spec.specs.Slots.{generation}
 use Rattle.promise_spec.specs.Programs.{Program, shape_in}
 use Rattle.promise_spec.specs.Records.{Commit}
-use Rattle.promise_spec.specs.Entries.{Recorded, Log}
+use Rattle.promise_spec.specs.Entries.{LogEntry, Recorded, Upgraded, Log}
 use Rattle.promise_spec.specs.Blocks.{standing_with}
 use Rattle.promise_spec.specs.Logs.{magic}
 -- the program of a program file
 pub use Rattle.program_file.specs.Files.{text_in_file, with_types, program_in_file}
 -- the log of a manager file
-pub use Rattle.log_reading.specs.Blocks.{LogBase, LogRead, fresh_base, header_damage, behind_header, behind_base, and_piece, no_piece, saved_behind, and_records, no_more, records_behind, log_as, log_in_file, records_in_file}
+pub use Rattle.log_reading.specs.Blocks.{LogBase, ReadEntry, ReadRecord, ReadUpgrade, LogRead, fresh_base, header_damage, behind_header, behind_base, and_piece, no_piece, saved_behind, entries_said, no_more, entries_behind, AreEntriesIn, AreSaidBy, log_as, log_in_file, records_read, programs_read, types_read, shapes_read}
 -- the versions that it names
 pub use Rattle.commit_log.specs.declared.records.Named.{Named}
 pub use Rattle.grain_log.specs.Reads.{is_owned}
-pub use Rattle.log_reading.specs.Versions.{named_by, named_of_base, named_in, named_by_grain, version_named, missing_or, first_missing, state_of}
+pub use Rattle.log_reading.specs.Versions.{named_by, named_of_base, named_in, named_by_grain, version_named, version_by_shape, version_numbered, missing_or, first_missing, state_of}
 
 -- what a folder reads as; a silo with the slot that is live
 pub data Reading : Type 0 where
@@ -41,18 +41,24 @@ is_silo file = nat_le 16 (length file) && ((slice_index file 0 == 1) && bytes_eq
 abbrev pub commit_of : ℕ → Shape → Image → CommitRecord → Commit
 commit_of live shape image r = record {
   logged = r;
-  states = map (λ w. state_of (version_named live One shape image (record { unit = Some r.unit; written = w }))) r.writes;
+  states = map (λ w. state_of (version_named live One shape image (record { unit = Some r.unit; program = 0; written = w }))) r.writes;
 }
 
 -- the grains that a checkpoint names, each with the state at its place, whichever unit's it is
 abbrev pub states_read : ℕ → Shape → Image → LogBase → List (GrainId × List Value)
-states_read live shape image base = map (λ w. (w.grain, state_of (version_named live One shape image (record { unit = None; written = w })))) base.writes
+states_read live shape image base = map (λ w. (w.grain, state_of (version_named live One shape image (record { unit = None; program = 0; written = w })))) base.writes
+
+-- the entries that are read behind this program, each record with its states by the program of its time
+abbrev pub entries_logged : ℕ → Program → Image → List ReadEntry → List LogEntry
+entries_logged live p image [] = []
+entries_logged live p image (ReadRecord r ∷ later) = Recorded (commit_of live (shape_in p) image r) ∷ entries_logged live p image later
+entries_logged live p image (ReadUpgrade q ∷ later) = Upgraded q ∷ entries_logged live q image later
 
 -- the log of a slot's files, as they are read
 abbrev pub log_of : ℕ → Program → Image → LogRead → Log
 log_of live p image l = record {
   base = standing_with p l.base.count l.base.next (states_read live (shape_in p) image l.base);
-  entries = map Recorded (map (commit_of live (shape_in p) image) l.records);
+  entries = entries_logged live p image l.entries;
 }
 
 -- ---- the folder
@@ -64,12 +70,12 @@ with_versions live p image l (Some missing) = DamagedAt missing.0 missing.1
 
 -- what a folder with this program reads as, by the log of its manager file or the place at which it is damaged
 abbrev pub with_log : ℕ → Program → Image → Result LogRead ℕ → Reading
-with_log live p image (Ok l) = with_versions live p image l (first_missing live One (shape_in p) image (named_by_grain (named_in l)))
+with_log live p image (Ok l) = with_versions live p image l (first_missing live One (shapes_read p l) image (named_by_grain (named_in l)))
 with_log live p image (Err place) = DamagedAt (Manager live) place
 
 -- what a folder reads as, by its program or the place at which that is damaged
 abbrev pub with_program : ℕ → Image → Result Program ℕ → Reading
-with_program live image (Ok p) = with_log live p image (log_in_file One (shape_in p) (image (Manager live)))
+with_program live image (Ok p) = with_log live p image (log_in_file One p (image (Manager live)))
 with_program live image (Err place) = DamagedAt (ProgramFile live) place
 
 -- The live slot, by whether each manager file is a silo's and whether slot 1's has the greater generation.

@@ -10,7 +10,7 @@ use Rattle.core_model.specs.Tests.{is_before}
 pub use Rattle.silo_spec.specs.Silos.{IsEitherManager}
 use Rattle.silo_spec.specs.Moments.{IsUntouched}
 use Rattle.silo_spec.specs.OpenedDisks.{opening_syncs}
-use Rattle.promise_spec.specs.Programs.{Program, shape_in}
+use Rattle.promise_spec.specs.Programs.{Program}
 use Rattle.promise_spec.specs.Openings.{Reading, NoSilo, DamagedAt, Reads, LogRead, program_in_file, log_in_file, named_in, opened_as}
 use Rattle.promise_spec.specs.Endings.{Ending, Memory, DiskFault, NotASilo, Damaged, HasFailedAs}
 use Rattle.promise_spec.specs.Courses.{Observed, seen_at_entry}
@@ -24,7 +24,7 @@ pub record IsNamedIn (live : ℕ) (image : Image) (grain : GrainId) : Type 0 whe
   pub program : Program
   pub log : LogRead
   pub first : program_in_file (image (ProgramFile live)) ≡ Ok program
-  pub then_log : log_in_file One (shape_in program) (image (Manager live)) ≡ Ok log
+  pub then_log : log_in_file One program (image (Manager live)) ≡ Ok log
   pub named : Member grain (map (λ n. n.written.grain) (named_in log))
 
 -- the file is a manager file, the program's of this slot, or that of a grain of this slot that it names

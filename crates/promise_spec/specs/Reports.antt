@@ -1,5 +1,5 @@
 -- What the commands print that only read.
-use Rattle.std.specs.Prelude.{◌≡◌, ℕ, List, [], ◌∷◌, ◌++◌, codes, option_map, unwrap_or, slice_get, Option, Some, None}
+use Rattle.std.specs.Prelude.{◌≡◌, ℕ, List, [], ◌∷◌, ◌++◌, length, codes, option_map, unwrap_or, slice_get, Option, Some, None}
 use Rattle.std.specs.List.{flat_map, list_any}
 use Rattle.base_types.specs.declared.calls.Call.{Call}
 use Rattle.base_types.specs.declared.calls.GrainId.{GrainId}
@@ -16,7 +16,7 @@ use Rattle.serde_json.specs.Written.{compact_text}
 use Rattle.script_holding.specs.Holding.{same_grain}
 use Rattle.promise_spec.specs.Programs.{Program, shape_in}
 use Rattle.promise_spec.specs.Records.{Commit, ascending}
-use Rattle.promise_spec.specs.Entries.{LogEntry, Recorded, Standing, Log, standing_of, after_entry}
+use Rattle.promise_spec.specs.Entries.{LogEntry, Recorded, Upgraded, Standing, Log, standing_of, after_entry}
 
 -- compact JSON, and a line feed
 abbrev pub line_of : Data → List ℕ
@@ -88,10 +88,15 @@ record_line p c =
     let args = array (items_of c.logged.call.args) in
     line_of (object (member (codes "args") args (member (codes "call") (string (call_text p c.logged.call)) how)))
 
+-- the line of an upgrade: its text's length in bytes
+abbrev pub upgrade_line : Program → List ℕ
+upgrade_line p = line_of (object (counted (codes "upgrade") (length p.text) no_members))
+
 -- the entries behind a standing, each record under the program of its time
 abbrev pub entries_text : Standing → List LogEntry → List ℕ
 entries_text before [] = []
 entries_text before (Recorded c ∷ later) = record_line before.program c ++ entries_text (after_entry before (Recorded c)) later
+entries_text before (Upgraded p ∷ later) = upgrade_line p ++ entries_text (after_entry before (Upgraded p)) later
 
 -- each entry of the log
 abbrev pub history_text : Log → List ℕ

@@ -5,7 +5,7 @@ use Rattle.commit_log.specs.declared.records.CommitRecord.{CommitRecord}
 use Rattle.script_tree.specs.Programs.{ProgramTree}
 use Rattle.script_meaning.specs.Play.{Played, play_over}
 use Rattle.promise_spec.specs.Records.{Commit, States, written, after_writes}
-use Rattle.promise_spec.specs.Entries.{LogEntry, Recorded, Standing, after_entry}
+use Rattle.promise_spec.specs.Entries.{LogEntry, Recorded, Upgraded, Standing, after_entry}
 
 -- what the one-thread store gives for a logged unit's call and answers
 abbrev pub played : ProgramTree → States → CommitRecord → Played
@@ -27,3 +27,4 @@ IsSerial types states (c ∷ later) = Replays types states c × IsSerial types (
 abbrev pub IsSerialFrom : Standing → List LogEntry → Type 0
 IsSerialFrom before [] = ⊤
 IsSerialFrom before (Recorded c ∷ later) = Replays before.program.types before.states c × IsSerialFrom (after_entry before (Recorded c)) later
+IsSerialFrom before (Upgraded p ∷ later) = IsSerialFrom (after_entry before (Upgraded p)) later

@@ -142,8 +142,9 @@ pub data Command : Type 0 where
   Load : ℕ → ℕ → Manner → Command
   Check : ℕ → ℕ → Command
   Compact : Command
+  Upgrade : Command
 
--- The words say this command. Those that only read, `init` and `compact` are one word.
+-- The words say this command. Those that only read, `init`, `compact` and `upgrade` are one word.
 abbrev pub Say : (GivenOption → Bool) → List (List ℕ) → Command → Type 0
 Say takes words Init = words ≡ codes "init" ∷ []
 Say takes words (Run m) = SpellsRun takes words m
@@ -153,3 +154,4 @@ Say takes words Audit = words ≡ codes "audit" ∷ []
 Say takes words (Load n seed m) = SpellsLoad takes words n seed m
 Say takes words (Check n seed) = SpellsCheck words n seed
 Say takes words Compact = words ≡ codes "compact" ∷ []
+Say takes words Upgrade = words ≡ codes "upgrade" ∷ []

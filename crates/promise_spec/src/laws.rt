@@ -13,15 +13,15 @@ ghost use Rattle.silo_spec.specs.Slots.{IsLive};
 ghost use Rattle.silo_spec.specs.OpenedDisks.{opening_syncs};
 ghost use Rattle.promise_spec.specs.Programs.{Program, IsChecked, text_limit, shape_in, program_in};
 ghost use Rattle.promise_spec.specs.Records.{Commit, written, after_writes};
-ghost use Rattle.promise_spec.specs.Entries.{LogEntry, Recorded, records_among, Standing, after_entries, initial_states, new_silo, is_among, Log, records_of, standing_of, grown, checkpointed};
+ghost use Rattle.promise_spec.specs.Entries.{LogEntry, Recorded, records_among, Standing, after_entries, initial_states, new_silo, is_among, Log, records_of, standing_of, grown, upgraded, checkpointed};
 ghost use Rattle.promise_spec.specs.Versions.{IsKept};
-ghost use Rattle.promise_spec.specs.Blocks.{Records, body_of, Beginning, base_of};
+ghost use Rattle.promise_spec.specs.Blocks.{Records, Upgrade, body_of, MayFollow, Beginning, base_of};
 ghost use Rattle.promise_spec.specs.SerialExecution.{IsSerial, IsSerialFrom};
 ghost use Rattle.promise_spec.specs.Prefixes.{last_position, from_position, IsPrefixOf};
 ghost use Rattle.promise_spec.specs.Logs.{magic, StandsUpTo, IsLogIn, IsLog, IsPrefix};
 ghost use Rattle.promise_spec.specs.Images.{IsSound, AreChained, IsWholeFolder};
 ghost use Rattle.promise_spec.specs.Openings.{NoSilo, Reads, live_in, opened_as};
-ghost use Rattle.promise_spec.specs.Words.{GivenOption, Manner, plain_manner, Command, Run, Load, Check, Compact, Say};
+ghost use Rattle.promise_spec.specs.Words.{GivenOption, Manner, plain_manner, Command, Run, Load, Check, Compact, Upgrade, Say};
 ghost use Rattle.request_wire.specs.Reply.{reply_line};
 ghost use Rattle.promise_spec.specs.Outputs.{HavePlainNames, IsProper, Grew};
 ghost use Rattle.promise_spec.specs.Endings.{Done, InputTooLong, CountsSyncs};
@@ -105,6 +105,14 @@ pub fn sealed_batches_grow_a_log()
         → StandsUpTo slot image (grown log batch) (bodies ++ body_of (Records batch) ∷ []) next }
 {}
 
+/// An upgrade's block behind a log, where its program may follow the one in force: the log has the upgrade more.
+pub fn sealed_upgrades_grow_a_log()
+    ensures { (slot : ℕ) (image : Image) (log : Log) (bodies : List (List ℕ)) (gate : ℕ) → StandsUpTo slot image log bodies gate
+        → (q : Program) (next : ℕ) → MayFollow (standing_of log).program q
+        → HasBlocks (bodies ++ body_of (Upgrade q) ∷ []) next (image (Manager slot))
+        → StandsUpTo slot image (upgraded log q) (bodies ++ body_of (Upgrade q) ∷ []) next }
+{}
+
 /// Where a grain has no state in the store it has its type's initial fields, behind any entries: from any base of which this is so,
 /// as of a new silo's, and of a checkpoint's.
 pub fn unheld_grains_are_initial()
@@ -113,7 +121,7 @@ pub fn unheld_grains_are_initial()
         → (grain : GrainId) → (after_entries before entries).held grain ≡ false
         → (after_entries before entries).states grain ≡ initial_states (after_entries before entries).program grain }
     ensures new { (p : Program) (entries : List LogEntry) (grain : GrainId) → (after_entries (new_silo p) entries).held grain ≡ false
-        → (after_entries (new_silo p) entries).states grain ≡ initial_states p grain }
+        → (after_entries (new_silo p) entries).states grain ≡ initial_states (after_entries (new_silo p) entries).program grain }
     ensures begins { (p : Program) (b : Beginning) (entries : List LogEntry) (grain : GrainId) → (after_entries (base_of p b) entries).held grain ≡ false
         → (after_entries (base_of p b) entries).states grain ≡ initial_states (after_entries (base_of p b) entries).program grain }
 {}
@@ -194,6 +202,8 @@ pub fn words_are_read()
     ensures load_of_many { (takes : GivenOption → Bool) (c : Command) → Say takes (codes "load" ∷ codes "100001" ∷ codes "7" ∷ []) c → ⊥ }
     ensures compact { Say (λ g. true) (codes "compact" ∷ []) Compact }
     ensures compact_alone { (takes : GivenOption → Bool) (c : Command) → Say takes (codes "compact" ∷ codes "now" ∷ []) c → ⊥ }
+    ensures upgrade { Say (λ g. true) (codes "upgrade" ∷ []) Upgrade }
+    ensures upgrade_alone { (takes : GivenOption → Bool) (c : Command) → Say takes (codes "upgrade" ∷ codes "now" ∷ []) c → ⊥ }
     ensures large_seed { (takes : GivenOption → Bool) (c : Command)
         → Say takes (codes "load" ∷ codes "4" ∷ codes "18446744073709551616" ∷ []) c → ⊥ }
     ensures third_number { (takes : GivenOption → Bool) (c : Command) → Say takes (codes "load" ∷ codes "4" ∷ codes "7" ∷ codes "9" ∷ []) c → ⊥ }

@@ -1,5 +1,6 @@
 use Rattle.promise_laws.proofs.SoundFolders.{run_keeps, shows_keep, reports_keep, audits_keep, bad_use_keeps, load_keeps, checks_keep, obeying_keeps}
 use Rattle.promise_laws.proofs.RewrittenFolders.{compact_keeps}
+use Rattle.promise_laws.proofs.SoundUpgrades.{upgrade_keeps}
 use Rattle.promise_laws.proofs.folders.folders_stay_sound.Goals as goal
 
 pub returns-clause-run : goal.returns-clause-run
@@ -28,3 +29,6 @@ returns-clause-show c = shows_keep
 
 pub returns-clause-compact : goal.returns-clause-compact
 returns-clause-compact c = compact_keeps
+
+pub returns-clause-upgrade : goal.returns-clause-upgrade
+returns-clause-upgrade c = upgrade_keeps

@@ -1,0 +1,5 @@
+pub mod Standings
+pub mod KeptGrains
+pub mod Numbers
+pub mod Fields
+pub mod NumberedStates
