@@ -6,8 +6,10 @@ use Rattle.field_codec.specs.declared.faults.CodecFault.{CodecFault}
 use Rattle.field_codec.specs.declared.faults.CodecFault.TheVariants.{Short, BadTag, NotUtf8, Over, BadOrder, Unknown, Trailing, Memory}
 use Rattle.field_codec.specs.Results.{Faults, named_place}
 use Rattle.log_reading.specs.declared.faults.FolderFault.{FolderFault}
-use Rattle.log_reading.specs.Counts.{damage_in}
-use Rattle.log_reading.specs.Steps.{placed}
+use Rattle.log_entries.specs.declared.entries.EntryFault.{EntryFault}
+use Rattle.log_entries.specs.Entries.{BodyEntry, IsRead}
+use Rattle.log_reading.specs.Counts.{damage_in, entry_damage}
+use Rattle.log_reading.specs.Steps.{placed, counted_from}
 
 abbrev pub failed : {A : Type 0} → FolderFault → Result A FolderFault
 failed e = Err e
@@ -38,3 +40,16 @@ never_failed slot start (Over at limit) file is = absurd cc
 never_failed slot start (BadOrder at) file is = absurd cc
 never_failed slot start (Unknown at) file is = absurd cc
 never_failed slot start (Trailing at) file is = absurd cc
+
+-- ---- bodies
+
+-- where a fault that is answered says that the body is damaged, it is so there
+pub block_damaged : (slot start : ℕ) (fault : EntryFault) (read : Result BodyEntry ℕ) (file : FileId) (place : ℕ) → IsRead (Err fault) read → entry_damage slot start fault ≡ FolderFault.Damaged file place
+    → (file ≡ Manager slot) × (counted_from start read ≡ Err place)
+block_damaged slot start EntryFault.Memory read file place gives is = absurd cc
+block_damaged slot start (EntryFault.Damaged at) read file place gives is = (cc, ap (counted_from start) gives ∙ cc)
+
+-- it is no failed call
+pub block_never_failed : (slot start : ℕ) (fault : EntryFault) (file : FileId) → entry_damage slot start fault ≡ FolderFault.Failed file → ⊥
+block_never_failed slot start EntryFault.Memory file is = absurd cc
+block_never_failed slot start (EntryFault.Damaged at) file is = absurd cc

@@ -12,7 +12,7 @@ use Rattle.host_trait.proofs.Names.{same_grain-is, same_grain-refl}
 use Rattle.field_codec.specs.declared.formats.Format.{Format}
 use Rattle.commit_log.specs.declared.records.Named.{Named}
 use Rattle.commit_log.specs.Orders.{is_above, IsAscending}
-use Rattle.log_reading.specs.Versions.{is_before, named_by_grain, version_named, state_of, goes_on, latest_of}
+use Rattle.log_reading.specs.Versions.{is_before, named_by_grain, version_numbered, state_of, goes_on, latest_of}
 use Rattle.log_reading.specs.Sums.{state_after}
 use Rattle.log_reading.proofs.Orders.{Climbs, by_grain_climbs, climbs_strictly, same_before, irreflexive, list_any_by_grain}
 
@@ -74,20 +74,20 @@ latest_ascend named = ascends (named_by_grain named) (by_grain_climbs named) Non
 
 -- ---- the states that they leave
 
-module _ (live : ℕ) (format : Format) (shape : Shape) (image : Image) where
+module _ (live : ℕ) (format : Format) (shapes : List Shape) (image : Image) where
   abbrev State : Type 0
-  State = Option (List Value)
+  State = Option (ℕ × List Value)
 
   abbrev left_by : Named → State
-  left_by n = Some (state_of (version_named live format shape image n))
+  left_by n = Some (n.program, state_of (version_numbered live format shapes image n))
 
   abbrev Leaves : State → List Named → Named → Type 0
-  Leaves s ns n = state_after live format shape image s ns (grain_of n) ≡ left_by n
+  Leaves s ns n = state_after live format shapes image s ns (grain_of n) ≡ left_by n
 
   -- versions of other grains leave a state as it is
-  others_leave : (g : GrainId) (ns : List Named) (s : State) → AllByRecursion (λ m. at g m ≡ false) ns → state_after live format shape image s ns g ≡ s
+  others_leave : (g : GrainId) (ns : List Named) (s : State) → AllByRecursion (λ m. at g m ≡ false) ns → state_after live format shapes image s ns g ≡ s
   others_leave g [] s all = refl
-  others_leave g (n ∷ ns) s all = ap (λ (t : State). state_after live format shape image t ns g) (cond-false (at g n) (left_by n) s all.0) ∙ others_leave g ns s all.1
+  others_leave g (n ∷ ns) s all = ap (λ (t : State). state_after live format shapes image t ns g) (cond-false (at g n) (left_by n) s all.0) ∙ others_leave g ns s all.1
 
   not_same : (g h : GrainId) → is_before g h ≡ true → same_grain h g ≡ false
   not_same g h before = elim (cases_Bool (same_grain h g)) [
@@ -108,7 +108,7 @@ module _ (live : ℕ) (format : Format) (shape : Shape) (image : Image) where
     | inl on ↦ subst (AllByRecursion (λ m. Leaves (s (grain_of m)) (n ∷ ns) m)) (sym (latest_pass n ns on)) (leave_by ns up.1 (λ g. if at g n then left_by n else s g))
     | inr last ↦
         let own : Leaves (s (grain_of n)) (n ∷ ns) n =
-        ap (λ (t : State). state_after live format shape image t ns (grain_of n)) (cond-true (at (grain_of n) n) (left_by n) (s (grain_of n)) (same_grain-refl (grain_of n)))
+        ap (λ (t : State). state_after live format shapes image t ns (grain_of n)) (cond-true (at (grain_of n) n) (left_by n) (s (grain_of n)) (same_grain-refl (grain_of n)))
         ∙ others_leave (grain_of n) ns (left_by n) (all_others n ns (others_behind n ns up last)) in
         subst (AllByRecursion (λ m. Leaves (s (grain_of m)) (n ∷ ns) m)) (sym (latest_keep n ns last)) (own, leave_by ns up.1 (λ g. if at g n then left_by n else s g))
   ]

@@ -10,3 +10,6 @@ pub mod LatestVersions
 pub mod StepFaults
 pub mod FilePieces
 pub mod PlacedVersions
+pub mod EntriesRead
+pub mod ReadPrograms
+pub mod EntriesAdded

@@ -57,7 +57,7 @@ in_ascending x (g ∷ gs) (inr there) = in_with g x (ascending gs) (inr (in_asce
 -- the sorted list is that by grains
 pub sorted_is_by_grain : (xs ys : List Named) → IsSortedByKey (λ (n : Named). n.written.grain) grain_cmp ys → IsStableByKey (λ (n : Named). n.written.grain) grain_cmp xs ys → ys ≡ named_by_grain xs
 sorted_is_by_grain xs ys sorted stable =
-    sorted_by_grains of_named (λ g. record { unit = None; written = record { grain = g; place = record { offset = 0; len = 0 } } }) (λ g. refl) xs ys sorted stable (ascending (map of_named xs)) (ascending_strict (map of_named xs))
+    sorted_by_grains of_named (λ g. record { unit = None; program = 0; written = record { grain = g; place = record { offset = 0; len = 0 } } }) (λ g. refl) xs ys sorted stable (ascending (map of_named xs)) (ascending_strict (map of_named xs))
     (λ n there. in_ascending (of_named n) (map of_named xs) (in_map of_named n xs there))
 
 -- ---- by grains, without a sort

@@ -1,25 +1,25 @@
 -- What is kept of records, batch by batch.
-use Rattle.std.proofs.Common.{◌≡◌, ℕ, ◌+◌, ◌<◌, ◌≤◌, ◌^◌, max, Some, List, [], ◌∷◌, ◌++◌, length, map, refl, sym, ◌∙◌, ap, arith, length-append, append_assoc, append-nil, drop, get_or, drop-cons, add-one, w32}
+use Rattle.std.proofs.Common.{◌≡◌, ℕ, ◌+◌, ◌<◌, ◌≤◌, ◌^◌, max, Some, List, [], ◌∷◌, ◌++◌, length, map, refl, sym, ◌∙◌, ap, arith, subst, length-append, append_assoc, append-nil, drop, get_or, drop-cons, add-one, w32}
 use Rattle.std.proofs.Math.ListN.{drop_of_length-le}
 use Rattle.std.specs.List.{flat_map, AllByRecursion}
 use Rattle.std.proofs.lemmas.List.Sums.{fold-append}
-use Rattle.std.proofs.lemmas.Grind.{flat_map-append}
+use Rattle.std.proofs.lemmas.List.{length-map}
 use Rattle.std.proofs.lemmas.Bool.{and_parts, ltb-true}
 use Rattle.base_types.specs.declared.shapes.Shape.{Shape}
 use Rattle.field_codec.specs.declared.formats.Format.{Format}
 use Rattle.field_codec.specs.declared.units.Numbers.TheVariants.{Logged}
-use Rattle.field_codec.proofs.Counts.{wide64}
+use Rattle.field_codec.proofs.Counts.{wide32, wide64}
 use Rattle.commit_log.specs.declared.records.CommitRecord.{CommitRecord}
-use Rattle.commit_log.specs.declared.records.Written.{Written}
 use Rattle.commit_log.specs.Bodies.{IsRecordIn}
 use Rattle.commit_log.specs.Spelling.{spelling_of_record, spelling_of_body}
 use Rattle.commit_log.specs.declared.records.Named.{Named}
+use Rattle.field_codec.specs.Spelling.{spelling_of_program}
+use Rattle.program_file.specs.Programs.{Program, shape_in}
+use Rattle.log_entries.specs.Entries.{BodyEntry, Recorded, Upgraded, IsEntryIn, body_said}
+use Rattle.log_reading.specs.Blocks.{ReadRecord, entries_said, records_read, programs_read}
 use Rattle.log_reading.specs.Versions.{named_by}
-use Rattle.log_reading.specs.Sums.{next_after}
+use Rattle.log_reading.specs.Sums.{next_after, named_of_records, AreUnitsLow}
 use Rattle.std.specs.Int.{w64, to_le_bytes}
-
-pub named_by-append : (xs ys : List CommitRecord) → named_by (xs ++ ys) ≡ named_by xs ++ named_by ys
-named_by-append xs ys = flat_map-append (λ (r : CommitRecord). map (λ (w : Written). let n : Named = record { unit = Some r.unit; written = w } in n) r.writes) xs ys
 
 pub next_after-append : (next : ℕ) (xs ys : List CommitRecord) → next_after next (xs ++ ys) ≡ next_after (next_after next xs) ys
 next_after-append next xs ys = fold-append (λ (n : ℕ) (r : CommitRecord). max n (r.unit.0 + 1)) next xs ys
@@ -84,13 +84,45 @@ pushed_more f x rest items old new all are is so_far =
 pub pushed_all : {A B : Type 0} (f : A → B) (items : List A) (old all : List B) → items ≡ [] → old ++ map f items ≡ all → old ≡ all
 pushed_all f items old all are so_far = sym (append-nil old) ∙ ap (λ l. old ++ map f l) (sym are) ∙ so_far
 
-pub named_more : (x : CommitRecord) (rest items : List CommitRecord) (old new all : List Named) → items ≡ x ∷ rest → new ≡ old ++ map (λ w. record { unit = Some x.unit; written = w }) x.writes → old ++ named_by items ≡ all → new ++ named_by rest ≡ all
-named_more x rest items old new all are is so_far =
-    let own : List Named = map (λ w. record { unit = Some x.unit; written = w }) x.writes in
-    ap (λ (l : List Named). l ++ named_by rest) is ∙ append_assoc old own (named_by rest) ∙ ap (λ (l : List CommitRecord). old ++ named_by l) (sym are) ∙ so_far
+pub named_more : (number : ℕ) (x : CommitRecord) (rest items : List CommitRecord) (old new all : List Named) → items ≡ x ∷ rest → new ≡ old ++ map (λ w. record { unit = Some x.unit; program = number; written = w }) x.writes → old ++ named_of_records number items ≡ all
+    → new ++ named_of_records number rest ≡ all
+named_more number x rest items old new all are is so_far =
+    let own : List Named = map (λ w. record { unit = Some x.unit; program = number; written = w }) x.writes in
+    ap (λ (l : List Named). l ++ named_of_records number rest) is ∙ append_assoc old own (named_of_records number rest) ∙ ap (λ (l : List CommitRecord). old ++ named_of_records number l) (sym are) ∙ so_far
 
-pub named_all : (items : List CommitRecord) (old all : List Named) → items ≡ [] → old ++ named_by items ≡ all → old ≡ all
-named_all items old all are so_far = sym (append-nil old) ∙ ap (λ (l : List CommitRecord). old ++ named_by l) (sym are) ∙ so_far
+pub named_all : (number : ℕ) (items : List CommitRecord) (old all : List Named) → items ≡ [] → old ++ named_of_records number items ≡ all → old ≡ all
+named_all number items old all are so_far = sym (append-nil old) ∙ ap (λ (l : List CommitRecord). old ++ named_of_records number l) (sym are) ∙ so_far
+
+-- ---- what a body of records says
+
+pub records_of_records : (rs : List CommitRecord) → records_read (map ReadRecord rs) ≡ rs
+records_of_records [] = refl
+records_of_records (r ∷ rs) = ap (λ (l : List CommitRecord). r ∷ l) (records_of_records rs)
+
+pub programs_of_records : (rs : List CommitRecord) → programs_read (map ReadRecord rs) ≡ []
+programs_of_records [] = refl
+programs_of_records (r ∷ rs) = programs_of_records rs
+
+pub named_of_entries : (number : ℕ) (rs : List CommitRecord) → named_by number (map ReadRecord rs) ≡ named_of_records number rs
+named_of_entries number [] = refl
+named_of_entries number (r ∷ rs) = ap (λ (l : List Named). map (λ w. let n : Named = record { unit = Some r.unit; program = number; written = w } in n) r.writes ++ l) (named_of_entries number rs)
+
+-- the units of a body within the limits have low numbers
+pub units_low : (format : Format) (p : Program) (entry : BodyEntry) → IsEntryIn format p entry → AreUnitsLow entry
+units_low format p (Recorded rs) is = weaker_all (IsRecordIn format Logged (shape_in p)) (λ r. r.unit.0 < 2 ^ 63) (low_unit format (shape_in p)) rs is.1
+units_low format p (Upgraded q) is = tt
+
+pub said_low : (entry : BodyEntry) → AreUnitsLow entry → AllByRecursion (λ r. r.unit.0 < 2 ^ 63) (records_read (entries_said entry))
+said_low (Recorded rs) low = subst (AllByRecursion (λ r. r.unit.0 < 2 ^ 63)) (sym (records_of_records rs)) low
+said_low (Upgraded q) low = tt
+
+-- a body has at least as many bytes as entries
+pub few_entries : (entry : BodyEntry) (bytes : List ℕ) → bytes ≡ body_said entry → length (entries_said entry) ≤ length bytes
+few_entries (Recorded rs) bytes is = subst (λ (n : ℕ). n ≤ length bytes) (sym (length-map rs ReadRecord)) (few_records rs bytes is)
+few_entries (Upgraded q) bytes is =
+    let size : length bytes ≡ length (body_said (Upgraded q)) = ap length is in
+    let mark : length (body_said (Upgraded q)) ≡ length (to_le_bytes w32 4294967295) + length (spelling_of_program q.text) = length-append (to_le_bytes w32 4294967295) (spelling_of_program q.text) in
+    omega (arith, size, mark, wide32.len 4294967295)
 
 pub next_more : (x : CommitRecord) (rest items : List CommitRecord) (old new all : ℕ) → items ≡ x ∷ rest → new ≡ max old (x.unit.0 + 1) → next_after old items ≡ all → next_after new rest ≡ all
 next_more x rest items old new all are is so_far = ap (λ (n : ℕ). next_after n rest) is ∙ ap (λ (l : List CommitRecord). next_after old l) (sym are) ∙ so_far

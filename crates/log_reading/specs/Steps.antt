@@ -1,62 +1,105 @@
 -- What is read behind a gate, and what is left of a log there.
-use Rattle.std.specs.Prelude.{◌≡◌, ℕ, ◌+◌, ◌<◌, ◌≤◌, ◌^◌, ◌==◌, true, List, ◌++◌, length, slice_index, Option, Some, None, Result, Ok, Err}
+use Rattle.std.specs.Prelude.{◌≡◌, ℕ, ◌+◌, ◌<◌, ◌≤◌, ◌^◌, ◌==◌, true, List, length, slice_index, Option, Some, None, Result, Ok, Err}
 use Rattle.base_types.specs.declared.calls.GrainId.{GrainId}
 use Rattle.base_types.specs.declared.shapes.Shape.{Shape}
+use Rattle.base_types.specs.declared.shapes.TypeShape.{TypeShape}
 use Rattle.host_trait.specs.World.{Disk, Image}
+use Rattle.host_trait.specs.declared.channels.FileId.TheVariants.{Manager}
 use Rattle.field_codec.specs.declared.formats.Format.{Format}
 use Rattle.field_codec.specs.declared.faults.CodecFault.{CodecFault}
-use Rattle.field_codec.specs.declared.units.Numbers.TheVariants.{Logged}
 use Rattle.field_codec.specs.Results.{place_of}
 use Rattle.gate_block.specs.Blocks.{BehindGate, shut, bad, whole, found_at}
 use Rattle.gate_block.specs.Log.{bodies_from, gate_from, gate_of}
 use Rattle.commit_log.specs.declared.records.CheckpointHead.{CheckpointHead}
 use Rattle.commit_log.specs.declared.records.CheckpointPiece.{CheckpointPiece}
-use Rattle.commit_log.specs.declared.records.CommitRecord.{CommitRecord}
 use Rattle.commit_log.specs.Checkpoints.{piece_body_in}
-use Rattle.commit_log.specs.Fields.{body_in}
+use Rattle.script_tree.specs.Programs.{ProgramTree}
+use Rattle.script_check.specs.Shapes.{type_shapes}
+use Rattle.program_file.specs.Programs.{Program}
+use Rattle.log_entries.specs.declared.entries.Said.{Said}
+use Rattle.log_entries.specs.Entries.{BodyEntry, Recorded, Upgraded, entry_of_body, IsEntryIn, entry_said}
 use Rattle.log_reading.specs.declared.bases.Base.{Base}
-use Rattle.log_reading.specs.Blocks.{LogBase, header_damage, no_more, records_behind, behind_base, log_in_file}
+use Rattle.log_reading.specs.Blocks.{LogBase, ReadEntry, header_damage, entries_said, before_others, no_more, entries_behind, behind_base, program_after, log_in_file}
 
 -- the files as they read
 abbrev pub seen_in : Disk → Image
 seen_in disk file = (disk file).seen
 
--- the records of a body of this length that stands behind a gate, and the next gate
-abbrev pub and_gate : ℕ → ℕ → Result (List CommitRecord) CodecFault → Result (Option (List CommitRecord × ℕ)) ℕ
-and_gate gate size (Ok records) = Ok (Some (records, gate + 5 + size))
-and_gate gate size (Err fault) = Err (gate + 5 + place_of fault)
+-- what a body of this length says that stands behind a gate, and the next gate
+abbrev pub and_gate : ℕ → ℕ → Result BodyEntry ℕ → Result (Option (BodyEntry × ℕ)) ℕ
+and_gate gate size (Ok entry) = Ok (Some (entry, gate + 5 + size))
+and_gate gate size (Err place) = Err (gate + 5 + place)
 
--- what was found behind a gate as records: none at a closed gate
-abbrev pub next_of : Format → Shape → ℕ → BehindGate → Result (Option (List CommitRecord × ℕ)) ℕ
-next_of format shape gate shut = Ok None
-next_of format shape gate bad = Err (gate + 1)
-next_of format shape gate (whole body) = and_gate gate (length body) (body_in format Logged shape body)
+-- what a body says under the program in force
+abbrev pub entry_under : Format → ProgramTree → List ℕ → Result BodyEntry ℕ
+entry_under format types bytes = entry_of_body format types (record { types = type_shapes types }) bytes
 
--- the records of the block behind a gate of a file, and the next gate
-abbrev pub next_in : Format → Shape → ℕ → List ℕ → Result (Option (List CommitRecord × ℕ)) ℕ
-next_in format shape gate file = next_of format shape gate (found_at gate file)
+-- what was found behind a gate, under the program in force: nothing at a closed gate
+abbrev pub next_of : Format → ProgramTree → ℕ → BehindGate → Result (Option (BodyEntry × ℕ)) ℕ
+next_of format types gate shut = Ok None
+next_of format types gate bad = Err (gate + 1)
+next_of format types gate (whole bytes) = and_gate gate (length bytes) (entry_under format types bytes)
 
--- the records from a gate on, of at most so many blocks
-abbrev pub records_from : Format → Shape → ℕ → ℕ → List ℕ → Result (List CommitRecord) ℕ
-records_from format shape most gate file =
-    records_behind format shape gate (bodies_from most gate file) (no_more (gate_from most gate file) (found_at (gate_from most gate file) file))
+-- what the block behind a gate of a file says, and the next gate
+abbrev pub next_in : Format → ProgramTree → ℕ → List ℕ → Result (Option (BodyEntry × ℕ)) ℕ
+next_in format types gate file = next_of format types gate (found_at gate file)
 
--- these records before others
-abbrev pub with_records : List CommitRecord → Result (List CommitRecord) ℕ → Result (List CommitRecord) ℕ
-with_records records (Ok more) = Ok (records ++ more)
-with_records records (Err place) = Err place
+-- the same of a slot's manager file, as it reads
+abbrev pub next_at : Format → ProgramTree → ℕ → Disk → ℕ → Result (Option (BodyEntry × ℕ)) ℕ
+next_at format types gate disk slot = next_in format types gate (disk (Manager slot)).seen
+
+-- these are the shapes of these types
+abbrev pub IsShapeOf : ProgramTree → Shape → Type 0
+IsShapeOf types shape = shape.types ≡ type_shapes types
+
+-- what is said stands behind a gate, with a byte for each entry, and the next gate behind it lies below 2^63
+abbrev pub IsSaidBehind : ℕ → Said × ℕ → Type 0
+IsSaidBehind gate found = (gate + 5 + length (entries_said (entry_said found.0)) ≤ found.1) × (found.1 < 2 ^ 63)
+
+-- what was answered, and the next gate
+abbrev pub found_as : Option (Said × ℕ) → Option (BodyEntry × ℕ)
+found_as None = None
+found_as (Some found) = Some (entry_said found.0, found.1)
+
+-- what is said is within the limits of the format, under a program in force with these types
+abbrev pub IsSaidIn : Format → ProgramTree → Said → Type 0
+IsSaidIn format types said = (p : Program) → p.types ≡ types → IsEntryIn format p (entry_said said)
+
+-- so is what was answered with the next gate
+abbrev pub IsFoundIn : Format → ProgramTree → Said × ℕ → Type 0
+IsFoundIn format types found = IsSaidIn format types found.0
+
+-- the entries from a gate on under this program, of at most so many blocks
+abbrev pub entries_from : Format → Program → ℕ → ℕ → List ℕ → Result (List ReadEntry) ℕ
+entries_from format p most gate file =
+    entries_behind format p gate (bodies_from most gate file) (no_more (gate_from most gate file) (found_at (gate_from most gate file) file))
 
 -- a fault's place, counted in the manager file
 abbrev pub placed : {A : Type 0} → ℕ → Result A CodecFault → Result A ℕ
 placed start (Ok x) = Ok x
 placed start (Err fault) = Err (start + place_of fault)
 
--- These records were read of a log that begins so, and those from this gate on are the others of the file: of at most so many blocks,
--- which are enough. And the log ends where it does from that gate on.
-pub record IsFollowedBy (format : Format) (shape : Shape) (file : List ℕ) (base : LogBase) (records : List CommitRecord) (gate : ℕ) : Type 0 where
+-- a place in a body, counted in the manager file
+abbrev pub counted_from : {A : Type 0} → ℕ → Result A ℕ → Result A ℕ
+counted_from start (Ok x) = Ok x
+counted_from start (Err place) = Err (start + place)
+
+-- the text in force behind what a body says, where there was a later one than the folder's
+abbrev pub text_behind : Option (List ℕ) → BodyEntry → Option (List ℕ)
+text_behind text (Recorded records) = text
+text_behind text (Upgraded q) = Some q.text
+
+-- the types' shapes in force behind it
+abbrev pub shapes_behind : List TypeShape → BodyEntry → List TypeShape
+shapes_behind types (Recorded records) = types
+shapes_behind types (Upgraded q) = type_shapes q.types
+
+-- These entries were read of a log of this program that begins so, and those from this gate on, under the program in force behind them,
+-- are the others of the file: of at most so many blocks, which are enough. And the log ends where it does from that gate on.
+pub record IsFollowedBy (format : Format) (p : Program) (file : List ℕ) (base : LogBase) (entries : List ReadEntry) (gate : ℕ) : Type 0 where
   pub fuel : ℕ
   pub enough : length file < gate + fuel
-  pub rest : behind_base base (with_records records (records_from format shape fuel gate file)) ≡ log_in_file format shape file
+  pub rest : behind_base base (before_others entries (entries_from format (program_after p entries) fuel gate file)) ≡ log_in_file format p file
   pub last : gate_from fuel gate file ≡ gate_of file
 
 -- the header of a file is whole, and says that its log begins with a checkpoint

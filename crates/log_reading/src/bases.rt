@@ -7,6 +7,7 @@ ghost use Rattle.host_trait.specs.declared.channels.FileId.TheVariants.{Manager}
 ghost use Rattle.field_codec.specs.declared.formats.Format.{Format};
 ghost use Rattle.commit_log.specs.Checkpoints.{IsPieceIn, piece_body_in};
 ghost use Rattle.commit_log.specs.Orders.{grain_after};
+ghost use Rattle.program_file.specs.Programs.{Program, shape_in};
 ghost use Rattle.log_reading.specs.declared.faults.FolderFault.{FolderFault};
 ghost use Rattle.log_reading.specs.Blocks.{log_in_file};
 ghost use Rattle.log_reading.specs.Counts.{ReadFaulted};
@@ -21,8 +22,8 @@ use gate_block::{BlockFault, read_block};
 use host_trait::{FileId, Host};
 use std::alloc::{AllocError, Global};
 
-/// What a log begins with: how many records stand before it, the number of the unit behind these, the place of the version of each
-/// grain that has one, in ascending grain order, and the gate behind which the first block of records stands. Of a log that begins
+/// What a log begins with: how many entries stand before it, the number of the unit behind these, the place of the version of each
+/// grain that has one, in ascending grain order, and the gate behind which the first block of its entries stands. Of a log that begins
 /// with no checkpoint these are 0, 1, none and 15.
 #[derive(Drop)]
 pub struct Base {
@@ -135,12 +136,13 @@ fn read_checkpoint<H: Host>(
     shape: &Shape,
 ) -> Result<Base, FolderFault>
     requires slot { slot ≤ 1 }
-    ensures begins { IfOk result (λ b. IsTrue H.tells → (format : Format) → BeginsSaved ((H.world host.old).disk (Manager slot)).seen
-        → IsFollowedBy format shape.now ((H.world host.old).disk (Manager slot)).seen (log_base_of b) [] b.gate_at) }
+    ensures begins { IfOk result (λ b. IsTrue H.tells → (f : Format) (p : Program) → shape_in p ≡ shape.now
+        → BeginsSaved ((H.world host.old).disk (Manager slot)).seen
+        → IsFollowedBy f p ((H.world host.old).disk (Manager slot)).seen (log_base_of b) [] b.gate_at) }
     ensures bound { IfOk result (λ b. IsBaseInBounds b) }
     ensures damaged { (file : FileId) (place : ℕ) → IsErrOf result (FolderFault.Damaged file place) → IsTrue H.tells
-        → BeginsSaved ((H.world host.old).disk (Manager slot)).seen
-        → (format : Format) → log_in_file format shape.now ((H.world host.old).disk (Manager slot)).seen ≡ Err place }
+        → (f : Format) (p : Program) → shape_in p ≡ shape.now → BeginsSaved ((H.world host.old).disk (Manager slot)).seen
+        → log_in_file f p ((H.world host.old).disk (Manager slot)).seen ≡ Err place }
     ensures file { (file : FileId) (place : ℕ) → IsErrOf result (FolderFault.Damaged file place) → file ≡ Manager slot }
     ensures failed { (file : FileId) → IsErrOf result (FolderFault.Failed file) → file ≡ Manager slot }
     ensures asked { IsTrue H.tells → OnlyAsked (H.world host.old) (H.world host.new) }
@@ -169,7 +171,7 @@ fn read_checkpoint<H: Host>(
 }
 
 /// Reads what the log of a slot's manager file begins with, and keeps the gate behind which its first block of records stands, from
-/// which [`crate::next_block`] goes on. `Damaged` names the first place of the header or of a checkpoint's pieces that is damaged, and
+/// which [`crate::next_entry`] goes on. `Damaged` names the first place of the header or of a checkpoint's pieces that is damaged, and
 /// `Failed` that file, a call on which failed.
 pub fn read_base<H: Host>(
     alloc: Global,
@@ -178,11 +180,11 @@ pub fn read_base<H: Host>(
     shape: &Shape,
 ) -> Result<Base, FolderFault>
     requires slot { slot ≤ 1 }
-    ensures begins { IfOk result (λ b. IsTrue H.tells → (format : Format)
-        → IsFollowedBy format shape.now ((H.world host.old).disk (Manager slot)).seen (log_base_of b) [] b.gate_at) }
+    ensures begins { IfOk result (λ b. IsTrue H.tells → (f : Format) (p : Program) → shape_in p ≡ shape.now
+        → IsFollowedBy f p ((H.world host.old).disk (Manager slot)).seen (log_base_of b) [] b.gate_at) }
     ensures bound { IfOk result (λ b. IsBaseInBounds b) }
     ensures damaged { (file : FileId) (place : ℕ) → IsErrOf result (FolderFault.Damaged file place) → IsTrue H.tells
-        → (format : Format) → log_in_file format shape.now ((H.world host.old).disk (Manager slot)).seen ≡ Err place }
+        → (f : Format) (p : Program) → shape_in p ≡ shape.now → log_in_file f p ((H.world host.old).disk (Manager slot)).seen ≡ Err place }
     ensures file { (file : FileId) (place : ℕ) → IsErrOf result (FolderFault.Damaged file place) → file ≡ Manager slot }
     ensures failed { (file : FileId) → IsErrOf result (FolderFault.Failed file) → file ≡ Manager slot }
     ensures asked { IsTrue H.tells → OnlyAsked (H.world host.old) (H.world host.new) }

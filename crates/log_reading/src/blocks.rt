@@ -1,24 +1,24 @@
-ghost use Rattle.std.specs.Prelude.{◌≡◌, ◌+◌, ◌^◌, ◌<◌, ◌≤◌, ℕ, List, IsTrue, length, Ok, Err, OnOk, IfOk, IfErr, IfSome, IsErrOf};
-ghost use Rattle.std.specs.List.{AllByRecursion};
+ghost use Rattle.std.specs.Prelude.{◌≡◌, ◌+◌, ◌-◌, ◌^◌, ◌<◌, ◌≤◌, ℕ, IsTrue, length, Ok, Err, OnOk, IfOk, IfErr, IfSome, IsErrOf};
 ghost use Rattle.host_trait.specs.Files.{StaysReady};
 ghost use Rattle.host_trait.specs.Faults.{NoneFailed};
 ghost use Rattle.host_trait.specs.Runs.{OnlyAsked};
 ghost use Rattle.host_trait.specs.declared.channels.FileId.{FileId};
 ghost use Rattle.host_trait.specs.declared.channels.FileId.TheVariants.{Manager};
-ghost use Rattle.field_codec.specs.declared.units.Numbers.TheVariants.{Logged};
 ghost use Rattle.field_codec.specs.Results.{named_place, place_of};
-ghost use Rattle.commit_log.specs.Fields.{body_in};
-ghost use Rattle.commit_log.specs.Bodies.{IsBlockBody, IsRecordIn};
-ghost use Rattle.log_reading.specs.declared.faults.FolderFault.{FolderFault};
-ghost use Rattle.log_reading.specs.Counts.{ReadFaulted, damage_in};
-ghost use Rattle.log_reading.specs.Steps.{next_in, placed};
+ghost use Rattle.script_tree.specs.Programs.{program_tree};
+ghost use Rattle.log_entries.specs.Entries.{entry_said, IsNear};
+ghost use Rattle.log_reading.specs.declared.faults.FolderFault.{FolderFault as Fault};
+ghost use Rattle.log_reading.specs.Blocks.{entries_said};
+ghost use Rattle.log_reading.specs.Counts.{ReadFaulted, damage_in, entry_damage};
+ghost use Rattle.log_reading.specs.Steps.{entry_under, counted_from, next_at, found_as, IsShapeOf, IsSaidIn, IsFoundIn, IsSaidBehind};
 
 use crate::faults::FolderFault;
-use base_types::{List, Shape};
-use commit_log::{CommitRecord, read_records};
+use base_types::Shape;
 use field_codec::{CodecFault, Format};
 use gate_block::{BlockFault, read_block};
 use host_trait::{FileId, Host};
+use log_entries::{EntryFault, Said, read_entry};
+use script_check::Checked;
 use std::alloc::Global;
 
 /// The fault of reading a text that stands at an offset of a slot's manager file.
@@ -35,48 +35,68 @@ pub(crate) fn in_file(slot: u8, start: u64, fault: CodecFault) -> FolderFault
     }
 }
 
-// The records of a body that stands at an offset of a slot's manager file.
-fn records_at(
+// The fault of a body that stands at an offset of a slot's manager file.
+fn in_block(slot: u8, start: u64, fault: EntryFault) -> FolderFault
+    requires { IsNear (2 ^ 64 - start) fault }
+    ensures { result ≡ entry_damage slot start fault }
+{
+    match fault {
+        EntryFault::Damaged { place } => FolderFault::Damaged {
+            file: FileId::Manager { slot },
+            place: start + place as u64,
+        },
+        EntryFault::Memory => FolderFault::Memory,
+    }
+}
+
+// What a body says that stands at an offset of a slot's manager file.
+fn entry_at(
     alloc: Global,
     slot: u8,
+    program: &Checked,
     shape: &Shape,
     format: Format,
     start: u64,
     body: &[u8],
-) -> Result<List<CommitRecord>, FolderFault>
-    requires { start + length body.now < 2 ^ 63 }
-    ensures found { IfOk result (λ records. body_in format Logged shape.now body.now ≡ Ok records) }
-    ensures body { IfOk result (λ records. IsBlockBody format Logged shape.now records body.now) }
-    ensures damaged { (file : FileId) (place : ℕ) → IsErrOf result (FolderFault.Damaged file place)
-        → (file ≡ Manager slot) × (placed start (body_in format Logged shape.now body.now) ≡ Err place) }
-    ensures failed { (file : FileId) → IsErrOf result (FolderFault.Failed file) → ⊥ }
+) -> Result<Said, FolderFault>
+    requires shape { IsShapeOf (program_tree program.now) shape.now }
+    requires place { start + length body.now < 2 ^ 63 }
+    ensures found { IfOk result (λ said. entry_under format (program_tree program.now) body.now ≡ Ok (entry_said said)) }
+    ensures fit { IfOk result (λ said. IsSaidIn format (program_tree program.now) said) }
+    ensures few { IfOk result (λ said. length (entries_said (entry_said said)) ≤ length body.now) }
+    ensures damaged { (file : FileId) (place : ℕ) → IsErrOf result (Fault.Damaged file place)
+        → (file ≡ Manager slot) × (counted_from start (entry_under format (program_tree program.now) body.now) ≡ Err place) }
+    ensures failed { (file : FileId) → IsErrOf result (Fault.Failed file) → ⊥ }
 {
-    match read_records(alloc, body, shape, format) {
-        Ok(records) => Ok(records),
-        Err(fault) => Err(in_file(slot, start, fault)),
+    match read_entry(alloc, body, program, shape, format) {
+        Ok(said) => Ok(said),
+        Err(fault) => Err(in_block(slot, start, fault)),
     }
 }
 
-/// The records of the block behind a gate of a slot's manager file and the next gate, none where the gate isn't open. `Damaged`
-/// names the block's length field where the block isn't whole, and else the first place in its body that isn't that of records of
-/// the program.
-pub fn next_block<H: Host>(
+/// What the block behind a gate of a slot's manager file says under the program in force, of which this is the shape, and the next gate;
+/// none where the gate isn't open. `Damaged` names the block's length field where the block isn't whole, and else the first place in its
+/// body that isn't that of records of the program, or of a program that may follow it.
+pub fn next_entry<H: Host>(
     alloc: Global,
     host: &mut H,
     slot: u8,
+    program: &Checked,
     shape: &Shape,
     format: Format,
     gate_at: u64,
-) -> Result<Option<(List<CommitRecord>, u64)>, FolderFault>
+) -> Result<Option<(Said, u64)>, FolderFault>
     requires slot { slot ≤ 1 }
+    requires shape { IsShapeOf (program_tree program.now) shape.now }
     requires place { gate_at < 2 ^ 63 }
-    ensures found { IfOk result (λ found. IsTrue H.tells → next_in format shape.now gate_at ((H.world host.old).disk (Manager slot)).seen ≡ Ok found) }
-    ensures fit { IfOk result (λ found. IfSome found (λ x. AllByRecursion (IsRecordIn format Logged shape.now) x.0)) }
-    ensures further { IfOk result (λ found. IfSome found (λ x. (gate_at + 5 + length x.0 ≤ x.1) × (x.1 < 2 ^ 63))) }
-    ensures damaged { (file : FileId) (place : ℕ) → IsErrOf result (FolderFault.Damaged file place) → IsTrue H.tells
-        → next_in format shape.now gate_at ((H.world host.old).disk (Manager slot)).seen ≡ Err place }
-    ensures file { (file : FileId) (place : ℕ) → IsErrOf result (FolderFault.Damaged file place) → file ≡ Manager slot }
-    ensures failed { (file : FileId) → IsErrOf result (FolderFault.Failed file) → file ≡ Manager slot }
+    ensures found { IfOk result (λ found. IsTrue H.tells
+        → next_at format (program_tree program.now) gate_at (H.world host.old).disk slot ≡ Ok (found_as found)) }
+    ensures fit { IfOk result (λ found. IfSome found (IsFoundIn format (program_tree program.now))) }
+    ensures further { IfOk result (λ found. IfSome found (IsSaidBehind gate_at)) }
+    ensures damaged { (file : FileId) (place : ℕ) → IsErrOf result (Fault.Damaged file place) → IsTrue H.tells
+        → next_at format (program_tree program.now) gate_at (H.world host.old).disk slot ≡ Err place }
+    ensures file { (file : FileId) (place : ℕ) → IsErrOf result (Fault.Damaged file place) → file ≡ Manager slot }
+    ensures failed { (file : FileId) → IsErrOf result (Fault.Failed file) → file ≡ Manager slot }
     ensures asked { IsTrue H.tells → OnlyAsked (H.world host.old) (H.world host.new) }
     ensures calm { OnOk result (NoneFailed (H.faults host.old) (H.faults host.new)) }
     ensures fault { IfErr result (λ e. ReadFaulted e (H.faults host.old) (H.faults host.new)) }
@@ -91,8 +111,16 @@ pub fn next_block<H: Host>(
         Err(BlockFault::Memory) => return Err(FolderFault::Memory),
     };
     let next = gate_at + 5 + body.len() as u64;
-    match records_at(alloc, slot, shape, format, gate_at + 5, body.as_slice()) {
-        Ok(records) => Ok(Some((records, next))),
+    match entry_at(
+        alloc,
+        slot,
+        program,
+        shape,
+        format,
+        gate_at + 5,
+        body.as_slice(),
+    ) {
+        Ok(said) => Ok(Some((said, next))),
         Err(fault) => Err(fault),
     }
 }

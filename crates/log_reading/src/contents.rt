@@ -1,24 +1,30 @@
-ghost use Rattle.std.specs.Prelude.{◌≡◌, ◌+◌, ◌^◌, ◌<◌, ◌≤◌, ℕ, List, IsTrue, length, Ok, Err, OnOk, IfOk, IfErr};
+ghost use Rattle.std.specs.Prelude.{◌≡◌, ◌∷◌, ◌^◌, ◌<◌, ◌≤◌, ℕ, IsTrue, length, Ok, OnOk, IfOk, IfErr};
 ghost use Rattle.host_trait.specs.Files.{StaysReady};
 ghost use Rattle.host_trait.specs.Faults.{NoneFailed};
 ghost use Rattle.host_trait.specs.Runs.{OnlyAsked};
+ghost use Rattle.script_tree.specs.Programs.{program_tree};
+ghost use Rattle.program_file.specs.Programs.{program_in};
 ghost use Rattle.log_reading.specs.Counts.{ReadFaulted};
 ghost use Rattle.log_reading.specs.Steps.{seen_in};
-ghost use Rattle.log_reading.specs.Contents.{HasContents, IsUnread};
-ghost use Rattle.log_reading.specs.Sums.{AreNear};
+ghost use Rattle.log_reading.specs.Contents.{HasContents, AreContentsInBounds, IsUnread};
 
 use crate::faults::FolderFault;
 use crate::log::{read_log, sort_by_grain};
 use crate::versions::read_versions;
-use base_types::{Ends, Places, Shape, UnitNo};
+use base_types::{Ends, List, Places, UnitNo};
 use field_codec::Format;
 use host_trait::Host;
+use program_file::ProgramsInTurn;
+use script_check::Checked;
 use std::alloc::{AllocError, Global};
 
-/// What is kept of a log and of its versions: how many records it has, the number of the next unit, the gate at which it ends,
-/// where each grain's last version stands, and where the places in its file end. No state is kept.
+/// What is kept of a log and of its versions: the programs that came into force one after the other, from that of the program file, and the
+/// text of the last; how many entries the log has, the number of the next unit, the gate at which it ends, where each grain's last version
+/// stands, and where the places in its file end. No state is kept.
 #[derive(Drop)]
 pub struct Contents {
+    pub programs: List<Checked>,
+    pub text: List<u8>,
     pub count: u64,
     pub next_unit: UnitNo,
     pub gate_at: u64,
@@ -26,26 +32,40 @@ pub struct Contents {
     pub ends: Ends,
 }
 
-/// Reads the log of a slot's files, within the limits of a format: block by block, and then each version that a record names, once,
-/// grain by grain and those of a grain in the log's order. `Damaged` names the first damage in this order.
+// A program, and those behind it.
+fn with_first(first: Checked, later: List<Checked>) -> Result<List<Checked>, AllocError>
+    ensures { IfOk result (λ programs. programs ≡ first ∷ later) }
+{
+    let mut programs = later.into_vec();
+    programs.insert(0, first)?;
+    Ok(List::from_vec(programs))
+}
+
+/// Reads the log of a slot's files, within the limits of a format, under the program of the program file and those that come into force
+/// behind it: block by block, and then each version that a record names, once, grain by grain and those of a grain in the log's order, by
+/// the program of its time. `Damaged` names the first damage in this order.
 pub fn read_contents<H: Host>(
     alloc: Global,
     host: &mut H,
     slot: u8,
-    shape: &Shape,
+    text: List<u8>,
+    first: Checked,
     format: Format,
 ) -> Result<Contents, FolderFault>
     requires slot { slot ≤ 1 }
-    ensures opened { IfOk result (λ o. IsTrue H.tells → HasContents slot format shape.now (seen_in (H.world host.old).disk) o) }
-    ensures bound { IfOk result (λ o. (o.gate_at < 2 ^ 63) × ((0 < o.next_unit.0) × (o.next_unit.0 ≤ 2 ^ 63))) }
-    ensures near { IfOk result (λ o. AreNear o.ends) }
-    ensures refused { IfErr result (λ e. IsTrue H.tells → IsUnread slot format shape.now (seen_in (H.world host.old).disk) e) }
+    requires small { length text ≤ 262144 }
+    requires program { program_in text ≡ Ok (program_tree first) }
+    ensures opened { IfOk result (λ o. IsTrue H.tells
+        → HasContents slot format (record { text = text; types = program_tree first }) (seen_in (H.world host.old).disk) o) }
+    ensures bounds { IfOk result (λ o. AreContentsInBounds o) }
+    ensures refused { IfErr result (λ e. IsTrue H.tells
+        → IsUnread slot format (record { text = text; types = program_tree first }) (seen_in (H.world host.old).disk) e) }
     ensures asked { IsTrue H.tells → OnlyAsked (H.world host.old) (H.world host.new) }
     ensures calm { OnOk result (NoneFailed (H.faults host.old) (H.faults host.new)) }
     ensures fault { IfErr result (λ e. ReadFaulted e (H.faults host.old) (H.faults host.new)) }
     ensures ready { StaysReady (H.is_ready host.old) (H.is_ready host.new) }
 {
-    let log = match read_log(alloc, host, slot, shape, format) {
+    let log = match read_log(alloc, host, slot, &first, format) {
         Ok(log) => log,
         Err(fault) => return Err(fault),
     };
@@ -54,19 +74,22 @@ pub fn read_contents<H: Host>(
         Ok(()) => {}
         Err(AllocError) => return Err(FolderFault::Memory),
     }
+    let programs = ProgramsInTurn::new(alloc, with_first(first, log.later)?)?;
     let mut places = Places::new(alloc);
     let mut ends = Ends::new(alloc);
     match read_versions(
         alloc,
         host,
         slot,
-        shape,
+        &programs,
         format,
         named.as_slice(),
         &mut places,
         &mut ends,
     ) {
         Ok(()) => Ok(Contents {
+            programs: programs.into_list(),
+            text: log.text.unwrap_or(text),
             count: log.count,
             next_unit: log.next_unit,
             gate_at: log.gate_at,

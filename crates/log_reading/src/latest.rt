@@ -4,6 +4,8 @@ ghost use Rattle.host_trait.specs.Faults.{NoneFailed};
 ghost use Rattle.host_trait.specs.Runs.{OnlyAsked};
 ghost use Rattle.host_trait.specs.declared.channels.FileId.{FileId};
 ghost use Rattle.host_trait.specs.declared.channels.FileId.TheVariants.{Manager};
+ghost use Rattle.script_tree.specs.Programs.{program_tree};
+ghost use Rattle.program_file.specs.Programs.{Program};
 ghost use Rattle.log_reading.specs.declared.faults.FolderFault.{FolderFault};
 ghost use Rattle.log_reading.specs.Counts.{ReadFaulted};
 ghost use Rattle.log_reading.specs.Blocks.{LogRead, log_in_file};
@@ -11,10 +13,11 @@ ghost use Rattle.log_reading.specs.Versions.{named_in, named_by_grain, goes_on, 
 
 use crate::faults::FolderFault;
 use crate::log::{read_log, sort_by_grain};
-use base_types::{List, Shape};
+use base_types::List;
 use commit_log::Named;
 use field_codec::Format;
 use host_trait::Host;
+use script_check::Checked;
 use std::alloc::{AllocError, Global};
 
 // Whether the first of these versions is of the grain of the one before them.
@@ -42,21 +45,22 @@ fn keep_latest(alloc: Global, named: &[Named]) -> Result<List<Named>, AllocError
     Ok(kept)
 }
 
-/// Reads the log of a slot's manager file once more, and answers of each grain that it names the last version, by ascending grains. No
-/// version is read. `Damaged` names the first place of the file that is damaged, and `Failed` that file, a call on which failed.
+/// Reads the log of a slot's manager file once more, from the program of the program file on, and answers of each grain that it names the
+/// last version, by ascending grains. No version is read. `Damaged` names the first place of the file that is damaged, and `Failed` that
+/// file, a call on which failed.
 pub fn read_latest<H: Host>(
     alloc: Global,
     host: &mut H,
     slot: u8,
-    shape: &Shape,
+    first: &Checked,
     format: Format,
 ) -> Result<List<Named>, FolderFault>
     requires slot { slot ≤ 1 }
-    ensures latest { IfOk result (λ named. IsTrue H.tells
-        → (log : LogRead) × (log_in_file format shape.now ((H.world host.old).disk (Manager slot)).seen ≡ Ok log)
+    ensures latest { IfOk result (λ named. IsTrue H.tells → (p : Program) → p.types ≡ program_tree first.now
+        → (log : LogRead) × (log_in_file format p ((H.world host.old).disk (Manager slot)).seen ≡ Ok log)
         × (named ≡ latest_of (named_by_grain (named_in log)))) }
     ensures damaged { (file : FileId) (place : ℕ) → IsErrOf result (FolderFault.Damaged file place) → IsTrue H.tells
-        → log_in_file format shape.now ((H.world host.old).disk (Manager slot)).seen ≡ Err place }
+        → (p : Program) → p.types ≡ program_tree first.now → log_in_file format p ((H.world host.old).disk (Manager slot)).seen ≡ Err place }
     ensures file { (file : FileId) (place : ℕ) → IsErrOf result (FolderFault.Damaged file place) → file ≡ Manager slot }
     ensures failed { (file : FileId) → IsErrOf result (FolderFault.Failed file) → file ≡ Manager slot }
     ensures asked { IsTrue H.tells → OnlyAsked (H.world host.old) (H.world host.new) }
@@ -64,7 +68,7 @@ pub fn read_latest<H: Host>(
     ensures fault { IfErr result (λ e. ReadFaulted e (H.faults host.old) (H.faults host.new)) }
     ensures ready { StaysReady (H.is_ready host.old) (H.is_ready host.new) }
 {
-    let log = match read_log(alloc, host, slot, shape, format) {
+    let log = match read_log(alloc, host, slot, first, format) {
         Ok(log) => log,
         Err(fault) => return Err(fault),
     };

@@ -1,5 +1,5 @@
-ghost use Rattle.std.specs.Prelude.{◌≡◌, List, map, Option, Some, None, false, ℕ};
-ghost use Rattle.std.specs.List.{list_any, AllByRecursion};
+ghost use Rattle.std.specs.Prelude.{◌≡◌, ◌++◌, List, map, Option, Some, None, Result, Ok, false, ℕ};
+ghost use Rattle.std.specs.List.{flat_map, list_any, AllByRecursion};
 ghost use Rattle.base_types.specs.declared.calls.GrainId.{GrainId};
 ghost use Rattle.base_types.specs.declared.calls.Value.{Value};
 ghost use Rattle.base_types.specs.declared.shapes.Shape.{Shape};
@@ -11,14 +11,18 @@ ghost use Rattle.field_codec.specs.declared.formats.Format.{Format as AFormat};
 ghost use Rattle.host_trait.specs.Files.{same_grain};
 ghost use Rattle.commit_log.specs.declared.records.Named.{Named};
 ghost use Rattle.commit_log.specs.Orders.{IsAscending};
-ghost use Rattle.log_reading.specs.Versions.{named_by_grain, is_before, version_named, state_of, first_missing, latest_of};
+ghost use Rattle.field_codec.specs.Readers.{AreBytes};
+ghost use Rattle.program_file.specs.Programs.{Program};
+ghost use Rattle.log_entries.specs.Entries.{BodyEntry, body_said};
+ghost use Rattle.log_reading.specs.Blocks.{ReadEntry, entries_said, entries_behind, AreEntriesIn, AreSaidBy};
+ghost use Rattle.log_reading.specs.Versions.{named_by_grain, is_before, version_numbered, state_of, first_missing, latest_of};
 ghost use Rattle.log_reading.specs.Sums.{state_after, StopsAt};
 
 /// Where reading stopped for a fault of a grain's file, the first version that is missing is of no grain before it.
 pub fn faults_in_order()
-    ensures { (live : ℕ) (format : AFormat) (shape : Shape) (image : Image) (named : List Named) (file : FileId)
-        → (s : StopsAt live format shape image (named_by_grain named) file)
-        → (last : GrainId) (place : ℕ) → first_missing live format shape image (named_by_grain named) ≡ Some (Grain live last, place)
+    ensures { (live : ℕ) (format : AFormat) (shapes : List Shape) (image : Image) (named : List Named) (file : FileId)
+        → (s : StopsAt live format shapes image (named_by_grain named) file)
+        → (last : GrainId) (place : ℕ) → first_missing live format shapes image (named_by_grain named) ≡ Some (Grain live last, place)
         → is_before last s.here.written.grain ≡ false }
 {}
 
@@ -26,10 +30,18 @@ pub fn faults_in_order()
 /// is named.
 pub fn latest_states_stand()
     ensures order { (named : List Named) → IsAscending None (map (λ n. n.written) (latest_of (named_by_grain named))) }
-    ensures states { (live : ℕ) (format : AFormat) (shape : Shape) (image : Image) (state : Option (List Value)) (named : List Named)
-        → AllByRecursion (λ n. state_after live format shape image state (named_by_grain named) n.written.grain ≡ Some
-        (state_of (version_named live format shape image n))) (latest_of (named_by_grain named)) }
+    ensures states { (live : ℕ) (format : AFormat) (shapes : List Shape) (image : Image) (state : Option (ℕ × List Value)) (named : List Named)
+        → AllByRecursion (λ n. state_after live format shapes image state (named_by_grain named) n.written.grain ≡ Some
+        (n.program, state_of (version_numbered live format shapes image n))) (latest_of (named_by_grain named)) }
     ensures held { (named : List Named) (grain : GrainId)
         → list_any (λ n. same_grain n.written.grain grain) (latest_of (named_by_grain named)) ≡ list_any (λ n. same_grain n.written.grain grain) named }
     ensures among { (named : List Named) (n : Named) → Member n (latest_of (named_by_grain named)) → Member n (named_by_grain named) }
+{}
+
+/// Entries are read of exactly the bodies that say them: records of the program in force at each body, and programs that may follow it.
+pub fn entries_are_read()
+    ensures reads { (format : AFormat) (p : Program) (gate : ℕ) (said : List BodyEntry) (rest : List ReadEntry) → AreEntriesIn format p said
+        → entries_behind format p gate (map body_said said) (Ok rest) ≡ Ok (flat_map entries_said said ++ rest) }
+    ensures only { (format : AFormat) (p : Program) (gate : ℕ) (bodies : List (List ℕ)) (end : Result (List ReadEntry) ℕ) (found : List ReadEntry)
+        → AllByRecursion AreBytes bodies → entries_behind format p gate bodies end ≡ Ok found → AreSaidBy format p bodies end found }
 {}

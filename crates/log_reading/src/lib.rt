@@ -7,6 +7,7 @@
 mod bases;
 mod blocks;
 mod contents;
+mod entries;
 mod faults;
 mod header;
 mod latest;
@@ -17,11 +18,11 @@ mod placed;
 mod versions;
 
 pub use bases::{Base, read_base};
-pub use blocks::next_block;
+pub use blocks::next_entry;
 pub use contents::{Contents, read_contents};
 pub use faults::FolderFault;
 pub use latest::read_latest;
-pub use laws::{faults_in_order, latest_states_stand};
+pub use laws::{entries_are_read, faults_in_order, latest_states_stand};
 pub use log::{ReadLog, read_log};
 pub use placed::read_states;
 pub use versions::{named_version, read_versions};

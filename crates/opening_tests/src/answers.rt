@@ -1,4 +1,4 @@
-ghost use Rattle.std.specs.Prelude.{◌≤◌};
+ghost use Rattle.silo_opening.specs.OpenedSilo.{IsOpenedInBounds};
 
 use crate::names::{NAMES, add_bytes, add_file, grain_of};
 use base_types::{GrainId, State, Store};
@@ -55,7 +55,7 @@ fn add_opened(
     host: &mut MemoryHost,
     opened: &Opened,
 ) -> Result<(), AllocError>
-    requires { opened.now.slot ≤ 1 }
+    requires { IsOpenedInBounds opened.now }
 {
     let store = match states(alloc, host, opened) {
         Ok(store) => store,

@@ -20,7 +20,7 @@ use Rattle.grain_log.specs.Reads.{fields_of, is_beyond, is_owned, is_logged, in_
 use Rattle.grain_log.proofs.VersionUnits.{short_version}
 use Rattle.commit_log.specs.declared.records.Named.{Named}
 use Rattle.cell_model.proofs.Units.{same_grain-true}
-use Rattle.log_reading.specs.Versions.{version_named, missing_or, first_missing}
+use Rattle.log_reading.specs.Versions.{version_by_shape, version_numbered, missing_or, first_missing}
 use Rattle.log_reading.specs.Sums.{end_after, greater_end}
 
 -- an end that lies in a file, or none
@@ -55,7 +55,7 @@ long_at (Some fields) place file v e =
           absurd cc
     ]
 
-module _ (live : ℕ) (shape : Shape) (image : Image) where
+module _ (live : ℕ) (shapes : List Shape) (image : Image) where
   -- the first eight bytes of a version that is there stand in its file
   long_by : (owner : Option UnitNo) (fields : Option ℕ) (place : Place) (file : List ℕ) (v : Version) → version_by_owner One fields owner place file ≡ Ok v → (place.len ≤ length file - place.offset) × (8 ≤ length (drop place.offset file))
   long_by (Some unit) fields place file v e =
@@ -68,12 +68,16 @@ module _ (live : ℕ) (shape : Shape) (image : Image) where
       (within_by fields place file v found.1, long_at fields place file v found.1)
 
   -- the version that is named ends in its file
-  named_lies : (n : Named) (v : Version) → version_named live One shape image n ≡ Ok v → n.written.place.offset + n.written.place.len ≤ length (image (Grain live n.written.grain))
-  named_lies n v e =
-      let file = image (Grain live n.written.grain) in
-      let place = n.written.place in
-      let fits = long_by n.unit (fields_of (slice_get shape.types n.written.grain.kind)) place file v e in
-      omega (arith, fits.0, fits.1, length-drop place.offset file)
+  named_lies : (n : Named) (v : Version) → version_numbered live One shapes image n ≡ Ok v → n.written.place.offset + n.written.place.len ≤ length (image (Grain live n.written.grain))
+  named_lies n v e = by_shape (slice_get shapes n.program) e
+    where
+      by_shape : (o : Option Shape) → version_by_shape live One o image n ≡ Ok v → n.written.place.offset + n.written.place.len ≤ length (image (Grain live n.written.grain))
+      by_shape None is = absurd cc
+      by_shape (Some shape) is =
+          let file = image (Grain live n.written.grain) in
+          let place = n.written.place in
+          let fits = long_by n.unit (fields_of (slice_get shape.types n.written.grain.kind)) place file v is in
+          omega (arith, fits.0, fits.1, length-drop place.offset file)
 
   there_by : (g : GrainId) (r : Result Version ℕ) (later : Option (FileId × ℕ)) → missing_or live g r later ≡ None → ((v : Version) × (r ≡ Ok v)) × (later ≡ None)
   there_by g (Ok v) later e = ((v, refl), e)
@@ -88,10 +92,10 @@ module _ (live : ℕ) (shape : Shape) (image : Image) where
   one_lies size end e false here lies = lies
 
   -- so does each end that is kept of versions that are there
-  pub ends_lie : (named : List Named) → first_missing live One shape image named ≡ None → (g : GrainId) (e : Option ℕ) → LiesIn (length (image (Grain live g))) e → LiesIn (length (image (Grain live g))) (end_after e named g)
+  pub ends_lie : (named : List Named) → first_missing live One shapes image named ≡ None → (g : GrainId) (e : Option ℕ) → LiesIn (length (image (Grain live g))) e → LiesIn (length (image (Grain live g))) (end_after e named g)
   ends_lie [] whole g e lies = lies
   ends_lie (n ∷ named) whole g e lies =
-      let t = there_by n.written.grain (version_named live One shape image n) (first_missing live One shape image named) whole in
+      let t = there_by n.written.grain (version_numbered live One shapes image n) (first_missing live One shapes image named) whole in
       let end = n.written.place.offset + n.written.place.len in
       let here : same_grain n.written.grain g ≡ true → end ≤ length (image (Grain live g)) = λ same.
       subst (λ (h : GrainId). end ≤ length (image (Grain live h))) (same_grain-true n.written.grain g same) (named_lies n t.0.0 t.0.1) in

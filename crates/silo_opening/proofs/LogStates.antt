@@ -1,88 +1,88 @@
--- What the versions leave, read by grains, is what the log stands for.
-use Rattle.std.proofs.Common.{◌≡◌, ℕ, ◌+◌, Bool, true, false, if◌then◌else◌, Option, Some, None, List, [], ◌∷◌, ◌++◌, length, map, refl, ◌∙◌, ap, arith}
-use Rattle.std.specs.Prelude.{unwrap_or, zip}
-use Rattle.std.specs.List.{fold}
+-- What the versions leave, read by grains and carried from the programs of their time, is what the log stands for.
+use Rattle.std.proofs.Common.{◌≡◌, ℕ, ◌+◌, Bool, true, false, if◌then◌else◌, Option, Some, None, List, [], ◌∷◌, length, map, refl, ◌∙◌, ap, arith}
+use Rattle.std.specs.Prelude.{unwrap_or, option_map}
 use Rattle.base_types.specs.declared.calls.GrainId.{GrainId}
-use Rattle.base_types.specs.declared.calls.UnitNo.{UnitNo}
 use Rattle.base_types.specs.declared.calls.Value.{Value}
 use Rattle.base_types.specs.declared.shapes.Shape.{Shape}
 use Rattle.host_trait.specs.Files.{same_grain}
 use Rattle.host_trait.specs.World.{Image}
 use Rattle.field_codec.specs.declared.formats.Format.TheVariants.{One}
-use Rattle.commit_log.specs.declared.records.CommitRecord.{CommitRecord}
-use Rattle.commit_log.specs.declared.records.Written.{Written}
 use Rattle.commit_log.specs.declared.records.Named.{Named}
-use Rattle.log_reading.specs.Blocks.{LogRead}
-use Rattle.log_reading.specs.Versions.{named_by, named_in, named_by_grain, version_named, state_of}
+use Rattle.script_tree.specs.Programs.{ProgramTree}
+use Rattle.script_check.specs.Comparison.{last_program}
+use Rattle.program_file.specs.Succession.{newest_program, carried_from}
+use Rattle.log_reading.specs.Blocks.{ReadEntry, ReadRecord, ReadUpgrade, LogRead, records_read, programs_read, program_after, types_read, shapes_read}
+use Rattle.log_reading.specs.Versions.{named_in, named_by_grain, version_numbered, state_of}
 use Rattle.log_reading.specs.Sums.{next_after, state_after}
 use Rattle.log_reading.proofs.GrainVersions.{in_any_order}
-use Rattle.promise_spec.specs.Records.{Commit, States, put_state, after_writes}
-use Rattle.promise_spec.specs.Entries.{Recorded, Standing, after_entry, after_entries}
-use Rattle.promise_spec.specs.Openings.{commit_of, states_read}
+use Rattle.promise_spec.specs.Programs.{Program, shape_in}
+use Rattle.promise_spec.specs.Entries.{Recorded, Upgraded, Standing, initial_states, after_entry, after_entries, standing_of}
+use Rattle.promise_spec.specs.Openings.{commit_of, entries_logged, log_of}
+use Rattle.upgraded_logs.specs.KeptStates.{NumberedState}
+use Rattle.upgraded_logs.proofs.NumberedStates.{numbered, last_numbered, states_meant}
 
-module _ (live : ℕ) (shape : Shape) (image : Image) where
-  abbrev State : Type 0
-  State = Option (List Value)
+-- a number and a state, as one
+to_numbered : ℕ × List Value → NumberedState
+to_numbered x = record { number = x.0; state = x.1 }
 
-  abbrev step : State → Named → GrainId → State
-  step s n g = if same_grain n.written.grain g then Some (state_of (version_named live One shape image n)) else s
+module _ (live : ℕ) (shapes : List Shape) (image : Image) (g : GrainId) where
+  one_step : (b : Bool) (n : Named) (s : Option (ℕ × List Value))
+      → option_map to_numbered (if b then Some (n.program, state_of (version_numbered live One shapes image n)) else s) ≡ (if b then Some (numbered live shapes image n) else option_map to_numbered s)
+  unfolding to_numbered
+  one_step true n s = refl
+  one_step false n s = refl
 
-  -- the states after these records
-  abbrev after_log : States → List CommitRecord → States
-  after_log states records = fold after_writes states (map (commit_of live shape image) records)
+  -- what is left of a grain is its last version, with the number of its program
+  last_is_left : (named : List Named) (s : Option (ℕ × List Value))
+      → option_map to_numbered (state_after live One shapes image s named g) ≡ last_numbered live shapes image (option_map to_numbered s) named g
+  last_is_left [] s = refl
+  last_is_left (n ∷ named) s =
+      last_is_left named (if same_grain n.written.grain g then Some (n.program, state_of (version_numbered live One shapes image n)) else s)
+      ∙ ap (λ (t : Option NumberedState). last_numbered live shapes image t named g) (one_step (same_grain n.written.grain g) n s)
 
-  abbrev named_of : Option UnitNo → Written → Named
-  named_of unit w = record { unit = unit; written = w }
+-- the state that one means which was written under the program of a number
+abbrev pub carried_pair : List ProgramTree → GrainId → ℕ × List Value → List Value
+carried_pair programs g x = carried_from programs x.0 g.kind x.1
 
-  abbrev state_at : Option UnitNo → Written → List Value
-  state_at unit w = state_of (version_named live One shape image (named_of unit w))
+both_mapped : (programs : List ProgramTree) (g : GrainId) (o : Option (ℕ × List Value)) (d : List Value)
+    → unwrap_or (option_map (carried_pair programs g) o) d ≡ unwrap_or (option_map (λ (n : NumberedState). carried_from programs n.number g.kind n.state) (option_map to_numbered o)) d
+unfolding to_numbered
+both_mapped programs g None d = refl
+both_mapped programs g (Some x) d = refl
 
-  put_same : (b : Bool) (s : State) (old new d : List Value) → unwrap_or s d ≡ old → unwrap_or (if b then Some new else s) d ≡ (if b then new else old)
-  put_same true s old new d e = refl
-  put_same false s old new d e = e
+-- what is left of a grain means the state for which the log stands
+pub counts : (live : ℕ) (p : Program) (image : Image) (l : LogRead) (g : GrainId)
+    → unwrap_or (option_map (carried_pair (types_read p l.entries) g) (state_after live One (shapes_read p l) image None (named_by_grain (named_in l)) g)) (initial_states (standing_of (log_of live p image l)).program g)
+    ≡ (standing_of (log_of live p image l)).states g
+counts live p image l g =
+    let programs : List ProgramTree = types_read p l.entries in
+    let initial : List Value = initial_states (standing_of (log_of live p image l)).program g in
+    ap (λ (o : Option (ℕ × List Value)). unwrap_or (option_map (carried_pair programs g) o) initial) (in_any_order live One (shapes_read p l) image None (named_in l) g)
+    ∙ both_mapped programs g (state_after live One (shapes_read p l) image None (named_in l) g) initial
+    ∙ ap (λ (o : Option NumberedState). unwrap_or (option_map (λ (n : NumberedState). carried_from programs n.number g.kind n.state) o) initial) (last_is_left live (shapes_read p l) image g (named_in l) None)
+    ∙ states_meant live p image l g
 
-  -- the writes of one record
-  over_writes : (unit : Option UnitNo) (ws : List Written) (more : List Named) (s : State) (states : States) (g : GrainId) (d : List Value) → unwrap_or s d ≡ states g
-      → (t : State) × (state_after live One shape image s (map (named_of unit) ws ++ more) g ≡ state_after live One shape image t more g) × (unwrap_or t d ≡ fold put_state states (zip (map (λ (w : Written). w.grain) ws) (map (state_at unit) ws)) g)
-  over_writes unit [] more s states g d e = (s, refl, e)
-  over_writes unit (w ∷ ws) more s states g d e =
-      over_writes unit ws more (step s (named_of unit w) g) (put_state states (w.grain, state_at unit w)) g d (put_same (same_grain w.grain g) s (states g) (state_at unit w) d e)
+-- ---- a standing's other parts
 
-  over_records : (rs : List CommitRecord) (s : State) (states : States) (g : GrainId) (d : List Value) → unwrap_or s d ≡ states g
-      → unwrap_or (state_after live One shape image s (named_by rs) g) d ≡ after_log states rs g
-  over_records [] s states g d e = e
-  over_records (r ∷ rs) s states g d e =
-      let t = over_writes (Some r.unit) r.writes (named_by rs) s states g d e in
-      ap (λ (x : State). unwrap_or x d) t.1 ∙ over_records rs t.0 (after_writes states (commit_of live shape image r)) g d t.2
+module _ (live : ℕ) (image : Image) where
+  pub count_is : (s : Standing) (p : Program) (entries : List ReadEntry) → (after_entries s (entries_logged live p image entries)).count ≡ s.count + length entries
+  count_is s p [] = omega arith
+  count_is s p (ReadRecord r ∷ later) = let more = count_is (after_entry s (Recorded (commit_of live (shape_in p) image r))) p later in omega (arith, more)
+  count_is s p (ReadUpgrade q ∷ later) = let more = count_is (after_entry s (Upgraded q)) q later in omega (arith, more)
 
-  -- what the checkpoint names
-  over_base : (ws : List Written) (more : List Named) (s : State) (states : States) (g : GrainId) (d : List Value) → unwrap_or s d ≡ states g
-      → (t : State) × (state_after live One shape image s (map (named_of None) ws ++ more) g ≡ state_after live One shape image t more g) × (unwrap_or t d ≡ fold put_state states (map (λ (w : Written). (w.grain, state_at None w)) ws) g)
-  over_base [] more s states g d e = (s, refl, e)
-  over_base (w ∷ ws) more s states g d e =
-      over_base ws more (step s (named_of None w) g) (put_state states (w.grain, state_at None w)) g d (put_same (same_grain w.grain g) s (states g) (state_at None w) d e)
+  pub next_is : (s : Standing) (p : Program) (entries : List ReadEntry) → (after_entries s (entries_logged live p image entries)).next ≡ next_after s.next (records_read entries)
+  next_is s p [] = refl
+  next_is s p (ReadRecord r ∷ later) = next_is (after_entry s (Recorded (commit_of live (shape_in p) image r))) p later
+  next_is s p (ReadUpgrade q ∷ later) = next_is (after_entry s (Upgraded q)) q later
 
-  pub counts : (states : States) (l : LogRead) (g : GrainId) → unwrap_or (state_after live One shape image None (named_by_grain (named_in l)) g) (states g) ≡ after_log (fold put_state states (states_read live shape image l.base)) l.records g
-  counts states l g =
-      let t = over_base l.base.writes (named_by l.records) None states g (states g) refl in
-      ap (λ (x : State). unwrap_or x (states g)) (in_any_order live One shape image None (named_in l) g ∙ t.1)
-      ∙ over_records l.records t.0 (fold put_state states (states_read live shape image l.base)) g (states g) t.2
+  -- the program that is in force behind entries
+  pub program_is : (s : Standing) (p : Program) (entries : List ReadEntry) → s.program ≡ p → (after_entries s (entries_logged live p image entries)).program ≡ program_after p entries
+  program_is s p [] same = same
+  program_is s p (ReadRecord r ∷ later) same = program_is (after_entry s (Recorded (commit_of live (shape_in p) image r))) p later same
+  program_is s p (ReadUpgrade q ∷ later) same = program_is (after_entry s (Upgraded q)) q later refl
 
-  -- ---- a standing is three folds
-
-  pub count_is : (s : Standing) (records : List CommitRecord) → (after_entries s (map Recorded (map (commit_of live shape image) records))).count ≡ s.count + length records
-  count_is s [] = omega arith
-  count_is s (r ∷ rs) = let more = count_is (after_entry s (Recorded (commit_of live shape image r))) rs in omega (arith, more)
-
-  pub next_is : (s : Standing) (records : List CommitRecord) → (after_entries s (map Recorded (map (commit_of live shape image) records))).next ≡ next_after s.next records
-  next_is s [] = refl
-  next_is s (r ∷ rs) = next_is (after_entry s (Recorded (commit_of live shape image r))) rs
-
-  pub states_are : (s : Standing) (records : List CommitRecord) → (after_entries s (map Recorded (map (commit_of live shape image) records))).states ≡ after_log s.states records
-  states_are s [] = refl
-  states_are s (r ∷ rs) = states_are (after_entry s (Recorded (commit_of live shape image r))) rs
-
--- the records of commits are those that were read
-pub logged_of : (live : ℕ) (shape : Shape) (image : Image) (records : List CommitRecord) → map (λ (c : Commit). c.logged) (map (commit_of live shape image) records) ≡ records
-logged_of live shape image [] = refl
-logged_of live shape image (r ∷ rs) = ap (λ (l : List CommitRecord). r ∷ l) (logged_of live shape image rs)
+-- is the newest of those that come into force
+pub newest_is : (p : Program) (entries : List ReadEntry) → newest_program (types_read p entries) ≡ (program_after p entries).types
+newest_is p [] = refl
+newest_is p (ReadRecord r ∷ later) = newest_is p later
+newest_is p (ReadUpgrade q ∷ later) = newest_is q later

@@ -14,8 +14,8 @@ use Rattle.host_trait.specs.World.{Disk, Image}
 use Rattle.field_codec.specs.declared.formats.Format.TheVariants.{One}
 use Rattle.commit_log.specs.declared.records.Named.{Named}
 use Rattle.core_model.specs.CoreState.{Member}
-use Rattle.log_reading.specs.Blocks.{LogRead, log_in_file}
-use Rattle.log_reading.specs.Versions.{is_before, ascending, named_in, named_by_grain, version_named, missing_or, first_missing}
+use Rattle.log_reading.specs.Blocks.{LogRead, log_in_file, shapes_read}
+use Rattle.log_reading.specs.Versions.{is_before, ascending, named_in, named_by_grain, version_numbered, missing_or, first_missing}
 use Rattle.log_reading.specs.Steps.{seen_in}
 use Rattle.log_reading.specs.Sums.{StopsAt}
 use Rattle.log_reading.specs.Contents.{IsUnread}
@@ -23,7 +23,7 @@ use Rattle.log_reading.specs.declared.faults.FolderFault.{FolderFault}
 use Rattle.log_reading.proofs.GrainVersions.{in_order}
 use Rattle.silo_spec.specs.OpenedDisks.{opened_disk}
 use Rattle.silo_spec.specs.Slots.{generation}
-use Rattle.promise_spec.specs.Programs.{Program, shape_in}
+use Rattle.promise_spec.specs.Programs.{Program}
 use Rattle.promise_spec.specs.Openings.{Reading, NoSilo, DamagedAt, Reads, is_silo, program_in_file, log_of, with_versions, with_log, with_program, live_of, live_in, with_slot, opened_as}
 use Rattle.promise_spec.specs.Refusals.{IsEitherManager, IsNamedIn, IsReadBefore, MustBeRead, IsRefusedBy}
 use Rattle.promise_spec.proofs.Openings.{live_read}
@@ -60,7 +60,7 @@ in_map x (y ∷ xs) (inr there) = inr (in_map x xs there)
 
 -- ---- what is missing is a grain's
 
-module _ (live : ℕ) (shape : Shape) (image : Image) where
+module _ (live : ℕ) (shapes : List Shape) (image : Image) where
   one_missing : (g : GrainId) (r : Result Version ℕ) (later : Option (FileId × ℕ)) (f : FileId) (place : ℕ) → ((later ≡ Some (f, place)) → (last : GrainId) × (f ≡ Grain live last)) → missing_or live g r later ≡ Some (f, place) → (last : GrainId) × (f ≡ Grain live last)
   one_missing g (Ok v) later f place on e = on e
   one_missing g (Err at) later f place on e = (g, let same : Grain live g ≡ f = ap (file_or (Grain live g)) e in sym same)
@@ -69,9 +69,9 @@ module _ (live : ℕ) (shape : Shape) (image : Image) where
       file_or d None = d
       file_or d (Some x) = x.0
 
-  missing_grain : (ns : List Named) (f : FileId) (place : ℕ) → first_missing live One shape image ns ≡ Some (f, place) → (last : GrainId) × (f ≡ Grain live last)
+  missing_grain : (ns : List Named) (f : FileId) (place : ℕ) → first_missing live One shapes image ns ≡ Some (f, place) → (last : GrainId) × (f ≡ Grain live last)
   missing_grain [] f place e = absurd cc
-  missing_grain (n ∷ ns) f place e = one_missing n.written.grain (version_named live One shape image n) (first_missing live One shape image ns) f place (λ also. missing_grain ns f place also) e
+  missing_grain (n ∷ ns) f place e = one_missing n.written.grain (version_numbered live One shapes image n) (first_missing live One shapes image ns) f place (λ also. missing_grain ns f place also) e
 
 -- ---- the live slot
 
@@ -173,20 +173,20 @@ module _ (image : Image) where
     opened_then = ap (with_slot image) found
 
     -- the live slot's program file is read of each silo
-    versions_by : (p : Program) (l : LogRead) (m : Option (FileId × ℕ)) → first_missing live One (shape_in p) image (named_by_grain (named_in l)) ≡ m
+    versions_by : (p : Program) (l : LogRead) (m : Option (FileId × ℕ)) → first_missing live One (shapes_read p l) image (named_by_grain (named_in l)) ≡ m
         → MustBeRead image (with_versions live p image l m) (ProgramFile live)
     versions_by p l None e = inl (inr refl)
     versions_by p l (Some x) e =
-        let t = missing_grain live (shape_in p) image (named_by_grain (named_in l)) x.0 x.1 e in
+        let t = missing_grain live (shapes_read p l) image (named_by_grain (named_in l)) x.0 x.1 e in
         subst (λ (f : FileId). IsReadBefore image f (ProgramFile live)) (sym t.1) (inl (inr refl))
 
     log_by : (p : Program) (r : Result LogRead ℕ) → MustBeRead image (with_log live p image r) (ProgramFile live)
     log_by p (Err place) = inr refl
-    log_by p (Ok l) = versions_by p l (first_missing live One (shape_in p) image (named_by_grain (named_in l))) refl
+    log_by p (Ok l) = versions_by p l (first_missing live One (shapes_read p l) image (named_by_grain (named_in l))) refl
 
     program_by : (r : Result Program ℕ) → MustBeRead image (with_program live image r) (ProgramFile live)
     program_by (Err place) = inr refl
-    program_by (Ok p) = log_by p (log_in_file One (shape_in p) (image (Manager live)))
+    program_by (Ok p) = log_by p (log_in_file One p (image (Manager live)))
 
     pub program_read : Refuses (OpenFault.DiskFault (ProgramFile live))
     program_read = subst (λ (r : Reading). MustBeRead image r (ProgramFile live)) (sym opened_then) (program_by (program_in_file (image (ProgramFile live))))
@@ -195,32 +195,32 @@ module _ (image : Image) where
     program_damaged place e = opened_then ∙ ap (with_program live image) e
 
     module _ (p : Program) (program : program_in_file (image (ProgramFile live)) ≡ Ok p) where
-      then_log : reading ≡ with_log live p image (log_in_file One (shape_in p) (image (Manager live)))
+      then_log : reading ≡ with_log live p image (log_in_file One p (image (Manager live)))
       then_log = opened_then ∙ ap (with_program live image) program
 
-      is_named : (l : LogRead) → log_in_file One (shape_in p) (image (Manager live)) ≡ Ok l → (file : FileId) → (s : StopsAt live One (shape_in p) image (named_by_grain (named_in l)) file)
+      is_named : (l : LogRead) → log_in_file One p (image (Manager live)) ≡ Ok l → (file : FileId) → (s : StopsAt live One (shapes_read p l) image (named_by_grain (named_in l)) file)
           → IsNamedIn live image s.here.written.grain
       is_named l read file s = record { program = p; log = l; first = program; then_log = read; named = in_map s.here (named_in l) (in_groups s.here (named_in l) (ascending (map (λ n. n.written.grain) (named_in l))) (subst (Member s.here) (sym s.are) (in_seam s.front s.here s.back))) }
 
-      grain_by : (l : LogRead) → log_in_file One (shape_in p) (image (Manager live)) ≡ Ok l → (file : FileId) → (s : StopsAt live One (shape_in p) image (named_by_grain (named_in l)) file)
-          → (m : Option (FileId × ℕ)) → first_missing live One (shape_in p) image (named_by_grain (named_in l)) ≡ m → MustBeRead image (with_versions live p image l m) file
+      grain_by : (l : LogRead) → log_in_file One p (image (Manager live)) ≡ Ok l → (file : FileId) → (s : StopsAt live One (shapes_read p l) image (named_by_grain (named_in l)) file)
+          → (m : Option (FileId × ℕ)) → first_missing live One (shapes_read p l) image (named_by_grain (named_in l)) ≡ m → MustBeRead image (with_versions live p image l m) file
       grain_by l read file s None e = inr (s.here.written.grain, s.is, is_named l read file s)
       grain_by l read file s (Some x) e =
-          let t = missing_grain live (shape_in p) image (named_by_grain (named_in l)) x.0 x.1 e in
-          let at : first_missing live One (shape_in p) image (named_by_grain (named_in l)) ≡ Some (Grain live t.0, x.1) = e ∙ ap (λ (f : FileId). Some (f, x.1)) t.1 in
-          let order : is_before t.0 s.here.written.grain ≡ false = in_order live One (shape_in p) image (named_in l) file s t.0 x.1 at in
+          let t = missing_grain live (shapes_read p l) image (named_by_grain (named_in l)) x.0 x.1 e in
+          let at : first_missing live One (shapes_read p l) image (named_by_grain (named_in l)) ≡ Some (Grain live t.0, x.1) = e ∙ ap (λ (f : FileId). Some (f, x.1)) t.1 in
+          let order : is_before t.0 s.here.written.grain ≡ false = in_order live One (shapes_read p l) image (named_in l) file s t.0 x.1 at in
           subst (λ (f : FileId). IsReadBefore image f file) (sym t.1) (inr (s.here.written.grain, s.is, is_named l read file s, order))
 
-      pub log_refused : (e : FolderFault) → IsUnread live One (shape_in p) image e → Refuses (in_folder e)
+      pub log_refused : (e : FolderFault) → IsUnread live One p image e → Refuses (in_folder e)
       log_refused (FolderFault.Damaged file place) (inl at) = then_log ∙ ap (with_log live p image) at.1 ∙ ap (λ (f : FileId). DamagedAt f place) (sym at.0)
       log_refused (FolderFault.Damaged file place) (inr t) = then_log ∙ ap (with_log live p image) t.1 ∙ ap (with_versions live p image t.0) t.2
       log_refused (FolderFault.Failed file) (inl at) =
           let low = (live_read live image found).slot in
           subst (λ (f : FileId). MustBeRead image reading f) (sym at) (manager_read live low)
       log_refused (FolderFault.Failed file) (inr t) =
-          subst (λ (r : Reading). MustBeRead image r file) (sym (then_log ∙ ap (with_log live p image) t.1)) (grain_by t.0 t.1 file t.2 (first_missing live One (shape_in p) image (named_by_grain (named_in t.0))) refl)
+          subst (λ (r : Reading). MustBeRead image r file) (sym (then_log ∙ ap (with_log live p image) t.1)) (grain_by t.0 t.1 file t.2 (first_missing live One (shapes_read p t.0) image (named_by_grain (named_in t.0))) refl)
       log_refused FolderFault.Memory any = tt
 
-      pub reads_log : (l : LogRead) → log_in_file One (shape_in p) (image (Manager live)) ≡ Ok l → first_missing live One (shape_in p) image (named_by_grain (named_in l)) ≡ None
+      pub reads_log : (l : LogRead) → log_in_file One p (image (Manager live)) ≡ Ok l → first_missing live One (shapes_read p l) image (named_by_grain (named_in l)) ≡ None
           → opened_as image ≡ Reads live (log_of live p image l)
       reads_log l read whole = then_log ∙ ap (with_log live p image) read ∙ ap (with_versions live p image l) whole

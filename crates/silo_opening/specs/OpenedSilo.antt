@@ -1,7 +1,8 @@
 -- What an opened silo is, and what its refusals say.
-use Rattle.std.specs.Prelude.{◌≡◌, ℕ, ◌+◌, ◌^◌, ◌<◌, ◌≤◌, Bool, ◌&&◌, ◌==◌, nat_lt, if◌then◌else◌, List, length, map, take, drop, slice_index, bytes_eq, unwrap_or, Option, Some, None, Ok}
+use Rattle.std.specs.Prelude.{◌≡◌, ℕ, ◌+◌, ◌^◌, ◌<◌, ◌≤◌, Bool, ◌&&◌, ◌==◌, nat_lt, if◌then◌else◌, List, [], ◌∷◌, length, map, take, drop, slice_index, bytes_eq, unwrap_or, Option, Some, None, Ok}
 use Rattle.std.specs.List.{list_any, AllByRecursion}
 use Rattle.base_types.specs.declared.calls.GrainId.{GrainId}
+use Rattle.base_types.specs.declared.shapes.Shape.{Shape}
 use Rattle.base_types.specs.declared.stores.Version.{Version}
 use Rattle.base_types.specs.declared.stores.Store.{Store}
 use Rattle.base_types.specs.Stores.{state_in, end_in}
@@ -16,15 +17,17 @@ use Rattle.gate_block.specs.Log.{gate_of}
 use Rattle.commit_log.specs.declared.records.Named.{Named}
 use Rattle.commit_log.specs.Orders.{IsAscending}
 use Rattle.log_reading.specs.declared.faults.FolderFault.{FolderFault}
-use Rattle.log_reading.specs.Blocks.{LogRead, log_in_file}
-use Rattle.log_reading.specs.Versions.{named_in, named_by_grain, version_named, first_missing, latest_of}
+use Rattle.log_reading.specs.Blocks.{LogRead, log_in_file, types_read}
+use Rattle.log_reading.specs.Versions.{named_in, named_by_grain, version_numbered, first_missing, latest_of}
 use Rattle.log_reading.specs.Steps.{seen_in}
-use Rattle.log_reading.specs.Sums.{placed_after, end_after, AreNear}
+use Rattle.log_reading.specs.Sums.{placed_after, end_after, AreNear, AreOfPrograms}
 use Rattle.program_file.specs.declared.faults.ProgramFileFault.{ProgramFileFault}
-use Rattle.script_tree.specs.Programs.{program_tree}
+use Rattle.program_file.specs.Succession.{ArePrograms, newest_program, shapes_in_turn, carried_from}
+use Rattle.program_file.specs.Files.{program_in_file}
+use Rattle.script_tree.specs.Programs.{ProgramTree, program_tree}
 use Rattle.silo_spec.specs.Slots.{generation}
 use Rattle.silo_spec.specs.OpenedDisks.{opening_syncs, opened_disk}
-use Rattle.promise_spec.specs.Programs.{Program, shape_in}
+use Rattle.promise_spec.specs.Programs.{Program}
 use Rattle.promise_spec.specs.Entries.{Log, initial_states, standing_of}
 use Rattle.promise_spec.specs.Logs.{magic}
 use Rattle.promise_spec.specs.Openings.{is_silo, log_of, Reads, opened_as}
@@ -56,14 +59,23 @@ live_header (Some first) (Some other) = if nat_lt first other then Some (1, othe
 abbrev pub program_in : Opened → Program
 program_in o = record { text = o.text; types = program_tree o.checked }
 
+-- the programs that came into force one after the other, the one in force too
+abbrev pub programs_of : Opened → List ProgramTree
+programs_of o = map program_tree o.programs
+
+-- the shape of each
+abbrev pub shapes_of : Opened → List Shape
+shapes_of o = shapes_in_turn (programs_of o)
+
 -- the states of this store, where a grain that isn't there has its type's initial fields, are those for which a log stands
 abbrev pub AreStates : Program → Store → Log → Type 0
 AreStates p store log = (grain : GrainId) → unwrap_or (state_in store grain) (initial_states p grain) ≡ (standing_of log).states grain
 
--- The folder reads as a silo with this live slot, of this generation, and a log, whose program is this. Of the log's standing is kept
--- how many entries there are and the number of the next unit. Each grain's place is the last that the log names, with the version that
--- stands there, whose state is the log's. The ends are the greatest of the places that it names in each grain's file, those that it
--- begins with too, and lie in the file. The gate is that at which the log ends, and closed.
+-- The folder reads as a silo with this live slot, of this generation, and a log, at whose end this program is in force. Its program file
+-- has the first of the programs that came into force one after the other, and the log's entries have the others. Of the log's standing is
+-- kept how many entries there are and the number of the next unit. Each grain's place is the last that the log names, with the version
+-- that stands there, and the number of the program under which it was written. The ends are the greatest of the places that it names in
+-- each grain's file, those that it begins with too, and lie in the file. The gate is that at which the log ends, and closed.
 pub record IsOpenedFrom (image : Image) (o : Opened) : Type 0 where
   pub log : Log
   pub reads : opened_as image ≡ Reads o.slot log
@@ -71,11 +83,14 @@ pub record IsOpenedFrom (image : Image) (o : Opened) : Type 0 where
   pub program : (standing_of log).program ≡ program_in o
   pub count : o.count ≡ (standing_of log).count
   pub next : o.next_unit.0 ≡ (standing_of log).next
+  pub first : Program
+  pub first_is : program_in_file (image (ProgramFile o.slot)) ≡ Ok first
   pub read : LogRead
-  pub read_as : log_in_file One (shape_in (program_in o)) (image (Manager o.slot)) ≡ Ok read
-  pub log_is : log ≡ log_of o.slot (program_in o) image read
-  pub whole : first_missing o.slot One (shape_in (program_in o)) image (named_by_grain (named_in read)) ≡ None
-  pub places : (grain : GrainId) → placed_in o.places grain ≡ placed_after o.slot One (shape_in (program_in o)) image None (named_by_grain (named_in read)) grain
+  pub read_as : log_in_file One first (image (Manager o.slot)) ≡ Ok read
+  pub programs : programs_of o ≡ types_read first read.entries
+  pub log_is : log ≡ log_of o.slot first image read
+  pub whole : first_missing o.slot One (shapes_of o) image (named_by_grain (named_in read)) ≡ None
+  pub places : (grain : GrainId) → placed_in o.places grain ≡ placed_after o.slot One (programs_of o) image None (named_by_grain (named_in read)) grain
   pub ends : (grain : GrainId) → end_in o.ends grain ≡ end_after None (named_by_grain (named_in read)) grain
   pub within : (grain : GrainId) (end : ℕ) → end_in o.ends grain ≡ Some end → end ≤ length (image (Grain o.slot grain))
   pub gate : gate_of (image (Manager o.slot)) ≡ o.gate_at
@@ -90,27 +105,32 @@ pub record LeavesOpened (old new : World) (o : Opened) : Type 0 where
   pub settled : new.disk (Manager o.slot) ≡ settled (old.disk (Manager o.slot)).seen
   pub count : new.syncs ≡ old.syncs + opening_syncs (seen_in old.disk)
 
--- what an opened silo has is within its bounds, whatever the host tells
+-- what an opened silo has is within its bounds, and each place is of one of its programs, of which the last is in force, whatever the host
+-- tells
 pub record IsOpenedInBounds (o : Opened) : Type 0 where
   pub slot : o.slot ≤ 1
   pub gate : o.gate_at < 2 ^ 63
   pub next : (0 < o.next_unit.0) × (o.next_unit.0 ≤ 2 ^ 63)
   pub near : AreNear o.ends
+  pub programs : ArePrograms (programs_of o)
+  pub newest : newest_program (programs_of o) ≡ program_tree o.checked
+  pub numbered : AreOfPrograms (length o.programs) o.places
   pub text : length o.text ≤ 262144
 
 -- these names are of this grain too
 abbrev pub names_grain : List Named → GrainId → Bool
 names_grain named grain = list_any (λ n. same_grain n.written.grain grain) named
 
--- a named version is there, with the state of its grain
+-- a named version is there, and its state, carried to the programs after that of its time, is its grain's
 pub record IsLatest (image : Image) (o : Opened) (log : Log) (n : Named) : Type 0 where
   pub version : Version
-  pub there : version_named o.slot One (shape_in (program_in o)) image n ≡ Ok version
-  pub state : version.state ≡ (standing_of log).states n.written.grain
+  pub there : version_numbered o.slot One (shapes_of o) image n ≡ Ok version
+  pub state : carried_from (programs_of o) n.program n.written.grain.kind version.state ≡ (standing_of log).states n.written.grain
 
--- One version of each grain that has a state in the store, with that state, by ascending grains: the last of each that the log names.
+-- One version of each grain that has a state in the store, which means that state, by ascending grains: the last of each that the log names.
 pub record AreLatest (image : Image) (o : Opened) (log : Log) (named : List Named) : Type 0 where
-  pub latest : (read : LogRead) → log_in_file One (shape_in (program_in o)) (image (Manager o.slot)) ≡ Ok read → named ≡ latest_of (named_by_grain (named_in read))
+  pub latest : (first : Program) (read : LogRead) → program_in_file (image (ProgramFile o.slot)) ≡ Ok first → log_in_file One first (image (Manager o.slot)) ≡ Ok read
+      → named ≡ latest_of (named_by_grain (named_in read))
   pub order : IsAscending None (map (λ n. n.written) named)
   pub held : (grain : GrainId) → names_grain named grain ≡ (standing_of log).held grain
   pub each : AllByRecursion (IsLatest image o log) named

@@ -59,6 +59,7 @@ pub fn read_input<H: Host>(alloc: Global, host: &mut H) -> Result<Vec<u8>, Input
     ensures counts { IfErr result (λ e. InputFaulted e (H.faults host.old) (H.faults host.new)) }
     ensures output { IsTrue H.tells → (H.world host.new).output ≡ (H.world host.old).output }
     ensures disk { IsTrue H.tells → (H.world host.new).disk ≡ (H.world host.old).disk }
+    ensures syncs { IsTrue H.tells → (H.world host.new).syncs ≡ (H.world host.old).syncs }
     ensures moments { IsTrue H.tells → Passes (λ m. m ≡ moment_of (H.world host.old))
         (H.world host.old).past (H.world host.new).past }
     ensures ready { StaysReady (H.is_ready host.old) (H.is_ready host.new) }

@@ -4,14 +4,14 @@ ghost use Rattle.host_trait.specs.Faults.{NoneFailed};
 ghost use Rattle.host_trait.specs.Runs.{OnlyAsked};
 ghost use Rattle.host_trait.specs.declared.channels.FileId.TheVariants.{Manager};
 ghost use Rattle.log_reading.specs.Steps.{seen_in};
-ghost use Rattle.promise_spec.specs.Programs.{shape_in};
+ghost use Rattle.program_file.specs.Succession.{ArePrograms};
 ghost use Rattle.silo_opening.specs.declared.faults.OpenFault.{OpenFault};
 ghost use Rattle.silo_opening.specs.Counts.{OpenFaulted};
-ghost use Rattle.silo_opening.specs.OpenedSilo.{program_in, IsOpenedFrom, AreLatest};
+ghost use Rattle.silo_opening.specs.OpenedSilo.{programs_of, IsOpenedFrom, AreLatest};
 
 use crate::faults::OpenFault;
 use crate::opened_silo::{Opened, folder_fault};
-use base_types::{List, Shape};
+use base_types::List;
 use commit_log::Named;
 use field_codec::Format;
 use host_trait::Host;
@@ -27,11 +27,10 @@ use std::alloc::Global;
 pub fn latest_versions<H: Host>(
     alloc: Global,
     host: &mut H,
-    shape: &Shape,
     opened: &Opened,
 ) -> Result<List<Named>, OpenFault>
     requires slot { opened.now.slot ≤ 1 }
-    requires shape { shape.now ≡ shape_in (program_in opened.now) }
+    requires programs { ArePrograms (programs_of opened.now) }
     ensures latest { IfOk result (λ named. IsTrue H.tells → (o : IsOpenedFrom (seen_in (H.world host.old).disk) opened.now)
         → AreLatest (seen_in (H.world host.old).disk) opened.now o.log named) }
     ensures refused { IfErr result (λ e. IsTrue H.tells → IsOpenedFrom (seen_in (H.world host.old).disk) opened.now
@@ -41,7 +40,8 @@ pub fn latest_versions<H: Host>(
     ensures fault { IfErr result (λ e. OpenFaulted e (H.faults host.old) (H.faults host.new)) }
     ensures ready { StaysReady (H.is_ready host.old) (H.is_ready host.new) }
 {
-    match read_latest(alloc, host, opened.slot, shape, Format::One) {
+    let first = &opened.programs.as_slice()[0];
+    match read_latest(alloc, host, opened.slot, first, Format::One) {
         Ok(named) => Ok(named),
         Err(fault) => Err(folder_fault(fault)),
     }

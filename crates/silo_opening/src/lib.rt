@@ -11,6 +11,7 @@ mod silo_init;
 
 pub use creation::{create, write_program};
 pub use faults::{CreateFault, OpenFault};
+pub use input::{InputFault, read_input};
 pub use latest::latest_versions;
 pub use opened_silo::{Opened, open_silo};
 pub use placed_states::states;

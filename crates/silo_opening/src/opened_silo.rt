@@ -21,12 +21,12 @@ use base_types::{Ends, List, Places, UnitNo};
 use field_codec::Format;
 use host_trait::{Failed, FileId, Host, read_full};
 use log_reading::{FolderFault, read_contents};
-use program_file::{ProgramFileFault, read_program};
+use program_file::{ProgramFileFault, accept, read_program};
 use script_check::Checked;
-use std::alloc::{AllocError, Global};
+use std::alloc::Global;
 
-/// An opened silo: the slot that is live and its generation, its program with the text, how many records its log has, those before the
-/// log's beginning too, where the last version of each grain that has one stands, the greatest end among the places that are named in each
+/// An opened silo: the slot that is live and its generation, the program in force with its text, all programs that came into force one after
+/// the other, the one in force too, how many entries its log has, those before the log's beginning too, where the last version of each grain that has one stands, the greatest end among the places that are named in each
 /// grain's file, the number of the next unit, and the place of the gate at which the log ends. Its states aren't kept: `states` reads them.
 #[derive(Drop)]
 pub struct Opened {
@@ -34,6 +34,7 @@ pub struct Opened {
     pub generation: u32,
     pub text: List<u8>,
     pub checked: Checked,
+    pub programs: List<Checked>,
     pub count: u64,
     pub places: Places,
     pub ends: Ends,
@@ -208,7 +209,7 @@ pub(crate) fn folder_fault(fault: FolderFault) -> OpenFault
 /// It asks for the length of both manager files and syncs each that has 16 bytes or more, slot 0's first, so that nothing of these
 /// is pending afterwards. Then it reads the headers of these; and of the live slot, which is the silo's of the greater generation, the
 /// program file, the blocks up to the first closed gate, and each version that they name, by grains. Each is read once. Beside what it
-/// answers it keeps 40 bytes for each named version while it reads. `docs/FORMATS.md` has the bytes.
+/// answers it keeps 48 bytes for each named version while it reads. `docs/FORMATS.md` has the bytes.
 ///
 /// # Errors
 ///
@@ -238,26 +239,27 @@ pub fn open_silo<H: Host>(alloc: Global, host: &mut H) -> Result<Opened, OpenFau
     let Some((slot, generation)) = find_live(host)? else {
         return Err(OpenFault::NotASilo);
     };
-    let (text, checked) = match read_program(alloc, host, slot) {
+    let (text, first) = match read_program(alloc, host, slot) {
         Ok(found) => found,
         Err(fault) => return Err(program_fault(slot, fault)),
     };
-    let shape = match checked.shape() {
-        Ok(shape) => shape,
-        Err(AllocError) => return Err(OpenFault::Memory),
+    let contents = match read_contents(alloc, host, slot, text, first, Format::One) {
+        Ok(contents) => contents,
+        Err(fault) => return Err(folder_fault(fault)),
     };
-    match read_contents(alloc, host, slot, &shape, Format::One) {
-        Ok(contents) => Ok(Opened {
-            slot,
-            generation,
-            text,
-            checked,
-            count: contents.count,
-            places: contents.places,
-            ends: contents.ends,
-            next_unit: contents.next_unit,
-            gate_at: contents.gate_at,
-        }),
-        Err(fault) => Err(folder_fault(fault)),
-    }
+    let Ok(checked) = accept(alloc, contents.text.as_slice()) else {
+        return Err(OpenFault::Memory);
+    };
+    Ok(Opened {
+        slot,
+        generation,
+        text: contents.text,
+        checked,
+        programs: contents.programs,
+        count: contents.count,
+        places: contents.places,
+        ends: contents.ends,
+        next_unit: contents.next_unit,
+        gate_at: contents.gate_at,
+    })
 }

@@ -5,9 +5,10 @@ ghost use Rattle.host_trait.specs.Faults.{NoneFailed};
 ghost use Rattle.host_trait.specs.Runs.{OnlyAsked};
 ghost use Rattle.host_trait.specs.declared.channels.FileId.TheVariants.{Grain};
 ghost use Rattle.log_reading.specs.Steps.{seen_in};
+ghost use Rattle.program_file.specs.Succession.{ArePrograms};
 ghost use Rattle.silo_opening.specs.declared.faults.OpenFault.{OpenFault};
 ghost use Rattle.silo_opening.specs.Counts.{OpenFaulted};
-ghost use Rattle.silo_opening.specs.OpenedSilo.{program_in, AreStates, IsOpenedFrom};
+ghost use Rattle.silo_opening.specs.OpenedSilo.{program_in, programs_of, AreStates, IsOpenedFrom};
 
 use crate::faults::OpenFault;
 use crate::opened_silo::{Opened, folder_fault};
@@ -15,7 +16,7 @@ use base_types::Store;
 use field_codec::Format;
 use host_trait::Host;
 use log_reading::read_states;
-use std::alloc::{AllocError, Global};
+use std::alloc::Global;
 
 /// The states of an opened silo: that of each grain that has a version, by one read at its place. A grain that isn't in the store has its
 /// type's initial fields. The folder must read as it did when it was opened.
@@ -25,6 +26,7 @@ use std::alloc::{AllocError, Global};
 /// `DiskFault` where a call on a grain's file failed, and `Memory`.
 pub fn states<H: Host>(alloc: Global, host: &mut H, opened: &Opened) -> Result<Store, OpenFault>
     requires slot { opened.now.slot ≤ 1 }
+    requires programs { ArePrograms (programs_of opened.now) }
     ensures stand { IfOk result (λ store. IsTrue H.tells → (o : IsOpenedFrom (seen_in (H.world host.old).disk) opened.now)
         → AreStates (program_in opened.now) store o.log) }
     ensures refused { IfErr result (λ e. IsTrue H.tells → IsOpenedFrom (seen_in (H.world host.old).disk) opened.now
@@ -35,15 +37,11 @@ pub fn states<H: Host>(alloc: Global, host: &mut H, opened: &Opened) -> Result<S
     ensures fault { IfErr result (λ e. OpenFaulted e (H.faults host.old) (H.faults host.new)) }
     ensures ready { StaysReady (H.is_ready host.old) (H.is_ready host.new) }
 {
-    let shape = match opened.checked.shape() {
-        Ok(shape) => shape,
-        Err(AllocError) => return Err(OpenFault::Memory),
-    };
     match read_states(
         alloc,
         host,
         opened.slot,
-        &shape,
+        opened.programs.as_slice(),
         Format::One,
         &opened.places,
     ) {

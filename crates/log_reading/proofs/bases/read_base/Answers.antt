@@ -1,5 +1,5 @@
 use Rattle.std.proofs.Common.{rules, arith, ◌≡◌, [], ℕ, List, eqb, slice_index, Option, true, false, Some, Err, sym, ◌∙◌, ap, subst}
-use Rattle.base_types.specs.declared.shapes.Shape.{Shape}
+use Rattle.program_file.specs.Programs.{Program}
 use Rattle.field_codec.specs.declared.formats.Format.{Format}
 use Rattle.gate_block.specs.Blocks.{found_at}
 use Rattle.gate_block.specs.Log.{bodies_of, gate_of}
@@ -16,33 +16,33 @@ use Rattle.log_reading.proofs.LogBlocks.{follows_begins}
 use Rattle.log_reading.proofs.bases.read_base.Goals as goal
 
 -- a damaged header
-damaged_log : (format : Format) (shape : Shape) (file : List ℕ) (place : ℕ) → header_damage file ≡ Some place → log_in_file format shape file ≡ Err place
-damaged_log format shape file place is = ap (λ (d : Option ℕ). behind_header d (log_as format shape (eqb (slice_index file 13) 1) (bodies_of file) (gate_of file) (found_at (gate_of file) file))) is
+damaged_log : (format : Format) (p : Program) (file : List ℕ) (place : ℕ) → header_damage file ≡ Some place → log_in_file format p file ≡ Err place
+damaged_log format p file place is = ap (λ (d : Option ℕ). behind_header d (log_as format p (eqb (slice_index file 13) 1) (bodies_of file) (gate_of file) (found_at (gate_of file) file))) is
 
 pub returns-in-Err-clause-damaged : goal.returns-in-Err-clause-damaged
-returns-in-Err-clause-damaged g c file place is told format =
-    damaged_log format c.args.shape.now ((g.H.Host.world c.args.host.now).disk (Manager c.args.slot)).seen place (c.in-Err.ensures.damaged file place (other_value _ (FolderFault.Damaged file place) is) told)
+returns-in-Err-clause-damaged g c file place is told format p same =
+    damaged_log format p ((g.H.Host.world c.args.host.now).disk (Manager c.args.slot)).seen place (c.in-Err.ensures.damaged file place (other_value _ (FolderFault.Damaged file place) is) told)
 
 -- no checkpoint follows
 pub returns-then-not-saved-clause-begins : goal.returns-then-not-saved-clause-begins
-returns-then-not-saved-clause-begins g c told format =
+returns-then-not-saved-clause-begins g c told format p same =
     let seen = ((g.H.Host.world c.args.host.now).disk (Manager c.args.slot)).seen in
     let none : c.in-Ok.saved ≡ false = search rules in
     let fresh : eqb (slice_index seen 13) 1 ≡ false = sym (c.in-Ok.ensures.begins told) ∙ none in
-    subst (λ (l : List Written). IsFollowedBy format c.args.shape.now seen (record { count = 0; next = 1; writes = l }) [] 15) (sym c.new.ensures) (follows_begins format c.args.shape.now seen (c.in-Ok.ensures.whole told) fresh)
+    subst (λ (l : List Written). IsFollowedBy format p seen (record { count = 0; next = 1; writes = l }) [] 15) (sym c.new.ensures) (follows_begins format p seen (c.in-Ok.ensures.whole told) fresh)
 
 pub returns-then-not-saved-clause-bound : goal.returns-then-not-saved-clause-bound
 returns-then-not-saved-clause-bound g c = record { gate = omega arith; count = omega arith; some = omega arith; next = omega arith }
 
 -- the checkpoint
 pub returns-in-Ok-read_checkpoint-clause-begins : goal.returns-in-Ok-read_checkpoint-clause-begins
-returns-in-Ok-read_checkpoint-clause-begins g c told format =
+returns-in-Ok-read_checkpoint-clause-begins g c told format p shape =
     let seen : Disk → List ℕ = λ d. (d (Manager c.args.slot)).seen in
     let same = (c.check_header.ensures.asked told).disk in
     let is : c.in-Ok.saved ≡ true = search rules in
     let begins : BeginsSaved (seen (g.H.Host.world c.args.host.now).disk) = (c.in-Ok.ensures.whole told, sym (c.in-Ok.ensures.begins told) ∙ is) in
     let base = c.in-Ok-read_checkpoint.base in
-    subst (λ (d : Disk). IsFollowedBy format c.args.shape.now (seen d) (log_base_of base) [] base.gate_at) same (c.in-Ok-read_checkpoint.ensures.begins told format (subst (λ (d : Disk). BeginsSaved (seen d)) (sym same) begins))
+    subst (λ (d : Disk). IsFollowedBy format p (seen d) (log_base_of base) [] base.gate_at) same (c.in-Ok-read_checkpoint.ensures.begins told format p shape (subst (λ (d : Disk). BeginsSaved (seen d)) (sym same) begins))
 
 pub returns-in-Ok-read_checkpoint-clause-asked : goal.returns-in-Ok-read_checkpoint-clause-asked
 returns-in-Ok-read_checkpoint-clause-asked g c told = asked_then _ _ _ (c.check_header.ensures.asked told) (c.read_checkpoint.ensures.asked told)
@@ -51,13 +51,13 @@ pub returns-in-Ok-read_checkpoint-clause-calm : goal.returns-in-Ok-read_checkpoi
 returns-in-Ok-read_checkpoint-clause-calm g c = none_then _ _ _ c.in-Ok.ensures.calm c.in-Ok-read_checkpoint.ensures.calm
 
 pub returns-in-Err-read_checkpoint-clause-damaged : goal.returns-in-Err-read_checkpoint-clause-damaged
-returns-in-Err-read_checkpoint-clause-damaged g c file place is told format =
+returns-in-Err-read_checkpoint-clause-damaged g c file place is told format p shape =
     let seen : Disk → List ℕ = λ d. (d (Manager c.args.slot)).seen in
     let same = (c.check_header.ensures.asked told).disk in
     let saved : c.in-Ok.saved ≡ true = search rules in
     let begins : BeginsSaved (seen (g.H.Host.world c.args.host.now).disk) = (c.in-Ok.ensures.whole told, sym (c.in-Ok.ensures.begins told) ∙ saved) in
-    let here = c.in-Err-read_checkpoint.ensures.damaged file place (other_value _ (FolderFault.Damaged file place) is) told (subst (λ (d : Disk). BeginsSaved (seen d)) (sym same) begins) format in
-    subst (λ (d : Disk). log_in_file format c.args.shape.now (seen d) ≡ Err place) same here
+    let here = c.in-Err-read_checkpoint.ensures.damaged file place (other_value _ (FolderFault.Damaged file place) is) told format p shape (subst (λ (d : Disk). BeginsSaved (seen d)) (sym same) begins) in
+    subst (λ (d : Disk). log_in_file format p (seen d) ≡ Err place) same here
 
 pub returns-in-Err-read_checkpoint-clause-asked : goal.returns-in-Err-read_checkpoint-clause-asked
 returns-in-Err-read_checkpoint-clause-asked g c told = asked_then _ _ _ (c.check_header.ensures.asked told) (c.read_checkpoint.ensures.asked told)

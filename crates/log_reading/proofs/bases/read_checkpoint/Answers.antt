@@ -1,6 +1,7 @@
 use Rattle.std.proofs.Common.{rules, arith, ◌≡◌, ◌++◌, [], List, Option, true, false, fold, Some, None, Ok, Err, refl, sym, ◌∙◌, ap, subst}
 use Rattle.std.proofs.lemmas.Result.{err_from_is_err_and}
 use Rattle.base_types.specs.declared.calls.GrainId.{GrainId}
+use Rattle.base_types.specs.declared.shapes.Shape.{Shape}
 use Rattle.host_trait.specs.World.{Disk}
 use Rattle.host_trait.specs.declared.channels.FileId.TheVariants.{Manager}
 use Rattle.host_trait.proofs.Runs.{asked_then}
@@ -17,7 +18,7 @@ pub loop-saved-init : goal.loop-saved-init
 loop-saved-init g c = record {
   bound = omega arith;
   last = sym (ap last_of c.new-saved.ensures);
-  pieces = λ told format begins. subst (λ (l : List Written). FollowsPieces format c.args.shape.now ((g.H.Host.world c.args.host.now).disk (Manager c.args.slot)).seen None l 15) (sym c.new-saved.ensures) (pieces_begin format c.args.shape.now _ begins);
+  pieces = λ told format of_text same begins. subst (λ (l : List Written). FollowsPieces format of_text ((g.H.Host.world c.args.host.now).disk (Manager c.args.slot)).seen None l 15) (sym c.new-saved.ensures) (pieces_begin format of_text _ begins);
   asked = search rules;
   calm = λ channel. refl;
   ready = λ file was. was;
@@ -31,10 +32,11 @@ returns-in_err-piece-clause-damaged g c =
     let gate = c.loop-saved.gate_at in
     let first = c.loop-saved.first in
     let seen = ((g.H.Host.world c.args.host.now).disk (Manager c.args.slot)).seen in
-    rw (p.1, p.2) λ file place is told begins format.
+    rw (p.1, p.2) λ file place is told format of_text same begins.
     let here = c.in_err-piece.ensures.damaged file place (other_value _ (FolderFault.Damaged file place) is) told in
     let there : next_piece_in shape first c.loop-saved.last gate seen ≡ Err place = subst (λ (d : Disk). next_piece_in shape first c.loop-saved.last gate (d (Manager c.args.slot)).seen ≡ Err place) (inv.asked told).disk here in
-    pieces_break format shape seen first c.loop-saved.saved gate (inv.pieces told format begins) place (subst (λ (l : Option GrainId). next_piece_in shape first l gate seen ≡ Err place) inv.last there)
+    pieces_break format of_text seen first c.loop-saved.saved gate (inv.pieces told format of_text same begins) place
+    (subst (λ (s : Shape). next_piece_in s first (last_of c.loop-saved.saved) gate seen ≡ Err place) (sym same) (subst (λ (l : Option GrainId). next_piece_in shape first l gate seen ≡ Err place) inv.last there))
 
 pub returns-in_err-piece-clause-asked : goal.returns-in_err-piece-clause-asked
 returns-in_err-piece-clause-asked g c told = asked_then _ _ _ (c.loop-saved.invariant.asked told) (c.next_piece.ensures.asked told)
@@ -58,11 +60,11 @@ loop-saved-preserved g c =
     record {
       bound = c.in_ok-piece.ensures.further.1;
       last = grain ∙ ap (λ (l : Option GrainId). fold grain_after l piece.writes) inv.last ∙ sym (last_more before piece.writes) ∙ sym (ap last_of saved);
-      pieces = λ told format begins.
+      pieces = λ told format of_text same begins.
           let here : next_piece_in shape first c.loop-saved.last gate ((g.H.Host.world c.loop-saved.host).disk (Manager c.args.slot)).seen ≡ Ok (piece, behind) = c.in_ok-piece.ensures.found told in
           let there : next_piece_in shape first c.loop-saved.last gate seen ≡ Ok (piece, behind) = subst (λ (d : Disk). next_piece_in shape first c.loop-saved.last gate (d (Manager c.args.slot)).seen ≡ Ok (piece, behind)) (inv.asked told).disk here in
           let at_last : next_piece_in shape first (last_of before) gate seen ≡ Ok (piece, behind) = subst (λ (l : Option GrainId). next_piece_in shape first l gate seen ≡ Ok (piece, behind)) inv.last there in
-          subst (λ (l : List Written). FollowsPieces format shape seen (Some piece.head) l behind) (sym saved) (pieces_on format shape seen first before gate (inv.pieces told format begins) piece behind at_last more);
+          subst (λ (l : List Written). FollowsPieces format of_text seen (Some piece.head) l behind) (sym saved) (pieces_on format of_text seen first before gate (inv.pieces told format of_text same begins) piece behind (subst (λ (s : Shape). next_piece_in s first (last_of before) gate seen ≡ Ok (piece, behind)) (sym same) at_last) more);
       asked = λ told. asked_then _ _ _ (inv.asked told) (c.next_piece.ensures.asked told);
       calm = none_then _ _ _ inv.calm c.in_ok-piece.ensures.calm;
       ready = λ file was. c.next_piece.ensures.ready file (inv.ready file was);
@@ -80,11 +82,11 @@ returns-then-not-piece-clause-begins g c =
     let seen = ((g.H.Host.world c.args.host.now).disk (Manager c.args.slot)).seen in
     let saved : c.add_saved.new.saved ≡ before ++ piece.writes = c.in_ok-last.ensures.saved ∙ ap (λ (l : List Written). before ++ l) c.as_slice.ensures in
     let more : piece.more ≡ false = search rules in
-    λ told format begins.
+    λ told format of_text same begins.
     let here : next_piece_in shape first c.loop-saved.last gate ((g.H.Host.world c.loop-saved.host).disk (Manager c.args.slot)).seen ≡ Ok (piece, behind) = c.in_ok-piece.ensures.found told in
     let there : next_piece_in shape first c.loop-saved.last gate seen ≡ Ok (piece, behind) = subst (λ (d : Disk). next_piece_in shape first c.loop-saved.last gate (d (Manager c.args.slot)).seen ≡ Ok (piece, behind)) (inv.asked told).disk here in
     let at_last : next_piece_in shape first (last_of before) gate seen ≡ Ok (piece, behind) = subst (λ (l : Option GrainId). next_piece_in shape first l gate seen ≡ Ok (piece, behind)) inv.last there in
-    subst (λ (l : List Written). IsFollowedBy format shape seen (record { count = piece.head.count; next = piece.head.next_unit.0; writes = l }) [] behind) (sym saved) (pieces_end format shape seen first before gate (inv.pieces told format begins) piece behind at_last more)
+    subst (λ (l : List Written). IsFollowedBy format of_text seen (record { count = piece.head.count; next = piece.head.next_unit.0; writes = l }) [] behind) (sym saved) (pieces_end format of_text seen first before gate (inv.pieces told format of_text same begins) piece behind (subst (λ (s : Shape). next_piece_in s first (last_of before) gate seen ≡ Ok (piece, behind)) (sym same) at_last) more)
 
 pub returns-then-not-piece-clause-bound : goal.returns-then-not-piece-clause-bound
 returns-then-not-piece-clause-bound g c = record {

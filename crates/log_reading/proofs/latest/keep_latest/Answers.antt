@@ -8,7 +8,7 @@ use Rattle.log_reading.proofs.latest.keep_latest.Goals as goal
 use Rattle.log_reading.proofs.latest.keep_latest.Goals.{then-not-goes_on+in_ok-push, else-not-goes_on}
 
 abbrev no_name : Named
-no_name = record { unit = None; written = record { grain = record { kind = 0; key = 0 }; place = record { offset = 0; len = 0 } } }
+no_name = record { unit = None; program = 0; written = record { grain = record { kind = 0; key = 0 }; place = record { offset = 0; len = 0 } } }
 
 pub returns : goal.returns
 returns c =

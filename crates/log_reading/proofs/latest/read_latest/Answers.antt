@@ -3,7 +3,7 @@ use Rattle.log_reading.specs.Versions.{named_in, named_by_grain, latest_of}
 use Rattle.log_reading.proofs.latest.read_latest.Goals as goal
 
 pub returns-in-Ok-keep_latest-clause-latest : goal.returns-in-Ok-keep_latest-clause-latest
-returns-in-Ok-keep_latest-clause-latest g c told =
-    let l = c.in-Ok.ensures.log in
+returns-in-Ok-keep_latest-clause-latest g c told p same =
+    let l = c.in-Ok.ensures.log p same in
     let order : c.as_slice.result.now ≡ named_by_grain (named_in l.log) = c.as_slice.ensures.value ∙ c.in-Ok-sort_by_grain.ensures ∙ ap named_by_grain (c.into_vec-named.ensures ∙ l.named) in
     (l.log, l.read told, c.in-Ok-keep_latest.ensures ∙ ap latest_of order)

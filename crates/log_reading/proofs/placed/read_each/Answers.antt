@@ -1,4 +1,4 @@
-use Rattle.std.proofs.Common.{rules, ◌≡◌, ◌+◌, drop, get_or, refl, sym, ◌∙◌, ap, subst}
+use Rattle.std.proofs.Common.{rules, ◌+◌, map, drop, get_or, refl, ◌∙◌, ap, subst}
 use Rattle.std.proofs.lemmas.Result.{err_from_is_err_and}
 use Rattle.base_types.specs.declared.calls.GrainId.{GrainId}
 use Rattle.base_types.specs.Stores.{state_in}
@@ -6,6 +6,7 @@ use Rattle.base_types.specs.Places.{placed_in}
 use Rattle.host_trait.specs.World.{Disk, Image}
 use Rattle.host_trait.proofs.Runs.{asked_then}
 use Rattle.host_trait.proofs.Counts.{none_then}
+use Rattle.script_tree.specs.Programs.{program_tree}
 use Rattle.log_reading.specs.Steps.{seen_in}
 use Rattle.log_reading.specs.PlacedVersions.{state_reread, IsUnreadAt}
 use Rattle.log_reading.proofs.RecordSums.{next_default, no_item}
@@ -28,7 +29,7 @@ returns-in_err-read_state-clause-unread g c =
     let p = err_from_is_err_and c.from_residual.result c.from_residual.ensures.1 in
     let x : GrainId = get_or c.args.grains.now c.loop-grain.grain-index no_grain in
     rw (p.1, p.2) λ told.
-    (x, subst (λ (d : Disk). IsUnreadAt c.args.slot c.args.format c.args.shape.now (seen_in d) x (placed_in c.args.places.now x) c.in_err-read_state.field-0.0) (c.loop-grain.invariant.asked told).disk (c.in_err-read_state.ensures.unread told))
+    (x, subst (λ (d : Disk). IsUnreadAt c.args.slot c.args.format c.args.shapes.now (seen_in d) x (placed_in c.args.places.now x) c.in_err-read_state.field-0.0) (c.loop-grain.invariant.asked told).disk (c.in_err-read_state.ensures.unread told))
 
 pub returns-in_err-read_state-clause-asked : goal.returns-in_err-read_state-clause-asked
 returns-in_err-read_state-clause-asked g c told = asked_then _ _ _ (c.loop-grain.invariant.asked told) (c.read_state.ensures.asked told)
@@ -37,7 +38,7 @@ pub loop-grain-preserved : goal.loop-grain-preserved
 loop-grain-preserved g c =
     let inv = c.loop-grain.invariant in
     let format = c.args.format in
-    let shape = c.args.shape.now in
+    let programs = map program_tree c.args.programs.now in
     let places = c.args.places.now in
     let i = c.loop-grain.grain-index in
     let xs = c.args.grains.now in
@@ -46,8 +47,8 @@ loop-grain-preserved g c =
     let image = seen_in (g.H.Host.world c.args.host.now).disk in
     record {
       stand = λ told other.
-          reread_more c.args.slot format shape image places x (drop (i + 1) xs) (drop i xs) other (state_in c.loop-grain.store other) _ _ next
-          (c.in_ok-read_state.ensures.stand told other ∙ ap (λ (im : Image). state_reread c.args.slot format shape im places (state_in c.loop-grain.store other) x other) (ap seen_in (inv.asked told).disk)) (inv.stand told other);
+          reread_more c.args.slot format programs image places x (drop (i + 1) xs) (drop i xs) other (state_in c.loop-grain.store other) _ _ next
+          (c.in_ok-read_state.ensures.stand told other ∙ ap (λ (im : Image). state_reread c.args.slot format programs im places (state_in c.loop-grain.store other) x other) (ap seen_in (inv.asked told).disk)) (inv.stand told other);
       asked = λ told. asked_then _ _ _ (inv.asked told) (c.read_state.ensures.asked told);
       calm = none_then _ _ _ inv.calm c.in_ok-read_state.ensures.calm;
       ready = λ file was. c.read_state.ensures.ready file (inv.ready file was);
@@ -55,5 +56,5 @@ loop-grain-preserved g c =
 
 pub returns-clause-stand : goal.returns-clause-stand
 returns-clause-stand g c told other =
-    reread_all c.args.slot c.args.format c.args.shape.now (seen_in (g.H.Host.world c.args.host.now).disk) c.args.places.now (drop c.loop-grain.grain-index c.args.grains.now) other _ _
+    reread_all c.args.slot c.args.format (map program_tree c.args.programs.now) (seen_in (g.H.Host.world c.args.host.now).disk) c.args.places.now (drop c.loop-grain.grain-index c.args.grains.now) other _ _
     (no_item c.loop-grain.grain-index c.args.grains.now c.loop-grain-test.false) (c.loop-grain.invariant.stand told other)

@@ -11,6 +11,7 @@ invariant-loop-input g l = record {
   calm : NoneFailed (g.H.Host.faults l.initial.host) (g.H.Host.faults l.host);
   output : IsTrue g.H.Host.tells → (g.H.Host.world l.host).output ≡ (g.H.Host.world l.initial.host).output;
   disk : IsTrue g.H.Host.tells → (g.H.Host.world l.host).disk ≡ (g.H.Host.world l.initial.host).disk;
+  syncs : IsTrue g.H.Host.tells → (g.H.Host.world l.host).syncs ≡ (g.H.Host.world l.initial.host).syncs;
   moments : IsTrue g.H.Host.tells → IsStill (g.H.Host.world l.initial.host) (g.H.Host.world l.host);
   ready : StaysReady (g.H.Host.is_ready l.initial.host) (g.H.Host.is_ready l.host);
 }
