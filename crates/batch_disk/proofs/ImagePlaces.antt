@@ -18,7 +18,7 @@ use Rattle.host_trait.specs.declared.channels.FileId.TheVariants.{Manager, Progr
 use Rattle.silo_spec.specs.Silos.{HasProgram}
 use Rattle.promise_spec.specs.Records.{Commit}
 use Rattle.promise_spec.specs.Programs.{Program, shape_in}
-use Rattle.promise_spec.specs.Entries.{LogEntry, Recorded, records_among, Log, records_of}
+use Rattle.promise_spec.specs.Entries.{LogEntry, Recorded, Upgraded, records_among, Log, records_of}
 use Rattle.promise_spec.specs.Versions.{WriteStands, WritesStand, IsKept}
 use Rattle.promise_spec.specs.Blocks.{AreKept, Saved, saved_by, IsSaved, Beginning, Fresh, From, BeginsWhole}
 use Rattle.promise_spec.specs.Logs.{StandsUpTo, IsLog}
@@ -48,6 +48,7 @@ pub kept_same : (live : ℕ) (p : Program) (was image : Image) (entries : List L
     → AreKept live was p entries → AreKept live image p entries
 kept_same live p was image [] same kept = tt
 kept_same live p was image (Recorded c ∷ entries) same kept = (kept_one live (shape_in p) was image c same.0 kept.0, kept_same live p was image entries same.1 kept.1)
+kept_same live p was image (Upgraded q ∷ entries) same kept = (kept.0, kept_same live q was image entries same kept.1)
 
 -- what stands below a place stands there still, where the bytes up to that place are the same
 pub below_same : (d c : List ℕ) (at len end : ℕ) → take end c ≡ take end d → at + len ≤ end → take len (drop at c) ≡ take len (drop at d)

@@ -23,12 +23,12 @@ use Rattle.commit_log.specs.SealImages.{staged, EndsAs, DoubtAs, StaysClosed}
 use Rattle.promise_spec.specs.Records.{Commit}
 use Rattle.promise_spec.specs.Crashes.{IsAside}
 use Rattle.promise_spec.specs.Programs.{shape_in}
-use Rattle.promise_spec.specs.Entries.{Recorded, Log, records_of, standing_of, grown}
+use Rattle.promise_spec.specs.Entries.{Standing, Log, records_of, standing_of, grown}
 use Rattle.promise_spec.specs.Versions.{IsKept}
 use Rattle.promise_spec.specs.Blocks.{Records, body_of}
 use Rattle.silo_spec.specs.Slots.{IsLive}
 use Rattle.promise_spec.specs.Logs.{magic, StandsUpTo, IsLog}
-use Rattle.promise_spec.proofs.Standings.{in_force, grown_records}
+use Rattle.promise_spec.proofs.Standings.{program_stays, grown_records, grown_stands}
 use Rattle.promise_spec.proofs.Growing.{sealed as grows, sealed_begins as grows_begin}
 use Rattle.promise_spec.proofs.Slots.{live_moves, other_slot}
 use Rattle.batch_disk.specs.ImagesAtRest.{EachImage, SomeImage, IsBelow, AreBelow, AreNamedBy, PlacesAreNamed, Voted, StandsIn, IsAtRest, raised_ends, all_writes}
@@ -152,7 +152,7 @@ module _ (live : ℕ) (shape : Shape) (head : List ℕ) (log : Log) (bodies : Li
   named_more =
       let to = raised_ends ends (all_writes batch) in
       let program : (standing_of (grown log batch)).program ≡ (standing_of log).program =
-      in_force log.base (log.entries ++ map Recorded batch) ∙ sym (in_force log.base log.entries) in
+      ap (λ (s : Standing). s.program) (grown_stands log batch) ∙ program_stays (standing_of log) batch in
       record {
         shape_is = named.shape_is ∙ ap shape_in (sym program);
         below = subst (AreBelow to) (sym (grown_records log batch)) (both_parts (λ (c : Commit). AllByRecursion (IsBelow to) c.logged.writes) (records_of log) batch

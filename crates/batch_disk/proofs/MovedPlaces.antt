@@ -75,38 +75,38 @@ version_within w batch u g v is = version_if (w.batch == batch) (kept_of w) u g 
 
 -- ---- places move as the states say
 
-module _ (kept voted : List Voted) (within : (u : UnitNo) (g : GrainId) (v : Voted) → version_among u g voted ≡ Some v → version_among u g kept ≡ Some v) where
+module _ (number : ℕ) (kept voted : List Voted) (within : (u : UnitNo) (g : GrainId) (v : Voted) → version_among u g voted ≡ Some v → version_among u g kept ≡ Some v) where
   one_moves : (u : UnitNo) (x : GrainId × List Value) (w : Written) (g : GrainId) (old : Option Placed) → w.grain ≡ x.0 → place_among u x.0 voted ≡ Some w.place
       → ((v : Voted) → Member v voted → v.unit ≡ u → v.write.grain ≡ x.0 → v.state ≡ x.1)
-      → moved_by_write kept u w.grain g old ≡ (if same_grain w.grain g then Some (placed_new w.place (record { unit = u; state = x.1 })) else old)
+      → moved_by_write number kept u w.grain g old ≡ (if same_grain w.grain g then Some (placed_new number w.place (record { unit = u; state = x.1 })) else old)
   one_moves u x w g old grain place true_of =
       let f = version_found u x.0 voted w.place place in
       let there : version_among u w.grain kept ≡ Some f.it = ap (λ (h : GrainId). version_among u h kept) grain ∙ within u x.0 f.it f.is in
       let state : f.it.state ≡ x.1 = true_of f.it f.member f.unit f.grain in
-      let placed : placed_new f.it.write.place (version_of f.it) ≡ placed_new w.place (record { unit = u; state = x.1 }) =
-      λ i. placed_new (f.place i) (record { unit = f.unit i; state = state i }) in
-      ap (λ (o : Option Voted). if same_grain w.grain g then moved_to o old else old) there ∙ ap (λ (p : Placed). if same_grain w.grain g then Some p else old) placed
+      let placed : placed_new number f.it.write.place (version_of f.it) ≡ placed_new number w.place (record { unit = u; state = x.1 }) =
+      λ i. placed_new number (f.place i) (record { unit = f.unit i; state = state i }) in
+      ap (λ (o : Option Voted). if same_grain w.grain g then moved_to number o old else old) there ∙ ap (λ (p : Placed). if same_grain w.grain g then Some p else old) placed
 
   writes_move : (u : UnitNo) (xs : List (GrainId × List Value)) (ws : List Written) (g : GrainId) (old : Option Placed) → HavePlaces voted u xs ws
       → AllByRecursion (λ x. (v : Voted) → Member v voted → v.unit ≡ u → v.write.grain ≡ x.0 → v.state ≡ x.1) xs
-      → moved_by_writes kept u ws g old ≡ placed_by_states u ws (map (λ (x : GrainId × List Value). x.1) xs) g old
+      → moved_by_writes number kept u ws g old ≡ placed_by_states number u ws (map (λ (x : GrainId × List Value). x.1) xs) g old
   writes_move u [] [] g old are true_of = refl
   writes_move u [] (w ∷ ws) g old are true_of = absurd are
   writes_move u (x ∷ xs) [] g old are true_of = absurd are
   writes_move u (x ∷ xs) (w ∷ ws) g old are true_of =
-      let next : Option Placed = if same_grain w.grain g then Some (placed_new w.place (record { unit = u; state = x.1 })) else old in
-      ap (λ (o : Option Placed). moved_by_writes kept u ws g o) (one_moves u x w g old are.0.0 are.0.1 true_of.0) ∙ writes_move u xs ws g next are.1 true_of.1
+      let next : Option Placed = if same_grain w.grain g then Some (placed_new number w.place (record { unit = u; state = x.1 })) else old in
+      ap (λ (o : Option Placed). moved_by_writes number kept u ws g o) (one_moves u x w g old are.0.0 are.0.1 true_of.0) ∙ writes_move u xs ws g next are.1 true_of.1
 
   pub records_move : (es : List Effect) (rs : List CommitRecord) (g : GrainId) (old : Option Placed) → AreRecordsFor voted es rs → AllByRecursion (IsAsWritten voted) es
-      → moved_by_records kept rs g old ≡ placed_by_commits (commits_by es rs) g old
+      → moved_by_records number kept rs g old ≡ placed_by_commits number (commits_by es rs) g old
   records_move [] [] g old are true_of = refl
   records_move [] (r ∷ rs) g old are true_of = absurd are
   records_move (e ∷ es) [] g old are true_of = absurd are
   records_move (e ∷ es) (r ∷ rs) g old are true_of =
       let states : List (List Value) = map (λ (x : GrainId × List Value). x.1) e.writes in
-      let one : moved_by_writes kept r.unit r.writes g old ≡ placed_by_states r.unit r.writes states g old =
-      subst (λ (u : UnitNo). moved_by_writes kept u r.writes g old ≡ placed_by_states u r.writes states g old) (sym are.0.unit) (writes_move e.unit e.writes r.writes g old are.0.writes true_of.0) in
-      ap (λ (o : Option Placed). moved_by_records kept rs g o) one ∙ records_move es rs g (placed_by_states r.unit r.writes states g old) are.1 true_of.1
+      let one : moved_by_writes number kept r.unit r.writes g old ≡ placed_by_states number r.unit r.writes states g old =
+      subst (λ (u : UnitNo). moved_by_writes number kept u r.writes g old ≡ placed_by_states number u r.writes states g old) (sym are.0.unit) (writes_move e.unit e.writes r.writes g old are.0.writes true_of.0) in
+      ap (λ (o : Option Placed). moved_by_records number kept rs g o) one ∙ records_move es rs g (placed_by_states number r.unit r.writes states g old) are.1 true_of.1
 
 -- ---- each record names its own unit's places
 
@@ -132,14 +132,14 @@ module _ (a : BatchWriter) (batch : ℕ) where
 -- ---- one after the other
 
 -- one write of those that are left
-pub next_write : (kept : List Voted) (u : UnitNo) (ws : List Written) (i : ℕ) (d : Written) (g : GrainId) → i < length ws → (old new : Option Placed) → new ≡ moved_by_write kept u (get_or ws i d).grain g old
-    → (all : Option Placed) → moved_by_writes kept u (drop i ws) g old ≡ all → moved_by_writes kept u (drop (i + 1) ws) g new ≡ all
-next_write kept u ws i d g low old new one all so_far =
-    ap (λ (o : Option Placed). moved_by_writes kept u (drop (i + 1) ws) g o) one ∙ ap (λ (l : List Written). moved_by_writes kept u l g old) (sym (drop_more ws i d low)) ∙ so_far
+pub next_write : (number : ℕ) (kept : List Voted) (u : UnitNo) (ws : List Written) (i : ℕ) (d : Written) (g : GrainId) → i < length ws → (old new : Option Placed) → new ≡ moved_by_write number kept u (get_or ws i d).grain g old
+    → (all : Option Placed) → moved_by_writes number kept u (drop i ws) g old ≡ all → moved_by_writes number kept u (drop (i + 1) ws) g new ≡ all
+next_write number kept u ws i d g low old new one all so_far =
+    ap (λ (o : Option Placed). moved_by_writes number kept u (drop (i + 1) ws) g o) one ∙ ap (λ (l : List Written). moved_by_writes number kept u l g old) (sym (drop_more ws i d low)) ∙ so_far
 
 -- one record of those that are left
-pub next_moved : (kept : List Voted) (rs : List CommitRecord) (i : ℕ) (r : CommitRecord) (g : GrainId) → i < length rs → r ≡ get_or rs i r → (old new : Option Placed) → new ≡ moved_by_writes kept r.unit r.writes g old
-    → (all : Option Placed) → moved_by_records kept (drop i rs) g old ≡ all → moved_by_records kept (drop (i + 1) rs) g new ≡ all
-next_moved kept rs i r g low is old new one all so_far =
+pub next_moved : (number : ℕ) (kept : List Voted) (rs : List CommitRecord) (i : ℕ) (r : CommitRecord) (g : GrainId) → i < length rs → r ≡ get_or rs i r → (old new : Option Placed) → new ≡ moved_by_writes number kept r.unit r.writes g old
+    → (all : Option Placed) → moved_by_records number kept (drop i rs) g old ≡ all → moved_by_records number kept (drop (i + 1) rs) g new ≡ all
+next_moved number kept rs i r g low is old new one all so_far =
     let rest : drop i rs ≡ r ∷ drop (i + 1) rs = drop_more rs i r low ∙ ap (λ (x : CommitRecord). x ∷ drop (i + 1) rs) (sym is) in
-    ap (λ (o : Option Placed). moved_by_records kept (drop (i + 1) rs) g o) one ∙ ap (λ (l : List CommitRecord). moved_by_records kept l g old) (sym rest) ∙ so_far
+    ap (λ (o : Option Placed). moved_by_records number kept (drop (i + 1) rs) g o) one ∙ ap (λ (l : List CommitRecord). moved_by_records number kept l g old) (sym rest) ∙ so_far

@@ -29,7 +29,7 @@ module _ {H : Type 0} (tells : Bool) (world : H → World) (faults : H → Chann
     still = λ shape head log bodies fresh keeps. vote_keeps_log a.slot shape head log bodies a n g (length (spelling_of_versions versions)) (world old) (world new) fresh keeps (run told);
     keeps = λ shape head log bodies fresh typed keeps. keeps_no a.slot shape head log bodies a n g (length (spelling_of_versions versions)) (world old) (world new) fresh keeps (run told) b same kept;
     placed = λ shape fresh typed stand.
-        places_with a.slot shape g (file_end a g) (length (spelling_of_versions versions)) 1 (world old) (world new) (run told) a b n [] refl same (kept ∙ sym (append-nil (voted_of n a))) fresh tt stand;
+        places_with a.slot g (file_end a g) (length (spelling_of_versions versions)) 1 (world old) (world new) (run told) shape a b n [] refl same (kept ∙ sym (append-nil (voted_of n a))) fresh tt stand;
   }
 
   -- a vote of no
@@ -70,7 +70,7 @@ module _ {H : Type 0} (tells : Bool) (world : H → World) (faults : H → Chann
       still = λ shape head log bodies fresh keeps. vote_keeps_log a.slot shape head log bodies a n g (length (spelling_of_versions versions)) (world old) (world new) fresh keeps (run told);
       keeps = λ shape head log bodies fresh typed keeps. keeps_yes a.slot shape head log bodies a n g versions (world old) (world new) fresh keeps (run told) b more.same more.kept (there told).stand typed fits low;
       placed = λ shape fresh typed stand.
-          places_with a.slot shape g (file_end a g) (length (spelling_of_versions versions)) 1 (world old) (world new) (run told) a b n (voted_from g (file_end a g) versions) refl more.same more.kept fresh
+          places_with a.slot g (file_end a g) (length (spelling_of_versions versions)) 1 (world old) (world new) (run told) shape a b n (voted_from g (file_end a g) versions) refl more.same more.kept fresh
           (voted_stands a.slot shape g (file_end a g) versions (world old) (world new) (there told) typed fits low) stand;
     };
   }

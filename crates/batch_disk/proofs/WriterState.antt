@@ -29,6 +29,9 @@ use Rattle.cell_model.specs.Units.{Member}
 use Rattle.batch_disk.specs.ImagesAtRest.{EachImage, write_end, PlacesAreNamed, Voted, StandsIn, NotAmong, IsAtRest, AreOfType, voted_at, voted_from}
 use Rattle.batch_disk.specs.Moments.{KeepsLog}
 use Rattle.batch_disk.specs.Writers.{file_end, kept_of, voted_of, CanCount, HasSeat, IsInBounds, FitsSlot, FitsDisk, KeepsDisk, HasSameEnds}
+use Rattle.program_file.specs.Succession.{ArePrograms}
+use Rattle.program_file.specs.ProgramsInTurn.{programs_in, HasShapes}
+use Rattle.program_file.specs.declared.programs_in_turn.ProgramsInTurn.{ProgramsInTurn}
 use Rattle.batch_disk.specs.declared.writer.BatchWriter.{BatchWriter}
 use Rattle.batch_disk.proofs.Lists.{each_leads, both_parts}
 use Rattle.batch_disk.proofs.Ends.{stands_within}
@@ -58,7 +61,7 @@ ends_same a b same = λ i g. sym (same.ends g) i
 
 -- no other end, twice
 pub same_twice : (a b c : BatchWriter) → HasSameEnds a b → HasSameEnds b c → HasSameEnds a c
-same_twice a b c one two = record { slot = two.slot ∙ one.slot; gate = two.gate ∙ one.gate; ends = λ g. two.ends g ∙ one.ends g; places = λ g. two.places g ∙ one.places g; doubt = two.doubt ∙ one.doubt }
+same_twice a b c one two = record { slot = two.slot ∙ one.slot; gate = two.gate ∙ one.gate; ends = λ g. two.ends g ∙ one.ends g; places = λ g. two.places g ∙ one.places g; programs = two.programs ∙ one.programs; doubt = two.doubt ∙ one.doubt }
 
 -- ---- in bounds
 
@@ -77,6 +80,9 @@ bounds_with a b vs same kept can seated bounds = record {
   ends = λ g. subst (λ (n : ℕ). n < 2 ^ 63) (sym (same.ends g)) (bounds.ends g);
   kept = subst (AllByRecursion (CanCount b)) (sym kept) can;
   seats = subst (AllByRecursion (HasSeat b)) (sym kept) seated;
+  programs = subst (λ (k : ProgramsInTurn). ArePrograms (programs_in k)) (sym same.programs) bounds.programs;
+  shapes = subst HasShapes (sym same.programs) bounds.shapes;
+  numbered = λ g p is. subst (λ (k : ProgramsInTurn). p.program < length k.checked) (sym same.programs) (bounds.numbered g p (sym (same.places g) ∙ is));
 }
 
 pub bounds_some : (a b : BatchWriter) (batch : ℕ) → HasSameEnds a b → kept_of b ≡ voted_of batch a → KeepsRoom a.ends b.ends → KeepsSeats a.places b.places → IsInBounds a → IsInBounds b
@@ -242,9 +248,9 @@ ready_for batch a m b one kept is ends places two still stays room seats = recor
 }
 
 -- ends and places that are the same value
-pub same_by : (a b : BatchWriter) → b.slot ≡ a.slot → b.gate_at ≡ a.gate_at → b.in_doubt ≡ a.in_doubt → b.ends ≡ a.ends → b.places ≡ a.places → HasSameEnds a b
-same_by a b slot gate doubt ends places =
-    record { slot = slot; gate = gate; ends = λ g. ap (λ e. unwrap_or (end_in e g) 0) ends; places = λ g. ap (λ p. placed_in p g) places; doubt = doubt }
+pub same_by : (a b : BatchWriter) → b.slot ≡ a.slot → b.gate_at ≡ a.gate_at → b.in_doubt ≡ a.in_doubt → b.ends ≡ a.ends → b.places ≡ a.places → b.programs ≡ a.programs → HasSameEnds a b
+same_by a b slot gate doubt ends places programs =
+    record { slot = slot; gate = gate; ends = λ g. ap (λ e. unwrap_or (end_in e g) 0) ends; places = λ g. ap (λ p. placed_in p g) places; programs = programs; doubt = doubt }
 
 -- it keeps versions more
 pub record KeepsMore (batch : ℕ) (grain : GrainId) (at : ℕ) (vs : List Version) (a b : BatchWriter) : Type 0 where
@@ -255,9 +261,9 @@ pub record KeepsMore (batch : ℕ) (grain : GrainId) (at : ℕ) (vs : List Versi
   pub seats : KeepsSeats a.places b.places
 
 pub keeps_more : (batch : ℕ) (grain : GrainId) (at : ℕ) (vs : List Version) (ps : List Place) (a m b : BatchWriter) → IsReadyFor batch a m → ps ≡ places_from at vs → kept_of b ≡ kept_of m ++ voted_at grain ps vs
-    → b.slot ≡ m.slot → b.gate_at ≡ m.gate_at → b.in_doubt ≡ m.in_doubt → b.batch ≡ m.batch → b.ends ≡ m.ends → b.places ≡ m.places → KeepsMore batch grain at vs a b
-keeps_more batch grain at vs ps a m b ready places kept slot gate doubt stays ends placed = record {
-  same = same_twice a m b ready.same (same_by m b slot gate doubt ends placed);
+    → b.slot ≡ m.slot → b.gate_at ≡ m.gate_at → b.in_doubt ≡ m.in_doubt → b.batch ≡ m.batch → b.ends ≡ m.ends → b.places ≡ m.places → b.programs ≡ m.programs → KeepsMore batch grain at vs a b
+keeps_more batch grain at vs ps a m b ready places kept slot gate doubt stays ends placed programs = record {
+  same = same_twice a m b ready.same (same_by m b slot gate doubt ends placed programs);
   kept = kept ∙ (λ i. ready.kept i ++ voted_at grain (places i) vs);
   goes_to = stays ∙ ready.goes_to;
   room = subst (λ e. KeepsRoom a.ends e) (sym ends) ready.room;

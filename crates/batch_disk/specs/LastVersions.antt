@@ -1,5 +1,5 @@
 -- What reading a grain's last version answers.
-use Rattle.std.specs.Prelude.{◌≡◌, ℕ, Bool, IsTrue, false, if◌then◌else◌, Option, Some, None, Result, Ok, Err, length, slice_get}
+use Rattle.std.specs.Prelude.{◌≡◌, ℕ, Bool, IsTrue, false, if◌then◌else◌, Option, Some, None, Result, Ok, Err}
 use Rattle.base_types.specs.Places.{placed_in}
 use Rattle.base_types.specs.declared.calls.GrainId.{GrainId}
 use Rattle.base_types.specs.declared.places.Placed.{Placed}
@@ -11,10 +11,12 @@ use Rattle.host_trait.specs.declared.channels.Channel.TheVariants.{File}
 use Rattle.host_trait.specs.declared.channels.FileId.TheVariants.{Grain}
 use Rattle.host_trait.specs.Faults.{NoneFailed, FailedOn}
 use Rattle.host_trait.specs.World.{World}
-use Rattle.grain_log.specs.Reads.{fields_of}
 use Rattle.grain_log.specs.declared.faults.VersionFault.{VersionFault}
 use Rattle.grain_log.specs.declared.faults.VersionFault.TheVariants.{Failed, Damaged, Memory}
+use Rattle.program_file.specs.Succession.{newest_program}
 use Rattle.batch_disk.specs.KeptPlaces.{PlacesStand}
+use Rattle.program_file.specs.ProgramsInTurn.{HasItsFields}
+use Rattle.batch_disk.specs.Writers.{programs_of}
 use Rattle.batch_disk.specs.declared.writer.BatchWriter.{BatchWriter}
 
 -- a grain's last version as a core is told of it: nobody's where the log that was opened names it
@@ -22,12 +24,12 @@ abbrev pub version_told : Placed → Version
 version_told p = record { unit = (if p.is_new then p.known.version.unit else nobody); state = p.known.version.state }
 
 module _ {H : Type 0} (tells : Bool) (world : H → World) (faults : H → Channel → ℕ) (live : ℕ) (shape : Shape) (g : GrainId) (writer : BatchWriter) (old new : H) where
-  -- A version of the grain's type was read at its place. Where the versions stand it is the one that is kept; over every host it is
-  -- nobody's where the log that was opened names it.
+  -- A version of the grain's type was read at its place, and carried to the program in force, by which it has its fields. Where the
+  -- versions stand it is the one that is kept; over every host it is nobody's where the log that was opened names it.
   pub record IsLastRead (version : Version) : Type 0 where
     pub p : Placed
     pub placed : placed_in writer.places g ≡ Some p
-    pub typed : fields_of (slice_get shape.types g.kind) ≡ Some (length version.state)
+    pub typed : HasItsFields (newest_program (programs_of writer)) g version.state
     pub older : p.is_new ≡ false → version.unit ≡ nobody
     pub told : IsTrue tells → PlacesStand live shape writer (world old).disk → version ≡ version_told p
     pub calm : NoneFailed (faults old) (faults new)

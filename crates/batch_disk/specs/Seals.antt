@@ -23,7 +23,7 @@ use Rattle.batch_disk.specs.ImagesAtRest.{EachImage, SomeImage, raised_ends}
 use Rattle.batch_disk.specs.KeptPlaces.{PlacesStand}
 use Rattle.batch_disk.specs.Moments.{LeavesRest, KeepsLog, IsSeam}
 use Rattle.batch_disk.specs.MovedPlaces.{place_after}
-use Rattle.batch_disk.specs.Writers.{file_end, kept_of, voted_of, HasSameEnds, KeepsDisk}
+use Rattle.batch_disk.specs.Writers.{file_end, kept_of, voted_of, HasSameEnds, KeepsDisk, newest_number}
 use Rattle.batch_disk.specs.Records.{commits_by, AreRecordsFor, MayBeLogged, IsAsWritten}
 use Rattle.batch_disk.specs.declared.records.SealWork.{SealWork}
 use Rattle.batch_disk.specs.declared.writer.BatchWriter.{BatchWriter}
@@ -92,7 +92,8 @@ pub record SealsWork {H : Type 0} (tells : Bool) (world : H → World) (faults :
       → SealsAs live shape head log bodies effects work.records answer before after (world old) (world new)
   pub placed : IsTrue tells → (shape : Shape) → PlacesStand live shape before (world old).disk → PlacesStand live shape after (world new).disk
   pub places : (batch : ℕ) (effects : List Effect) → AreRecordsFor (voted_of batch before) effects work.records → AllByRecursion (IsAsWritten (voted_of batch before)) effects
-      → (g : GrainId) → placed_in after.places g ≡ place_after answer (commits_by effects work.records) g (placed_in before.places g)
+      → (g : GrainId) → placed_in after.places g ≡ place_after (newest_number before) answer (commits_by effects work.records) g (placed_in before.places g)
   pub slot : after.slot ≡ before.slot
+  pub programs : after.programs ≡ before.programs
   pub after_is : WriterAfter answer work.records before after
   pub cause : SealHasCause live answer before.gate_at (length work.block) (faults old) (faults new)

@@ -33,10 +33,17 @@ pub(crate) fn version_among(
     None
 }
 
-/// A grain's last version is this unit's, where it is kept. Takes no memory.
-pub(crate) fn move_place(places: &mut Places, kept: &[KeptVersion], unit: UnitNo, grain: GrainId)
+/// A grain's last version is this unit's, where it is kept: it was written under the program of this number. Takes no memory.
+pub(crate) fn move_place(
+    places: &mut Places,
+    kept: &[KeptVersion],
+    program: u32,
+    unit: UnitNo,
+    grain: GrainId,
+)
     requires { has_seat places.old grain ≡ true }
-    ensures moved { (g : AGrain) → placed_in places.new g ≡ moved_by_write (map voted_by kept.now) unit grain g (placed_in places.old g) }
+    ensures moved { (g : AGrain) → placed_in places.new g
+        ≡ moved_by_write program (map voted_by kept.now) unit grain g (placed_in places.old g) }
     ensures seats { KeepsSeats places.old places.new }
 {
     if let Some(version) = version_among(kept, unit, grain) {
@@ -44,6 +51,7 @@ pub(crate) fn move_place(places: &mut Places, kept: &[KeptVersion], unit: UnitNo
             grain,
             Placed {
                 place: version.place,
+                program,
                 is_new: true,
                 known: version.known.same(),
             },

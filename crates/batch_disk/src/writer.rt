@@ -1,12 +1,16 @@
-ghost use Rattle.std.specs.Prelude.{◌≡◌, ◌+◌, ◌++◌, ◌∷◌, ◌<◌, ◌≤◌, ◌^◌, [], true, false, IsTrue, length, map, unwrap_or, IfOk, OnOk, OnErr, vec_len, vec_capacity};
+ghost use Rattle.std.specs.Prelude.{◌≡◌, ◌+◌, ◌++◌, ◌∷◌, ◌<◌, ◌≤◌, ◌^◌, [], true, false, IsTrue, length, map, Some, unwrap_or, IfOk, OnOk, OnErr, vec_len, vec_capacity};
 ghost use Rattle.std.specs.List.{flat_map, AllByRecursion};
 ghost use Rattle.base_types.specs.Places.{placed_in, has_seat, KeepsSeats};
 ghost use Rattle.base_types.specs.Stores.{end_in, has_room, KeepsRoom};
 ghost use Rattle.base_types.specs.declared.calls.GrainId.{GrainId as AGrain};
+ghost use Rattle.base_types.specs.declared.places.Placed.{Placed as APlace};
+ghost use Rattle.base_types.specs.declared.shapes.Shape.{Shape as AShape};
+ghost use Rattle.script_tree.specs.Programs.{program_tree};
+ghost use Rattle.program_file.specs.Succession.{ArePrograms};
 ghost use Rattle.host_trait.specs.Files.{StaysReady};
 ghost use Rattle.host_trait.specs.Runs.{OnlyAsked};
 ghost use Rattle.batch_disk.specs.ImagesAtRest.{write_end, raised_ends, voted_at};
-ghost use Rattle.batch_disk.specs.Writers.{file_end, voted_by, kept_of, voted_of, IsInBounds, IsSafe, HasSameEnds};
+ghost use Rattle.batch_disk.specs.Writers.{file_end, voted_by, kept_of, voted_of, newest_number, IsInBounds, IsSafe, HasSameEnds};
 ghost use Rattle.batch_disk.specs.LastVersions.{ReadsLast};
 ghost use Rattle.batch_disk.specs.MovedPlaces.{moved_by_writes, moved_by_records};
 ghost use Rattle.batch_disk.specs.Records.{AreRecordsFor, IsSealable};
@@ -16,16 +20,18 @@ ghost use Rattle.batch_disk.specs.Seals.{SealsWork};
 use crate::kept_version::KeptVersion;
 use crate::moved_places::{move_place, owner_told};
 use crate::records::{SealWork, work_of};
-use base_types::{Ends, GrainId, List, Place, Places, Shape, UnitNo, Version};
+use base_types::{Ends, GrainId, List, Place, Places, UnitNo, Version};
 use commit_log::{CommitRecord, Sealing, Written, seal};
 use core_model::Effect;
 use field_codec::Format;
 use grain_log::{LogFault, VersionFault, read_version, write_versions};
 use host_trait::{FileId, Host};
+use program_file::ProgramsInTurn;
+use script_check::Checked;
 use std::alloc::{AllocError, Global};
 
-/// In which slot the log and the grains' files are, where they go on, where each grain's last version stands, and where the votes of
-/// one batch wrote.
+/// In which slot the log and the grains' files are, where they go on, where each grain's last version stands, the programs of the log in
+/// the order in which they came into force, and where the votes of one batch wrote.
 ///
 /// Between two calls each image has the log up to the next gate, and what the votes wrote (`KeepsDisk`). The next gate, the ends and
 /// the places move only when a batch is sealed.
@@ -35,6 +41,7 @@ pub struct BatchWriter {
     gate_at: u64,
     ends: Ends,
     places: Places,
+    programs: ProgramsInTurn,
     // Whose votes are kept: those of another batch are dropped before any of this one.
     batch: u64,
     kept: Vec<KeptVersion>,
@@ -43,28 +50,41 @@ pub struct BatchWriter {
 
 impl BatchWriter {
     /// A writer that goes on in this slot, 0 or 1, at this closed gate and at these ends, each below 2 to the 63, where the grains'
-    /// last versions stand at these places. Takes no memory.
-    pub fn new(alloc: Global, slot: u8, gate_at: u64, ends: Ends, places: Places) -> BatchWriter
+    /// last versions stand at these places. These programs came into force one after the other, and the last one is in force: each
+    /// place has the number of one of them.
+    pub fn new(
+        alloc: Global,
+        slot: u8,
+        gate_at: u64,
+        ends: Ends,
+        places: Places,
+        programs: List<Checked>,
+    ) -> Result<BatchWriter, AllocError>
         requires slot { slot ≤ 1 }
         requires gate { gate_at < 2 ^ 63 }
         requires ends { (g : AGrain) → unwrap_or (end_in ends g) 0 < 2 ^ 63 }
-        ensures slot { result.slot ≡ slot }
-        ensures gate { result.gate_at ≡ gate_at }
-        ensures ends { (g : AGrain) → file_end result g ≡ unwrap_or (end_in ends g) 0 }
-        ensures places { result.places ≡ places }
-        ensures kept { kept_of result ≡ [] }
-        ensures doubt { result.in_doubt ≡ false }
-        ensures bounds { IsInBounds result }
+        requires programs { ArePrograms (map program_tree programs) }
+        requires numbered { (g : AGrain) (p : APlace) → placed_in places g ≡ Some p → p.program < length programs }
+        ensures slot { IfOk result (λ made. made.slot ≡ slot) }
+        ensures gate { IfOk result (λ made. made.gate_at ≡ gate_at) }
+        ensures ends { IfOk result (λ made. (g : AGrain) → file_end made g ≡ unwrap_or (end_in ends g) 0) }
+        ensures places { IfOk result (λ made. made.places ≡ places) }
+        ensures programs { IfOk result (λ made. made.programs.checked ≡ programs) }
+        ensures kept { IfOk result (λ made. kept_of made ≡ []) }
+        ensures doubt { IfOk result (λ made. made.in_doubt ≡ false) }
+        ensures bounds { IfOk result (λ made. IsInBounds made) }
     {
-        BatchWriter {
+        let programs = ProgramsInTurn::new(alloc, programs)?;
+        Ok(BatchWriter {
             slot,
             gate_at,
             ends,
             places,
+            programs,
             batch: 0,
             kept: Vec::new(alloc),
             in_doubt: false,
-        }
+        })
     }
 
     /// The slot of the log and of the grains' files.
@@ -96,19 +116,19 @@ impl BatchWriter {
     }
 
     /// Reads a grain's last version at its place, by one read at most: none where it has none. Its unit is the one that wrote it in this
-    /// run, and nobody, whose number is 0, where the log that was opened names it.
+    /// run, and nobody, whose number is 0, where the log that was opened names it. Its state is carried from the program under which it
+    /// was written to each that came into force after that.
     ///
     /// `Damaged` says where no version stands there: over a host that tells it doesn't come where the versions stand (`PlacesStand`).
     pub fn last_version<H: Host>(
         &self,
         host: &mut H,
-        shape: &Shape,
         grain: GrainId,
     ) -> Result<Option<Version>, VersionFault>
-        requires { self.now.slot ≤ 1 }
+        requires { IsInBounds self.now }
 
         // What is read of which place, by the answer.
-        ensures reads { ReadsLast H.tells H.world H.faults self.now.slot shape.now grain self.now host.old host.new result }
+        ensures reads { (shape : AShape) → ReadsLast H.tells H.world H.faults self.now.slot shape grain self.now host.old host.new result }
 
         ensures asked { IsTrue H.tells → OnlyAsked (H.world host.old) (H.world host.new) }
         ensures ready { StaysReady (H.is_ready host.old) (H.is_ready host.new) }
@@ -121,6 +141,7 @@ impl BatchWriter {
             grain,
         };
         let alloc = *self.kept.allocator();
+        let shape = self.programs.shape(placed.program);
         let Version { unit, state } = read_version(
             alloc,
             host,
@@ -131,7 +152,7 @@ impl BatchWriter {
         )?;
         Ok(Some(Version {
             unit: owner_told(placed, unit),
-            state,
+            state: self.programs.carried(alloc, placed.program, grain, state)?,
         }))
     }
 
@@ -152,6 +173,7 @@ impl BatchWriter {
         ensures batch { self.new.batch ≡ batch }
         ensures ends { self.new.ends ≡ self.old.ends }
         ensures places { self.new.places ≡ self.old.places }
+        ensures programs { self.new.programs ≡ self.old.programs }
     {
         if self.batch != batch {
             self.kept.clear();
@@ -187,6 +209,7 @@ impl BatchWriter {
         ensures batch { self.new.batch ≡ self.old.batch }
         ensures ends { self.new.ends ≡ self.old.ends }
         ensures places { self.new.places ≡ self.old.places }
+        ensures programs { self.new.programs ≡ self.old.programs }
     {
         let done = self.kept.push(version);
         prove!(done.is_ok());
@@ -203,6 +226,7 @@ impl BatchWriter {
         ensures batch { self.new.batch ≡ self.old.batch }
         ensures ends { self.new.ends ≡ self.old.ends }
         ensures places { self.new.places ≡ self.old.places }
+        ensures programs { self.new.programs ≡ self.old.programs }
     {
         for at in 0..versions.len() {
             let version = &versions[at];
@@ -280,17 +304,25 @@ impl BatchWriter {
         ensures gate { self.new.gate_at ≡ self.old.gate_at }
         ensures doubt { self.new.in_doubt ≡ self.old.in_doubt }
         ensures kept { self.new.kept ≡ self.old.kept }
+        ensures programs { self.new.programs ≡ self.old.programs }
         ensures ends { (g : AGrain) → file_end self.new g ≡ raised_ends (file_end self.old) writes.now g }
         ensures room { KeepsRoom self.old.ends self.new.ends }
         ensures places { (g : AGrain) → placed_in self.new.places g
-            ≡ moved_by_writes (kept_of self.old) unit writes.now g (placed_in self.old.places g) }
+            ≡ moved_by_writes (newest_number self.old) (kept_of self.old) unit writes.now g (placed_in self.old.places g) }
         ensures kept_seats { KeepsSeats self.old.places self.new.places }
         ensures bounds { IsInBounds self.new }
     {
+        let program = self.programs.newest();
         for write in writes {
             let end = write.place.offset + write.place.len as u64;
             self.ends.raise(write.grain, end);
-            move_place(&mut self.places, self.kept.as_slice(), unit, write.grain);
+            move_place(
+                &mut self.places,
+                self.kept.as_slice(),
+                program,
+                unit,
+                write.grain,
+            );
         }
     }
 
@@ -303,9 +335,10 @@ impl BatchWriter {
         ensures gate { self.new.gate_at ≡ self.old.gate_at }
         ensures doubt { self.new.in_doubt ≡ self.old.in_doubt }
         ensures kept { self.new.kept ≡ self.old.kept }
+        ensures programs { self.new.programs ≡ self.old.programs }
         ensures ends { (g : AGrain) → file_end self.new g ≡ raised_ends (file_end self.old) (flat_map (λ r. r.writes) records.now) g }
         ensures places { (g : AGrain) → placed_in self.new.places g
-            ≡ moved_by_records (kept_of self.old) records.now g (placed_in self.old.places g) }
+            ≡ moved_by_records (newest_number self.old) (kept_of self.old) records.now g (placed_in self.old.places g) }
         ensures bounds { IsInBounds self.new }
     {
         for record in records {

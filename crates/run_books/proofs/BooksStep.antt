@@ -31,7 +31,7 @@ use Rattle.batch_disk.specs.ImagesAtRest.{Voted}
 use Rattle.batch_disk.specs.Moments.{LeavesRest, KeepsLog}
 use Rattle.batch_disk.specs.Records.{commits_by}
 use Rattle.batch_disk.specs.Seals.{WriterAfter}
-use Rattle.batch_disk.specs.Writers.{KeepsDisk, kept_of, voted_of}
+use Rattle.batch_disk.specs.Writers.{KeepsDisk, kept_of, voted_of, newest_number}
 use Rattle.batch_disk.specs.declared.writer.BatchWriter.{BatchWriter}
 use Rattle.batch_disk.proofs.BatchRecords.{records_are}
 use Rattle.commit_log.specs.declared.gate.Sealing.{Sealing}
@@ -332,10 +332,10 @@ module _ {H : Type 0} (tells : Bool) (world : H → World) (faults : H → Chann
   unsealed-gone n sealing.NotSealed made v w q is = is.1
   unsealed-gone n sealing.InDoubt made v w q is = absurd (cc q)
 
-  sealed-places : (n : ℕ) (x : Sealing) (batch : List Commit) (g : GrainId) (p : Option Placed) → event.Sealed n ≡ event_of n x → place_after x batch g p ≡ placed_by_commits batch g p
-  sealed-places n (sealing.Sealed next) batch g p q = refl
-  sealed-places n sealing.NotSealed batch g p q = absurd (cc q)
-  sealed-places n sealing.InDoubt batch g p q = absurd (cc q)
+  sealed-places : (number n : ℕ) (x : Sealing) (batch : List Commit) (g : GrainId) (p : Option Placed) → event.Sealed n ≡ event_of n x → place_after number x batch g p ≡ placed_by_commits number batch g p
+  sealed-places number n (sealing.Sealed next) batch g p q = refl
+  sealed-places number n sealing.NotSealed batch g p q = absurd (cc q)
+  sealed-places number n sealing.InDoubt batch g p q = absurd (cc q)
 
   unsealed-places : (n : ℕ) (x : Sealing) (made : List CommitRecord) (v w : BatchWriter) → event.NotSealed n ≡ event_of n x → WriterAfter x made v w → (g : GrainId) → placed_in w.places g ≡ placed_in v.places g
   unsealed-places n (sealing.Sealed next) made v w q is = absurd (cc q)
@@ -368,7 +368,7 @@ module _ {H : Type 0} (tells : Bool) (world : H → World) (faults : H → Chann
       versions-sealed o b (grown_books b m.more (as_settled batch ∷ []) b.doubted) r e before.writer after.writer (world old).disk (world new).disk effects batch (k.versions t) tt
       (votes-gone e c refl refl (sealed-gone n does.answer does.work.records before.writer after.writer does.event does.leaves.after_is)) (does.leaves.placed t (shape_in o.program) (k.versions t).stand)
       (records_are (voted_of n before.writer) effects does.work.records does.records) up
-      (λ g. does.leaves.places n effects does.records as_written g ∙ sealed-places n does.answer batch g (placed_in before.writer.places g) does.event)
+      (λ g. does.leaves.places n effects does.records as_written g ∙ sealed-places (newest_number before.writer) n does.answer batch g (placed_in before.writer.places g) does.event)
       (grown-commits b m.more (as_settled batch ∷ []) b.doubted ∙ ap (λ (cs : List Commit). commits_of (b.said ++ b.unsaid) ++ cs) (append-nil batch)))) in
       let kept = books-kept tells o b r e before after (faults old) (faults new) (world old) (world new) (as_settled batch ∷ []) b.doubted can.above can.units even k m refl adds versions in
       plain-done e c refl refl refl (as_settled batch ∷ []) adds versions

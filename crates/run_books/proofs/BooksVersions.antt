@@ -25,6 +25,7 @@ use Rattle.promise_spec.specs.Journals.{commits_of}
 use Rattle.core_access.specs.SettlerEvents.{is_settling}
 use Rattle.batch_disk.specs.KeptPlaces.{PlacesStand}
 use Rattle.batch_disk.specs.MovedPlaces.{placed_new, placed_by_states, placed_by_commits}
+use Rattle.batch_disk.specs.Writers.{newest_number}
 use Rattle.batch_disk.specs.declared.writer.BatchWriter.{BatchWriter}
 use Rattle.script_tree.specs.Programs.{ProgramTree}
 use Rattle.script_check.specs.Shapes.{type_shapes}
@@ -166,64 +167,64 @@ differ (x ∷ xs) pairs = (
 )
 
 -- a grain that isn't written stays at its place
-unwritten-stays : (unit : UnitNo) (ws : List Written) (states : List (List Value)) (g : GrainId) (p : Option Placed) → state_written g (zip (map (λ (w : Written). w.grain) ws) states) ≡ None
-    → placed_by_states unit ws states g p ≡ p
-unwritten-stays unit [] states g p none = refl
-unwritten-stays unit (w ∷ ws) [] g p none = refl
-unwritten-stays unit (w ∷ ws) (state ∷ states) g p none = elim (cases_Bool (same_grain w.grain g)) [
+unwritten-stays : (n : ℕ) (unit : UnitNo) (ws : List Written) (states : List (List Value)) (g : GrainId) (p : Option Placed) → state_written g (zip (map (λ (w : Written). w.grain) ws) states) ≡ None
+    → placed_by_states n unit ws states g p ≡ p
+unwritten-stays n unit [] states g p none = refl
+unwritten-stays n unit (w ∷ ws) [] g p none = refl
+unwritten-stays n unit (w ∷ ws) (state ∷ states) g p none = elim (cases_Bool (same_grain w.grain g)) [
   | inl e ↦ absurd (let z : Some state ≡ None = sym (cond-true (same_grain w.grain g) (Some state) (state_written g (zip (map (λ (x : Written). x.grain) ws) states)) e) ∙ none in cc)
   | inr e ↦ (
       let rest : state_written g (zip (map (λ (x : Written). x.grain) ws) states) ≡ None =
       sym (cond-false (same_grain w.grain g) (Some state) (state_written g (zip (map (λ (x : Written). x.grain) ws) states)) e) ∙ none in
-      ap (placed_by_states unit ws states g) (cond-false (same_grain w.grain g) (Some (placed_new w.place (record { unit = unit; state = state }))) p e) ∙ unwritten-stays unit ws states g p rest)
+      ap (placed_by_states n unit ws states g) (cond-false (same_grain w.grain g) (Some (placed_new n w.place (record { unit = unit; state = state }))) p e) ∙ unwritten-stays n unit ws states g p rest)
 ]
 
 -- one that a unit wrote stands at the place of the unit's version
-placed-unit : (unit : UnitNo) (ws : List Written) (states : List (List Value)) (g : GrainId) (v : Option Version) (p : Option Placed) → Differ (zip (map (λ (w : Written). w.grain) ws) states) → IsPlacedAs v p
-    → IsPlacedAs (version_after unit (state_written g (zip (map (λ (w : Written). w.grain) ws) states)) v) (placed_by_states unit ws states g p)
-placed-unit unit [] states g v p d is = is
-placed-unit unit (w ∷ ws) [] g v p d is = is
-placed-unit unit (w ∷ ws) (state ∷ states) g v p d is = elim (cases_Bool (same_grain w.grain g)) [
+placed-unit : (n : ℕ) (unit : UnitNo) (ws : List Written) (states : List (List Value)) (g : GrainId) (v : Option Version) (p : Option Placed) → Differ (zip (map (λ (w : Written). w.grain) ws) states) → IsPlacedAs v p
+    → IsPlacedAs (version_after unit (state_written g (zip (map (λ (w : Written). w.grain) ws) states)) v) (placed_by_states n unit ws states g p)
+placed-unit n unit [] states g v p d is = is
+placed-unit n unit (w ∷ ws) [] g v p d is = is
+placed-unit n unit (w ∷ ws) (state ∷ states) g v p d is = elim (cases_Bool (same_grain w.grain g)) [
   | inl e ↦ (
-      let new : Placed = placed_new w.place (record { unit = unit; state = state }) in
+      let new : Placed = placed_new n w.place (record { unit = unit; state = state }) in
       let none : state_written g (zip (map (λ (x : Written). x.grain) ws) states) ≡ None =
       subst (λ (h : GrainId). state_written h (zip (map (λ (x : Written). x.grain) ws) states) ≡ None) (same_grain-true w.grain g e) d.0 in
-      subst (λ (s : Option (List Value)). IsPlacedAs (version_after unit s v) (placed_by_states unit (w ∷ ws) (state ∷ states) g p))
+      subst (λ (s : Option (List Value)). IsPlacedAs (version_after unit s v) (placed_by_states n unit (w ∷ ws) (state ∷ states) g p))
       (sym (cond-true (same_grain w.grain g) (Some state) (state_written g (zip (map (λ (x : Written). x.grain) ws) states)) e))
       (subst (λ (q : Option Placed). IsPlacedAs (Some (record { unit = unit; state = state })) q)
-      (sym (ap (placed_by_states unit ws states g) (cond-true (same_grain w.grain g) (Some new) p e) ∙ unwritten-stays unit ws states g (Some new) none)) (refl, refl)))
+      (sym (ap (placed_by_states n unit ws states g) (cond-true (same_grain w.grain g) (Some new) p e) ∙ unwritten-stays n unit ws states g (Some new) none)) (refl, refl)))
   | inr e ↦
-      subst (λ (s : Option (List Value)). IsPlacedAs (version_after unit s v) (placed_by_states unit (w ∷ ws) (state ∷ states) g p))
+      subst (λ (s : Option (List Value)). IsPlacedAs (version_after unit s v) (placed_by_states n unit (w ∷ ws) (state ∷ states) g p))
       (sym (cond-false (same_grain w.grain g) (Some state) (state_written g (zip (map (λ (x : Written). x.grain) ws) states)) e))
-      (subst (λ (q : Option Placed). IsPlacedAs (version_after unit (state_written g (zip (map (λ (x : Written). x.grain) ws) states)) v) (placed_by_states unit ws states g q))
-      (sym (cond-false (same_grain w.grain g) (Some (placed_new w.place (record { unit = unit; state = state }))) p e)) (placed-unit unit ws states g v p d.1 is))
+      (subst (λ (q : Option Placed). IsPlacedAs (version_after unit (state_written g (zip (map (λ (x : Written). x.grain) ws) states)) v) (placed_by_states n unit ws states g q))
+      (sym (cond-false (same_grain w.grain g) (Some (placed_new n w.place (record { unit = unit; state = state }))) p e)) (placed-unit n unit ws states g v p d.1 is))
 ]
 
 -- so it is once a batch's records are there
-placed-batch : (g : GrainId) (es : List Effect) (cs : List Commit) (v : Option Version) (p : Option Placed) → AreRecordsOf es cs → AllByRecursion (λ (e : Effect). AllPairs IsBelow e.writes) es → IsPlacedAs v p
-    → IsPlacedAs (version_behind g cs v) (placed_by_commits cs g p)
-placed-batch g [] [] v p are up is = is
-placed-batch g [] (c ∷ cs) v p are up is = absurd are
-placed-batch g (e ∷ es) [] v p are up is = absurd are
-placed-batch g (e ∷ es) (c ∷ cs) v p are up is =
-    placed-batch g es cs (version_after c.logged.unit (state_written g (written c)) v) (placed_by_states c.logged.unit c.logged.writes c.states g p) are.1 up.1
-    (placed-unit c.logged.unit c.logged.writes c.states g v p (subst Differ (sym are.0.writes) (differ e.writes up.0)) is)
+placed-batch : (n : ℕ) (g : GrainId) (es : List Effect) (cs : List Commit) (v : Option Version) (p : Option Placed) → AreRecordsOf es cs → AllByRecursion (λ (e : Effect). AllPairs IsBelow e.writes) es → IsPlacedAs v p
+    → IsPlacedAs (version_behind g cs v) (placed_by_commits n cs g p)
+placed-batch n g [] [] v p are up is = is
+placed-batch n g [] (c ∷ cs) v p are up is = absurd are
+placed-batch n g (e ∷ es) [] v p are up is = absurd are
+placed-batch n g (e ∷ es) (c ∷ cs) v p are up is =
+    placed-batch n g es cs (version_after c.logged.unit (state_written g (written c)) v) (placed_by_states n c.logged.unit c.logged.writes c.states g p) are.1 up.1
+    (placed-unit n c.logged.unit c.logged.writes c.states g v p (subst Differ (sym are.0.writes) (differ e.writes up.0)) is)
 
 -- a place of the opening's is none that was written since
-opened-unit : (unit : UnitNo) (ws : List Written) (states : List (List Value)) (g : GrainId) (initial began : List Value) (p : Option Placed) → IsOfOpening initial began p
-    → IsOfOpening initial began (placed_by_states unit ws states g p)
-opened-unit unit [] states g initial began p is = is
-opened-unit unit (w ∷ ws) [] g initial began p is = is
-opened-unit unit (w ∷ ws) (state ∷ states) g initial began p is =
-    opened-unit unit ws states g initial began (if same_grain w.grain g then Some (placed_new w.place (record { unit = unit; state = state })) else p) (by (same_grain w.grain g))
+opened-unit : (n : ℕ) (unit : UnitNo) (ws : List Written) (states : List (List Value)) (g : GrainId) (initial began : List Value) (p : Option Placed) → IsOfOpening initial began p
+    → IsOfOpening initial began (placed_by_states n unit ws states g p)
+opened-unit n unit [] states g initial began p is = is
+opened-unit n unit (w ∷ ws) [] g initial began p is = is
+opened-unit n unit (w ∷ ws) (state ∷ states) g initial began p is =
+    opened-unit n unit ws states g initial began (if same_grain w.grain g then Some (placed_new n w.place (record { unit = unit; state = state })) else p) (by (same_grain w.grain g))
   where
-    by : (x : Bool) → IsOfOpening initial began (if x then Some (placed_new w.place (record { unit = unit; state = state })) else p)
+    by : (x : Bool) → IsOfOpening initial began (if x then Some (placed_new n w.place (record { unit = unit; state = state })) else p)
     by true = λ old. absurd (true≢false old)
     by false = is
 
-opened-batch : (g : GrainId) (cs : List Commit) (initial began : List Value) (p : Option Placed) → IsOfOpening initial began p → IsOfOpening initial began (placed_by_commits cs g p)
-opened-batch g [] initial began p is = is
-opened-batch g (c ∷ cs) initial began p is = opened-batch g cs initial began (placed_by_states c.logged.unit c.logged.writes c.states g p) (opened-unit c.logged.unit c.logged.writes c.states g initial began p is)
+opened-batch : (n : ℕ) (g : GrainId) (cs : List Commit) (initial began : List Value) (p : Option Placed) → IsOfOpening initial began p → IsOfOpening initial began (placed_by_commits n cs g p)
+opened-batch n g [] initial began p is = is
+opened-batch n g (c ∷ cs) initial began p is = opened-batch n g cs initial began (placed_by_states n c.logged.unit c.logged.writes c.states g p) (opened-unit n c.logged.unit c.logged.writes c.states g initial began p is)
 
 -- the records of one list and then those of another
 behind-both : (g : GrainId) (one other : List Commit) (v : Option Version) → version_behind g (one ++ other) v ≡ version_behind g other (version_behind g one v)
@@ -233,16 +234,16 @@ behind-both g (c ∷ one) other v = behind-both g one other (version_after c.log
 -- a batch on disk: each grain that it wrote has its last version there
 pub versions-sealed : (o : Outset) (b c : Books) (r : Run) (e : CoreEvent) (writer writer' : BatchWriter) (disk disk' : Disk) (es : List Effect) (batch : List Commit) → KeepsVersions o b r writer disk
     → IsTrueLoad r.opening (ends r) e → AreOfVotes (extended r (e ∷ [])) writer' → PlacesStand o.live (shape_in o.program) writer' disk'
-    → AreRecordsOf es batch → AllByRecursion (λ (x : Effect). AllPairs IsBelow x.writes) es → ((g : GrainId) → placed_in writer'.places g ≡ placed_by_commits batch g (placed_in writer.places g))
+    → AreRecordsOf es batch → AllByRecursion (λ (x : Effect). AllPairs IsBelow x.writes) es → ((g : GrainId) → placed_in writer'.places g ≡ placed_by_commits (newest_number writer) batch g (placed_in writer.places g))
     → commits_of (c.said ++ c.unsaid) ≡ commits_of (b.said ++ b.unsaid) ++ batch → KeepsVersions o c (extended r (e ∷ [])) writer' disk'
 versions-sealed o b c r e writer writer' disk disk' es batch k true_is votes stand are up places commits = record {
   votes = votes;
   stand = stand;
   own = λ g.
       subst (λ (p : Option Placed). IsPlacedAs (last_own g (commits_of (c.said ++ c.unsaid))) p) (sym (places g))
-      (subst (λ (v : Option Version). IsPlacedAs v (placed_by_commits batch g (placed_in writer.places g))) (sym (ap (λ (cs : List Commit). last_own g cs) commits ∙ behind-both g (commits_of (b.said ++ b.unsaid)) batch None))
-      (placed-batch g es batch (last_own g (commits_of (b.said ++ b.unsaid))) (placed_in writer.places g) are up (k.own g)));
+      (subst (λ (v : Option Version). IsPlacedAs v (placed_by_commits (newest_number writer) batch g (placed_in writer.places g))) (sym (ap (λ (cs : List Commit). last_own g cs) commits ∙ behind-both g (commits_of (b.said ++ b.unsaid)) batch None))
+      (placed-batch (newest_number writer) g es batch (last_own g (commits_of (b.said ++ b.unsaid))) (placed_in writer.places g) are up (k.own g)));
   opened = λ g.
-      subst (IsOfOpening (initial_states o.program g) (r.opening g)) (sym (places g)) (opened-batch g batch (initial_states o.program g) (r.opening g) (placed_in writer.places g) (k.opened g));
+      subst (IsOfOpening (initial_states o.program g) (r.opening g)) (sym (places g)) (opened-batch (newest_number writer) g batch (initial_states o.program g) (r.opening g) (placed_in writer.places g) (k.opened g));
   loads = loads-on r e k.loads true_is;
 }

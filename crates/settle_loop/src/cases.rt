@@ -5,7 +5,7 @@ ghost use Rattle.host_trait.specs.Runs.{OnlyAsked};
 ghost use Rattle.core_model.specs.CoreState.{CoreState};
 ghost use Rattle.core_model.specs.Settler.{Step, Loads, settler_step};
 ghost use Rattle.core_model.specs.declared.questions.SettlerWork.TheVariants as shown;
-ghost use Rattle.batch_disk.specs.Writers.{IsSafe};
+ghost use Rattle.batch_disk.specs.Writers.{IsInBounds, IsSafe};
 ghost use Rattle.settle_loop.specs.ShownWork.{ShowsWork};
 ghost use Rattle.settler_rules.specs.Entries.{IsSaidInRange};
 ghost use Rattle.settle_loop.specs.HostSteps.{initial_in, version_loaded};
@@ -197,6 +197,7 @@ impl Settler {
         ensures disk { IsTrue H.tells → (H.world host.new).disk ≡ (H.world host.old).disk }
         ensures ready { StaysReady (H.is_ready host.old) (H.is_ready host.new) }
     {
+        read_unit(entry.unit);
         read_said(&entry.what);
         if self.quiet {
             return Ok(Made::Event {
@@ -216,14 +217,15 @@ impl Settler {
         }
     }
 
-    /// The sixth case: a grain's last version is read, or its type's initial fields where it has none, and the core is told of it.
+    /// The sixth case: a grain's last version is read, and carried to the program in force, or its type's initial fields are taken where
+    /// it has none, and the core is told of it.
     pub(crate) fn bring_in<H: Host>(
         &self,
         shape: &Shape,
         host: &mut H,
         grain: GrainId,
     ) -> Result<Made, AllocError>
-        requires { self.now.writer.slot ≤ 1 }
+        requires { IsInBounds self.now.writer }
         ensures made { (w : CoreState) (s : Step) → s ≡ Loads grain
             → MadeAs H.tells H.world H.faults shape.now w s self.now self.now host.old host.new result }
         ensures asked { IsTrue H.tells → OnlyAsked (H.world host.old) (H.world host.new) }
@@ -233,7 +235,7 @@ impl Settler {
             slot: self.writer.slot(),
             grain,
         };
-        let read = match self.writer.last_version(host, shape, grain) {
+        let read = match self.writer.last_version(host, grain) {
             Ok(read) => read,
             Err(fault) => return unread(file, fault),
         };

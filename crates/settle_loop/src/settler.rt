@@ -1,12 +1,16 @@
-ghost use Rattle.std.specs.Prelude.{◌≡◌, ◌^◌, ◌<◌, ◌≤◌, ◌&&◌, ◌||◌, [], false, if◌then◌else◌, IsTrue, IsOk, IfOk, OnErr, unwrap_or};
+ghost use Rattle.std.specs.Prelude.{◌≡◌, ◌^◌, ◌<◌, ◌≤◌, ◌&&◌, ◌||◌, [], false, if◌then◌else◌, length, map, IsTrue, Some, IfOk, OnErr, unwrap_or};
 ghost use Rattle.base_types.specs.Stores.{end_in};
+ghost use Rattle.base_types.specs.Places.{placed_in};
 ghost use Rattle.base_types.specs.declared.calls.GrainId.{GrainId as AGrain};
+ghost use Rattle.base_types.specs.declared.places.Placed.{Placed as APlace};
+ghost use Rattle.script_tree.specs.Programs.{program_tree};
+ghost use Rattle.program_file.specs.Succession.{ArePrograms};
 ghost use Rattle.host_trait.specs.Files.{StaysReady};
 ghost use Rattle.host_trait.specs.Runs.{OnlyAsked};
 ghost use Rattle.core_model.specs.Settler.{settler_step, has_step, step_of};
 ghost use Rattle.core_access.specs.FitAccess.{StaysFit};
 ghost use Rattle.core_access.specs.Sights.{Looks};
-ghost use Rattle.batch_disk.specs.Writers.{file_end, kept_of, IsInBounds, IsSafe};
+ghost use Rattle.batch_disk.specs.Writers.{file_end, kept_of, programs_of, IsInBounds, IsSafe};
 ghost use Rattle.settle_loop.specs.ShownWork.{counted_up};
 ghost use Rattle.settle_loop.specs.SettlerStep.{state_shown, wanted_step, TurnsAs, TurnsBy};
 ghost use Rattle.settle_loop.specs.StepParts.{ToldAs};
@@ -14,11 +18,12 @@ ghost use Rattle.settle_loop.specs.StepParts.{ToldAs};
 use crate::cases::Made;
 use crate::gate::Gate;
 use crate::looks::{has_applied, look, put, see_wanted, sees_unwritten};
-use base_types::{Ends, Places, Shape};
+use base_types::{Ends, List, Places, Shape};
 use batch_disk::BatchWriter;
 use core_access::Access;
 use core_model::{CoreEvent, SettlerWork};
 use host_trait::{FileId, Host};
+use script_check::Checked;
 use std::alloc::{AllocError, Global};
 
 /// Why the settler stops.
@@ -47,8 +52,8 @@ pub enum Turned {
 /// One that settles the batches of a core and writes its replies.
 ///
 /// It begins at a closed gate, at the ends of the grains' files and at the places of the grains' last versions, and goes on by its own
-/// seals. What a settled entry says
-/// is put out as a reply line, unless the settler is quiet.
+/// seals. It knows the programs of the log, so a version that was written under an earlier one is carried to the program in force when
+/// it is loaded. What a settled entry says is put out as a reply line, unless the settler is quiet.
 #[derive(Drop)]
 pub struct Settler {
     pub(crate) alloc: Global,
@@ -60,7 +65,8 @@ pub struct Settler {
 
 impl Settler {
     /// A settler that goes on in this slot, 0 or 1, at this closed gate and at these ends, each below 2 to the 63, where the grains' last
-    /// versions stand at these places. A quiet one writes no replies.
+    /// versions stand at these places. These programs came into force one after the other, the last one is in force, and each place has
+    /// the number of one of them. A quiet one writes no replies.
     pub fn new(
         alloc: Global,
         slot: u8,
@@ -68,15 +74,18 @@ impl Settler {
         ends: Ends,
         quiet: bool,
         places: Places,
+        programs: List<Checked>,
     ) -> Result<Settler, AllocError>
         requires slot { slot ≤ 1 }
         requires gate { gate_at < 2 ^ 63 }
         requires ends { (g : AGrain) → unwrap_or (end_in ends g) 0 < 2 ^ 63 }
-        ensures sure { IsOk result }
+        requires programs { ArePrograms (map program_tree programs) }
+        requires numbered { (g : AGrain) (p : APlace) → placed_in places g ≡ Some p → p.program < length programs }
         ensures slot { IfOk result (λ made. made.writer.slot ≡ slot) }
         ensures gate { IfOk result (λ made. made.writer.gate_at ≡ gate_at) }
         ensures ends { IfOk result (λ made. (g : AGrain) → file_end made.writer g ≡ unwrap_or (end_in ends g) 0) }
         ensures places { IfOk result (λ made. made.writer.places ≡ places) }
+        ensures programs { IfOk result (λ made. programs_of made.writer ≡ map program_tree programs) }
         ensures kept { IfOk result (λ made. kept_of made.writer ≡ []) }
         ensures sealing { IfOk result (λ made. made.writer.in_doubt ≡ false) }
         ensures quiet { IfOk result (λ made. made.quiet ≡ quiet) }
@@ -86,7 +95,7 @@ impl Settler {
     {
         Ok(Settler {
             alloc,
-            writer: BatchWriter::new(alloc, slot, gate_at, ends, places),
+            writer: BatchWriter::new(alloc, slot, gate_at, ends, places, programs)?,
             quiet,
             written: 0,
             doubted: false,
@@ -213,7 +222,7 @@ impl Settler {
         host: &mut H,
     ) -> Result<Turned, AllocError>
         requires fit { A.is_fit access.old }
-        requires slot { self.old.writer.slot ≤ 1 }
+        requires bounds { IsInBounds self.old.writer }
         ensures kept { StaysFit (A.is_fit access.new) (A.aside access.old) (A.aside access.new) }
 
         // What it did to the core and to the host, for each answer and for want of memory.

@@ -1,12 +1,18 @@
 // A settler over a core of accounts and a recorder.
-ghost use Rattle.std.specs.Prelude.{◌≤◌};
+ghost use Rattle.std.specs.Prelude.{◌≡◌, ◌<◌, ◌≤◌, Some};
+ghost use Rattle.std.specs.Coded.{codes};
 ghost use Rattle.std.proofs.Props.{props};
+ghost use Rattle.base_types.specs.Places.{placed_in};
+ghost use Rattle.base_types.specs.contracts.shapes.Shape as a_shape;
+ghost use Rattle.base_types.specs.declared.calls.GrainId.{GrainId as AGrain};
+ghost use Rattle.base_types.specs.declared.places.Placed.{Placed as APlace};
 ghost use Rattle.host_trait.specs.Files.{HasSlot};
 ghost use Rattle.batch_disk.specs.Writers.{IsInBounds};
+ghost use Rattle.settle_tests.specs.Bounds.{in_turn-prop};
 
 use crate::recorder::{Recorder, bytes_in, new_recorder};
 use crate::units::{
-    Add, Waiting, account, carry_out, go_on, new_core, new_shape, number_state, want,
+    Add, Waiting, account, carry_out, go_on, new_core, new_programs, new_shape, number_state, want,
 };
 use base_types::{Ends, KnownVersion, Place, Placed, Places, Shape, UnitNo, Version};
 use history_core::Core;
@@ -32,10 +38,11 @@ pub struct Bench {
     settler: Settler,
     waiting: Option<Waiting>,
     ghost in_slot: { slot ≤ 1 },
-    ghost bounds: { IsInBounds settler.writer } by { Prim.hlevel props },
+    ghost bounds: { IsInBounds settler.writer } by { Prim.hlevel (in_turn-prop, codes, a_shape.the_row.coded, props) },
 }
 
 // One over a host with an empty log in this slot, where the accounts' last versions stand at these places.
+#[tactic(auto, using(crate::proofs::Alone::alone))]
 fn bench_over(
     host: Recorder,
     alloc: Global,
@@ -44,11 +51,13 @@ fn bench_over(
     limit: usize,
     places: Places,
 ) -> Result<Bench, AllocError>
-    requires { slot ≤ 1 }
+    requires slot { slot ≤ 1 }
+    requires numbered { (g : AGrain) (p : APlace) → placed_in places g ≡ Some p → p.program < 1 }
 {
     let shape = new_shape(alloc)?;
     let core = new_core(alloc, limit)?;
-    let settler = Settler::new(alloc, slot, 15, Ends::new(alloc), quiet, places)?;
+    let programs = new_programs(alloc)?;
+    let settler = Settler::new(alloc, slot, 15, Ends::new(alloc), quiet, places, programs)?;
     Ok(Bench {
         alloc,
         slot,
@@ -62,6 +71,7 @@ fn bench_over(
 
 /// One over a new silo in this slot, 0 or 1, whose accounts are all 0. So many that aren't in use stay in memory; where that is 0 each
 /// one is there from the first.
+#[tactic(auto, using(crate::proofs::Alone::none_numbered))]
 pub fn new_bench(alloc: Global, slot: u8, quiet: bool, limit: usize) -> Result<Bench, AllocError>
     requires { slot ≤ 1 }
 {
@@ -114,6 +124,7 @@ impl Bench {
 
     /// Another one with an empty log, where this account, alone in memory when it isn't in use, has its whole file as its last version,
     /// with this number, from before.
+    #[tactic(auto, using(crate::proofs::Alone::one_numbered))]
     pub fn reopened(&self, key: u32, number: i64) -> Result<Bench, AllocError> {
         let alloc = self.alloc;
         let file = self.file(key);
@@ -130,6 +141,7 @@ impl Bench {
         };
         let placed = Placed {
             place,
+            program: 0,
             is_new: false,
             known: KnownVersion::of(&version),
         };

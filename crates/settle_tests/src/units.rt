@@ -1,5 +1,5 @@
 // Units that add to accounts, as a core takes them.
-ghost use Rattle.std.specs.Prelude.{◌≡◌, [], IfOk};
+ghost use Rattle.std.specs.Prelude.{◌≡◌, [], length, IfOk};
 ghost use Rattle.cell_table.specs.Table.{used_of};
 
 use activations::Recent;
@@ -9,6 +9,8 @@ use base_types::{
 use cell_table::OpeningStates;
 use core_model::{CoreEvent, CoreReply, Effect, Read};
 use history_core::{Core, Opening};
+use program_file::accept;
+use script_check::Checked;
 use std::alloc::{AllocError, Global};
 use std::num::NonZeroUsize;
 
@@ -39,6 +41,18 @@ pub fn new_shape(alloc: Global) -> Result<Shape, AllocError> {
         params,
     })?;
     Ok(Shape { types })
+}
+
+/// The program that the shape is of, alone.
+pub fn new_programs(alloc: Global) -> Result<List<Checked>, AllocError>
+    ensures { IfOk result (λ made. length made ≡ 1) }
+{
+    let Ok(program) = accept(alloc, b"type account { field balance = 0; }") else {
+        return Err(AllocError);
+    };
+    let mut programs = List::new(alloc);
+    programs.push(program)?;
+    Ok(programs)
 }
 
 // The accounts that were used last, of which there are at most so many: none yet.

@@ -2,6 +2,7 @@ ghost use Rattle.std.specs.Prelude.{◌≡◌, ◌≤◌, [], None, Err, true, f
 ghost use Rattle.host_trait.specs.Files.{StaysReady};
 ghost use Rattle.core_model.specs.LegalRuns.{ends};
 ghost use Rattle.history_core.specs.Cores.{run_of};
+ghost use Rattle.batch_disk.specs.Writers.{IsInBounds};
 ghost use Rattle.script_tree.specs.Programs.{program_tree};
 ghost use Rattle.run_books.specs.RecordFrame.{TurnsBeside};
 ghost use Rattle.run_books.specs.Records.{RecordGoesOn};
@@ -19,6 +20,7 @@ use core_model::{CoreAnswer, CoreQuestion};
 use history_core::Core;
 use host_trait::Host;
 use interleaver::run_turns;
+use program_file::accept;
 use run_books::RunFault;
 use run_lines::Lines;
 use script_check::Checked;
@@ -49,6 +51,26 @@ fn has_none(gathered: &Gathered) -> bool
         WorkEnd::Through => false,
         WorkEnd::Lacking => false,
     }
+}
+
+/// A settler that stands in for another one: it knows a program without types, and no place.
+fn blank_settler(alloc: Global) -> Result<Settler, AllocError>
+    ensures { IfOk result (λ made. IsInBounds made.writer) }
+{
+    let Ok(program) = accept(alloc, &[]) else {
+        return Err(AllocError);
+    };
+    let mut programs = List::new(alloc);
+    programs.push(program)?;
+    Settler::new(
+        alloc,
+        0,
+        0,
+        Ends::new(alloc),
+        true,
+        Places::new(alloc),
+        programs,
+    )
 }
 
 /// Carries the lines in turns, one at a time.
@@ -142,7 +164,7 @@ pub fn run_with_workers<R: Threads + Wait + Sync, H: Host, G: Gate + Sync, L: Li
         Ok(shape) => shape,
         Err(AllocError) => return (Some(core), Err(RunFault::Memory)),
     };
-    let blank = match Settler::new(alloc, 0, 0, Ends::new(alloc), true, Places::new(alloc)) {
+    let blank = match blank_settler(alloc) {
         Ok(blank) => blank,
         Err(AllocError) => return (Some(core), Err(RunFault::Memory)),
     };

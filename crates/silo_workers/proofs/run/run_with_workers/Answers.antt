@@ -13,8 +13,8 @@ use Rattle.silo_workers.proofs.run.run_with_workers.Goals as goal
 
 pub gather-core-requires-clause-fresh : goal.gather-core-requires-clause-fresh
 gather-core-requires-clause-fresh g c κs = λ out.
-    let first = c.in-Ok-new-2.ensures.first in (
-      c.in-Ok-new-2.ensures.own,
+    let first = c.in-Ok-new.ensures.first in (
+      c.in-Ok-new.ensures.own,
       subst (λ (z : View CoreData CoreEvent CoreReply). 0 < (run_of z.first).base) (sym first) c.requires.above,
       subst (λ (z : View CoreData CoreEvent CoreReply). c.in-Ok.before ≤ (ends (run_of z.first)).units.lines) (sym first) (subst (λ (n : ℕ). c.in-Ok.before ≤ n) c.in-Ok.ensures (omega arith)),
       ap (λ (z : View CoreData CoreEvent CoreReply). z.hand.mine) first,
@@ -26,9 +26,12 @@ returns-in-Err-clause-beside g c = core-beside g.H.Host.tells (run_of c.args.cor
 pub returns-in-Err-shape-clause-beside : goal.returns-in-Err-shape-clause-beside
 returns-in-Err-shape-clause-beside g c = core-beside g.H.Host.tells (run_of c.args.core) (run_of c.args.core) c.args.settler.now (g.H.Host.faults c.args.host.now) (g.H.Host.world c.args.host.now) _ [] (run-stays (run_of c.args.core))
 
-pub returns-in-Ok-new-2-clause-record_kept : goal.returns-in-Ok-new-2-clause-record_kept
-returns-in-Ok-new-2-clause-record_kept g c = λ o b is can fresh turns.
-    let closed = closed-from c.in-Ok-new-2.ensures.first c.gather-core.ensures.closed in
+pub returns-in-Err-blank_settler-clause-beside : goal.returns-in-Err-blank_settler-clause-beside
+returns-in-Err-blank_settler-clause-beside g c = core-beside g.H.Host.tells (run_of c.args.core) (run_of c.args.core) c.args.settler.now (g.H.Host.faults c.args.host.now) (g.H.Host.world c.args.host.now) _ [] (run-stays (run_of c.args.core))
+
+pub returns-in-Ok-new-clause-record_kept : goal.returns-in-Ok-new-clause-record_kept
+returns-in-Ok-new-clause-record_kept g c = λ o b is can fresh turns.
+    let closed = closed-from c.in-Ok-new.ensures.first c.gather-core.ensures.closed in
     let accepted = c.program-program.ensures.checked in
     let shaped = c.in-Ok-shape.ensures in
     let kept = turns-record turns in
@@ -41,25 +44,25 @@ returns-in-Ok-new-2-clause-record_kept g c = λ o b is can fresh turns.
     c.show_few.ensures.units c.show_few.ensures.lines can.quiet
     (ap (λ (k : ℕ). k + length (g.L.Lines.lines c.args.lines.now)) c.in-Ok.ensures ∙ sym is.all))
 
-pub returns-in-Ok-new-2-clause-beside : goal.returns-in-Ok-new-2-clause-beside
-returns-in-Ok-new-2-clause-beside g c = c.end_run-ended.ensures.beside _ (gathered-beside (closed-from c.in-Ok-new-2.ensures.first c.gather-core.ensures.closed))
+pub returns-in-Ok-new-clause-beside : goal.returns-in-Ok-new-clause-beside
+returns-in-Ok-new-clause-beside g c = c.end_run-ended.ensures.beside _ (gathered-beside (closed-from c.in-Ok-new.ensures.first c.gather-core.ensures.closed))
 
 pub carry_in_turns-ended-requires-clause-above : goal.carry_in_turns-ended-requires-clause-above
 carry_in_turns-ended-requires-clause-above g c =
     let none = c.has_none.ensures c.if-has_none.true in
-    let still = gathered-same (closed-from c.in-Ok-new-2.ensures.first c.gather-core.ensures.closed) none.0 none.1 in
+    let still = gathered-same (closed-from c.in-Ok-new.ensures.first c.gather-core.ensures.closed) none.0 none.1 in
     subst (λ (x : Run). 0 < x.base) (sym still) c.requires.above
 
 pub returns-then-has_none-clause-record_kept : goal.returns-then-has_none-clause-record_kept
 returns-then-has_none-clause-record_kept g c =
     let none = c.has_none.ensures c.if-has_none.true in
-    let still = gathered-same (closed-from c.in-Ok-new-2.ensures.first c.gather-core.ensures.closed) none.0 none.1 in
+    let still = gathered-same (closed-from c.in-Ok-new.ensures.first c.gather-core.ensures.closed) none.0 none.1 in
     let left = c.gather-core.ensures.none none.0 in
     turned still left.0 (ap g.H.Host.faults left.1) (ap g.H.Host.world left.1) c.carry_in_turns-ended.ensures.carries.kept
 
 pub returns-then-has_none-clause-beside : goal.returns-then-has_none-clause-beside
 returns-then-has_none-clause-beside g c =
     let none = c.has_none.ensures c.if-has_none.true in
-    let still = gathered-same (closed-from c.in-Ok-new-2.ensures.first c.gather-core.ensures.closed) none.0 none.1 in
+    let still = gathered-same (closed-from c.in-Ok-new.ensures.first c.gather-core.ensures.closed) none.0 none.1 in
     let left = c.gather-core.ensures.none none.0 in
     turned-beside still left.0 (ap g.H.Host.faults left.1) (ap g.H.Host.world left.1) c.carry_in_turns-ended.ensures.carries.beside

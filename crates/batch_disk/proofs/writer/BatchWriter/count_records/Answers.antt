@@ -1,10 +1,11 @@
-use Rattle.std.proofs.Common.{◌≡◌, true, List, map, sym, subst, ap, ◌∙◌}
+use Rattle.std.proofs.Common.{◌≡◌, ℕ, true, List, map, sym, subst, ap, ◌∙◌}
 use Rattle.std.specs.List.{flat_map, AllByRecursion}
 use Rattle.base_types.specs.Places.{placed_in, has_seat}
 use Rattle.base_types.specs.declared.calls.GrainId.{GrainId}
 use Rattle.commit_log.specs.declared.records.Written.{Written}
 use Rattle.batch_disk.specs.ImagesAtRest.{Voted, raised_ends}
-use Rattle.batch_disk.specs.Writers.{file_end, voted_by, kept_of}
+use Rattle.program_file.specs.ProgramsInTurn.{newest_in}
+use Rattle.batch_disk.specs.Writers.{file_end, voted_by, kept_of, newest_number}
 use Rattle.batch_disk.specs.MovedPlaces.{moved_by_writes, moved_by_records}
 use Rattle.batch_disk.proofs.Ends.{next_record}
 use Rattle.batch_disk.proofs.SealSteps.{WriteCanCount}
@@ -35,6 +36,7 @@ loop-record-preserved c =
       gate = c.count_writes.ensures.gate ∙ so_far.gate;
       doubt = c.count_writes.ensures.doubt ∙ so_far.doubt;
       kept = c.count_writes.ensures.kept ∙ so_far.kept;
+      programs = c.count_writes.ensures.programs ∙ so_far.programs;
       room = λ g there. c.count_writes.ensures.room g (so_far.room g there);
       bounds = c.count_writes.ensures.bounds;
       ends = λ g. next_record (file_end c.loop-record.self) (file_end c.count_writes.new.self) (λ (h : GrainId). raised_ends (file_end c.args.self.now) (flat_map (λ r. r.writes) rs) h)
@@ -46,7 +48,8 @@ loop-record-preserved c =
           let r = c.record-item.result in
           let old = placed_in c.loop-record.self.places g in
           let these : kept_of c.loop-record.self ≡ kept = ap (λ k. map voted_by k.items) so_far.kept in
-          next_moved kept rs c.loop-record.record-index r g c.loop-record-test.true c.record-item.is old (placed_in c.count_writes.new.self.places g)
-          (c.count_writes.ensures.places g ∙ ap (λ (l : List Voted). moved_by_writes l r.unit c.as_slice.result.now g old) these ∙ ap (λ (ws : List Written). moved_by_writes kept r.unit ws g old) c.as_slice.ensures)
-          (moved_by_records kept rs g (placed_in c.args.self.now.places g)) (so_far.places g);
+          let n : ℕ = newest_number c.args.self.now in
+          next_moved n kept rs c.loop-record.record-index r g c.loop-record-test.true c.record-item.is old (placed_in c.count_writes.new.self.places g)
+          (c.count_writes.ensures.places g ∙ (λ i. moved_by_writes (newest_in (so_far.programs i)) (these i) r.unit (c.as_slice.ensures i) g old))
+          (moved_by_records n kept rs g (placed_in c.args.self.now.places g)) (so_far.places g);
     }

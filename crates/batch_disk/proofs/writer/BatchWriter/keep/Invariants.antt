@@ -12,6 +12,7 @@ invariant-loop-at l = record {
   batch : l.self.batch ≡ l.fn.self.batch;
   ends : l.self.ends ≡ l.fn.self.ends;
   places : l.self.places ≡ l.fn.self.places;
+  programs : l.self.programs ≡ l.fn.self.programs;
   space : vec_len l.self.kept + length l.versions ≤ vec_capacity l.self.kept + l.at;
   kept : kept_of l.self ++ voted_at l.grain (drop l.at l.places) (drop l.at l.versions) ≡ kept_of l.fn.self ++ voted_at l.grain l.places l.versions;
 }

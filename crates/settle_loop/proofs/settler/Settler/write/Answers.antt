@@ -13,7 +13,7 @@ returns-then-self-clause-made g c = λ w shown.
     write_made g.H.Host.tells g.H.Host.world g.H.Host.faults c.args.shape.now w a a h h refl c.args.entry shown
     (record {
       entry = c.args.entry;
-      range = record { line = search; unit = search; said = c.read_said.ensures };
+      range = record { line = search; unit = c.read_unit.ensures; said = c.read_said.ensures };
       next = shown.1;
       line = subst (λ (q : Bool). HasLine g.H.Host.tells g.H.Host.world g.H.Host.faults q c.args.shape.now c.args.entry h h) (sym c.if-self.true) refl;
       writer = refl;
@@ -33,7 +33,7 @@ returns-in-Ok-clause-made g c = λ w shown.
     write_made g.H.Host.tells g.H.Host.world g.H.Host.faults c.args.shape.now w a a h0 h1 refl c.args.entry shown
     (record {
       entry = c.args.entry;
-      range = record { line = search; unit = search; said = c.read_said.ensures };
+      range = record { line = search; unit = c.read_unit.ensures; said = c.read_said.ensures };
       next = shown.1;
       line = subst (λ (q : Bool). HasLine g.H.Host.tells g.H.Host.world g.H.Host.faults q c.args.shape.now c.args.entry h0 h1) (sym c.if-self.false)
           (c.emit.ensures.faults.calm (ap is_ok c.in-Ok.is), λ told. subst (λ (l : List ℕ). IsEmitted l (g.H.Host.world h0) (g.H.Host.world h1)) (c.as_slice.ensures ∙ c.in_ok-text.ensures) (c.in-Ok.ensures.ok told));
