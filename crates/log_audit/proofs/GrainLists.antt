@@ -1,73 +1,82 @@
--- A log that is read again, block by block, and the grains that it names.
-use Rattle.std.proofs.Common.{◌≡◌, ℕ, List, [], ◌++◌, map, Some, None, Result, Ok, Err, refl, sym, ◌∙◌, ap, append_assoc, append-nil}
+-- The grains that a log names, as they are read block by block.
+use Rattle.std.proofs.Common.{◌≡◌, ℕ, List, [], ◌++◌, map, Some, None, Ok, Err, refl, sym, ◌∙◌, ap, subst, append_assoc, append-nil}
 use Rattle.std.proofs.lemmas.Grind.{flat_map-append}
 use Rattle.base_types.specs.declared.calls.GrainId.{GrainId}
-use Rattle.base_types.specs.declared.shapes.Shape.{Shape}
 use Rattle.field_codec.specs.declared.formats.Format.TheVariants.{One}
 use Rattle.commit_log.specs.declared.records.CommitRecord.{CommitRecord}
 use Rattle.commit_log.specs.declared.records.Written.{Written}
 use Rattle.host_trait.specs.declared.channels.FileId.{FileId}
 use Rattle.host_trait.specs.declared.channels.FileId.TheVariants.{Manager}
-use Rattle.log_reading.specs.Blocks.{LogBase, LogRead, behind_base, log_in_file}
-use Rattle.log_reading.specs.Steps.{next_in, records_from, with_records, IsFollowedBy}
+use Rattle.script_tree.specs.Programs.{ProgramTree}
+use Rattle.log_entries.specs.Entries as says
+use Rattle.log_entries.specs.Entries.{BodyEntry}
+use Rattle.log_reading.specs.Blocks.{LogBase, ReadEntry, LogRead, entries_said, program_after, records_read, log_in_file}
+use Rattle.log_reading.specs.Steps.{next_in, IsFollowedBy}
 use Rattle.log_reading.specs.declared.faults.FolderFault.{FolderFault}
-use Rattle.log_reading.proofs.LogBlocks.{follows_on, follows_ends}
+use Rattle.log_reading.proofs.LogBlocks.{follows_on, follows_breaks, after_more}
 use Rattle.log_reading.proofs.Errors.{failed}
-use Rattle.log_audit.specs.WrittenGrains.{grains_recorded, grains_of_log, grains_added}
+use Rattle.promise_spec.specs.Programs.{Program}
+use Rattle.log_audit.specs.InForce.{types_behind}
+use Rattle.log_audit.specs.WrittenGrains.{grains_recorded, grains_said, grains_of_log, grains_added}
 use Rattle.log_audit.specs.RereadFaults.{IsLogFault}
 use Rattle.log_audit.proofs.GrainOrder.{grains_added-append}
+use Rattle.log_audit.proofs.ReadEntries.{behind_is, all_read, records_both, records_seen}
 
--- where the log ends, its beginning and all of its records were read
-pub all_read : (shape : Shape) (file : List ℕ) (base : LogBase) (done : List CommitRecord) (gate : ℕ) → IsFollowedBy One shape file base done gate → next_in One shape gate file ≡ Ok None
-    → (log : LogRead) → log_in_file One shape file ≡ Ok log → (base ≡ log.base) × (done ≡ log.records)
-all_read shape file base done gate f end log is =
-    let same : record { base = base; records = done } ≡ log = (let both : Ok (record { base = base; records = done }) ≡ Ok log = sym (follows_ends One shape file base done gate f end).0 ∙ is in cc both) in
-    (ap (λ (l : LogRead). l.base) same, ap (λ (l : LogRead). l.records) same)
+recorded_both : (a b : List CommitRecord) → grains_recorded (a ++ b) ≡ grains_recorded a ++ grains_recorded b
+recorded_both a b = flat_map-append (λ (r : CommitRecord). map (λ (w : Written). w.grain) r.writes) a b
 
--- what the log begins with was read, and what is left behind the records that were
-pub rest_of : (shape : Shape) (file : List ℕ) (base : LogBase) (done : List CommitRecord) (gate : ℕ) → IsFollowedBy One shape file base done gate → (log : LogRead) → log_in_file One shape file ≡ Ok log
-    → (base ≡ log.base) × ((rest : List CommitRecord) × (log.records ≡ done ++ rest))
-rest_of shape file base done gate f log is = by (records_from One shape f.fuel gate file) (f.rest ∙ is)
-  where
-    by : (r : Result (List CommitRecord) ℕ) → behind_base base (with_records done r) ≡ Ok log → (base ≡ log.base) × ((rest : List CommitRecord) × (log.records ≡ done ++ rest))
-    by (Ok rest) e =
-        let same : record { base = base; records = done ++ rest } ≡ log = (let both : Ok (record { base = base; records = done ++ rest }) ≡ Ok log = e in cc both) in
-        (ap (λ (l : LogRead). l.base) same, (rest, sym (ap (λ (l : LogRead). l.records) same)))
-    by (Err place) e = absurd cc
+-- the grains of what a block says are those of its entries
+said_are : (entry : BodyEntry) → grains_recorded (records_read (entries_said entry)) ≡ grains_said entry
+said_are (says.Recorded records) = ap grains_recorded (records_seen records)
+said_are (says.Upgraded p) = refl
 
--- the grains of the log's beginning and of the records that were read
-pub record HasGrains (shape : Shape) (file : List ℕ) (gate : ℕ) (kept : List GrainId) : Type 0 where
+-- the grains of the log's beginning and of the entries that were read, behind which these types are in force
+pub record HasGrains (p : Program) (file : List ℕ) (gate : ℕ) (types : ProgramTree) (kept : List GrainId) : Type 0 where
   pub base : LogBase
-  pub records : List CommitRecord
-  pub follows : IsFollowedBy One shape file base records gate
-  pub are : kept ≡ grains_added [] (grains_of_log (record { base = base; records = records }))
+  pub entries : List ReadEntry
+  pub follows : IsFollowedBy One p file base entries gate
+  pub in_force : (program_after p entries).types ≡ types
+  pub are : kept ≡ grains_added [] (grains_of_log (record { base = base; entries = entries }))
 
-module _ (shape : Shape) (file : List ℕ) where
-  pub grains_begun : (base : LogBase) (gate : ℕ) (kept : List GrainId) → IsFollowedBy One shape file base [] gate → kept ≡ grains_added [] (map (λ w. w.grain) base.writes) → HasGrains shape file gate kept
-  grains_begun base gate kept begins are = record { base = base; records = []; follows = begins; are = are ∙ ap (grains_added []) (sym (append-nil (map (λ (w : Written). w.grain) base.writes))) }
+module _ (p : Program) (file : List ℕ) where
+  pub grains_begun : (base : LogBase) (gate : ℕ) (types : ProgramTree) (kept : List GrainId) → p.types ≡ types → IsFollowedBy One p file base [] gate → kept ≡ grains_added [] (map (λ w. w.grain) base.writes)
+      → HasGrains p file gate types kept
+  grains_begun base gate types kept first begins are = record {
+    base = base;
+    entries = [];
+    follows = begins;
+    in_force = first;
+    are = are ∙ ap (grains_added []) (sym (append-nil (map (λ (w : Written). w.grain) base.writes)));
+  }
 
-  pub grains_more : (gate : ℕ) (kept : List GrainId) → HasGrains shape file gate kept → (more : List CommitRecord) (behind : ℕ) (new : List GrainId) → new ≡ grains_added kept (grains_recorded more)
-      → next_in One shape gate file ≡ Ok (Some (more, behind)) → HasGrains shape file behind new
-  grains_more gate kept h more behind new put step =
-      let saved : List GrainId = map (λ (w : Written). w.grain) h.base.writes in
-      record {
-        base = h.base;
-        records = h.records ++ more;
-        follows = follows_on One shape file h.base h.records gate h.follows more behind step;
-        are =
-            put ∙ ap (λ (l : List GrainId). grains_added l (grains_recorded more)) h.are ∙ sym (grains_added-append [] (saved ++ grains_recorded h.records) (grains_recorded more))
-            ∙ ap (grains_added []) (append_assoc saved (grains_recorded h.records) (grains_recorded more)
-            ∙ ap (λ (l : List GrainId). saved ++ l) (sym (flat_map-append (λ (r : CommitRecord). map (λ (w : Written). w.grain) r.writes) h.records more)));
-      }
+  module _ (gate : ℕ) (types : ProgramTree) (kept : List GrainId) (h : HasGrains p file gate types kept) where
+    pub grains_more : (entry : BodyEntry) (behind : ℕ) (new : List GrainId) → new ≡ grains_added kept (grains_said entry) → next_in One types gate file ≡ Ok (Some (entry, behind)) → HasGrains p file behind (types_behind types entry) new
+    grains_more entry behind new put step =
+        let saved : List GrainId = map (λ (w : Written). w.grain) h.base.writes in
+        let all : grains_recorded (records_read (h.entries ++ entries_said entry)) ≡ grains_recorded (records_read h.entries) ++ grains_said entry =
+        ap grains_recorded (records_both h.entries (entries_said entry)) ∙ recorded_both (records_read h.entries) (records_read (entries_said entry))
+        ∙ ap (λ (l : List GrainId). grains_recorded (records_read h.entries) ++ l) (said_are entry) in
+        record {
+          base = h.base;
+          entries = h.entries ++ entries_said entry;
+          follows = follows_on One p file h.base h.entries gate h.follows entry behind (subst (λ (t : ProgramTree). next_in One t gate file ≡ Ok (Some (entry, behind))) (sym h.in_force) step);
+          in_force = ap (λ (q : Program). q.types) (after_more p h.entries entry) ∙ behind_is (program_after p h.entries) types entry h.in_force;
+          are =
+              put ∙ ap (λ (l : List GrainId). grains_added l (grains_said entry)) h.are ∙ sym (grains_added-append [] (saved ++ grains_recorded (records_read h.entries)) (grains_said entry))
+              ∙ ap (grains_added []) (append_assoc saved (grains_recorded (records_read h.entries)) (grains_said entry) ∙ ap (λ (l : List GrainId). saved ++ l) (sym all));
+        }
 
-  pub grains_ended : (gate : ℕ) (kept : List GrainId) → HasGrains shape file gate kept → next_in One shape gate file ≡ Ok None → (log : LogRead) → log_in_file One shape file ≡ Ok log → kept ≡ grains_added [] (grains_of_log log)
-  grains_ended gate kept h end log is =
-      let same = all_read shape file h.base h.records gate h.follows end log is in
-      h.are ∙ (λ i. grains_added [] (map (λ (w : Written). w.grain) (same.0 i).writes ++ grains_recorded (same.1 i)))
+    pub grains_ended : next_in One types gate file ≡ Ok None → (log : LogRead) → log_in_file One p file ≡ Ok log → kept ≡ grains_added [] (grains_of_log log)
+    grains_ended end log is =
+        let same = all_read p file h.base h.entries gate h.follows (subst (λ (t : ProgramTree). next_in One t gate file ≡ Ok None) (sym h.in_force) end) log is in
+        h.are ∙ (λ i. grains_added [] (map (λ (w : Written). w.grain) (same.0 i).writes ++ grains_recorded (records_read (same.1 i))))
+
+    pub grains_broken : (place : ℕ) → next_in One types gate file ≡ Err place → log_in_file One p file ≡ Err place
+    grains_broken place step = follows_breaks One p file h.base h.entries gate h.follows place (subst (λ (t : ProgramTree). next_in One t gate file ≡ Err place) (sym h.in_force) step)
 
   -- a fault of reading the log
-  pub log_fault : {A : Type 0} (slot : ℕ) (e : FolderFault) → ((at : FileId) (place : ℕ) → failed {A = A} e ≡ failed (FolderFault.Damaged at place) → log_in_file One shape file ≡ Err place)
-      → ((at : FileId) → failed {A = A} e ≡ failed (FolderFault.Failed at) → at ≡ Manager slot) → IsLogFault slot shape file e
+  pub log_fault : {A : Type 0} (slot : ℕ) (e : FolderFault) → ((at : FileId) (place : ℕ) → failed {A = A} e ≡ failed (FolderFault.Damaged at place) → log_in_file One p file ≡ Err place)
+      → ((at : FileId) → failed {A = A} e ≡ failed (FolderFault.Failed at) → at ≡ Manager slot) → IsLogFault slot p file e
   log_fault slot (FolderFault.Damaged at place) damaged fails = damaged at place refl
   log_fault slot (FolderFault.Failed at) damaged fails = fails at refl
   log_fault slot FolderFault.Memory damaged fails = tt

@@ -6,8 +6,10 @@ pub mod GrainLists
 pub mod HeldGrains
 pub mod ShownReports
 pub mod ReportTexts
-pub mod RecordLines
+pub mod ReadEntries
+pub mod SaidLines
 pub mod Replays
+pub mod CarriedStores
 pub mod SavedStates
 pub mod RereadRefusals
 pub mod Versions

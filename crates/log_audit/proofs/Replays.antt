@@ -1,6 +1,6 @@
--- Records that were played one after another.
-use Rattle.std.proofs.Common.{◌≡◌, ◌≢◌, inl, inr, ℕ, Bool, true, false, List, [], ◌∷◌, ◌++◌, length, map, Option, Some, None, Ok, refl, sym, ◌∙◌, ap, subst, append_assoc, append-nil}
-use Rattle.std.specs.Prelude.{◌==◌, ◌&&◌, not, if◌then◌else◌, is_some, slice_get, unwrap_or}
+-- Entries that were played one after another.
+use Rattle.std.proofs.Common.{◌≡◌, ◌≢◌, inl, inr, ℕ, Bool, true, false, List, [], ◌∷◌, ◌++◌, length, map, Option, Some, None, Result, Ok, Err, refl, sym, ◌∙◌, ap, subst, append_assoc, append-nil}
+use Rattle.std.specs.Prelude.{◌==◌, ◌&&◌, ◌||◌, not, if◌then◌else◌, is_some, slice_get, unwrap_or, fold}
 use Rattle.std.specs.Cmp.{signed_Decides}
 use Rattle.std.proofs.lemmas.Bool.{and_parts, and_from, eqb-true, eq-eqb, false≢true, cases_Bool}
 use Rattle.std.proofs.lemmas.List.{map-append}
@@ -19,20 +19,25 @@ use Rattle.field_codec.specs.declared.formats.Format.TheVariants.{One}
 use Rattle.commit_log.specs.declared.records.CommitRecord.{CommitRecord}
 use Rattle.core_model.specs.Equality.{same_list, same_text, same_value, same_state, same_outcome}
 use Rattle.core_laws.proofs.Basics.{same_list-true, same_state-true, same_outcome-true}
-use Rattle.log_reading.specs.Steps.{next_in}
-use Rattle.log_reading.specs.Blocks.{LogBase, LogRead, log_in_file}
-use Rattle.log_reading.specs.Steps.{IsFollowedBy}
-use Rattle.log_reading.proofs.LogBlocks.{follows_on}
+use Rattle.log_entries.specs.Entries.{BodyEntry}
+use Rattle.log_reading.specs.Blocks.{LogBase, ReadEntry, LogRead, entries_said, program_after, log_in_file}
+use Rattle.log_reading.specs.Steps.{next_in, IsFollowedBy}
+use Rattle.log_reading.proofs.LogBlocks.{follows_on, follows_breaks, after_more}
 use Rattle.script_tree.specs.Programs.{ProgramTree}
 use Rattle.script_meaning.specs.Play.{Played, found_in, initial_of, play}
-use Rattle.promise_spec.specs.Records.{Commit, States, written, put_state, after_writes}
+use Rattle.promise_spec.specs.Programs.{Program}
+use Rattle.promise_spec.specs.Records.{Commit, States, written, put_state}
+use Rattle.promise_spec.specs.Entries.{LogEntry, Recorded, Upgraded, Standing, is_among, after_entry, after_entries}
 use Rattle.base_types.specs.Origins.{depth_of}
-use Rattle.promise_spec.specs.SerialExecution.{IsSerial, Replays, played}
-use Rattle.promise_spec.specs.Family.{states_after}
-use Rattle.promise_spec.specs.Openings.{commit_of}
+use Rattle.promise_spec.specs.SerialExecution.{IsSerialFrom, Replays, played}
+use Rattle.promise_spec.specs.Openings.{commit_of, entries_logged, log_of}
+use Rattle.promise_spec.proofs.Standings.{program_stays, in_parts}
 use Rattle.log_audit.specs.declared.replay.Bad.{Bad}
-use Rattle.log_audit.specs.Replays.{same_write, agree, first_states, base_states, as_commits, FailsToReplay, ReplaysTo, FailsFirst, AllReplayTo, IsFirstFailure}
-use Rattle.log_audit.proofs.GrainLists.{all_read, rest_of}
+use Rattle.log_audit.specs.Replays.{same_write, agree, entries_of_records, IsStoreOf, FailsToReplay, ReplaysTo, FailsFirst, AllReplayTo, IsFirstFailure}
+use Rattle.log_audit.specs.InForce.{types_behind}
+use Rattle.log_audit.proofs.ReadEntries.{behind_is, all_read, rest_of, logged_both, program_logged}
+use Rattle.log_audit.proofs.HeldGrains.{or_behind}
+use Rattle.log_audit.proofs.Versions.{state_put}
 
 -- ---- a value is itself, by the tests
 
@@ -130,139 +135,223 @@ one_kept types old new grain state puts = λ i g. each g i
           ap (λ (o : Option (List Value)). unwrap_or o (initial_of (slice_get types g.kind))) (puts.others g apart) ∙ sym (ap (λ (b : Bool). if b then state else found_in types old g) other)
     ]
 
--- nothing is kept where a log begins
-pub none_kept : (types : ProgramTree) (store : Store) → ((grain : GrainId) → state_in store grain ≡ None) → found_in types store ≡ first_states types
-none_kept types store none = λ i grain. unwrap_or (none grain i) (initial_of (slice_get types grain.kind))
+-- of which grains a store has a state once one is put
+pub some_put : {A : Type 0} (b : Bool) (x : A) (o : Option A) → is_some (if b then Some x else o) ≡ (b || is_some o)
+some_put true x o = refl
+some_put false x o = refl
+
+or_none : (a c : Bool) → ((a || false) || c) ≡ (a || c)
+or_none true c = refl
+or_none false c = refl
+
+pub or_swapped : (a b c : Bool) → (a || (b || c)) ≡ (b || (a || c))
+or_swapped true true c = refl
+or_swapped true false c = refl
+or_swapped false b c = refl
+
+among_more : (ws : List (GrainId × List Value)) (grain g : GrainId) (state : List Value) (old : Bool) → (is_among (ws ++ (grain, state) ∷ []) g || old) ≡ (same_grain grain g || (is_among ws g || old))
+among_more [] grain g state old = or_none (same_grain grain g) old
+among_more (w ∷ ws) grain g state old =
+    or_behind (same_grain w.0 g) (is_among (ws ++ (grain, state) ∷ []) g) old ∙ ap (λ (b : Bool). same_grain w.0 g || b) (among_more ws grain g state old)
+    ∙ or_swapped (same_grain w.0 g) (same_grain grain g) (is_among ws g || old) ∙ ap (λ (b : Bool). same_grain grain g || b) (sym (or_behind (same_grain w.0 g) (is_among ws g) old))
+
+pub held_more : (first old new : Store) (ws : List (GrainId × List Value)) (grain : GrainId) (state : List Value) → PutsState old new grain state
+    → ((g : GrainId) → is_some (state_in old g) ≡ (is_among ws g || is_some (state_in first g))) → (g : GrainId) → is_some (state_in new g) ≡ (is_among (ws ++ (grain, state) ∷ []) g || is_some (state_in first g))
+held_more first old new ws grain state puts held g =
+    ap is_some (state_put old new grain g state puts) ∙ some_put (same_grain grain g) state (state_in old g) ∙ ap (λ (b : Bool). same_grain grain g || b) (held g)
+    ∙ sym (among_more ws grain g state (is_some (state_in first g)))
+
+-- ---- what stands in a store
+
+-- what holds of the store's states under the program in force, holds of what stands
+pub by_standing : (P : ProgramTree → States → Type 0) (types : ProgramTree) (store : Store) (before : Standing) → before.program.types ≡ types → IsStoreOf store before → P types (found_in types store) → P before.program.types before.states
+by_standing P types store before program has here = subst (P before.program.types) has.states (subst (λ (t : ProgramTree). P t (found_in t store)) (sym program) here)
+
+-- once a record's writes are put, it has what stands after the record
+pub stands_after : (old new : Store) (before : Standing) (c : Commit) → IsStoreOf old before → ((grain : GrainId) → is_some (state_in new grain) ≡ (is_among (written c) grain || is_some (state_in old grain)))
+    → ((types : ProgramTree) → found_in types new ≡ fold put_state (found_in types old) (written c)) → IsStoreOf new (after_entry before (Recorded c))
+stands_after old new before c has held states = record {
+  held = λ grain. held grain ∙ ap (λ (b : Bool). is_among (written c) grain || b) (has.held grain);
+  states = states before.program.types ∙ ap (λ (s : States). fold put_state s (written c)) has.states;
+}
 
 -- ---- one after another
 
-serial_both : (types : ProgramTree) (states : States) (a b : List Commit) → IsSerial types states a → IsSerial types (states_after states a) b → IsSerial types states (a ++ b)
-serial_both types states [] b first rest = rest
-serial_both types states (c ∷ a) b first rest = (first.0, serial_both types (after_writes states c) a b first.1 rest)
+serial_both : (before : Standing) (a b : List LogEntry) → IsSerialFrom before a → IsSerialFrom (after_entries before a) b → IsSerialFrom before (a ++ b)
+serial_both before [] b first rest = rest
+serial_both before (Recorded c ∷ a) b first rest = (first.0, serial_both (after_entry before (Recorded c)) a b first.1 rest)
+serial_both before (Upgraded p ∷ a) b first rest = serial_both (after_entry before (Upgraded p)) a b first rest
 
-after_both : (states : States) (a b : List Commit) → states_after states (a ++ b) ≡ states_after (states_after states a) b
-after_both states [] b = refl
-after_both states (c ∷ a) b = after_both (after_writes states c) a b
-
-module _ (types : ProgramTree) (live : ℕ) (shape : Shape) (image : Image) (start : States) where
-  abbrev commits : List CommitRecord → List Commit
-  commits records = as_commits live shape image records
+module _ (live : ℕ) (shape : Shape) (image : Image) where
+  abbrev entered : List CommitRecord → List LogEntry
+  entered records = entries_of_records live shape image records
 
   abbrev commit : CommitRecord → Commit
   commit r = commit_of live shape image r
 
-  commits_both : (a b : List CommitRecord) → commits (a ++ b) ≡ commits a ++ commits b
-  commits_both a b = map-append commit a b
+  entered_both : (a b : List CommitRecord) → entered (a ++ b) ≡ entered a ++ entered b
+  entered_both a b = ap (λ (cs : List Commit). map Recorded cs) (map-append commit a b) ∙ map-append Recorded (map commit a) (map commit b)
 
-  -- of these records, those before the ones that are left replay, and leave these states
-  pub record HasReplayed (records left : List CommitRecord) (now : States) : Type 0 where
-    pub front : List CommitRecord
-    pub split : records ≡ front ++ left
-    pub serial : IsSerial types start (commits front)
-    pub states : now ≡ states_after start (commits front)
+  module _ (before : Standing) where
+    abbrev pub after : List CommitRecord → Standing
+    after records = after_entries before (entered records)
 
-  pub replayed_none : (records : List CommitRecord) (now : States) → now ≡ start → HasReplayed records records now
-  replayed_none records now is = record { front = []; split = refl; serial = tt; states = is }
+    after_both : (a b : List CommitRecord) → after (a ++ b) ≡ after_entries (after a) (entered b)
+    after_both a b = ap (λ (es : List LogEntry). after_entries before es) (entered_both a b) ∙ in_parts before (entered a) (entered b)
 
-  pub replayed_more : (records left more : List CommitRecord) (r : CommitRecord) (now new : States) → HasReplayed records left now → left ≡ r ∷ more → ReplaysTo types now (commit r) new None → HasReplayed records more new
-  replayed_more records left more r now new h next to =
-      let seam : commits (h.front ++ r ∷ []) ≡ commits h.front ++ (commit r ∷ []) = commits_both h.front (r ∷ []) in
-      record {
-        front = h.front ++ r ∷ [];
-        split = h.split ∙ ap (λ (l : List CommitRecord). h.front ++ l) next ∙ sym (append_assoc h.front (r ∷ []) more);
-        serial = subst (λ (l : List Commit). IsSerial types start l) (sym seam) (serial_both types start (commits h.front) (commit r ∷ []) h.serial (subst (λ (s : States). Replays types s (commit r)) h.states to.0, tt));
-        states = to.1 ∙ ap (λ (s : States). after_writes s (commit r)) h.states ∙ sym (ap (λ (l : List Commit). states_after start l) seam ∙ after_both start (commits h.front) (commit r ∷ []));
-      }
+    -- records leave the program in force
+    pub stays_typed : (records : List CommitRecord) (types : ProgramTree) → before.program.types ≡ types → (after records).program.types ≡ types
+    stays_typed records types program = ap (λ (p : Program). p.types) (program_stays before (map commit records)) ∙ program
 
-  pub replayed_bad : (records left more : List CommitRecord) (r : CommitRecord) (now : States) (bad : Bad) → HasReplayed records left now → left ≡ r ∷ more → FailsToReplay types now (commit r) bad → FailsFirst types start (commits records) bad
-  replayed_bad records left more r now bad h next fails = record {
-    front = commits h.front;
-    here = commit r;
-    back = commits more;
-    are = ap commits (h.split ∙ ap (λ (l : List CommitRecord). h.front ++ l) next) ∙ commits_both h.front (r ∷ more);
-    serial = h.serial;
-    fails = subst (λ (s : States). FailsToReplay types s (commit r) bad) h.states fails;
-  }
+    -- of these records, those before the ones that are left replay, and the store has what stands after them
+    pub record HasReplayed (records left : List CommitRecord) (now : Store) : Type 0 where
+      pub front : List CommitRecord
+      pub split : records ≡ front ++ left
+      pub serial : IsSerialFrom before (entered front)
+      pub has : IsStoreOf now (after front)
 
-  pub replayed_found : (records left more : List CommitRecord) (r : CommitRecord) (now new : States) (found : Option Bad) → HasReplayed records left now → left ≡ r ∷ more → is_some found ≡ true → ReplaysTo types now (commit r) new found
-      → AllReplayTo types start (commits records) new found
-  replayed_found records left more r now new None h next some to = absurd cc
-  replayed_found records left more r now new (Some bad) h next some to = replayed_bad records left more r now bad h next to
+    pub replayed_none : (records : List CommitRecord) (now : Store) → IsStoreOf now before → HasReplayed records records now
+    replayed_none records now has = record { front = []; split = refl; serial = tt; has = has }
 
-  pub replayed_next : (records left more : List CommitRecord) (r : CommitRecord) (now new : States) (found : Option Bad) → HasReplayed records left now → left ≡ r ∷ more → is_some found ≡ false → ReplaysTo types now (commit r) new found
-      → HasReplayed records more new
-  replayed_next records left more r now new None h next none to = replayed_more records left more r now new h next to
-  replayed_next records left more r now new (Some bad) h next none to = absurd cc
+    pub replayed_more : (records left more : List CommitRecord) (r : CommitRecord) (now new : Store) (h : HasReplayed records left now) → left ≡ r ∷ more → ReplaysTo (after h.front) (commit r) new None → HasReplayed records more new
+    replayed_more records left more r now new h next to = record {
+      front = h.front ++ r ∷ [];
+      split = h.split ∙ ap (λ (l : List CommitRecord). h.front ++ l) next ∙ sym (append_assoc h.front (r ∷ []) more);
+      serial = subst (λ (l : List LogEntry). IsSerialFrom before l) (sym (entered_both h.front (r ∷ []))) (serial_both before (entered h.front) (Recorded (commit r) ∷ []) h.serial (to.0, tt));
+      has = subst (λ (s : Standing). IsStoreOf new s) (sym (after_both h.front (r ∷ []))) to.1;
+    }
 
-  pub replayed_all : (records left : List CommitRecord) (now : States) → HasReplayed records left now → left ≡ [] → AllReplayTo types start (commits records) now None
-  replayed_all records left now h none =
-      let all : h.front ≡ records = sym (h.split ∙ ap (λ (l : List CommitRecord). h.front ++ l) none ∙ append-nil h.front) in
-      (subst (λ (l : List CommitRecord). IsSerial types start (commits l)) all h.serial, h.states ∙ ap (λ (l : List CommitRecord). states_after start (commits l)) all)
+    pub replayed_bad : (records left more : List CommitRecord) (r : CommitRecord) (now : Store) (bad : Bad) (h : HasReplayed records left now) → left ≡ r ∷ more → FailsToReplay (after h.front).program.types (after h.front).states (commit r) bad
+        → FailsFirst before (entered records) bad
+    replayed_bad records left more r now bad h next fails = record {
+      front = entered h.front;
+      here = commit r;
+      back = entered more;
+      are = ap entered (h.split ∙ ap (λ (l : List CommitRecord). h.front ++ l) next) ∙ entered_both h.front (r ∷ more);
+      serial = h.serial;
+      fails = fails;
+    }
+
+    pub replayed_found : (records left more : List CommitRecord) (r : CommitRecord) (now new : Store) (found : Option Bad) (h : HasReplayed records left now) → left ≡ r ∷ more → is_some found ≡ true
+        → ReplaysTo (after h.front) (commit r) new found → AllReplayTo before (entered records) new found
+    replayed_found records left more r now new None h next some to = absurd cc
+    replayed_found records left more r now new (Some bad) h next some to = replayed_bad records left more r now bad h next to
+
+    pub replayed_next : (records left more : List CommitRecord) (r : CommitRecord) (now new : Store) (found : Option Bad) (h : HasReplayed records left now) → left ≡ r ∷ more → is_some found ≡ false
+        → ReplaysTo (after h.front) (commit r) new found → HasReplayed records more new
+    replayed_next records left more r now new None h next none to = replayed_more records left more r now new h next to
+    replayed_next records left more r now new (Some bad) h next none to = absurd cc
+
+    pub replayed_all : (records left : List CommitRecord) (now : Store) → HasReplayed records left now → left ≡ [] → AllReplayTo before (entered records) now None
+    replayed_all records left now h none =
+        let all : h.front ≡ records = sym (h.split ∙ ap (λ (l : List CommitRecord). h.front ++ l) none ∙ append-nil h.front) in
+        (subst (λ (l : List CommitRecord). IsSerialFrom before (entered l)) all h.serial, subst (λ (l : List CommitRecord). IsStoreOf now (after l)) all h.has)
 
 -- ---- block by block
 
-module _ (types : ProgramTree) (live : ℕ) (shape : Shape) (image : Image) (file : List ℕ) where
-  -- the states that a log begins with
-  abbrev start_of : LogBase → States
-  start_of base = base_states live types shape image base
+module _ (p : Program) (live : ℕ) (image : Image) (file : List ℕ) where
+  -- what a log of this program stands for that begins so
+  abbrev start_of : LogBase → Standing
+  start_of base = (log_of live p image (record { base = base; entries = [] })).base
 
-  -- the records that were read replay, and leave these states
-  pub record HasAudited (gate : ℕ) (now : States) : Type 0 where
+  -- the entries that are read
+  abbrev made : List ReadEntry → List LogEntry
+  made entries = entries_logged live p image entries
+
+  -- what stands after these
+  abbrev pub stands : LogBase → List ReadEntry → Standing
+  stands base entries = after_entries (start_of base) (made entries)
+
+  -- those of a block more
+  more_made : (done : List ReadEntry) (q : Program) (more : List ReadEntry) → program_after p done ≡ q → made (done ++ more) ≡ made done ++ entries_logged live q image more
+  more_made done q more is = logged_both live image p done more ∙ ap (λ (r : Program). made done ++ entries_logged live r image more) is
+
+  stands_program : (base : LogBase) (done : List ReadEntry) → (stands base done).program ≡ program_after p done
+  stands_program base done = program_logged live image p (start_of base) refl done
+
+  -- the entries that were read replay, and the store has what stands after them, under a program of these types
+  pub record HasAudited (gate : ℕ) (types : ProgramTree) (now : Store) : Type 0 where
     pub base : LogBase
-    pub records : List CommitRecord
-    pub follows : IsFollowedBy One shape file base records gate
-    pub serial : IsSerial types (start_of base) (as_commits live shape image records)
-    pub states : now ≡ states_after (start_of base) (as_commits live shape image records)
+    pub entries : List ReadEntry
+    pub follows : IsFollowedBy One p file base entries gate
+    pub in_force : (program_after p entries).types ≡ types
+    pub serial : IsSerialFrom (start_of base) (made entries)
+    pub has : IsStoreOf now (stands base entries)
 
-  pub audit_begun : (base : LogBase) (gate : ℕ) (now : States) → IsFollowedBy One shape file base [] gate → now ≡ start_of base → HasAudited gate now
-  audit_begun base gate now begins is = record { base = base; records = []; follows = begins; serial = tt; states = is }
+  pub audit_begun : (base : LogBase) (gate : ℕ) (types : ProgramTree) (now : Store) → p.types ≡ types → IsFollowedBy One p file base [] gate → IsStoreOf now (start_of base) → HasAudited gate types now
+  audit_begun base gate types now first begins has = record { base = base; entries = []; follows = begins; in_force = first; serial = tt; has = has }
 
-  pub audit_more : (gate : ℕ) (now new : States) (more : List CommitRecord) (behind : ℕ) → HasAudited gate now → next_in One shape gate file ≡ Ok (Some (more, behind))
-      → AllReplayTo types now (as_commits live shape image more) new None → HasAudited behind new
-  audit_more gate now new more behind h step to =
-      let start = start_of h.base in
-      let seam : as_commits live shape image (h.records ++ more) ≡ as_commits live shape image h.records ++ as_commits live shape image more = map-append (commit_of live shape image) h.records more in
-      record {
+  module _ (gate : ℕ) (types : ProgramTree) (now : Store) (h : HasAudited gate types now) where
+    -- what stands before the next block
+    abbrev pub before : Standing
+    before = stands h.base h.entries
+
+    pub before_types : before.program.types ≡ types
+    before_types = ap (λ (q : Program). q.types) (stands_program h.base h.entries) ∙ h.in_force
+
+    step_here : (r : Result (Option (BodyEntry × ℕ)) ℕ) → next_in One types gate file ≡ r → next_in One (program_after p h.entries).types gate file ≡ r
+    step_here r step = ap (λ (t : ProgramTree). next_in One t gate file) h.in_force ∙ step
+
+    -- a damage behind them is one of the log
+    pub audit_broken : (place : ℕ) → next_in One types gate file ≡ Err place → log_in_file One p file ≡ Err place
+    audit_broken place step = follows_breaks One p file h.base h.entries gate h.follows place (step_here (Err place) step)
+
+    pub audit_done : next_in One types gate file ≡ Ok None → (log : LogRead) → log_in_file One p file ≡ Ok log → IsFirstFailure (log_of live p image log).base (log_of live p image log).entries None
+    audit_done end log is =
+        let same = all_read p file h.base h.entries gate h.follows (step_here (Ok None) end) log is in
+        subst (λ (l : List ReadEntry). IsSerialFrom (start_of log.base) (made l)) same.1 (subst (λ (b : LogBase). IsSerialFrom (start_of b) (made h.entries)) same.0 h.serial)
+
+    module _ (entry : BodyEntry) (behind : ℕ) (step : next_in One types gate file ≡ Ok (Some (entry, behind))) where
+      abbrev said : List ReadEntry
+      said = entries_said entry
+
+      -- its entries, under the program in force
+      abbrev pub said_made : List LogEntry
+      said_made = entries_logged live before.program image said
+
+      on : IsFollowedBy One p file h.base (h.entries ++ said) behind
+      on = follows_on One p file h.base h.entries gate h.follows entry behind (step_here (Ok (Some (entry, behind))) step)
+
+      seam : made (h.entries ++ said) ≡ made h.entries ++ said_made
+      seam = more_made h.entries before.program said (sym (stands_program h.base h.entries))
+
+      pub rest_said : (log : LogRead) → log_in_file One p file ≡ Ok log → (rest : List ReadEntry) × (log.entries ≡ (h.entries ++ said) ++ rest)
+      rest_said log is = (rest_of p file h.base (h.entries ++ said) behind on log is).1
+
+      pub audit_more : (new : Store) → AllReplayTo before said_made new None → HasAudited behind (types_behind types entry) new
+      audit_more new to = record {
         base = h.base;
-        records = h.records ++ more;
-        follows = follows_on One shape file h.base h.records gate h.follows more behind step;
-        serial = subst (λ (l : List Commit). IsSerial types start l) (sym seam)
-            (serial_both types start (as_commits live shape image h.records) (as_commits live shape image more) h.serial (subst (λ (s : States). IsSerial types s (as_commits live shape image more)) h.states to.0));
-        states = to.1 ∙ ap (λ (s : States). states_after s (as_commits live shape image more)) h.states
-            ∙ sym (ap (λ (l : List Commit). states_after start l) seam ∙ after_both start (as_commits live shape image h.records) (as_commits live shape image more));
+        entries = h.entries ++ said;
+        follows = on;
+        in_force = ap (λ (q : Program). q.types) (after_more p h.entries entry) ∙ behind_is (program_after p h.entries) types entry h.in_force;
+        serial = subst (λ (l : List LogEntry). IsSerialFrom (start_of h.base) l) (sym seam) (serial_both (start_of h.base) (made h.entries) said_made h.serial to.0);
+        has = subst (λ (s : Standing). IsStoreOf new s) (sym (ap (λ (es : List LogEntry). after_entries (start_of h.base) es) seam ∙ in_parts (start_of h.base) (made h.entries) said_made)) to.1;
       }
 
-  pub audit_bad : (gate : ℕ) (now : States) (more : List CommitRecord) (behind : ℕ) (bad : Bad) → HasAudited gate now → next_in One shape gate file ≡ Ok (Some (more, behind)) → FailsFirst types now (as_commits live shape image more) bad
-      → (log : LogRead) → log_in_file One shape file ≡ Ok log → FailsFirst types (start_of log.base) (as_commits live shape image log.records) bad
-  audit_bad gate now more behind bad h step f log is =
-      let start = start_of h.base in
-      let left = rest_of shape file h.base (h.records ++ more) behind (follows_on One shape file h.base h.records gate h.follows more behind step) log is in
-      let rest = left.1 in
-      let made = commit_of live shape image in
-      let done : List Commit = map made h.records in
-      let all : map made log.records ≡ done ++ (f.front ++ (f.here ∷ (f.back ++ map made rest.0))) =
-      ap (map made) rest.1 ∙ map-append made (h.records ++ more) rest.0 ∙ ap (λ (l : List Commit). l ++ map made rest.0) (map-append made h.records more ∙ ap (λ (l : List Commit). done ++ l) f.are)
-      ∙ append_assoc done (f.front ++ (f.here ∷ f.back)) (map made rest.0) ∙ ap (λ (l : List Commit). done ++ l) (append_assoc f.front (f.here ∷ f.back) (map made rest.0)) in
-      subst (λ (b : LogBase). FailsFirst types (start_of b) (map made log.records) bad) left.0 (record {
-        front = done ++ f.front;
-        here = f.here;
-        back = f.back ++ map made rest.0;
-        are = all ∙ sym (append_assoc done f.front (f.here ∷ (f.back ++ map made rest.0)));
-        serial = serial_both types start done f.front h.serial (subst (λ (s : States). IsSerial types s f.front) h.states f.serial);
-        fails = subst (λ (s : States). FailsToReplay types s f.here bad) (ap (λ (s : States). states_after s f.front) h.states ∙ sym (after_both start done f.front)) f.fails;
-      })
+      audit_bad : (bad : Bad) → FailsFirst before said_made bad → (log : LogRead) → log_in_file One p file ≡ Ok log → FailsFirst (start_of log.base) (made log.entries) bad
+      audit_bad bad f log is =
+          let start = start_of h.base in
+          let left = rest_of p file h.base (h.entries ++ said) behind on log is in
+          let rest = left.1 in
+          let done : List LogEntry = made h.entries in
+          let later : List LogEntry = entries_logged live (program_after p (h.entries ++ said)) image rest.0 in
+          let all : made log.entries ≡ done ++ (f.front ++ (Recorded f.here ∷ (f.back ++ later))) =
+          ap made rest.1 ∙ logged_both live image p (h.entries ++ said) rest.0 ∙ ap (λ (l : List LogEntry). l ++ later) (seam ∙ ap (λ (l : List LogEntry). done ++ l) f.are)
+          ∙ append_assoc done (f.front ++ (Recorded f.here ∷ f.back)) later ∙ ap (λ (l : List LogEntry). done ++ l) (append_assoc f.front (Recorded f.here ∷ f.back) later) in
+          subst (λ (b : LogBase). FailsFirst (start_of b) (made log.entries) bad) left.0 (record {
+            front = done ++ f.front;
+            here = f.here;
+            back = f.back ++ later;
+            are = all ∙ sym (append_assoc done f.front (Recorded f.here ∷ (f.back ++ later)));
+            serial = serial_both start done f.front h.serial f.serial;
+            fails = subst (λ (s : Standing). FailsToReplay s.program.types s.states f.here bad) (sym (in_parts start done f.front)) f.fails;
+          })
 
-  pub audit_found : (gate : ℕ) (now new : States) (more : List CommitRecord) (behind : ℕ) (found : Option Bad) → HasAudited gate now → next_in One shape gate file ≡ Ok (Some (more, behind)) → is_some found ≡ true
-      → AllReplayTo types now (as_commits live shape image more) new found → (log : LogRead) → log_in_file One shape file ≡ Ok log → IsFirstFailure types (start_of log.base) (as_commits live shape image log.records) found
-  audit_found gate now new more behind None h step some to log is = absurd cc
-  audit_found gate now new more behind (Some bad) h step some to log is = audit_bad gate now more behind bad h step to log is
+      pub audit_found : (new : Store) (found : Option Bad) → is_some found ≡ true → AllReplayTo before said_made new found → (log : LogRead) → log_in_file One p file ≡ Ok log
+          → IsFirstFailure (log_of live p image log).base (log_of live p image log).entries found
+      audit_found new None some to log is = absurd cc
+      audit_found new (Some bad) some to log is = audit_bad bad to log is
 
-  pub audit_next : (gate : ℕ) (now new : States) (more : List CommitRecord) (behind : ℕ) (found : Option Bad) → HasAudited gate now → next_in One shape gate file ≡ Ok (Some (more, behind)) → is_some found ≡ false
-      → AllReplayTo types now (as_commits live shape image more) new found → HasAudited behind new
-  audit_next gate now new more behind None h step none to = audit_more gate now new more behind h step to
-  audit_next gate now new more behind (Some bad) h step none to = absurd cc
-
-  pub audit_done : (gate : ℕ) (now : States) → HasAudited gate now → next_in One shape gate file ≡ Ok None → (log : LogRead) → log_in_file One shape file ≡ Ok log → IsFirstFailure types (start_of log.base) (as_commits live shape image log.records) None
-  audit_done gate now h end log is =
-      let same = all_read shape file h.base h.records gate h.follows end log is in
-      subst (λ (l : List CommitRecord). IsSerial types (start_of log.base) (as_commits live shape image l)) same.1 (subst (λ (b : LogBase). IsSerial types (start_of b) (as_commits live shape image h.records)) same.0 h.serial)
+      pub audit_next : (new : Store) (found : Option Bad) → is_some found ≡ false → AllReplayTo before said_made new found → HasAudited behind (types_behind types entry) new
+      audit_next new None none to = audit_more new to
+      audit_next new (Some bad) none to = absurd cc

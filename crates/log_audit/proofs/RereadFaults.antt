@@ -1,7 +1,6 @@
 -- Faults of reading again, as those of a report.
 use Rattle.std.proofs.Common.{◌≡◌, ◌⊎◌, inl, inr, ℕ, List, Result, Ok, Err, refl, sym, ◌∙◌, ap, subst}
 use Rattle.base_types.specs.declared.calls.GrainId.{GrainId}
-use Rattle.base_types.specs.declared.shapes.Shape.{Shape}
 use Rattle.host_trait.specs.declared.channels.Channel.{Channel}
 use Rattle.host_trait.specs.declared.channels.FileId.{FileId}
 use Rattle.host_trait.specs.declared.channels.FileId.TheVariants.{Grain}
@@ -12,6 +11,8 @@ use Rattle.log_reading.specs.Counts.{ReadFaulted}
 use Rattle.log_reading.specs.Steps.{next_in}
 use Rattle.log_reading.specs.declared.faults.FolderFault.{FolderFault}
 use Rattle.log_reading.proofs.Errors.{failed}
+use Rattle.script_tree.specs.Programs.{ProgramTree}
+use Rattle.promise_spec.specs.Programs.{Program}
 use Rattle.promise_spec.specs.Endings.{HasFailedAs}
 use Rattle.silo_opening.specs.declared.faults.OpenFault.{OpenFault}
 use Rattle.silo_opening.specs.Counts.{OpenFaulted}
@@ -48,13 +49,13 @@ never_last e (FolderFault.Damaged at place) is last = absurd cc
 never_last e (FolderFault.Failed at) is last = absurd cc
 never_last e FolderFault.Memory is last = absurd cc
 
-module _ (shape : Shape) (file : List ℕ) where
-  pub folder_ends : (slot : ℕ) (log : LogRead) → log_in_file One shape file ≡ Ok log → (e : FolderFault) → IsLogFault slot shape file e → MayEnd (fault_ending (from_folder e))
-  folder_ends slot log is (FolderFault.Damaged at place) here = absurd (let no : Err place ≡ Ok log = sym here ∙ is in cc)
-  folder_ends slot log is (FolderFault.Failed at) here = inr tt
-  folder_ends slot log is FolderFault.Memory here = inr tt
+pub folder_ends : (p : Program) (file : List ℕ) (slot : ℕ) (log : LogRead) → log_in_file One p file ≡ Ok log → (e : FolderFault) → IsLogFault slot p file e → MayEnd (fault_ending (from_folder e))
+folder_ends p file slot log is (FolderFault.Damaged at place) here = absurd (let no : Err place ≡ Ok log = sym here ∙ is in cc)
+folder_ends p file slot log is (FolderFault.Failed at) here = inr tt
+folder_ends p file slot log is FolderFault.Memory here = inr tt
 
-  pub block_fault : {A : Type 0} (gate : ℕ) (e : FolderFault) → ((at : FileId) (place : ℕ) → failed {A = A} e ≡ failed (FolderFault.Damaged at place) → next_in One shape gate file ≡ Err place) → IsBlockFault shape gate file (from_folder e)
-  block_fault gate (FolderFault.Damaged at place) damaged = damaged at place refl
-  block_fault gate (FolderFault.Failed at) damaged = tt
-  block_fault gate FolderFault.Memory damaged = tt
+pub block_fault : {A : Type 0} (types : ProgramTree) (file : List ℕ) (gate : ℕ) (e : FolderFault) → ((at : FileId) (place : ℕ) → failed {A = A} e ≡ failed (FolderFault.Damaged at place) → next_in One types gate file ≡ Err place)
+    → IsBlockFault types gate file (from_folder e)
+block_fault types file gate (FolderFault.Damaged at place) damaged = damaged at place refl
+block_fault types file gate (FolderFault.Failed at) damaged = tt
+block_fault types file gate FolderFault.Memory damaged = tt

@@ -1,16 +1,14 @@
 -- A report of a folder, opened or not, as its call shows it.
-use Rattle.std.proofs.Common.{◌≡◌, inr, ℕ, true, List, ◌++◌, Option, Some, None, Result, Ok, Err, refl, sym, ◌∙◌, ap, subst}
+use Rattle.std.proofs.Common.{◌≡◌, inr, ℕ, true, List, ◌++◌, Option, Result, Ok, Err, refl, sym, ◌∙◌, ap, subst}
 use Rattle.std.specs.Prelude.{is_ok}
 use Rattle.base_types.specs.declared.calls.GrainId.{GrainId}
 use Rattle.host_trait.specs.declared.channels.Channel.{Channel}
-use Rattle.host_trait.specs.declared.channels.FileId.{FileId}
-use Rattle.host_trait.specs.declared.channels.FileId.TheVariants.{Manager, Program as ProgramFile}
+use Rattle.host_trait.specs.declared.channels.FileId.TheVariants.{Manager}
 use Rattle.host_trait.specs.Disk.{settled}
 use Rattle.host_trait.specs.Faults.{NoneFailed}
-use Rattle.host_trait.specs.World.{World, Moment, Disk, Image, IsImage, moment_of}
+use Rattle.host_trait.specs.World.{World, Moment, Disk, IsImage, moment_of}
 use Rattle.host_trait.proofs.Moments.{both, weaker}
 use Rattle.host_trait.proofs.Runs.{settled_image}
-use Rattle.field_codec.specs.declared.formats.Format.TheVariants.{One}
 use Rattle.log_reading.specs.Steps.{seen_in}
 use Rattle.silo_spec.specs.Moments.{IsAsAtEntry}
 use Rattle.silo_spec.specs.OpenedDisks.{OnlyOpens}
@@ -18,61 +16,19 @@ use Rattle.silo_opening.specs.Counts.{OpenFaulted}
 use Rattle.silo_opening.specs.OpenedSilo.{ending_of}
 use Rattle.silo_opening.specs.declared.faults.OpenFault.{OpenFault}
 use Rattle.silo_opening.proofs.OpeningCalls.{opens_untouched}
-use Rattle.promise_spec.specs.Programs.{Program, shape_in}
 use Rattle.promise_spec.specs.Entries.{Log, standing_of}
-use Rattle.promise_spec.specs.Openings.{Reads, LogRead, program_in_file, log_in_file, named_in, named_by_grain, first_missing, log_of, with_versions, with_log, with_program, live_in, with_slot, opened_as}
+use Rattle.promise_spec.specs.Openings.{Reads, opened_as}
 use Rattle.promise_spec.specs.Words.{Manner}
 use Rattle.promise_spec.specs.Refusals.{IsRefusedBy, IsUnopened}
 use Rattle.promise_spec.specs.Reports.{AreHeld, show_text, audit_text}
 use Rattle.promise_spec.specs.Commands.{LeavesAsBefore, IsReported, IsShown, IsFirstBad, IsAudited}
-use Rattle.promise_spec.specs.Endings.{Ending, Done, BadUse, Memory, ReadFault, WriteFault, DiskFault, NotASilo, AlreadyASilo, Damaged, BadProgram, InputTooLong, LastGeneration, HasRisen, HasFailedAs}
-use Rattle.promise_spec.proofs.Openings.{reads_is}
-use Rattle.promise_spec.proofs.Standings.{in_force}
+use Rattle.promise_spec.specs.Endings.{Ending, Done, BadUse, Memory, ReadFault, WriteFault, DiskFault, NotASilo, AlreadyASilo, Damaged, BadProgram, InputTooLong, LastGeneration, UpgradeRefused, HasRisen, HasFailedAs}
 use Rattle.log_audit.specs.declared.faults.ReportFault.{ReportFault}
 use Rattle.log_audit.specs.Endings.{report_ending, reported_as, MayEnd}
 use Rattle.log_audit.specs.ReportOutput.{PutsPart}
 
 abbrev Counts : Type 0
 Counts = Channel → ℕ
-
--- ---- what a folder was read of
-
--- what was read of a folder that reads as this live slot and log, of this program, whose versions are all there
-pub record HasParts (image : Image) (live : ℕ) (p : Program) (log : Log) : Type 0 where
-  pub read : LogRead
-  pub program : program_in_file (image (ProgramFile live)) ≡ Ok p
-  pub is : log_in_file One (shape_in p) (image (Manager live)) ≡ Ok read
-  pub whole : first_missing live One (shape_in p) image (named_by_grain (named_in read)) ≡ None
-  pub are : log_of live p image read ≡ log
-
-module _ (image : Image) (live : ℕ) (p : Program) (log : Log) (is : (standing_of log).program ≡ p) where
-  versions_by : (s : ℕ) (q : Program) (l : LogRead) (missing : Option (FileId × ℕ)) → with_versions s q image l missing ≡ Reads live log
-      → (missing ≡ None) × (s ≡ live) × (log_of s q image l ≡ log)
-  versions_by s q l None e = let t = reads_is s live (log_of s q image l) log e in (refl, t.0, t.1)
-  versions_by s q l (Some missing) e = absurd cc
-
-  -- the program that the log was read with is its own
-  own_program : (s : ℕ) (q : Program) (l : LogRead) → log_of s q image l ≡ log → q ≡ p
-  own_program s q l are = sym (in_force (log_of s q image l).base (log_of s q image l).entries) ∙ ap (λ (l : Log). (standing_of l).program) are ∙ is
-
-  records_by : (s : ℕ) (q : Program) → program_in_file (image (ProgramFile s)) ≡ Ok q → (r : Result LogRead ℕ) → log_in_file One (shape_in q) (image (Manager s)) ≡ r → with_log s q image r ≡ Reads live log → HasParts image live p log
-  records_by s q program (Ok l) read e =
-      let t = versions_by s q l (first_missing s One (shape_in q) image (named_by_grain (named_in l))) e in
-      let here : HasParts image s q log = record { read = l; program = program; is = read; whole = t.0; are = t.2 } in
-      let own : q ≡ p = own_program s q l t.2 in
-      subst (λ (n : ℕ). HasParts image n p log) t.1 (subst (λ (x : Program). HasParts image s x log) own here)
-  records_by s q program (Err place) read e = absurd cc
-
-  program_by : (s : ℕ) (r : Result Program ℕ) → program_in_file (image (ProgramFile s)) ≡ r → with_program s image r ≡ Reads live log → HasParts image live p log
-  program_by s (Ok q) program e = records_by s q program (log_in_file One (shape_in q) (image (Manager s))) refl e
-  program_by s (Err place) program e = absurd cc
-
-  slot_by : (o : Option ℕ) → with_slot image o ≡ Reads live log → HasParts image live p log
-  slot_by None e = absurd cc
-  slot_by (Some s) e = program_by s (program_in_file (image (ProgramFile s))) refl e
-
-  pub parts_of : opened_as image ≡ Reads live log → HasParts image live p log
-  parts_of e = slot_by (live_in image) e
 
 -- ---- counts
 
@@ -101,6 +57,7 @@ failed_risen old new (Damaged file place) f = tt
 failed_risen old new (BadProgram fault) f = tt
 failed_risen old new (InputTooLong line) f = tt
 failed_risen old new LastGeneration f = tt
+failed_risen old new (UpgradeRefused at) f = tt
 
 -- no report ends with bad use
 pub never_bad_use : {A : Type 0} (r : Result A ReportFault) → report_ending r ≡ BadUse → ⊥

@@ -1,7 +1,7 @@
 -- What an audit says of a folder.
 use Rattle.std.specs.Prelude.{◌≡◌, ℕ, Option, Some, None}
 use Rattle.host_trait.specs.World.{Image}
-use Rattle.promise_spec.specs.Entries.{Log, records_of, standing_of}
+use Rattle.promise_spec.specs.Entries.{Log, standing_of}
 use Rattle.promise_spec.specs.Openings.{Reads, opened_as}
 use Rattle.log_audit.specs.declared.audits.AuditReport.{AuditReport}
 use Rattle.log_audit.specs.declared.replay.Bad.{Bad}
@@ -13,10 +13,10 @@ bad_unit None = None
 bad_unit (Some bad) = Some bad.unit.0
 
 -- The folder reads as this live slot and log; the log has so many entries, and that is the first record which doesn't replay from its
--- base, under its program.
+-- base, each under the program of its time.
 pub record IsAuditOf (image : Image) (report : AuditReport) : Type 0 where
   pub live : ℕ
   pub log : Log
   pub reads : opened_as image ≡ Reads live log
   pub count : report.count ≡ (standing_of log).count
-  pub first : IsFirstFailure log.base.program.types log.base.states (records_of log) report.first_bad
+  pub first : IsFirstFailure log.base log.entries report.first_bad

@@ -1,7 +1,9 @@
 pub mod Lines
+pub mod InForce
 pub mod WrittenGrains
 pub mod RereadFaults
 pub mod ReportOutput
 pub mod Endings
 pub mod Replays
+pub mod CarriedStores
 pub mod AuditAnswers

@@ -1,5 +1,5 @@
 -- The lines of the reports, from what a program's shape and types say.
-use Rattle.std.specs.Prelude.{ℕ, List, [], ◌∷◌, ◌++◌, codes, option_map, unwrap_or, slice_get, Option}
+use Rattle.std.specs.Prelude.{ℕ, List, length, [], ◌∷◌, ◌++◌, codes, option_map, unwrap_or, slice_get, Option}
 use Rattle.std.specs.List.{flat_map}
 use Rattle.base_types.specs.declared.calls.Call.{Call}
 use Rattle.base_types.specs.declared.calls.GrainId.{GrainId}
@@ -8,6 +8,10 @@ use Rattle.base_types.specs.declared.shapes.Shape.{Shape}
 use Rattle.base_types.specs.declared.stores.Store.{Store}
 use Rattle.commit_log.specs.declared.records.CommitRecord.{CommitRecord}
 use Rattle.request_wire.specs.Reply.{grain_text, counted}
+use Rattle.log_entries.specs.Entries.{BodyEntry, Recorded, Upgraded}
+use Rattle.log_reading.specs.Blocks.{ReadEntry, ReadRecord, ReadUpgrade}
+use Rattle.program_file.specs.Programs.{Program, shape_in}
+use Rattle.script_check.specs.Shapes.{type_shapes}
 use Rattle.script_tree.specs.declared.programs.FieldDecl.{FieldDecl}
 use Rattle.script_tree.specs.Programs.{ProgramTree}
 use Rattle.script_meaning.specs.Calls.{numbered}
@@ -29,7 +33,7 @@ grain_data shape types grain state =
 abbrev pub grain_lines : Shape → ProgramTree → Store → List GrainId → List ℕ
 grain_lines shape types store grains = flat_map (λ g. line_of (grain_data shape types g (found_in types store g))) grains
 
--- the number of records
+-- the number of entries
 abbrev pub count_data : ℕ → Data
 count_data count = object (counted (codes "count") count no_members)
 
@@ -48,6 +52,21 @@ record_data shape types r =
 -- the lines of these records
 abbrev pub record_lines : Shape → ProgramTree → List CommitRecord → List ℕ
 record_lines shape types records = flat_map (λ r. line_of (record_data shape types r)) records
+
+-- an upgrade, by its text's length in bytes
+abbrev pub upgrade_data : ℕ → Data
+upgrade_data size = object (counted (codes "upgrade") size no_members)
+
+-- the lines of what a block says under the program of these types
+abbrev pub said_lines : ProgramTree → BodyEntry → List ℕ
+said_lines types (Recorded records) = record_lines (record { types = type_shapes types }) types records
+said_lines types (Upgraded q) = line_of (upgrade_data (length q.text))
+
+-- the lines of entries that are read under this program, each under the program of its time
+abbrev pub entry_lines : Program → List ReadEntry → List ℕ
+entry_lines p [] = []
+entry_lines p (ReadRecord r ∷ later) = line_of (record_data (shape_in p) p.types r) ++ entry_lines p later
+entry_lines p (ReadUpgrade q ∷ later) = line_of (upgrade_data (length q.text)) ++ entry_lines q later
 
 -- what an audit found
 abbrev pub audit_data : ℕ → Option ℕ → Data

@@ -1,20 +1,24 @@
--- What playing records over a store gives.
-use Rattle.std.specs.Prelude.{◌≡◌, ◌≢◌, ℕ, ◌++◌, ◌∷◌, Bool, true, false, ◌==◌, ◌&&◌, List, map, fold, slice_get, Option, Some, None}
+-- What playing a log's entries over a store gives.
+use Rattle.std.specs.Prelude.{◌≡◌, ◌≢◌, ℕ, ◌++◌, ◌∷◌, Bool, true, false, ◌==◌, ◌&&◌, List, map, slice_get, Option, Some, None, is_some}
 use Rattle.base_types.specs.declared.calls.GrainId.{GrainId}
 use Rattle.base_types.specs.declared.calls.Value.{Value}
 use Rattle.base_types.specs.declared.calls.Outcome.{Outcome}
 use Rattle.base_types.specs.declared.shapes.Shape.{Shape}
+use Rattle.base_types.specs.declared.stores.Store.{Store}
+use Rattle.base_types.specs.Stores.{state_in}
 use Rattle.base_types.specs.Grains.{same_grain}
 use Rattle.host_trait.specs.World.{Image}
+use Rattle.field_codec.specs.declared.formats.Format.TheVariants.{One}
 use Rattle.commit_log.specs.declared.records.CommitRecord.{CommitRecord}
+use Rattle.commit_log.specs.declared.records.Written.{Written}
 use Rattle.core_model.specs.Equality.{same_state, same_outcome}
 use Rattle.script_tree.specs.Programs.{ProgramTree}
-use Rattle.script_meaning.specs.Play.{initial_of}
-use Rattle.log_reading.specs.Blocks.{LogBase}
-use Rattle.promise_spec.specs.Records.{Commit, States, written, put_state, after_writes}
-use Rattle.promise_spec.specs.SerialExecution.{IsSerial, Replays, played}
-use Rattle.promise_spec.specs.Family.{states_after}
-use Rattle.promise_spec.specs.Openings.{commit_of, states_read}
+use Rattle.script_meaning.specs.Play.{found_in, initial_of}
+use Rattle.log_reading.specs.Versions.{version_named, state_of}
+use Rattle.promise_spec.specs.Records.{Commit, States, written}
+use Rattle.promise_spec.specs.Entries.{LogEntry, Recorded, Standing, after_entry, after_entries}
+use Rattle.promise_spec.specs.SerialExecution.{IsSerialFrom, Replays, played}
+use Rattle.promise_spec.specs.Openings.{commit_of}
 use Rattle.log_audit.specs.declared.replay.Bad.{Bad}
 
 -- one grain with one state
@@ -30,13 +34,18 @@ agree same gives kept asked answers = same && (same_outcome gives kept && (asked
 abbrev pub first_states : ProgramTree → States
 first_states types grain = initial_of (slice_get types grain.kind)
 
--- the states that a log begins with: those that stand at its checkpoint's places, over these
-abbrev pub base_states : ℕ → ProgramTree → Shape → Image → LogBase → States
-base_states live types shape image base = fold put_state (first_states types) (states_read live shape image base)
+-- the states that stand at the places of these writes, whichever units' they are
+abbrev pub states_saved_at : ℕ → Shape → Image → List Written → List (GrainId × List Value)
+states_saved_at live shape image ws = map (λ w. (w.grain, state_of (version_named live One shape image (record { unit = None; program = 0; written = w })))) ws
 
--- the records with the states that stand at their places
-abbrev pub as_commits : ℕ → Shape → Image → List CommitRecord → List Commit
-as_commits live shape image records = map (commit_of live shape image) records
+-- the entries of records, with the states that stand at their places
+abbrev pub entries_of_records : ℕ → Shape → Image → List CommitRecord → List LogEntry
+entries_of_records live shape image records = map Recorded (map (commit_of live shape image) records)
+
+-- The store has what stands: a state of exactly the grains that have one, and each grain's state, under the program in force.
+pub record IsStoreOf (store : Store) (now : Standing) : Type 0 where
+  pub held : (grain : GrainId) → is_some (state_in store grain) ≡ now.held grain
+  pub states : found_in now.program.types store ≡ now.states
 
 -- The record doesn't replay over these states: its unit and result are told, the result that its call gives, and whether
 -- its call writes other grains or states.
@@ -48,26 +57,26 @@ pub record FailsToReplay (types : ProgramTree) (states : States) (c : Commit) (b
   pub other : bad.states_differ ≡ true → (played types states c.logged).writes ≢ written c
   pub fails : Replays types states c → ⊥
 
--- a record was played over these states: it replays, and those after it stand; or it doesn't
-abbrev pub ReplaysTo : ProgramTree → States → Commit → States → Option Bad → Type 0
-ReplaysTo types states c after None = Replays types states c × (after ≡ after_writes states c)
-ReplaysTo types states c after (Some bad) = FailsToReplay types states c bad
+-- a record was played over what stood: it replays, and the store has what stands after it; or it doesn't
+abbrev pub ReplaysTo : Standing → Commit → Store → Option Bad → Type 0
+ReplaysTo before c after None = Replays before.program.types before.states c × IsStoreOf after (after_entry before (Recorded c))
+ReplaysTo before c after (Some bad) = FailsToReplay before.program.types before.states c bad
 
--- of these records, over these states, this is the first that doesn't replay
-pub record FailsFirst (types : ProgramTree) (states : States) (log : List Commit) (bad : Bad) : Type 0 where
-  pub front : List Commit
+-- of these entries, over what stood, this is the first record that doesn't replay, by the program and the states of its time
+pub record FailsFirst (before : Standing) (entries : List LogEntry) (bad : Bad) : Type 0 where
+  pub front : List LogEntry
   pub here : Commit
-  pub back : List Commit
-  pub are : log ≡ front ++ (here ∷ back)
-  pub serial : IsSerial types states front
-  pub fails : FailsToReplay types (states_after states front) here bad
+  pub back : List LogEntry
+  pub are : entries ≡ front ++ (Recorded here ∷ back)
+  pub serial : IsSerialFrom before front
+  pub fails : FailsToReplay (after_entries before front).program.types (after_entries before front).states here bad
 
--- records were played over these states: all replay, and those after them stand; or this is the first that doesn't
-abbrev pub AllReplayTo : ProgramTree → States → List Commit → States → Option Bad → Type 0
-AllReplayTo types states log after None = IsSerial types states log × (after ≡ states_after states log)
-AllReplayTo types states log after (Some bad) = FailsFirst types states log bad
+-- the entries were played over what stood: all records replay, and the store has what stands after them; or this is the first that doesn't
+abbrev pub AllReplayTo : Standing → List LogEntry → Store → Option Bad → Type 0
+AllReplayTo before entries after None = IsSerialFrom before entries × IsStoreOf after (after_entries before entries)
+AllReplayTo before entries after (Some bad) = FailsFirst before entries bad
 
--- the first record that doesn't replay over these states, and none where all do
-abbrev pub IsFirstFailure : ProgramTree → States → List Commit → Option Bad → Type 0
-IsFirstFailure types states log None = IsSerial types states log
-IsFirstFailure types states log (Some bad) = FailsFirst types states log bad
+-- the first record of these entries that doesn't replay over what stood, and none where all do
+abbrev pub IsFirstFailure : Standing → List LogEntry → Option Bad → Type 0
+IsFirstFailure before entries None = IsSerialFrom before entries
+IsFirstFailure before entries (Some bad) = FailsFirst before entries bad

@@ -22,6 +22,7 @@ ghost use Rattle.log_audit.specs.Endings.{report_ending, reported_as, MayEnd};
 ghost use Rattle.log_audit.specs.AuditAnswers.{IsAuditOf, bad_unit};
 
 use crate::faults::{ReportFault, unopened};
+use crate::in_force::InForce;
 use crate::line_writer::write_line;
 use crate::lines::audit_line;
 use crate::replay::{Bad, replay_log};
@@ -30,7 +31,7 @@ use log_reading::FolderFault;
 use silo_opening::{OpenFault, open_silo};
 use std::alloc::{AllocError, Global};
 
-/// What an audit found: the number of records, and the first that doesn't replay.
+/// What an audit found: the number of entries, and the first record that doesn't replay.
 #[derive(Drop)]
 pub struct AuditReport {
     pub count: u64,
@@ -48,9 +49,9 @@ fn not_read(fault: FolderFault) -> OpenFault
     }
 }
 
-/// Plays each record of the log over the store that those before it left, and tells the first that doesn't give its result, as
-/// many answers as were asked for, and its written grains with the states of their versions. There is none exactly where the log
-/// is what the one-thread store gives.
+/// Plays each record of the log, under the program of its time, over the store that the entries before it left, and tells the first that
+/// doesn't give its result, as many answers as were asked for, and its written grains with the states of their versions. There is none
+/// exactly where the log is what the one-thread store gives.
 ///
 /// It opens the folder, sound or not, reads the log again, and keeps a store of what was written. Nothing of the folder changes.
 ///
@@ -80,15 +81,14 @@ pub fn audit<H: Host>(alloc: Global, host: &mut H) -> Result<AuditReport, OpenFa
         Ok(opened) => opened,
         Err(fault) => return Err(fault),
     };
-    let shape = match opened.checked.shape() {
-        Ok(shape) => shape,
+    let slot = opened.slot;
+    let count = opened.count;
+    let first = match InForce::first(opened.programs) {
+        Ok(first) => first,
         Err(AllocError) => return Err(OpenFault::Memory),
     };
-    match replay_log(alloc, host, opened.slot, &opened.checked, &shape) {
-        Ok(first_bad) => Ok(AuditReport {
-            count: opened.count,
-            first_bad,
-        }),
+    match replay_log(alloc, host, slot, first) {
+        Ok(first_bad) => Ok(AuditReport { count, first_bad }),
         Err(fault) => Err(not_read(fault)),
     }
 }
@@ -119,7 +119,7 @@ fn write_audit<H: Host>(
     write_line(host, line.as_bytes())
 }
 
-/// Audits the log, and writes a line: the number of records, and the unit of the first that doesn't replay, or null.
+/// Audits the log, and writes a line: the number of entries, and the unit of the first record that doesn't replay, or null.
 ///
 /// # Errors
 ///

@@ -9,13 +9,18 @@ ghost use Rattle.field_codec.specs.declared.formats.Format.TheVariants.{One};
 ghost use Rattle.log_reading.specs.Blocks.{LogRead as ALog, log_in_file};
 ghost use Rattle.log_reading.specs.Counts.{ReadFaulted};
 ghost use Rattle.log_audit.specs.RereadFaults.{IsLogFault};
-ghost use Rattle.log_audit.specs.WrittenGrains.{grains_recorded, grains_of_log, grains_added};
+ghost use Rattle.log_entries.specs.Entries.{entry_said};
+ghost use Rattle.promise_spec.specs.Programs.{Program};
+ghost use Rattle.log_audit.specs.InForce.{types_in_force, HasShape, types_said};
+ghost use Rattle.log_audit.specs.WrittenGrains.{grains_recorded, grains_said, grains_of_log, grains_added};
 
-use base_types::{GrainId, Shape};
+use crate::in_force::InForce;
+use base_types::GrainId;
 use commit_log::{CommitRecord, Written};
 use field_codec::Format;
 use host_trait::Host;
-use log_reading::{FolderFault, next_block, read_base};
+use log_entries::Said;
+use log_reading::{FolderFault, next_entry, read_base};
 use std::alloc::{AllocError, Global};
 use std::collections::BTreeSet;
 
@@ -39,37 +44,64 @@ fn add_grains(grains: &mut BTreeSet<GrainId>, records: &[CommitRecord]) -> Resul
     Ok(())
 }
 
-/// The grains that a slot's log names, in a checkpoint that it begins with or in its records, ascending. It reads the log block by
-/// block, and keeps them and the checkpoint's places alone.
+// Adds the grains of what a block says, and has the program that is in force behind it.
+fn add_said(grains: &mut BTreeSet<GrainId>, now: &mut InForce, said: Said) -> Result<(), AllocError>
+    requires shape { HasShape now.old }
+    ensures grains { OnOk result (grains.new.keys ≡ grains_added grains.old.keys (grains_said (entry_said said))) }
+    ensures behind { OnOk result (types_in_force now.new ≡ types_said now.old said) }
+    ensures shaped { OnOk result (HasShape now.new) }
+{
+    match said {
+        Said::Records(records) => {
+            add_grains(grains, records.as_slice())?;
+            Ok(())
+        }
+        Said::Upgrade {
+            text: _text,
+            checked,
+        } => {
+            *now = InForce::new(checked)?;
+            Ok(())
+        }
+    }
+}
+
+/// The grains that a slot's log names, in a checkpoint that it begins with or in its records, ascending; its first program is this. It
+/// reads the log block by block, and keeps them, the checkpoint's places and one program.
 pub(crate) fn read_grains<H: Host>(
     alloc: Global,
     host: &mut H,
     slot: u8,
-    shape: &Shape,
+    first: InForce,
 ) -> Result<BTreeSet<GrainId>, FolderFault>
     requires slot { slot ≤ 1 }
-    ensures found { IfOk result (λ grains. IsTrue H.tells → (log : ALog) → log_in_file One shape.now ((H.world host.old).disk (Manager slot)).seen ≡ Ok log
+    requires shape { HasShape first }
+    ensures found { IfOk result (λ grains. IsTrue H.tells → (p : Program) → p.types ≡ types_in_force first
+        → (log : ALog) → log_in_file One p ((H.world host.old).disk (Manager slot)).seen ≡ Ok log
         → grains.keys ≡ grains_added [] (grains_of_log log)) }
-    ensures unread { IfErr result (λ e. IsTrue H.tells → (log : ALog) → log_in_file One shape.now ((H.world host.old).disk (Manager slot)).seen ≡ Ok log
-        → IsLogFault slot shape.now ((H.world host.old).disk (Manager slot)).seen e) }
+    ensures unread { IfErr result (λ e. IsTrue H.tells → (p : Program) → p.types ≡ types_in_force first
+        → (log : ALog) → log_in_file One p ((H.world host.old).disk (Manager slot)).seen ≡ Ok log
+        → IsLogFault slot p ((H.world host.old).disk (Manager slot)).seen e) }
     ensures asked { IsTrue H.tells → OnlyAsked (H.world host.old) (H.world host.new) }
     ensures calm { OnOk result (NoneFailed (H.faults host.old) (H.faults host.new)) }
     ensures fault { IfErr result (λ e. ReadFaulted e (H.faults host.old) (H.faults host.new)) }
     ensures ready { StaysReady (H.is_ready host.old) (H.is_ready host.new) }
 {
-    let base = read_base(alloc, host, slot, shape)?;
+    let base = read_base(alloc, host, slot, &first.shape)?;
     let mut grains = BTreeSet::new(alloc);
     add_written(&mut grains, base.saved.as_slice())?;
+    let mut now = first;
     let mut gate_at = base.gate_at;
-    while let Some((records, behind)) = next_block(
+    while let Some((said, behind)) = next_entry(
         alloc,
         host,
         slot,
-        shape,
+        &now.checked,
+        &now.shape,
         Format::One,
         gate_at,
     )? {
-        add_grains(&mut grains, records.as_slice())?;
+        add_said(&mut grains, &mut now, said)?;
         gate_at = behind;
     }
     Ok(grains)

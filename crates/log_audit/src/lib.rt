@@ -4,8 +4,10 @@
 #![tactic(auto)]
 
 mod audits;
+mod carrying;
 mod faults;
 mod grains;
+mod in_force;
 mod line_writer;
 mod lines;
 mod parts;

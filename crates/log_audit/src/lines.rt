@@ -8,7 +8,7 @@ ghost use Rattle.serde_json.specs.Data.{string, object, member, no_members};
 ghost use Rattle.serde_json.specs.View.{view};
 ghost use Rattle.serde_json.specs.Written.{has_float};
 ghost use Rattle.promise_spec.specs.Reports.{line_of, origin_count, ended_as};
-ghost use Rattle.log_audit.specs.Lines.{grain_data, count_data, record_data, audit_data};
+ghost use Rattle.log_audit.specs.Lines.{grain_data, count_data, record_data, audit_data, upgrade_data};
 
 use crate::parts::{args_json, call_text, fields_json, fields_of_kind, value_json};
 use base_types::{GrainId, Origin, Outcome, Shape, Value};
@@ -55,7 +55,7 @@ fn count_json(alloc: Global, count: u64) -> Result<Json, AllocError>
     json!(in alloc; {"count": count})
 }
 
-/// The number of records.
+/// The number of entries.
 pub(crate) fn count_line(alloc: Global, count: u64) -> Result<String, AllocError>
     ensures { IfOk result (λ line. string_bytes line ≡ line_of (count_data count)) }
 {
@@ -153,6 +153,20 @@ pub(crate) fn record_line(
     line_text(alloc, &value)
 }
 
+fn upgrade_json(alloc: Global, length: u64) -> Result<Json, AllocError>
+    ensures { IfOk result (λ v. view v ≡ upgrade_data length) }
+{
+    json!(in alloc; {"upgrade": length})
+}
+
+/// An upgrade, by the length of its program's text in bytes.
+pub(crate) fn upgrade_line(alloc: Global, length: u64) -> Result<String, AllocError>
+    ensures { IfOk result (λ line. string_bytes line ≡ line_of (upgrade_data length)) }
+{
+    let value = upgrade_json(alloc, length)?;
+    line_text(alloc, &value)
+}
+
 fn audit_json(alloc: Global, count: u64, first_bad: Option<u64>) -> Result<Json, AllocError>
     ensures { IfOk result (λ v. view v ≡ audit_data count first_bad) }
 {
@@ -162,7 +176,7 @@ fn audit_json(alloc: Global, count: u64, first_bad: Option<u64>) -> Result<Json,
     }
 }
 
-/// What an audit found: the number of records, and the first unit whose record doesn't replay.
+/// What an audit found: the number of entries, and the first unit whose record doesn't replay.
 pub(crate) fn audit_line(
     alloc: Global,
     count: u64,

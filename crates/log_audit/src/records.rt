@@ -1,51 +1,69 @@
-ghost use Rattle.std.specs.Prelude.{◌≡◌, ◌+◌, ◌^◌, ◌<◌, ◌≤◌, ℕ, List, IsTrue, Ok, IfOk, IfErr, IfSome, is_ok, length};
+ghost use Rattle.std.specs.Prelude.{◌≡◌, ◌+◌, ◌^◌, ◌<◌, ◌≤◌, ℕ, List, IsTrue, Ok, IfOk, IfErr, IfSome, OnOk, is_ok, length};
 ghost use Rattle.host_trait.specs.Files.{StaysReady};
 ghost use Rattle.host_trait.specs.Runs.{OnlyAsked};
 ghost use Rattle.host_trait.specs.declared.channels.FileId.TheVariants.{Manager};
 ghost use Rattle.field_codec.specs.declared.formats.Format.TheVariants.{One};
-ghost use Rattle.log_reading.specs.Blocks.{LogRead as ALog, log_in_file};
-ghost use Rattle.log_reading.specs.Steps.{next_in, seen_in};
+ghost use Rattle.log_reading.specs.Blocks.{LogRead as ALog, entries_said, log_in_file};
+ghost use Rattle.log_entries.specs.Entries.{entry_said};
+ghost use Rattle.log_reading.specs.Steps.{next_in, found_as, seen_in};
 ghost use Rattle.script_tree.specs.Programs.{program_tree};
-ghost use Rattle.silo_opening.specs.OpenedSilo.{IsOpenedFrom};
+ghost use Rattle.program_file.specs.Succession.{ArePrograms};
+ghost use Rattle.silo_opening.specs.OpenedSilo.{IsOpenedFrom, programs_of};
+ghost use Rattle.promise_spec.specs.Programs.{Program};
 ghost use Rattle.promise_spec.specs.Words.{Manner};
-ghost use Rattle.promise_spec.specs.Reports.{history_text};
+ghost use Rattle.promise_spec.specs.Reports.{line_of, history_text};
 ghost use Rattle.promise_spec.specs.Commands.{Reports};
 ghost use Rattle.promise_spec.specs.Endings.{HasFailedAs, BadUse};
-ghost use Rattle.log_audit.specs.Lines.{record_lines};
+ghost use Rattle.log_audit.specs.Lines.{record_lines, upgrade_data, said_lines, entry_lines};
+ghost use Rattle.log_audit.specs.InForce.{types_in_force, HasShape, types_said};
 ghost use Rattle.log_audit.specs.ReportOutput.{PutsPart};
 ghost use Rattle.log_audit.specs.RereadFaults.{IsBlockFault};
 ghost use Rattle.log_audit.specs.Endings.{report_ending, reported_as, MayEnd};
 
 use crate::faults::{ReportFault, unopened, unread};
+use crate::in_force::InForce;
 use crate::line_writer::write_line;
-use crate::lines::record_line;
-use base_types::{List, Shape};
+use crate::lines::{record_line, upgrade_line};
+use base_types::Shape;
 use commit_log::CommitRecord;
 use field_codec::Format;
 use host_trait::Host;
-use log_reading::{next_block, read_base};
+use log_entries::Said;
+use log_reading::{next_entry, read_base};
 use script_check::Checked;
 use silo_opening::{Opened, open_silo};
 use std::alloc::Global;
 
-// The records of the block behind a gate of a slot's manager file and the next gate, none where the gate isn't open.
-fn next_records<H: Host>(
+// What the block behind a gate of a slot's manager file says under the program in force, and the next gate, none where the gate isn't
+// open.
+fn next_said<H: Host>(
     alloc: Global,
     host: &mut H,
     slot: u8,
-    shape: &Shape,
+    now: &InForce,
     gate_at: u64,
-) -> Result<Option<(List<CommitRecord>, u64)>, ReportFault>
+) -> Result<Option<(Said, u64)>, ReportFault>
     requires slot { slot ≤ 1 }
+    requires shape { HasShape now.now }
     requires place { gate_at < 2 ^ 63 }
-    ensures found { IfOk result (λ found. IsTrue H.tells → next_in One shape.now gate_at ((H.world host.old).disk (Manager slot)).seen ≡ Ok found) }
-    ensures further { IfOk result (λ found. IfSome found (λ x. (gate_at + 5 + length x.0 ≤ x.1) × (x.1 < 2 ^ 63))) }
-    ensures unread { IfErr result (λ e. IsTrue H.tells → IsBlockFault shape.now gate_at ((H.world host.old).disk (Manager slot)).seen e) }
+    ensures found { IfOk result (λ found. IsTrue H.tells
+        → next_in One (types_in_force now.now) gate_at ((H.world host.old).disk (Manager slot)).seen ≡ Ok (found_as found)) }
+    ensures further { IfOk result (λ found. IfSome found (λ x. (gate_at + 5 + length (entries_said (entry_said x.0)) ≤ x.1) × (x.1 < 2 ^ 63))) }
+    ensures unread { IfErr result (λ e. IsTrue H.tells
+        → IsBlockFault (types_in_force now.now) gate_at ((H.world host.old).disk (Manager slot)).seen e) }
     ensures asked { IsTrue H.tells → OnlyAsked (H.world host.old) (H.world host.new) }
     ensures exact { HasFailedAs (report_ending result) (H.faults host.old) (H.faults host.new) }
     ensures ready { StaysReady (H.is_ready host.old) (H.is_ready host.new) }
 {
-    match next_block(alloc, host, slot, shape, Format::One, gate_at) {
+    match next_entry(
+        alloc,
+        host,
+        slot,
+        &now.checked,
+        &now.shape,
+        Format::One,
+        gate_at,
+    ) {
         Ok(found) => Ok(found),
         Err(fault) => Err(unread(fault)),
     }
@@ -73,49 +91,95 @@ fn write_records<H: Host>(
     Ok(())
 }
 
-// Writes a line for each record of a slot's log, behind the checkpoint where it begins with one. It reads the log block by block, and
-// keeps one block at a time.
+// Writes a line for an upgrade to a program whose text has this length in bytes.
+fn write_upgrade<H: Host>(alloc: Global, host: &mut H, length: u64) -> Result<(), ReportFault>
+    ensures puts { IsTrue H.tells → PutsPart (line_of (upgrade_data length)) (is_ok result) (H.world host.old) (H.world host.new) }
+    ensures ended { MayEnd (report_ending result) }
+    ensures exact { HasFailedAs (report_ending result) (H.faults host.old) (H.faults host.new) }
+    ensures ready { StaysReady (H.is_ready host.old) (H.is_ready host.new) }
+{
+    let line = upgrade_line(alloc, length)?;
+    write_line(host, line.as_bytes())
+}
+
+// Writes the lines of what a block says under the program in force, and has the program that is in force behind it.
+fn write_said<H: Host>(
+    alloc: Global,
+    host: &mut H,
+    now: &mut InForce,
+    said: Said,
+) -> Result<(), ReportFault>
+    requires shape { HasShape now.old }
+    ensures puts { IsTrue H.tells → PutsPart (said_lines (types_in_force now.old) (entry_said said)) (is_ok result) (H.world host.old) (H.world host.new) }
+    ensures behind { OnOk result (types_in_force now.new ≡ types_said now.old said) }
+    ensures shaped { OnOk result (HasShape now.new) }
+    ensures ended { MayEnd (report_ending result) }
+    ensures exact { HasFailedAs (report_ending result) (H.faults host.old) (H.faults host.new) }
+    ensures ready { StaysReady (H.is_ready host.old) (H.is_ready host.new) }
+{
+    match said {
+        Said::Records(records) => {
+            write_records(alloc, host, &now.checked, &now.shape, records.as_slice())?;
+            Ok(())
+        }
+        Said::Upgrade { text, checked } => {
+            let next = InForce::new(checked)?;
+            write_upgrade(alloc, host, text.len() as u64)?;
+            *now = next;
+            Ok(())
+        }
+    }
+}
+
+// Writes a line for each entry of a slot's log, behind the checkpoint where it begins with one, the first under this program. It reads
+// the log block by block, and keeps one block and one program at a time.
 fn write_log<H: Host>(
     alloc: Global,
     host: &mut H,
     slot: u8,
-    checked: &Checked,
-    shape: &Shape,
+    first: InForce,
 ) -> Result<(), ReportFault>
     requires slot { slot ≤ 1 }
-    ensures puts { IsTrue H.tells → (log : ALog) → log_in_file One shape.now ((H.world host.old).disk (Manager slot)).seen ≡ Ok log
-        → PutsPart (record_lines shape.now (program_tree checked.now) log.records) (is_ok result) (H.world host.old) (H.world host.new) }
-    ensures ended { IsTrue H.tells → (log : ALog) → log_in_file One shape.now ((H.world host.old).disk (Manager slot)).seen ≡ Ok log
+    requires shape { HasShape first }
+    ensures puts { IsTrue H.tells → (p : Program) → p.types ≡ types_in_force first
+        → (log : ALog) → log_in_file One p ((H.world host.old).disk (Manager slot)).seen ≡ Ok log
+        → PutsPart (entry_lines p log.entries) (is_ok result) (H.world host.old) (H.world host.new) }
+    ensures ended { IsTrue H.tells → (p : Program) → p.types ≡ types_in_force first
+        → (log : ALog) → log_in_file One p ((H.world host.old).disk (Manager slot)).seen ≡ Ok log
         → MayEnd (report_ending result) }
     ensures exact { HasFailedAs (report_ending result) (H.faults host.old) (H.faults host.new) }
     ensures ready { StaysReady (H.is_ready host.old) (H.is_ready host.new) }
 {
-    let base = match read_base(alloc, host, slot, shape) {
+    let base = match read_base(alloc, host, slot, &first.shape) {
         Ok(base) => base,
         Err(fault) => return Err(unread(fault)),
     };
+    let mut now = first;
     let mut gate_at = base.gate_at;
-    while let Some((records, behind)) = next_records(alloc, host, slot, shape, gate_at)? {
-        write_records(alloc, host, checked, shape, records.as_slice())?;
+    while let Some((said, behind)) = next_said(alloc, host, slot, &now, gate_at)? {
+        write_said(alloc, host, &mut now, said)?;
         gate_at = behind;
     }
     Ok(())
 }
 
 // Writes the report of an opened silo.
-fn write_history<H: Host>(alloc: Global, host: &mut H, opened: &Opened) -> Result<(), ReportFault>
-    requires slot { opened.now.slot ≤ 1 }
-    ensures puts { IsTrue H.tells → (o : IsOpenedFrom (seen_in (H.world host.old).disk) opened.now)
+fn write_history<H: Host>(alloc: Global, host: &mut H, opened: Opened) -> Result<(), ReportFault>
+    requires slot { opened.slot ≤ 1 }
+    requires programs { ArePrograms (programs_of opened) }
+    ensures puts { IsTrue H.tells → (o : IsOpenedFrom (seen_in (H.world host.old).disk) opened)
         → PutsPart (history_text o.log) (is_ok result) (H.world host.old) (H.world host.new) }
-    ensures ended { IsTrue H.tells → IsOpenedFrom (seen_in (H.world host.old).disk) opened.now → MayEnd (report_ending result) }
+    ensures ended { IsTrue H.tells → IsOpenedFrom (seen_in (H.world host.old).disk) opened → MayEnd (report_ending result) }
     ensures exact { HasFailedAs (report_ending result) (H.faults host.old) (H.faults host.new) }
     ensures ready { StaysReady (H.is_ready host.old) (H.is_ready host.new) }
 {
-    let shape = opened.checked.shape()?;
-    write_log(alloc, host, opened.slot, &opened.checked, &shape)
+    let slot = opened.slot;
+    let first = InForce::first(opened.programs)?;
+    write_log(alloc, host, slot, first)
 }
 
-/// Writes a line for each record of the log, in its order: the call, its origin, and how it ended.
+/// Writes a line for each entry of the log, in its order: of a record the call, its origin, and how it ended, by the program of its time;
+/// of an upgrade its text's length in bytes.
 ///
 /// It opens the folder and reads the log again, and writes each line as it is read. Nothing of the folder changes.
 ///
@@ -132,7 +196,7 @@ pub fn history<H: Host>(alloc: Global, host: &mut H) -> Result<(), ReportFault>
     ensures ready { StaysReady (H.is_ready host.old) (H.is_ready host.new) }
 {
     match open_silo(alloc, host) {
-        Ok(opened) => write_history(alloc, host, &opened),
+        Ok(opened) => write_history(alloc, host, opened),
         Err(fault) => Err(unopened(fault)),
     }
 }

@@ -1,4 +1,4 @@
-ghost use Rattle.std.specs.Prelude.{◌≡◌, ◌≤◌, [], ◌∷◌, List as Lists, IsTrue, Ok, None, map, OnOk, IfOk, IfErr, length};
+ghost use Rattle.std.specs.Prelude.{◌≡◌, ◌≤◌, ◌||◌, IsTrue, Ok, Some, None, is_some, OnOk, IfOk, IfErr, length};
 ghost use Rattle.std.specs.List.{fold};
 ghost use Rattle.host_trait.specs.Files.{StaysReady};
 ghost use Rattle.host_trait.specs.Faults.{NoneFailed};
@@ -8,25 +8,30 @@ ghost use Rattle.field_codec.specs.declared.formats.Format.TheVariants.{One};
 ghost use Rattle.core_model.specs.Equality.{same_list};
 ghost use Rattle.log_reading.specs.Blocks.{LogRead as ALog, log_in_file};
 ghost use Rattle.log_reading.specs.Counts.{ReadFaulted};
-ghost use Rattle.log_reading.specs.Steps.{seen_in};
-ghost use Rattle.log_reading.specs.Versions.{named_by};
-ghost use Rattle.log_reading.specs.Sums.{state_after};
+ghost use Rattle.log_reading.specs.Steps.{seen_in, IsSaidIn};
 ghost use Rattle.base_types.specs.Stores.{state_in};
 ghost use Rattle.base_types.specs.declared.calls.GrainId.{GrainId as AGrain};
-ghost use Rattle.script_tree.specs.Programs.{ProgramTree, program_tree};
+ghost use Rattle.script_tree.specs.Programs.{ProgramTree};
+ghost use Rattle.script_check.specs.Shapes.{type_shapes};
 ghost use Rattle.script_meaning.specs.Play.{found_in};
+ghost use Rattle.promise_spec.specs.Programs.{Program};
 ghost use Rattle.promise_spec.specs.Records.{written, put_state};
-ghost use Rattle.promise_spec.specs.Openings.{commit_of};
-ghost use Rattle.log_audit.specs.RereadFaults.{IsVersionFault, IsRereadFault};
-ghost use Rattle.log_audit.specs.Replays.{same_write, agree, base_states, as_commits, ReplaysTo, AllReplayTo, IsFirstFailure};
+ghost use Rattle.promise_spec.specs.Entries.{Standing, is_among};
+ghost use Rattle.promise_spec.specs.Openings.{commit_of, entries_logged, log_of};
+ghost use Rattle.log_audit.specs.InForce.{types_in_force, HasShape, types_said, said_entries};
+ghost use Rattle.log_audit.specs.CarriedStores.{IsOfProgram, AreOfProgram};
+ghost use Rattle.log_audit.specs.RereadFaults.{IsWriteFault, IsRecordFault, IsEntryFault, IsRereadFault};
+ghost use Rattle.log_audit.specs.Replays.{same_write, agree, first_states, states_saved_at, entries_of_records, IsStoreOf, ReplaysTo, AllReplayTo, IsFirstFailure};
 
-use base_types::{GrainId, List, Outcome, Shape, State, Store, UnitNo};
+use crate::carrying::carry_store;
+use crate::in_force::InForce;
+use base_types::{GrainId, Outcome, Shape, State, Store, UnitNo};
 use commit_log::{CommitRecord, Named, Written};
 use core_parts::Same;
 use field_codec::Format;
 use host_trait::Host;
-use log_reading::{FolderFault, named_version, next_block, read_base};
-use script_check::Checked;
+use log_entries::Said;
+use log_reading::{FolderFault, named_version, next_entry, read_base};
 use script_player::{Played, play};
 use std::alloc::{AllocError, Global};
 
@@ -72,7 +77,9 @@ fn read_writes<H: Host>(
 ) -> Result<Vec<(GrainId, State)>, FolderFault>
     requires slot { slot ≤ 1 }
     ensures writes { IfOk result (λ kept. IsTrue H.tells → kept.items ≡ written (commit_of slot shape.now (seen_in (H.world host.old).disk) entry.now)) }
-    ensures unread { IfErr result (λ e. IsTrue H.tells → IsVersionFault slot shape.now (seen_in (H.world host.old).disk) (named_by (entry.now ∷ [])) e) }
+    ensures fits { IfOk result (λ kept. (types : ProgramTree) → shape.now ≡ record { types = type_shapes types } → AreOfProgram types kept.items) }
+    ensures unread { IfErr result (λ e. IsTrue H.tells
+        → IsWriteFault slot shape.now (seen_in (H.world host.old).disk) (Some entry.now.unit) entry.now.writes e) }
     ensures asked { IsTrue H.tells → OnlyAsked (H.world host.old) (H.world host.new) }
     ensures calm { OnOk result (NoneFailed (H.faults host.old) (H.faults host.new)) }
     ensures fault { IfErr result (λ e. ReadFaulted e (H.faults host.old) (H.faults host.new)) }
@@ -83,6 +90,7 @@ fn read_writes<H: Host>(
     for one in writes {
         let named = Named {
             unit: Some(entry.unit),
+            program: 0,
             written: *one,
         };
         let version = named_version(alloc, host, slot, shape, Format::One, named)?;
@@ -100,7 +108,9 @@ fn agrees(entry: &CommitRecord, played: &Played, same: bool) -> bool
 
 // Gives each grain its state.
 fn keep(store: &mut Store, writes: Vec<(GrainId, State)>) -> Result<(), AllocError>
-    ensures { OnOk result ((types : ProgramTree) → found_in types store.new ≡ fold put_state (found_in types store.old) writes.items) }
+    ensures held { OnOk result ((grain : AGrain) → is_some (state_in store.new grain) ≡ (is_among writes.items grain || is_some (state_in store.old grain))) }
+    ensures states { OnOk result ((types : ProgramTree) → found_in types store.new ≡ fold put_state (found_in types store.old) writes.items) }
+    ensures fits { OnOk result ((types : ProgramTree) → AreOfProgram types writes.items → IsOfProgram types store.old → IsOfProgram types store.new) }
 {
     for (grain, state) in writes {
         store.put(grain, state)?;
@@ -108,29 +118,31 @@ fn keep(store: &mut Store, writes: Vec<(GrainId, State)>) -> Result<(), AllocErr
     Ok(())
 }
 
-// Plays a record over the store. Where it replays, the store has its states then.
+// Plays a record over the store, which has what stands before it. Where it replays, the store has what stands after it then.
 fn replay<H: Host>(
     alloc: Global,
     host: &mut H,
     slot: u8,
-    checked: &Checked,
-    shape: &Shape,
+    now: &InForce,
     store: &mut Store,
     entry: &CommitRecord,
 ) -> Result<Option<Bad>, FolderFault>
     requires slot { slot ≤ 1 }
-    ensures replays { IfOk result (λ found. IsTrue H.tells → let types = program_tree checked.now in
-        ReplaysTo types (found_in types store.old) (commit_of slot shape.now (seen_in (H.world host.old).disk) entry.now) (found_in types store.new) found) }
-    ensures unread { IfErr result (λ e. IsTrue H.tells → IsVersionFault slot shape.now (seen_in (H.world host.old).disk) (named_by (entry.now ∷ [])) e) }
+    requires shape { HasShape now.now }
+    ensures replays { IfOk result (λ found. IsTrue H.tells → (before : Standing) → before.program.types ≡ types_in_force now.now → IsStoreOf store.old before
+        → ReplaysTo before (commit_of slot now.now.shape (seen_in (H.world host.old).disk) entry.now) store.new found) }
+    ensures fits { OnOk result (IsOfProgram (types_in_force now.now) store.old → IsOfProgram (types_in_force now.now) store.new) }
+    ensures unread { IfErr result (λ e. IsTrue H.tells
+        → IsWriteFault slot now.now.shape (seen_in (H.world host.old).disk) (Some entry.now.unit) entry.now.writes e) }
     ensures asked { IsTrue H.tells → OnlyAsked (H.world host.old) (H.world host.new) }
     ensures calm { OnOk result (NoneFailed (H.faults host.old) (H.faults host.new)) }
     ensures fault { IfErr result (λ e. ReadFaulted e (H.faults host.old) (H.faults host.new)) }
     ensures ready { StaysReady (H.is_ready host.old) (H.is_ready host.new) }
 {
-    let kept = read_writes(alloc, host, slot, shape, entry)?;
+    let kept = read_writes(alloc, host, slot, &now.shape, entry)?;
     let depth = entry.origin.depth();
     let answers = entry.answers.as_slice();
-    let played = play(alloc, checked, &entry.call, depth, store, answers)?;
+    let played = play(alloc, &now.checked, &entry.call, depth, store, answers)?;
     let same = are_same_writes(played.writes.as_slice(), kept.as_slice());
     if agrees(entry, &played, same) {
         keep(store, kept)?;
@@ -145,33 +157,77 @@ fn replay<H: Host>(
     }))
 }
 
-// Plays records over the store, up to the first that doesn't replay.
-fn replay_block<H: Host>(
+// Plays records over the store, which has what stands before them, up to the first that doesn't replay.
+fn replay_records<H: Host>(
     alloc: Global,
     host: &mut H,
     slot: u8,
-    checked: &Checked,
-    shape: &Shape,
+    now: &InForce,
     store: &mut Store,
     records: &[CommitRecord],
 ) -> Result<Option<Bad>, FolderFault>
     requires slot { slot ≤ 1 }
-    ensures replays { IfOk result (λ found. IsTrue H.tells → let types = program_tree checked.now in
-        AllReplayTo types (found_in types store.old) (as_commits slot shape.now (seen_in (H.world host.old).disk) records.now)
-        (found_in types store.new) found) }
-    ensures unread { IfErr result (λ e. IsTrue H.tells → IsVersionFault slot shape.now (seen_in (H.world host.old).disk) (named_by records.now) e) }
+    requires shape { HasShape now.now }
+    ensures replays { IfOk result (λ found. IsTrue H.tells → (before : Standing) → before.program.types ≡ types_in_force now.now → IsStoreOf store.old before
+        → AllReplayTo before (entries_of_records slot now.now.shape (seen_in (H.world host.old).disk) records.now) store.new found) }
+    ensures fits { OnOk result (IsOfProgram (types_in_force now.now) store.old → IsOfProgram (types_in_force now.now) store.new) }
+    ensures unread { IfErr result (λ e. IsTrue H.tells → IsRecordFault slot now.now.shape (seen_in (H.world host.old).disk) records.now e) }
     ensures asked { IsTrue H.tells → OnlyAsked (H.world host.old) (H.world host.new) }
     ensures calm { OnOk result (NoneFailed (H.faults host.old) (H.faults host.new)) }
     ensures fault { IfErr result (λ e. ReadFaulted e (H.faults host.old) (H.faults host.new)) }
     ensures ready { StaysReady (H.is_ready host.old) (H.is_ready host.new) }
 {
     for entry in records {
-        let found = replay(alloc, host, slot, checked, shape, store, entry)?;
+        let found = replay(alloc, host, slot, now, store, entry)?;
         if found.is_some() {
             return Ok(found);
         }
     }
     Ok(None)
+}
+
+// Plays what a block says over the store, which has what stands before it, and has the program that is in force behind it: an upgrade
+// carries each state to its program.
+fn replay_said<H: Host>(
+    alloc: Global,
+    host: &mut H,
+    slot: u8,
+    now: &mut InForce,
+    store: &mut Store,
+    said: Said,
+) -> Result<Option<Bad>, FolderFault>
+    requires slot { slot ≤ 1 }
+    requires shape { HasShape now.old }
+    requires fits { IsOfProgram (types_in_force now.old) store.old }
+    requires may { IsSaidIn One (types_in_force now.old) said }
+    ensures replays { IfOk result (λ found. IsTrue H.tells → (before : Standing) → before.program.types ≡ types_in_force now.old → IsStoreOf store.old before
+        → AllReplayTo before (entries_logged slot before.program (seen_in (H.world host.old).disk) (said_entries said)) store.new found) }
+    ensures behind { OnOk result (types_in_force now.new ≡ types_said now.old said) }
+    ensures shaped { OnOk result (HasShape now.new) }
+    ensures fits { OnOk result (IsOfProgram (types_in_force now.new) store.new) }
+    ensures unread { IfErr result (λ e. IsTrue H.tells → (p : Program) → p.types ≡ types_in_force now.old
+        → IsEntryFault slot p (seen_in (H.world host.old).disk) (said_entries said) e) }
+    ensures asked { IsTrue H.tells → OnlyAsked (H.world host.old) (H.world host.new) }
+    ensures calm { OnOk result (NoneFailed (H.faults host.old) (H.faults host.new)) }
+    ensures fault { IfErr result (λ e. ReadFaulted e (H.faults host.old) (H.faults host.new)) }
+    ensures ready { StaysReady (H.is_ready host.old) (H.is_ready host.new) }
+{
+    match said {
+        Said::Records(records) => {
+            let found = replay_records(alloc, host, slot, now, store, records.as_slice())?;
+            Ok(found)
+        }
+        Said::Upgrade {
+            text: _text,
+            checked,
+        } => {
+            let carried = carry_store(alloc, &now.checked, &checked, store)?;
+            let next = InForce::new(checked)?;
+            *store = carried;
+            *now = next;
+            Ok(None)
+        }
+    }
 }
 
 // The states of the versions that a checkpoint names in a slot's files.
@@ -183,11 +239,12 @@ fn saved_store<H: Host>(
     saved: &[Written],
 ) -> Result<Store, FolderFault>
     requires slot { slot ≤ 1 }
-    ensures states { IfOk result (λ store. IsTrue H.tells → (grain : AGrain)
-        → state_in store grain ≡ state_after slot One shape.now (seen_in (H.world host.old).disk) None
-        (map (λ w. record { unit = None; written = w }) saved.now) grain) }
-    ensures unread { IfErr result (λ e. IsTrue H.tells
-        → IsVersionFault slot shape.now (seen_in (H.world host.old).disk) (map (λ w. record { unit = None; written = w }) saved.now) e) }
+    ensures held { IfOk result (λ store. IsTrue H.tells → (grain : AGrain)
+        → is_some (state_in store grain) ≡ is_among (states_saved_at slot shape.now (seen_in (H.world host.old).disk) saved.now) grain) }
+    ensures states { IfOk result (λ store. IsTrue H.tells → (types : ProgramTree)
+        → found_in types store ≡ fold put_state (first_states types) (states_saved_at slot shape.now (seen_in (H.world host.old).disk) saved.now)) }
+    ensures fits { IfOk result (λ store. (types : ProgramTree) → shape.now ≡ record { types = type_shapes types } → IsOfProgram types store) }
+    ensures unread { IfErr result (λ e. IsTrue H.tells → IsWriteFault slot shape.now (seen_in (H.world host.old).disk) None saved.now e) }
     ensures asked { IsTrue H.tells → OnlyAsked (H.world host.old) (H.world host.new) }
     ensures calm { OnOk result (NoneFailed (H.faults host.old) (H.faults host.new)) }
     ensures fault { IfErr result (λ e. ReadFaulted e (H.faults host.old) (H.faults host.new)) }
@@ -197,6 +254,7 @@ fn saved_store<H: Host>(
     for written in saved {
         let named = Named {
             unit: None,
+            program: 0,
             written: *written,
         };
         let version = named_version(alloc, host, slot, shape, Format::One, named)?;
@@ -205,48 +263,42 @@ fn saved_store<H: Host>(
     Ok(store)
 }
 
-/// Plays the records of a slot's log, each over the store that those before it left, the first over a checkpoint's states
-/// where the log begins with one, up to the first that doesn't replay. It reads the log block by block, and keeps the store, the
-/// checkpoint's places and one block.
+/// Plays the entries of a slot's log, each over the store that those before it left, the first over a checkpoint's states
+/// where the log begins with one and under this program, up to the first record that doesn't replay. It reads the log block by block, and
+/// keeps the store, the checkpoint's places, one block and one program; a second store while it carries the first to a program.
 pub(crate) fn replay_log<H: Host>(
     alloc: Global,
     host: &mut H,
     slot: u8,
-    checked: &Checked,
-    shape: &Shape,
+    first: InForce,
 ) -> Result<Option<Bad>, FolderFault>
     requires slot { slot ≤ 1 }
-    ensures replays { IfOk result (λ found. IsTrue H.tells → (log : ALog) → log_in_file One shape.now ((H.world host.old).disk (Manager slot)).seen ≡ Ok log
-        → let types = program_tree checked.now in
-        IsFirstFailure types (base_states slot types shape.now (seen_in (H.world host.old).disk) log.base)
-        (as_commits slot shape.now (seen_in (H.world host.old).disk) log.records) found) }
-    ensures unread { IfErr result (λ e. IsTrue H.tells → (log : ALog) → log_in_file One shape.now ((H.world host.old).disk (Manager slot)).seen ≡ Ok log
-        → IsRereadFault slot shape.now (seen_in (H.world host.old).disk) log e) }
+    requires shape { HasShape first }
+    ensures replays { IfOk result (λ found. IsTrue H.tells → (p : Program) → p.types ≡ types_in_force first
+        → (log : ALog) → log_in_file One p ((H.world host.old).disk (Manager slot)).seen ≡ Ok log
+        → let all = log_of slot p (seen_in (H.world host.old).disk) log in IsFirstFailure all.base all.entries found) }
+    ensures unread { IfErr result (λ e. IsTrue H.tells → (p : Program) → p.types ≡ types_in_force first
+        → (log : ALog) → log_in_file One p ((H.world host.old).disk (Manager slot)).seen ≡ Ok log
+        → IsRereadFault slot p (seen_in (H.world host.old).disk) log e) }
     ensures asked { IsTrue H.tells → OnlyAsked (H.world host.old) (H.world host.new) }
     ensures calm { OnOk result (NoneFailed (H.faults host.old) (H.faults host.new)) }
     ensures fault { IfErr result (λ e. ReadFaulted e (H.faults host.old) (H.faults host.new)) }
     ensures ready { StaysReady (H.is_ready host.old) (H.is_ready host.new) }
 {
-    let base = read_base(alloc, host, slot, shape)?;
-    let mut store = saved_store(alloc, host, slot, shape, base.saved.as_slice())?;
+    let base = read_base(alloc, host, slot, &first.shape)?;
+    let mut store = saved_store(alloc, host, slot, &first.shape, base.saved.as_slice())?;
+    let mut now = first;
     let mut gate_at = base.gate_at;
-    while let Some((records, behind)) = next_block(
+    while let Some((said, behind)) = next_entry(
         alloc,
         host,
         slot,
-        shape,
+        &now.checked,
+        &now.shape,
         Format::One,
         gate_at,
     )? {
-        let found = replay_block(
-            alloc,
-            host,
-            slot,
-            checked,
-            shape,
-            &mut store,
-            records.as_slice(),
-        )?;
+        let found = replay_said(alloc, host, slot, &mut now, &mut store, said)?;
         if found.is_some() {
             return Ok(found);
         }

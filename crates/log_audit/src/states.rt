@@ -4,7 +4,8 @@ ghost use Rattle.host_trait.specs.Files.{StaysReady};
 ghost use Rattle.log_reading.specs.Steps.{seen_in};
 ghost use Rattle.script_tree.specs.Programs.{program_tree};
 ghost use Rattle.script_meaning.specs.Play.{found_in};
-ghost use Rattle.silo_opening.specs.OpenedSilo.{IsOpenedFrom};
+ghost use Rattle.program_file.specs.Succession.{ArePrograms};
+ghost use Rattle.silo_opening.specs.OpenedSilo.{IsOpenedFrom, programs_of};
 ghost use Rattle.promise_spec.specs.Words.{Manner};
 ghost use Rattle.promise_spec.specs.Entries.{standing_of};
 ghost use Rattle.promise_spec.specs.Reports.{line_of, AreHeld, show_text};
@@ -16,6 +17,7 @@ ghost use Rattle.log_audit.specs.Endings.{report_ending, reported_as, MayEnd};
 
 use crate::faults::{ReportFault, unopened, unread};
 use crate::grains::read_grains;
+use crate::in_force::InForce;
 use crate::line_writer::write_line;
 use crate::lines::{count_line, grain_line};
 use base_types::{GrainId, Shape, Store};
@@ -72,20 +74,22 @@ fn write_grains<H: Host>(
 }
 
 // Writes the report of an opened silo.
-fn write_show<H: Host>(alloc: Global, host: &mut H, opened: &Opened) -> Result<(), ReportFault>
-    requires slot { opened.now.slot ≤ 1 }
-    ensures puts { IsTrue H.tells → (o : IsOpenedFrom (seen_in (H.world host.old).disk) opened.now)
+fn write_show<H: Host>(alloc: Global, host: &mut H, opened: Opened) -> Result<(), ReportFault>
+    requires slot { opened.slot ≤ 1 }
+    requires programs { ArePrograms (programs_of opened) }
+    ensures puts { IsTrue H.tells → (o : IsOpenedFrom (seen_in (H.world host.old).disk) opened)
         → (grains : List AGrain) × AreHeld grains (standing_of o.log) × PutsPart (show_text grains o.log) (is_ok result) (H.world host.old) (H.world host.new) }
-    ensures ended { IsTrue H.tells → IsOpenedFrom (seen_in (H.world host.old).disk) opened.now → MayEnd (report_ending result) }
+    ensures ended { IsTrue H.tells → IsOpenedFrom (seen_in (H.world host.old).disk) opened → MayEnd (report_ending result) }
     ensures exact { HasFailedAs (report_ending result) (H.faults host.old) (H.faults host.new) }
     ensures ready { StaysReady (H.is_ready host.old) (H.is_ready host.new) }
 {
-    let store = match states(alloc, host, opened) {
+    let store = match states(alloc, host, &opened) {
         Ok(store) => store,
         Err(fault) => return Err(unopened(fault)),
     };
     let shape = opened.checked.shape()?;
-    let grains = match read_grains(alloc, host, opened.slot, &shape) {
+    let first = InForce::first(opened.programs)?;
+    let grains = match read_grains(alloc, host, opened.slot, first) {
         Ok(grains) => grains,
         Err(fault) => return Err(unread(fault)),
     };
@@ -94,7 +98,7 @@ fn write_show<H: Host>(alloc: Global, host: &mut H, opened: &Opened) -> Result<(
     write_line(host, line.as_bytes())
 }
 
-/// Writes a line for each grain that the log names, in ascending order, with its state, and at last the number of records.
+/// Writes a line for each grain that the log names, in ascending order, with its state, and at last the number of entries.
 ///
 /// It opens the folder, reads each grain's last version again for its state, and the log again for the grains, before it writes a byte.
 /// Nothing of the folder changes.
@@ -112,7 +116,7 @@ pub fn show<H: Host>(alloc: Global, host: &mut H) -> Result<(), ReportFault>
     ensures ready { StaysReady (H.is_ready host.old) (H.is_ready host.new) }
 {
     match open_silo(alloc, host) {
-        Ok(opened) => write_show(alloc, host, &opened),
+        Ok(opened) => write_show(alloc, host, opened),
         Err(fault) => Err(unopened(fault)),
     }
 }

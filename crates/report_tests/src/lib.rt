@@ -5,3 +5,5 @@
 mod folders;
 #[cfg(test)]
 mod rows;
+#[cfg(test)]
+mod upgrades;

@@ -1,5 +1,4 @@
-use Rattle.std.proofs.Common.{◌≡◌, ℕ, List, map, Ok, sym, ◌∙◌, ap, subst}
-use Rattle.base_types.specs.declared.shapes.Shape.{Shape}
+use Rattle.std.proofs.Common.{◌≡◌, ℕ, Ok, sym, ◌∙◌, ap, subst}
 use Rattle.host_trait.specs.declared.channels.Channel.{Channel}
 use Rattle.host_trait.specs.Disk.{settled}
 use Rattle.host_trait.specs.World.{Disk, Image}
@@ -8,54 +7,50 @@ use Rattle.field_codec.specs.declared.formats.Format.TheVariants.{One}
 use Rattle.log_reading.specs.Blocks.{log_in_file}
 use Rattle.host_trait.specs.declared.channels.FileId.TheVariants.{Manager}
 use Rattle.log_reading.specs.Steps.{seen_in}
-use Rattle.script_tree.specs.Programs.{program_tree}
 use Rattle.silo_spec.specs.Slots.{IsLive}
 use Rattle.silo_opening.specs.Counts.{OpenFaulted}
-use Rattle.silo_opening.specs.OpenedSilo.{ending_of}
+use Rattle.silo_opening.specs.OpenedSilo.{ending_of, programs_of}
 use Rattle.silo_opening.specs.declared.faults.OpenFault.{OpenFault}
 use Rattle.silo_opening.proofs.OpeningCalls.{opens_same, opens_and_asked}
-use Rattle.promise_spec.specs.Programs.{shape_in}
-use Rattle.promise_spec.specs.Records.{Commit, States}
-use Rattle.promise_spec.specs.Entries.{Log, records_of}
+use Rattle.promise_spec.specs.Entries.{Log}
 use Rattle.promise_spec.specs.Logs.{magic}
-use Rattle.promise_spec.specs.Openings.{commit_of, log_of, opened_as}
+use Rattle.promise_spec.specs.Openings.{log_of, opened_as}
 use Rattle.promise_spec.specs.Refusals.{IsRefusedBy}
 use Rattle.promise_spec.proofs.Openings.{reads_is_live}
 use Rattle.promise_spec.proofs.Slots.{one_slot}
-use Rattle.promise_spec.proofs.Standings.{records_back}
-use Rattle.log_audit.specs.Replays.{base_states, as_commits, IsFirstFailure}
+use Rattle.log_audit.specs.InForce.{types_in_force}
+use Rattle.log_audit.specs.Replays.{IsFirstFailure}
+use Rattle.log_audit.proofs.ReadEntries.{some_program, first_types}
 use Rattle.log_audit.specs.RereadFaults.{IsRereadFault}
 use Rattle.log_audit.proofs.RereadFaults.{open_faulted, never_last}
 use Rattle.log_audit.proofs.RereadRefusals.{refused_again}
-use Rattle.log_audit.proofs.ReportTexts.{program_opened, parts}
 use Rattle.log_audit.proofs.audits.audit.Goals as goal
+
+pub replay_log-requires-clause-shape : goal.replay_log-requires-clause-shape
+replay_log-requires-clause-shape g c = c.in-Ok-first.ensures.shaped
+
+pub first-requires : goal.first-requires
+first-requires g c = record { some = some_program c.in-Ok.opened c.in-Ok.ensures.bounds.programs }
 
 pub returns-in-Ok-replay_log-clause-audited : goal.returns-in-Ok-replay_log-clause-audited
 returns-in-Ok-replay_log-clause-audited g c told =
     let old = g.H.Host.world c.args.host.now in
     let mid = g.H.Host.world c.open_silo.new.host in
     let opened = c.in-Ok.opened in
-    let types = program_tree opened.checked in
     let image = seen_in old.disk in
     let o = (c.in-Ok.ensures.opened told).opened in
-    let p = program_opened image opened o in
     let same : seen_in mid.disk ≡ image = opens_same _ old mid (c.in-Ok.ensures.only told) in
-    let shape : c.in-Ok-shape.shape ≡ shape_in p = (λ i. record { types = c.in-Ok-shape.ensures i }) in
-    let whole = parts image opened o in
-    let read : log_in_file One c.in-Ok-shape.shape ((mid.disk (Manager opened.slot)).seen) ≡ Ok whole.read = (λ i. log_in_file One (shape i) (same i (Manager opened.slot))) ∙ whole.is in
+    let typed = first_types o.first o.read.entries (programs_of opened) (types_in_force c.in-Ok-first.first) o.programs c.in-Ok-first.ensures.same in
+    let read : log_in_file One o.first ((mid.disk (Manager opened.slot)).seen) ≡ Ok o.read = (λ i. log_in_file One o.first (same i (Manager opened.slot))) ∙ o.read_as in
     let bad = c.in-Ok-replay_log.first_bad in
-    let commits : List Commit = map (commit_of opened.slot (shape_in p) image) whole.read.records in
-    let seen : as_commits opened.slot c.in-Ok-shape.shape (seen_in mid.disk) whole.read.records ≡ commits = (λ i. as_commits opened.slot (shape i) (same i) whole.read.records) in
-    let start : base_states opened.slot types c.in-Ok-shape.shape (seen_in mid.disk) whole.read.base ≡ base_states opened.slot types (shape_in p) image whole.read.base = (λ i. base_states opened.slot types (shape i) (same i) whole.read.base) in
-    let first : IsFirstFailure types (log_of opened.slot p image whole.read).base.states (records_of (log_of opened.slot p image whole.read)) bad =
-    subst (λ (s : States). IsFirstFailure types s (records_of (log_of opened.slot p image whole.read)) bad) start
-    (subst (λ (l : List Commit). IsFirstFailure types (base_states opened.slot types c.in-Ok-shape.shape (seen_in mid.disk) whole.read.base) l bad) (seen ∙ sym (records_back commits)) (c.in-Ok-replay_log.ensures.replays told whole.read read)) in
+    let first : IsFirstFailure (log_of opened.slot o.first image o.read).base (log_of opened.slot o.first image o.read).entries bad =
+    subst (λ (im : Image). IsFirstFailure (log_of opened.slot o.first im o.read).base (log_of opened.slot o.first im o.read).entries bad) same (c.in-Ok-replay_log.ensures.replays told o.first typed o.read read) in
     record {
       live = opened.slot;
       log = o.log;
       reads = o.reads;
       count = o.count;
-      first = subst (λ (l : Log). IsFirstFailure l.base.program.types l.base.states (records_of l) bad) whole.are first;
+      first = subst (λ (l : Log). IsFirstFailure l.base l.entries bad) (sym o.log_is) first;
     }
 
 pub returns-in-Ok-replay_log-clause-settled : goal.returns-in-Ok-replay_log-clause-settled
@@ -84,15 +79,12 @@ returns-clause-refused g c told =
     let opened = c.in-Ok.opened in
     let image = seen_in old.disk in
     let o = (c.in-Ok.ensures.opened told).opened in
-    let p = program_opened image opened o in
     let same : seen_in mid.disk ≡ image = opens_same _ old mid (c.in-Ok.ensures.only told) in
-    let shape : c.in-Ok-shape.shape ≡ shape_in p = (λ i. record { types = c.in-Ok-shape.ensures i }) in
-    let whole = parts image opened o in
-    let read : log_in_file One c.in-Ok-shape.shape ((mid.disk (Manager opened.slot)).seen) ≡ Ok whole.read = (λ i. log_in_file One (shape i) (same i (Manager opened.slot))) ∙ whole.is in
+    let typed = first_types o.first o.read.entries (programs_of opened) (types_in_force c.in-Ok-first.first) o.programs c.in-Ok-first.ensures.same in
+    let read : log_in_file One o.first ((mid.disk (Manager opened.slot)).seen) ≡ Ok o.read = (λ i. log_in_file One o.first (same i (Manager opened.slot))) ∙ o.read_as in
     let fault = c.in-Err-replay_log.fault in
-    let again : IsRereadFault opened.slot (shape_in p) image whole.read fault = subst (λ (im : Image). IsRereadFault opened.slot (shape_in p) im whole.read fault) same
-    (subst (λ (s : Shape). IsRereadFault opened.slot s (seen_in mid.disk) whole.read fault) shape (c.in-Err-replay_log.ensures.unread told whole.read read)) in
-    subst (λ (e : OpenFault). IsRefusedBy image (opened_as image) (ending_of e)) (sym c.not_read.ensures) (refused_again image opened.slot p o.log whole o.reads fault again)
+    let again : IsRereadFault opened.slot o.first image o.read fault = subst (λ (im : Image). IsRereadFault opened.slot o.first im o.read fault) same (c.in-Err-replay_log.ensures.unread told o.first typed o.read read) in
+    subst (λ (e : OpenFault). IsRefusedBy image (opened_as image) (ending_of e)) (sym c.not_read.ensures) (refused_again image opened o fault again)
 
 pub returns-clause-fault : goal.returns-clause-fault
 returns-clause-fault g c =

@@ -9,6 +9,9 @@ use Rattle.promise_spec.specs.Reports.{history_text}
 use Rattle.log_audit.proofs.ShownReports.{failed_then, open_failed, never_bad_use, not_opened, is_reported}
 use Rattle.log_audit.proofs.records.history.Goals as goal
 
+pub write_history-requires-clause-programs : goal.write_history-requires-clause-programs
+write_history-requires-clause-programs g c = c.in-Ok.ensures.bounds.programs
+
 pub returns-in-Ok-clause-reports : goal.returns-in-Ok-clause-reports
 returns-in-Ok-clause-reports g c told manner asked =
     let old = g.H.Host.world c.args.host.now in

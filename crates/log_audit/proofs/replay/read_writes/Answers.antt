@@ -1,4 +1,4 @@
-use Rattle.std.proofs.Common.{rules, ◌≡◌, ◌+◌, ◌++◌, ◌∷◌, [], List, drop, get_or, Ok, Err, refl, ◌∙◌, ap, subst}
+use Rattle.std.proofs.Common.{rules, ◌≡◌, ◌+◌, ◌++◌, ◌∷◌, [], List, drop, get_or, Some, Ok, Err, refl, sym, ◌∙◌, ap, subst}
 use Rattle.std.proofs.lemmas.Result.{err_from_is_err_and}
 use Rattle.base_types.specs.declared.calls.GrainId.{GrainId}
 use Rattle.base_types.specs.declared.calls.Value.{Value}
@@ -10,6 +10,8 @@ use Rattle.commit_log.specs.declared.records.Written.{Written}
 use Rattle.log_reading.specs.Steps.{seen_in}
 use Rattle.log_reading.specs.Versions.{version_named}
 use Rattle.log_reading.proofs.RecordSums.{next_default, no_item}
+use Rattle.log_audit.specs.CarriedStores.{AreOfProgram}
+use Rattle.log_audit.proofs.CarriedStores.{version_fits, fits_more}
 use Rattle.log_audit.proofs.Versions.{named_as, states_at, version_more, versions_all, version_fault, in_seam}
 use Rattle.log_audit.proofs.RereadFaults.{read_then}
 use Rattle.log_audit.proofs.replay.read_writes.Goals as goal
@@ -20,6 +22,7 @@ no_write = record { grain = record { kind = 0; key = 0 }; place = record { offse
 pub loop-one-init : goal.loop-one-init
 loop-one-init g c = record {
   writes = λ told. ap (λ (l : List (GrainId × List Value)). l ++ states_at c.args.slot c.args.shape.now (seen_in (g.H.Host.world c.args.host.now).disk) c.args.entry.now.unit c.as_slice-writes.result.now) c.new-kept.ensures.items ∙ ap (λ (l : List Written). states_at c.args.slot c.args.shape.now (seen_in (g.H.Host.world c.args.host.now).disk) c.args.entry.now.unit l) c.as_slice-writes.ensures;
+  fits = λ types is. subst (AreOfProgram types) (sym c.new-kept.ensures.items) tt;
   asked = search rules;
   calm = λ channel. refl;
   ready = λ file was. was;
@@ -36,7 +39,7 @@ returns-in_err-version-clause-unread g c =
     let xs = c.as_slice-writes.result.now in
     let x : Written = get_or xs i no_write in
     rw (p.1, p.2) λ told.
-    version_fault c.args.slot shape image r x (in_seam xs i no_write r.writes c.loop-one-test.true c.as_slice-writes.ensures) c.in_err-version.field-0.0
+    version_fault c.args.slot shape image (Some r.unit) r.writes x (in_seam xs i no_write r.writes c.loop-one-test.true c.as_slice-writes.ensures) c.in_err-version.field-0.0
     (λ at place is. subst (λ (d : Disk). version_named c.args.slot One shape (seen_in d) (named_as r.unit x) ≡ Err place) (inv.asked told).disk (c.in_err-version.ensures.damaged at place is told))
     (λ at is. c.in_err-version.ensures.failed at is)
 
@@ -66,6 +69,7 @@ loop-one-preserved g c =
       writes = λ told.
           let found = subst (λ (d : Disk). version_named c.args.slot One shape (seen_in d) (named_as r.unit x) ≡ Ok v) (inv.asked told).disk (c.in_ok-version.ensures.found told) in
           version_more c.args.slot shape image r.unit x (drop (i + 1) xs) (drop i xs) v _ _ _ (next_default i xs no_write c.loop-one-test.true) pushed found (inv.writes told);
+      fits = λ types is. fits_more types c.loop-one.kept.items _ x.grain v.state pushed (version_fits types shape x.grain One x.place.len v is c.in_ok-version.ensures.shaped) (inv.fits types is);
       asked = λ told. asked_then _ _ _ (inv.asked told) (c.named_version.ensures.asked told);
       calm = none_then _ _ _ inv.calm c.in_ok-version.ensures.calm;
       ready = λ file was. c.named_version.ensures.ready file (inv.ready file was);

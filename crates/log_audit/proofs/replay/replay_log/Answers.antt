@@ -1,165 +1,194 @@
-use Rattle.std.proofs.Common.{rules, ◌≡◌, ◌+◌, ◌^◌, ◌<◌, ◌≤◌, ◌++◌, [], inl, inr, List, length, true, false, Some, None, Ok, Err, sym, ◌∙◌, ap, map, subst, append_assoc}
+use Rattle.std.proofs.Common.{rules, ◌≡◌, ◌+◌, ◌^◌, ◌<◌, ◌≤◌, ◌++◌, [], inl, inr, List, length, true, false, Some, None, Ok, Err, sym, ◌∙◌, ap, subst}
 use Rattle.std.specs.Prelude.{is_some}
+use Rattle.std.specs.List.{fold}
 use Rattle.std.proofs.lemmas.Result.{err_from_is_err_and}
+use Rattle.base_types.specs.declared.calls.GrainId.{GrainId}
+use Rattle.base_types.specs.declared.calls.Value.{Value}
+use Rattle.base_types.specs.declared.shapes.Shape.{Shape}
 use Rattle.host_trait.specs.World.{Disk, Image}
 use Rattle.host_trait.proofs.Runs.{asked_then}
 use Rattle.host_trait.proofs.Counts.{none_then}
 use Rattle.field_codec.specs.declared.formats.Format.TheVariants.{One}
-use Rattle.commit_log.specs.declared.records.CommitRecord.{CommitRecord}
 use Rattle.commit_log.specs.declared.records.Written.{Written}
 use Rattle.host_trait.specs.declared.channels.FileId.TheVariants.{Manager}
+use Rattle.log_entries.specs.Entries.{entry_said}
+use Rattle.log_reading.specs.Blocks.{LogBase, ReadEntry, entries_said, program_after}
 use Rattle.log_reading.specs.Steps.{log_base_of, next_in, seen_in}
-use Rattle.log_reading.proofs.LogBlocks.{follows_on, follows_breaks}
-use Rattle.script_tree.specs.Programs.{program_tree}
-use Rattle.script_meaning.specs.Play.{found_in}
-use Rattle.log_reading.specs.Sums.{state_after}
-use Rattle.log_reading.specs.Blocks.{LogBase}
-use Rattle.log_reading.specs.Versions.{named_by, named_of_base}
-use Rattle.log_audit.specs.Replays.{as_commits, AllReplayTo}
-use Rattle.log_audit.specs.RereadFaults.{IsVersionFault}
-use Rattle.log_audit.proofs.GrainLists.{log_fault, rest_of}
-use Rattle.log_audit.proofs.RereadRefusals.{fault_among, fault_of_records, fault_of_base}
-use Rattle.log_audit.proofs.SavedStates.{saved_states}
-use Rattle.log_audit.proofs.Replays.{audit_begun, audit_found, audit_next, audit_done}
+use Rattle.script_tree.specs.Programs.{ProgramTree}
+use Rattle.promise_spec.specs.Programs.{shape_in}
+use Rattle.promise_spec.specs.Records.{put_state}
+use Rattle.promise_spec.specs.Entries.{Standing, is_among}
+use Rattle.promise_spec.specs.Openings.{entries_logged}
+use Rattle.log_audit.specs.InForce.{types_in_force}
+use Rattle.log_audit.specs.Replays.{first_states, states_saved_at, AllReplayTo}
+use Rattle.log_audit.specs.RereadFaults.{IsWriteFault, IsEntryFault}
+use Rattle.log_audit.proofs.GrainLists.{log_fault}
+use Rattle.log_audit.proofs.ReadEntries.{shape_same, shape_types, rest_of}
+use Rattle.log_audit.proofs.RereadRefusals.{fault_before, fault_behind}
+use Rattle.log_audit.proofs.SavedStates.{stands_saved}
+use Rattle.log_audit.proofs.Replays.{HasAudited, before, before_types, rest_said, audit_begun, audit_broken, audit_found, audit_next, audit_done}
 use Rattle.log_audit.proofs.replay.replay_log.Goals as goal
 
-pub loop-store-init : goal.loop-store-init
-loop-store-init g c =
-    let types = program_tree c.args.checked.now in
+pub loop-now-init : goal.loop-now-init
+loop-now-init g c =
+    let shape = c.args.first.shape in
+    let image = seen_in (g.H.Host.world c.args.host.now).disk in
+    let file = ((g.H.Host.world c.args.host.now).disk (Manager c.args.slot)).seen in
+    let base = log_base_of c.in_ok-base.base in
+    let store = c.in_ok-store.store in
     record {
       bound = c.in_ok-base.ensures.bound.gate;
-      audited = λ told.
-          let image = seen_in (g.H.Host.world c.args.host.now).disk in
+      shaped = c.requires.shape;
+      fits = c.in_ok-store.ensures.fits (types_in_force c.args.first) c.requires.shape;
+      audited = λ told p typed.
           let same : seen_in (g.H.Host.world c.read_base.new.host).disk ≡ image = ap seen_in (c.read_base.ensures.asked told).disk in
-          audit_begun types c.args.slot c.args.shape.now image ((g.H.Host.world c.args.host.now).disk (Manager c.args.slot)).seen (log_base_of c.in_ok-base.base) c.in_ok-base.base.gate_at _ (c.in_ok-base.ensures.begins told One)
-          (saved_states types c.args.slot c.args.shape.now image c.in_ok-base.base.saved c.in_ok-store.store
-          (λ grain. c.in_ok-store.ensures.states told grain ∙ (λ i. state_after c.args.slot One c.args.shape.now (same i) None (map (λ w. record { unit = None; written = w }) (c.as_slice.ensures i)) grain)));
+          let shapes : shape_in p ≡ shape = shape_same p c.args.first c.requires.shape typed in
+          let saved : states_saved_at c.args.slot shape (seen_in (g.H.Host.world c.read_base.new.host).disk) c.as_slice.result.now ≡ states_saved_at c.args.slot (shape_in p) image base.writes = (λ i. states_saved_at c.args.slot (sym shapes i) (same i) (c.as_slice.ensures i)) in
+          audit_begun p c.args.slot image file base c.in_ok-base.base.gate_at (types_in_force c.args.first) store typed (c.in_ok-base.ensures.begins told One p shapes)
+          (stands_saved c.args.slot p image (record { base = base; entries = [] }) store (λ grain. c.in_ok-store.ensures.held told grain ∙ ap (λ (ws : List (GrainId × List Value)). is_among ws grain) saved)
+          (c.in_ok-store.ensures.states told p.types ∙ ap (λ (ws : List (GrainId × List Value)). fold put_state (first_states p.types) ws) saved));
       asked = λ told. asked_then _ _ _ (c.read_base.ensures.asked told) (c.saved_store.ensures.asked told);
       calm = none_then _ _ _ c.in_ok-base.ensures.calm c.in_ok-store.ensures.calm;
       ready = λ at was. c.saved_store.ensures.ready at (c.read_base.ensures.ready at was);
     }
 
+pub next_entry-requires-clause-shape : goal.next_entry-requires-clause-shape
+next_entry-requires-clause-shape g c = shape_types c.loop-now.now c.loop-now.invariant.shaped
+
 pub returns-in_err-base-clause-unread : goal.returns-in_err-base-clause-unread
 returns-in_err-base-clause-unread g c =
-    let p = err_from_is_err_and c.from_residual.result c.from_residual.ensures.1 in
-    rw (p.1, p.2) λ told log is.
-    inl (log_fault c.args.shape.now ((g.H.Host.world c.args.host.now).disk (Manager c.args.slot)).seen c.args.slot c.in_err-base.field-0.0
-    (λ at place fault. c.in_err-base.ensures.damaged at place fault told One) (λ at fault. c.in_err-base.ensures.failed at fault))
+    let r = err_from_is_err_and c.from_residual.result c.from_residual.ensures.1 in
+    rw (r.1, r.2) λ told p typed log is.
+    inl (log_fault p ((g.H.Host.world c.args.host.now).disk (Manager c.args.slot)).seen c.args.slot c.in_err-base.field-0.0
+    (λ at place fault. c.in_err-base.ensures.damaged at place fault told One p (shape_same p c.args.first c.requires.shape typed)) (λ at fault. c.in_err-base.ensures.failed at fault))
 
 pub returns-in_err-store-clause-unread : goal.returns-in_err-store-clause-unread
 returns-in_err-store-clause-unread g c =
-    let p = err_from_is_err_and c.from_residual-in_err-store.result c.from_residual-in_err-store.ensures.1 in
-    let shape = c.args.shape.now in
+    let r = err_from_is_err_and c.from_residual-in_err-store.result c.from_residual-in_err-store.ensures.1 in
+    let shape = c.args.first.shape in
     let image = seen_in (g.H.Host.world c.args.host.now).disk in
     let b = c.in_ok-base.base in
     let e = c.in_err-store.field-0.0 in
-    rw (p.1, p.2) λ told log is.
+    rw (r.1, r.2) λ told p typed log is.
     let same : seen_in (g.H.Host.world c.read_base.new.host).disk ≡ image = ap seen_in (c.read_base.ensures.asked told).disk in
-    let base = (rest_of shape ((g.H.Host.world c.args.host.now).disk (Manager c.args.slot)).seen (log_base_of b) [] b.gate_at (c.in_ok-base.ensures.begins told One) log is).0 in
-    let here : IsVersionFault c.args.slot shape image (named_of_base (log_base_of b)) e =
-    subst (λ (im : Image). IsVersionFault c.args.slot shape im (named_of_base (log_base_of b)) e) same
-    (subst (λ (ws : List Written). IsVersionFault c.args.slot shape (seen_in (g.H.Host.world c.read_base.new.host).disk) (map (λ w. record { unit = None; written = w }) ws) e) c.as_slice.ensures (c.in_err-store.ensures.unread told)) in
-    inr (fault_of_base c.args.slot shape image log e (subst (λ (l : LogBase). IsVersionFault c.args.slot shape image (named_of_base l) e) base here))
+    let shapes : shape_in p ≡ shape = shape_same p c.args.first c.requires.shape typed in
+    let base = (rest_of p ((g.H.Host.world c.args.host.now).disk (Manager c.args.slot)).seen (log_base_of b) [] b.gate_at (c.in_ok-base.ensures.begins told One p shapes) log is).0 in
+    let there : IsWriteFault c.args.slot (shape_in p) image None b.saved e =
+    subst (λ (im : Image). IsWriteFault c.args.slot (shape_in p) im None b.saved e) same
+    (subst (λ (s : Shape). IsWriteFault c.args.slot s (seen_in (g.H.Host.world c.read_base.new.host).disk) None b.saved e) (sym shapes)
+    (subst (λ (ws : List Written). IsWriteFault c.args.slot shape (seen_in (g.H.Host.world c.read_base.new.host).disk) None ws e) c.as_slice.ensures (c.in_err-store.ensures.unread told))) in
+    inr (inl (subst (λ (l : LogBase). IsWriteFault c.args.slot (shape_in p) image None l.writes e) base there))
 
 pub returns-in_err-store-clause-asked : goal.returns-in_err-store-clause-asked
 returns-in_err-store-clause-asked g c told = asked_then _ _ _ (c.read_base.ensures.asked told) (c.saved_store.ensures.asked told)
 
-pub returns-in_err-records-clause-unread : goal.returns-in_err-records-clause-unread
-returns-in_err-records-clause-unread g c =
-    let p = err_from_is_err_and c.from_residual-in_err-records.result c.from_residual-in_err-records.ensures.1 in
-    let inv = c.loop-store.invariant in
-    let shape = c.args.shape.now in
-    let gate = c.loop-store.gate_at in
+pub returns-in_err-said-clause-unread : goal.returns-in_err-said-clause-unread
+returns-in_err-said-clause-unread g c =
+    let r = err_from_is_err_and c.from_residual-in_err-said.result c.from_residual-in_err-said.ensures.1 in
+    let inv = c.loop-now.invariant in
+    let types = types_in_force c.loop-now.now in
+    let gate = c.loop-now.gate_at in
+    let image = seen_in (g.H.Host.world c.args.host.now).disk in
     let file = ((g.H.Host.world c.args.host.now).disk (Manager c.args.slot)).seen in
-    rw (p.1, p.2) λ told log is.
-    inl (log_fault shape file c.args.slot c.in_err-records.field-0.0
+    rw (r.1, r.2) λ told p typed log is.
+    inl (log_fault p file c.args.slot c.in_err-said.field-0.0
     (λ at place fault.
-    let here = c.in_err-records.ensures.damaged at place fault told in
-    let there : next_in One shape gate file ≡ Err place = subst (λ (d : Disk). next_in One shape gate (d (Manager c.args.slot)).seen ≡ Err place) (inv.asked told).disk here in
-    follows_breaks One shape file (inv.audited told).base (inv.audited told).records gate (inv.audited told).follows place there)
-    (λ at fault. c.in_err-records.ensures.failed at fault))
+    let here = c.in_err-said.ensures.damaged at place fault told in
+    let there : next_in One types gate file ≡ Err place = subst (λ (d : Disk). next_in One types gate (d (Manager c.args.slot)).seen ≡ Err place) (inv.asked told).disk here in
+    audit_broken p c.args.slot image file gate types _ (inv.audited told p typed) place there)
+    (λ at fault. c.in_err-said.ensures.failed at fault))
 
-pub returns-in_err-records-clause-asked : goal.returns-in_err-records-clause-asked
-returns-in_err-records-clause-asked g c told = asked_then _ _ _ (c.loop-store.invariant.asked told) (c.next_block.ensures.asked told)
+pub returns-in_err-said-clause-asked : goal.returns-in_err-said-clause-asked
+returns-in_err-said-clause-asked g c told = asked_then _ _ _ (c.loop-now.invariant.asked told) (c.next_entry.ensures.asked told)
 
 pub returns-in_err-found-clause-unread : goal.returns-in_err-found-clause-unread
 returns-in_err-found-clause-unread g c =
-    let p = err_from_is_err_and c.from_residual-in_err-found.result c.from_residual-in_err-found.ensures.1 in
-    let inv = c.loop-store.invariant in
-    let shape = c.args.shape.now in
-    let gate = c.loop-store.gate_at in
-    let more = c.in-Some.records in
+    let r = err_from_is_err_and c.from_residual-in_err-found.result c.from_residual-in_err-found.ensures.1 in
+    let inv = c.loop-now.invariant in
+    let types = types_in_force c.loop-now.now in
+    let gate = c.loop-now.gate_at in
+    let entry = entry_said c.in-Some.said in
     let behind = c.in-Some.behind in
     let image = seen_in (g.H.Host.world c.args.host.now).disk in
     let file = ((g.H.Host.world c.args.host.now).disk (Manager c.args.slot)).seen in
     let e = c.in_err-found.field-0.0 in
-    rw (p.1, p.2) λ told log is.
-    let h = inv.audited told in
-    let step : next_in One shape gate ((g.H.Host.world c.loop-store.host).disk (Manager c.args.slot)).seen ≡ Ok (Some (more, behind)) = search rules in
-    let there = subst (λ (d : Disk). next_in One shape gate (d (Manager c.args.slot)).seen ≡ Ok (Some (more, behind))) (inv.asked told).disk step in
-    let rest = (rest_of shape file h.base (h.records ++ more) behind (follows_on One shape file h.base h.records gate h.follows more behind there) log is).1 in
-    let mid = asked_then _ _ _ (inv.asked told) (c.next_block.ensures.asked told) in
-    let here = subst (λ (d : Disk). IsVersionFault c.args.slot shape (seen_in d) (named_by more) e) mid.disk
-    (subst (λ (l : List CommitRecord). IsVersionFault c.args.slot shape (seen_in (g.H.Host.world c.next_block.new.host).disk) (named_by l) e) c.as_slice-in-Some.ensures (c.in_err-found.ensures.unread told)) in
-    let split : log.records ≡ h.records ++ (more ++ rest.0) = rest.1 ∙ append_assoc h.records more rest.0 in
-    inr (fault_of_records c.args.slot shape image log e (subst (λ (l : List CommitRecord). IsVersionFault c.args.slot shape image (named_by l) e) (sym split) (fault_among c.args.slot shape image h.records more rest.0 e here)))
+    rw (r.1, r.2) λ told p typed log is.
+    let h = inv.audited told p typed in
+    let step : next_in One types gate ((g.H.Host.world c.loop-now.host).disk (Manager c.args.slot)).seen ≡ Ok (Some (entry, behind)) = search rules in
+    let there = subst (λ (d : Disk). next_in One types gate (d (Manager c.args.slot)).seen ≡ Ok (Some (entry, behind))) (inv.asked told).disk step in
+    let rest = rest_said p c.args.slot image file gate types _ h entry behind there log is in
+    let mid = asked_then _ _ _ (inv.asked told) (c.next_entry.ensures.asked told) in
+    let here = subst (λ (d : Disk). IsEntryFault c.args.slot (program_after p h.entries) (seen_in d) (entries_said entry) e) mid.disk (c.in_err-found.ensures.unread told (program_after p h.entries) h.in_force) in
+    let all = fault_before c.args.slot image p (h.entries ++ entries_said entry) rest.0 e (fault_behind c.args.slot image p h.entries (entries_said entry) e here) in
+    inr (inr (subst (λ (l : List ReadEntry). IsEntryFault c.args.slot p image l e) (sym rest.1) all))
 
 pub returns-in_err-found-clause-asked : goal.returns-in_err-found-clause-asked
-returns-in_err-found-clause-asked g c told = asked_then _ _ _ (asked_then _ _ _ (c.loop-store.invariant.asked told) (c.next_block.ensures.asked told)) (c.replay_block.ensures.asked told)
+returns-in_err-found-clause-asked g c told = asked_then _ _ _ (asked_then _ _ _ (c.loop-now.invariant.asked told) (c.next_entry.ensures.asked told)) (c.replay_said.ensures.asked told)
 
 pub returns-then-is_some-clause-replays : goal.returns-then-is_some-clause-replays
-returns-then-is_some-clause-replays g c told log is =
-    let inv = c.loop-store.invariant in
-    let types = program_tree c.args.checked.now in
-    let shape = c.args.shape.now in
-    let gate = c.loop-store.gate_at in
-    let more = c.in-Some.records in
+returns-then-is_some-clause-replays g c told p typed log is =
+    let inv = c.loop-now.invariant in
+    let types = types_in_force c.loop-now.now in
+    let gate = c.loop-now.gate_at in
+    let entry = entry_said c.in-Some.said in
     let behind = c.in-Some.behind in
+    let image = seen_in (g.H.Host.world c.args.host.now).disk in
+    let file = ((g.H.Host.world c.args.host.now).disk (Manager c.args.slot)).seen in
     let found = c.in_ok-found.found in
     let some : is_some found ≡ true = sym c.is_some.ensures ∙ c.if-is_some.true in
-    let step : next_in One shape gate ((g.H.Host.world c.loop-store.host).disk (Manager c.args.slot)).seen ≡ Ok (Some (more, behind)) = search rules in
-    let there = subst (λ (d : Disk). next_in One shape gate (d (Manager c.args.slot)).seen ≡ Ok (Some (more, behind))) (inv.asked told).disk step in
-    let mid = asked_then _ _ _ (inv.asked told) (c.next_block.ensures.asked told) in
-    let to = subst (λ (d : Disk). AllReplayTo types (found_in types c.loop-store.store) (as_commits c.args.slot shape (seen_in d) more) (found_in types c.replay_block.new.store) found) mid.disk
-    (subst (λ (l : List CommitRecord). AllReplayTo types (found_in types c.loop-store.store) (as_commits c.args.slot shape (seen_in (g.H.Host.world c.next_block.new.host).disk) l) (found_in types c.replay_block.new.store) found) c.as_slice-in-Some.ensures (c.in_ok-found.ensures.replays told)) in
-    audit_found _ _ _ _ _ gate _ _ more behind found (inv.audited told) there some to log is
+    let step : next_in One types gate ((g.H.Host.world c.loop-now.host).disk (Manager c.args.slot)).seen ≡ Ok (Some (entry, behind)) = search rules in
+    let there = subst (λ (d : Disk). next_in One types gate (d (Manager c.args.slot)).seen ≡ Ok (Some (entry, behind))) (inv.asked told).disk step in
+    let mid = asked_then _ _ _ (inv.asked told) (c.next_entry.ensures.asked told) in
+    let h = inv.audited told p typed in
+    let now : Standing = before p c.args.slot image file gate types c.loop-now.store h in
+    let to = subst (λ (d : Disk). AllReplayTo now (entries_logged c.args.slot now.program (seen_in d) (entries_said entry)) c.replay_said.new.store found) mid.disk
+    (c.in_ok-found.ensures.replays told now (before_types p c.args.slot image file gate types c.loop-now.store h) h.has) in
+    audit_found p c.args.slot image file gate types c.loop-now.store h entry behind there c.replay_said.new.store found some to log is
 
 pub returns-then-is_some-clause-asked : goal.returns-then-is_some-clause-asked
-returns-then-is_some-clause-asked g c told = asked_then _ _ _ (asked_then _ _ _ (c.loop-store.invariant.asked told) (c.next_block.ensures.asked told)) (c.replay_block.ensures.asked told)
+returns-then-is_some-clause-asked g c told = asked_then _ _ _ (asked_then _ _ _ (c.loop-now.invariant.asked told) (c.next_entry.ensures.asked told)) (c.replay_said.ensures.asked told)
 
-pub loop-store-preserved : goal.loop-store-preserved
-loop-store-preserved g c =
-    let inv = c.loop-store.invariant in
-    let types = program_tree c.args.checked.now in
-    let shape = c.args.shape.now in
-    let gate = c.loop-store.gate_at in
-    let more = c.in-Some.records in
+pub loop-now-preserved : goal.loop-now-preserved
+loop-now-preserved g c =
+    let inv = c.loop-now.invariant in
+    let types = types_in_force c.loop-now.now in
+    let gate = c.loop-now.gate_at in
+    let entry = entry_said c.in-Some.said in
     let behind = c.in-Some.behind in
+    let image = seen_in (g.H.Host.world c.args.host.now).disk in
+    let file = ((g.H.Host.world c.args.host.now).disk (Manager c.args.slot)).seen in
     let found = c.in_ok-found.found in
     let none : is_some found ≡ false = sym c.is_some.ensures ∙ c.if-is_some.false in
-    let far : (gate + 5 + length more ≤ behind) × (behind < 2 ^ 63) = search rules in
+    let far : (gate + 5 + length (entries_said entry) ≤ behind) × (behind < 2 ^ 63) = search rules in
     record {
       bound = far.1;
-      audited = λ told.
-          let step : next_in One shape gate ((g.H.Host.world c.loop-store.host).disk (Manager c.args.slot)).seen ≡ Ok (Some (more, behind)) = search rules in
-          let there = subst (λ (d : Disk). next_in One shape gate (d (Manager c.args.slot)).seen ≡ Ok (Some (more, behind))) (inv.asked told).disk step in
-          let mid = asked_then _ _ _ (inv.asked told) (c.next_block.ensures.asked told) in
-          let to = subst (λ (d : Disk). AllReplayTo types (found_in types c.loop-store.store) (as_commits c.args.slot shape (seen_in d) more) (found_in types c.replay_block.new.store) found) mid.disk
-          (subst (λ (l : List CommitRecord). AllReplayTo types (found_in types c.loop-store.store) (as_commits c.args.slot shape (seen_in (g.H.Host.world c.next_block.new.host).disk) l) (found_in types c.replay_block.new.store) found) c.as_slice-in-Some.ensures (c.in_ok-found.ensures.replays told)) in
-          audit_next _ _ _ _ _ gate _ _ more behind found (inv.audited told) there none to;
-      asked = λ told. asked_then _ _ _ (asked_then _ _ _ (inv.asked told) (c.next_block.ensures.asked told)) (c.replay_block.ensures.asked told);
-      calm = none_then _ _ _ (none_then _ _ _ inv.calm c.in_ok-records.ensures.calm) c.in_ok-found.ensures.calm;
-      ready = λ at was. c.replay_block.ensures.ready at (c.next_block.ensures.ready at (inv.ready at was));
+      shaped = c.in_ok-found.ensures.shaped;
+      fits = c.in_ok-found.ensures.fits;
+      audited = λ told p typed.
+          let step : next_in One types gate ((g.H.Host.world c.loop-now.host).disk (Manager c.args.slot)).seen ≡ Ok (Some (entry, behind)) = search rules in
+          let there = subst (λ (d : Disk). next_in One types gate (d (Manager c.args.slot)).seen ≡ Ok (Some (entry, behind))) (inv.asked told).disk step in
+          let mid = asked_then _ _ _ (inv.asked told) (c.next_entry.ensures.asked told) in
+          let h = inv.audited told p typed in
+          let now : Standing = before p c.args.slot image file gate types c.loop-now.store h in
+          let to = subst (λ (d : Disk). AllReplayTo now (entries_logged c.args.slot now.program (seen_in d) (entries_said entry)) c.replay_said.new.store found) mid.disk
+          (c.in_ok-found.ensures.replays told now (before_types p c.args.slot image file gate types c.loop-now.store h) h.has) in
+          subst (λ (t : ProgramTree). HasAudited p c.args.slot image file behind t c.replay_said.new.store) (sym c.in_ok-found.ensures.behind)
+          (audit_next p c.args.slot image file gate types c.loop-now.store h entry behind there c.replay_said.new.store found none to);
+      asked = λ told. asked_then _ _ _ (asked_then _ _ _ (inv.asked told) (c.next_entry.ensures.asked told)) (c.replay_said.ensures.asked told);
+      calm = none_then _ _ _ (none_then _ _ _ inv.calm c.in_ok-said.ensures.calm) c.in_ok-found.ensures.calm;
+      ready = λ at was. c.replay_said.ensures.ready at (c.next_entry.ensures.ready at (inv.ready at was));
     }
 
 pub returns-clause-replays : goal.returns-clause-replays
-returns-clause-replays g c told log is =
-    let inv = c.loop-store.invariant in
-    let shape = c.args.shape.now in
-    let gate = c.loop-store.gate_at in
-    let step : next_in One shape gate ((g.H.Host.world c.loop-store.host).disk (Manager c.args.slot)).seen ≡ Ok None = search rules in
-    let there = subst (λ (d : Disk). next_in One shape gate (d (Manager c.args.slot)).seen ≡ Ok None) (inv.asked told).disk step in
-    audit_done _ _ _ _ _ gate _ (inv.audited told) there log is
+returns-clause-replays g c told p typed log is =
+    let inv = c.loop-now.invariant in
+    let types = types_in_force c.loop-now.now in
+    let gate = c.loop-now.gate_at in
+    let image = seen_in (g.H.Host.world c.args.host.now).disk in
+    let file = ((g.H.Host.world c.args.host.now).disk (Manager c.args.slot)).seen in
+    let step : next_in One types gate ((g.H.Host.world c.loop-now.host).disk (Manager c.args.slot)).seen ≡ Ok None = search rules in
+    let there = subst (λ (d : Disk). next_in One types gate (d (Manager c.args.slot)).seen ≡ Ok None) (inv.asked told).disk step in
+    audit_done p c.args.slot image file gate types _ (inv.audited told p typed) there log is
 
 pub returns-clause-asked : goal.returns-clause-asked
-returns-clause-asked g c told = asked_then _ _ _ (c.loop-store.invariant.asked told) (c.next_block.ensures.asked told)
+returns-clause-asked g c told = asked_then _ _ _ (c.loop-now.invariant.asked told) (c.next_entry.ensures.asked told)

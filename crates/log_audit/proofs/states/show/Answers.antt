@@ -8,6 +8,9 @@ use Rattle.promise_spec.specs.Endings.{Ending, HasFailedAs}
 use Rattle.log_audit.proofs.ShownReports.{failed_then, open_failed, never_bad_use, not_opened, is_shown}
 use Rattle.log_audit.proofs.states.show.Goals as goal
 
+pub write_show-requires-clause-programs : goal.write_show-requires-clause-programs
+write_show-requires-clause-programs g c = c.in-Ok.ensures.bounds.programs
+
 pub returns-in-Ok-clause-reports : goal.returns-in-Ok-clause-reports
 returns-in-Ok-clause-reports g c told manner asked =
     let old = g.H.Host.world c.args.host.now in
