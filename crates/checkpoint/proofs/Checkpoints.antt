@@ -1,10 +1,11 @@
 -- What stands in the other slot once it is filled is a checkpoint of the log.
-use Rattle.std.proofs.Common.{◌≡◌, ℕ, ◌+◌, ◌-◌, ◌<◌, ◌≤◌, Bool, List, [], ◌∷◌, ◌++◌, map, length, take, drop, Some, Ok, refl, sym, ◌∙◌, ap, subst, arith, append_assoc}
-use Rattle.std.specs.Prelude.{Option, ◌||◌}
-use Rattle.std.specs.List.{flat_map, list_any, AllByRecursion}
+use Rattle.std.proofs.Common.{◌≡◌, ℕ, zero, suc, ◌+◌, ◌-◌, ◌<◌, ◌≤◌, ◌^◌, Bool, List, [], ◌∷◌, ◌++◌, map, length, take, drop, Some, Ok, refl, sym, ◌∙◌, ap, subst, arith, append_assoc}
+use Rattle.std.specs.Prelude.{Option, ◌||◌, slice_get}
+use Rattle.std.specs.List.{flat_map, list_any, AllByRecursion, AllZip}
 use Rattle.std.specs.Int.{w32, to_le_bytes}
 use Rattle.std.proofs.lemmas.List.{length-map}
 use Rattle.base_types.specs.declared.calls.GrainId.{GrainId}
+use Rattle.base_types.specs.declared.calls.UnitNo.{UnitNo}
 use Rattle.base_types.specs.declared.calls.Value.{Value}
 use Rattle.base_types.specs.declared.stores.Version.{Version}
 use Rattle.base_types.specs.Grains.{same_grain}
@@ -21,11 +22,17 @@ use Rattle.commit_log.specs.Checkpoints.{spelling_of_piece}
 use Rattle.commit_log.specs.Orders.{IsAscending}
 use Rattle.commit_log.specs.Spelling.{WriteFits}
 use Rattle.commit_log.proofs.CheckpointPieces.{piece_length}
-use Rattle.promise_spec.specs.Programs.{Program, shape_in}
+use Rattle.promise_spec.specs.Programs.{Program}
 use Rattle.promise_spec.specs.Entries.{Log, is_among, standing_of}
 use Rattle.promise_spec.specs.Blocks.{Saved, Checkpoint, pieces_of, IsSaved, From}
 use Rattle.promise_spec.specs.Logs.{magic, written_file}
-use Rattle.checkpoint.specs.Copies.{copy_of, IsCopied}
+use Rattle.script_tree.specs.Programs.{ProgramTree}
+use Rattle.script_check.specs.Shapes.{value_of, type_shapes}
+use Rattle.script_check.specs.Carrying.{fields_of_kind}
+use Rattle.program_file.specs.Succession.{newest_program, carried_from}
+use Rattle.program_file.specs.ProgramsInTurn.{HasItsFields}
+use Rattle.grain_log.specs.Reads.{fields_of}
+use Rattle.checkpoint.specs.Copies.{name_of_copy, writes_named, IsCopied}
 use Rattle.checkpoint.specs.Pieces.{behind_gate, front_bodies, piece_bodies}
 use Rattle.checkpoint.specs.NextGeneration.{IsLastVersionOf}
 
@@ -97,51 +104,78 @@ same_bodies head saved front last are =
 -- ---- the copies as saved versions
 
 -- copies go by the same grains
-pub ascending_copies : (last : Option GrainId) (latest : List Named) → IsAscending last (map (λ n. n.written) latest) → IsAscending last (map copy_of latest)
-ascending_copies last [] up = tt
-ascending_copies last (n ∷ latest) up = (up.0, ascending_copies (Some n.written.grain) latest up.1)
+pub ascending_copies : (live : ℕ) (programs : List ProgramTree) (seen : Image) (disk : Disk) (last : Option GrainId) (latest copies : List Named) → AllZip (IsCopied live programs seen disk) latest copies
+    → IsAscending last (map (λ n. n.written) latest) → IsAscending last (writes_named copies)
+ascending_copies live programs seen disk last [] [] copied up = tt
+ascending_copies live programs seen disk last [] (copy ∷ copies) copied up = absurd copied
+ascending_copies live programs seen disk last (n ∷ latest) [] copied up = absurd copied
+ascending_copies live programs seen disk last (n ∷ latest) (copy ∷ copies) copied up =
+    let same : copy.written.grain ≡ n.written.grain = ap (λ (m : Named). m.written.grain) copied.0.named in
+    subst (λ (g : GrainId). IsAscending last (record { grain = g; place = copy.written.place } ∷ writes_named copies)) (sym same)
+    (up.0, ascending_copies live programs seen disk (Some n.written.grain) latest copies copied.1 up.1)
 
-module _ (live : ℕ) (p : Program) (seen : Image) (disk : Disk) (image : Image) (is : (grain : GrainId) → MayLeave (disk (Grain (1 - live) grain)) (image (Grain (1 - live) grain))) (log : Log) where
+-- a state with its type's fields has as many as the shape says
+fields_said : (types : ProgramTree) (kind count : ℕ) → kind < length types → count ≡ length (fields_of_kind types kind) → fields_of (slice_get (type_shapes types) kind) ≡ Some count
+fields_said [] kind count low is = absurd (omega (arith, low))
+fields_said (x ∷ types) zero count low is = ap (λ (n : ℕ). Some n) (length-map x.fields (λ f. value_of f.initial) ∙ sym is)
+fields_said (x ∷ types) (suc kind) count low is = fields_said types kind count (omega (arith, low)) is
+
+module _ (live : ℕ) (programs : List ProgramTree) (p : Program) (newest : newest_program programs ≡ p.types) (seen : Image) (disk : Disk) (image : Image)
+    (is : (grain : GrainId) → MayLeave (disk (Grain (1 - live) grain)) (image (Grain (1 - live) grain))) (log : Log) where
   -- saved versions of these names
-  pub record AreSavedOf (latest : List Named) : Type 0 where
+  pub record AreSavedOf (latest copies : List Named) : Type 0 where
     pub saved : List Saved
-    pub writes : map (λ s. s.write) saved ≡ map copy_of latest
+    pub writes : map (λ s. s.write) saved ≡ writes_named copies
     pub each : AllByRecursion (IsSaved (1 - live) p image) saved
     pub states : AllByRecursion (λ (w : GrainId × List Value). w.1 ≡ (standing_of log).states w.0) (map (λ s. (s.write.grain, s.state)) saved)
     pub held : (grain : GrainId) → is_among (map (λ s. (s.write.grain, s.state)) saved) grain ≡ list_any (λ (n : Named). same_grain n.written.grain grain) latest
 
-  one_saved : (n : Named) → (l : IsLastVersionOf live p seen log n) → IsCopied live (shape_in p) seen disk n → WriteFits (copy_of n)
-      → IsSaved (1 - live) p image (record { unit = l.version.unit; write = copy_of n; state = l.version.state })
-  one_saved n l c fits =
-      let same : c.version ≡ l.version = (let both : Ok c.version ≡ Ok l.version = sym c.found ∙ l.there in cc both) in
+  -- the saved version of a copy
+  abbrev pub saved_at : (n copy : Named) → IsCopied live programs seen disk n copy → Saved
+  saved_at n copy c = record { unit = c.copied.unit; write = (name_of_copy n.written.grain (length (spelling_of_version c.copied))).written; state = c.copied.state }
+
+  one_version : (n copy : Named) → (l : IsLastVersionOf live programs seen log n) → (c : IsCopied live programs seen disk n copy) → c.carried.version ≡ l.version
+  one_version n copy l c = let both : Ok c.carried.version ≡ Ok l.version = sym c.carried.found ∙ l.there in cc both
+
+  -- its state is what the version that is named means
+  state_of_copy : (n copy : Named) → (l : IsLastVersionOf live programs seen log n) → (c : IsCopied live programs seen disk n copy) → c.copied.state ≡ (standing_of log).states n.written.grain
+  state_of_copy n copy l c = ap (λ (v : Version). v.state) c.carried.meant ∙ ap (λ (v : Version). carried_from programs n.program n.written.grain.kind v.state) (one_version n copy l c) ∙ l.state
+
+  unit_of_copy : (n copy : Named) → (l : IsLastVersionOf live programs seen log n) → (c : IsCopied live programs seen disk n copy) → c.copied.unit ≡ l.version.unit
+  unit_of_copy n copy l c = ap (λ (v : Version). v.unit) c.carried.meant ∙ ap (λ (v : Version). v.unit) (one_version n copy l c)
+
+  one_saved : (n copy : Named) → (l : IsLastVersionOf live programs seen log n) → (c : IsCopied live programs seen disk n copy) → WriteFits copy.written → IsSaved (1 - live) p image (saved_at n copy c)
+  one_saved n copy l c fits =
       let file : image (Grain (1 - live) n.written.grain) ≡ (disk (Grain (1 - live) n.written.grain)).seen =
-      settled_image disk (Grain (1 - live) n.written.grain) (disk (Grain (1 - live) n.written.grain)).seen (image (Grain (1 - live) n.written.grain)) c.lasts (is n.written.grain) in
-      let whole = l.stands.version.version_is in
-      let there : take (length (spelling_of_version l.version)) (image (Grain (1 - live) n.written.grain)) ≡ spelling_of_version l.version =
-      ap (λ (f : List ℕ). take (length (spelling_of_version l.version)) f) file ∙ subst (λ (v : Version). take (length (spelling_of_version v)) (disk (Grain (1 - live) n.written.grain)).seen ≡ spelling_of_version v) same c.there in
+      settled_image disk (Grain (1 - live) n.written.grain) (disk (Grain (1 - live) n.written.grain)).seen (image (Grain (1 - live) n.written.grain)) c.stands.lasts (is n.written.grain) in
+      let typed : HasItsFields p.types n.written.grain c.copied.state = subst (λ (t : ProgramTree). HasItsFields t n.written.grain c.copied.state) newest c.typed in
       record {
-        fits = fits;
-        unit = l.unit;
+        fits = subst WriteFits (ap (λ (m : Named). m.written) c.named) fits;
+        unit = subst (λ (u : UnitNo). (0 < u.0) × (u.0 < 2 ^ 63)) (sym (unit_of_copy n copy l c)) l.unit;
         stands = record {
           near = omega arith;
-          fields = l.stands.fields;
+          fields = fields_said p.types n.written.grain.kind (length c.copied.state) typed.kind typed.fields;
           version = record {
-            version_is = record { fits = whole.fits; count = whole.count; len = whole.len };
-            here = ap (λ (k : ℕ). take k (image (Grain (1 - live) n.written.grain))) (sym whole.len) ∙ there;
+            version_is = record { fits = c.fits; count = refl; len = refl };
+            here = ap (λ (f : List ℕ). take (length (spelling_of_version c.copied)) f) file ∙ c.stands.there;
           };
         };
       }
 
-  pub saved_of : (latest : List Named) → AllByRecursion (IsLastVersionOf live p seen log) latest → AllByRecursion (IsCopied live (shape_in p) seen disk) latest → AllByRecursion WriteFits (map copy_of latest) → AreSavedOf latest
-  saved_of [] last copied fits = record { saved = []; writes = refl; each = tt; states = tt; held = λ grain. refl }
-  saved_of (n ∷ latest) last copied fits =
-      let more = saved_of latest last.1 copied.1 fits.1 in
+  pub saved_of : (latest copies : List Named) → AllByRecursion (IsLastVersionOf live programs seen log) latest → AllZip (IsCopied live programs seen disk) latest copies → AllByRecursion WriteFits (writes_named copies)
+      → AreSavedOf latest copies
+  saved_of [] [] last copied fits = record { saved = []; writes = refl; each = tt; states = tt; held = λ grain. refl }
+  saved_of [] (copy ∷ copies) last copied fits = absurd copied
+  saved_of (n ∷ latest) [] last copied fits = absurd copied
+  saved_of (n ∷ latest) (copy ∷ copies) last copied fits =
+      let more = saved_of latest copies last.1 copied.1 fits.1 in
       let l = last.0 in
+      let c = copied.0 in
       record {
-        saved = record { unit = l.version.unit; write = copy_of n; state = l.version.state } ∷ more.saved;
-        writes = ap (λ (ws : List Written). copy_of n ∷ ws) more.writes;
-        each = (one_saved n l copied.0 fits.0, more.each);
-        states = (l.state, more.states);
+        saved = saved_at n copy c ∷ more.saved;
+        writes = λ i. (sym c.named i).written ∷ more.writes i;
+        each = (one_saved n copy l c fits.0, more.each);
+        states = (state_of_copy n copy l c, more.states);
         held = λ grain. ap (λ (b : Bool). same_grain n.written.grain grain || b) (more.held grain);
       }
 

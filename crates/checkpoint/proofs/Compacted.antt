@@ -15,15 +15,18 @@ use Rattle.host_trait.proofs.Runs.{settled_image, arrives_asked}
 use Rattle.field_codec.specs.declared.formats.Format.TheVariants.{One}
 use Rattle.cell_model.specs.Units.{Member}
 use Rattle.commit_log.specs.declared.records.Named.{Named}
-use Rattle.log_reading.specs.Blocks.{log_in_file}
+use Rattle.log_reading.specs.Blocks.{log_in_file, shapes_read}
 use Rattle.log_reading.specs.Steps.{seen_in}
-use Rattle.log_reading.specs.Versions.{named_in, named_by_grain, version_named, latest_of}
+use Rattle.log_reading.specs.Versions.{named_in, named_by_grain, latest_of}
+use Rattle.script_tree.specs.Programs.{program_tree}
+use Rattle.program_file.specs.Succession.{newest_program, shapes_in_turn, carried_from}
 use Rattle.silo_spec.specs.Moments.{IsAsAtEntry, IsUntouched}
 use Rattle.silo_spec.specs.OpenedDisks.{opened_disk, opening_syncs, OnlyOpens}
 use Rattle.silo_spec.specs.Slots.{generation, ShowsSilos}
-use Rattle.promise_spec.specs.Programs.{Program, IsChecked, shape_in}
-use Rattle.promise_spec.specs.Entries.{Log, Standing, checkpointed}
-use Rattle.promise_spec.specs.Logs.{magic, IsLog}
+use Rattle.promise_spec.specs.Programs.{Program, IsChecked}
+use Rattle.promise_spec.specs.Entries.{Log, checkpointed}
+use Rattle.promise_spec.specs.Blocks.{AreKept}
+use Rattle.promise_spec.specs.Logs.{magic, StandsUpTo, IsLog}
 use Rattle.promise_spec.specs.Images.{IsWholeSilo, IsWholeFolder}
 use Rattle.promise_spec.specs.Moments.{counted_moments}
 use Rattle.promise_spec.specs.Openings.{Reads, opened_as}
@@ -32,17 +35,17 @@ use Rattle.promise_spec.specs.Endings.{Ending, Done}
 use Rattle.promise_spec.specs.Courses.{Observed}
 use Rattle.promise_spec.specs.EitherSlot.{IsCompactable}
 use Rattle.promise_spec.specs.Compaction.{IsRewriting, Rewrites}
-use Rattle.promise_spec.proofs.Growing.{program_begins}
 use Rattle.promise_spec.proofs.Lists.{each_of, either_in}
 use Rattle.promise_spec.proofs.Openings.{reads_is, reads_is_live, log_is_read}
-use Rattle.promise_spec.proofs.Standings.{in_force}
+use Rattle.promise_spec.proofs.Batched.{base_program}
 use Rattle.promise_laws.proofs.SettledLogs.{settled_logs}
 use Rattle.silo_opening.specs.declared.opened_silo.Opened.{Opened}
-use Rattle.silo_opening.specs.OpenedSilo.{program_in, IsOpenedFrom, IsLatest, AreLatest}
+use Rattle.silo_opening.specs.OpenedSilo.{program_in, programs_of, shapes_of, IsOpenedFrom, IsLatest, AreLatest}
 use Rattle.silo_opening.proofs.OpeningCalls.{long_opened, opens_same, opens_and_asked, opens_untouched}
 use Rattle.checkpoint.specs.declared.compaction.Next.{Next}
 use Rattle.checkpoint.specs.NextGeneration.{IsOnTheWay, IsLastVersionOf, IsMadeOf}
-use Rattle.checkpoint.proofs.NamedVersions.{IsNamedIn, latest_named_in}
+use Rattle.checkpoint.specs.Copies.{AreThere}
+use Rattle.checkpoint.proofs.NamedVersions.{IsNamedIn, latest_named_in, checked_behind}
 
 -- what the next generation of an opened silo is made of
 abbrev pub next_of : Opened → List Named → Next
@@ -55,21 +58,25 @@ next_of o latest = record {
 }
 
 -- the last versions, with what the log says of each
-one_named : (o : Opened) (image : Image) (log : Log) (n : Named) → IsLatest image o log n → IsNamedIn o.slot (program_in o) image n → IsLastVersionOf o.slot (program_in o) image log n
+one_named : (o : Opened) (image : Image) (log : Log) (n : Named) → IsLatest image o log n → IsNamedIn o.slot (shapes_of o) image n → IsLastVersionOf o.slot (programs_of o) image log n
 one_named o image log n l m =
     let same : m.version ≡ l.version = (let both : Ok m.version ≡ Ok l.version = sym m.there ∙ l.there in cc both) in
-    record { version = m.version; there = m.there; unit = m.unit; stands = m.stands; state = ap (λ (v : Version). v.state) same ∙ l.state }
+    record {
+      version = m.version;
+      there = m.there;
+      unit = m.unit;
+      state = ap (λ (v : Version). carried_from (programs_of o) n.program n.written.grain.kind v.state) same ∙ l.state;
+    }
 
-both_named : (o : Opened) (image : Image) (log : Log) (named : List Named) → AllByRecursion (IsLatest image o log) named → AllByRecursion (IsNamedIn o.slot (program_in o) image) named → AllByRecursion (IsLastVersionOf o.slot (program_in o) image log) named
+both_named : (o : Opened) (image : Image) (log : Log) (named : List Named) → AllByRecursion (IsLatest image o log) named → AllByRecursion (IsNamedIn o.slot (shapes_of o) image) named
+    → AllByRecursion (IsLastVersionOf o.slot (programs_of o) image log) named
 both_named o image log [] latest named = tt
 both_named o image log (n ∷ more) latest named = (one_named o image log n latest.0 named.0, both_named o image log more latest.1 named.1)
 
 -- they are there
-pub latest_there : (o : Opened) (image : Image) (log : Log) (shape : Shape) → shape ≡ shape_in (program_in o) → (named : List Named) → AllByRecursion (IsLatest image o log) named
-    → AllByRecursion (λ n. (version : Version) × (version_named o.slot One shape image n ≡ Ok version)) named
-latest_there o image log shape is [] all = tt
-latest_there o image log shape is (n ∷ named) all =
-    ((all.0.version, subst (λ (s : Shape). version_named o.slot One s image n ≡ Ok all.0.version) (sym is) all.0.there), latest_there o image log shape is named all.1)
+pub latest_there : (o : Opened) (image : Image) (log : Log) (named : List Named) → AllByRecursion (IsLatest image o log) named → AreThere o.slot (shapes_of o) image named
+latest_there o image log [] all = tt
+latest_there o image log (n ∷ named) all = ((all.0.version, all.0.there), latest_there o image log named all.1)
 
 module _ (o : Opened) (w0 w1 w2 : World) (from : IsOpenedFrom (seen_in w1.disk) o) (slot : o.slot ≤ 1) (opens : OnlyOpens w0 w1) (left : w1.disk ≡ opened_disk w0.disk) (asked : OnlyAsked w1 w2) where
   -- what was read at entry
@@ -130,41 +137,47 @@ module _ (o : Opened) (w0 w1 w2 : World) (from : IsOpenedFrom (seen_in w1.disk) 
     shown image is n low short silo =
         whole.shows image (image_so image is).0 n low (subst (λ (i : Image). length (i (Manager n)) < 16) same_too short) silo
 
-    program_so : log_there.is.stands.program ≡ program_in o
-    program_so =
-        let s = log_there.is.stands in
-        sym (in_force from.log.base from.log.entries ∙ ap (λ (b : Standing). b.program) s.base ∙ program_begins s.program s.begins) ∙ from.program
-
-    pub made : (latest : List Named) → AreLatest (seen_in w1.disk) o from.log latest → IsMadeOf (next_of o latest) (program_in o) (seen_in w2.disk) from.log
-    made latest are = record {
+    pub made : newest_program (programs_of o) ≡ program_tree o.checked → (latest : List Named) → AreLatest (seen_in w1.disk) o from.log latest
+        → IsMadeOf (next_of o latest) (programs_of o) (program_in o) (seen_in w2.disk) from.log
+    made newest latest are = record {
       program = from.program;
+      newest = newest;
       text = refl;
-      checked = subst IsChecked program_so log_there.is.stands.checked;
+      checked = subst IsChecked from.program (checked_behind o.slot (seen_in w1.disk) from.log.base from.log.entries kept (subst IsChecked (sym base_is) stands.checked));
       count = from.count;
       next_unit = from.next;
       generation_is = ap (λ (n : ℕ). n + 1) (sym (subst (λ (i : Image). generation (i (Manager o.slot)) ≡ o.generation) (sym same_too) generation_so));
       held = are.held;
-      each = subst (λ (i : Image). AllByRecursion (IsLastVersionOf o.slot (program_in o) i from.log) latest) (sym (ap seen_in asked.disk)) there;
+      each = subst (λ (i : Image). AllByRecursion (IsLastVersionOf o.slot (programs_of o) i from.log) latest) (sym (ap seen_in asked.disk)) there;
     }
       where
         is_there : IsLog o.slot (seen_in w1.disk) from.log
         is_there = subst (λ (i : Image). IsLog o.slot i from.log) (sym same) log_there
 
-        program_there : is_there.is.stands.program ≡ program_in o
-        program_there =
-            let s = is_there.is.stands in
-            sym (in_force from.log.base from.log.entries ∙ ap (λ (b : Standing). b.program) s.base ∙ program_begins s.program s.begins) ∙ from.program
+        stands : StandsUpTo o.slot (seen_in w1.disk) from.log is_there.is.bodies is_there.is.gate
+        stands = is_there.is.stands
 
-        named : AllByRecursion (IsNamedIn o.slot (program_in o) (seen_in w1.disk)) latest
+        base_is : from.log.base.program ≡ stands.program
+        base_is = base_program o.slot (seen_in w1.disk) from.log is_there.is.bodies is_there.is.gate stands
+
+        kept : AreKept o.slot (seen_in w1.disk) from.log.base.program from.log.entries
+        kept = subst (λ (p : Program). AreKept o.slot (seen_in w1.disk) p from.log.entries) (sym base_is) stands.kept
+
+        -- the program file's
+        first_is : stands.program ≡ from.first
+        first_is = sym base_is ∙ ap (λ (l : Log). l.base.program) from.log_is
+
+        named : AllByRecursion (IsNamedIn o.slot (shapes_of o) (seen_in w1.disk)) latest
         named =
-            let read : log_in_file One (shape_in is_there.is.stands.program) ((seen_in w1.disk) (Manager o.slot)) ≡ Ok from.read =
-            subst (λ (p : Program). log_in_file One (shape_in p) ((seen_in w1.disk) (Manager o.slot)) ≡ Ok from.read) (sym program_there) from.read_as in
-            let all : AllByRecursion (IsNamedIn o.slot is_there.is.stands.program (seen_in w1.disk)) (latest_of (named_by_grain (named_in from.read))) =
+            let read : log_in_file One stands.program ((seen_in w1.disk) (Manager o.slot)) ≡ Ok from.read =
+            subst (λ (p : Program). log_in_file One p ((seen_in w1.disk) (Manager o.slot)) ≡ Ok from.read) (sym first_is) from.read_as in
+            let all : AllByRecursion (IsNamedIn o.slot (shapes_read stands.program from.read) (seen_in w1.disk)) (latest_of (named_by_grain (named_in from.read))) =
             latest_named_in o.slot (seen_in w1.disk) from.log is_there.is from.read read in
-            subst (λ (p : Program). AllByRecursion (IsNamedIn o.slot p (seen_in w1.disk)) latest) program_there
-            (subst (AllByRecursion (IsNamedIn o.slot is_there.is.stands.program (seen_in w1.disk))) (sym (are.latest from.read from.read_as)) all)
+            let shapes : shapes_read stands.program from.read ≡ shapes_of o = ap (λ (p : Program). shapes_read p from.read) first_is ∙ ap shapes_in_turn (sym from.programs) in
+            subst (λ (l : List Shape). AllByRecursion (IsNamedIn o.slot l (seen_in w1.disk)) latest) shapes
+            (subst (AllByRecursion (IsNamedIn o.slot (shapes_read stands.program from.read) (seen_in w1.disk))) (sym (are.latest from.first from.read from.first_is from.read_as)) all)
 
-        there : AllByRecursion (IsLastVersionOf o.slot (program_in o) (seen_in w1.disk) from.log) latest
+        there : AllByRecursion (IsLastVersionOf o.slot (programs_of o) (seen_in w1.disk) from.log) latest
         there = both_named o (seen_in w1.disk) from.log latest are.each named
 
     -- ---- what was written

@@ -1,7 +1,7 @@
 -- The files of the other slot once they are filled: with its header gate open it has a checkpoint of the log.
 use Rattle.std.proofs.Common.{◌≡◌, ℕ, ◌+◌, ◌-◌, ◌<◌, ◌≤◌, List, [], ◌∷◌, ◌++◌, map, length, take, drop, None, sym, ◌∙◌, ap, subst, arith, length-append}
 use Rattle.std.specs.Int.{w32, to_le_bytes, from_le_bytes}
-use Rattle.std.specs.List.{AllByRecursion}
+use Rattle.std.specs.List.{AllByRecursion, AllZip}
 use Rattle.std.proofs.lemmas.List.{drop-drop, take_at}
 use Rattle.base_types.specs.declared.calls.GrainId.{GrainId}
 use Rattle.base_types.specs.declared.calls.Value.{Value}
@@ -10,11 +10,13 @@ use Rattle.host_trait.specs.Disk.{FileState, MayLeave, overlaid, settled}
 use Rattle.host_trait.specs.World.{World, Image, IsImage, moment_of, with_bytes}
 use Rattle.host_trait.proofs.Runs.{settled_image, with_bytes-there, with_bytes-other}
 use Rattle.gate_block.specs.Log.{open_blocks, AreSmall}
+use Rattle.commit_log.specs.declared.records.Named.{Named}
 use Rattle.commit_log.specs.declared.records.Written.{Written}
 use Rattle.commit_log.specs.Orders.{IsAscending}
 use Rattle.silo_spec.specs.Silos.{HasProgram}
 use Rattle.silo_spec.specs.Slots.{generation}
-use Rattle.promise_spec.specs.Programs.{Program, shape_in}
+use Rattle.script_tree.specs.Programs.{ProgramTree}
+use Rattle.promise_spec.specs.Programs.{Program}
 use Rattle.promise_spec.specs.Entries.{Log, standing_of, checkpointed, is_among}
 use Rattle.promise_spec.specs.Blocks.{Saved, Checkpoint, pieces_of, IsSaved, IsCheckpoint, standing_saved, From, IsSavedFrom}
 use Rattle.promise_spec.specs.Logs.{IsLogIn, written_file}
@@ -23,7 +25,7 @@ use Rattle.promise_spec.proofs.WrittenFiles.{written_is_log, generation_is}
 use Rattle.promise_spec.proofs.SavedStandings.{stands_for}
 use Rattle.log_reading.specs.Steps.{seen_in}
 use Rattle.checkpoint.specs.declared.compaction.Next.{Next}
-use Rattle.checkpoint.specs.Copies.{copy_of, IsCopied}
+use Rattle.checkpoint.specs.Copies.{writes_named, IsCopied}
 use Rattle.checkpoint.specs.Pieces.{behind_gate, piece_bodies, HasPieces}
 use Rattle.checkpoint.specs.NextGeneration.{IsMadeOf, MayBeWritten}
 use Rattle.checkpoint.proofs.Checkpoints.{opened_bytes, AreSavedIn, cut_saved, same_bodies, ascending_copies, AreSavedOf, saved_of, are_small, sizes_saved}
@@ -36,10 +38,10 @@ has_program text file = take_at (to_le_bytes w32 (length text) ++ text) (drop (0
 generation_behind : (f : List ℕ) → generation (1 ∷ drop 1 f) ≡ generation f
 generation_behind f = ap (λ (l : List ℕ). from_le_bytes w32 (take 4 l)) (drop-drop 8 1 f)
 
-module _ (next : Next) (p : Program) (log : Log) (old new : World) (may : MayBeWritten next) (order : IsAscending None (map (λ n. n.written) next.latest)) (made : IsMadeOf next p (seen_in old.disk) log) (is_in : IsLogIn next.live (seen_in old.disk) log)
+module _ (next : Next) (programs : List ProgramTree) (p : Program) (log : Log) (old new : World) (may : MayBeWritten next) (order : IsAscending None (map (λ n. n.written) next.latest)) (made : IsMadeOf next programs p (seen_in old.disk) log) (is_in : IsLogIn next.live (seen_in old.disk) log)
     (before : List ℕ) (program : new.disk (ProgramFile (1 - next.live)) ≡ settled (overlaid before 0 (to_le_bytes w32 (length next.text) ++ next.text)))
-    (copied : AllByRecursion (IsCopied next.live (shape_in p) (seen_in old.disk) new.disk) next.latest)
-    (file : FileState) (some : 0 < length file.seen) (pieces : HasPieces next.generation next.head (map copy_of next.latest) file (new.disk (Manager (1 - next.live)))) where
+    (copies : List Named) (copied : AllZip (IsCopied next.live programs (seen_in old.disk) new.disk) next.latest copies)
+    (file : FileState) (some : 0 < length file.seen) (pieces : HasPieces next.generation next.head (writes_named copies) file (new.disk (Manager (1 - next.live)))) where
   module _ (image : Image) (is : IsImage new.disk image) where
     manager_is : image (Manager (1 - next.live)) ≡ overlaid file.seen 1 (behind_gate next.generation ++ (open_blocks (piece_bodies next.head pieces.front pieces.last) ++ 0 ∷ []))
     manager_is = settled_image new.disk (Manager (1 - next.live)) (overlaid file.seen 1 (behind_gate next.generation ++ (open_blocks (piece_bodies next.head pieces.front pieces.last) ++ 0 ∷ [])))
@@ -52,8 +54,8 @@ module _ (next : Next) (p : Program) (log : Log) (old new : World) (may : MayBeW
     grains_are grain =
         subst (MayLeave (new.disk (Grain (1 - next.live) grain))) (sym (with_bytes-other image (Manager (1 - next.live)) (1 ∷ drop 1 (image (Manager (1 - next.live)))) (Grain (1 - next.live) grain) (λ e. absurd cc))) (is (Grain (1 - next.live) grain))
 
-    saved : AreSavedOf next.live p (seen_in old.disk) new.disk opened grains_are log next.latest
-    saved = saved_of next.live p (seen_in old.disk) new.disk opened grains_are log next.latest made.each copied pieces.cut.fits
+    saved : AreSavedOf next.live programs p made.newest (seen_in old.disk) new.disk opened grains_are log next.latest copies
+    saved = saved_of next.live programs p made.newest (seen_in old.disk) new.disk opened grains_are log next.latest copies made.each copied pieces.cut.fits
 
     cut : AreSavedIn saved.saved pieces.front pieces.last
     cut = cut_saved pieces.front pieces.last saved.saved (saved.writes ∙ pieces.cut.all)
@@ -78,7 +80,7 @@ module _ (next : Next) (p : Program) (log : Log) (old new : World) (may : MayBeW
       next = may.next_unit;
       sizes = sizes_saved cut.before cut.behind (subst (AllByRecursion (λ (piece : List Written). length piece ≤ 65536)) (sym cut.fronts) pieces.cut.sizes)
           (subst (λ (l : List Written). length l ≤ 65536) (sym cut.lasts) pieces.cut.size);
-      order = subst (IsAscending None) (sym (ap (λ (l : List Saved). map (λ s. s.write) l) cut.all ∙ saved.writes)) (ascending_copies None next.latest order);
+      order = subst (IsAscending None) (sym (ap (λ (l : List Saved). map (λ s. s.write) l) cut.all ∙ saved.writes)) (ascending_copies next.live programs (seen_in old.disk) new.disk None next.latest copies copied order);
       each = subst (AllByRecursion (IsSaved (1 - next.live) p opened)) (sym cut.all) saved.each;
     }
 

@@ -1,12 +1,11 @@
 -- All steps by which a silo is written anew, one behind the other.
-use Rattle.std.proofs.Common.{◌≡◌, ◌≢◌, inl, inr, ℕ, ◌-◌, ◌<◌, ◌≤◌, true, List, [], ◌∷◌, ◌++◌, map, length, take, None, Result, Ok, Err, is_ok, sym, ◌∙◌, ap, subst, arith}
-use Rattle.std.specs.Prelude.{OnOk, slice_get}
+use Rattle.std.proofs.Common.{◌≡◌, ◌≢◌, inl, inr, ℕ, ◌-◌, ◌<◌, ◌≤◌, true, List, [], ◌∷◌, ◌++◌, map, length, None, Result, Ok, Err, is_ok, sym, ◌∙◌, ap, subst, arith}
+use Rattle.std.specs.Prelude.{OnOk}
 use Rattle.std.specs.Int.{w32, to_le_bytes}
-use Rattle.std.specs.List.{AllByRecursion}
+use Rattle.std.specs.List.{AllZip}
 use Rattle.std.proofs.lemmas.Bool.{false≢true}
 use Rattle.base_types.specs.declared.calls.GrainId.{GrainId}
 use Rattle.base_types.specs.declared.shapes.Shape.{Shape}
-use Rattle.base_types.specs.declared.stores.Version.{Version}
 use Rattle.host_trait.specs.declared.channels.FileId.{FileId}
 use Rattle.host_trait.specs.declared.channels.FileId.TheVariants.{Manager, Program as ProgramFile, Grain}
 use Rattle.host_trait.specs.Disk.{FileState, Tears, overlaid, settled}
@@ -15,22 +14,23 @@ use Rattle.host_trait.specs.Runs.{RunsOnFile}
 use Rattle.host_trait.proofs.Moments.{arrives_then}
 use Rattle.host_trait.proofs.Runs.{Change}
 use Rattle.field_codec.specs.declared.formats.Format.TheVariants.{One}
-use Rattle.field_codec.specs.Spelling.{spelling_of_version}
-use Rattle.grain_log.specs.Reads.{fields_of, version_by_owner}
 use Rattle.commit_log.specs.declared.records.Named.{Named}
 use Rattle.commit_log.specs.Orders.{IsAscending}
 use Rattle.log_reading.specs.Steps.{seen_in}
-use Rattle.log_reading.specs.Versions.{version_named}
+use Rattle.log_reading.specs.Versions.{version_numbered}
+use Rattle.script_tree.specs.Programs.{ProgramTree}
+use Rattle.program_file.specs.Succession.{shapes_in_turn}
 use Rattle.silo_spec.specs.Slots.{generation, ShowsSilos}
-use Rattle.promise_spec.specs.Programs.{Program, shape_in}
+use Rattle.promise_spec.specs.Programs.{Program}
 use Rattle.promise_spec.specs.Entries.{Log, checkpointed}
 use Rattle.promise_spec.specs.Logs.{magic, IsLog, IsLogIn}
 use Rattle.promise_spec.specs.EitherSlot.{IsShutFile, IsCompactable, IsReadyToOpen}
 use Rattle.checkpoint.specs.declared.compaction.Next.{Next}
 use Rattle.checkpoint.specs.Steps.{KeepsGate, ClosesGate, OnlyCopies}
-use Rattle.checkpoint.specs.Copies.{copy_of, IsCopied}
+use Rattle.checkpoint.specs.Copies.{writes_named, AreThere, StandsFirst, IsCopied}
 use Rattle.checkpoint.specs.Pieces.{HasPieces}
-use Rattle.checkpoint.specs.NextGeneration.{IsMadeOf, HasGone, HasNextSilo, IsQuietly, MayFill, MayBeWritten}
+use Rattle.checkpoint.specs.NextGeneration.{IsMadeOf, HasGone, IsQuietly, MayBeWritten}
+use Rattle.checkpoint.proofs.Copying.{numbered_same, carried_same}
 use Rattle.checkpoint.proofs.Filled.{ready}
 use Rattle.checkpoint.proofs.Moments.{closes_input, closes_clock, IsFilled, gone_closed, begin_filling, gone_program, gone_copies, gone_pieces, gone_opened, opened_done, long_pieces}
 
@@ -84,30 +84,34 @@ some_left slot R most old mid new shut program copies =
     let same : new.disk (Manager slot) ≡ old.disk (Manager slot) = copies.now.others (Manager slot) (λ grain e. absurd cc) ∙ program.now.others (Manager slot) (λ e. absurd cc) in
     subst (λ (s : FileState). 1 ≤ length s.seen) (sym same) (omega (arith, shut.some))
 
-named_same : (live : ℕ) (shape : Shape) (old new : Disk) (n : Named) → new (Grain live n.written.grain) ≡ old (Grain live n.written.grain) → version_named live One shape (seen_in new) n ≡ version_named live One shape (seen_in old) n
-named_same live shape old new n same = ap (λ (s : FileState). version_by_owner One (fields_of (slice_get shape.types n.written.grain.kind)) n.unit n.written.place s.seen) same
+seen_still : (live : ℕ) (shapes : List Shape) (old new : Disk) (n : Named) → new (Grain live n.written.grain) ≡ old (Grain live n.written.grain)
+    → version_numbered live One shapes (seen_in new) n ≡ version_numbered live One shapes (seen_in old) n
+seen_still live shapes old new n same = numbered_same live shapes (seen_in old) (seen_in new) n (ap (λ (s : FileState). s.seen) same)
 
 -- and what is named there is there still
-pub there_still : (live : ℕ) (shape : Shape) (old new : Disk) → ((slot : ℕ) (grain : GrainId) → new (Grain slot grain) ≡ old (Grain slot grain)) → (named : List Named)
-    → AllByRecursion (λ n. (version : Version) × (version_named live One shape (seen_in old) n ≡ Ok version)) named → AllByRecursion (λ n. (version : Version) × (version_named live One shape (seen_in new) n ≡ Ok version)) named
-there_still live shape old new same [] all = tt
-there_still live shape old new same (n ∷ named) all =
-    ((all.0.0, named_same live shape old new n (same live n.written.grain) ∙ all.0.1), there_still live shape old new same named all.1)
+pub there_still : (live : ℕ) (shapes : List Shape) (old new : Disk) → ((slot : ℕ) (grain : GrainId) → new (Grain slot grain) ≡ old (Grain slot grain)) → (named : List Named)
+    → AreThere live shapes (seen_in old) named → AreThere live shapes (seen_in new) named
+there_still live shapes old new same [] all = tt
+there_still live shapes old new same (n ∷ named) all =
+    ((all.0.0, seen_still live shapes old new n (same live n.written.grain) ∙ all.0.1), there_still live shapes old new same named all.1)
 
 -- the copies of what was named before, in files that stay
-copied_still : (live : ℕ) (shape : Shape) (old mid disk new : Disk) → ((slot : ℕ) (grain : GrainId) → mid (Grain slot grain) ≡ old (Grain slot grain)) → ((slot : ℕ) (grain : GrainId) → new (Grain slot grain) ≡ disk (Grain slot grain))
-    → (named : List Named) → AllByRecursion (IsCopied live shape (seen_in mid) disk) named → AllByRecursion (IsCopied live shape (seen_in old) new) named
-copied_still live shape old mid disk new before behind [] all = tt
-copied_still live shape old mid disk new before behind (n ∷ named) all =
+copied_still : (live : ℕ) (programs : List ProgramTree) (old mid disk new : Disk) → ((slot : ℕ) (grain : GrainId) → mid (Grain slot grain) ≡ old (Grain slot grain)) → ((slot : ℕ) (grain : GrainId) → new (Grain slot grain) ≡ disk (Grain slot grain))
+    → (named copies : List Named) → AllZip (IsCopied live programs (seen_in mid) disk) named copies → AllZip (IsCopied live programs (seen_in old) new) named copies
+copied_still live programs old mid disk new before behind [] [] all = tt
+copied_still live programs old mid disk new before behind [] (copy ∷ copies) all = absurd all
+copied_still live programs old mid disk new before behind (n ∷ named) [] all = absurd all
+copied_still live programs old mid disk new before behind (n ∷ named) (copy ∷ copies) all =
     let is = all.0 in (
       record {
-        version = is.version;
-        found = sym (named_same live shape old mid n (before live n.written.grain)) ∙ is.found;
+        copied = is.copied;
+        carried = carried_same live programs (seen_in old) (seen_in mid) n is.copied (seen_still live (shapes_in_turn programs) old mid n (before live n.written.grain)) is.carried;
+        typed = is.typed;
         fits = is.fits;
-        lasts = subst (λ (s : FileState). s ≡ settled s.seen) (sym (behind (1 - live) n.written.grain)) is.lasts;
-        there = subst (λ (s : FileState). take (length (spelling_of_version is.version)) s.seen ≡ spelling_of_version is.version) (sym (behind (1 - live) n.written.grain)) is.there;
+        named = is.named;
+        stands = subst (StandsFirst is.copied) (sym (behind (1 - live) n.written.grain)) is.stands;
       },
-      copied_still live shape old mid disk new before behind named all.1,
+      copied_still live programs old mid disk new before behind named copies all.1,
     )
 
 -- ---- over a folder that may be compacted
@@ -128,10 +132,10 @@ module _ (next : Next) (log : Log) (w0 w1 w2 : World) (can : IsCompactable next.
         pub fourth_filled : IsFilled next.live log w0 can shown w4
         fourth_filled = gone_pieces next.live log w0 can shown most_pieces w3 w4 third_filled run
 
-        module _ (p : Program) (may : MayBeWritten next) (order : IsAscending None (map (λ n. n.written) next.latest)) (made : IsMadeOf next p (seen_in w0.disk) log) (shape : Shape) (shape_is : shape ≡ shape_in p)
+        module _ (programs : List ProgramTree) (p : Program) (may : MayBeWritten next) (order : IsAscending None (map (λ n. n.written) next.latest)) (made : IsMadeOf next programs p (seen_in w0.disk) log)
             (text : w2.disk (ProgramFile (1 - next.live)) ≡ settled (overlaid (w1.disk (ProgramFile (1 - next.live))).seen 0 (to_le_bytes w32 (length next.text) ++ next.text)))
-            (copied : AllByRecursion (IsCopied next.live shape (seen_in w2.disk) w3.disk) next.latest)
-            (pieces : HasPieces next.generation next.head (map copy_of next.latest) (w3.disk (Manager (1 - next.live))) (w4.disk (Manager (1 - next.live)))) where
+            (copies_made : List Named) (copied : AllZip (IsCopied next.live programs (seen_in w2.disk) w3.disk) next.latest copies_made)
+            (pieces : HasPieces next.generation next.head (writes_named copies_made) (w3.disk (Manager (1 - next.live))) (w4.disk (Manager (1 - next.live)))) where
           some_there : 0 < length (w3.disk (Manager (1 - next.live))).seen
           some_there =
               let same : w3.disk (Manager (1 - next.live)) ≡ w1.disk (Manager (1 - next.live)) =
@@ -143,16 +147,14 @@ module _ (next : Next) (log : Log) (w0 w1 w2 : World) (can : IsCompactable next.
               let is : IsLogIn next.live (seen_in w0.disk) log = (can.logged (seen_in w0.disk) can.seen).is in
               let written : w4.disk (ProgramFile (1 - next.live)) ≡ settled (overlaid (w1.disk (ProgramFile (1 - next.live))).seen 0 (to_le_bytes w32 (length next.text) ++ next.text)) =
               run.now.others (ProgramFile (1 - next.live)) (λ e. absurd cc) ∙ copies.now.others (ProgramFile (1 - next.live)) (λ grain e. absurd cc) ∙ text in
-              let under : AllByRecursion (IsCopied next.live (shape_in p) (seen_in w2.disk) w3.disk) next.latest =
-              subst (λ (s : Shape). AllByRecursion (IsCopied next.live s (seen_in w2.disk) w3.disk) next.latest) shape_is copied in
-              ready next p log w0 w4 may order made is (w1.disk (ProgramFile (1 - next.live))).seen written
-              (copied_still next.live (shape_in p) w0.disk w2.disk w3.disk w4.disk (grains_kept next.live R most w0 w1 w2 closes program) (λ slot grain. run.now.others (Grain slot grain) (λ e. absurd cc)) next.latest under)
+              ready next programs p log w0 w4 may order made is (w1.disk (ProgramFile (1 - next.live))).seen written copies_made
+              (copied_still next.live programs w0.disk w2.disk w3.disk w4.disk (grains_kept next.live R most w0 w1 w2 closes program) (λ slot grain. run.now.others (Grain slot grain) (λ e. absurd cc)) next.latest copies_made copied)
               (w3.disk (Manager (1 - next.live))) some_there pieces fourth_filled.fills
 
           module _ (w5 : World) (opening : RunsOnFile (Manager (1 - next.live)) (Tears 0 1) 1 w4 w5) where
             pub last_gone : HasGone next.live log w0 w5
             last_gone = gone_opened next.live log w0 can shown w4 w5 fourth_filled all_ready opening
-                (long_pieces next.generation next.head (map copy_of next.latest) (w3.disk (Manager (1 - next.live))) (w4.disk (Manager (1 - next.live))) some_there pieces)
+                (long_pieces next.generation next.head (writes_named copies_made) (w3.disk (Manager (1 - next.live))) (w4.disk (Manager (1 - next.live))) some_there pieces)
 
             pub last_done : w5.disk (Manager (1 - next.live)) ≡ settled (overlaid (w4.disk (Manager (1 - next.live))).seen 0 (1 ∷ [])) → (image : Image) → IsImage w5.disk image
                 → IsLog (1 - next.live) image (checkpointed log) × (generation (image (Manager (1 - next.live))) ≡ next.generation)

@@ -21,7 +21,7 @@ use Rattle.commit_log.specs.declared.records.Written.{Written as Write}
 use Rattle.commit_log.specs.Checkpoints.{spelling_of_piece}
 use Rattle.commit_log.specs.Spelling.{WriteFits}
 use Rattle.checkpoint.specs.Steps.{KeepsGate}
-use Rattle.checkpoint.specs.Copies.{copy_of}
+use Rattle.checkpoint.specs.Copies.{writes_named}
 use Rattle.checkpoint.specs.Pieces.{behind_gate, front_bodies, piece_bodies, HasWritten, HasFront, HasPieces}
 use Rattle.checkpoint.proofs.Runs.{gate_stays}
 
@@ -99,9 +99,9 @@ all_both P [] ys first second = second
 all_both P (x ∷ xs) ys first second = (first.0, all_both P xs ys first.1 second)
 
 -- no piece yet
-pub first_front : (tells : Bool) (slot at : ℕ) (head : CheckpointHead) (latest : List Named) (w : World) → (IsTrue tells → RunsOnFile (Manager slot) KeepsGate 0 w w)
-    → HasFront tells slot at head latest latest at w w
-first_front tells slot at head latest w run = record {
+pub first_front : (tells : Bool) (slot at : ℕ) (head : CheckpointHead) (copies : List Named) (w : World) → (IsTrue tells → RunsOnFile (Manager slot) KeepsGate 0 w w)
+    → HasFront tells slot at head copies copies at w w
+first_front tells slot at head copies w run = record {
   front = [];
   all = refl;
   sizes = tt;
@@ -111,14 +111,14 @@ first_front tells slot at head latest w run = record {
 }
 
 -- one piece more
-pub more_front : (tells : Bool) (slot at end later : ℕ) (head : CheckpointHead) (latest rest piece behind : List Named) (old mid new : World)
-    → HasFront tells slot at head latest rest end old mid → rest ≡ piece ++ behind → length piece ≤ 65536 → AllByRecursion WriteFits (map copy_of piece)
-    → later ≡ end + length (block_at (spelling_of_piece 1 head.count head.next_unit.0 (map copy_of piece)))
+pub more_front : (tells : Bool) (slot at end later : ℕ) (head : CheckpointHead) (copies rest piece behind : List Named) (old mid new : World)
+    → HasFront tells slot at head copies rest end old mid → rest ≡ piece ++ behind → length piece ≤ 65536 → AllByRecursion WriteFits (writes_named piece)
+    → later ≡ end + length (block_at (spelling_of_piece 1 head.count head.next_unit.0 (writes_named piece)))
     → (IsTrue tells → at ≤ length (old.disk (Manager slot)).seen)
-    → (IsTrue tells → HasWritten slot end (block_at (spelling_of_piece 1 head.count head.next_unit.0 (map copy_of piece))) mid new)
-    → HasFront tells slot at head latest behind later old new
-more_front tells slot at end later head latest rest piece behind old mid new so_far split size fits grows within written =
-    let one : List Write = map copy_of piece in
+    → (IsTrue tells → HasWritten slot end (block_at (spelling_of_piece 1 head.count head.next_unit.0 (writes_named piece))) mid new)
+    → HasFront tells slot at head copies behind later old new
+more_front tells slot at end later head copies rest piece behind old mid new so_far split size fits grows within written =
+    let one : List Write = writes_named piece in
     let body : List ℕ = spelling_of_piece 1 head.count head.next_unit.0 one in
     let bodies : List (List ℕ) = front_bodies head so_far.front in
     let all_bodies : front_bodies head (so_far.front ++ one ∷ []) ≡ bodies ++ body ∷ [] = map-both (spelling_of_piece 1 head.count head.next_unit.0) so_far.front (one ∷ []) in
@@ -126,9 +126,9 @@ more_front tells slot at end later head latest rest piece behind old mid new so_
     let size_of : length (open_blocks (front_bodies head (so_far.front ++ one ∷ []))) ≡ length (open_blocks bodies) + length (block_at body) = ap (λ (l : List ℕ). length l) blocks ∙ length-append (open_blocks bodies) (block_at body) in
     record {
       front = so_far.front ++ one ∷ [];
-      all = so_far.all ∙ ap (λ (l : List Named). flat_map (λ p. p) so_far.front ++ map copy_of l) split ∙ ap (λ (l : List Write). flat_map (λ p. p) so_far.front ++ l) (map-both copy_of piece behind)
-          ∙ sym (append_assoc (flat_map (λ p. p) so_far.front) one (map copy_of behind)) ∙ ap (λ (l : List Write). l ++ map copy_of behind) (sym (flat_more so_far.front one));
-      sizes = all_more (λ (p : List Write). length p ≤ 65536) so_far.front one so_far.sizes (omega (arith, size, length-map piece copy_of));
+      all = so_far.all ∙ ap (λ (l : List Named). flat_map (λ p. p) so_far.front ++ writes_named l) split ∙ ap (λ (l : List Write). flat_map (λ p. p) so_far.front ++ l) (map-both (λ (n : Named). n.written) piece behind)
+          ∙ sym (append_assoc (flat_map (λ p. p) so_far.front) one (writes_named behind)) ∙ ap (λ (l : List Write). l ++ writes_named behind) (sym (flat_more so_far.front one));
+      sizes = all_more (λ (p : List Write). length p ≤ 65536) so_far.front one so_far.sizes (omega (arith, size, length-map piece (λ (n : Named). n.written)));
       fits = subst (AllByRecursion WriteFits) (sym (flat_more so_far.front one)) (all_both WriteFits (flat_map (λ p. p) so_far.front) one so_far.fits fits);
       ends = omega (arith, grows, so_far.ends, size_of);
       written = λ told. subst (λ (l : List ℕ). HasWritten slot at l old new) (sym blocks)
@@ -137,18 +137,18 @@ more_front tells slot at end later head latest rest piece behind old mid new so_
     }
 
 -- the whole file, once it is synced
-pub whole_pieces : (slot generation : ℕ) (head : CheckpointHead) (latest rest : List Named) (at_entry begun cut named closed new : World)
+pub whole_pieces : (slot generation : ℕ) (head : CheckpointHead) (copies rest : List Named) (at_entry begun cut named closed new : World)
     → 1 ≤ length (at_entry.disk (Manager slot)).seen
     → HasWritten slot 1 (behind_gate generation) at_entry begun
-    → (front : List (List Write)) → map copy_of latest ≡ flat_map (λ p. p) front ++ map copy_of rest → AllByRecursion (λ (p : List Write). length p ≤ 65536) front
-    → AllByRecursion WriteFits (flat_map (λ p. p) front) → length rest ≤ 65536 → AllByRecursion WriteFits (map copy_of rest)
+    → (front : List (List Write)) → writes_named copies ≡ flat_map (λ p. p) front ++ writes_named rest → AllByRecursion (λ (p : List Write). length p ≤ 65536) front
+    → AllByRecursion WriteFits (flat_map (λ p. p) front) → length rest ≤ 65536 → AllByRecursion WriteFits (writes_named rest)
     → HasWritten slot 15 (open_blocks (front_bodies head front)) begun cut
-    → HasWritten slot (15 + length (open_blocks (front_bodies head front))) (block_at (spelling_of_piece 0 head.count head.next_unit.0 (map copy_of rest))) cut named
-    → HasWritten slot (15 + length (open_blocks (front_bodies head front)) + length (block_at (spelling_of_piece 0 head.count head.next_unit.0 (map copy_of rest)))) (0 ∷ []) named closed
+    → HasWritten slot (15 + length (open_blocks (front_bodies head front))) (block_at (spelling_of_piece 0 head.count head.next_unit.0 (writes_named rest))) cut named
+    → HasWritten slot (15 + length (open_blocks (front_bodies head front)) + length (block_at (spelling_of_piece 0 head.count head.next_unit.0 (writes_named rest)))) (0 ∷ []) named closed
     → new.disk (Manager slot) ≡ settled (closed.disk (Manager slot)).seen
-    → HasPieces generation head (map copy_of latest) (at_entry.disk (Manager slot)) (new.disk (Manager slot))
-whole_pieces slot generation head latest rest at_entry begun cut named closed new some header front all sizes fits size lasts first second third synced =
-    let last : List Write = map copy_of rest in
+    → HasPieces generation head (writes_named copies) (at_entry.disk (Manager slot)) (new.disk (Manager slot))
+whole_pieces slot generation head copies rest at_entry begun cut named closed new some header front all sizes fits size lasts first second third synced =
+    let last : List Write = writes_named rest in
     let blocks : List ℕ = open_blocks (front_bodies head front) in
     let block : List ℕ = block_at (spelling_of_piece 0 head.count head.next_unit.0 last) in
     let header_size : 1 + length (behind_gate generation) ≡ 15 = behind_size generation in
@@ -170,7 +170,7 @@ whole_pieces slot generation head latest rest at_entry begun cut named closed ne
       cut = record {
         all = all;
         sizes = sizes;
-        size = omega (arith, size, length-map rest copy_of);
+        size = omega (arith, size, length-map rest (λ (n : Named). n.written));
         fits = subst (AllByRecursion WriteFits) (sym all) (all_both WriteFits (flat_map (λ p. p) front) last fits lasts);
       };
       file = synced ∙ ap (λ (l : List ℕ). settled l) (c.seen ∙ ap (λ (l : List ℕ). overlaid (at_entry.disk (Manager slot)).seen 1 l) bytes);

@@ -1,21 +1,21 @@
 -- What a silo that is written anew shows on the way, and what its next generation is made of.
-use Rattle.std.specs.Prelude.{◌≡◌, ℕ, ◌+◌, ◌-◌, ◌<◌, ◌≤◌, ◌^◌, length, Ok}
+use Rattle.std.specs.Prelude.{◌≡◌, ℕ, ◌+◌, ◌-◌, ◌<◌, ◌≤◌, ◌^◌, List, length, Ok}
 use Rattle.std.specs.List.{list_any, AllByRecursion}
 use Rattle.base_types.specs.declared.calls.GrainId.{GrainId}
-use Rattle.base_types.specs.declared.shapes.Shape.{Shape}
 use Rattle.base_types.specs.declared.stores.Version.{Version}
 use Rattle.base_types.specs.Grains.{same_grain}
 use Rattle.host_trait.specs.declared.channels.FileId.TheVariants.{Manager}
 use Rattle.host_trait.specs.World.{World, Moment, Disk, Image, IsImage, Passes, Arrives, moment_of}
 use Rattle.field_codec.specs.declared.formats.Format.TheVariants.{One}
 use Rattle.commit_log.specs.declared.records.Named.{Named}
+use Rattle.script_tree.specs.Programs.{ProgramTree}
+use Rattle.program_file.specs.Succession.{newest_program, shapes_in_turn, carried_from}
 use Rattle.log_reading.specs.Steps.{seen_in}
-use Rattle.log_reading.specs.Versions.{version_named}
+use Rattle.log_reading.specs.Versions.{version_numbered}
 use Rattle.silo_spec.specs.Slots.{generation, ShowsSilos}
-use Rattle.promise_spec.specs.Programs.{Program, IsChecked, shape_in}
+use Rattle.promise_spec.specs.Programs.{Program, IsChecked}
 use Rattle.promise_spec.specs.Entries.{Log, standing_of, checkpointed}
 use Rattle.promise_spec.specs.Logs.{magic, IsLog}
-use Rattle.promise_spec.specs.Versions.{WriteStands}
 use Rattle.promise_spec.specs.EitherSlot.{AllEither, KeepsSlot, IsCompactable}
 use Rattle.checkpoint.specs.declared.compaction.Next.{Next}
 
@@ -25,30 +25,29 @@ pub record IsOnTheWay (live : ℕ) (log new : Log) (w : World) (m : Moment) : Ty
   pub kept : KeepsSlot live w.disk m.disk
   pub either : AllEither live log new m
 
--- A named version is there and stands whole, of a unit that may be logged, with the state of its grain.
-pub record IsLastVersionOf (live : ℕ) (p : Program) (image : Image) (log : Log) (n : Named) : Type 0 where
+-- A named version is there, of a unit that may be logged, and its state, carried to the last of these programs, is its grain's.
+pub record IsLastVersionOf (live : ℕ) (programs : List ProgramTree) (image : Image) (log : Log) (n : Named) : Type 0 where
   pub version : Version
-  pub there : version_named live One (shape_in p) image n ≡ Ok version
+  pub there : version_numbered live One (shapes_in_turn programs) image n ≡ Ok version
   pub unit : (0 < version.unit.0) × (version.unit.0 < 2 ^ 63)
-  pub stands : WriteStands live (shape_in p) image version.unit n.written version.state
-  pub state : version.state ≡ (standing_of log).states n.written.grain
+  pub state : carried_from programs n.program n.written.grain.kind version.state ≡ (standing_of log).states n.written.grain
 
--- The next generation is made of what the log stands for: its program, its count and next unit, and the last version of each grain that
--- has a state in the store.
-pub record IsMadeOf (next : Next) (p : Program) (image : Image) (log : Log) : Type 0 where
+-- The next generation is made of what the log stands for: the program in force, its count and next unit, and the last version of each
+-- grain that has a state in the store.
+pub record IsMadeOf (next : Next) (programs : List ProgramTree) (p : Program) (image : Image) (log : Log) : Type 0 where
   pub program : (standing_of log).program ≡ p
+  pub newest : newest_program programs ≡ p.types
   pub text : next.text ≡ p.text
   pub checked : IsChecked p
   pub count : next.head.count ≡ (standing_of log).count
   pub next_unit : next.head.next_unit.0 ≡ (standing_of log).next
   pub generation_is : next.generation ≡ generation (image (Manager next.live)) + 1
   pub held : (grain : GrainId) → list_any (λ n. same_grain n.written.grain grain) next.latest ≡ (standing_of log).held grain
-  pub each : AllByRecursion (IsLastVersionOf next.live p image log) next.latest
+  pub each : AllByRecursion (IsLastVersionOf next.live programs image log) next.latest
 
 -- Where the other slot's files may be filled: the next generation is made of this log, which the live slot has in each image.
-pub record MayFill (next : Next) (shape : Shape) (p : Program) (log : Log) (w : World) : Type 0 where
-  pub shape_is : shape ≡ shape_in p
-  pub made : IsMadeOf next p (seen_in w.disk) log
+pub record MayFill (next : Next) (programs : List ProgramTree) (p : Program) (log : Log) (w : World) : Type 0 where
+  pub made : IsMadeOf next programs p (seen_in w.disk) log
   pub can : IsCompactable next.live log w
   pub shown : ShowsSilos magic w.disk
 
@@ -57,6 +56,10 @@ pub record HasGone (live : ℕ) (log : Log) (old new : World) : Type 0 where
   pub moments : Passes (IsOnTheWay live log (checkpointed log) old) old.past new.past
   pub now : IsOnTheWay live log (checkpointed log) old (moment_of new)
   pub shows : ShowsSilos magic new.disk
+
+-- of whichever log it may be filled with, the other slot is filled so far
+abbrev pub FillsOtherSlot : Next → List ProgramTree → World → World → Type 0
+FillsOtherSlot next programs old new = (p : Program) (log : Log) → MayFill next programs p log old → HasGone next.live log old new
 
 -- Each image has the log as a checkpoint in the other slot, of the next generation.
 abbrev pub HasNextSilo : Next → Log → Disk → Type 0

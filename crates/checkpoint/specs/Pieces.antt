@@ -14,15 +14,15 @@ use Rattle.commit_log.specs.declared.records.Written.{Written}
 use Rattle.commit_log.specs.Checkpoints.{flag_of, spelling_of_piece}
 use Rattle.commit_log.specs.Spelling.{WriteFits}
 use Rattle.checkpoint.specs.Steps.{KeepsGate}
-use Rattle.checkpoint.specs.Copies.{copy_of}
+use Rattle.checkpoint.specs.Copies.{writes_named}
 
 -- bytes 1 to 14 of the header: the magic, the generation, a 1 since the log begins with a checkpoint, and a zero
 abbrev pub behind_gate : ℕ → List ℕ
 behind_gate generation = codes "OTXLOG01" ++ (to_le_bytes w32 generation ++ (1 ∷ 0 ∷ []))
 
--- the block of a piece that names the copies of these versions, behind its open gate
+-- the block of a piece that names these copies, behind its open gate
 abbrev pub block_of_piece : Bool → CheckpointHead → List Named → List ℕ
-block_of_piece more head latest = block_at (spelling_of_piece (flag_of more) head.count head.next_unit.0 (map copy_of latest))
+block_of_piece more head copies = block_at (spelling_of_piece (flag_of more) head.count head.next_unit.0 (writes_named copies))
 
 -- the bodies of pieces that others follow
 abbrev pub front_bodies : CheckpointHead → List (List Written) → List (List ℕ)
@@ -44,11 +44,11 @@ pub record AreCutInPieces (writes : List Written) (front : List (List Written)) 
   pub size : length last ≤ 65536
   pub fits : AllByRecursion WriteFits writes
 
--- Of these versions all but the rest were named in pieces that others follow, whose blocks were written from this offset on up to
+-- Of these copies all but the rest were named in pieces that others follow, whose blocks were written from this offset on up to
 -- the end.
-pub record HasFront (tells : Bool) (slot at : ℕ) (head : CheckpointHead) (latest rest : List Named) (end : ℕ) (old new : World) : Type 0 where
+pub record HasFront (tells : Bool) (slot at : ℕ) (head : CheckpointHead) (copies rest : List Named) (end : ℕ) (old new : World) : Type 0 where
   pub front : List (List Written)
-  pub all : map copy_of latest ≡ flat_map (λ piece. piece) front ++ map copy_of rest
+  pub all : writes_named copies ≡ flat_map (λ piece. piece) front ++ writes_named rest
   pub sizes : AllByRecursion (λ (piece : List Written). length piece ≤ 65536) front
   pub fits : AllByRecursion WriteFits (flat_map (λ piece. piece) front)
   pub ends : end ≡ at + length (open_blocks (front_bodies head front))

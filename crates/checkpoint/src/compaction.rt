@@ -5,12 +5,14 @@ ghost use Rattle.host_trait.specs.declared.channels.FileId.{FileId as AFile};
 ghost use Rattle.host_trait.specs.declared.channels.FileId.TheVariants.{Manager};
 ghost use Rattle.log_reading.specs.declared.faults.FolderFault.{FolderFault as AFault};
 ghost use Rattle.commit_log.specs.Orders.{IsAscending};
+ghost use Rattle.program_file.specs.Succession.{ArePrograms, shapes_in_turn};
+ghost use Rattle.program_file.specs.ProgramsInTurn.{programs_in, HasShapes};
 ghost use Rattle.promise_spec.specs.Programs.{Program};
 ghost use Rattle.promise_spec.specs.Entries.{Log};
 ghost use Rattle.log_reading.specs.Steps.{seen_in};
 ghost use Rattle.checkpoint.specs.Copies.{AreThere};
 ghost use Rattle.checkpoint.specs.Steps.{LastsIfLong};
-ghost use Rattle.checkpoint.specs.NextGeneration.{MayFill, HasGone, HasNextSilo, IsQuietly, MayBeWritten};
+ghost use Rattle.checkpoint.specs.NextGeneration.{MayFill, FillsOtherSlot, HasNextSilo, IsQuietly, MayBeWritten};
 ghost use Rattle.promise_spec.specs.Words.{Manner};
 ghost use Rattle.promise_spec.specs.Endings.{HasFailedAs, BadUse};
 ghost use Rattle.promise_spec.specs.Compaction.{Compacts};
@@ -21,10 +23,11 @@ ghost use Rattle.checkpoint.specs.Endings.{compact_ending, compacted_as};
 use crate::copies::copy_versions;
 use crate::other_slot::{close_gate, open_gate};
 use crate::pieces::write_pieces;
-use base_types::{List, Shape};
+use base_types::List;
 use commit_log::{CheckpointHead, Named};
 use host_trait::{Failed, FileId, Host};
 use log_reading::FolderFault;
+use program_file::ProgramsInTurn;
 use silo_opening::{OpenFault, Opened, latest_versions, open_silo, write_program};
 use std::alloc::{AllocError, Global};
 
@@ -63,25 +66,31 @@ fn folder_fault(fault: FolderFault) -> OpenFault
 }
 
 // Writes the files of the slot that isn't live, behind a closed header gate that is opened at the end.
-fn fill<H: Host>(alloc: Global, host: &mut H, shape: &Shape, next: &Next) -> Result<(), FolderFault>
-    requires may { MayBeWritten next.now }
-    requires order { IsTrue H.tells → IsAscending None (map (λ n. n.written) next.now.latest) }
-    requires lasts { IsTrue H.tells → LastsIfLong ((H.world host.old).disk (Manager (1 - next.now.live))) }
+fn fill<H: Host>(
+    alloc: Global,
+    host: &mut H,
+    programs: &ProgramsInTurn,
+    next: Next,
+) -> Result<(), FolderFault>
+    requires shapes { HasShapes programs.now }
+    requires programs { ArePrograms (programs_in programs.now) }
+    requires may { MayBeWritten next }
+    requires order { IsTrue H.tells → IsAscending None (map (λ n. n.written) next.latest) }
+    requires lasts { IsTrue H.tells → LastsIfLong ((H.world host.old).disk (Manager (1 - next.live))) }
 
     // At each moment each image has the log, in the slot that was live or as a checkpoint in the other one.
-    ensures gone { IsTrue H.tells → (p : Program) (log : Log) → MayFill next.now shape.now p log (H.world host.old)
-        → HasGone next.now.live log (H.world host.old) (H.world host.new) }
+    ensures gone { IsTrue H.tells → FillsOtherSlot next (programs_in programs.now) (H.world host.old) (H.world host.new) }
 
     // Once it is done the other slot is live in each image, with the next generation.
-    ensures done { OnOk result (IsTrue H.tells → (p : Program) (log : Log) → MayFill next.now shape.now p log (H.world host.old)
-        → HasNextSilo next.now log (H.world host.new).disk) }
+    ensures done { OnOk result (IsTrue H.tells → (p : Program) (log : Log) → MayFill next (programs_in programs.now) p log (H.world host.old)
+        → HasNextSilo next log (H.world host.new).disk) }
 
     // Nothing is emitted, no input is taken, and the clock goes on.
     ensures quietly { IsTrue H.tells → IsQuietly (H.world host.old) (H.world host.new) }
 
     // None of the versions that are there is found damaged.
     ensures damaged { (file : AFile) (place : ℕ) → IsErrOf result (AFault.Damaged file place) → IsTrue H.tells
-        → AreThere next.now.live shape.now (seen_in (H.world host.old).disk) next.now.latest → ⊥ }
+        → AreThere next.live (shapes_in_turn (programs_in programs.now)) (seen_in (H.world host.old).disk) next.latest → ⊥ }
 
     // A fault of a file is answered exactly where a call on it failed.
     ensures calm { OnOk result (NoneFailed (H.faults host.old) (H.faults host.new)) }
@@ -89,7 +98,7 @@ fn fill<H: Host>(alloc: Global, host: &mut H, shape: &Shape, next: &Next) -> Res
     ensures ready { StaysReady (H.is_ready host.old) (H.is_ready host.new) }
 {
     let slot = 1 - next.live;
-    let latest = next.latest.as_slice();
+    let mut latest = next.latest.into_vec();
     if close_gate(host, slot).is_err() {
         return Err(manager_fault(slot));
     }
@@ -98,21 +107,29 @@ fn fill<H: Host>(alloc: Global, host: &mut H, shape: &Shape, next: &Next) -> Res
             file: FileId::Program { slot },
         });
     }
-    copy_versions(alloc, host, next.live, shape, latest)?;
-    write_pieces(alloc, host, slot, next.generation, next.head, latest)?;
+    copy_versions(alloc, host, next.live, programs, latest.as_mut_slice())?;
+    write_pieces(
+        alloc,
+        host,
+        slot,
+        next.generation,
+        next.head,
+        latest.as_slice(),
+    )?;
     if open_gate(host, slot).is_err() {
         return Err(manager_fault(slot));
     }
     Ok(())
 }
 
-/// Writes the next generation of the host's silo into the slot that isn't live: its program, the last version of each grain, and a
-/// checkpoint that names these in place of the records. Then that slot is live, and stands for what the log stood for.
+/// Writes the next generation of the host's silo into the slot that isn't live: the program in force, the last version of each grain, with
+/// the state that it has under that program, and a checkpoint that names these in place of the records and the upgrades. Then that slot is
+/// live, and stands for what the log stood for.
 ///
 /// It opens the silo, and reads its log a second time. Until the new slot's header gate is opened, by one byte and one sync as the
 /// last step, each crash leaves the silo as it was; from then on either slot may be live, with the same contents. Versions are copied
 /// one by one, with a sync of each, and the checkpoint is written in pieces of 65,536 versions: beside what an opening takes it takes
-/// 40 bytes for each named version, and 4 MB. No file is removed or gets shorter.
+/// 48 bytes for each named version, and 4 MB. No file is removed or gets shorter.
 ///
 /// # Errors
 ///
@@ -137,11 +154,11 @@ pub fn compact<H: Host>(alloc: Global, host: &mut H) -> Result<(), OpenFault>
     if opened.count >= COUNT_LIMIT {
         return Err(OpenFault::Memory);
     }
-    let shape = match opened.checked.shape() {
-        Ok(shape) => shape,
+    let latest = latest_versions(alloc, host, &opened)?;
+    let programs = match ProgramsInTurn::new(alloc, opened.programs) {
+        Ok(programs) => programs,
         Err(AllocError) => return Err(OpenFault::Memory),
     };
-    let latest = latest_versions(alloc, host, &shape, &opened)?;
     let next = Next {
         live: opened.slot,
         generation: opened.generation + 1,
@@ -152,7 +169,7 @@ pub fn compact<H: Host>(alloc: Global, host: &mut H) -> Result<(), OpenFault>
         },
         latest,
     };
-    match fill(alloc, host, &shape, &next) {
+    match fill(alloc, host, &programs, next) {
         Ok(()) => Ok(()),
         Err(fault) => Err(folder_fault(fault)),
     }

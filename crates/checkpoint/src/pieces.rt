@@ -1,4 +1,4 @@
-// The checkpoint that names the copied versions, in pieces of a block each.
+// The checkpoint that names the copies, in pieces of a block each.
 ghost use Rattle.std.specs.Prelude.{◌≡◌, ◌+◌, ◌^◌, ◌<◌, ◌≤◌, ◌∷◌, ◌++◌, [], ℕ, map, length, IsTrue, IfOk, IfErr, OnOk, IsErrOf};
 ghost use Rattle.std.specs.Prelude as std;
 ghost use Rattle.std.specs.List.{flat_map, AllByRecursion};
@@ -15,36 +15,23 @@ ghost use Rattle.commit_log.specs.Checkpoints.{flag_of, spelling_of_piece};
 ghost use Rattle.commit_log.specs.Spelling.{WriteFits};
 ghost use Rattle.log_reading.specs.Counts.{ReadFaulted};
 ghost use Rattle.checkpoint.specs.Steps.{KeepsGate};
-ghost use Rattle.checkpoint.specs.Copies.{copy_of};
+ghost use Rattle.checkpoint.specs.Copies.{writes_named};
 ghost use Rattle.checkpoint.specs.Pieces.{behind_gate, block_of_piece, HasWritten, HasFront, HasPieces};
 
-use base_types::{List, Place};
+use base_types::List;
 use commit_log::{CheckpointHead, Named, Written, encode_piece};
 use host_trait::{Failed, FileId, Host};
 use log_reading::FolderFault;
 use std::alloc::{AllocError, Global};
 
-// The most versions that a piece names.
+// The most copies that a piece names.
 const PIECE: usize = 65_536;
 
-// Where the copy of a named version stands.
-fn copy_of(named: &Named) -> Written
-    ensures { result ≡ copy_of named.now }
+// Where these copies stand.
+fn writes_of(alloc: Global, copies: &[Named]) -> Result<Vec<Written>, AllocError>
+    ensures { IfOk result (λ writes. writes.items ≡ writes_named copies.now) }
 {
-    Written {
-        grain: named.written.grain,
-        place: Place {
-            offset: 0,
-            len: named.written.place.len,
-        },
-    }
-}
-
-// Where the copies of these versions stand.
-fn copies_of(alloc: Global, latest: &[Named]) -> Result<Vec<Written>, AllocError>
-    ensures { IfOk result (λ copies. copies.items ≡ map copy_of latest.now) }
-{
-    latest.iter().map(|named| copy_of(named)).collect(alloc)
+    copies.iter().map(|copy| copy.written).collect(alloc)
 }
 
 // The block of a piece of the checkpoint, behind its open gate.
@@ -52,14 +39,14 @@ fn piece_block(
     alloc: Global,
     more: bool,
     head: CheckpointHead,
-    latest: &[Named],
+    copies: &[Named],
 ) -> Result<List<u8>, AllocError>
-    requires { length latest.now ≤ 65536 }
-    ensures block { IfOk result (λ block. block ≡ block_of_piece more head latest.now) }
-    ensures fits { OnOk result (AllByRecursion WriteFits (map copy_of latest.now)) }
+    requires { length copies.now ≤ 65536 }
+    ensures block { IfOk result (λ block. block ≡ block_of_piece more head copies.now) }
+    ensures fits { OnOk result (AllByRecursion WriteFits (writes_named copies.now)) }
 {
-    let copies = copies_of(alloc, latest)?;
-    let block = encode_piece(alloc, more, head, copies.as_slice())?;
+    let writes = writes_of(alloc, copies)?;
+    let block = encode_piece(alloc, more, head, writes.as_slice())?;
     Ok(block)
 }
 
@@ -112,28 +99,28 @@ fn put_piece<H: Host>(
     at: u64,
     more: bool,
     head: CheckpointHead,
-    latest: &[Named],
+    copies: &[Named],
 ) -> Result<u64, FolderFault>
     requires slot { slot ≤ 1 }
     requires behind { 1 ≤ at }
     requires place { IsTrue H.tells → at ≤ length ((H.world host.old).disk (Manager slot)).seen }
-    requires size { length latest.now ≤ 65536 }
+    requires size { length copies.now ≤ 65536 }
     ensures run { IsTrue H.tells → RunsOnFile (Manager slot) KeepsGate 0 (H.world host.old) (H.world host.new) }
     ensures written { OnOk result (IsTrue H.tells
-        → HasWritten slot at (block_of_piece more head latest.now) (H.world host.old) (H.world host.new)) }
-    ensures end { IfOk result (λ end. (end ≡ at + length (block_of_piece more head latest.now)) × (end < 2 ^ 63)) }
+        → HasWritten slot at (block_of_piece more head copies.now) (H.world host.old) (H.world host.new)) }
+    ensures end { IfOk result (λ end. (end ≡ at + length (block_of_piece more head copies.now)) × (end < 2 ^ 63)) }
     ensures within { IfOk result (λ end. IsTrue H.tells → end ≤ length ((H.world host.new).disk (Manager slot)).seen) }
-    ensures fits { OnOk result (AllByRecursion WriteFits (map copy_of latest.now)) }
+    ensures fits { OnOk result (AllByRecursion WriteFits (writes_named copies.now)) }
     ensures whole { (other : AFile) (place : ℕ) → IsErrOf result (AFault.Damaged other place) → ⊥ }
     ensures calm { OnOk result (NoneFailed (H.faults host.old) (H.faults host.new)) }
     ensures fault { IfErr result (λ e. ReadFaulted e (H.faults host.old) (H.faults host.new)) }
     ensures ready { StaysReady (H.is_ready host.old) (H.is_ready host.new) }
 {
-    let block = piece_block(alloc, more, head, latest)?;
+    let block = piece_block(alloc, more, head, copies)?;
     put(host, slot, at, block.as_slice())
 }
 
-// The pieces that others follow were written at an offset, and what is left of the versions is one piece at most.
+// The pieces that others follow were written at an offset, and what is left of the copies is one piece at most.
 #[derive(Clone, Copy)]
 struct Front<'a> {
     end: u64,
@@ -147,13 +134,13 @@ fn put_front<'a, H: Host>(
     slot: u8,
     at: u64,
     head: CheckpointHead,
-    latest: &'a [Named],
+    copies: &'a [Named],
 ) -> Result<Front<'a>, FolderFault>
     requires slot { slot ≤ 1 }
     requires behind { (1 ≤ at) × (at < 2 ^ 63) }
     requires place { IsTrue H.tells → at ≤ length ((H.world host.old).disk (Manager slot)).seen }
     ensures run { IsTrue H.tells → RunsOnFile (Manager slot) KeepsGate 0 (H.world host.old) (H.world host.new) }
-    ensures written { IfOk result (λ made. HasFront H.tells slot at head latest.now made.rest.now made.end (H.world host.old) (H.world host.new)) }
+    ensures written { IfOk result (λ made. HasFront H.tells slot at head copies.now made.rest.now made.end (H.world host.old) (H.world host.new)) }
     ensures size { IfOk result (λ made. length made.rest.now ≤ 65536) }
     ensures within { IfOk result (λ made. IsTrue H.tells → made.end ≤ length ((H.world host.new).disk (Manager slot)).seen) }
     ensures bound { IfOk result (λ made. (1 ≤ made.end) × (made.end < 2 ^ 63)) }
@@ -163,7 +150,7 @@ fn put_front<'a, H: Host>(
     ensures ready { StaysReady (H.is_ready host.old) (H.is_ready host.new) }
 {
     let mut end = at;
-    let mut rest = latest;
+    let mut rest = copies;
     while rest.len() > PIECE {
         let (piece, behind) = rest.split_at(PIECE);
         end = put_piece(alloc, host, slot, end, true, head, piece)?;
@@ -173,7 +160,7 @@ fn put_front<'a, H: Host>(
 }
 
 /// Writes the manager file of a slot behind its closed header gate: the rest of a header of this generation, and a checkpoint with
-/// this head that names the copies of these versions, in pieces of at most 65,536, up to a closed gate; and syncs it. `Failed` names
+/// this head that names these copies, in pieces of at most 65,536, up to a closed gate; and syncs it. `Failed` names
 /// that file.
 pub fn write_pieces<H: Host>(
     alloc: Global,
@@ -181,20 +168,20 @@ pub fn write_pieces<H: Host>(
     slot: u8,
     generation: u32,
     head: CheckpointHead,
-    latest: &[Named],
+    copies: &[Named],
 ) -> Result<(), FolderFault>
     requires slot { slot ≤ 1 }
     requires gate { IsTrue H.tells → 1 ≤ length ((H.world host.old).disk (Manager slot)).seen }
     ensures run { IsTrue H.tells → RunsOnFile (Manager slot) KeepsGate 1 (H.world host.old) (H.world host.new) }
     ensures written { OnOk result (IsTrue H.tells
-        → HasPieces generation head (map copy_of latest.now) ((H.world host.old).disk (Manager slot)) ((H.world host.new).disk (Manager slot))) }
+        → HasPieces generation head (writes_named copies.now) ((H.world host.old).disk (Manager slot)) ((H.world host.new).disk (Manager slot))) }
     ensures whole { (other : AFile) (place : ℕ) → IsErrOf result (AFault.Damaged other place) → ⊥ }
     ensures calm { OnOk result (NoneFailed (H.faults host.old) (H.faults host.new)) }
     ensures fault { IfErr result (λ e. ReadFaulted e (H.faults host.old) (H.faults host.new)) }
     ensures ready { StaysReady (H.is_ready host.old) (H.is_ready host.new) }
 {
     let at = put_header(host, slot, generation)?;
-    let front = put_front(alloc, host, slot, at, head, latest)?;
+    let front = put_front(alloc, host, slot, at, head, copies)?;
     let end = put_piece(alloc, host, slot, front.end, false, head, front.rest)?;
     put(host, slot, end, &[0])?;
     let file = FileId::Manager { slot };

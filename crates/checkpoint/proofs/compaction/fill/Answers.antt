@@ -1,18 +1,19 @@
-use Rattle.std.proofs.Common.{◌≡◌, ◌-◌, ◌++◌, ℕ, List, length, map, false, Result, Ok, Err, rules, sym, subst}
+use Rattle.std.proofs.Common.{◌≡◌, ◌-◌, ◌++◌, ℕ, List, length, drop, false, Result, Ok, Err, rules, sym, ◌∙◌, ap, subst}
 use Rattle.std.specs.Prelude.{is_err, OnOk}
 use Rattle.std.specs.Int.{w32, to_le_bytes}
-use Rattle.std.specs.List.{AllByRecursion}
+use Rattle.std.specs.List.{AllZip}
+use Rattle.std.proofs.lemmas.List.{take_at}
 use Rattle.std.proofs.lemmas.Result.{err_from_is_err_and}
-use Rattle.base_types.specs.declared.stores.Version.{Version}
+use Rattle.std.proofs.lemmas.Slice.Zip.{AllZip-long}
 use Rattle.host_trait.specs.declared.channels.FileId.TheVariants.{Manager, Program as ProgramFile}
 use Rattle.host_trait.specs.Disk.{overlaid, settled}
-use Rattle.field_codec.specs.declared.formats.Format.TheVariants.{One}
 use Rattle.commit_log.specs.declared.records.Named.{Named}
 use Rattle.log_reading.specs.declared.faults.FolderFault.{FolderFault}
 use Rattle.log_reading.specs.Steps.{seen_in}
-use Rattle.log_reading.specs.Versions.{version_named}
 use Rattle.log_reading.proofs.Errors.{other_value}
-use Rattle.checkpoint.specs.Copies.{copy_of, IsCopied}
+use Rattle.program_file.specs.Succession.{shapes_in_turn}
+use Rattle.program_file.specs.ProgramsInTurn.{programs_in}
+use Rattle.checkpoint.specs.Copies.{writes_named, AreThere, IsCopied}
 use Rattle.checkpoint.specs.Pieces.{HasPieces}
 use Rattle.checkpoint.proofs.Fillings.{closes_quietly, run_quietly, copies_quietly, then_quietly, grains_kept, there_still, first_gone, second_filled, third_filled, fourth_filled, last_gone, last_done, some_left}
 use Rattle.checkpoint.proofs.compaction.fill.Goals as goal
@@ -24,7 +25,7 @@ on_ok (Err e) is holds = absurd (cc is)
 
 pub returns-then-is_err-clause-gone : goal.returns-then-is_err-clause-gone
 returns-then-is_err-clause-gone g c told p log may =
-    let n = c.args.next.now in
+    let n = c.args.next in
     let w0 = g.H.Host.world c.args.host.now in
     let w1 = g.H.Host.world c.close_gate.new.host in
     let closes = c.close_gate.ensures.closes told in
@@ -32,7 +33,7 @@ returns-then-is_err-clause-gone g c told p log may =
 
 pub returns-then-is_err-clause-quietly : goal.returns-then-is_err-clause-quietly
 returns-then-is_err-clause-quietly g c told =
-    let n = c.args.next.now in
+    let n = c.args.next in
     let w0 = g.H.Host.world c.args.host.now in
     let w1 = g.H.Host.world c.close_gate.new.host in
     let closes = c.close_gate.ensures.closes told in
@@ -40,7 +41,7 @@ returns-then-is_err-clause-quietly g c told =
 
 pub returns-then-is_err-2-clause-gone : goal.returns-then-is_err-2-clause-gone
 returns-then-is_err-2-clause-gone g c told p log may =
-    let n = c.args.next.now in
+    let n = c.args.next in
     let w0 = g.H.Host.world c.args.host.now in
     let w1 = g.H.Host.world c.close_gate.new.host in
     let closes = c.close_gate.ensures.closes told in
@@ -51,7 +52,7 @@ returns-then-is_err-2-clause-gone g c told p log may =
 
 pub returns-then-is_err-2-clause-quietly : goal.returns-then-is_err-2-clause-quietly
 returns-then-is_err-2-clause-quietly g c told =
-    let n = c.args.next.now in
+    let n = c.args.next in
     let w0 = g.H.Host.world c.args.host.now in
     let w1 = g.H.Host.world c.close_gate.new.host in
     let closes = c.close_gate.ensures.closes told in
@@ -61,7 +62,7 @@ returns-then-is_err-2-clause-quietly g c told =
 
 pub returns-in_err-copy_versions-clause-gone : goal.returns-in_err-copy_versions-clause-gone
 returns-in_err-copy_versions-clause-gone g c told p log may =
-    let n = c.args.next.now in
+    let n = c.args.next in
     let w0 = g.H.Host.world c.args.host.now in
     let w1 = g.H.Host.world c.close_gate.new.host in
     let closes = c.close_gate.ensures.closes told in
@@ -74,7 +75,7 @@ returns-in_err-copy_versions-clause-gone g c told p log may =
 
 pub returns-in_err-copy_versions-clause-quietly : goal.returns-in_err-copy_versions-clause-quietly
 returns-in_err-copy_versions-clause-quietly g c told =
-    let n = c.args.next.now in
+    let n = c.args.next in
     let w0 = g.H.Host.world c.args.host.now in
     let w1 = g.H.Host.world c.close_gate.new.host in
     let closes = c.close_gate.ensures.closes told in
@@ -86,7 +87,7 @@ returns-in_err-copy_versions-clause-quietly g c told =
 
 pub returns-in_err-write_pieces-clause-gone : goal.returns-in_err-write_pieces-clause-gone
 returns-in_err-write_pieces-clause-gone g c told p log may =
-    let n = c.args.next.now in
+    let n = c.args.next in
     let w0 = g.H.Host.world c.args.host.now in
     let w1 = g.H.Host.world c.close_gate.new.host in
     let closes = c.close_gate.ensures.closes told in
@@ -101,7 +102,7 @@ returns-in_err-write_pieces-clause-gone g c told p log may =
 
 pub returns-in_err-write_pieces-clause-quietly : goal.returns-in_err-write_pieces-clause-quietly
 returns-in_err-write_pieces-clause-quietly g c told =
-    let n = c.args.next.now in
+    let n = c.args.next in
     let w0 = g.H.Host.world c.args.host.now in
     let w1 = g.H.Host.world c.close_gate.new.host in
     let closes = c.close_gate.ensures.closes told in
@@ -115,7 +116,7 @@ returns-in_err-write_pieces-clause-quietly g c told =
 
 pub returns-then-is_err-3-clause-gone : goal.returns-then-is_err-3-clause-gone
 returns-then-is_err-3-clause-gone g c told p log may =
-    let n = c.args.next.now in
+    let n = c.args.next in
     let w0 = g.H.Host.world c.args.host.now in
     let w1 = g.H.Host.world c.close_gate.new.host in
     let closes = c.close_gate.ensures.closes told in
@@ -129,13 +130,18 @@ returns-then-is_err-3-clause-gone g c told p log may =
     let opening = c.open_gate.ensures.run told in
     let shut = on_ok c.close_gate.result (search rules) c.close_gate.ensures.shut told in
     let text = subst (λ (t : List ℕ). w2.disk (ProgramFile (1 - n.live)) ≡ settled (overlaid (w1.disk (ProgramFile (1 - n.live))).seen 0 (to_le_bytes w32 (length t) ++ t))) c.as_slice.ensures (on_ok c.write_program.result (search rules) c.write_program.ensures.ok told) in
-    let copied = subst (AllByRecursion (IsCopied n.live c.args.shape.now (seen_in w2.disk) w3.disk)) c.as_slice-latest.ensures (c.in_ok-copy_versions.ensures.copied told) in
-    let pieces = subst (λ (l : List Named). HasPieces n.generation n.head (map copy_of l) (w3.disk (Manager (1 - n.live))) (w4.disk (Manager (1 - n.live)))) c.as_slice-latest.ensures (c.in_ok-write_pieces.ensures.written told) in
-    last_gone n log w0 w1 w2 may.can may.shown closes shut _ 1 program w3 copies w4 1 run p c.requires.may (c.requires.order told) may.made c.args.shape.now may.shape_is text copied pieces w5 opening
+    let same : c.as_mut_slice.result.now ≡ n.latest = c.as_mut_slice.ensures.value ∙ c.into_vec-latest.ensures in
+    let copies_made : List Named = c.copy_versions.new.latest in
+    let copied : AllZip (IsCopied n.live (programs_in c.args.programs.now) (seen_in w2.disk) w3.disk) n.latest copies_made = subst (λ (l : List Named). AllZip (IsCopied n.live (programs_in c.args.programs.now) (seen_in w2.disk) w3.disk) l copies_made) same (c.in_ok-copy_versions.ensures.copied told) in
+    let size : length copies_made ≡ c.into_vec-latest.result.len = AllZip-long (IsCopied n.live (programs_in c.args.programs.now) (seen_in w2.disk) w3.disk) n.latest copies_made copied ∙ sym (ap (λ (l : List Named). length l) same) ∙ c.as_mut_slice.ensures.len in
+    let named_so : c.as_slice-2.result.now ≡ copies_made = c.as_slice-2.ensures.value ∙ take_at copies_made (drop (length copies_made) c.into_vec-latest.result.items) c.into_vec-latest.result.len size in
+    let pieces : HasPieces n.generation n.head (writes_named copies_made) (w3.disk (Manager (1 - n.live))) (w4.disk (Manager (1 - n.live))) =
+    subst (λ (l : List Named). HasPieces n.generation n.head (writes_named l) (w3.disk (Manager (1 - n.live))) (w4.disk (Manager (1 - n.live)))) named_so (c.in_ok-write_pieces.ensures.written told) in
+    last_gone n log w0 w1 w2 may.can may.shown closes shut _ 1 program w3 copies w4 1 run (programs_in c.args.programs.now) p c.requires.may (c.requires.order told) may.made text copies_made copied pieces w5 opening
 
 pub returns-then-is_err-3-clause-quietly : goal.returns-then-is_err-3-clause-quietly
 returns-then-is_err-3-clause-quietly g c told =
-    let n = c.args.next.now in
+    let n = c.args.next in
     let w0 = g.H.Host.world c.args.host.now in
     let w1 = g.H.Host.world c.close_gate.new.host in
     let closes = c.close_gate.ensures.closes told in
@@ -151,7 +157,7 @@ returns-then-is_err-3-clause-quietly g c told =
 
 pub returns-clause-gone : goal.returns-clause-gone
 returns-clause-gone g c told p log may =
-    let n = c.args.next.now in
+    let n = c.args.next in
     let w0 = g.H.Host.world c.args.host.now in
     let w1 = g.H.Host.world c.close_gate.new.host in
     let closes = c.close_gate.ensures.closes told in
@@ -165,13 +171,18 @@ returns-clause-gone g c told p log may =
     let opening = c.open_gate.ensures.run told in
     let shut = on_ok c.close_gate.result (search rules) c.close_gate.ensures.shut told in
     let text = subst (λ (t : List ℕ). w2.disk (ProgramFile (1 - n.live)) ≡ settled (overlaid (w1.disk (ProgramFile (1 - n.live))).seen 0 (to_le_bytes w32 (length t) ++ t))) c.as_slice.ensures (on_ok c.write_program.result (search rules) c.write_program.ensures.ok told) in
-    let copied = subst (AllByRecursion (IsCopied n.live c.args.shape.now (seen_in w2.disk) w3.disk)) c.as_slice-latest.ensures (c.in_ok-copy_versions.ensures.copied told) in
-    let pieces = subst (λ (l : List Named). HasPieces n.generation n.head (map copy_of l) (w3.disk (Manager (1 - n.live))) (w4.disk (Manager (1 - n.live)))) c.as_slice-latest.ensures (c.in_ok-write_pieces.ensures.written told) in
-    last_gone n log w0 w1 w2 may.can may.shown closes shut _ 1 program w3 copies w4 1 run p c.requires.may (c.requires.order told) may.made c.args.shape.now may.shape_is text copied pieces w5 opening
+    let same : c.as_mut_slice.result.now ≡ n.latest = c.as_mut_slice.ensures.value ∙ c.into_vec-latest.ensures in
+    let copies_made : List Named = c.copy_versions.new.latest in
+    let copied : AllZip (IsCopied n.live (programs_in c.args.programs.now) (seen_in w2.disk) w3.disk) n.latest copies_made = subst (λ (l : List Named). AllZip (IsCopied n.live (programs_in c.args.programs.now) (seen_in w2.disk) w3.disk) l copies_made) same (c.in_ok-copy_versions.ensures.copied told) in
+    let size : length copies_made ≡ c.into_vec-latest.result.len = AllZip-long (IsCopied n.live (programs_in c.args.programs.now) (seen_in w2.disk) w3.disk) n.latest copies_made copied ∙ sym (ap (λ (l : List Named). length l) same) ∙ c.as_mut_slice.ensures.len in
+    let named_so : c.as_slice-2.result.now ≡ copies_made = c.as_slice-2.ensures.value ∙ take_at copies_made (drop (length copies_made) c.into_vec-latest.result.items) c.into_vec-latest.result.len size in
+    let pieces : HasPieces n.generation n.head (writes_named copies_made) (w3.disk (Manager (1 - n.live))) (w4.disk (Manager (1 - n.live))) =
+    subst (λ (l : List Named). HasPieces n.generation n.head (writes_named l) (w3.disk (Manager (1 - n.live))) (w4.disk (Manager (1 - n.live)))) named_so (c.in_ok-write_pieces.ensures.written told) in
+    last_gone n log w0 w1 w2 may.can may.shown closes shut _ 1 program w3 copies w4 1 run (programs_in c.args.programs.now) p c.requires.may (c.requires.order told) may.made text copies_made copied pieces w5 opening
 
 pub returns-clause-quietly : goal.returns-clause-quietly
 returns-clause-quietly g c told =
-    let n = c.args.next.now in
+    let n = c.args.next in
     let w0 = g.H.Host.world c.args.host.now in
     let w1 = g.H.Host.world c.close_gate.new.host in
     let closes = c.close_gate.ensures.closes told in
@@ -187,7 +198,7 @@ returns-clause-quietly g c told =
 
 pub returns-clause-done : goal.returns-clause-done
 returns-clause-done g c told p log may image is =
-    let n = c.args.next.now in
+    let n = c.args.next in
     let w0 = g.H.Host.world c.args.host.now in
     let w1 = g.H.Host.world c.close_gate.new.host in
     let closes = c.close_gate.ensures.closes told in
@@ -201,25 +212,30 @@ returns-clause-done g c told p log may image is =
     let opening = c.open_gate.ensures.run told in
     let shut = on_ok c.close_gate.result (search rules) c.close_gate.ensures.shut told in
     let text = subst (λ (t : List ℕ). w2.disk (ProgramFile (1 - n.live)) ≡ settled (overlaid (w1.disk (ProgramFile (1 - n.live))).seen 0 (to_le_bytes w32 (length t) ++ t))) c.as_slice.ensures (on_ok c.write_program.result (search rules) c.write_program.ensures.ok told) in
-    let copied = subst (AllByRecursion (IsCopied n.live c.args.shape.now (seen_in w2.disk) w3.disk)) c.as_slice-latest.ensures (c.in_ok-copy_versions.ensures.copied told) in
-    let pieces = subst (λ (l : List Named). HasPieces n.generation n.head (map copy_of l) (w3.disk (Manager (1 - n.live))) (w4.disk (Manager (1 - n.live)))) c.as_slice-latest.ensures (c.in_ok-write_pieces.ensures.written told) in
-    last_done n log w0 w1 w2 may.can may.shown closes shut _ 1 program w3 copies w4 1 run p c.requires.may (c.requires.order told) may.made c.args.shape.now may.shape_is text copied pieces w5 opening (on_ok c.open_gate.result (search rules) c.open_gate.ensures.ok told) image is
+    let same : c.as_mut_slice.result.now ≡ n.latest = c.as_mut_slice.ensures.value ∙ c.into_vec-latest.ensures in
+    let copies_made : List Named = c.copy_versions.new.latest in
+    let copied : AllZip (IsCopied n.live (programs_in c.args.programs.now) (seen_in w2.disk) w3.disk) n.latest copies_made = subst (λ (l : List Named). AllZip (IsCopied n.live (programs_in c.args.programs.now) (seen_in w2.disk) w3.disk) l copies_made) same (c.in_ok-copy_versions.ensures.copied told) in
+    let size : length copies_made ≡ c.into_vec-latest.result.len = AllZip-long (IsCopied n.live (programs_in c.args.programs.now) (seen_in w2.disk) w3.disk) n.latest copies_made copied ∙ sym (ap (λ (l : List Named). length l) same) ∙ c.as_mut_slice.ensures.len in
+    let named_so : c.as_slice-2.result.now ≡ copies_made = c.as_slice-2.ensures.value ∙ take_at copies_made (drop (length copies_made) c.into_vec-latest.result.items) c.into_vec-latest.result.len size in
+    let pieces : HasPieces n.generation n.head (writes_named copies_made) (w3.disk (Manager (1 - n.live))) (w4.disk (Manager (1 - n.live))) =
+    subst (λ (l : List Named). HasPieces n.generation n.head (writes_named l) (w3.disk (Manager (1 - n.live))) (w4.disk (Manager (1 - n.live)))) named_so (c.in_ok-write_pieces.ensures.written told) in
+    last_done n log w0 w1 w2 may.can may.shown closes shut _ 1 program w3 copies w4 1 run (programs_in c.args.programs.now) p c.requires.may (c.requires.order told) may.made text copies_made copied pieces w5 opening (on_ok c.open_gate.result (search rules) c.open_gate.ensures.ok told) image is
 
 pub returns-in_err-copy_versions-clause-damaged : goal.returns-in_err-copy_versions-clause-damaged
 returns-in_err-copy_versions-clause-damaged g c =
     let p = err_from_is_err_and c.from_residual.result c.from_residual.ensures.1 in
-    let n = c.args.next.now in
+    let n = c.args.next in
     let w0 = g.H.Host.world c.args.host.now in
     let w1 = g.H.Host.world c.close_gate.new.host in
     let w2 = g.H.Host.world c.write_program.new.host in
     rw (p.1, p.2) λ file place is told each.
-    let still = there_still n.live c.args.shape.now w0.disk w2.disk (grains_kept n.live _ 1 w0 w1 w2 (c.close_gate.ensures.closes told) (c.write_program.ensures.run told)) n.latest each in
+    let still = there_still n.live (shapes_in_turn (programs_in c.args.programs.now)) w0.disk w2.disk (grains_kept n.live _ 1 w0 w1 w2 (c.close_gate.ensures.closes told) (c.write_program.ensures.run told)) n.latest each in
     c.in_err-copy_versions.ensures.damaged file place (other_value _ (FolderFault.Damaged file place) is) told
-    (subst (AllByRecursion (λ m. (version : Version) × (version_named n.live One c.args.shape.now (seen_in w2.disk) m ≡ Ok version))) (sym c.as_slice-latest.ensures) still)
+    (subst (AreThere n.live (shapes_in_turn (programs_in c.args.programs.now)) (seen_in w2.disk)) (sym (c.as_mut_slice.ensures.value ∙ c.into_vec-latest.ensures)) still)
 
 pub write_pieces-requires-clause-gate : goal.write_pieces-requires-clause-gate
 write_pieces-requires-clause-gate g c told =
-    some_left (1 - c.args.next.now.live) _ 1 _ _ _ (on_ok c.close_gate.result (search rules) c.close_gate.ensures.shut told) (c.write_program.ensures.run told) (c.copy_versions.ensures.only told)
+    some_left (1 - c.args.next.live) _ 1 _ _ _ (on_ok c.close_gate.result (search rules) c.close_gate.ensures.shut told) (c.write_program.ensures.run told) (c.copy_versions.ensures.only told)
 
 pub returns-in_err-write_pieces-clause-damaged : goal.returns-in_err-write_pieces-clause-damaged
 returns-in_err-write_pieces-clause-damaged g c =

@@ -15,7 +15,7 @@ loop-rest-init g c = record {
   low = c.requires.behind.0;
   high = c.requires.behind.1;
   run = λ told. run_started (Manager c.args.slot) KeepsGate (g.H.Host.world c.args.host.now) (λ d. refl);
-  written = first_front g.H.Host.tells c.args.slot c.args.at c.args.head c.args.latest.now (g.H.Host.world c.args.host.now) (λ told. run_started (Manager c.args.slot) KeepsGate (g.H.Host.world c.args.host.now) (λ d. refl));
+  written = first_front g.H.Host.tells c.args.slot c.args.at c.args.head c.args.copies.now (g.H.Host.world c.args.host.now) (λ told. run_started (Manager c.args.slot) KeepsGate (g.H.Host.world c.args.host.now) (λ d. refl));
   within = c.requires.place;
   calm = λ channel. refl;
   ready = λ file was. was;
@@ -47,7 +47,7 @@ loop-rest-preserved g c =
       low = omega (arith, c.in_ok-end.ensures.end.0, inv.low);
       high = c.in_ok-end.ensures.end.1;
       run = λ told. run_then (Manager c.args.slot) KeepsGate KeepsGate 0 0 w0 w1 w2 (λ e d k one two. two ∙ one) (inv.run told) (c.put_piece.ensures.run told);
-      written = more_front g.H.Host.tells c.args.slot c.args.at c.loop-rest.end c.in_ok-end.end c.args.head c.args.latest.now rest piece behind w0 w1 w2 inv.written split size c.in_ok-end.ensures.fits c.in_ok-end.ensures.end.0
+      written = more_front g.H.Host.tells c.args.slot c.args.at c.loop-rest.end c.in_ok-end.end c.args.head c.args.copies.now rest piece behind w0 w1 w2 inv.written split size c.in_ok-end.ensures.fits c.in_ok-end.ensures.end.0
           c.requires.place c.in_ok-end.ensures.written;
       within = c.in_ok-end.ensures.within;
       calm = λ channel. c.in_ok-end.ensures.calm channel ∙ inv.calm channel;

@@ -12,7 +12,7 @@ invariant-loop-rest g l = record {
   low : 1 ≤ l.end;
   high : l.end < 2 ^ 63;
   run : IsTrue g.H.Host.tells → RunsOnFile (Manager l.slot) KeepsGate 0 (g.H.Host.world l.fn.host) (g.H.Host.world l.host);
-  written : HasFront g.H.Host.tells l.slot l.at l.head l.latest l.rest l.end (g.H.Host.world l.fn.host) (g.H.Host.world l.host);
+  written : HasFront g.H.Host.tells l.slot l.at l.head l.copies l.rest l.end (g.H.Host.world l.fn.host) (g.H.Host.world l.host);
   within : IsTrue g.H.Host.tells → l.end ≤ length ((g.H.Host.world l.host).disk (Manager l.slot)).seen;
   calm : NoneFailed (g.H.Host.faults l.fn.host) (g.H.Host.faults l.host);
   ready : StaysReady (g.H.Host.is_ready l.fn.host) (g.H.Host.is_ready l.host);

@@ -1,4 +1,4 @@
-use Rattle.std.proofs.Common.{◌≡◌, ◌+◌, ℕ, List, length, map, true, is_ok, ◌∙◌, ap, subst, arith, rules}
+use Rattle.std.proofs.Common.{◌≡◌, ◌+◌, ℕ, List, length, true, is_ok, ◌∙◌, ap, subst, arith, rules}
 use Rattle.std.specs.Prelude.{Bool}
 use Rattle.std.proofs.lemmas.Result.{err_from_is_err_and}
 use Rattle.host_trait.specs.declared.channels.FileId.TheVariants.{Manager}
@@ -10,7 +10,7 @@ use Rattle.commit_log.specs.Checkpoints.{spelling_of_piece}
 use Rattle.log_reading.specs.declared.faults.FolderFault.{FolderFault}
 use Rattle.log_reading.proofs.Errors.{other_value}
 use Rattle.checkpoint.specs.Steps.{KeepsGate}
-use Rattle.checkpoint.specs.Copies.{copy_of}
+use Rattle.checkpoint.specs.Copies.{writes_named}
 use Rattle.checkpoint.specs.Pieces.{front_bodies, HasWritten}
 use Rattle.checkpoint.proofs.Writing.{whole_pieces}
 use Rattle.checkpoint.proofs.pieces.write_pieces.Goals as goal
@@ -60,12 +60,12 @@ returns-in-Ok-clause-written g c told =
     let w5 = g.H.Host.world c.sync.new.self in
     let made = c.in_ok-front.ensures.written in
     let blocks : List ℕ = open_blocks (front_bodies head made.front) in
-    let block : List ℕ = block_at (spelling_of_piece 0 head.count head.next_unit.0 (map copy_of c.in_ok-front.front.rest.now)) in
+    let block : List ℕ = block_at (spelling_of_piece 0 head.count head.next_unit.0 (writes_named c.in_ok-front.front.rest.now)) in
     let begins : c.in_ok-at.at ≡ 15 = c.in_ok-at.ensures.end in
     let first_end : c.in_ok-front.front.end ≡ 15 + length blocks = made.ends ∙ ap (λ (k : ℕ). k + length blocks) begins in
     let last_end : c.in_ok-end.end ≡ 15 + length blocks + length block = c.in_ok-end.ensures.end.0 ∙ ap (λ (k : ℕ). k + length block) first_end in
     let ok : is_ok c.sync.result ≡ true = search rules in
-    whole_pieces slot c.args.generation head c.args.latest.now c.in_ok-front.front.rest.now w0 w1 w2 w3 w4 w5 (c.requires.gate told) (c.in_ok-at.ensures.written told) made.front made.all made.sizes made.fits c.in_ok-front.ensures.size c.in_ok-end.ensures.fits
+    whole_pieces slot c.args.generation head c.args.copies.now c.in_ok-front.front.rest.now w0 w1 w2 w3 w4 w5 (c.requires.gate told) (c.in_ok-at.ensures.written told) made.front made.all made.sizes made.fits c.in_ok-front.ensures.size c.in_ok-end.ensures.fits
     (subst (λ (k : ℕ). HasWritten slot k blocks w1 w2) begins (made.written told)) (subst (λ (k : ℕ). HasWritten slot k block w2 w3) first_end (c.in_ok-end.ensures.written told))
     (subst (λ (k : ℕ). HasWritten slot k _ w3 w4) last_end (c.in_ok-put.ensures.written told))
     ((c.sync.ensures.told told).state ∙ ap (λ (b : Bool). after_sync b (w4.disk (Manager slot))) ok)
