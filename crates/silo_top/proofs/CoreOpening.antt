@@ -23,7 +23,7 @@ use Rattle.promise_spec.specs.Entries.{initial_states, standing_of}
 use Rattle.promise_spec.specs.Programs.{shape_in}
 use Rattle.promise_spec.specs.Cores.{core_from, memory_limit}
 use Rattle.history_core.specs.Cores.{run_of}
-use Rattle.silo_opening.specs.OpenedSilo.{IsOpenedFrom, program_in}
+use Rattle.silo_opening.specs.OpenedSilo.{IsOpenedFrom, program_in, programs_of}
 use Rattle.silo_opening.proofs.PlacedStates.{known_stand}
 use Rattle.log_reading.proofs.PlacedVersions.{known_state}
 use Rattle.silo_opening.specs.declared.opened_silo.Opened.{Opened}
@@ -45,7 +45,7 @@ kept_or None initial = refl
 kept_or (Some state) initial = refl
 
 -- what is known of a place is its version's state
-known_same : (image : Image) (o : Opened) (p : Option Placed) → known_in p ≡ known_state o.slot One (shape_in (program_in o)) image p
+known_same : (image : Image) (o : Opened) (p : Option Placed) → known_in p ≡ known_state o.slot One (programs_of o) image p
 known_same image o None = refl
 known_same image o (Some p) = refl
 

@@ -4,7 +4,7 @@ use Rattle.host_trait.specs.declared.channels.Channel.{Channel}
 use Rattle.host_trait.specs.declared.channels.Channel.TheVariants.{Input, Output, File}
 use Rattle.host_trait.specs.declared.channels.FileId.{FileId}
 use Rattle.host_trait.specs.Faults.{NoneFailed}
-use Rattle.promise_spec.specs.Endings.{Ending, Done, BadUse, Memory, ReadFault, WriteFault, DiskFault, NotASilo, AlreadyASilo, Damaged, BadProgram, InputTooLong, LastGeneration, HasRisen, HasFailedAs}
+use Rattle.promise_spec.specs.Endings.{Ending, Done, BadUse, Memory, ReadFault, WriteFault, DiskFault, NotASilo, AlreadyASilo, Damaged, BadProgram, InputTooLong, LastGeneration, UpgradeRefused, HasRisen, HasFailedAs}
 use Rattle.silo_opening.specs.Counts.{OpenFaulted}
 use Rattle.silo_opening.specs.OpenedSilo.{ending_of}
 use Rattle.silo_opening.specs.declared.faults.OpenFault.{OpenFault}
@@ -37,6 +37,7 @@ module _ (old new : Counts) where
   failed_risen (Damaged file place) f = tt
   failed_risen (BadProgram fault) f = tt
   failed_risen LastGeneration f = tt
+  failed_risen (UpgradeRefused at) f = tt
   failed_risen (InputTooLong line) f = tt
 
   -- a failed call on the input is named
@@ -52,6 +53,7 @@ module _ (old new : Counts) where
   failed_input (Damaged file place) f other = absurd (other (f Input))
   failed_input (BadProgram fault) f other = absurd (other (f Input))
   failed_input LastGeneration f other = absurd (other (f Input))
+  failed_input (UpgradeRefused at) f other = absurd (other (f Input))
   failed_input (InputTooLong line) f other = absurd (other (f Input))
 
   -- and so is one on the output
@@ -67,6 +69,7 @@ module _ (old new : Counts) where
   failed_output (Damaged file place) f other = absurd (other (f Output))
   failed_output (BadProgram fault) f other = absurd (other (f Output))
   failed_output LastGeneration f other = absurd (other (f Output))
+  failed_output (UpgradeRefused at) f other = absurd (other (f Output))
   failed_output (InputTooLong line) f other = absurd (other (f Output))
 
   -- so a run that names exactly the call that failed answers as a run does

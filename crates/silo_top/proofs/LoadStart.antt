@@ -58,7 +58,7 @@ module _ (types : ProgramTree) (reads : program_in bank_text ≡ Ok types) where
 
 -- an opened silo, with another copy of its program
 abbrev pub with_checked : Opened → Tree → Opened
-with_checked x bank = record { slot = x.slot; generation = x.generation; text = x.text; checked = bank; count = x.count; places = x.places; ends = x.ends; next_unit = x.next_unit; gate_at = x.gate_at }
+with_checked x bank = record { slot = x.slot; generation = x.generation; text = x.text; checked = bank; programs = x.programs; count = x.count; places = x.places; ends = x.ends; next_unit = x.next_unit; gate_at = x.gate_at }
 
 pub same_opened : (x : Opened) (bank : Tree) (seen : Image) → program_tree x.checked ≡ program_tree bank → IsOpenedFrom seen x → IsOpenedFrom seen (with_checked x bank)
 same_opened x bank seen same is = record {
@@ -68,11 +68,14 @@ same_opened x bank seen same is = record {
   program = is.program ∙ there;
   count = is.count;
   next = is.next;
+  first = is.first;
+  first_is = is.first_is;
   read = is.read;
-  read_as = subst (λ (p : Program). log_in_file One (shape_in p) (seen (Manager x.slot)) ≡ Ok is.read) there is.read_as;
-  log_is = is.log_is ∙ ap (λ (p : Program). log_of x.slot p seen is.read) there;
-  whole = subst (λ (p : Program). first_missing x.slot One (shape_in p) seen (named_by_grain (named_in is.read)) ≡ None) there is.whole;
-  places = subst (λ (p : Program). (grain : GrainId) → placed_in x.places grain ≡ placed_after x.slot One (shape_in p) seen None (named_by_grain (named_in is.read)) grain) there is.places;
+  read_as = is.read_as;
+  programs = is.programs;
+  log_is = is.log_is;
+  whole = is.whole;
+  places = is.places;
   ends = is.ends;
   within = is.within;
   gate = is.gate;

@@ -12,26 +12,23 @@ use Rattle.host_trait.proofs.Crashes.{settled_only}
 use Rattle.gate_block.specs.Log.{LogsUpTo, gate_of}
 use Rattle.gate_block.proofs.Logs.{logged, one_log}
 use Rattle.field_codec.specs.declared.formats.Format.TheVariants.{One}
-use Rattle.commit_log.specs.declared.records.CommitRecord.{CommitRecord}
 use Rattle.commit_log.specs.declared.records.Named.{Named}
 use Rattle.commit_log.specs.declared.records.Written.{Written}
-use Rattle.log_reading.specs.Blocks.{LogBase, LogRead, log_in_file}
+use Rattle.log_reading.specs.Blocks.{LogBase, ReadEntry, LogRead, log_in_file}
 use Rattle.log_reading.specs.Versions.{named_by, named_of_base, named_in, named_by_grain}
 use Rattle.log_reading.specs.Sums.{end_after, greater_end}
 use Rattle.core_model.specs.CoreState.{Member}
 use Rattle.core_model.specs.LegalRuns.{Run}
 use Rattle.promise_spec.specs.Programs.{Program, shape_in}
 use Rattle.promise_spec.specs.Records.{Commit}
-use Rattle.promise_spec.specs.Entries.{Standing, Log, records_of, standing_of}
-use Rattle.promise_spec.specs.Blocks.{Saved, saved_by, IsSaved, Beginning, Fresh, From, BeginsWhole}
+use Rattle.promise_spec.specs.Entries.{LogEntry, Recorded, Upgraded, records_among, Log, records_of, standing_of}
+use Rattle.promise_spec.specs.Blocks.{AreKept, Saved, saved_by, IsSaved, Beginning, Fresh, From, BeginsWhole}
 use Rattle.promise_spec.specs.Logs.{StandsUpTo, IsLog, IsLogIn}
-use Rattle.promise_spec.proofs.Batched.{kept_are}
-use Rattle.promise_spec.proofs.Growing.{program_begins}
-use Rattle.promise_spec.proofs.ReadLogs.{IsReadIn, read_base, read_in}
-use Rattle.checkpoint.proofs.NamedVersions.{read_is}
-use Rattle.promise_spec.proofs.Standings.{grown_none, in_force as program_in_force}
+use Rattle.promise_spec.proofs.Batched.{base_program}
+use Rattle.promise_spec.proofs.ReadLogs.{IsReadIn, read_base, read_in, read_is}
+use Rattle.promise_spec.proofs.Standings.{grown_none}
 use Rattle.promise_spec.specs.Journals.{AllLog}
-use Rattle.promise_spec.proofs.ReadVersions.{all_in_order, all_of_order}
+use Rattle.promise_spec.proofs.ReadVersions.{all_in_order, all_of_order, entry_seen}
 use Rattle.batch_disk.specs.ImagesAtRest.{IsAtRest, StandsIn, IsBelow, AreBelow, AreNamedBy, write_end, raised_end, raised_ends, all_writes}
 use Rattle.batch_disk.specs.Writers.{file_end, kept_of}
 use Rattle.batch_disk.specs.declared.writer.BatchWriter.{BatchWriter}
@@ -39,7 +36,7 @@ use Rattle.batch_disk.proofs.Ends.{raised_each, raised_long, stands_within, kept
 use Rattle.batch_disk.proofs.Lists.{both_parts, split_parts, each_list}
 use Rattle.run_books.specs.Beginnings.{Outset}
 use Rattle.run_books.specs.Images.{KeepsFolder}
-use Rattle.silo_opening.specs.OpenedSilo.{program_in, IsOpenedFrom}
+use Rattle.silo_opening.specs.OpenedSilo.{IsOpenedFrom}
 use Rattle.silo_opening.specs.declared.opened_silo.Opened.{Opened}
 use Rattle.silo_top.specs.RunStart.{IsStartOf}
 use Rattle.silo_top.specs.declared.run_start.Started.{Started}
@@ -68,17 +65,19 @@ module _ (P : Written → Type 0) where
   abbrev IsNamed : Named → Type 0
   IsNamed n = P n.written
 
-  from_named : (log : List Commit) → AllByRecursion IsNamed (named_by (map (λ c. c.logged) log)) → AllByRecursion (λ c. AllByRecursion P c.logged.writes) log
-  from_named [] all = tt
-  from_named (c ∷ log) all =
-      let parts = split_parts IsNamed (map (λ w. record { unit = Some c.logged.unit; written = w }) c.logged.writes) (named_by (map (λ c. c.logged) log)) all in
-      (all_map IsNamed (λ w. record { unit = Some c.logged.unit; written = w }) c.logged.writes parts.0, from_named log parts.1)
+  from_named : (number : ℕ) (entries : List LogEntry) → AllByRecursion IsNamed (named_by number (map entry_seen entries)) → AllByRecursion (λ c. AllByRecursion P c.logged.writes) (records_among entries)
+  from_named number [] all = tt
+  from_named number (Recorded c ∷ entries) all =
+      let parts = split_parts IsNamed (map (λ w. record { unit = Some c.logged.unit; program = number; written = w }) c.logged.writes) (named_by number (map entry_seen entries)) all in
+      (all_map IsNamed (λ w. record { unit = Some c.logged.unit; program = number; written = w }) c.logged.writes parts.0, from_named number entries parts.1)
+  from_named number (Upgraded q ∷ entries) all = from_named (number + 1) entries all
 
-  to_named : (log : List Commit) → AllByRecursion (λ c. AllByRecursion P c.logged.writes) log → AllByRecursion IsNamed (named_by (map (λ c. c.logged) log))
-  to_named [] all = tt
-  to_named (c ∷ log) all =
-      both_parts IsNamed (map (λ w. record { unit = Some c.logged.unit; written = w }) c.logged.writes) (named_by (map (λ c. c.logged) log))
-      (map_all IsNamed (λ w. record { unit = Some c.logged.unit; written = w }) c.logged.writes all.0) (to_named log all.1)
+  to_named : (number : ℕ) (entries : List LogEntry) → AllByRecursion (λ c. AllByRecursion P c.logged.writes) (records_among entries) → AllByRecursion IsNamed (named_by number (map entry_seen entries))
+  to_named number [] all = tt
+  to_named number (Recorded c ∷ entries) all =
+      both_parts IsNamed (map (λ w. record { unit = Some c.logged.unit; program = number; written = w }) c.logged.writes) (named_by number (map entry_seen entries))
+      (map_all IsNamed (λ w. record { unit = Some c.logged.unit; program = number; written = w }) c.logged.writes all.0) (to_named number entries all.1)
+  to_named number (Upgraded q ∷ entries) all = to_named (number + 1) entries all
 
   from_saved : (b : Beginning) → AllByRecursion P (read_base b).writes → AreNamedBy P b
   from_saved Fresh all = tt
@@ -89,24 +88,32 @@ module _ (P : Written → Type 0) where
   all_named l all = all_of_order IsNamed (named_in l) (all_map P place_named (named_by_grain (named_in l)) all)
 
   -- and so of each record's, and of each of the log's beginning
-  of_records : (l : LogRead) (log : List Commit) → l.records ≡ map (λ (c : Commit). c.logged) log → AllByRecursion IsNamed (named_in l) → AllByRecursion (λ c. AllByRecursion P c.logged.writes) log
-  of_records l log records all =
-      from_named log (subst (λ (rs : List CommitRecord). AllByRecursion IsNamed (named_by rs)) records (split_parts IsNamed (named_of_base l.base) (named_by l.records) all).1)
+  of_records : (l : LogRead) (entries : List LogEntry) → l.entries ≡ map entry_seen entries → AllByRecursion IsNamed (named_in l) → AllByRecursion (λ c. AllByRecursion P c.logged.writes) (records_among entries)
+  of_records l entries same all =
+      from_named 0 entries (subst (λ (es : List ReadEntry). AllByRecursion IsNamed (named_by 0 es)) same (split_parts IsNamed (named_of_base l.base) (named_by 0 l.entries) all).1)
 
   of_base : (l : LogRead) (b : Beginning) → l.base ≡ read_base b → AllByRecursion IsNamed (named_in l) → AreNamedBy P b
   of_base l b base all =
-      let first : AllByRecursion IsNamed (named_of_base l.base) = (split_parts IsNamed (named_of_base l.base) (named_by l.records) all).0 in
-      from_saved b (subst (λ (o : LogBase). AllByRecursion P o.writes) base (all_map IsNamed (λ w. record { unit = None; written = w }) l.base.writes first))
+      let first : AllByRecursion IsNamed (named_of_base l.base) = (split_parts IsNamed (named_of_base l.base) (named_by 0 l.entries) all).0 in
+      from_saved b (subst (λ (o : LogBase). AllByRecursion P o.writes) base (all_map IsNamed (λ w. record { unit = None; program = 0; written = w }) l.base.writes first))
 
   -- and the other way round
-  all_read : (l : LogRead) (b : Beginning) (log : List Commit) → l.base ≡ read_base b → l.records ≡ map (λ (c : Commit). c.logged) log
-      → AllByRecursion P (read_base b).writes → AllByRecursion P (all_writes log) → AllByRecursion P (places_read l)
-  all_read l b log base records first all =
+  all_read : (l : LogRead) (b : Beginning) (entries : List LogEntry) → l.base ≡ read_base b → l.entries ≡ map entry_seen entries
+      → AllByRecursion P (read_base b).writes → AllByRecursion P (all_writes (records_among entries)) → AllByRecursion P (places_read l)
+  all_read l b entries base same first all =
       let saved : AllByRecursion IsNamed (named_of_base l.base) =
-      map_all IsNamed (λ w. record { unit = None; written = w }) l.base.writes (subst (λ (o : LogBase). AllByRecursion P o.writes) (sym base) first) in
-      let later : AllByRecursion IsNamed (named_by l.records) =
-      subst (λ (rs : List CommitRecord). AllByRecursion IsNamed (named_by rs)) (sym records) (to_named log (each_list P (λ (c : Commit). c.logged.writes) log all)) in
-      map_all P place_named (named_by_grain (named_in l)) (all_in_order IsNamed (named_in l) (both_parts IsNamed (named_of_base l.base) (named_by l.records) saved later))
+      map_all IsNamed (λ w. record { unit = None; program = 0; written = w }) l.base.writes (subst (λ (o : LogBase). AllByRecursion P o.writes) (sym base) first) in
+      let later : AllByRecursion IsNamed (named_by 0 l.entries) =
+      subst (λ (es : List ReadEntry). AllByRecursion IsNamed (named_by 0 es)) (sym same) (to_named 0 entries (each_list P (λ (c : Commit). c.logged.writes) (records_among entries) all)) in
+      map_all P place_named (named_by_grain (named_in l)) (all_in_order IsNamed (named_in l) (both_parts IsNamed (named_of_base l.base) (named_by 0 l.entries) saved later))
+
+-- what entries that are kept name lies in the grains' files
+entries_within : (live : ℕ) (p : Program) (image : Image) (entries : List LogEntry) → AreKept live image p entries → AllByRecursion (λ w. write_end w ≤ length (image (Grain live w.grain))) (all_writes (records_among entries))
+entries_within live p image [] kept = tt
+entries_within live p image (Recorded c ∷ entries) kept =
+    let P : Written → Type 0 = λ w. write_end w ≤ length (image (Grain live w.grain)) in
+    both_parts P c.logged.writes (all_writes (records_among entries)) (split_parts P c.logged.writes [] (kept_within live (shape_in p) image (c ∷ []) (kept.0, tt))).0 (entries_within live p image entries kept.1)
+entries_within live p image (Upgraded q ∷ entries) kept = entries_within live q image entries kept.1
 
 -- what a log begins with lies in the grains' files
 saved_within : (live : ℕ) (p : Program) (image : Image) (ss : List Saved) → AllByRecursion (IsSaved live p image) ss → AllByRecursion (λ w. write_end w ≤ length (image (Grain live w.grain))) (map (λ (s : Saved). s.write) ss)
@@ -119,7 +126,7 @@ base_within live p image (From ck) whole = saved_within live p image (saved_by c
 
 -- what is read of a log begins with what it begins with
 base_read : (live : ℕ) (image : Image) (log : Log) (is : IsLogIn live image log) → (read_in live image log is).l.base ≡ read_base is.stands.begins
-base_read live image log is = (let r = read_in live image log is in ap (λ (l : LogRead). l.base) (read_is live image log is r.l r.read))
+base_read live image log is = ap (λ (l : LogRead). l.base) (read_is live image log is)
 
 -- ---- the ends
 
@@ -160,31 +167,32 @@ module _ (o : Outset) (x : Opened) (st : Started) (seen : Image) (is : IsOpenedF
     abbrev r : IsReadIn o.live has.is.stands.program image o.opening
     r = read_in o.live image o.opening has.is
 
-    program_is : has.is.stands.program ≡ program_in x
-    program_is = sym (program_in_force o.opening.base o.opening.entries ∙ ap (λ (s : Standing). s.program) has.is.stands.base ∙ program_begins has.is.stands.program has.is.stands.begins)
-        ∙ ap (λ (l : Log). (standing_of l).program) opening ∙ is.program
+    -- the program of the folder is the one with which it was opened: that of the log's base
+    program_is : has.is.stands.program ≡ is.first
+    program_is = sym (base_program o.live image o.opening has.is.bodies has.is.gate has.is.stands)
+        ∙ ap (λ (l : Log). l.base.program) (opening ∙ is.log_is)
 
     file_is : image (Manager o.live) ≡ seen (Manager x.slot)
     file_is = same ∙ ap (λ (n : ℕ). seen (Manager n)) slot
 
     -- reads as the log that was read
     log_is : r.l ≡ is.read
-    log_is = let read : Ok r.l ≡ Ok is.read = sym r.read ∙ (λ i. log_in_file One (shape_in (program_is i)) (file_is i)) ∙ is.read_as in cc
+    log_is = let read : Ok r.l ≡ Ok is.read = sym r.read ∙ (λ i. log_in_file One (program_is i) (file_is i)) ∙ is.read_as in cc
 
     named_below : AllByRecursion (λ n. IsBelow (file_end writer) n.written) (named_in r.l)
     named_below = subst (λ (l : LogRead). AllByRecursion (λ n. IsBelow (file_end writer) n.written) (named_in l)) (sym log_is) all_below
 
     below : AreBelow (file_end writer) (records_of o.opening)
-    below = of_records (IsBelow (file_end writer)) r.l (records_of o.opening) r.records named_below
+    below = of_records (IsBelow (file_end writer)) r.l o.opening.entries r.entries named_below
 
     base_below : AreNamedBy (IsBelow (file_end writer)) has.is.stands.begins
     base_below = of_base (IsBelow (file_end writer)) r.l has.is.stands.begins (base_read o.live image o.opening has.is) named_below
 
     within : AllByRecursion (λ w. write_end w ≤ length (image (Grain o.live w.grain))) places
     within = subst (λ (l : LogRead). AllByRecursion (λ w. write_end w ≤ length (image (Grain o.live w.grain))) (places_read l)) log_is
-        (all_read (λ (w : Written). write_end w ≤ length (image (Grain o.live w.grain))) r.l has.is.stands.begins (records_of o.opening) (base_read o.live image o.opening has.is) r.records
+        (all_read (λ (w : Written). write_end w ≤ length (image (Grain o.live w.grain))) r.l has.is.stands.begins o.opening.entries (base_read o.live image o.opening has.is) r.entries
         (base_within o.live has.is.stands.program image has.is.stands.begins has.is.stands.whole)
-        (kept_within o.live (shape_in has.is.stands.program) image (records_of o.opening) (kept_are o.live has.is.stands.program image o.opening.entries has.is.stands.kept)))
+        (entries_within o.live has.is.stands.program image o.opening.entries has.is.stands.kept))
 
     long : (grain : GrainId) → file_end writer grain ≤ length (image (Grain o.live grain))
     long grain = subst (λ (e : GrainId → ℕ). e grain ≤ length (image (Grain o.live grain))) (sym ends_are) (raised_long o.live image from_zero places (λ g. omega arith) within grain)

@@ -14,6 +14,7 @@ use Rattle.promise_spec.specs.Courses.{Observed}
 use Rattle.promise_spec.specs.Commands.{MakesSilo}
 use Rattle.promise_spec.specs.Loads.{IsUnmade}
 use Rattle.promise_spec.specs.Refusals.{IsRefusedBy, IsUnopened}
+use Rattle.promise_spec.specs.Upgrading.{IsInputRefused}
 use Rattle.promise_spec.specs.Promise.{Promises}
 use Rattle.silo_opening.specs.OpenedSilo.{ending_of}
 use Rattle.silo_opening.specs.Counts.{OpenFaulted}
@@ -59,6 +60,9 @@ starved_unopened m asked w counts = record {
   refused = tt;
   failed = λ channel. refl;
 }
+
+pub starved_upgrade : (m : Manner) (asked : List (List ℕ)) (w : World) (counts : Channel → ℕ) → IsInputRefused (observed_call m asked w w counts counts Status.Memory)
+starved_upgrade m asked w counts = record { untouched = nothing_touched w; syncs = refl; refused = tt; failed = λ channel. refl }
 
 pub starved_promised : (m : Manner) (w : World) (counts : Channel → ℕ) → Promises m (observed_run m w w counts counts Status.Memory)
 starved_promised m w counts = unopened_promised m (observed_run m w w counts counts Status.Memory) refl refl (record {

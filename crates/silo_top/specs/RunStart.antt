@@ -11,7 +11,9 @@ use Rattle.history_core.specs.Cores.{run_of}
 use Rattle.promise_spec.specs.Cores.{memory_limit}
 use Rattle.script_tree.specs.Programs.{program_tree}
 use Rattle.script_check.specs.Shapes.{type_shapes}
-use Rattle.batch_disk.specs.Writers.{file_end, kept_of}
+use Rattle.batch_disk.specs.Writers.{file_end, kept_of, programs_of as writers_programs}
+use Rattle.program_file.specs.Succession.{ArePrograms}
+use Rattle.silo_opening.specs.OpenedSilo.{programs_of}
 use Rattle.silo_opening.specs.declared.opened_silo.Opened.{Opened}
 use Rattle.silo_top.specs.declared.run_start.Started.{Started}
 
@@ -21,7 +23,8 @@ placed_state shape places g = state_or (known_in (placed_in places g)) (initial_
 
 -- The program and the slot are the opened silo's. The core has no events; its units are numbered from the next one on, its grains open
 -- with the states of the versions at their places, and it keeps so many of those used last in memory. The settler goes on at the log's
--- gate, at the ends that the log names and at the places of the grains' last versions, and has written no replies.
+-- gate, at the ends that the log names and at the places of the grains' last versions, knows the log's programs, and has written no
+-- replies.
 pub record IsStartOf (o : Opened) (s : Started) : Type 0 where
   pub checked : s.checked ≡ o.checked
   pub slot : s.slot ≡ o.slot
@@ -36,6 +39,8 @@ pub record IsStartOf (o : Opened) (s : Started) : Type 0 where
   pub gate : s.settler.writer.gate_at ≡ o.gate_at
   pub ends : (g : GrainId) → file_end s.settler.writer g ≡ unwrap_or (end_in o.ends g) 0
   pub places : s.settler.writer.places ≡ o.places
+  pub programs : writers_programs s.settler.writer ≡ programs_of o
+  pub in_turn : ArePrograms (writers_programs s.settler.writer)
   pub kept : kept_of s.settler.writer ≡ []
   pub sealing : s.settler.writer.in_doubt ≡ false
   pub written : s.settler.written ≡ 0

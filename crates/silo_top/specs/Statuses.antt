@@ -4,7 +4,7 @@ use Rattle.host_trait.specs.Files.{name_of}
 use Rattle.program_file.specs.Answers.{program_fault_place}
 use Rattle.promise_spec.specs.Endings as ending
 use Rattle.silo_top.specs.declared.status.Status.{Status}
-use Rattle.silo_top.specs.declared.status.Status.TheVariants.{Done, BadUse, Memory, ReadFault, WriteFault, DiskFault, NotASilo, AlreadyASilo, Damaged, BadProgram, InputTooLong, LastGeneration}
+use Rattle.silo_top.specs.declared.status.Status.TheVariants.{Done, BadUse, Memory, ReadFault, WriteFault, DiskFault, NotASilo, AlreadyASilo, Damaged, BadProgram, InputTooLong, LastGeneration, UpgradeRefused}
 
 -- the number that the program ends with
 abbrev pub status_number : Status → ℕ
@@ -20,6 +20,7 @@ status_number (Damaged file place) = 9
 status_number (BadProgram fault) = 10
 status_number (InputTooLong line) = 11
 status_number LastGeneration = 12
+status_number (UpgradeRefused at) = 13
 
 -- the words that it says
 abbrev pub status_text : Status → List ℕ
@@ -35,6 +36,7 @@ status_text (Damaged file place) = codes "damaged " ++ (name_of file ++ (codes "
 status_text (BadProgram fault) = codes "bad program at " ++ decimal (unwrap_or (program_fault_place fault) 0)
 status_text (InputTooLong line) = codes "input too long"
 status_text LastGeneration = codes "last generation"
+status_text (UpgradeRefused at) = codes "upgrade refused at " ++ decimal at
 
 -- the ending that a status is
 abbrev pub status_ending : Status → ending.Ending
@@ -50,3 +52,4 @@ status_ending (Damaged file place) = ending.Damaged file place
 status_ending (BadProgram fault) = ending.BadProgram fault
 status_ending (InputTooLong line) = ending.InputTooLong line
 status_ending LastGeneration = ending.LastGeneration
+status_ending (UpgradeRefused at) = ending.UpgradeRefused at

@@ -44,6 +44,8 @@ pub(crate) enum Asked {
     },
     /// To write the next generation of the silo.
     Compact,
+    /// To bring a program into force in the silo.
+    Upgrade,
 }
 
 /// The picks of an option, none where it isn't given.
@@ -121,5 +123,6 @@ pub(crate) fn read_asked(alloc: Global, words: &[String]) -> Result<Asked, Words
             seed: numbers.seed,
         }),
         Words::Compact => Ok(Asked::Compact),
+        Words::Upgrade => Ok(Asked::Upgrade),
     }
 }

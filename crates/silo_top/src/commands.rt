@@ -16,6 +16,7 @@ use crate::load_command::{load_by_workers, load_in_turns};
 use crate::report_commands::{audit, history, show};
 use crate::run_command::{run_by_workers, run_in_turns};
 use crate::status::Status;
+use crate::upgrade_command::upgrade;
 use command_words::WordsFault;
 use host_trait::Host;
 use settle_loop::Gate;
@@ -115,6 +116,7 @@ pub fn run_alone<H: Host, G: Gate>(
         }),
         Ok(Asked::Check { starts, seed }) => Ok(check(alloc, host, starts, seed)),
         Ok(Asked::Compact) => Ok(compact(alloc, host)),
+        Ok(Asked::Upgrade) => Ok(upgrade(alloc, host)),
         Err(WordsFault::BadUse) => Ok(Status::BadUse),
         Err(WordsFault::Memory) => Ok(Status::Memory),
     }
@@ -123,7 +125,7 @@ pub fn run_alone<H: Host, G: Gate>(
 /// Does all that the program does, and answers how it ended.
 ///
 /// `words` are those of the command line after the folder: `init`, `run` with a width and picks or with workers, `show`,
-/// `history`, `audit`, `load` with two numbers and a width or workers, `check` with two numbers, or `compact`. All else is `BadUse`,
+/// `history`, `audit`, `load` with two numbers and a width or workers, `check` with two numbers, `compact`, or `upgrade`. All else is `BadUse`,
 /// and nothing is done then.
 ///
 /// `init` reads a program's text from the input, and makes the folder a silo of it with an empty log.
@@ -138,6 +140,9 @@ pub fn run_alone<H: Host, G: Gate>(
 ///
 /// `check` runs two-phase commit between silos over a link that loses, repeats and reorders, with transactions that it draws from a
 /// seed, and prints one summary line. It doesn't use the folder.
+///
+/// `compact` writes the silo's next generation into its other slot. `upgrade` reads a program's text from the input, and brings it into
+/// force in the silo as the last entry of its log.
 ///
 /// What each of them promises, at each moment and at its end, is `Serves`, over a host that tells what it holds. Over any host
 /// a fault is answered only where a call on its channel failed, and no failed call on the input or the output is passed over

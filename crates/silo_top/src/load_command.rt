@@ -139,6 +139,7 @@ fn begin_load<H: Host>(
             generation: opened.generation,
             text: opened.text,
             checked: bank,
+            programs: opened.programs,
             count: opened.count,
             places: opened.places,
             ends: opened.ends,

@@ -1,7 +1,9 @@
-ghost use Rattle.std.specs.Prelude.{◌≡◌, ◌^◌, ◌<◌, ◌≤◌, [], Some, IfOk};
-ghost use Rattle.log_reading.specs.Sums.{AreNear};
+ghost use Rattle.std.specs.Prelude.{◌≡◌, ◌^◌, ◌<◌, ◌≤◌, [], length, Some, IfOk};
+ghost use Rattle.log_reading.specs.Sums.{AreNear, AreOfPrograms};
 ghost use Rattle.promise_spec.specs.Cores.{memory_limit};
 ghost use Rattle.batch_disk.specs.Writers.{IsInBounds};
+ghost use Rattle.program_file.specs.Succession.{ArePrograms};
+ghost use Rattle.silo_opening.specs.OpenedSilo.{programs_of};
 ghost use Rattle.silo_top.specs.RunStart.{IsStartOf};
 
 use activations::Recent;
@@ -45,6 +47,8 @@ pub(crate) fn start(alloc: Global, opened: Opened, quiet: bool) -> Result<Starte
     requires above { 0 < opened.next_unit.0 }
     requires few { opened.next_unit.0 ≤ 2 ^ 63 }
     requires near { AreNear opened.ends }
+    requires programs { ArePrograms (programs_of opened) }
+    requires numbered { AreOfPrograms (length opened.programs) opened.places }
     ensures start { IfOk result (λ started. IsStartOf opened started) }
     ensures quiet { IfOk result (λ started. started.settler.quiet ≡ quiet) }
     ensures bounds { IfOk result (λ started. IsInBounds started.settler.writer) }
@@ -68,6 +72,7 @@ pub(crate) fn start(alloc: Global, opened: Opened, quiet: bool) -> Result<Starte
         opened.ends,
         quiet,
         opened.places,
+        opened.programs,
     )?;
     Ok(Started {
         slot: opened.slot,

@@ -33,6 +33,9 @@ pub enum Status {
     InputTooLong { line: u32 },
     /// No generation follows that of the silo, so that it isn't compacted.
     LastGeneration,
+    /// The types of the program that is the input don't begin with the names of those in force: `at` is the place in its text of the
+    /// first name that differs, or the text's length where types are missing.
+    UpgradeRefused { at: u32 },
 }
 
 impl Status {
@@ -53,6 +56,7 @@ impl Status {
             Status::BadProgram { .. } => 10,
             Status::InputTooLong { .. } => 11,
             Status::LastGeneration => 12,
+            Status::UpgradeRefused { .. } => 13,
         }
     }
 
@@ -80,6 +84,7 @@ impl Status {
             Status::BadProgram { fault } => bad_program_text(alloc, *fault),
             Status::InputTooLong { .. } => String::from_str(alloc, "input too long"),
             Status::LastGeneration => String::from_str(alloc, "last generation"),
+            Status::UpgradeRefused { at } => upgrade_refused_text(alloc, *at),
         }
     }
 }
@@ -103,4 +108,10 @@ fn bad_program_text(alloc: Global, fault: ProgramFault) -> Result<String, AllocE
 {
     let place = fault.place().unwrap_or(0);
     format!(in alloc; "bad program at {place}")
+}
+
+fn upgrade_refused_text(alloc: Global, at: u32) -> Result<String, AllocError>
+    ensures { IfOk result (λ text. string_bytes text ≡ status_text (Status.UpgradeRefused at)) }
+{
+    format!(in alloc; "upgrade refused at {at}")
 }

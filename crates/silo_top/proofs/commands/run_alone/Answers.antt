@@ -1,5 +1,5 @@
 use Rattle.std.proofs.Common.{◌≡◌, ◌∙◌, inr, ℕ, List, Result, Err, false, refl, ap, subst}
-use Rattle.promise_spec.specs.Words.{Command, Init, Run, Show, History, Audit, Load, Check, Compact}
+use Rattle.promise_spec.specs.Words.{Command, Init, Run, Show, History, Audit, Load, Check, Compact, Upgrade}
 use Rattle.promise_spec.specs.Calls.{any_option, Understands}
 use Rattle.promise_spec.specs.Endings.{MayEndRun, MayEndLoad}
 use Rattle.promise_spec.proofs.Words.{one_command}
@@ -147,3 +147,13 @@ returns-in-Ok-Compact-clause-answers g c = exact_answers (texts_of c.args.words.
 
 pub returns-in-Ok-Compact-clause-alone : goal.returns-in-Ok-Compact-clause-alone
 returns-in-Ok-Compact-clause-alone g c = inr (without (texts_of c.args.words.now) Compact (understood (texts_of c.args.words.now) c.in-Ok-Compact.field-0 Asked.Compact c.in-Ok-Compact.field-0-is c.in-Ok-Compact.ensures.asked) refl)
+
+pub returns-in-Ok-Upgrade-clause-serves : goal.returns-in-Ok-Upgrade-clause-serves
+returns-in-Ok-Upgrade-clause-serves g c = λ told. obeyed_serves (texts_of c.args.words.now) Upgrade (understood (texts_of c.args.words.now) c.in-Ok-Upgrade.field-0 Asked.Upgrade c.in-Ok-Upgrade.field-0-is c.in-Ok-Upgrade.ensures.asked)
+    (shown (g.H.Host.world c.args.host.now) (g.H.Host.world c.upgrade.new.host) (g.H.Host.faults c.args.host.now) (g.H.Host.faults c.upgrade.new.host) c.upgrade.result) (c.upgrade.ensures.upgrades told)
+
+pub returns-in-Ok-Upgrade-clause-answers : goal.returns-in-Ok-Upgrade-clause-answers
+returns-in-Ok-Upgrade-clause-answers g c = exact_answers (texts_of c.args.words.now) Upgrade (understood (texts_of c.args.words.now) c.in-Ok-Upgrade.field-0 Asked.Upgrade c.in-Ok-Upgrade.field-0-is c.in-Ok-Upgrade.ensures.asked) (g.H.Host.faults c.args.host.now) (g.H.Host.faults c.upgrade.new.host) (status_ending c.upgrade.result) (λ q. c.upgrade.ensures.good q) c.upgrade.ensures.exact
+
+pub returns-in-Ok-Upgrade-clause-alone : goal.returns-in-Ok-Upgrade-clause-alone
+returns-in-Ok-Upgrade-clause-alone g c = inr (without (texts_of c.args.words.now) Upgrade (understood (texts_of c.args.words.now) c.in-Ok-Upgrade.field-0 Asked.Upgrade c.in-Ok-Upgrade.field-0-is c.in-Ok-Upgrade.ensures.asked) refl)

@@ -1,0 +1,4 @@
+pub mod SealedTexts
+pub mod SealedImages
+pub mod UpgradeEnds
+pub mod UpgradedFolders
