@@ -6,14 +6,14 @@ ghost use Rattle.host_trait.specs.Faults.{Rose};
 ghost use Rattle.host_trait.specs.declared.channels.FileId.{FileId};
 ghost use Rattle.host_files.specs.Table.{faults_in, is_lost, is_known, had_bytes_in, AreAlwaysKnown, SameFiles, SameHadBytes, StayLost};
 
+use ascending_map::AscendingMap;
 use host_trait::{Channel, Failed, FileId};
 use std::alloc::{AllocError, Global};
-use std::collections::BTreeMap;
 use system_calls::Refused;
 
 /// What is kept of a file that is ready: how often calls on it have failed, up to the last value of a `u64`, whether a sync of it
 /// has, and whether it was seen to have bytes.
-#[derive(Drop)]
+#[derive(Clone, Copy)]
 pub struct Known {
     pub faults: u64,
     pub is_lost: bool,
@@ -30,14 +30,14 @@ pub struct Asked<'a> {
 }
 
 // Gives a file an entry, unless it has one. Without memory none is given.
-fn enter(files: &mut BTreeMap<FileId, Known>, file: FileId) -> Result<(), AllocError>
+fn enter(files: &mut AscendingMap<FileId, Known>, file: FileId) -> Result<(), AllocError>
     ensures known { OnOk result (IsTrue (is_known files.new file)) }
     ensures stays { StaysReady (is_known files.old) (is_known files.new) }
     ensures faults { (other : FileId) → faults_in files.new other ≡ faults_in files.old other }
     ensures lost { (other : FileId) → is_lost files.new other ≡ is_lost files.old other }
     ensures bytes { SameHadBytes files.old files.new }
 {
-    if files.contains_key(&file) {
+    if files.get(file).is_some() {
         return Ok(());
     }
     files.insert(
@@ -60,7 +60,7 @@ fn one_more(count: u64) -> u64
 }
 
 // Counts a fault of a file.
-fn raise(files: &mut BTreeMap<FileId, Known>, file: FileId)
+fn raise(files: &mut AscendingMap<FileId, Known>, file: FileId)
     requires { IsTrue (is_known files.old file) }
     ensures rose { Rose (faults_in files.old file) (faults_in files.new file) }
     ensures later { faults_in files.old file ≤ faults_in files.new file }
@@ -69,13 +69,14 @@ fn raise(files: &mut BTreeMap<FileId, Known>, file: FileId)
     ensures bytes { SameHadBytes files.old files.new }
     ensures files { SameFiles files.old files.new }
 {
-    if let Some(known) = files.get_mut(&file) {
-        known.faults = one_more(known.faults);
+    if let Some(known) = files.get(file).copied() {
+        let faults = one_more(known.faults);
+        files.replace(file, Known { faults, ..known });
     }
 }
 
 // Notes that a sync of a file has failed.
-fn lose(files: &mut BTreeMap<FileId, Known>, file: FileId)
+fn lose(files: &mut AscendingMap<FileId, Known>, file: FileId)
     requires { IsTrue (is_known files.old file) }
     ensures lost { IsTrue (is_lost files.new file) }
     ensures others { (other : FileId) → other ≢ file → is_lost files.new other ≡ is_lost files.old other }
@@ -84,13 +85,19 @@ fn lose(files: &mut BTreeMap<FileId, Known>, file: FileId)
     ensures faults { (other : FileId) → faults_in files.new other ≡ faults_in files.old other }
     ensures files { SameFiles files.old files.new }
 {
-    if let Some(known) = files.get_mut(&file) {
-        known.is_lost = true;
+    if let Some(known) = files.get(file).copied() {
+        files.replace(
+            file,
+            Known {
+                is_lost: true,
+                ..known
+            },
+        );
     }
 }
 
 // Notes that a file has bytes, so that it is there for good.
-fn note_bytes(files: &mut BTreeMap<FileId, Known>, file: FileId)
+fn note_bytes(files: &mut AscendingMap<FileId, Known>, file: FileId)
     requires { IsTrue (is_known files.old file) }
     ensures noted { IsTrue (had_bytes_in files.new file) }
     ensures others { (other : FileId) → other ≢ file → had_bytes_in files.new other ≡ had_bytes_in files.old other }
@@ -98,18 +105,24 @@ fn note_bytes(files: &mut BTreeMap<FileId, Known>, file: FileId)
     ensures lost { (other : FileId) → is_lost files.new other ≡ is_lost files.old other }
     ensures files { SameFiles files.old files.new }
 {
-    if let Some(known) = files.get_mut(&file) {
-        known.had_bytes = true;
+    if let Some(known) = files.get(file).copied() {
+        files.replace(
+            file,
+            Known {
+                had_bytes: true,
+                ..known
+            },
+        );
     }
 }
 
 // The program and manager files of both slots.
-fn first_files(alloc: Global) -> Result<BTreeMap<FileId, Known>, AllocError>
+fn first_files(alloc: Global) -> Result<AscendingMap<FileId, Known>, AllocError>
     ensures always { IfOk result AreAlwaysKnown }
     ensures faults { IfOk result (λ files. (file : FileId) → faults_in files file ≡ 0) }
     ensures bytes { IfOk result (λ files. (file : FileId) → had_bytes_in files file ≡ false) }
 {
-    let mut files = BTreeMap::new(alloc);
+    let mut files = AscendingMap::new(alloc);
     enter(&mut files, FileId::Program { slot: 0 })?;
     enter(&mut files, FileId::Program { slot: 1 })?;
     enter(&mut files, FileId::Manager { slot: 0 })?;
@@ -123,7 +136,7 @@ fn first_files(alloc: Global) -> Result<BTreeMap<FileId, Known>, AllocError>
 pub struct Table {
     input_faults: u64,
     output_faults: u64,
-    files: BTreeMap<FileId, Known>,
+    files: AscendingMap<FileId, Known>,
     ghost always: { AreAlwaysKnown files },
 }
 
@@ -153,7 +166,7 @@ impl Table {
     fn is_lost(&self, file: FileId) -> bool
         ensures { result ≡ is_lost self.now.files file }
     {
-        match self.files.get(&file) {
+        match self.files.get(file) {
             Some(known) => known.is_lost,
             None => false,
         }
@@ -163,7 +176,7 @@ impl Table {
     fn had_bytes(&self, file: FileId) -> bool
         ensures { result ≡ had_bytes_in self.now.files file }
     {
-        match self.files.get(&file) {
+        match self.files.get(file) {
             Some(known) => known.had_bytes,
             None => false,
         }
@@ -191,7 +204,7 @@ impl Table {
         match channel {
             Channel::Input => self.input_faults,
             Channel::Output => self.output_faults,
-            Channel::File(file) => match self.files.get(&file) {
+            Channel::File(file) => match self.files.get(file) {
                 Some(known) => known.faults,
                 None => 0,
             },
