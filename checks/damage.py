@@ -38,6 +38,11 @@ type probe {
 """
 BATCHES = [[("account/1.deposit", [5]), ("account/2.rename", ["née \u0007\"x"]), ("probe/1.split", [1, 7])],
            [("probe/3.outer", []), ("account/300.rename", ["a longer note"]), ("account/1.deposit", [-9])]]
+# A field more, it dropped, and it again beside a type more.
+UPGRADES = [TEXTS.replace('field note = "";', 'field note = ""; field limit = -7;'), TEXTS,
+            TEXTS.replace("field balance = 0;", "field limit = 9; field balance = 3;") + "type more { field one = 1; }\n"]
+# A program of few bytes, each of which is changed.
+SMALL = "type account { field balance = 0; method deposit(n) createorjoin update { set balance = balance + n; return balance; } }"
 BYTES = (0, 1, 2, 3, 7, 127, 128, 255)
 SEEDED = 2000
 
@@ -125,7 +130,7 @@ def judged(place, files):
     try:
         damage = program_fault(place, files)
         if damage is None:
-            return read.found_in(place.folder)
+            return read.found_in(place.folder, place.fault_of)
     except read.Damaged as found:
         damage = str(found)
     name, at = damage.split(" is damaged at ")
@@ -133,6 +138,8 @@ def judged(place, files):
 
 
 def history_line(record):
+    if "upgrade" in record:
+        return compact_json(record)
     begun = {"n": record["line"]} if "line" in record else {"parent": record["parent"]}
     result = record["result"]
     ended = {"fault": result["fault"]} if isinstance(result, dict) else {"reply": result}
@@ -152,7 +159,7 @@ def wanted_output(command, found, count):
 
 
 def records_before(files):
-    """How many records a checkpoint stands for."""
+    """How many records and upgrades a checkpoint stands for."""
     held = files[f"manager-{live_slot(files)}.otx"]
     return int.from_bytes(held[21:29], "little") if held[13] == 1 else 0
 
@@ -183,7 +190,7 @@ def looked_at(place, files):
             wrong.append("a file was changed")
     elif not wrong:
         again = place.carry(place.folder, "show")
-        if again[:3] != (0, wanted_output("show", wanted, count), b"") or read.found_in(place.folder)[1:] != wanted[1:]:
+        if again[:3] != (0, wanted_output("show", wanted, count), b"") or read.found_in(place.folder, place.fault_of)[1:] != wanted[1:]:
             wrong.append(f"behind compact: {again}, not {wanted}")
     return wrong, "none" if live_slot(files) is None else wanted.number if isinstance(wanted, Refusal) else 0
 
@@ -304,6 +311,14 @@ def cases(folder):
     run(folder, "run", given=batches[0])
     yield "compacted", files_in(folder)
     yield from mutations(2, "compacted", files_in(folder), SEEDED // 4)
+    for text in UPGRADES:
+        assert run(folder, "upgrade", given=text.encode()).number == 0
+        run(folder, "run", given=batches[0])
+    yield "upgraded", files_in(folder)
+    yield from mutations(3, "upgraded", files_in(folder), SEEDED // 2)
+    small = silo_of(SMALL, [deposit(5)])
+    assert run(small, "upgrade", given=SMALL.replace("0;", '0; field note = "new";').encode()).number == 0
+    yield from each_change(files_in(small), ["manager-0.otx"])
 
 
 def main():

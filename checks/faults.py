@@ -146,6 +146,32 @@ class Compact(Case):
         return wrong
 
 
+class Upgrade(Case):
+    """`upgrade`, which leaves the log as it was or with the upgrade, and goes on."""
+
+    def untold(self, ended, failed):
+        # Once all is written it does without memory.
+        return [] if failed == {shim.NO_FILE} else super().untold(ended, failed)
+
+    def wrong(self, folder, ended, failed):
+        wrong = kept.wrong_number(ended, failed)
+        if ended.output:
+            wrong.append(f"it printed {ended.output}")
+        told, shown, audit = kept.history(folder)[0], run(folder, "show"), run(folder, "audit")
+        more = told[len(BEFORE):]
+        if told[:len(BEFORE)] != BEFORE or more not in ([], [b'{"upgrade":%d}' % len(self.given)]) or (ended.number == 0 and not more):
+            wrong.append(f"with {ended.number} it left {told}")
+        if b'"first_bad":null' not in audit.output or (b'"limit"' in shown.output) != bool(more):
+            wrong.append(f"behind it an audit and a show ended so: {audit}, {shown}")
+        # What ended before the block was written left nothing.
+        if more and ended.number in (3, 4):
+            wrong.append(f"with {ended.number} it left the upgrade")
+        used = run(folder, "run", given=kept.line("account/0.deposit", 5))
+        if used.number != 0 or b'"reply"' not in used.output:
+            wrong.append(f"a run behind it ended so: {used}")
+        return wrong
+
+
 class Making(Case):
     """`init`: it makes a silo or leaves none, and a second one makes it."""
 
@@ -256,6 +282,7 @@ with tempfile.TemporaryDirectory(dir=MEMORY) as room:
         Load(room, library, "load", empty, ["load", "4", "7", "--width", "8"]),
         Compact(room, library, "compact", template, ["compact"]),
         Compact(room, library, "compact once more", twice, ["compact"]),
+        Upgrade(room, library, "upgrade", template, ["upgrade"], kept.PROGRAM_TEXT.replace(b"field balance = 0;", b"field balance = 0; field limit = 7;")),
         *(Report(room, library, command, template, [command]) for command in REPORTS),
     ]
     stride = 1 if "--all" in sys.argv[1:] else STRIDE

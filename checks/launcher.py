@@ -242,6 +242,7 @@ with tempfile.TemporaryDirectory() as room:
         "6": 'silo: hint: ./tools/why bank says what may be in the way; where lines were carried, docs/OPERATIONS.md, "After a failed sync", comes first\n',
         "7": "silo: hint: ./tools/why bank says what is missing\n",
         "10": f"silo: hint: ./tools/explain {room}/p.grain shows the line\n",
+        "13": 'silo: hint: docs/LANGUAGE.md, "What another program of a silo may change", says what is taken\n',
     }
     found = on_terminal(room, "a b", "run", NUMBER="7")
     rows.row("a folder with a blank", found, (7, "silo: text\nsilo: hint: ./tools/why a\\ b says what is missing\n"))

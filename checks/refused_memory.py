@@ -16,6 +16,7 @@ from harness import FIRST_PROGRAM, Ended, Rows, ask, deposit, run
 MEMORY = "/dev/shm" if os.path.isdir("/dev/shm") else None
 READING = FIRST_PROGRAM[:-1] + "method read() createorjoin read { return balance; } }"
 OUTER = b'{"args":[],"call":"probe/3.outer"}\n'
+UPGRADED = TEXTS.replace('field note = "";', 'field note = ""; field limit = 7;').encode()
 
 # What each case is, its program, the runs before it, its words and its input.
 CASES = [
@@ -25,6 +26,7 @@ CASES = [
     ("two of them by two workers", TEXTS, [], ["run", "--workers", "2"], OUTER + deposit(5)),
     ("compact", TEXTS, [deposit(5) + OUTER, deposit(6)], ["compact"], b""),
     ("compact once more", TEXTS, [deposit(5) + OUTER, None, deposit(6)], ["compact"], b""),
+    ("upgrade", TEXTS, [deposit(5) + OUTER], ["upgrade"], UPGRADED),
 ]
 WAYS = {"once": {}, "from there on": {"on": 1}}
 
@@ -90,8 +92,11 @@ class Case:
         count = self.count(folder)
         if count is None or count < self.records + sum(b'"reply"' in line for line in told):
             wrong.append(f"{count} records behind {ended}")
-        if not self.given and run(folder, "show") != self.shown:
+        # An upgrade that isn't done for want of memory wrote nothing.
+        if (not self.given or self.words == ["upgrade"] and ended.number == 3) and run(folder, "show") != self.shown:
             wrong.append(f"it shows something else behind {ended}")
+        if self.words == ["upgrade"] and ended.number == 0 and count != self.records + 1:
+            wrong.append(f"{count} entries behind an upgrade that is done")
         shutil.rmtree(folder)
         return f"{self.name}, refused {way} at {at}", wrong, ended.number
 

@@ -36,7 +36,7 @@ with tempfile.TemporaryDirectory() as room:
 
     # 2: bad use. The folder isn't touched.
     unused = folder("unused")
-    for words in ([], [unused], [unused, "runs"], [unused, "run", "run"], [unused, "init", "x"], [unused, "run", "--width", "0"], [unused, "run", "--width"], [unused, "run", "--turns", "1,"], [unused, "run", "--workers", "0"], [unused, "show", "x"], [unused, "load", "0", "7"], [unused, "--help"], [unused, b"\xff"]):
+    for words in ([], [unused], [unused, "runs"], [unused, "run", "run"], [unused, "init", "x"], [unused, "run", "--width", "0"], [unused, "run", "--width"], [unused, "run", "--turns", "1,"], [unused, "run", "--workers", "0"], [unused, "show", "x"], [unused, "upgrade", "x"], [unused, "load", "0", "7"], [unused, "--help"], [unused, b"\xff"]):
         rows.row(f"words {words[1:]}", run(*words, given=deposit(5)), says(2, b"bad use"))
     rows.row("an unused folder", os.listdir(unused), [])
 
@@ -119,5 +119,12 @@ with tempfile.TemporaryDirectory() as room:
     rows.row("compact of the last generation", run(last, "compact"), says(12, b"last generation"))
     rows.row("last generation: its files", sorted(os.listdir(last)), before)
     rows.row("last generation: afterwards", after(last), silent(0, reply(1, 5, 2)))
+
+    # 13: the program may not follow. Nothing was changed.
+    before = sorted(os.listdir(shop))
+    rows.row("upgrade to another program", run(shop, "upgrade", given=b"type shop { }"), says(13, b"upgrade refused at 5"))
+    rows.row("upgrade to no types", run(shop, "upgrade"), says(13, b"upgrade refused at 0"))
+    rows.row("upgrade refused: its files", sorted(os.listdir(shop)), before)
+    rows.row("upgrade refused: afterwards", after(shop), silent(0, reply(1, 7, 5)))
 
 rows.end()

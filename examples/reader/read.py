@@ -1,10 +1,11 @@
 #!/usr/bin/env python3
 """Reads a silo's folder, by docs/FORMATS.md alone:  examples/reader/read.py FOLDER
 
-Prints each record of the log, then the state of each grain that one or its checkpoint names, then the next unit's number. Or it says that the
-folder is no silo, or which file is damaged and where. Of the program it takes the types, fields and methods, and checks no more.
+Prints each record and each upgrade of the log, then the state of each grain that a record or the checkpoint names, then the next unit's
+number. Or it says that the folder is no silo, or which file is damaged and where. Of a program it takes the types, fields and methods, and
+checks no more.
 """
-import json, re, struct, sys
+import collections, json, re, struct, sys
 
 class Damaged(Exception):
     pass
@@ -47,19 +48,42 @@ class Bytes:
     def ended(self):
         self.need(self.at == self.end, self.at)
 
+# Where a program's text is none: never, for this reader. A caller may know better.
+def no_fault(_text):
+    return None
+
+Type = collections.namedtuple("Type", "name at fields methods")
+
+def literal(tokens):
+    """The value that a field begins with."""
+    if tokens[0].startswith('"'):
+        return tokens[0][1:-1].encode("latin-1").decode(errors="replace")
+    return -int(tokens[1]) if tokens[0] == "-" else int(tokens[0])
+
 def types_of(text):
-    """Each type's name, the names of its fields, and the names and counts of parameters of its methods."""
-    tokens = [token for token in re.findall(r'#[^\n]*|("[^"]*"|\w+|[^\s\w])', text) if token]
+    """Each type's name and where it stands, its fields with the values that they begin with, and the names and counts of parameters of its
+    methods."""
+    found = [one for one in re.finditer(r'#[^\n]*|("[^"]*"|\w+|[^\s\w])', text.decode("latin-1")) if one[1]]
+    tokens = [one[1] for one in found]
     types, depth = [], 0
     for at, token in enumerate(tokens):
         depth += (token == "{") - (token == "}")
         if depth == 0 and token == "type":
-            types.append((tokens[at + 1], [], []))
+            types.append(Type(tokens[at + 1], found[at + 1].start(), {}, []))
         elif depth == 1 and token == "field":
-            types[-1][1].append(tokens[at + 1])
+            types[-1].fields[tokens[at + 1]] = literal(tokens[at + 3 : at + 5])
         elif depth == 1 and token == "method":
-            types[-1][2].append((tokens[at + 1], (tokens.index(")", at) - at - 2) // 2))
+            types[-1].methods.append((tokens[at + 1], (tokens.index(")", at) - at - 2) // 2))
     return types
+
+def refused_at(old, new, end):
+    """Where the new types don't begin with the old ones' names: at the first that differs, or at the text's end where some are missing."""
+    for at, kind in enumerate(old):
+        if at == len(new):
+            return end
+        if new[at].name != kind.name:
+            return new[at].at
+    return None
 
 def record_of(body, types):
     unit = body.number("Q", lambda unit: 0 < unit < 2**63)
@@ -68,7 +92,7 @@ def record_of(body, types):
     else:
         origin = {"line": body.number("I")}
     kind, key = body.number("H", lambda kind: kind < len(types)), body.number("I")
-    name, _, methods = types[kind]
+    name, methods = types[kind].name, types[kind].methods
     method, parameters = methods[body.number("H", lambda method: method < len(methods))]
     arguments = [body.value() for _ in range(body.number("H", lambda count: count == parameters))]
     answers = [body.answer() for _ in range(body.number("H", lambda count: count <= 64))]
@@ -108,11 +132,38 @@ def checkpoint_of(bodies, types):
         body.ended()
     return *head, writes
 
-def records_of(bodies, types):
+UPGRADE = 2**32 - 1
+
+def upgrade_of(body, types, fault_of):
+    """The text of an upgrade's body behind its mark, and the program's types. A text that is none comes first, then one whose types don't
+    go on, then what stands behind it."""
+    size = body.number("I", lambda size: size <= 262144)
+    at, text = body.at, body.take(size)
+    fault = fault_of(text)
+    body.need(fault is None, at + (fault or 0))
+    new = types_of(text)
+    other = refused_at(types, new, size)
+    body.need(other is None, at + (other or 0))
+    return text, new
+
+def entries_of(bodies, programs, fault_of):
+    """Each record, and each upgrade: its program comes to the others then."""
     for is_block, body in bodies:
         if is_block:
-            yield from [record_of(body, types) for _ in range(body.number("I", lambda count: count <= 64))]
+            count = body.number("I", lambda count: count <= 64 or count == UPGRADE)
+            if count == UPGRADE:
+                text, new = upgrade_of(body, programs[-1], fault_of)
+                yield None, {"upgrade": len(text)}, []
+                programs.append(new)
+            else:
+                yield from [record_of(body, programs[-1]) for _ in range(count)]
             body.ended()
+
+def carried(state, kind, programs):
+    """A state, carried to each of these programs in turn: a field of the same name keeps its value, any other begins anew."""
+    for types in programs:
+        state = {field: state.get(field, first) for field, first in types[kind].fields.items()}
+    return state
 
 def state_of(name, held, offset, length, unit, fields):
     version = Bytes(name, held, offset, offset + length)
@@ -123,8 +174,9 @@ def state_of(name, held, offset, length, unit, fields):
     version.ended()
     return state
 
-def found_in(folder):
-    """The records, the state of each grain, and the next unit's number. None where the folder is no silo; the first damage is raised."""
+def found_in(folder, fault_of=no_fault):
+    """The records and upgrades, the state of each grain, and the next unit's number. None where the folder is no silo; the first damage is
+    raised. Where a text is no program, `fault_of` says."""
 
     def file(name):
         try:
@@ -141,31 +193,32 @@ def found_in(folder):
     program.need(len(held) >= 4, len(held))
     size = program.number("I", lambda size: size <= 262144)
     program.need(size <= len(held) - 4, len(held))
-    types = types_of(program.take(size).decode(errors="replace"))
+    programs = [types_of(program.take(size))]
     header = Bytes(f"manager-{live}.otx", manager, 13, 15)
     begins = header.number("B", lambda byte: byte < 2)
     header.number("B", lambda byte: byte == 0)
     bodies = bodies_of(f"manager-{live}.otx", manager)
-    _count, following, writes = checkpoint_of(bodies, types) if begins else (0, 1, [])
-    records, named = [], [(grain, offset, length, None) for grain, offset, length in writes]
-    for unit, told, writes in records_of(bodies, types):
-        records.append(told)
-        named += [(grain, offset, length, unit) for grain, offset, length in writes]
-        following = max(following, unit + 1)
+    _count, following, writes = checkpoint_of(bodies, programs[0]) if begins else (0, 1, [])
+    entries, named = [], [(grain, offset, length, None, 0) for grain, offset, length in writes]
+    for unit, told, writes in entries_of(bodies, programs, fault_of):
+        entries.append(told)
+        named += [(grain, offset, length, unit, len(programs) - 1) for grain, offset, length in writes]
+        following = max(following, unit + 1) if unit else following
     files, states = {}, {}
-    for (kind, key), offset, length, unit in sorted(named, key=lambda one: one[0]):
+    for (kind, key), offset, length, unit, number in sorted(named, key=lambda one: one[0]):
         name = f"grain-{live}-{kind}-{key}.otx"
         if name not in files:
             files = {name: file(name)}
-        states[f"{types[kind][0]}/{key}"] = state_of(name, files[name], offset, length, unit, types[kind][1])
-    return records, states, following
+        state = state_of(name, files[name], offset, length, unit, programs[number][kind].fields)
+        states[f"{programs[-1][kind].name}/{key}"] = carried(state, kind, programs[number + 1 :])
+    return entries, states, following
 
 def read(folder):
     found = found_in(folder)
     if found is None:
         return print("no silo")
-    records, states, following = found
-    for told in records:
+    entries, states, following = found
+    for told in entries:
         print(json.dumps(told))
     for grain, state in states.items():
         print(json.dumps({"grain": grain, "state": state}))

@@ -20,7 +20,7 @@ _silo() {
   fi
   if [ "$COMP_CWORD" -eq 2 ]; then
     found="init load"
-    [ ! -e "$folder/manager-0.otx" ] || found="run show history audit compact"
+    [ ! -e "$folder/manager-0.otx" ] || found="run show history audit compact upgrade"
     mapfile -t COMPREPLY < <(compgen -W "$found" -- "$word")
     return
   fi

@@ -33,6 +33,8 @@ __all__ = "Silo Sent SiloError Fault Bad Aborted InDoubt Unanswered Ended record
 LINE_LIMIT = 65_536  # the most bytes of a request line
 INPUT_LIMIT = 16_777_216  # the most bytes that one run is given here: what a run takes of memory grows with its lines
 
+UPGRADE = 2**32 - 1  # what stands in an upgrade where a batch has its count
+
 DISK = 6
 # With these numbers nothing was carried.
 NOT_CARRIED = (2, 4, 7, 8, 9, 10, 11)
@@ -124,31 +126,51 @@ def find_program():
     return found[0] if found else "silo"
 
 
-def batches(folder):
-    """The number of records of each batch in a folder's log, or None where it is none or can't be read. Of each batch it reads nine
-    bytes: the gate before its block, the block's length and its count."""
-    try:
-        file = os.open(os.path.join(folder, "manager-0.otx"), os.O_RDONLY)
-    except OSError:
-        return None
-    try:
+def live_log(folder):
+    """The manager file of the live slot, opened, and its first 16 bytes, or None where the folder is no silo or can't be read."""
+    slots = []
+    for slot in (0, 1):
+        try:
+            file = os.open(os.path.join(folder, f"manager-{slot}.otx"), os.O_RDONLY)
+        except OSError:
+            continue
         head = os.pread(file, 16, 0)
-        if len(head) < 16 or head[:9] != b"\1OTXLOG01":
-            return None
-        found, gate = [], 15
+        if len(head) == 16 and head[:9] == b"\1OTXLOG01":
+            slots.append((struct.unpack("<I", head[9:13])[0], -slot, file, head))
+        else:
+            os.close(file)
+    slots.sort()
+    for _, _, file, _ in slots[:-1]:
+        os.close(file)
+    return slots[-1][2:] if slots else None
+
+
+def batches(folder):
+    """The number of records of each batch in a folder's log behind its checkpoint, 1 for an upgrade, or None where it is no silo or can't be
+    read. Of each block it reads nine bytes: the gate before it, its length, and its count."""
+    live = live_log(folder)
+    if live is None:
+        return None
+    file, head = live
+    try:
+        found, gate, is_checkpoint = [], 15, head[13] == 1
         while True:
             head = os.pread(file, 9, gate)
             if len(head) < 9 or head[0] != 1:
                 return found
             length, count = struct.unpack("<II", head[1:])
-            found.append(count)
+            if is_checkpoint:
+                is_checkpoint = head[5] == 1
+            else:
+                found.append(1 if count == UPGRADE else count)
             gate += 5 + length
     finally:
         os.close(file)
 
 
 def records(folder):
-    """The number of records in a folder's log, or None where it is no silo. The records themselves aren't read."""
+    """The number of records and upgrades in a folder's log behind its checkpoint, which are those that `history` prints, or None where it is
+    no silo. The records themselves aren't read."""
     found = batches(folder)
     return None if found is None else sum(found)
 
@@ -228,8 +250,13 @@ class Silo:
         with self:
             self._report("init", given=program.encode() if isinstance(program, str) else program)
 
+    def upgrade(self, program):
+        """Brings a program's text into force in the silo."""
+        with self:
+            self._report("upgrade", given=program.encode() if isinstance(program, str) else program)
+
     def records(self):
-        """The number of records, by `records`."""
+        """The number of records and upgrades, by `records`."""
         return records(self.folder)
 
     def show(self):
@@ -237,11 +264,11 @@ class Silo:
         return {line["grain"]: line["fields"] for line in self._report("show")[:-1]}
 
     def history(self, behind=0):
-        """The records behind the first so many, in the order of the log, as docs/FORMATS.md tells them."""
+        """The records and upgrades behind the first so many, in the order of the log, as docs/FORMATS.md tells them."""
         return self._report("history")[behind:]
 
     def audit(self):
-        """The number of records, and the unit of the first that a one-thread store doesn't give, or None."""
+        """The number of records and upgrades, and the unit of the first record that a one-thread store doesn't give, or None."""
         [line] = self._report("audit")
         return line["count"], line["first_bad"]
 
@@ -321,7 +348,7 @@ class Silo:
             else:
                 sure = {n: reply for n, reply in replies.items() if "in_doubt" not in reply}
                 replies = {**{record["n"]: record for record in new if "n" in record}, **sure}
-                others = [record for record in new if "n" not in record]
+                others = [record for record in new if "n" not in record and "upgrade" not in record]
         return Sent(number, text, [replies.get(n + 1) for n in range(len(lines))], others, before)
 
 
