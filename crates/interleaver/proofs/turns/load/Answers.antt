@@ -173,4 +173,4 @@ pub returns-in-Stop-LoadDamaged-clause-safe : goal.returns-in-Stop-LoadDamaged-c
 returns-in-Stop-LoadDamaged-clause-safe g c = safe-asked g.H.Host.tells c.args.settler.now c.load.new.self (g.H.Host.world c.args.host.now) (g.H.Host.world c.load.new.host) c.load.ensures.writer c.load.ensures.asked c.requires.safe
 
 pub load-requires : goal.load-requires
-load-requires g c = record { fit = tt; slot = c.requires.safe.bounds.slot }
+load-requires g c = record { fit = tt; bounds = c.requires.safe.bounds }
