@@ -27,7 +27,7 @@ use Rattle.script_tree.specs.Programs.{ProgramTree}
 use Rattle.program_file.specs.Succession.{shapes_in_turn}
 use Rattle.base_types.proofs.GrainOrder.{Before, to_before, irref, chain}
 use Rattle.checkpoint.specs.Steps.{IsInCopying, OnlyCopies}
-use Rattle.checkpoint.specs.Copies.{StandsFirst, IsCarried, IsCopied}
+use Rattle.checkpoint.specs.Copies.{StandsFirst, IsMeantVersion, IsCopied}
 
 -- ---- what changes
 
@@ -168,7 +168,7 @@ named_stays live shapes old new n low only =
 
 -- a version that is carried from files that are as they were
 pub carried_same : (live : ℕ) (programs : List ProgramTree) (old new : Image) (n : Named) (v : Version) → version_numbered live One (shapes_in_turn programs) new n ≡ version_numbered live One (shapes_in_turn programs) old n
-    → IsCarried live programs new n v → IsCarried live programs old n v
+    → IsMeantVersion live programs new n v → IsMeantVersion live programs old n v
 carried_same live programs old new n v same is = record { version = is.version; found = sym same ∙ is.found; meant = is.meant }
 
 -- a copy of a version that was named before copies

@@ -35,7 +35,7 @@ pub record StandsFirst (version : Version) (file : FileState) : Type 0 where
 
 -- The version that is named in the live slot's files, as the last of these programs has it: of the same unit, and with its state carried
 -- to each program that came into force after that of its time.
-pub record IsCarried (live : ℕ) (programs : List ProgramTree) (seen : Image) (n : Named) (carried : Version) : Type 0 where
+pub record IsMeantVersion (live : ℕ) (programs : List ProgramTree) (seen : Image) (n : Named) (carried : Version) : Type 0 where
   pub version : Version
   pub found : version_numbered live One (shapes_in_turn programs) seen n ≡ Ok version
   pub meant : carried ≡ version_meant programs n.program n.written.grain version
@@ -45,7 +45,7 @@ pub record IsCarried (live : ℕ) (programs : List ProgramTree) (seen : Image) (
 -- spelling is.
 pub record IsCopied (live : ℕ) (programs : List ProgramTree) (seen : Image) (disk : Disk) (n copy : Named) : Type 0 where
   pub copied : Version
-  pub carried : IsCarried live programs seen n copied
+  pub carried : IsMeantVersion live programs seen n copied
   pub typed : HasItsFields (newest_program programs) n.written.grain copied.state
   pub fits : VersionFits One copied
   pub named : copy ≡ name_of_copy n.written.grain (length (spelling_of_version copied))

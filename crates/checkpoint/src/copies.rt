@@ -17,7 +17,7 @@ ghost use Rattle.log_reading.specs.Versions.{version_numbered};
 ghost use Rattle.program_file.specs.Succession.{ArePrograms, newest_program, shapes_in_turn};
 ghost use Rattle.program_file.specs.ProgramsInTurn.{programs_in, HasShapes, HasItsFields};
 ghost use Rattle.checkpoint.specs.Steps.{MayBeAny, OnlyCopies};
-ghost use Rattle.checkpoint.specs.Copies.{AreThere, StandsFirst, IsCarried, IsCopied};
+ghost use Rattle.checkpoint.specs.Copies.{AreThere, StandsFirst, IsMeantVersion, IsCopied};
 
 use base_types::{List, Place, Version};
 use commit_log::{Named, Written};
@@ -87,7 +87,7 @@ fn carried_version<H: Host>(
     requires shapes { HasShapes programs.now }
     requires programs { ArePrograms (programs_in programs.now) }
     ensures carried { IfOk result (λ version. IsTrue H.tells
-        → IsCarried live (programs_in programs.now) (seen_in (H.world host.old).disk) named version) }
+        → IsMeantVersion live (programs_in programs.now) (seen_in (H.world host.old).disk) named version) }
     ensures typed { IfOk result (λ version. HasItsFields (newest_program (programs_in programs.now)) named.written.grain version.state) }
     ensures damaged { (file : AFile) (place : ℕ) → IsErrOf result (AFault.Damaged file place) → IsTrue H.tells → (version : AVersion)
         → version_numbered live One (shapes_in_turn (programs_in programs.now)) (seen_in (H.world host.old).disk) named ≡ Ok version → ⊥ }

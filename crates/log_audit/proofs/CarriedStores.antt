@@ -39,7 +39,7 @@ use Rattle.promise_spec.specs.Programs.{Program}
 use Rattle.promise_spec.specs.Entries.{Standing, Upgraded, initial_states, after_entry}
 use Rattle.promise_spec.specs.Openings.{entries_logged}
 use Rattle.log_audit.specs.Replays.{IsStoreOf, AllReplayTo}
-use Rattle.log_audit.specs.CarriedStores.{IsOfProgram, AreOfProgram, carried_in}
+use Rattle.log_audit.specs.CarriedStores.{StoreFits, AreOfProgram, carried_in}
 use Rattle.log_audit.proofs.Versions.{state_put}
 
 -- ---- grains
@@ -103,7 +103,7 @@ module _ (old new : ProgramTree) (store : Store) where
 -- ---- what it is then
 
 -- each state has its type's fields again
-pub carried_fits : (old new : ProgramTree) (store made : Store) → GoesOnFrom old new → IsOfProgram old store → ((g : GrainId) → state_in made g ≡ carried_in old new store g) → IsOfProgram new made
+pub carried_fits : (old new : ProgramTree) (store made : Store) → GoesOnFrom old new → StoreFits old store → ((g : GrainId) → state_in made g ≡ carried_in old new store g) → StoreFits new made
 carried_fits old new store made follows fits carried g state is = by (state_in store g) refl (sym (carried g) ∙ is)
   where
     by : (o : Option (List Value)) → state_in store g ≡ o → option_map (carried_state old new g.kind) o ≡ Some state → HasItsFields new g state
@@ -114,11 +114,11 @@ carried_fits old new store made follows fits carried g state is = by (state_in s
         record { kind = types old new g.kind follows fit.kind; fields = sym (ap (λ (l : List Value). length l) same) ∙ count (fields_of_kind old g.kind) (fields_of_kind new g.kind) s }
 
 -- no grain has a state yet
-pub none_fits : (types : ProgramTree) (store : Store) → ((g : GrainId) → state_in store g ≡ None) → IsOfProgram types store
+pub none_fits : (types : ProgramTree) (store : Store) → ((g : GrainId) → state_in store g ≡ None) → StoreFits types store
 none_fits types store none g state is = absurd (let no : None ≡ Some state = sym (none g) ∙ is in cc no)
 
 -- one more that has its type's fields
-pub put_fits : (types : ProgramTree) (old new : Store) (grain : GrainId) (state : List Value) → PutsState old new grain state → HasItsFields types grain state → IsOfProgram types old → IsOfProgram types new
+pub put_fits : (types : ProgramTree) (old new : Store) (grain : GrainId) (state : List Value) → PutsState old new grain state → HasItsFields types grain state → StoreFits types old → StoreFits types new
 put_fits types old new grain state puts fit fits g now is = by (same_grain grain g) refl (sym (state_put old new grain g state puts) ∙ is)
   where
     by : (b : Bool) → same_grain grain g ≡ b → (if same_grain grain g then Some state else state_in old g) ≡ Some now → HasItsFields types g now

@@ -10,8 +10,8 @@ use Rattle.script_check.specs.Carrying.{carried_state}
 use Rattle.program_file.specs.ProgramsInTurn.{HasItsFields}
 
 -- each state in the store has the fields of its grain's type, which is one of the program's
-abbrev pub IsOfProgram : ProgramTree → Store → Type 0
-IsOfProgram types store = (grain : GrainId) (state : List Value) → state_in store grain ≡ Some state → HasItsFields types grain state
+abbrev pub StoreFits : ProgramTree → Store → Type 0
+StoreFits types store = (grain : GrainId) (state : List Value) → state_in store grain ≡ Some state → HasItsFields types grain state
 
 -- each of these states has them
 abbrev pub AreOfProgram : ProgramTree → List (GrainId × List Value) → Type 0

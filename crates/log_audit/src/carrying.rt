@@ -3,7 +3,7 @@ ghost use Rattle.base_types.specs.Stores.{state_in};
 ghost use Rattle.base_types.specs.declared.calls.GrainId.{GrainId as AGrain};
 ghost use Rattle.script_tree.specs.Programs.{program_tree};
 ghost use Rattle.script_check.specs.Comparison.{GoesOnFrom};
-ghost use Rattle.log_audit.specs.CarriedStores.{IsOfProgram, carried_in};
+ghost use Rattle.log_audit.specs.CarriedStores.{StoreFits, carried_in};
 
 use base_types::Store;
 use script_check::{Checked, carry_state};
@@ -18,7 +18,7 @@ pub(crate) fn carry_store(
     store: &Store,
 ) -> Result<Store, AllocError>
     requires follows { GoesOnFrom (program_tree old.now) (program_tree new.now) }
-    requires fits { IsOfProgram (program_tree old.now) store.now }
+    requires fits { StoreFits (program_tree old.now) store.now }
     ensures { IfOk result (λ made. (grain : AGrain) → state_in made grain ≡ carried_in (program_tree old.now) (program_tree new.now) store.now grain) }
 {
     let grains = store.grains(alloc)?;

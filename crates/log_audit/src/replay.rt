@@ -19,7 +19,7 @@ ghost use Rattle.promise_spec.specs.Records.{written, put_state};
 ghost use Rattle.promise_spec.specs.Entries.{Standing, is_among};
 ghost use Rattle.promise_spec.specs.Openings.{commit_of, entries_logged, log_of};
 ghost use Rattle.log_audit.specs.InForce.{types_in_force, HasShape, types_said, said_entries};
-ghost use Rattle.log_audit.specs.CarriedStores.{IsOfProgram, AreOfProgram};
+ghost use Rattle.log_audit.specs.CarriedStores.{StoreFits, AreOfProgram};
 ghost use Rattle.log_audit.specs.RereadFaults.{IsWriteFault, IsRecordFault, IsEntryFault, IsRereadFault};
 ghost use Rattle.log_audit.specs.Replays.{same_write, agree, first_states, states_saved_at, entries_of_records, IsStoreOf, ReplaysTo, AllReplayTo, IsFirstFailure};
 
@@ -110,7 +110,7 @@ fn agrees(entry: &CommitRecord, played: &Played, same: bool) -> bool
 fn keep(store: &mut Store, writes: Vec<(GrainId, State)>) -> Result<(), AllocError>
     ensures held { OnOk result ((grain : AGrain) → is_some (state_in store.new grain) ≡ (is_among writes.items grain || is_some (state_in store.old grain))) }
     ensures states { OnOk result ((types : ProgramTree) → found_in types store.new ≡ fold put_state (found_in types store.old) writes.items) }
-    ensures fits { OnOk result ((types : ProgramTree) → AreOfProgram types writes.items → IsOfProgram types store.old → IsOfProgram types store.new) }
+    ensures fits { OnOk result ((types : ProgramTree) → AreOfProgram types writes.items → StoreFits types store.old → StoreFits types store.new) }
 {
     for (grain, state) in writes {
         store.put(grain, state)?;
@@ -131,7 +131,7 @@ fn replay<H: Host>(
     requires shape { HasShape now.now }
     ensures replays { IfOk result (λ found. IsTrue H.tells → (before : Standing) → before.program.types ≡ types_in_force now.now → IsStoreOf store.old before
         → ReplaysTo before (commit_of slot now.now.shape (seen_in (H.world host.old).disk) entry.now) store.new found) }
-    ensures fits { OnOk result (IsOfProgram (types_in_force now.now) store.old → IsOfProgram (types_in_force now.now) store.new) }
+    ensures fits { OnOk result (StoreFits (types_in_force now.now) store.old → StoreFits (types_in_force now.now) store.new) }
     ensures unread { IfErr result (λ e. IsTrue H.tells
         → IsWriteFault slot now.now.shape (seen_in (H.world host.old).disk) (Some entry.now.unit) entry.now.writes e) }
     ensures asked { IsTrue H.tells → OnlyAsked (H.world host.old) (H.world host.new) }
@@ -170,7 +170,7 @@ fn replay_records<H: Host>(
     requires shape { HasShape now.now }
     ensures replays { IfOk result (λ found. IsTrue H.tells → (before : Standing) → before.program.types ≡ types_in_force now.now → IsStoreOf store.old before
         → AllReplayTo before (entries_of_records slot now.now.shape (seen_in (H.world host.old).disk) records.now) store.new found) }
-    ensures fits { OnOk result (IsOfProgram (types_in_force now.now) store.old → IsOfProgram (types_in_force now.now) store.new) }
+    ensures fits { OnOk result (StoreFits (types_in_force now.now) store.old → StoreFits (types_in_force now.now) store.new) }
     ensures unread { IfErr result (λ e. IsTrue H.tells → IsRecordFault slot now.now.shape (seen_in (H.world host.old).disk) records.now e) }
     ensures asked { IsTrue H.tells → OnlyAsked (H.world host.old) (H.world host.new) }
     ensures calm { OnOk result (NoneFailed (H.faults host.old) (H.faults host.new)) }
@@ -198,13 +198,13 @@ fn replay_said<H: Host>(
 ) -> Result<Option<Bad>, FolderFault>
     requires slot { slot ≤ 1 }
     requires shape { HasShape now.old }
-    requires fits { IsOfProgram (types_in_force now.old) store.old }
+    requires fits { StoreFits (types_in_force now.old) store.old }
     requires may { IsSaidIn One (types_in_force now.old) said }
     ensures replays { IfOk result (λ found. IsTrue H.tells → (before : Standing) → before.program.types ≡ types_in_force now.old → IsStoreOf store.old before
         → AllReplayTo before (entries_logged slot before.program (seen_in (H.world host.old).disk) (said_entries said)) store.new found) }
     ensures behind { OnOk result (types_in_force now.new ≡ types_said now.old said) }
     ensures shaped { OnOk result (HasShape now.new) }
-    ensures fits { OnOk result (IsOfProgram (types_in_force now.new) store.new) }
+    ensures fits { OnOk result (StoreFits (types_in_force now.new) store.new) }
     ensures unread { IfErr result (λ e. IsTrue H.tells → (p : Program) → p.types ≡ types_in_force now.old
         → IsEntryFault slot p (seen_in (H.world host.old).disk) (said_entries said) e) }
     ensures asked { IsTrue H.tells → OnlyAsked (H.world host.old) (H.world host.new) }
@@ -243,7 +243,7 @@ fn saved_store<H: Host>(
         → is_some (state_in store grain) ≡ is_among (states_saved_at slot shape.now (seen_in (H.world host.old).disk) saved.now) grain) }
     ensures states { IfOk result (λ store. IsTrue H.tells → (types : ProgramTree)
         → found_in types store ≡ fold put_state (first_states types) (states_saved_at slot shape.now (seen_in (H.world host.old).disk) saved.now)) }
-    ensures fits { IfOk result (λ store. (types : ProgramTree) → shape.now ≡ record { types = type_shapes types } → IsOfProgram types store) }
+    ensures fits { IfOk result (λ store. (types : ProgramTree) → shape.now ≡ record { types = type_shapes types } → StoreFits types store) }
     ensures unread { IfErr result (λ e. IsTrue H.tells → IsWriteFault slot shape.now (seen_in (H.world host.old).disk) None saved.now e) }
     ensures asked { IsTrue H.tells → OnlyAsked (H.world host.old) (H.world host.new) }
     ensures calm { OnOk result (NoneFailed (H.faults host.old) (H.faults host.new)) }

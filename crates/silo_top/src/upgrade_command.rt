@@ -3,7 +3,7 @@ ghost use Rattle.host_trait.specs.Files.{StaysReady};
 ghost use Rattle.promise_spec.specs.Words as command;
 ghost use Rattle.promise_spec.specs.Endings.{HasFailedAs, BadUse};
 ghost use Rattle.promise_spec.specs.Upgrading.{UpgradesSilo};
-ghost use Rattle.silo_upgrade.specs.Endings.{ending_of};
+ghost use Rattle.silo_upgrade.specs.Endings.{ending_for};
 ghost use Rattle.silo_top.specs.CallAnswers.{shown};
 ghost use Rattle.silo_top.specs.Statuses.{status_ending};
 
@@ -15,7 +15,7 @@ use std::alloc::Global;
 
 /// The status of an upgrade that ended so before it was done.
 fn upgrade_status(end: UpgradeEnd) -> Status
-    ensures { status_ending result ≡ ending_of end }
+    ensures { status_ending result ≡ ending_for end }
 {
     match end {
         UpgradeEnd::ReadFault => Status::ReadFault,

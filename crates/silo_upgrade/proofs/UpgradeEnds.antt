@@ -16,7 +16,7 @@ use Rattle.silo_opening.specs.Counts.{OpenFaulted, InputFaulted}
 use Rattle.silo_opening.specs.OpenedSilo as opening
 use Rattle.silo_opening.proofs.InitSteps.{untouched_so_far}
 use Rattle.silo_upgrade.specs.declared.faults.UpgradeEnd.{UpgradeEnd}
-use Rattle.silo_upgrade.specs.Endings.{in_input, in_program, ending_of, ended_so}
+use Rattle.silo_upgrade.specs.Endings.{input_end, program_end, ending_for, ended_so}
 
 -- ---- counts
 
@@ -27,16 +27,16 @@ open_failed before after (OpenFault.DiskFault file) f = f
 open_failed before after OpenFault.LastGeneration f = f
 open_failed before after OpenFault.Memory f = f
 
-pub input_failed : (before after : Channel → ℕ) (e : InputFault) → InputFaulted e before after → HasFailedAs (ending_of (in_input e)) before after
+pub input_failed : (before after : Channel → ℕ) (e : InputFault) → InputFaulted e before after → HasFailedAs (ending_for (input_end e)) before after
 input_failed before after InputFault.Memory f = f
 input_failed before after InputFault.Failed f = f
 input_failed before after InputFault.TooLong f = f
 
-program_failed_by : (before after : Channel → ℕ) (fault : ProgramFault) (o : Option ℕ) → NoneFailed before after → HasFailedAs (ending_of (in_program fault o)) before after
+program_failed_by : (before after : Channel → ℕ) (fault : ProgramFault) (o : Option ℕ) → NoneFailed before after → HasFailedAs (ending_for (program_end fault o)) before after
 program_failed_by before after fault (Some place) calm = calm
 program_failed_by before after fault None calm = calm
 
-pub program_failed : (before after : Channel → ℕ) (fault : ProgramFault) → NoneFailed before after → HasFailedAs (ending_of (in_program fault (program_fault_place fault))) before after
+pub program_failed : (before after : Channel → ℕ) (fault : ProgramFault) → NoneFailed before after → HasFailedAs (ending_for (program_end fault (program_fault_place fault))) before after
 program_failed before after fault calm = program_failed_by before after fault (program_fault_place fault) calm
 
 -- behind calls that didn't fail
@@ -44,7 +44,7 @@ pub calm_before : (e : Ending) (before mid after : Channel → ℕ) → NoneFail
 calm_before e before mid after none fails = subst (λ (f : Channel → ℕ). HasFailedAs e f after) (λ i c. none c i) fails
 
 -- no end is called bad use
-pub never_bad_use : (e : UpgradeEnd) → ending_of e ≡ ending.BadUse → ⊥
+pub never_bad_use : (e : UpgradeEnd) → ending_for e ≡ ending.BadUse → ⊥
 never_bad_use UpgradeEnd.ReadFault same = cc
 never_bad_use UpgradeEnd.InputTooLong same = cc
 never_bad_use (UpgradeEnd.BadProgram fault) same = cc
@@ -58,7 +58,7 @@ never_bad_use (UpgradeEnd.DiskFault file) same = cc
 never_bad_use UpgradeEnd.Memory same = cc
 
 -- no end is called done
-pub never_done : (e : UpgradeEnd) → ending_of e ≡ ending.Done → ⊥
+pub never_done : (e : UpgradeEnd) → ending_for e ≡ ending.Done → ⊥
 never_done UpgradeEnd.ReadFault same = cc
 never_done UpgradeEnd.InputTooLong same = cc
 never_done (UpgradeEnd.BadProgram fault) same = cc
@@ -75,23 +75,23 @@ never_done UpgradeEnd.Memory same = cc
 
 module _ (manner : Manner) (asked : List (List ℕ)) (old new : World) (before after : Channel → ℕ) (disk : new.disk ≡ old.disk) (output : new.output ≡ old.output) (syncs : new.syncs ≡ old.syncs)
     (still : Passes (λ m. m ≡ moment_of old) old.past new.past) where
-  refused_for : (end : UpgradeEnd) → RefusesInput (ending_of end) (ended_so manner asked old new before after (ending_of end)) → HasFailedAs (ending_of end) before after
-      → IsInputRefused (ended_so manner asked old new before after (ending_of end))
+  refused_for : (end : UpgradeEnd) → RefusesInput (ending_for end) (ended_so manner asked old new before after (ending_for end)) → HasFailedAs (ending_for end) before after
+      → IsInputRefused (ended_so manner asked old new before after (ending_for end))
   refused_for end why failed = record { untouched = untouched_so_far old new disk output still; syncs = syncs; refused = why; failed = failed }
 
   -- it wasn't read
   pub input_refused : (e : InputFault) → InputFaulted e before after → (e ≡ InputFault.TooLong → text_limit < length old.input)
-      → IsInputRefused (ended_so manner asked old new before after (ending_of (in_input e)))
+      → IsInputRefused (ended_so manner asked old new before after (ending_for (input_end e)))
   input_refused InputFault.Memory faulted long = refused_for UpgradeEnd.Memory tt faulted
   input_refused InputFault.Failed faulted long = refused_for UpgradeEnd.ReadFault tt faulted
   input_refused InputFault.TooLong faulted long = refused_for UpgradeEnd.InputTooLong (refl, long refl) faulted
 
   program_by : (fault : ProgramFault) (o : Option ℕ) → new.input ≡ [] → length old.input ≤ text_limit → IsFaultOf old.input fault o → NoneFailed before after
-      → IsInputRefused (ended_so manner asked old new before after (ending_of (in_program fault o)))
+      → IsInputRefused (ended_so manner asked old new before after (ending_for (program_end fault o)))
   program_by fault (Some place) end small is calm = refused_for (UpgradeEnd.BadProgram fault) (end, small, is) calm
   program_by fault None end small is calm = refused_for UpgradeEnd.Memory tt calm
 
   -- it was, and is no program
   pub program_refused : (fault : ProgramFault) → new.input ≡ [] → length old.input ≤ text_limit → IsFaultOf old.input fault (program_fault_place fault) → NoneFailed before after
-      → IsInputRefused (ended_so manner asked old new before after (ending_of (in_program fault (program_fault_place fault))))
+      → IsInputRefused (ended_so manner asked old new before after (ending_for (program_end fault (program_fault_place fault))))
   program_refused fault end small is calm = program_by fault (program_fault_place fault) end small is calm

@@ -11,30 +11,30 @@ use Rattle.silo_opening.specs.OpenedSilo as opening
 use Rattle.silo_upgrade.specs.declared.faults.UpgradeEnd.{UpgradeEnd}
 
 -- for an input that wasn't read
-abbrev pub in_input : InputFault → UpgradeEnd
-in_input InputFault.Memory = UpgradeEnd.Memory
-in_input InputFault.Failed = UpgradeEnd.ReadFault
-in_input InputFault.TooLong = UpgradeEnd.InputTooLong
+abbrev pub input_end : InputFault → UpgradeEnd
+input_end InputFault.Memory = UpgradeEnd.Memory
+input_end InputFault.Failed = UpgradeEnd.ReadFault
+input_end InputFault.TooLong = UpgradeEnd.InputTooLong
 
 -- for a text that is no program, where a place is named
-abbrev pub in_program : ProgramFault → Option ℕ → UpgradeEnd
-in_program fault (Some place) = UpgradeEnd.BadProgram fault
-in_program fault None = UpgradeEnd.Memory
+abbrev pub program_end : ProgramFault → Option ℕ → UpgradeEnd
+program_end fault (Some place) = UpgradeEnd.BadProgram fault
+program_end fault None = UpgradeEnd.Memory
 
 -- how the command ends then
-abbrev pub ending_of : UpgradeEnd → ending.Ending
-ending_of UpgradeEnd.ReadFault = ending.ReadFault
-ending_of UpgradeEnd.InputTooLong = ending.InputTooLong 0
-ending_of (UpgradeEnd.BadProgram fault) = ending.BadProgram fault
-ending_of (UpgradeEnd.Unopened fault) = opening.ending_of fault
-ending_of (UpgradeEnd.Refused at) = ending.UpgradeRefused at
-ending_of (UpgradeEnd.DiskFault file) = ending.DiskFault file
-ending_of UpgradeEnd.Memory = ending.Memory
+abbrev pub ending_for : UpgradeEnd → ending.Ending
+ending_for UpgradeEnd.ReadFault = ending.ReadFault
+ending_for UpgradeEnd.InputTooLong = ending.InputTooLong 0
+ending_for (UpgradeEnd.BadProgram fault) = ending.BadProgram fault
+ending_for (UpgradeEnd.Unopened fault) = opening.ending_of fault
+ending_for (UpgradeEnd.Refused at) = ending.UpgradeRefused at
+ending_for (UpgradeEnd.DiskFault file) = ending.DiskFault file
+ending_for UpgradeEnd.Memory = ending.Memory
 
 -- how it ends with this answer
 abbrev pub upgrade_ending : {A : Type 0} → Result A UpgradeEnd → ending.Ending
 upgrade_ending (Ok made) = ending.Done
-upgrade_ending (Err end) = ending_of end
+upgrade_ending (Err end) = ending_for end
 
 -- what a call shows that ended so
 abbrev pub ended_so : Manner → List (List ℕ) → World → World → (Channel → ℕ) → (Channel → ℕ) → ending.Ending → Observed

@@ -7,7 +7,7 @@ ghost use Rattle.program_file.specs.Answers.{program_fault_place};
 ghost use Rattle.promise_spec.specs.Words.{Manner};
 ghost use Rattle.promise_spec.specs.Endings.{HasFailedAs};
 ghost use Rattle.promise_spec.specs.Upgrading.{IsInputRefused};
-ghost use Rattle.silo_upgrade.specs.Endings.{in_input, in_program, ending_of, ended_so};
+ghost use Rattle.silo_upgrade.specs.Endings.{input_end, program_end, ending_for, ended_so};
 ghost use Rattle.silo_upgrade.specs.Steps.{HasReadText};
 
 use crate::faults::UpgradeEnd;
@@ -19,7 +19,7 @@ use std::alloc::Global;
 
 // The end for an input that wasn't read.
 fn input_end(fault: InputFault) -> UpgradeEnd
-    ensures { result ≡ in_input fault }
+    ensures { result ≡ input_end fault }
 {
     match fault {
         InputFault::Memory => UpgradeEnd::Memory,
@@ -30,7 +30,7 @@ fn input_end(fault: InputFault) -> UpgradeEnd
 
 // The end for a text that is no program.
 fn program_end(fault: ProgramFault) -> UpgradeEnd
-    ensures { result ≡ in_program fault (program_fault_place fault) }
+    ensures { result ≡ program_end fault (program_fault_place fault) }
 {
     match fault.place() {
         Some(_) => UpgradeEnd::BadProgram(fault),
@@ -49,9 +49,9 @@ pub(crate) fn read_program<H: Host>(
 
     // Where it isn't read, or is no program, that is what the command promises.
     ensures refused { IfErr result (λ e. IsTrue H.tells → (manner : Manner) (asked : List (List ℕ))
-        → IsInputRefused (ended_so manner asked (H.world host.old) (H.world host.new) (H.faults host.old) (H.faults host.new) (ending_of e))) }
+        → IsInputRefused (ended_so manner asked (H.world host.old) (H.world host.new) (H.faults host.old) (H.faults host.new) (ending_for e))) }
     ensures calm { OnOk result (NoneFailed (H.faults host.old) (H.faults host.new)) }
-    ensures fault { IfErr result (λ e. HasFailedAs (ending_of e) (H.faults host.old) (H.faults host.new)) }
+    ensures fault { IfErr result (λ e. HasFailedAs (ending_for e) (H.faults host.old) (H.faults host.new)) }
     ensures ready { StaysReady (H.is_ready host.old) (H.is_ready host.new) }
 {
     let text = match read_input(alloc, host) {

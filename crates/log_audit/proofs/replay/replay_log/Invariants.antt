@@ -6,7 +6,7 @@ use Rattle.host_trait.specs.declared.channels.FileId.TheVariants.{Manager}
 use Rattle.log_reading.specs.Steps.{seen_in}
 use Rattle.promise_spec.specs.Programs.{Program}
 use Rattle.log_audit.specs.InForce.{types_in_force, HasShape}
-use Rattle.log_audit.specs.CarriedStores.{IsOfProgram}
+use Rattle.log_audit.specs.CarriedStores.{StoreFits}
 use Rattle.log_audit.proofs.Replays.{HasAudited}
 use Rattle.log_audit.proofs.replay.replay_log.Given as goal
 
@@ -14,7 +14,7 @@ abbrev pub invariant-loop-now : goal.invariant-loop-now
 invariant-loop-now g l = record {
   bound : l.gate_at < 2 ^ 63;
   shaped : HasShape l.now;
-  fits : IsOfProgram (types_in_force l.now) l.store;
+  fits : StoreFits (types_in_force l.now) l.store;
   audited : IsTrue g.H.Host.tells → (p : Program) → p.types ≡ types_in_force l.fn.first → HasAudited p l.slot (seen_in (g.H.Host.world l.fn.host).disk) ((g.H.Host.world l.fn.host).disk (Manager l.slot)).seen l.gate_at (types_in_force l.now) l.store;
   asked : IsTrue g.H.Host.tells → OnlyAsked (g.H.Host.world l.fn.host) (g.H.Host.world l.host);
   calm : NoneFailed (g.H.Host.faults l.fn.host) (g.H.Host.faults l.host);

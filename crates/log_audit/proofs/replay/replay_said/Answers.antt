@@ -11,7 +11,7 @@ use Rattle.promise_spec.specs.Programs.{shape_in}
 use Rattle.promise_spec.specs.Entries.{LogEntry}
 use Rattle.promise_spec.specs.Openings.{entries_logged}
 use Rattle.log_audit.specs.InForce.{types_in_force}
-use Rattle.log_audit.specs.CarriedStores.{IsOfProgram, carried_in}
+use Rattle.log_audit.specs.CarriedStores.{StoreFits, carried_in}
 use Rattle.log_audit.specs.RereadFaults.{IsRecordFault, IsEntryFault}
 use Rattle.log_audit.specs.Replays.{entries_of_records, AllReplayTo}
 use Rattle.log_audit.proofs.CarriedStores.{carried_fits, replays_upgrade, follows_on_from}
@@ -63,5 +63,5 @@ returns-in_ok-next-in-Upgrade-clause-fits g c =
     let types = types_in_force c.args.now.now in
     let tree = program_tree c.in-Upgrade.checked in
     let follows = follows_on_from types c.args.said _ c.in-Upgrade.checked c.in-Upgrade.is c.requires.may in
-    subst (λ (t : ProgramTree). IsOfProgram t c.in_ok-carried-in-Upgrade.carried) (sym c.in_ok-next-in-Upgrade.ensures.same)
+    subst (λ (t : ProgramTree). StoreFits t c.in_ok-carried-in-Upgrade.carried) (sym c.in_ok-next-in-Upgrade.ensures.same)
     (carried_fits types tree c.args.store.now c.in_ok-carried-in-Upgrade.carried follows c.requires.fits c.in_ok-carried-in-Upgrade.ensures)

@@ -1,7 +1,7 @@
 use Rattle.std.proofs.Common.{[], refl, sym, subst}
 use Rattle.promise_spec.specs.Words.{plain_manner}
 use Rattle.promise_spec.specs.Endings.{Ending, Done, HasFailedAs}
-use Rattle.silo_upgrade.specs.Endings.{ending_of}
+use Rattle.silo_upgrade.specs.Endings.{ending_for}
 use Rattle.silo_top.specs.declared.status.Status.{Status}
 use Rattle.silo_top.proofs.UpgradeCalls.{upgraded}
 use Rattle.silo_top.proofs.upgrade_command.upgrade.Goals as goal

@@ -6,7 +6,7 @@ use Rattle.promise_spec.specs.Endings.{Done}
 use Rattle.promise_spec.specs.Upgrading.{UpgradesAs}
 use Rattle.silo_opening.specs.OpenedSilo.{ending_of as open_ending}
 use Rattle.silo_upgrade.specs.declared.faults.UpgradeEnd.{UpgradeEnd}
-use Rattle.silo_upgrade.specs.Endings.{ending_of, ended_so}
+use Rattle.silo_upgrade.specs.Endings.{ending_for, ended_so}
 use Rattle.silo_upgrade.specs.Steps.{HasReadText}
 use Rattle.silo_upgrade.proofs.UpgradeEnds.{open_failed, calm_before, never_done}
 use Rattle.silo_upgrade.proofs.UpgradedFolders.{is_unopened, is_refused, is_upgraded, upgrades, done_so, nothing_so}
@@ -88,12 +88,12 @@ returns-clause-upgrades g c told manner asked =
     let opens = c.open_silo.ensures.only told in
     let left = c.in-Ok-open_silo.ensures.opened told in
     let run = c.seal_upgrade.ensures.run told in
-    let ends_as : UpgradesAs (ending_of e) o.slot (ended_so manner asked w0 w3 f0 f3 (ending_of e)) = elim c.in-Err-seal_upgrade.ensures.stopped [
-      | inl same ↦ subst (λ (x : UpgradeEnd). UpgradesAs (ending_of x) o.slot (ended_so manner asked w0 w3 f0 f3 (ending_of x))) (sym same) refl
-      | inr want ↦ subst (λ (x : UpgradeEnd). UpgradesAs (ending_of x) o.slot (ended_so manner asked w0 w3 f0 f3 (ending_of x))) (sym want.0)
-          (nothing_so manner asked f0 w0 w1 text types read small is w2 opens o left follows w3 f3 (ending_of e) run (ap g.H.Host.world want.1))
+    let ends_as : UpgradesAs (ending_for e) o.slot (ended_so manner asked w0 w3 f0 f3 (ending_for e)) = elim c.in-Err-seal_upgrade.ensures.stopped [
+      | inl same ↦ subst (λ (x : UpgradeEnd). UpgradesAs (ending_for x) o.slot (ended_so manner asked w0 w3 f0 f3 (ending_for x))) (sym same) refl
+      | inr want ↦ subst (λ (x : UpgradeEnd). UpgradesAs (ending_for x) o.slot (ended_so manner asked w0 w3 f0 f3 (ending_for x))) (sym want.0)
+          (nothing_so manner asked f0 w0 w1 text types read small is w2 opens o left follows w3 f3 (ending_for e) run (ap g.H.Host.world want.1))
     ] in
-    inr (inr (inr (is_upgraded manner asked f0 w0 w1 text types read small is w2 opens o left follows w3 f3 (ending_of e) run ends_as
-    (calm_before (ending_of e) f0 f2 f3 (λ channel. c.in-Ok-open_silo.ensures.calm channel ∙ c.in-Ok.ensures.calm channel) c.in-Err-seal_upgrade.ensures.fault)
-    (upgrades manner asked f0 w0 w1 text types read small is w2 opens o left follows w3 f3 (ending_of e) run (c.seal_upgrade.ensures.logs told) (λ done. absurd (never_done e done))
+    inr (inr (inr (is_upgraded manner asked f0 w0 w1 text types read small is w2 opens o left follows w3 f3 (ending_for e) run ends_as
+    (calm_before (ending_for e) f0 f2 f3 (λ channel. c.in-Ok-open_silo.ensures.calm channel ∙ c.in-Ok.ensures.calm channel) c.in-Err-seal_upgrade.ensures.fault)
+    (upgrades manner asked f0 w0 w1 text types read small is w2 opens o left follows w3 f3 (ending_for e) run (c.seal_upgrade.ensures.logs told) (λ done. absurd (never_done e done))
     (λ file. g.met.H.Host.seen_may_stay c.args.host.now file told) (λ file. g.met.H.Host.seen_may_stay c.open_silo.new.host file told)))))
