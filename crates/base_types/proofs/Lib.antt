@@ -1,3 +1,7 @@
+mod KeyOrders
+mod MapEdits
+mod SeatEdits
+mod SeatKeys
 mod Grains
 mod GrainPlaces
 pub mod GrainOrder

@@ -1,4 +1,6 @@
 pub mod Texts
+pub mod MapEntries
+pub mod Seats
 pub mod Stores
 pub mod Places
 pub mod Grains

@@ -1,9 +1,9 @@
 -- What is kept of each grain.
-use Rattle.std.specs.Prelude.{◌≡◌, ◌≢◌, ℕ, List, Bool, true, Option, Some, None, is_some, max}
-use Rattle.std.specs.Option.{option_flatten}
+use Rattle.std.specs.Prelude.{◌≡◌, ◌≢◌, ℕ, List, Bool, true, Option, Some, None, max}
 use Rattle.std.specs.declared.cmp.Ordering.{Ordering}
 use Rattle.std.specs.Ordering.{nat_cmp, then_cmp, on}
 use Rattle.std.specs.BTreeMap.{get}
+use Rattle.base_types.specs.Seats.{value_in, has_seat}
 use Rattle.base_types.specs.declared.calls.Value.{Value}
 use Rattle.base_types.specs.declared.calls.GrainId.{GrainId}
 use Rattle.base_types.specs.declared.stores.Store.{Store}
@@ -19,11 +19,11 @@ state_in store grain = get grain_cmp store.states grain
 
 -- the end in a grain's file, none where no place in it is named
 abbrev pub end_in : Ends → GrainId → Option ℕ
-end_in ends grain = option_flatten (get grain_cmp ends.ends grain)
+end_in ends grain = value_in grain_cmp ends.ends grain
 
 -- the grain has room for an end
 abbrev pub has_room : Ends → GrainId → Bool
-has_room ends grain = is_some (get grain_cmp ends.ends grain)
+has_room ends grain = has_seat grain_cmp ends.ends grain
 
 -- the greater of an end, which may be missing, and this one
 abbrev pub later_end : Option ℕ → ℕ → ℕ

@@ -9,9 +9,9 @@ ghost use Rattle.base_types.specs.declared.calls.GrainId.{GrainId};
 
 use crate::calls::GrainId;
 use crate::known_version::KnownVersion;
+use crate::seats::Seats;
 use crate::stores::Place;
 use std::alloc::{AllocError, Global};
-use std::collections::BTreeMap;
 
 /// Where a version stands in its grain's file, by which program it was written, and whether a unit of the run that goes on wrote it: else
 /// the log that was opened names it. Programs have numbers by the order in which they came into force, from 0, that of the program file.
@@ -42,8 +42,7 @@ impl Placed {
 /// place before it has one.
 #[derive(Drop)]
 pub struct Places {
-    // A grain that is there without a place has room for one.
-    places: BTreeMap<GrainId, Option<Placed>>,
+    places: Seats<GrainId, Placed>,
 }
 
 impl Places {
@@ -52,7 +51,7 @@ impl Places {
         ensures { (grain : GrainId) → placed_in result grain ≡ None }
     {
         Places {
-            places: BTreeMap::new(alloc),
+            places: Seats::new(alloc),
         }
     }
 
@@ -60,10 +59,7 @@ impl Places {
     pub fn get(&self, grain: GrainId) -> Option<&Placed>
         ensures { option_copied result ≡ placed_in self.now grain }
     {
-        match self.places.get(&grain) {
-            Some(seat) => seat.as_ref(),
-            None => None,
-        }
+        self.places.get(grain)
     }
 
     /// The grains that have a place or room for one, in ascending order, each once.
@@ -71,10 +67,7 @@ impl Places {
         ensures listed { IfOk result (λ grains. (grain : GrainId) → is_member (eq_by_cmp grain_cmp) grains.items grain ≡ has_seat self.now grain) }
         ensures ordered { IfOk result (λ grains. IsStrictlySortedBy grain_cmp grains.items) }
     {
-        let mut grains = Vec::with_capacity(alloc, self.places.len())?;
-        for grain in self.places.keys() {
-            grains.push(*grain)?;
-        }
+        let grains = self.places.keys(alloc)?;
         Ok(grains)
     }
 
@@ -84,7 +77,7 @@ impl Places {
         ensures kept { OnErr result ((other : GrainId) → placed_in self.new other ≡ placed_in self.old other) }
         ensures room { KeepsSeats self.old self.new }
     {
-        self.places.insert(grain, Some(placed))?;
+        self.places.put(grain, placed)?;
         Ok(())
     }
 
@@ -95,10 +88,7 @@ impl Places {
         ensures same { (other : GrainId) → placed_in self.new other ≡ placed_in self.old other }
         ensures room { KeepsSeats self.old self.new }
     {
-        if self.places.contains_key(&grain) {
-            return Ok(());
-        }
-        self.places.insert(grain, None)?;
+        self.places.room(grain)?;
         Ok(())
     }
 
@@ -108,8 +98,6 @@ impl Places {
         ensures replaced { PutsPlaced self.old self.new grain placed }
         ensures room { KeepsSeats self.old self.new }
     {
-        if let Some(seat) = self.places.get_mut(&grain) {
-            *seat = Some(placed);
-        }
+        self.places.replace(grain, placed);
     }
 }

@@ -22,7 +22,7 @@ impl Model for State {
 
     ghost view = { λ s. s.values };
 
-    ghost invariant = { λ s. length s.values ≤ 16 };
+    ghost invariant = { λ s. length s.values ≤ 64 };
 }
 
 impl State {

@@ -8,6 +8,7 @@ ghost use Rattle.base_types.specs.declared.calls.GrainId.{GrainId};
 
 use crate::calls::{GrainId, UnitNo};
 use crate::list::TryCopy;
+use crate::seats::Seats;
 use crate::state::State;
 use std::alloc::{AllocError, Global};
 use std::collections::BTreeMap;
@@ -93,8 +94,7 @@ impl Store {
 /// A grain may have room made for its end before it has one.
 #[derive(Drop)]
 pub struct Ends {
-    // A grain that is there without an end has room for one.
-    ends: BTreeMap<GrainId, Option<u64>>,
+    ends: Seats<GrainId, u64>,
 }
 
 impl Ends {
@@ -103,7 +103,7 @@ impl Ends {
         ensures { (grain : GrainId) → end_in result grain ≡ None }
     {
         Ends {
-            ends: BTreeMap::new(alloc),
+            ends: Seats::new(alloc),
         }
     }
 
@@ -111,7 +111,7 @@ impl Ends {
     pub fn get(&self, grain: GrainId) -> Option<u64>
         ensures { result ≡ end_in self.now grain }
     {
-        self.ends.get(&grain).copied().flatten()
+        self.ends.get(grain).copied()
     }
 
     /// Gives a grain's file an end. Without memory the ends stay as they were.
@@ -120,7 +120,7 @@ impl Ends {
         ensures kept { OnErr result ((other : GrainId) → end_in self.new other ≡ end_in self.old other) }
         ensures room { KeepsRoom self.old self.new }
     {
-        self.ends.insert(grain, Some(end))?;
+        self.ends.put(grain, end)?;
         Ok(())
     }
 
@@ -131,10 +131,7 @@ impl Ends {
         ensures same { (other : GrainId) → end_in self.new other ≡ end_in self.old other }
         ensures room { KeepsRoom self.old self.new }
     {
-        if self.ends.contains_key(&grain) {
-            return Ok(());
-        }
-        self.ends.insert(grain, None)?;
+        self.ends.room(grain)?;
         Ok(())
     }
 
@@ -145,9 +142,8 @@ impl Ends {
         ensures raised { RaisesEnd self.old self.new grain end }
         ensures room { KeepsRoom self.old self.new }
     {
-        if let Some(kept) = self.ends.get_mut(&grain) {
-            *kept = Some(later_end(*kept, end));
-        }
+        let kept = self.ends.get(grain).copied();
+        self.ends.replace(grain, later_end(kept, end));
     }
 }
 

@@ -18,7 +18,7 @@ impl Model for Text {
 
     ghost view = { λ t. string_bytes t.text };
 
-    ghost invariant = { λ t. length (string_bytes t.text) ≤ 256 };
+    ghost invariant = { λ t. length (string_bytes t.text) ≤ 4096 };
 }
 
 impl Text {
@@ -36,7 +36,7 @@ impl Text {
     /// The text.
     pub fn as_str(&self) -> &str
         ensures same { result.now ≡ self.now }
-        ensures short { length self.now ≤ 256 }
+        ensures short { length self.now ≤ 4096 }
     {
         self.text.as_str()
     }

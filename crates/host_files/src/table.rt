@@ -6,7 +6,7 @@ ghost use Rattle.host_trait.specs.Faults.{Rose};
 ghost use Rattle.host_trait.specs.declared.channels.FileId.{FileId};
 ghost use Rattle.host_files.specs.Table.{faults_in, is_lost, is_known, had_bytes_in, AreAlwaysKnown, SameFiles, SameHadBytes, StayLost};
 
-use ascending_map::AscendingMap;
+use base_types::AscendingMap;
 use host_trait::{Channel, Failed, FileId};
 use std::alloc::{AllocError, Global};
 use system_calls::Refused;

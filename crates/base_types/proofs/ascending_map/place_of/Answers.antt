@@ -1,7 +1,7 @@
 use Rattle.std.proofs.Common.{rules}
 use Rattle.std.proofs.lemmas.List.Sorted.{answers_always}
-use Rattle.ascending_map.proofs.Orders.{searched}
-use Rattle.ascending_map.proofs.place_of.Goals as goal
+use Rattle.base_types.proofs.KeyOrders.{searched}
+use Rattle.base_types.proofs.ascending_map.place_of.Goals as goal
 
 pub returns-clause-found : goal.returns-clause-found
 returns-clause-found g c =

@@ -1,21 +1,17 @@
-//! A map that takes little memory where its keys come in ascending order.
-//!
-//! Keys that come in ascending order stand in a vector, one behind the other. Only a key that comes later than a greater one goes to a
-//! tree. So an entry of the vector takes its own bytes, and no more than as many again while the vector has room for what follows.
-#![tactic(auto)]
-
-ghost use Rattle.std.specs.Prelude.{◌≡◌, [], IfOk, IfErr, OnOk, OnErr, IsSome};
+ghost use Rattle.std.specs.Prelude.{◌≡◌, [], ◌++◌, IfOk, IfErr, OnOk, OnErr, IsSome};
 ghost use Rattle.std.specs.Option.{option_copied};
 ghost use Rattle.std.specs.BTreeMap.{is_at};
 ghost use Rattle.std.specs.Map.{keys_of, lookup};
 ghost use Rattle.std.specs.List.Sorted.{IsStrictlySortedBy};
-ghost use Rattle.ascending_map.specs.Entries.{IsPlaceOf, IsGapFor, SetsValue};
+ghost use Rattle.base_types.specs.MapEntries.{IsPlaceOf, IsGapFor, SetsValue};
 
 use std::alloc::{AllocError, Global};
 use std::collections::BTreeMap;
 use std::marker::Model;
 
-/// A map from keys to values. Contracts see its entries, each a key and its value: the first that has a key tells what it has.
+/// A map from keys to values that takes little memory where its keys come in ascending order: such keys stand in a vector, one behind
+/// the other, and only a key that comes later than a greater one goes to a tree. So an entry of the vector takes its own bytes, and no
+/// more than as many again while the vector has room for what follows. Contracts see its entries, each a key and its value: the first that has a key tells what it has.
 #[derive(Drop)]
 pub struct AscendingMap<K: Ord, V> {
     // Those whose keys came in ascending order.
@@ -45,6 +41,19 @@ fn place_of<K: Ord + Copy, V>(entries: &[(K, V)], key: &K) -> Result<usize, usiz
     entries.binary_search_by_key(key, |entry| entry.0)
 }
 
+/// Adds the keys of a tree to others.
+pub fn add_keys<K: Ord + Copy, V>(
+    keys: &mut Vec<K>,
+    tree: &BTreeMap<K, V>,
+) -> Result<(), AllocError>
+    ensures { OnOk result (keys.new.items ≡ keys.old.items ++ keys_of tree.now.entries) }
+{
+    for key in tree.keys() {
+        keys.push(*key)?;
+    }
+    Ok(())
+}
+
 impl<K: Ord + Copy, V: Drop> AscendingMap<K, V> {
     /// No key. Takes no memory.
     pub fn new(alloc: Global) -> AscendingMap<K, V>
@@ -64,6 +73,18 @@ impl<K: Ord + Copy, V: Drop> AscendingMap<K, V> {
             Ok(at) => Some(&self.ascending[at].1),
             Err(_) => self.others.get(&key),
         }
+    }
+
+    /// The keys, some perhaps twice.
+    pub fn keys(&self, alloc: Global) -> Result<Vec<K>, AllocError>
+        ensures { IfOk result (λ keys. keys.items ≡ keys_of self.now) }
+    {
+        let mut keys = Vec::with_capacity(alloc, self.ascending.len())?;
+        for entry in self.ascending.iter() {
+            keys.push(entry.0)?;
+        }
+        add_keys(&mut keys, &self.others)?;
+        Ok(keys)
     }
 
     /// Gives a key a value, in place of the one that it has, if it has one. Without memory all stays as it was.

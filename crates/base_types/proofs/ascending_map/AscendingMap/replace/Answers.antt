@@ -3,9 +3,9 @@ use Rattle.std.specs.BTreeMap.{is_at}
 use Rattle.std.specs.Map.{lookup}
 use Rattle.std.specs.Option.{option_copied_mut}
 use Rattle.std.specs.List.Sorted.{IsStrictlySortedBy}
-use Rattle.ascending_map.specs.Entries.{IsPlaceOf, IsGapFor, SetsValue}
-use Rattle.ascending_map.proofs.Edits.{same_keys, sets_in, sets_other, none_at_gap, passes_by}
-use Rattle.ascending_map.proofs.AscendingMap.replace.Goals as goal
+use Rattle.base_types.specs.MapEntries.{IsPlaceOf, IsGapFor, SetsValue}
+use Rattle.base_types.proofs.MapEdits.{same_keys, sets_in, sets_other, none_at_gap, passes_by}
+use Rattle.base_types.proofs.ascending_map.AscendingMap.replace.Goals as goal
 
 pub invariant_of-self : goal.invariant_of-self
 invariant_of-self g c =

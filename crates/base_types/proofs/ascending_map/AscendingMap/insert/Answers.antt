@@ -2,9 +2,9 @@ use Rattle.std.proofs.Common.{◌≡◌, ◌++◌, length, set, sym, subst, List
 use Rattle.std.specs.Map.{keys_of}
 use Rattle.std.specs.List.Sorted.{IsStrictlySortedBy}
 use Rattle.std.proofs.lemmas.Bool.Decides.{nat_tests}
-use Rattle.ascending_map.specs.Entries.{IsPlaceOf, IsGapFor, SetsValue}
-use Rattle.ascending_map.proofs.Edits.{same_keys, sets_in, sets_pushed, sets_other, none_at_gap, sorted_pushed, less_all}
-use Rattle.ascending_map.proofs.AscendingMap.insert.Goals as goal
+use Rattle.base_types.specs.MapEntries.{IsPlaceOf, IsGapFor, SetsValue}
+use Rattle.base_types.proofs.MapEdits.{same_keys, sets_in, sets_pushed, sets_other, none_at_gap, sorted_pushed, less_all}
+use Rattle.base_types.proofs.ascending_map.AscendingMap.insert.Goals as goal
 
 pub invariant_of-self : goal.invariant_of-self
 invariant_of-self g c =

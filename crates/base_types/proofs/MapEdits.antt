@@ -14,8 +14,8 @@ use Rattle.std.proofs.lemmas.List.Elements.{recursion_from_All}
 use Rattle.std.proofs.lemmas.List.{append_assoc}
 use Rattle.std.proofs.lemmas.Map.{NonePasses}
 use Rattle.std.proofs.lemmas.Map.Keys.{sorted_tail}
-use Rattle.ascending_map.specs.Entries.{IsPlaceOf, IsGapFor, SetsValue}
-use Rattle.ascending_map.proofs.Orders.{less_before}
+use Rattle.base_types.specs.MapEntries.{IsPlaceOf, IsGapFor, SetsValue}
+use Rattle.base_types.proofs.KeyOrders.{less_before}
 
 -- two tests of which one at most holds may be made in either order
 two_tests : {A : Type 0} (a b : Bool) (x y l : A) → (a ≡ true → b ≡ false) → cond a x (cond b y l) ≡ cond b y (cond a x l)
@@ -46,10 +46,10 @@ module _ {K : Type 0} {cmp : K → K → Ordering} (o : IsTotalOrder cmp) where
 
 module _ {K V : Type 0} {cmp : K → K → Ordering} (o : IsTotalOrder cmp) where
   -- what an edit of entries gives at any key
-  abbrev Sets : List (K × V) → List (K × V) → K → V → Type 0
+  abbrev pub Sets : List (K × V) → List (K × V) → K → V → Type 0
   Sets old new k v = (q : K) → lookup (is_at (cmp q)) new ≡ cond (is_at (cmp k) q) (Some v) (lookup (is_at (cmp q)) old)
 
-  sets_value : (old new : List (K × V)) (k : K) (v : V) → Sets old new k v → SetsValue cmp old new k v
+  pub sets_value : (old new : List (K × V)) (k : K) (v : V) → Sets old new k v → SetsValue cmp old new k v
   sets_value old new k v each = (
     each,
     each k ∙ cond-true (is_at (cmp k) k) (Some v) (lookup (is_at (cmp k)) old) ((laws o).refl k),

@@ -8,7 +8,7 @@ use Rattle.std.specs.Map.{keys_of}
 use Rattle.std.specs.List.Sorted.{IsStrictlySortedBy, IsNonDecreasingBy, IsSearchInRange, IsBinarySearchResult}
 use Rattle.std.proofs.lemmas.Bool.{cases_lt}
 use Rattle.std.proofs.lemmas.Map.Keys.{Less-from_sorted}
-use Rattle.ascending_map.specs.Entries.{IsPlaceOf, IsGapFor}
+use Rattle.base_types.specs.MapEntries.{IsPlaceOf, IsGapFor}
 
 -- the key of the entry at a place
 pub key_at : {K V : Type 0} (xs : List (K × V)) (i : ℕ) (d : K × V) → get_or (keys_of xs) i d.0 ≡ (get_or xs i d).0

@@ -1,9 +1,9 @@
 use Rattle.std.proofs.Common.{◌∙◌, sym, ap, subst, List}
 use Rattle.std.specs.BTreeMap.{is_at}
 use Rattle.std.specs.Map.{lookup}
-use Rattle.ascending_map.specs.Entries.{IsPlaceOf, IsGapFor}
-use Rattle.ascending_map.proofs.Edits.{value_in, passes_by, none_at_gap}
-use Rattle.ascending_map.proofs.AscendingMap.get.Goals as goal
+use Rattle.base_types.specs.MapEntries.{IsPlaceOf, IsGapFor}
+use Rattle.base_types.proofs.MapEdits.{value_in, passes_by, none_at_gap}
+use Rattle.base_types.proofs.ascending_map.AscendingMap.get.Goals as goal
 
 pub returns-in-Ok : goal.returns-in-Ok
 returns-in-Ok g c =
