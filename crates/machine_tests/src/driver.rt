@@ -6,7 +6,7 @@ ghost use Rattle.script_machine.specs.Machines.{AnswersRequest, has_begun, pause
 use crate::printer::{Deeds, add_call, add_grain, line_of, list_of, outcome_text};
 use crate::settings::Setting;
 use crate::trouble::Trouble;
-use base_types::{Call, GrainId, Mode, Outcome, State};
+use base_types::{Call, GrainId, Mode, Outcome, STATE_LIMIT, State};
 use script_check::{Checked, initial_state};
 use script_machine::{Input, Machine, Parts, Pause};
 use std::alloc::Global;
@@ -67,7 +67,7 @@ impl Driver<'_> {
             .types
             .get(usize::from(grain.kind))
             .ok_or("no type")?;
-        if of_type.fields.len() > 16 {
+        if of_type.fields.len() > STATE_LIMIT {
             return Err(Trouble::Case("too many fields"));
         }
         Ok(initial_state(alloc, of_type.fields.as_slice())?)

@@ -11,7 +11,7 @@
 //! The first four tell what is held: each grain with its mode, its working state and whether that was written.
 
 use crate::trouble::Trouble;
-use base_types::{GrainId, Mode, State, Value};
+use base_types::{GrainId, Mode, STATE_LIMIT, State, Value};
 use script_holding::{Held, Holding};
 use script_tree::{Chars, FieldDecl, Literal, Name};
 use std::alloc::{AllocError, Global};
@@ -28,7 +28,7 @@ fn field_of(alloc: Global, name: &str, number: i64) -> Result<FieldDecl, AllocEr
 fn state_of(alloc: Global, numbers: &[u32]) -> Result<State, AllocError> {
     let mut state = State::new(alloc);
     for number in numbers {
-        if state.len() < 16 {
+        if state.len() < STATE_LIMIT {
             state.push(Value::Int(i64::from(*number)))?;
         }
     }

@@ -93,7 +93,7 @@ method_of types kind name = option_and_then
 
 -- ---- args
 
--- the value that an argument is: a number that `as_i64` gives, or a string of at most 256 bytes
+-- the value that an argument is: a number that `as_i64` gives, or a string of at most 4,096 bytes
 abbrev pub value_of_json : Data → Option Value
 value_of_json null = None
 value_of_json (boolean b) = None

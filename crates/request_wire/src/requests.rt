@@ -27,7 +27,7 @@ pub struct Line {
 ///   of the program's, and the key is from 0 to 4294967295 without a leading zero.
 /// - `Method`: the type has this method.
 /// - `Args`: there are as many arguments as parameters. Each is a number that fits an `i64`, is not `-0` and has
-///   neither a point nor an exponent, or a string of at most 256 bytes.
+///   neither a point nor an exponent, or a string of at most 4,096 bytes.
 ///
 /// `Memory`: memory ran out. It says nothing about the line.
 pub fn read_request(alloc: Global, line: &[u8], checked: &Checked) -> Result<Call, RequestFault>

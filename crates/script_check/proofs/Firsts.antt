@@ -224,7 +224,7 @@ type_tells types before t =
     let fields = each_names (λ f. f.name) field_mention [] t.fields in
     let methods = each_names (λ m. m.name) (method_mentions types (field_names t.fields)) [] t.methods in
     tells_both (at_name t.name (declared_fault 64 before t.name) ++ fields) methods _ _
-    (tells_both (at_name t.name (declared_fault 64 before t.name)) fields _ _ (tells_one t.name (declared_fault 64 before t.name) (declared_at 64 before t.name)) (each_tells (λ f. f.name) field_mention field_fault (λ b f. tells_one f.name (field_fault b f) (declared_at 16 b f.name)) [] t.fields))
+    (tells_both (at_name t.name (declared_fault 64 before t.name)) fields _ _ (tells_one t.name (declared_fault 64 before t.name) (declared_at 64 before t.name)) (each_tells (λ f. f.name) field_mention field_fault (λ b f. tells_one f.name (field_fault b f) (declared_at 64 b f.name)) [] t.fields))
     (each_tells (λ m. m.name) (method_mentions types (field_names t.fields)) (method_fault types (field_names t.fields)) (method_tells types (field_names t.fields)) [] t.methods)
 
 pub program_tells : (types : ProgramTree) → Tells (program_names types) (program_fault types)

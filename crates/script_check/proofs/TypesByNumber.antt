@@ -26,7 +26,7 @@ fields_are p types kind t h =
     ap type_fields (slice_get-map type_tree p.types.list.items kind ∙ ap (option_map type_tree) (slice_get_read p.types.list.items (length p.types.list.items) kind t refl (in_list p types kind t h) is))
 
 -- it has few of them
-pub few_fields : (p : Program) (types : List TypeDecl) (kind : ℕ) (t : TypeDecl) → IsAcceptedProgram (program_tree p) → IsTypeAt p types kind t → length t.fields.list.items ≤ 16
+pub few_fields : (p : Program) (types : List TypeDecl) (kind : ℕ) (t : TypeDecl) → IsAcceptedProgram (program_tree p) → IsTypeAt p types kind t → length t.fields.list.items ≤ 64
 few_fields p types kind t ok h =
     let is : t ≡ get_or p.types.list.items kind t = h.is ∙ ap (λ (l : List TypeDecl). get_or l kind t) h.are in
-    subst (λ (x : TypeDecl). length x.fields.list.items ≤ 16) (sym is) (program_small p.types.list.items ok kind t (in_list p types kind t h)).fields
+    subst (λ (x : TypeDecl). length x.fields.list.items ≤ 64) (sym is) (program_small p.types.list.items ok kind t (in_list p types kind t h)).fields

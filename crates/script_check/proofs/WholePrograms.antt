@@ -122,8 +122,8 @@ transaction_iff Read option at = let o = option_iff option at in ((λ e n. o.0 e
 transaction_iff Update option at = let o = option_iff option at in ((λ e n. o.0 e), (λ h. o.1 (h (λ k. absurd cc))))
 
 -- fields, of which nothing else is asked
-field_one : (before : Scope) (f : FieldDecl) → (field_fault before f ≡ None) ↔ (IsNext 16 before f.name × Unit {0})
-field_one before f = let d = declared_iff 16 before f.name in ((λ e. (d.0 e, tt)), (λ h. d.1 h.0))
+field_one : (before : Scope) (f : FieldDecl) → (field_fault before f ≡ None) ↔ (IsNext 64 before f.name × Unit {0})
+field_one before f = let d = declared_iff 64 before f.name in ((λ e. (d.0 e, tt)), (λ h. d.1 h.0))
 
 -- parameters, none of which has a field's name
 parameter_one : (fields before : Scope) (n : Name) → (parameter_fault fields before n ≡ None) ↔ (IsNext 8 before n × (¬ Contains fields n.text))
@@ -155,7 +155,7 @@ type_one types before t =
     let fields = each_fault (λ f. f.name) field_fault [] t.fields in
     let methods = each_fault (λ m. m.name) (method_fault types (field_names t.fields)) [] t.methods in
     let p = pair_iff (declared <|> fields) methods
-    (pair_iff declared fields (declared_iff 64 before t.name) (from_first (λ f. f.name) 16 field_fault (λ f. Unit {0}) field_one t.fields))
+    (pair_iff declared fields (declared_iff 64 before t.name) (from_first (λ f. f.name) 64 field_fault (λ f. Unit {0}) field_one t.fields))
     (from_first (λ m. m.name) 64 (method_fault types (field_names t.fields)) (IsAcceptedMethod types (field_names t.fields)) (method_one types (field_names t.fields)) t.methods) in (
       (λ e. let s = p.0 e in (s.0.0, record { few_fields = s.0.1.few; fields_apart = s.0.1.apart; few_methods = s.1.few; methods_apart = s.1.apart; methods = s.1.own })),
       (λ h. p.1 ((h.0, record { apart = h.1.fields_apart; few = h.1.few_fields; own = (λ k d lt. tt) }), record { apart = h.1.methods_apart; few = h.1.few_methods; own = h.1.methods })),

@@ -29,7 +29,7 @@ pub record IsAcceptedMethod (types : ProgramTree) (fields : Scope) (method : Met
 
 -- a type of a program of these types
 pub record IsAcceptedType (types : ProgramTree) (of_type : TypeTree) : Type 0 where
-  pub few_fields : length of_type.fields ≤ 16
+  pub few_fields : length of_type.fields ≤ 64
   pub fields_apart : AreNamesApart (field_names of_type.fields)
   pub few_methods : length of_type.methods ≤ 64
   pub methods_apart : AreNamesApart (map (λ m. m.name.text) of_type.methods)

@@ -36,9 +36,9 @@ each_fault name_of fault before (first ∷ rest) = fault before first <|> each_f
 abbrev pub declared_fault : ℕ → Scope → Name → FirstFault
 declared_fault limit before name = taken_fault before name <|> room_fault limit before name
 
--- a field of a type, of which there are at most 16
+-- a field of a type, of which there are at most 64
 abbrev pub field_fault : Scope → FieldDecl → FirstFault
-field_fault before field = declared_fault 16 before field.name
+field_fault before field = declared_fault 64 before field.name
 
 -- a parameter of a method, of which there are at most 8, and none has a field's name
 abbrev pub parameter_fault : Scope → Scope → Name → FirstFault

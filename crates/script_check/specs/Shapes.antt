@@ -10,7 +10,7 @@ use Rattle.script_tree.specs.declared.expressions.Literal.TheVariants as literal
 use Rattle.script_tree.specs.declared.programs.TypeDecl.{TypeDecl}
 use Rattle.script_tree.specs.Programs.{TypeTree, ProgramTree}
 
--- a name or a text of a program, none of which has more than 256 bytes; a longer one, which no text of a
+-- a name or a text of a program, none of which has more than 4,096 bytes; a longer one, which no text of a
 -- program gives, counts as empty
 abbrev pub fitted : List ℕ → List ℕ
 fitted text = unwrap_or (short_text text) []
@@ -28,7 +28,7 @@ type_shape of_type = record { name = fitted of_type.name.text; initial = map (λ
 abbrev pub type_shapes : ProgramTree → List TypeShape
 type_shapes types = map type_shape types
 
--- a type that has a shape: a state has at most 16 values, and a method at most 8 parameters
+-- a type that has a shape: a state has at most 64 values, and a method at most 8 parameters
 pub record IsSmall (of_type : TypeDecl) : Type 0 where
-  pub fields : length of_type.fields.list.items ≤ 16
+  pub fields : length of_type.fields.list.items ≤ 64
   pub params : All (λ m. length m.params.list.items ≤ 8) of_type.methods.list.items

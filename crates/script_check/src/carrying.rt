@@ -43,7 +43,7 @@ fn carry_values(
     news: &[FieldDecl],
     values: &[Value],
 ) -> Result<State, AllocError>
-    requires few { length news.now ≤ 16 }
+    requires few { length news.now ≤ 64 }
     requires values { length values.now ≡ length olds.now }
     ensures { IfOk result (λ made. made ≡ carried_fields olds.now news.now values.now) }
 {

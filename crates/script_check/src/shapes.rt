@@ -8,7 +8,7 @@ use base_types::{List, Shape, State, Text, TypeShape, Value};
 use script_tree::{Chars, FieldDecl, Literal, Method, TypeDecl};
 use std::alloc::{AllocError, Global};
 
-/// A name or a text of a program as a text of its own. One past 256 bytes, which no text of a program gives,
+/// A name or a text of a program as a text of its own. One past 4,096 bytes, which no text of a program gives,
 /// counts as empty.
 pub fn fitted(alloc: Global, text: &Chars) -> Result<Text, AllocError>
     ensures { IfOk result (λ made. made ≡ fitted text.now) }
@@ -36,9 +36,9 @@ pub fn value_of(alloc: Global, literal: &Literal) -> Result<Value, AllocError>
     }
 }
 
-/// The state with which a type's grain begins, for a type of at most 16 fields.
+/// The state with which a type's grain begins, for a type of at most 64 fields.
 pub fn initial_state(alloc: Global, fields: &[FieldDecl]) -> Result<State, AllocError>
-    requires { length fields.now ≤ 16 }
+    requires { length fields.now ≤ 64 }
     ensures { IfOk result (λ made. made ≡ map (λ f. value_of f.initial) fields.now) }
 {
     let mut state = State::new(alloc);

@@ -106,7 +106,7 @@ impl Holding {
         fields: &[FieldDecl],
         found: State,
     ) -> Result<(), AllocError>
-        requires { length fields.now ≤ 16 }
+        requires { length fields.now ≤ 64 }
         ensures ok { OnOk result (self.new ≡ with_held self.old (self.old.held ++ newly_held grain mode fields.now found ∷ [])) }
         ensures err { OnErr result (self.new ≡ self.old) }
     {
@@ -150,7 +150,7 @@ fn take_hold(
     fields: &[FieldDecl],
     found: State,
 ) -> Result<Held, AllocError>
-    requires { length fields.now ≤ 16 }
+    requires { length fields.now ≤ 64 }
     ensures { IfOk result (λ one. one ≡ newly_held grain mode fields.now found) }
 {
     let state = begun(alloc, fields, found)?;
@@ -164,7 +164,7 @@ fn take_hold(
 
 /// The state found, or the type's first fields where it has another number of values.
 fn begun(alloc: Global, fields: &[FieldDecl], found: State) -> Result<State, AllocError>
-    requires { length fields.now ≤ 16 }
+    requires { length fields.now ≤ 64 }
     ensures { IfOk result (λ state. state ≡ (if nat_eq (length found) (length fields.now) then found else initial_fields fields.now)) }
 {
     if found.len() == fields.len() {

@@ -127,14 +127,14 @@ quote_found : (bs : List ℕ) → lexeme 34 bs ≡ text_lexeme bs
 unfolding lexeme
 quote_found bs = refl
 
-text_found : (bs rest : List ℕ) → list_all in_text bs ≡ true → length bs ≤ 256 → lexeme 34 (bs ++ 34 ∷ [] ++ rest) ≡ Whole (token.Text bs) (length bs + 1)
+text_found : (bs rest : List ℕ) → list_all in_text bs ≡ true → length bs ≤ 4096 → lexeme 34 (bs ++ 34 ∷ [] ++ rest) ≡ Whole (token.Text bs) (length bs + 1)
 unfolding text_lexeme
 text_found bs rest all le =
     let same : bs ++ 34 ∷ [] ++ rest ≡ bs ++ (34 ∷ rest) = append_assoc bs (34 ∷ []) rest in
     let len : prefix_len in_text (bs ++ (34 ∷ rest)) ≡ length bs = run_is in_text bs (34 ∷ rest) all refl in
     let cut : take (length bs) (bs ++ (34 ∷ rest)) ≡ bs = take_at bs (34 ∷ rest) (length bs) refl in
     let behind : drop (length bs) (bs ++ (34 ∷ rest)) ≡ 34 ∷ rest = drop_at bs (34 ∷ rest) (length bs) refl in
-    let most : nat_le (length bs) 256 ≡ true = grind (arith, nat_tests) in
+    let most : nat_le (length bs) 4096 ≡ true = grind (arith, nat_tests) in
     quote_found (bs ++ 34 ∷ [] ++ rest) ∙ rw (same, len, behind, most, cut) refl
 
 -- ---- symbols

@@ -57,12 +57,12 @@ closes_within (suc len) (b ∷ bs) e = omega (arith, closes_within len bs e)
 
 text_within : (bs : List ℕ) → length_behind (text_lexeme bs) ≤ length bs
 unfolding text_lexeme
-text_within bs = text_if (closes (drop len bs) && nat_le len 256) refl where
+text_within bs = text_if (closes (drop len bs) && nat_le len 4096) refl where
   len : ℕ
   len = prefix_len in_text bs
 
-  text_if : (q : Bool) → (closes (drop len bs) && nat_le len 256) ≡ q → length_behind (cond q (Whole (token.Text (take len bs)) (len + 1)) Bad) ≤ length bs
-  text_if true e = let closed = and_parts (closes (drop len bs)) (nat_le len 256) e in let lt : len < length bs = closes_within len bs closed.0 in omega arith
+  text_if : (q : Bool) → (closes (drop len bs) && nat_le len 4096) ≡ q → length_behind (cond q (Whole (token.Text (take len bs)) (len + 1)) Bad) ≤ length bs
+  text_if true e = let closed = and_parts (closes (drop len bs)) (nat_le len 4096) e in let lt : len < length bs = closes_within len bs closed.0 in omega arith
   text_if false e = omega arith
 
 symbol_within : (b : ℕ) (bs : List ℕ) → length_behind (symbol_lexeme (b ∷ bs)) ≤ length bs

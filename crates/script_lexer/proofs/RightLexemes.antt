@@ -82,12 +82,12 @@ text_right : (b : ℕ) (bs : List ℕ) → b ≡ 34 → IsRight b bs (text_lexem
 unfolding text_lexeme
 text_right b bs quote =
     let len = prefix_len in_text bs in
-    right_if b bs (closes (drop len bs) && nat_le len 256) (Whole (token.Text (take len bs)) (len + 1)) Bad
+    right_if b bs (closes (drop len bs) && nat_le len 4096) (Whole (token.Text (take len bs)) (len + 1)) Bad
     (λ both.
-    let parts = and_parts (closes (drop len bs)) (nat_le len 256) both in
-    let most : len ≤ 256 = le_true len 256 parts.1 in
+    let parts = and_parts (closes (drop len bs)) (nat_le len 4096) both in
+    let most : len ≤ 4096 = le_true len 4096 parts.1 in
     let lt : len < length bs = closes_within len bs parts.0 in
-    let count : length (take len bs) ≤ 256 = omega (arith, length-take-le len bs (omega arith)) in
+    let count : length (take len bs) ≤ 4096 = omega (arith, length-take-le len bs (omega arith)) in
     let said : 34 ∷ (take len bs ++ 34 ∷ []) ≡ b ∷ take (len + 1) bs = ap (λ (l : List ℕ). 34 ∷ l) (sym (quoted len bs parts.0)) ∙ ap (λ c. c ∷ take (len + 1) bs) (sym quote) in
     subst (λ (l : List ℕ). Spells (token.Text (take len bs)) l (drop (len + 1) bs)) said (text (take len bs) (drop (len + 1) bs) (run_passes in_text bs) count))
     (λ _. tt)

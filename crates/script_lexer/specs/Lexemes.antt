@@ -47,7 +47,7 @@ closes (b ∷ bs) = nat_eq b 34
 unfoldable pub text_lexeme : List ℕ → Lexeme
 text_lexeme bs =
     let len = prefix_len in_text bs in
-    if closes (drop len bs) && nat_le len 256 then Whole (token.Text (take len bs)) (len + 1) else Bad
+    if closes (drop len bs) && nat_le len 4096 then Whole (token.Text (take len bs)) (len + 1) else Bad
 
 -- a symbol that is there
 abbrev pub symbol_found : Option Symbol → Lexeme

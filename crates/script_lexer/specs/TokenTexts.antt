@@ -47,7 +47,7 @@ pub data Spells : Token → List ℕ → List ℕ → Type 0 where
       → Spells (token.Int (pos (number_from 0 (b ∷ bs)))) (b ∷ bs) rest
   text : (bs rest : List ℕ)
       → IsTrue (list_all in_text bs)
-      → length bs ≤ 256
+      → length bs ≤ 4096
       → Spells (token.Text bs) (34 ∷ (bs ++ 34 ∷ [])) rest
   symbol : (s : Symbol) (rest : List ℕ)
       → ((longer : Symbol) → IsTrue (starts_with nat_eq (symbol_spelling s ++ rest) (symbol_spelling longer)) → length (symbol_spelling longer) ≤ length (symbol_spelling s))

@@ -21,7 +21,7 @@ few_of types i program (Some of_type) e =
     let is : IsAcceptedType (map type_tree types) (type_tree of_type) = is_type (map type_tree types) i (type_tree of_type) program (slice_get-map type_tree types i ∙ ap (option_map type_tree) e) in
     record { fields = is.few_fields; methods = is.few_methods }
 
--- a type of a program has at most 16 fields and 64 methods
+-- a type of a program has at most 64 fields and 64 methods
 pub few_at : (types : List TypeDecl) (i : ℕ) → IsAcceptedProgram (map type_tree types) → IfSome (slice_get types i) (λ of_type. IsFew (type_tree of_type))
 few_at types i program = few_of types i program (slice_get types i) refl
 

@@ -21,5 +21,5 @@ post_of callee kind context depth = record { grain = callee.grain; method = call
 
 -- the fields fit a state, and the methods' numbers 16 bits
 pub record IsFew (of_type : TypeTree) : Type 0 where
-  pub fields : length of_type.fields ≤ 16
+  pub fields : length of_type.fields ≤ 64
   pub methods : length of_type.methods ≤ 64

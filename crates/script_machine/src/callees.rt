@@ -37,7 +37,7 @@ fn method_at(of_type: &TypeDecl, number: u16) -> Option<&Method>
 /// The fields of the type of this number, none where there is no type.
 pub fn fields_at(checked: &Checked, number: u16) -> &[FieldDecl]
     ensures same { result.now ≡ fields_of (slice_get (program_tree checked.now) number) }
-    ensures few { length result.now ≤ 16 }
+    ensures few { length result.now ≤ 64 }
 {
     match type_at(checked, number) {
         None => &[],

@@ -149,7 +149,7 @@ module _ (Q : List ℕ → Type 0) (own : Says Q) where
 
   -- a text, or one that is too long
   joined_said : (text : List ℕ) → IsSaidOf (joined_text text)
-  joined_said text = either_said (nat_le (length text) 256) (Ok (Text text)) (Err too_long) tt own.too_long
+  joined_said text = either_said (nat_le (length text) 4096) (Ok (Text text)) (Err too_long) tt own.too_long
 
   -- an operator before a number
   prefixed_said : (op : UnaryOp) (number : ℤ) → IsSaidOf (prefixed op number)

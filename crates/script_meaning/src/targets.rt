@@ -56,7 +56,7 @@ fn type_of(types: &[TypeDecl], kind: u16) -> Option<&TypeDecl>
 pub fn target_at(types: &[TypeDecl], kind: u16, number: u16) -> Option<Target<'_>>
     requires { IsAcceptedProgram (map type_tree types.now) }
     ensures found { option_map target_of result ≡ numbered (type_at types.now kind) number }
-    ensures few { IfSome result (λ target. length target.of_type.now.fields.list.items ≤ 16) }
+    ensures few { IfSome result (λ target. length target.of_type.now.fields.list.items ≤ 64) }
 {
     let of_type = type_of(types, kind)?;
     let method = of_type.methods.get(number as usize)?;
@@ -71,7 +71,7 @@ pub fn target_at(types: &[TypeDecl], kind: u16, number: u16) -> Option<Target<'_
 pub fn target_named<'a>(types: &'a [TypeDecl], kind: u16, name: &Chars) -> Option<Target<'a>>
     requires { IsAcceptedProgram (map type_tree types.now) }
     ensures found { option_map target_of result ≡ method_target (type_at types.now kind) name.now }
-    ensures few { IfSome result (λ target. length target.of_type.now.fields.list.items ≤ 16) }
+    ensures few { IfSome result (λ target. length target.of_type.now.fields.list.items ≤ 64) }
 {
     let of_type = type_of(types, kind)?;
     let number = method_number(of_type.methods.as_slice(), name)?;

@@ -210,7 +210,7 @@ impl Player {
         grain: GrainId,
         fields: &[FieldDecl],
     ) -> Result<(), Stop>
-        requires { length fields.now ≤ 16 }
+        requires { length fields.now ≤ 64 }
         ensures led { (go : Has → Requests) →
             Leads world.now self.new self.old.progress result (λ _. go self.new.has)
             (locked None mode grain fields.now go self.old.has) }
@@ -235,7 +235,7 @@ impl Player {
         grain: GrainId,
         fields: &[FieldDecl],
     ) -> Result<(), Stop>
-        requires { length fields.now ≤ 16 }
+        requires { length fields.now ≤ 64 }
         ensures led { (go : Has → Requests) →
             Leads world.now self.new self.old.progress result (λ _. go self.new.has)
             (locked (mode_at grain self.old.has.held) mode grain fields.now go self.old.has) }
@@ -263,7 +263,7 @@ impl Player {
         grain: GrainId,
         fields: &[FieldDecl],
     ) -> Result<(), Stop>
-        requires { length fields.now ≤ 16 }
+        requires { length fields.now ≤ 64 }
         ensures led { (go : Has → Requests) →
             Leads world.now self.new self.old.progress result (λ _. go self.new.has)
             (joined kind grain fields.now go self.old.has) }

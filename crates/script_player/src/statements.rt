@@ -275,7 +275,7 @@ impl Player {
         target: Target<'_>,
         args: List<Value>,
     ) -> Result<Answer, Stop>
-        requires { length target.of_type.now.fields.list.items ≤ 16 }
+        requires { length target.of_type.now.fields.list.items ≤ 64 }
         ensures led { (onto : Back) (caught : Caught) →
             Leads world.now self.new self.old.progress result (λ answer. answering answer onto caught self.new.has)
             (enters (deep (types_in world.now) (33 - depth)) way depth grain (target_of target.entry) args

@@ -23,7 +23,7 @@ pub enum CheckFault {
     /// A field that is set in a `read` method.
     #[error("field set in a read method at {at}")]
     SetInRead { at: u32 },
-    /// The 65th type, the 17th field or 65th method of a type, the 9th parameter of a method.
+    /// The 65th type, the 65th field or method of a type, the 9th parameter of a method.
     #[error("one too many at {at}")]
     TooMany { at: u32 },
     /// A `read` or `update` method whose option may run it outside a transaction.

@@ -6,7 +6,7 @@ use Rattle.script_values.specs.declared.reasons.Reason.{Reason}
 use Rattle.script_values.specs.declared.reasons.Reason.TheVariants.{Overflow, Divide, Kind, Key, Length, Budget, Depth, Units, Grains, NoTransaction, NotAllowed, Aborted, Unknown}
 use Rattle.script_values.specs.Reasons.{reason_text}
 
--- a fault's text has at most 256 bytes
+-- a fault's text has at most 4,096 bytes
 pub reason_is_short : (reason : Reason) → short_text (reason_text reason) ≡ Some (reason_text reason)
 reason_is_short Overflow = refl
 reason_is_short Divide = refl

@@ -19,7 +19,7 @@ kind = codes "kind"
 abbrev pub key : List ℕ
 key = codes "key"
 
--- a joined text of more than 256 bytes
+-- a joined text of more than 4,096 bytes
 abbrev pub too_long : List ℕ
 too_long = codes "length"
 

@@ -30,9 +30,9 @@ fits number = int_le (negsuc 9223372036854775807) number && int_le number (pos 9
 abbrev pub within : ℤ → ValueOrFault
 within number = if fits number then Ok (Int number) else Err overflow
 
--- a text, where it has at most 256 bytes
+-- a text, where it has at most 4,096 bytes
 abbrev pub joined_text : List ℕ → ValueOrFault
-joined_text text = if nat_le (length text) 256 then Ok (Text text) else Err too_long
+joined_text text = if nat_le (length text) 4096 then Ok (Text text) else Err too_long
 
 -- the number that stands for a truth
 abbrev pub truth : Bool → Value

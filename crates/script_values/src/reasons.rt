@@ -17,7 +17,7 @@ pub enum Reason {
     Kind,
     /// A place that is no key.
     Key,
-    /// A joined text of more than 256 bytes.
+    /// A joined text of more than 4,096 bytes.
     Length,
     /// A step past the last one of a unit.
     Budget,

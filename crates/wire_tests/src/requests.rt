@@ -167,10 +167,10 @@ fn passed(alloc: Global, line: &[u8], program: &Checked) -> Result<Call, Fail> {
 fn a_text_and_no_argument_pass_where_they_fit(rt: HostRuntime) -> Result<(), Fail> {
     let alloc = rt.alloc();
     let counter = program_of(alloc, COUNTER)?;
-    let longest = with_text(alloc, 256)?;
+    let longest = with_text(alloc, 4_096)?;
     let call = passed(alloc, longest.as_bytes(), &counter)?;
     assert!(rt; matches!(call.args.get(0), Some(Value::Text(_))));
-    let too_long = with_text(alloc, 257)?;
+    let too_long = with_text(alloc, 4_097)?;
     assert!(rt; failed(alloc, too_long.as_bytes(), &counter)? == Some(BadRequest::Args));
     let read = b"{\"args\":[],\"call\":\"counter/7.read\"}";
     let call = passed(alloc, read, &counter)?;

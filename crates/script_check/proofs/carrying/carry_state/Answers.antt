@@ -17,7 +17,7 @@ carry_values-requires-clause-few c =
       there = types (program_tree c.args.old.now) (program_tree c.args.new.now) c.args.kind c.requires.follows c.requires.kind;
       is = c.index-as_slice-kind-2.is;
     } in
-    subst (λ (l : List FieldDecl). length l ≤ 16) (sym (c.as_slice-4.ensures ∙ ap (λ (t : TypeDecl). t.fields.list.items) (sym c.index-as_slice-kind-2.is))) (few_fields c.args.new.now c.as_slice-2.result.now c.args.kind c.index-as_slice-kind-2.result c.program-2.ensures.checked at)
+    subst (λ (l : List FieldDecl). length l ≤ 64) (sym (c.as_slice-4.ensures ∙ ap (λ (t : TypeDecl). t.fields.list.items) (sym c.index-as_slice-kind-2.is))) (few_fields c.args.new.now c.as_slice-2.result.now c.args.kind c.index-as_slice-kind-2.result c.program-2.ensures.checked at)
 
 pub carry_values-requires-clause-values : goal.carry_values-requires-clause-values
 carry_values-requires-clause-values c =
