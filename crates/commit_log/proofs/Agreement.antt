@@ -7,21 +7,27 @@ use Rattle.base_types.specs.declared.calls.Origin.{Origin}
 use Rattle.base_types.specs.declared.calls.Origin.TheVariants.{Line, Child}
 use Rattle.base_types.specs.declared.shapes.Shape.{Shape}
 use Rattle.field_codec.specs.declared.formats.Format.{Format}
+use Rattle.field_codec.specs.declared.formats.Format.TheVariants.{One, Two}
 use Rattle.field_codec.specs.declared.faults.CodecFault.{CodecFault}
-use Rattle.field_codec.specs.declared.faults.CodecFault.TheVariants.{Short, BadTag, Unknown, Trailing}
+use Rattle.field_codec.specs.declared.faults.CodecFault.TheVariants.{Short, BadTag, Over, Unknown, Trailing}
 use Rattle.field_codec.specs.declared.units.Numbers.TheVariants.{Free, Logged}
-use Rattle.field_codec.specs.Units.{may_be_unit, may_be_parent}
-use Rattle.field_codec.specs.Readers.{Reader, and_then, whole, refused, field, choice, chain, number_at, count_at, list_at}
-use Rattle.field_codec.specs.Fields.{unit_at, parent_at, origin_at, result_at}
+use Rattle.field_codec.specs.Units.{may_be_unit, may_be_parent, SessionFits}
+use Rattle.field_codec.specs.Readers.{Reader, and_then, whole, refused, field, choice, chain, times, number_at, program_at}
+use Rattle.field_codec.specs.Fields.{unit_at, parent_at, session_at, origin_at, result_at}
 use Rattle.field_codec.specs.Results.{place_of}
 use Rattle.field_codec.proofs.Readers.{Reads, past, ok_is}
 use Rattle.field_codec.proofs.Counts.{reads16, reads32}
 use Rattle.field_codec.proofs.Things.{origin_reads, result_reads}
 use Rattle.commit_log.specs.declared.records.CommitRecord.{CommitRecord}
-use Rattle.commit_log.specs.Bodies.{HasNumbers, IsRecordIn, IsBlockBody}
-use Rattle.commit_log.specs.Fields.{call_in, answers_at, writes_in, record_in, records_in, body_in}
-use Rattle.commit_log.specs.Agreement.{IsNoUnitAt, Agrees}
+use Rattle.commit_log.specs.declared.contents.Body.{Body}
+use Rattle.commit_log.specs.declared.contents.Body.TheVariants.{Records, Upgrade}
+use Rattle.commit_log.specs.Bodies.{HasNumbers, IsRecordIn}
+use Rattle.commit_log.specs.Fields.{call_in, answers_at, writes_in, record_in}
+use Rattle.commit_log.specs.Contents.{upgrade_mark, IsContentIn, content_in}
+use Rattle.commit_log.specs.Sessions.{IsSessionBody, front_in, body_with_session}
+use Rattle.commit_log.specs.Agreement.{IsNoUnitAt, Agrees, AreLogged}
 use Rattle.commit_log.proofs.Fields.{call_reads, answers_read, writes_reads, record_reads}
+use Rattle.commit_log.proofs.ContentsRead.{content_reads}
 
 which : (b : Bool) → (b ≡ true) ⊎ (b ≡ false)
 which true = inl refl
@@ -197,11 +203,39 @@ module _ (bytes : List ℕ) where
         (λ unit p0. field_alike (origin_at Logged) (origin_at Free) _ _ origin_alike (λ origin p1. same_alike (behind_origin unit origin)) (λ origin p1. behind_onward unit origin))
         (λ unit p0. field_onward (origin_at Free) _ (onward (origin_at Free) (origin_reads Free)) (λ origin p1. behind_onward unit origin)) at
 
-    records_alike : Alike (records_in format Logged shape) (records_in format Free shape)
-    unfolding list_at
-    records_alike at =
-        field_same (count_at w32 64) _ _ (λ n place.
-        chain_alike {S = Unit {0}} (λ s. record_in format Logged shape) (λ s. record_in format Free shape) (λ s x. s) (λ s. record_alike) (λ s. onward (record_in format Free shape) (record_reads format Free shape)) n tt) at
+    records_alike : (n : ℕ) → Alike (times (record_in format Logged shape) n) (times (record_in format Free shape) n)
+    records_alike n at =
+        chain_alike {S = Unit {0}} (λ s. record_in format Logged shape) (λ s. record_in format Free shape) (λ s x. s) (λ s. record_alike) (λ s. onward (record_in format Free shape) (record_reads format Free shape)) n tt at
+
+    content_alike : Alike (content_in format Logged shape) (content_in format Free shape)
+    unfolding content_in
+    content_alike at =
+        field_same (number_at w32) _ _ (λ n place.
+        other_alike (eqb n upgrade_mark) (field program_at λ text here. whole (Upgrade text)) _ _
+        (other_alike (ltb 64 n) (refused (Over place 64)) _ _
+        (field_alike (times (record_in format Logged shape) n) (times (record_in format Free shape) n) _ _ (records_alike n)
+        (λ records here. same_alike (whole (Records records))) (λ records here. whole_onward (Records records))))) at
+
+    session_alike : (f : Format) (last : ℕ) → Alike (session_at f Logged last) (session_at f Free last)
+    unfolding session_at field choice whole refused
+    session_alike One last at = inl refl
+    session_alike Two last at =
+        and_same (number_at w64 bytes at) _ _
+        (λ x is. elim (which (ltb x.0 last)) [
+          | inl falls ↦ inl (rw falls refl)
+          | inr stays ↦
+              elim (which (may_be_parent Logged x.0)) [
+                | inl may ↦ inl (rw (stays, may) refl)
+                | inr not ↦ inr (at, rw (stays, not) refl, record { number = x.0; end = x.1; there = is; none = no_unit x.0 not }, rw stays (number_ends at x.0 x.1 is))
+              ]
+        ])
+
+    front_alike : (last : ℕ) → Alike (front_in format Logged shape last) (front_in format Free shape last)
+    unfolding front_in
+    front_alike last at =
+        field_alike (session_at format Logged last) (session_at format Free last) _ _ (session_alike format last)
+        (λ session place. field_alike (content_in format Logged shape) (content_in format Free shape) _ _ content_alike (λ content here. same_alike (whole (session, content))) (λ content here. whole_onward (session, content)))
+        (λ session place. field_onward (content_in format Free shape) _ (onward (content_in format Free shape) (content_reads format Free shape)) (λ content here. whole_onward (session, content))) at
 
   -- two readings that agree, each of a whole text
   whole_agree : {A : Type 0} (r s : Result (A × ℕ) CodecFault) (end : ℕ) → AgreesOn r s
@@ -211,13 +245,25 @@ module _ (bytes : List ℕ) where
   whole_agree {A} r (Err d) end (inr bad) = inr (bad.0, ap (λ (t : Result (A × ℕ) CodecFault). and_then t (λ x. cond (eqb x.1 end) (Ok x.0) (Err (Trailing x.1)))) bad.1, bad.2, bad.3)
 
 -- the two readings of a body
-pub bodies_agree : (format : Format) (shape : Shape) (body : List ℕ) → Agrees body (body_in format Logged shape body) (body_in format Free shape body)
-bodies_agree format shape body = whole_agree body (records_in format Logged shape body 0) (records_in format Free shape body 0) (length body) (records_alike body format shape 0)
+pub bodies_agree : (format : Format) (shape : Shape) (last : ℕ) (body : List ℕ) → Agrees body (body_with_session format Logged shape last body) (body_with_session format Free shape last body)
+bodies_agree format shape last body = whole_agree body (front_in format Logged shape last body 0) (front_in format Free shape last body 0) (length body) (front_alike body format shape last 0)
 
 -- records that are a program's, with numbers that a log has
 numbered : (format : Format) (shape : Shape) (records : List CommitRecord) → AllByRecursion (IsRecordIn format Free shape) records → AllByRecursion (HasNumbers Logged) records → AllByRecursion (IsRecordIn format Logged shape) records
 numbered format shape [] each all = tt
 numbered format shape (r ∷ rs) each all = (record { fits = each.0.fits; units = all.0; call = each.0.call; writes = each.0.writes }, numbered format shape rs each.1 all.1)
 
-pub body_is_logged : (format : Format) (shape : Shape) (records : List CommitRecord) (body : List ℕ) → IsBlockBody format Free shape records body → AllByRecursion (HasNumbers Logged) records → IsBlockBody format Logged shape records body
-body_is_logged format shape records body is all = record { count = is.count; each = numbered format shape records is.each all; spelled = is.spelled }
+content_is_logged : (format : Format) (shape : Shape) (content : Body) → IsContentIn format Free shape content → AreLogged content → IsContentIn format Logged shape content
+content_is_logged format shape (Records records) is all = (is.0, numbered format shape records is.1 all)
+content_is_logged format shape (Upgrade text) is all = is
+
+session_is_logged : (format : Format) (last session : ℕ) → SessionFits format Free last session → may_be_parent Logged session ≡ true → SessionFits format Logged last session
+session_is_logged One last session fits may = fits
+session_is_logged Two last session fits may = (fits.0, (fits.1.0, may))
+
+pub body_is_logged : (format : Format) (shape : Shape) (last session : ℕ) (content : Body) (body : List ℕ) → IsSessionBody format Free shape last session content body → may_be_parent Logged session ≡ true → AreLogged content → IsSessionBody format Logged shape last session content body
+body_is_logged format shape last session content body is may all = record {
+  session_fits = session_is_logged format last session is.session_fits may;
+  content_fits = content_is_logged format shape content is.content_fits all;
+  spelled = is.spelled;
+}

@@ -16,14 +16,14 @@ use Rattle.field_codec.specs.Units.{may_be_unit}
 use Rattle.field_codec.specs.Fields.{exactly_at, unit_at, origin_at, answer_at, result_at}
 use Rattle.field_codec.proofs.Readers.{Reads, Any, then, done, choose, where_known, never, said}
 use Rattle.field_codec.proofs.Chains.{chain_reads}
-use Rattle.field_codec.proofs.Counts.{wide16, wide32, reads16, reads32, reads64, count_reads, list_reads}
+use Rattle.field_codec.proofs.Counts.{wide16, reads16, reads32, reads64, count_reads, list_reads}
 use Rattle.field_codec.proofs.Things.{ValuesFitExactly, exactly_reads, OriginFitsIn, unit_reads, origin_reads, answer_reads, result_reads}
 use Rattle.commit_log.specs.declared.records.Written.{Written}
 use Rattle.commit_log.specs.declared.records.CommitRecord.{CommitRecord}
 use Rattle.commit_log.specs.Orders.{is_above, grain_after, IsAscending}
-use Rattle.commit_log.specs.Spelling.{spelling_of_grain, spelling_of_write, WriteFits, WritesFit, AnswersFit, spelling_of_record, spelling_of_body}
+use Rattle.commit_log.specs.Spelling.{spelling_of_grain, spelling_of_write, WriteFits, WritesFit, AnswersFit, spelling_of_record}
 use Rattle.commit_log.specs.Bodies.{params_in, IsShapeType, IsCallIn, IsRecordIn}
-use Rattle.commit_log.specs.Fields.{grain_in, call_in, write_in, writes_in, answers_at, record_in, records_in}
+use Rattle.commit_log.specs.Fields.{grain_in, call_in, write_in, writes_in, answers_at, record_in}
 
 module _ (shape : Shape) where
   -- ---- grains
@@ -182,10 +182,3 @@ module _ (format : Format) (numbers : Numbers) (shape : Shape) where
       then (λ (r : CommitRecord). r.writes) (λ ws. to_le_bytes w16 (length ws) ++ flat_map spelling_of_write ws) (WritesFitIn shape) (writes_in shape) from5 _ _ _ _ (writes_reads shape from5) λ writes from6.
       done from6 _ (record { unit = record { 0 = unit }; origin = origin; call = call; answers = answers; result = result; writes = writes }) ((((((tt, refl), refl), refl), refl), refl), refl)
       (λ d p i. record { unit = record { 0 = p.0.0.0.0.0.1 i }; origin = p.0.0.0.0.1 i; call = p.0.0.0.1 i; answers = p.0.0.1 i; result = p.0.1 i; writes = p.1 i }))
-
-  -- at most 64 records, each of which the reading takes
-  abbrev pub AreRecords : List CommitRecord → Type 0
-  AreRecords rs = (length rs ≤ 64) × AllByRecursion (IsRecordIn format numbers shape) rs
-
-  pub records_reads : (low : ℕ) → Reads low Any spelling_of_body AreRecords (records_in format numbers shape)
-  records_reads low = list_reads spelling_of_record (IsRecordIn format numbers shape) (record_in format numbers shape) record_reads w32 (2 ^ 32) 64 wide32 (omega arith) low

@@ -6,4 +6,5 @@ pub mod Lengths
 pub mod SpellingsApart
 pub mod Seals
 pub mod ContentsRead
-pub mod BodiesRead
+pub mod FrontsRead
+pub mod Migrating

@@ -1,5 +1,5 @@
--- Bodies of a log under the program's shape.
-use Rattle.std.specs.Prelude.{◌≡◌, true, ℕ, ◌<◌, ◌≤◌, List, length, Option, Some, None, slice_get}
+-- Records of a log under the program's shape.
+use Rattle.std.specs.Prelude.{◌≡◌, true, ℕ, ◌<◌, length, Option, Some, None, slice_get}
 use Rattle.std.specs.List.{AllByRecursion}
 use Rattle.base_types.specs.declared.calls.Call.{Call}
 use Rattle.base_types.specs.declared.shapes.Shape.{Shape}
@@ -8,7 +8,7 @@ use Rattle.field_codec.specs.declared.formats.Format.{Format}
 use Rattle.field_codec.specs.declared.units.Numbers.{Numbers}
 use Rattle.field_codec.specs.Units.{may_be_unit, HasParent}
 use Rattle.commit_log.specs.declared.records.CommitRecord.{CommitRecord}
-use Rattle.commit_log.specs.Spelling.{spelling_of_body, RecordFits}
+use Rattle.commit_log.specs.Spelling.{RecordFits}
 
 -- the number of parameters of a type's method, none where there is no such method
 abbrev pub params_of : Option TypeShape → ℕ → Option ℕ
@@ -39,9 +39,3 @@ pub record IsRecordIn (format : Format) (numbers : Numbers) (shape : Shape) (r :
   pub units : HasNumbers numbers r
   pub call : IsCallIn shape r.call
   pub writes : AllByRecursion (λ write. IsShapeType shape write.grain.kind) r.writes
-
--- the bytes are the body of these records, and nothing follows them
-pub record IsBlockBody (format : Format) (numbers : Numbers) (shape : Shape) (records : List CommitRecord) (body : List ℕ) : Type 0 where
-  pub count : length records ≤ 64
-  pub each : AllByRecursion (IsRecordIn format numbers shape) records
-  pub spelled : body ≡ spelling_of_body records

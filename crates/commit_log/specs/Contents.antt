@@ -1,13 +1,13 @@
--- What a body of a log says, how it is spelled, and how it is read under the program's shape.
-use Rattle.std.specs.Prelude.{◌≡◌, ℕ, ◌≤◌, Bool, false, List, ◌++◌, length, Result, Ok, Err, nat_lt, ◌==◌, if◌then◌else◌}
+-- What a body of a log says, how it is spelled, and how it is read under the program's shape: all of a body of format 1, and what
+-- stands behind the session in one of format 2.
+use Rattle.std.specs.Prelude.{ℕ, ◌≤◌, List, ◌++◌, length, nat_lt, ◌==◌}
 use Rattle.std.specs.Int.{w32, to_le_bytes}
 use Rattle.std.specs.List.{AllByRecursion}
 use Rattle.base_types.specs.declared.shapes.Shape.{Shape}
-use Rattle.field_codec.specs.declared.faults.CodecFault.{CodecFault}
-use Rattle.field_codec.specs.declared.faults.CodecFault.TheVariants.{Over, Trailing}
+use Rattle.field_codec.specs.declared.faults.CodecFault.TheVariants.{Over}
 use Rattle.field_codec.specs.declared.formats.Format.{Format}
 use Rattle.field_codec.specs.declared.units.Numbers.{Numbers}
-use Rattle.field_codec.specs.Readers.{Reader, and_then, whole_text, whole, refused, field, choice, number_at, times, program_at}
+use Rattle.field_codec.specs.Readers.{Reader, whole, refused, field, choice, number_at, times, program_at}
 use Rattle.commit_log.specs.Spelling.{spelling_of_body}
 use Rattle.commit_log.specs.Bodies.{IsRecordIn}
 use Rattle.commit_log.specs.Fields.{record_in}
@@ -29,11 +29,6 @@ abbrev pub IsContentIn : Format → Numbers → Shape → Body → Type 0
 IsContentIn format numbers shape (Records records) = (length records ≤ 64) × AllByRecursion (IsRecordIn format numbers shape) records
 IsContentIn format numbers shape (Upgrade text) = ProgramFits text
 
--- the bytes are the body that says this, and nothing follows
-pub record IsContentBody (format : Format) (numbers : Numbers) (shape : Shape) (content : Body) (body : List ℕ) : Type 0 where
-  pub fits : IsContentIn format numbers shape content
-  pub spelled : body ≡ spelling_of_content content
-
 -- ---- reading
 
 -- what a body says: the text of a program behind the mark, or so many records, at most 64
@@ -41,20 +36,3 @@ unfoldable pub content_in : Format → Numbers → Shape → Reader Body
 content_in format numbers shape = field (number_at w32) λ n place.
     choice (n == upgrade_mark) (field program_at λ text here. whole (Upgrade text))
     (choice (nat_lt 64 n) (refused (Over place 64)) (field (times (record_in format numbers shape) n) λ records here. whole (Records records)))
-
--- what a whole body says
-abbrev pub content_of : Format → Numbers → Shape → List ℕ → Result Body CodecFault
-content_of format numbers shape body = whole_text (content_in format numbers shape) body
-
--- the number that was read is the mark
-abbrev pub is_marked : Result (ℕ × ℕ) CodecFault → Bool
-is_marked (Ok x) = x.0 == upgrade_mark
-is_marked (Err fault) = false
-
--- the body says that it is an upgrade's
-abbrev pub is_upgrade : List ℕ → Bool
-is_upgrade body = is_marked (number_at w32 body 0)
-
--- the text of a whole body behind the mark
-abbrev pub upgrade_in : List ℕ → Result Body CodecFault
-upgrade_in body = and_then (program_at body 4) λ x. if x.1 == length body then Ok (Upgrade x.0) else Err (Trailing x.1)

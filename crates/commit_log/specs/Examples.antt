@@ -1,5 +1,5 @@
 -- The first deposit, `account/1.deposit` with 5 as line 1 of a run, as the log has it.
-use Rattle.std.specs.Prelude.{ℕ, List, [], ◌∷◌, pos}
+use Rattle.std.specs.Prelude.{ℕ, List, [], ◌∷◌, ◌++◌, pos}
 use Rattle.base_types.specs.declared.calls.Value.TheVariants.{Int}
 use Rattle.base_types.specs.declared.calls.Origin.TheVariants.{Line}
 use Rattle.base_types.specs.declared.calls.Outcome as outcome
@@ -16,14 +16,22 @@ first_deposit = record {
   writes = record { grain = record { kind = 0; key = 1 }; place = record { offset = 0; len = 19 } } ∷ [];
 }
 
--- its block: the body's length, the count, the unit, the origin, the call, the answers, the result, the writes, the next gate
-abbrev pub first_block : List ℕ
-first_block =
-    68 ∷ 0 ∷ 0 ∷ 0 ∷ 1 ∷ 0 ∷ 0 ∷ 0
+-- what its body says: the count, the unit, the origin, the call, the answers, the result, the writes
+abbrev pub first_content : List ℕ
+first_content =
+    1 ∷ 0 ∷ 0 ∷ 0
     ∷ 1 ∷ 0 ∷ 0 ∷ 0 ∷ 0 ∷ 0 ∷ 0 ∷ 0
     ∷ 0 ∷ 1 ∷ 0 ∷ 0 ∷ 0
     ∷ 0 ∷ 0 ∷ 1 ∷ 0 ∷ 0 ∷ 0 ∷ 0 ∷ 0 ∷ 1 ∷ 0 ∷ 0 ∷ 5 ∷ 0 ∷ 0 ∷ 0 ∷ 0 ∷ 0 ∷ 0 ∷ 0
     ∷ 0 ∷ 0
     ∷ 1 ∷ 0 ∷ 5 ∷ 0 ∷ 0 ∷ 0 ∷ 0 ∷ 0 ∷ 0 ∷ 0
     ∷ 1 ∷ 0 ∷ 0 ∷ 0 ∷ 1 ∷ 0 ∷ 0 ∷ 0 ∷ 0 ∷ 0 ∷ 0 ∷ 0 ∷ 0 ∷ 0 ∷ 0 ∷ 0 ∷ 19 ∷ 0 ∷ 0 ∷ 0
-    ∷ 0 ∷ []
+    ∷ []
+
+-- its block: the body's length, the session, the content, the next gate
+abbrev pub first_block : List ℕ
+first_block = 76 ∷ 0 ∷ 0 ∷ 0 ∷ 1 ∷ 0 ∷ 0 ∷ 0 ∷ 0 ∷ 0 ∷ 0 ∷ 0 ∷ (first_content ++ 0 ∷ [])
+
+-- its block in format 1, which spells no session
+abbrev pub first_old_block : List ℕ
+first_old_block = 68 ∷ 0 ∷ 0 ∷ 0 ∷ (first_content ++ 0 ∷ [])

@@ -1,15 +1,14 @@
--- How a body is read under the program's shape, field by field.
-use Rattle.std.specs.Prelude.{ℕ, List, length, Option, None, Result, nat_lt}
+-- How a record is read under the program's shape, field by field.
+use Rattle.std.specs.Prelude.{ℕ, List, length, Option, None, nat_lt}
 use Rattle.std.specs.Int.{w16, w32, w64}
 use Rattle.base_types.specs.declared.calls.GrainId.{GrainId}
 use Rattle.base_types.specs.declared.calls.Call.{Call}
 use Rattle.base_types.specs.declared.calls.Outcome as outcome
 use Rattle.base_types.specs.declared.shapes.Shape.{Shape}
 use Rattle.field_codec.specs.declared.formats.Format.{Format}
-use Rattle.field_codec.specs.declared.faults.CodecFault.{CodecFault}
 use Rattle.field_codec.specs.declared.faults.CodecFault.TheVariants.{BadOrder, Unknown}
 use Rattle.field_codec.specs.declared.units.Numbers.{Numbers}
-use Rattle.field_codec.specs.Readers.{Reader, whole_text, whole, refused, field, choice, when_known, chain, number_at, count_at, list_at}
+use Rattle.field_codec.specs.Readers.{Reader, whole, refused, field, choice, when_known, chain, number_at, count_at, list_at}
 use Rattle.field_codec.specs.Fields.{exactly_at, unit_at, origin_at, answer_at, result_at}
 use Rattle.commit_log.specs.declared.records.Written.{Written}
 use Rattle.commit_log.specs.declared.records.CommitRecord.{CommitRecord}
@@ -47,11 +46,3 @@ answers_at format = list_at w16 64 (answer_at format)
 unfoldable pub record_in : Format → Numbers → Shape → Reader CommitRecord
 record_in format numbers shape = field (unit_at numbers) λ unit p0. field (origin_at numbers) λ origin p1. field (call_in format shape) λ call p2. field (answers_at format) λ answers p3. field (result_at format) λ result p4. field (writes_in shape) λ writes p5.
     whole (record { unit = record { 0 = unit }; origin = origin; call = call; answers = answers; result = result; writes = writes })
-
--- the records of a body, at most 64
-abbrev pub records_in : Format → Numbers → Shape → Reader (List CommitRecord)
-records_in format numbers shape = list_at w32 64 (record_in format numbers shape)
-
--- the records of a whole body
-abbrev pub body_in : Format → Numbers → Shape → List ℕ → Result (List CommitRecord) CodecFault
-body_in format numbers shape body = whole_text (records_in format numbers shape) body

@@ -8,4 +8,5 @@ pub mod EncodableRecords
 pub mod Examples
 pub mod SealImages
 pub mod Contents
+pub mod Sessions
 pub mod UpgradeExample

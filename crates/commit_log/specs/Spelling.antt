@@ -1,4 +1,4 @@
--- The one spelling of a commit record and of the bodies and blocks of a log, and the limits of a format within which there is one.
+-- The one spelling of a commit record and of the records of a body, and the limits of a format within which there is one.
 use Rattle.std.specs.Prelude.{ℕ, ◌<◌, ◌≤◌, ◌^◌, List, ◌++◌, length, None}
 use Rattle.std.specs.Int.{w16, w32, w64, to_le_bytes}
 use Rattle.std.specs.List.{flat_map, AllByRecursion}
@@ -6,7 +6,6 @@ use Rattle.base_types.specs.declared.calls.GrainId.{GrainId}
 use Rattle.base_types.specs.declared.calls.Outcome as outcome
 use Rattle.field_codec.specs.declared.formats.Format.{Format}
 use Rattle.field_codec.specs.Spelling.{spelling_of_origin, OriginFits, spelling_of_call, CallFits, spelling_of_outcome, AnswerFits, ResultFits}
-use Rattle.gate_block.specs.Blocks.{block_of}
 use Rattle.commit_log.specs.declared.records.Written.{Written}
 use Rattle.commit_log.specs.declared.records.CommitRecord.{CommitRecord}
 use Rattle.commit_log.specs.Orders.{IsAscending}
@@ -49,14 +48,10 @@ pub record RecordFits (format : Format) (r : CommitRecord) : Type 0 where
   pub result : ResultFits format r.result
   pub writes : WritesFit r.writes
 
--- a body: the records' count, and each
+-- the records of a body: their count, and each
 abbrev pub spelling_of_body : List CommitRecord → List ℕ
 spelling_of_body records = to_le_bytes w32 (length records) ++ flat_map spelling_of_record records
 
 -- there are at most 64 records, and each has a spelling
 abbrev pub RecordsFit : Format → List CommitRecord → Type 0
 RecordsFit format records = (length records ≤ 64) × AllByRecursion (RecordFits format) records
-
--- a block: the body's length, the body, and the closed gate of the next block
-abbrev pub spelling_of_block : List CommitRecord → List ℕ
-spelling_of_block records = block_of (spelling_of_body records)

@@ -5,10 +5,11 @@ use Rattle.std.specs.Prelude.{ℕ, List, [], ◌∷◌, codes}
 abbrev pub small_text : List ℕ
 small_text = codes "type a { }"
 
--- its block: the body's length, the mark, the text's length, the text, the next gate
+-- its block in session 2: the body's length, the session, the mark, the text's length, the text, the next gate
 abbrev pub small_block : List ℕ
 small_block =
-    18 ∷ 0 ∷ 0 ∷ 0 ∷ 255 ∷ 255 ∷ 255 ∷ 255
+    26 ∷ 0 ∷ 0 ∷ 0 ∷ 2 ∷ 0 ∷ 0 ∷ 0 ∷ 0 ∷ 0 ∷ 0 ∷ 0
+    ∷ 255 ∷ 255 ∷ 255 ∷ 255
     ∷ 10 ∷ 0 ∷ 0 ∷ 0
     ∷ 116 ∷ 121 ∷ 112 ∷ 101 ∷ 32 ∷ 97 ∷ 32 ∷ 123 ∷ 32 ∷ 125
     ∷ 0 ∷ []

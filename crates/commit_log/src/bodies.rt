@@ -1,20 +1,15 @@
-ghost use Rattle.std.specs.Prelude.{◌≡◌, ◌≤◌, List, length, IfOk, IfErr, Ok};
-ghost use Rattle.std.specs.Int.{w32};
-ghost use Rattle.field_codec.specs.Readers.{times, count_at};
+ghost use Rattle.std.specs.Prelude.{◌≡◌};
+ghost use Rattle.field_codec.specs.Readers.{times};
 ghost use Rattle.field_codec.specs.Fields.{answer_at};
-ghost use Rattle.field_codec.specs.Results.{GivesRead, place_of};
-ghost use Rattle.field_codec.specs.declared.units.Numbers.TheVariants.{Free, Logged};
-ghost use Rattle.field_codec.specs.declared.formats.Format.TheVariants.{One};
-ghost use Rattle.commit_log.specs.Bodies.{IsBlockBody};
-ghost use Rattle.commit_log.specs.Fields.{answers_at, record_in, records_in, body_in};
-ghost use Rattle.commit_log.specs.declared.records.CommitRecord.{CommitRecord as Record};
+ghost use Rattle.field_codec.specs.Results.{GivesRead};
+ghost use Rattle.commit_log.specs.Fields.{answers_at, record_in};
 
 use crate::grains::get_call_in;
 use crate::records::CommitRecord;
 use crate::writes::get_writes;
 use base_types::{List, Outcome, Shape, UnitNo};
 use field_codec::{
-    CodecFault, Format, Numbers, get_answer, get_count, get_origin, get_result, get_u32, get_unit,
+    CodecFault, Format, Numbers, get_answer, get_count, get_origin, get_result, get_unit,
 };
 use std::alloc::Global;
 
@@ -83,8 +78,8 @@ fn get_record(
     Ok((record, after))
 }
 
-// So many records.
-fn records_there(
+/// So many records from a place on, and the place behind the last one.
+pub fn records_there(
     alloc: Global,
     bytes: &[u8],
     at: usize,
@@ -103,77 +98,4 @@ fn records_there(
         place = after;
     }
     Ok((records, place))
-}
-
-// How many records the body has, at most 64.
-#[tactic(auto, unfolding(field_codec::specs::Readers::count_at, field_codec::specs::Readers::field, field_codec::specs::Readers::choice, field_codec::specs::Readers::refused, field_codec::specs::Readers::whole))]
-fn record_count(body: &[u8]) -> Result<(u32, usize), CodecFault>
-    ensures { GivesRead result (count_at w32 64 body.now 0) }
-{
-    let (count, after) = get_u32(body, 0)?;
-    if count > 64 {
-        return Err(CodecFault::Over {
-            place: 0,
-            limit: 64,
-        });
-    }
-    Ok((count, after))
-}
-
-#[tactic(auto, unfolding(field_codec::specs::Readers::list_at, field_codec::specs::Readers::field))]
-fn get_body(
-    alloc: Global,
-    body: &[u8],
-    shape: &Shape,
-    numbers: Numbers,
-    format: Format,
-) -> Result<List<CommitRecord>, CodecFault>
-    ensures { GivesRead result (body_in format numbers shape.now body.now) }
-{
-    let (count, after) = record_count(body)?;
-    let (records, end) = records_there(alloc, body, after, shape, numbers, count, format)?;
-    if end == body.len() {
-        return Ok(records);
-    }
-    Err(CodecFault::Trailing { place: end })
-}
-
-/// The records of a block's body, as [`crate::encode_block`] writes it, under the program's shape and within the limits of
-/// [`Format::One`]. The fault is the first from left to right; its place is an offset in the body. `BadOrder`: a written grain
-/// isn't above the one before it. `Unknown`: a type, a method or a number of arguments isn't the shape's. `Trailing`: bytes follow
-/// the last record. A unit's or a parent's number may be any.
-pub fn decode_records(
-    alloc: Global,
-    body: &[u8],
-    shape: &Shape,
-) -> Result<List<CommitRecord>, CodecFault>
-    // It answers records exactly for the bodies of the grammar.
-    ensures found { IfOk result (λ records. IsBlockBody One Free shape.now records body.now) }
-    ensures only { (records : List Record) → IsBlockBody One Free shape.now records body.now → GivesRead result (Ok records) }
-
-    // Else it answers the first fault, which names a place in the body or its end.
-    ensures exact { GivesRead result (body_in One Free shape.now body.now) }
-    ensures within { IfErr result (λ fault. place_of fault ≤ length body.now) }
-{
-    get_body(alloc, body, shape, Numbers::Free, Format::One)
-}
-
-/// The records of a body in a log of a format, as [`decode_records`] reads them, but for that format's limits, and for the numbers that
-/// no log has: a unit's that is 0 or 2 to the 63 or more, and a parent's that is 2 to the 63 or more. Such a number is `Unknown`
-/// at its own field, before any fault of a later one. So the fault's place is the first of all that is wrong in the body.
-pub fn read_records(
-    alloc: Global,
-    body: &[u8],
-    shape: &Shape,
-    format: Format,
-) -> Result<List<CommitRecord>, CodecFault>
-    // It answers records exactly for the bodies of the grammar with such numbers alone.
-    ensures found { IfOk result (λ records. IsBlockBody format Logged shape.now records body.now) }
-    ensures only { (records : List Record) → IsBlockBody format Logged shape.now records body.now → GivesRead result (Ok records) }
-
-    // Else it answers the first fault, which names a place in the body or its end.
-    ensures exact { GivesRead result (body_in format Logged shape.now body.now) }
-    ensures within { IfErr result (λ fault. place_of fault ≤ length body.now) }
-{
-    get_body(alloc, body, shape, Numbers::Logged, format)
 }

@@ -1,15 +1,17 @@
-ghost use Rattle.std.specs.Prelude.{◌≡◌, ◌≤◌, ℕ, true, length, IfOk, IfErr, Ok};
+ghost use Rattle.std.specs.Prelude.{◌≡◌, ◌≤◌, ℕ, length, IfOk, IfErr, Ok};
 ghost use Rattle.field_codec.specs.Results.{GivesRead, place_of};
 ghost use Rattle.field_codec.specs.declared.units.Numbers.TheVariants.{Free, Logged};
-ghost use Rattle.field_codec.specs.declared.formats.Format.TheVariants.{One};
-ghost use Rattle.field_codec.specs.Readers.{program_at};
-ghost use Rattle.commit_log.specs.Contents.{is_upgrade, upgrade_in, content_of, IsContentBody};
+ghost use Rattle.field_codec.specs.declared.formats.Format.TheVariants.{Two};
+ghost use Rattle.field_codec.specs.Spelling.{Stands};
+ghost use Rattle.field_codec.specs.Units.{SessionFits};
+ghost use Rattle.commit_log.specs.Contents.{IsContentIn, content_in};
+ghost use Rattle.commit_log.specs.Sessions.{spelling_with_session, IsSessionBody, front_in, body_with_session};
 ghost use Rattle.commit_log.specs.declared.contents.Body.{Body as ABody};
 
-use crate::bodies::{decode_records, read_records};
+use crate::bodies::records_there;
 use crate::records::CommitRecord;
 use base_types::{List, Shape};
-use field_codec::{CodecFault, Format, get_program, get_u32};
+use field_codec::{CodecFault, Format, Numbers, get_program, get_session, get_u32};
 use std::alloc::Global;
 
 /// What a body of a log says: records, at most 64, or the text of the program that comes into force.
@@ -19,90 +21,105 @@ pub enum Body {
     Upgrade(List<u8>),
 }
 
-/// Whether a body says that it is an upgrade's: it begins with the number that is no count of records.
-pub fn is_upgrade(body: &[u8]) -> bool
-    ensures { result ≡ is_upgrade body.now }
+// What a body says from a place on, and the place behind it.
+#[tactic(auto, unfolding(crate::specs::Contents::content_in, field_codec::specs::Readers::field, field_codec::specs::Readers::choice, field_codec::specs::Readers::refused, field_codec::specs::Readers::whole))]
+fn get_content(
+    alloc: Global,
+    body: &[u8],
+    at: usize,
+    shape: &Shape,
+    numbers: Numbers,
+    format: Format,
+) -> Result<(Body, usize), CodecFault>
+    ensures { GivesRead result (content_in format numbers shape.now body.now at) }
 {
-    match get_u32(body, 0) {
-        Ok((count, _)) => count == 4_294_967_295,
-        Err(_) => false,
+    let (count, after) = get_u32(body, at)?;
+    if count == 4_294_967_295 {
+        let (text, end) = get_program(alloc, body, after)?;
+        return Ok((Body::Upgrade(text), end));
     }
+    if count > 64 {
+        return Err(CodecFault::Over {
+            place: at,
+            limit: 64,
+        });
+    }
+    let (records, end) = records_there(alloc, body, after, shape, numbers, count, format)?;
+    Ok((Body::Records(records), end))
 }
 
-/// The text of an upgrade's body, and the place behind it; bytes may follow. The fault is the first from left to right; its place is an
-/// offset in the body.
-pub fn get_upgrade(alloc: Global, body: &[u8]) -> Result<(List<u8>, usize), CodecFault>
-    ensures { GivesRead result (program_at body.now 4) }
+// A body's session and what the body says, and the place behind it.
+#[tactic(auto, unfolding(crate::specs::Sessions::front_in, field_codec::specs::Readers::field, field_codec::specs::Readers::whole))]
+fn get_front(
+    alloc: Global,
+    body: &[u8],
+    shape: &Shape,
+    session: u64,
+    numbers: Numbers,
+    format: Format,
+) -> Result<((u64, Body), usize), CodecFault>
+    ensures { GivesRead result (front_in format numbers shape.now session body.now 0) }
 {
-    get_program(alloc, body, 4)
+    let (session, after) = get_session(body, 0, session, format, numbers)?;
+    let (content, end) = get_content(alloc, body, after, shape, numbers, format)?;
+    Ok(((session, content), end))
 }
 
-// The text of an upgrade's body, behind which nothing follows.
-fn read_upgrade(alloc: Global, body: &[u8]) -> Result<Body, CodecFault>
-    ensures { GivesRead result (upgrade_in body.now) }
+fn get_body(
+    alloc: Global,
+    body: &[u8],
+    shape: &Shape,
+    session: u64,
+) -> Result<(u64, Body), CodecFault>
+    ensures { GivesRead result (body_with_session Two Free shape.now session body.now) }
 {
-    let (text, end) = get_upgrade(alloc, body)?;
+    let (said, end) = get_front(alloc, body, shape, session, Numbers::Free, Format::Two)?;
     if end == body.len() {
-        return Ok(Body::Upgrade(text));
+        return Ok(said);
     }
     Err(CodecFault::Trailing { place: end })
 }
 
-fn decode_content(alloc: Global, body: &[u8], shape: &Shape) -> Result<Body, CodecFault>
-    ensures { GivesRead result (content_of One Free shape.now body.now) }
-{
-    if is_upgrade(body) {
-        return read_upgrade(alloc, body);
-    }
-    let records = decode_records(alloc, body, shape)?;
-    Ok(Body::Records(records))
-}
-
-fn read_content(
+/// The session of a block's body and what the body says, as [`crate::encode_upgrade`] and [`crate::encode_block`] write it, under the
+/// program's shape and within the limits of [`Format::Two`], where `session` is the greatest of the blocks before. The fault is the
+/// first from left to right; its place is an offset in the body. `BadOrder`: the session is below `session`, or a written grain isn't
+/// above the one before it. `Over`: there are more than 64 records, or the text has more than 262,144 bytes. `Unknown`: a type, a
+/// method or a number of arguments isn't the shape's. `Trailing`: bytes follow. A session, a unit's or a parent's number may be any.
+pub fn decode_body(
     alloc: Global,
     body: &[u8],
     shape: &Shape,
-    format: Format,
-) -> Result<Body, CodecFault>
-    ensures { GivesRead result (content_of format Logged shape.now body.now) }
-{
-    if is_upgrade(body) {
-        return read_upgrade(alloc, body);
-    }
-    let records = read_records(alloc, body, shape, format)?;
-    Ok(Body::Records(records))
-}
-
-/// What a block's body says, as [`crate::encode_upgrade`] and [`crate::encode_block`] write it, under the program's shape. The fault is the
-/// first from left to right; its place is an offset in the body. `Over`: there are more than 64 records, or the text has more than
-/// 262,144 bytes. `Trailing`: bytes follow. The others are those of records. A unit's or a parent's number may be any.
-pub fn decode_body(alloc: Global, body: &[u8], shape: &Shape) -> Result<Body, CodecFault>
-    // It answers what a body says exactly for the bodies of the grammar.
-    ensures found { IfOk result (λ content. IsContentBody One Free shape.now content body.now) }
-    ensures only { (content : ABody) → IsContentBody One Free shape.now content body.now → GivesRead result (Ok content) }
+    session: u64,
+) -> Result<(u64, Body), CodecFault>
+    // It answers a session and what a body says exactly for the bodies of the grammar.
+    ensures found { IfOk result (λ said. IsSessionBody Two Free shape.now session said.0 said.1 body.now) }
+    ensures only { (named : ℕ) (content : ABody) → IsSessionBody Two Free shape.now session named content body.now → GivesRead result (Ok (named, content)) }
 
     // Else it answers the first fault, which names a place in the body or its end.
-    ensures exact { GivesRead result (content_of One Free shape.now body.now) }
+    ensures exact { GivesRead result (body_with_session Two Free shape.now session body.now) }
     ensures within { IfErr result (λ fault. place_of fault ≤ length body.now) }
 {
-    decode_content(alloc, body, shape)
+    get_body(alloc, body, shape, session)
 }
 
-/// What a body in a log of a format says, as [`decode_body`] reads it, but for that format's limits, and for the numbers that no log
-/// has: such a number is `Unknown` at its own field.
-pub fn read_body(
+/// The session of a body in a log of a format, what the body says, and the place behind it; bytes may follow. It is read as
+/// [`decode_body`] reads it, but for that format's limits, and for the numbers that no log has: a unit's that is 0 or 2 to the 63 or
+/// more, and a parent's or a session that is 2 to the 63 or more. Such a number is `Unknown` at its own field, before any fault of a
+/// later one. A body of [`Format::One`] names no session: it is one of session 1, whatever was before.
+pub fn read_front(
     alloc: Global,
     body: &[u8],
     shape: &Shape,
+    session: u64,
     format: Format,
-) -> Result<Body, CodecFault>
-    // It answers what a body says exactly for the bodies of the grammar with such numbers alone.
-    ensures found { IfOk result (λ content. IsContentBody format Logged shape.now content body.now) }
-    ensures only { (content : ABody) → IsContentBody format Logged shape.now content body.now → GivesRead result (Ok content) }
+) -> Result<((u64, Body), usize), CodecFault>
+    // What is answered stands at the body's begin, and has such numbers alone.
+    ensures found { IfOk result (λ said. SessionFits format Logged session said.0.0 × IsContentIn format Logged shape.now said.0.1
+        × Stands body.now 0 (spelling_with_session format said.0.0 said.0.1) said.1) }
 
     // Else it answers the first fault, which names a place in the body or its end.
-    ensures exact { GivesRead result (content_of format Logged shape.now body.now) }
+    ensures exact { GivesRead result (front_in format Logged shape.now session body.now 0) }
     ensures within { IfErr result (λ fault. place_of fault ≤ length body.now) }
 {
-    read_content(alloc, body, shape, format)
+    get_front(alloc, body, shape, session, Numbers::Logged, format)
 }

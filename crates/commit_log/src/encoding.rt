@@ -1,9 +1,12 @@
 ghost use Rattle.std.specs.Prelude.{◌≡◌, ◌<◌, ◌≤◌, ◌^◌, ◌++◌, length, take, drop, OnOk, IfOk};
 ghost use Rattle.std.specs.Int.{w16, w32, to_le_bytes};
 ghost use Rattle.std.specs.List.{flat_map, AllByRecursion};
-ghost use Rattle.field_codec.specs.declared.formats.Format.TheVariants.{One};
+ghost use Rattle.field_codec.specs.declared.formats.Format.TheVariants.{Two};
 ghost use Rattle.field_codec.specs.Spelling.{spelling_of_outcome};
-ghost use Rattle.commit_log.specs.Spelling.{spelling_of_write, spelling_of_body, spelling_of_block, AnswersFit, WriteFits, RecordsFit};
+ghost use Rattle.gate_block.specs.Blocks.{block_of};
+ghost use Rattle.commit_log.specs.Spelling.{spelling_of_write, spelling_of_body, AnswersFit, WriteFits, RecordsFit};
+ghost use Rattle.commit_log.specs.Sessions.{spelling_with_session};
+ghost use Rattle.commit_log.specs.declared.contents.Body.{Body as ABody};
 ghost use Rattle.commit_log.specs.EncodableRecords.{MaySpell};
 
 use crate::records::{CommitRecord, Written};
@@ -33,7 +36,7 @@ impl Spelled for Written {
 fn append_answers(into: &mut Vec<u8>, answers: &[Outcome]) -> Result<(), AllocError>
     requires { length answers.now ≤ 64 }
     ensures ok { OnOk result (into.new.items ≡ into.old.items ++ (to_le_bytes w16 (length answers.now) ++ flat_map spelling_of_outcome answers.now)) }
-    ensures fits { OnOk result (AnswersFit One answers.now) }
+    ensures fits { OnOk result (AnswersFit Two answers.now) }
     ensures begins { take (length into.old.items) into.new.items ≡ into.old.items }
 {
     put_u16(into, answers.len() as u16)?;
@@ -54,7 +57,7 @@ fn append_writes(into: &mut Vec<u8>, writes: &[Written]) -> Result<(), AllocErro
 }
 
 impl Spelled for CommitRecord {
-    ghost use Rattle.field_codec.specs.declared.formats.Format.TheVariants.{One};
+    ghost use Rattle.field_codec.specs.declared.formats.Format.TheVariants.{Two};
     ghost use Rattle.commit_log.specs.Spelling.{spelling_of_record, RecordFits};
     ghost use Rattle.commit_log.specs.EncodableRecords.{MaySpell};
 
@@ -62,7 +65,7 @@ impl Spelled for CommitRecord {
 
     ghost spelling = { spelling_of_record };
 
-    ghost fits = { RecordFits One };
+    ghost fits = { RecordFits Two };
 
     fn append(&self, into: &mut Vec<u8>) -> Result<(), AllocError> {
         put_u64(into, self.unit.0)?;
@@ -75,12 +78,12 @@ impl Spelled for CommitRecord {
     }
 }
 
-// Appends the body of these records.
+// Appends what a body of these records says.
 fn append_body(into: &mut Vec<u8>, records: &[CommitRecord]) -> Result<(), AllocError>
     requires count { length records.now ≤ 64 }
     requires each { AllByRecursion MaySpell records.now }
     ensures ok { OnOk result (into.new.items ≡ into.old.items ++ spelling_of_body records.now) }
-    ensures fits { OnOk result (RecordsFit One records.now) }
+    ensures fits { OnOk result (RecordsFit Two records.now) }
 {
     put_u32(into, records.len() as u32)?;
     append_all(into, records)?;
@@ -96,18 +99,23 @@ fn set_length(block: &mut Vec<u8>, size: u32)
     field.copy_from_slice(&size.to_le_bytes());
 }
 
-/// The block of a batch: its body's length, its body, and the closed gate of the next block. A batch has at most 64 records,
-/// each with at most 8 arguments, 64 answers and 64 writes, with its writes in ascending grain order, and with a result that is
-/// no abort.
-pub fn encode_block(alloc: Global, records: &List<CommitRecord>) -> Result<List<u8>, AllocError>
+/// The block of a batch in a session: its body's length, its body, which begins with the session, and the closed gate of the next
+/// block. A batch has at most 64 records, each with at most 8 arguments, 64 answers and 64 writes, with its writes in ascending grain
+/// order, and with a result that is no abort.
+pub fn encode_block(
+    alloc: Global,
+    records: &List<CommitRecord>,
+    session: u64,
+) -> Result<List<u8>, AllocError>
     requires count { length records.now ≤ 64 }
     requires each { AllByRecursion MaySpell records.now }
-    ensures spelled { IfOk result (λ block. block ≡ spelling_of_block records.now) }
-    ensures fits { OnOk result (RecordsFit One records.now) }
-    ensures small { OnOk result (length (spelling_of_body records.now) < 2 ^ 32) }
+    ensures spelled { IfOk result (λ block. block ≡ block_of (spelling_with_session Two session (ABody.Records records.now))) }
+    ensures fits { OnOk result (RecordsFit Two records.now) }
+    ensures small { OnOk result (length (spelling_with_session Two session (ABody.Records records.now)) < 2 ^ 32) }
 {
     let mut block = Vec::new(alloc);
     put_u32(&mut block, 0)?;
+    put_u64(&mut block, session)?;
     append_body(&mut block, records.as_slice())?;
     let size = (block.len() - 4) as u32;
     set_length(&mut block, size);

@@ -1,15 +1,19 @@
 ghost use Rattle.std.specs.Prelude.{◌≡◌, ◌+◌, ◌*◌, ◌≤◌, ◌++◌, ℕ, length, take, OnOk, IfOk, IfErr, Ok};
 ghost use Rattle.std.specs.List.{AllByRecursion};
 ghost use Rattle.field_codec.specs.Results.{GivesRead, place_of};
+ghost use Rattle.field_codec.specs.declared.formats.Format.TheVariants.{Two};
 ghost use Rattle.gate_block.specs.Blocks.{block_at};
 ghost use Rattle.commit_log.specs.Spelling.{WriteFits};
-ghost use Rattle.commit_log.specs.Checkpoints.{flag_of, spelling_of_piece, IsPieceBody, may_be_count, may_be_next, flag_at, tested_at, saved_in, piece_in, piece_body_in};
+ghost use Rattle.commit_log.specs.Checkpoints.{flag_of, spelling_of_piece, IsPieceBody, head_session, is_as, may_be_count, may_be_next, flag_at, tested_at, kept_session_at, saved_in, piece_in, piece_body_in};
 ghost use Rattle.commit_log.specs.declared.records.CheckpointPiece.{CheckpointPiece as APiece};
 
 use crate::records::{CheckpointHead, CheckpointPiece, Written};
 use crate::writes::writes_there;
 use base_types::{GrainId, List, Shape, UnitNo};
-use field_codec::{CodecFault, append_all, get_u8, get_u32, get_u64, put_u32, put_u64};
+use field_codec::{
+    CodecFault, Format, Numbers, append_all, get_session, get_u8, get_u32, get_u64, put_u32,
+    put_u64,
+};
 use std::alloc::{AllocError, Global};
 
 // The byte that says whether another piece follows.
@@ -19,8 +23,8 @@ fn flag_of(more: bool) -> u8
     if more { 1 } else { 0 }
 }
 
-/// Appends the body of a checkpoint's piece with these writes, at most 65,536: whether another piece follows, what each piece says,
-/// and the writes. Without memory some of its bytes may have been appended; those that were there stay.
+/// Appends the body of a checkpoint's piece in [`Format::Two`] with these writes, at most 65,536: whether another piece follows, what
+/// each piece says, and the writes. Without memory some of its bytes may have been appended; those that were there stay.
 pub fn put_piece(
     into: &mut Vec<u8>,
     more: bool,
@@ -28,20 +32,21 @@ pub fn put_piece(
     writes: &[Written],
 ) -> Result<(), AllocError>
     requires { length writes.now ≤ 65536 }
-    ensures ok { OnOk result (into.new.items ≡ into.old.items ++ spelling_of_piece (flag_of more) head.count head.next_unit.0 writes.now) }
+    ensures ok { OnOk result (into.new.items ≡ into.old.items ++ spelling_of_piece Two (flag_of more) head.count head.next_unit.0 head.session writes.now) }
     ensures fits { OnOk result (AllByRecursion WriteFits writes.now) }
     ensures begins { take (length into.old.items) into.new.items ≡ into.old.items }
 {
     into.push(flag_of(more))?;
     put_u64(into, head.count)?;
     put_u64(into, head.next_unit.0)?;
+    put_u64(into, head.session)?;
     put_u32(into, writes.len() as u32)?;
     append_all(into, writes)?;
     Ok(())
 }
 
 /// The block of a checkpoint's piece, as it is written behind a header gate that is closed: the open gate, the body's length, and the
-/// body, as [`put_piece`] spells it. It has 26 bytes and 18 for each write.
+/// body, as [`put_piece`] spells it. It has 34 bytes and 18 for each write.
 pub fn encode_piece(
     alloc: Global,
     more: bool,
@@ -49,13 +54,13 @@ pub fn encode_piece(
     writes: &[Written],
 ) -> Result<List<u8>, AllocError>
     requires { length writes.now ≤ 65536 }
-    ensures spelled { IfOk result (λ block. block ≡ block_at (spelling_of_piece (flag_of more) head.count head.next_unit.0 writes.now)) }
+    ensures spelled { IfOk result (λ block. block ≡ block_at (spelling_of_piece Two (flag_of more) head.count head.next_unit.0 head.session writes.now)) }
     ensures fits { OnOk result (AllByRecursion WriteFits writes.now) }
-    ensures size { length (spelling_of_piece (flag_of more) head.count head.next_unit.0 writes.now) ≡ 21 + 18 * length writes.now }
+    ensures size { length (spelling_of_piece Two (flag_of more) head.count head.next_unit.0 head.session writes.now) ≡ 29 + 18 * length writes.now }
 {
     let mut block = Vec::new(alloc);
     block.push(1)?;
-    put_u32(&mut block, 21 + 18 * writes.len() as u32)?;
+    put_u32(&mut block, 29 + 18 * writes.len() as u32)?;
     put_piece(&mut block, more, head, writes)?;
     Ok(List::from_vec(block))
 }
@@ -132,6 +137,33 @@ fn get_next(
     Err(CodecFault::Unknown { place: at })
 }
 
+// Whether a session is the first piece's, where one stands before.
+fn is_first_session(first: Option<CheckpointHead>, session: u64) -> bool
+    ensures { result ≡ is_as (head_session first) session }
+{
+    match first {
+        None => true,
+        Some(first) => session == first.session,
+    }
+}
+
+// The session that stands at a place.
+#[tactic(auto, unfolding(crate::specs::Checkpoints::kept_session_at, field_codec::specs::Readers::field, field_codec::specs::Readers::choice, field_codec::specs::Readers::refused, field_codec::specs::Readers::whole))]
+fn get_kept_session(
+    bytes: &[u8],
+    at: usize,
+    first: Option<CheckpointHead>,
+    format: Format,
+) -> Result<(u64, usize), CodecFault>
+    ensures { GivesRead result (kept_session_at format first bytes.now at) }
+{
+    let (session, after) = get_session(bytes, at, 0, format, Numbers::Logged)?;
+    if is_first_session(first, session) {
+        return Ok((session, after));
+    }
+    Err(CodecFault::Unknown { place: at })
+}
+
 // The writes that stand at a place, at most 65,536, on grains above the last one before.
 #[tactic(auto, unfolding(crate::specs::Checkpoints::saved_in, field_codec::specs::Readers::count_at, field_codec::specs::Readers::field, field_codec::specs::Readers::choice, field_codec::specs::Readers::refused, field_codec::specs::Readers::whole))]
 fn get_saved(
@@ -163,16 +195,19 @@ fn get_piece_at(
     shape: &Shape,
     first: Option<CheckpointHead>,
     last: Option<GrainId>,
+    format: Format,
 ) -> Result<(CheckpointPiece, usize), CodecFault>
-    ensures { GivesRead result (piece_in shape.now first last bytes.now at) }
+    ensures { GivesRead result (piece_in format shape.now first last bytes.now at) }
 {
     let (more, after) = get_flag(bytes, at)?;
     let (count, after) = get_count(bytes, after, first)?;
     let (next, after) = get_next(bytes, after, first)?;
+    let (session, after) = get_kept_session(bytes, after, first, format)?;
     let (writes, after) = get_saved(alloc, bytes, after, shape, last)?;
     let head = CheckpointHead {
         count,
         next_unit: UnitNo(next),
+        session,
     };
     Ok((CheckpointPiece { more, head, writes }, after))
 }
@@ -183,20 +218,22 @@ fn get_whole(
     shape: &Shape,
     first: Option<CheckpointHead>,
     last: Option<GrainId>,
+    format: Format,
 ) -> Result<CheckpointPiece, CodecFault>
-    ensures { GivesRead result (piece_body_in shape.now first last body.now) }
+    ensures { GivesRead result (piece_body_in format shape.now first last body.now) }
 {
-    let (piece, end) = get_piece_at(alloc, body, 0, shape, first, last)?;
+    let (piece, end) = get_piece_at(alloc, body, 0, shape, first, last, format)?;
     if end == body.len() {
         return Ok(piece);
     }
     Err(CodecFault::Trailing { place: end })
 }
 
-/// The piece of a checkpoint that a block's body is, as [`put_piece`] spells it, behind what the first piece said and the last grain
-/// before, where there are such. The fault is the first from left to right; its place is an offset in the body. `BadTag`: the flag is
-/// neither 0 nor 1. `Unknown`: a count is 2 to the 63 or more, a next unit isn't from 1 to 2 to the 63, one of the two isn't the
-/// first piece's, or a type isn't the shape's. `Over`: there are more than 65,536 writes. `BadOrder`: a grain isn't above the one
+/// The piece of a checkpoint that a block's body in a log of a format is, as [`put_piece`] spells it, but that one of [`Format::One`] has
+/// no session and counts as one of session 1, behind what the first piece said and the last grain before, where there are such. The
+/// fault is the first from left to right; its place is an offset in the body. `BadTag`: the flag is neither 0 nor 1. `Unknown`: a count
+/// or a session is 2 to the 63 or more, a next unit isn't from 1 to 2 to the 63, one of the three isn't the first piece's, or a type
+/// isn't the shape's. `Over`: there are more than 65,536 writes. `BadOrder`: a grain isn't above the one
 /// before it. `Trailing`: bytes follow the last write.
 pub fn get_piece(
     alloc: Global,
@@ -204,14 +241,15 @@ pub fn get_piece(
     shape: &Shape,
     first: Option<CheckpointHead>,
     last: Option<GrainId>,
+    format: Format,
 ) -> Result<CheckpointPiece, CodecFault>
     // It answers a piece exactly for the bodies of the grammar.
-    ensures found { IfOk result (λ piece. IsPieceBody shape.now first last piece body.now) }
-    ensures only { (piece : APiece) → IsPieceBody shape.now first last piece body.now → GivesRead result (Ok piece) }
+    ensures found { IfOk result (λ piece. IsPieceBody format shape.now first last piece body.now) }
+    ensures only { (piece : APiece) → IsPieceBody format shape.now first last piece body.now → GivesRead result (Ok piece) }
 
     // Else it answers the first fault, which names a place in the body or its end.
-    ensures exact { GivesRead result (piece_body_in shape.now first last body.now) }
+    ensures exact { GivesRead result (piece_body_in format shape.now first last body.now) }
     ensures within { IfErr result (λ fault. place_of fault ≤ length body.now) }
 {
-    get_whole(alloc, body, shape, first, last)
+    get_whole(alloc, body, shape, first, last, format)
 }

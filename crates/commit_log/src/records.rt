@@ -7,11 +7,13 @@ pub struct Written {
     pub place: Place,
 }
 
-/// What each piece of a checkpoint says, and all alike: how many records stand before the checkpoint, and the number of the next unit.
+/// What each piece of a checkpoint says, and all alike: how many records stand before the checkpoint, the number of the next unit, and
+/// the greatest session before it, 0 where there is none. A checkpoint of format 1 counts as one of session 1.
 #[derive(Clone, Copy, Debug, PartialEq, Eq)]
 pub struct CheckpointHead {
     pub count: u64,
     pub next_unit: UnitNo,
+    pub session: u64,
 }
 
 /// A piece of the checkpoint that a log may begin with, which a block of its own has: whether another piece follows, and the version

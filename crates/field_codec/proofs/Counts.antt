@@ -10,7 +10,7 @@ use Rattle.std.proofs.lemmas.List.{length-take, length-drop, get_or-drop, get_or
 use Rattle.field_codec.specs.declared.faults.CodecFault.{CodecFault}
 use Rattle.field_codec.specs.declared.faults.CodecFault.TheVariants.{Short, NotUtf8, Over}
 use Rattle.field_codec.specs.declared.formats.Format.{Format}
-use Rattle.field_codec.specs.declared.formats.Format.TheVariants.{One}
+use Rattle.field_codec.specs.declared.formats.Format.TheVariants.{One, Two}
 use Rattle.field_codec.specs.Formats.{text_limit, field_limit}
 use Rattle.field_codec.specs.Spelling.{Stands, spelling_of_text, TextFits, spelling_of_program, ProgramFits}
 use Rattle.field_codec.specs.Readers.{AreBytes, Reader, whole, refused, field, choice, number_at, count_at, letters, text_at, bytes_at, program_at, times, list_at}
@@ -205,10 +205,17 @@ letters_read low n = record {
 -- a text's length has 16 bits
 pub text_limit_small : (f : Format) → text_limit f < 2 ^ 16
 text_limit_small One = omega arith
+text_limit_small Two = omega arith
 
 -- a state's count has 16 bits
 pub field_limit_small : (f : Format) → field_limit f < 2 ^ 16
 field_limit_small One = omega arith
+field_limit_small Two = omega arith
+
+-- a state has room for what the format takes
+pub field_limit_within : (f : Format) → field_limit f ≤ 64
+field_limit_within One = omega arith
+field_limit_within Two = omega arith
 
 -- a text
 pub text_reads : (f : Format) (low : ℕ) → Reads low Any spelling_of_text (TextFits f) (text_at f)

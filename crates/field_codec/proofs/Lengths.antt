@@ -9,7 +9,7 @@ use Rattle.base_types.specs.declared.calls.Origin.TheVariants.{Line, Child}
 use Rattle.base_types.specs.declared.calls.Outcome as outcome
 use Rattle.base_types.specs.declared.stores.Version.{Version}
 use Rattle.field_codec.specs.declared.formats.Format.{Format}
-use Rattle.field_codec.specs.declared.formats.Format.TheVariants.{One}
+use Rattle.field_codec.specs.declared.formats.Format.TheVariants.{One, Two}
 use Rattle.field_codec.specs.Formats.{text_limit, version_limit}
 use Rattle.field_codec.specs.Spelling.{spelling_of_text, TextFits, spelling_of_value, ValueFits, spelling_of_values, ValuesFit, spelling_of_version, VersionFits, spelling_of_origin, spelling_of_call, CallFits, spelling_of_outcome, AnswerFits}
 
@@ -26,6 +26,7 @@ text_short f t fits = let most = fits.0 in omega (arith, most)
 
 value_short : (f : Format) (v : Value) → ValueFits f v → length (spelling_of_value v) ≤ 3 + text_limit f
 value_short One (Int z) fits = omega arith
+value_short Two (Int z) fits = omega arith
 value_short f (Text t) fits = let text = text_short f t fits in omega (arith, text)
 
 values_short : (f : Format) (most : ℕ) (vs : List Value) → ValuesFit f most vs → length (spelling_of_values vs) ≤ 2 + (3 + text_limit f) * length vs
@@ -34,15 +35,16 @@ values_short f most vs fits = let all = flat_short spelling_of_value (ValueFits 
 -- a version is at most this long
 pub version_short : (f : Format) (v : Version) → VersionFits f v → length (spelling_of_version v) ≤ version_limit f
 version_short One v fits = let all = values_short One 16 v.state fits.state in omega (arith, all, fits.state.0)
+version_short Two v fits = let all = values_short Two 64 v.state fits.state in omega (arith, all, fits.state.0)
 
-pub call_short : (c : Call) → CallFits One c → length (spelling_of_call c) ≤ 2082
-call_short c fits = let args = values_short One 8 c.args fits.args in omega (arith, args, fits.args.0)
+pub call_short : (c : Call) → CallFits Two c → length (spelling_of_call c) ≤ 32802
+call_short c fits = let args = values_short Two 8 c.args fits.args in omega (arith, args, fits.args.0)
 
 pub origin_short : (o : Origin) → length (spelling_of_origin o) ≤ 15
 origin_short (Line line) = omega arith
 origin_short (Child parent index depth) = omega arith
 
-pub outcome_short : (o : outcome.Outcome) → AnswerFits One o → length (spelling_of_outcome o) ≤ 260
+pub outcome_short : (o : outcome.Outcome) → AnswerFits Two o → length (spelling_of_outcome o) ≤ 4100
 outcome_short outcome.TheVariants.Aborted fits = omega arith
-outcome_short (outcome.TheVariants.Value value) fits = let v = value_short One value fits in omega (arith, v)
-outcome_short (outcome.TheVariants.Fault text) fits = let t = text_short One text fits in omega (arith, t)
+outcome_short (outcome.TheVariants.Value value) fits = let v = value_short Two value fits in omega (arith, v)
+outcome_short (outcome.TheVariants.Fault text) fits = let t = text_short Two text fits in omega (arith, t)

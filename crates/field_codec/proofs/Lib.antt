@@ -7,4 +7,5 @@ pub mod Things
 pub mod ReaderLoops
 pub mod Wholes
 pub mod Lengths
+pub mod FormatGrowth
 pub mod TextsApart

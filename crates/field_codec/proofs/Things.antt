@@ -1,9 +1,9 @@
 -- The laws of values, states, calls, versions, origins and outcomes.
-use Rattle.std.proofs.Common.{◌≡◌, ℕ, ◌<◌, ◌≤◌, ◌^◌, true, eqb, List, [], ◌++◌, length, refl, sym, ap, ◌∙◌, append-nil, arith, eqb-true}
+use Rattle.std.proofs.Common.{◌≡◌, ℕ, ◌<◌, ◌≤◌, ◌^◌, true, false, eqb, ltb, List, [], ◌++◌, length, refl, sym, ap, subst, ◌∙◌, append-nil, arith, eqb-true}
 use Rattle.std.specs.Int.{w8, w16, w32, w64, to_le_bytes, cast_signed, cast_unsigned}
 use Rattle.std.specs.List.{flat_map, AllByRecursion}
 use Rattle.std.proofs.Math.Facts.{sfits_to_z, Fits-of_lt, Fits-of_z, Fits-lt-pow}
-use Rattle.std.proofs.lemmas.Bool.{eqb-false}
+use Rattle.std.proofs.lemmas.Bool.{eqb-false, ltb-true, ltb-false}
 use Rattle.std.proofs.lemmas.Int.{of_z-to_z, to_z-of_z}
 use Rattle.base_types.specs.declared.calls.Value.{Value}
 use Rattle.base_types.specs.declared.calls.Value.TheVariants.{Int, Text}
@@ -12,16 +12,18 @@ use Rattle.base_types.specs.declared.calls.Origin.{Origin}
 use Rattle.base_types.specs.declared.calls.Origin.TheVariants.{Line, Child}
 use Rattle.base_types.specs.declared.calls.Outcome as outcome
 use Rattle.base_types.specs.declared.stores.Version.{Version}
-use Rattle.field_codec.specs.declared.faults.CodecFault.TheVariants.{BadTag, Unknown}
+use Rattle.field_codec.specs.declared.faults.CodecFault.TheVariants.{BadTag, BadOrder, Unknown}
 use Rattle.field_codec.specs.declared.formats.Format.{Format}
+use Rattle.field_codec.specs.declared.formats.Format.TheVariants.{One, Two}
 use Rattle.field_codec.specs.Formats.{field_limit}
 use Rattle.field_codec.specs.declared.units.Numbers.{Numbers}
 use Rattle.field_codec.specs.declared.units.Numbers.TheVariants.{Free}
-use Rattle.field_codec.specs.Units.{may_be_unit, may_be_parent, HasParent}
-use Rattle.field_codec.specs.Spelling.{spelling_of_text, TextFits, spelling_of_value, ValueFits, spelling_of_values, ValuesFit, spelling_of_call, CallFits, spelling_of_version, VersionFits, spelling_of_origin, OriginFits, spelling_of_outcome, AnswerFits, ResultFits}
+use Rattle.field_codec.specs.Units.{may_be_unit, may_be_parent, HasParent, SessionFits}
+use Rattle.field_codec.specs.Spelling.{Stands, spelling_of_session, spelling_of_text, TextFits, spelling_of_value, ValueFits, spelling_of_values, ValuesFit, spelling_of_call, CallFits, spelling_of_version, VersionFits, spelling_of_origin, OriginFits, spelling_of_outcome, AnswerFits, ResultFits}
 use Rattle.field_codec.specs.Readers.{whole, refused, field, choice, number_at, count_at, text_at, times}
-use Rattle.field_codec.specs.Fields.{value_at, values_at, exactly_at, call_at, version_at, unit_at, parent_at, origin_at, ended, answer_at, result_at}
-use Rattle.field_codec.proofs.Readers.{Reads, Any, then, done, choose, never, put_in, said}
+use Rattle.field_codec.specs.Fields.{value_at, values_at, exactly_at, call_at, version_at, unit_at, parent_at, session_at, origin_at, ended, answer_at, result_at}
+use Rattle.field_codec.proofs.Readers.{Reads, Any, then, done, choose, never, put_in, said, ok_is}
+use Rattle.field_codec.proofs.TextPlaces.{stands_empty}
 use Rattle.field_codec.proofs.Counts.{wide16, wide64, byte_reads, reads16, reads32, reads64, tested_reads, count_reads, list_reads, text_reads, field_limit_small}
 use Rattle.field_codec.proofs.Chains.{times_reads}
 
@@ -224,6 +226,42 @@ module _ (numbers : Numbers) where
       said low Any Any (λ o. to_le_bytes w8 (origin_tag o) ++ behind_origin o) spelling_of_origin (λ o. (origin_tag o < 2 ^ 8) × OriginFitsIn o) OriginFitsIn (origin_at numbers)
       (λ o p. tt) (λ o p. tt) (λ o p. origin_tagged o) (λ o p fits. fits.1) (λ o p fits. (origin_small o, fits))
       (then origin_tag (to_le_bytes w8) (λ n. n < 2 ^ 8) (number_at w8) low Any behind_origin OriginFitsIn _ (byte_reads low) origin_behind)
+
+-- ---- sessions
+
+module _ (numbers : Numbers) (last : ℕ) where
+  later_session : (low : ℕ) → Reads low Any (to_le_bytes w64) (SessionFits Two numbers last) (session_at Two numbers last)
+  unfolding session_at
+  later_session low =
+      let P : ℕ → ℕ → Type 0 = λ n c. Any c × (c ≡ n) in
+      let Passes : ℕ → Type 0 = λ c. (last ≤ c) × (may_be_parent numbers c ≡ true) in
+      said low Any Any (λ c. to_le_bytes w64 c ++ []) (to_le_bytes w64) (λ c. (c < 2 ^ 64) × Passes c) (SessionFits Two numbers last) _ (λ c p. tt) (λ c p. tt) (λ c p. simp append-nil) (λ c p fits. fits) (λ c p fits. fits)
+      (then (λ (c : ℕ). c) (to_le_bytes w64) (λ n. n < 2 ^ 64) (number_at w64) low Any (λ c. []) Passes _ (reads64 low) λ n from.
+      choose from (P n) (λ c. []) Passes (ltb n last) _ _
+      (λ falls. never from (P n) (λ c. []) Passes (BadOrder from) (omega arith) (λ c known fits. let lt : n < last = ltb-true _ _ falls in omega (arith, lt, known.1, fits.0)))
+      (λ stays. choose from (P n) (λ c. []) Passes (may_be_parent numbers n) _ _
+      (λ may. said from (P n) (P n) (λ c. []) (λ c. []) (λ c. Unit {0}) Passes (whole n) (λ c p. p) (λ c p. p) (λ c p. refl)
+      (λ c p fits. let le : last ≤ n = ltb-false _ _ stays in (omega (arith, le, p.1), ap (may_be_parent numbers) p.1 ∙ may)) (λ c p fits. tt)
+      (done from (P n) n (tt, refl) (λ d known. known.1)))
+      (λ not. never from (P n) (λ c. []) Passes (Unknown from) (omega arith) (λ c known fits. let clash : true ≡ false = sym fits.1 ∙ ap (may_be_parent numbers) known.1 ∙ not in cc))))
+
+  no_session : (low : ℕ) → Reads low Any (λ s. []) (SessionFits One numbers last) (session_at One numbers last)
+  unfolding session_at whole
+  no_session low = record {
+    takes = λ bytes at d end are le e.
+        let is = ok_is 1 d at end e in
+        (tt, sym is.0, subst (λ (n : ℕ). Stands bytes at [] n) is.1 (stands_empty bytes at));
+    again = λ bytes at d end le also fits stands.
+        let two : end ≡ at = omega (arith, stands.end_at) in
+        rw (fits, two) refl;
+    falls = λ bytes at fault are low_le le e. absurd cc;
+    goes = λ bytes at d end e. let is = ok_is 1 d at end e in omega (arith, is.1);
+    later = λ bytes at fault low_le e. absurd cc;
+  }
+
+  pub session_reads : (f : Format) (low : ℕ) → Reads low Any (spelling_of_session f) (SessionFits f numbers last) (session_at f numbers last)
+  session_reads One low = no_session low
+  session_reads Two low = later_session low
 
 -- where any number is taken, each parent's is
 pub any_parent : (o : Origin) → HasParent Free o

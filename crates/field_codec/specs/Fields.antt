@@ -1,6 +1,6 @@
 -- How each thing is read, field by field.
-use Rattle.std.specs.Prelude.{ℕ, List, ◌==◌}
-use Rattle.std.specs.Int.{w8, w16, w32, w64, cast_signed}
+use Rattle.std.specs.Prelude.{ℕ, List, take, ◌==◌, nat_lt}
+use Rattle.std.specs.Int.{w8, w16, w32, w64, cast_signed, from_le_bytes}
 use Rattle.base_types.specs.declared.calls.Value.{Value}
 use Rattle.base_types.specs.declared.calls.Value.TheVariants.{Int, Text}
 use Rattle.base_types.specs.declared.calls.Call.{Call}
@@ -9,8 +9,9 @@ use Rattle.base_types.specs.declared.calls.Origin.TheVariants.{Line, Child}
 use Rattle.base_types.specs.declared.calls.Outcome as outcome
 use Rattle.base_types.specs.declared.stores.Version.{Version}
 use Rattle.field_codec.specs.declared.formats.Format.{Format}
+use Rattle.field_codec.specs.declared.formats.Format.TheVariants.{One, Two}
 use Rattle.field_codec.specs.Formats.{field_limit}
-use Rattle.field_codec.specs.declared.faults.CodecFault.TheVariants.{BadTag, Unknown}
+use Rattle.field_codec.specs.declared.faults.CodecFault.TheVariants.{BadTag, BadOrder, Unknown}
 use Rattle.field_codec.specs.declared.units.Numbers.{Numbers}
 use Rattle.field_codec.specs.Units.{may_be_unit, may_be_parent}
 use Rattle.field_codec.specs.Readers.{Reader, whole, refused, field, choice, number_at, count_at, text_at, times, list_at}
@@ -46,6 +47,17 @@ unit_at numbers = field (number_at w64) λ n place. choice (may_be_unit numbers 
 -- the number of a parent, where these numbers may be a parent's
 unfoldable pub parent_at : Numbers → Reader ℕ
 parent_at numbers = field (number_at w64) λ n place. choice (may_be_parent numbers n) (whole n) (refused (Unknown place))
+
+-- The number of a body's session: none is spelled in format 1, where it counts as 1. It isn't below the one before, and is one that is
+-- taken.
+unfoldable pub session_at : Format → Numbers → ℕ → Reader ℕ
+session_at One numbers last = whole 1
+session_at Two numbers last = field (number_at w64) λ n place. choice (nat_lt n last) (refused (BadOrder place)) (choice (may_be_parent numbers n) (whole n) (refused (Unknown place)))
+
+-- the session that a body names, 1 in format 1
+abbrev pub session_of : Format → List ℕ → ℕ
+session_of One body = 1
+session_of Two body = from_le_bytes w64 (take 8 body)
 
 -- an origin: its tag, and then a line, or a parent with the child's index and depth
 unfoldable pub origin_at : Numbers → Reader Origin

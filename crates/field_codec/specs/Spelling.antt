@@ -4,6 +4,7 @@ use Rattle.std.specs.Int.{w16, w32, w64, to_le_bytes, cast_unsigned}
 use Rattle.std.specs.List.{flat_map, AllByRecursion}
 use Rattle.std.specs.Str.{IsUtf8}
 use Rattle.field_codec.specs.declared.formats.Format.{Format}
+use Rattle.field_codec.specs.declared.formats.Format.TheVariants.{One, Two}
 use Rattle.field_codec.specs.Formats.{text_limit, field_limit}
 use Rattle.base_types.specs.declared.calls.Value.{Value}
 use Rattle.base_types.specs.declared.calls.Value.TheVariants.{Int, Text}
@@ -91,6 +92,11 @@ abbrev pub ResultFits : Format → outcome.Outcome → Type 0
 ResultFits format outcome.TheVariants.Aborted = ⊥
 ResultFits format (outcome.TheVariants.Value value) = ValueFits format value
 ResultFits format (outcome.TheVariants.Fault text) = TextFits format text
+
+-- the number of a session, of which format 1 spells none
+abbrev pub spelling_of_session : Format → ℕ → List ℕ
+spelling_of_session One session = []
+spelling_of_session Two session = to_le_bytes w64 session
 
 -- a program file begins with the text's length and the text; further bytes are ignored
 abbrev pub spelling_of_program : List ℕ → List ℕ

@@ -14,13 +14,13 @@ use std::alloc::{AllocError, Global};
 impl Spelled for Call {
     ghost use Rattle.std.specs.Prelude.{◌≤◌, length};
     ghost use Rattle.field_codec.specs.Spelling.{spelling_of_call, CallFits};
-    ghost use Rattle.field_codec.specs.declared.formats.Format.TheVariants.{One};
+    ghost use Rattle.field_codec.specs.declared.formats.Format.TheVariants.{Two};
 
     ghost may_spell = { λ call. length call.args ≤ 8 };
 
     ghost spelling = { spelling_of_call };
 
-    ghost fits = { CallFits One };
+    ghost fits = { CallFits Two };
 
     fn append(&self, into: &mut Vec<u8>) -> Result<(), AllocError> {
         put_u16(into, self.grain.kind)?;

@@ -26,5 +26,5 @@ pub use origins::get_origin;
 pub use outcomes::{get_answer, get_result};
 pub use spelling::{Spelled, append_all, put};
 pub use texts::get_program;
-pub use units::{Numbers, get_unit};
+pub use units::{Numbers, get_session, get_unit};
 pub use values::{get_exactly, get_state, get_value, put_state, put_value};

@@ -13,13 +13,13 @@ use std::alloc::{AllocError, Global};
 
 impl Spelled for Outcome {
     ghost use Rattle.field_codec.specs.Spelling.{spelling_of_outcome, AnswerFits};
-    ghost use Rattle.field_codec.specs.declared.formats.Format.TheVariants.{One};
+    ghost use Rattle.field_codec.specs.declared.formats.Format.TheVariants.{Two};
 
     ghost may_spell = { λ _. Unit {0} };
 
     ghost spelling = { spelling_of_outcome };
 
-    ghost fits = { AnswerFits One };
+    ghost fits = { AnswerFits Two };
 
     fn append(&self, into: &mut Vec<u8>) -> Result<(), AllocError> {
         match self {

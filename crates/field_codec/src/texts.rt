@@ -3,7 +3,7 @@ ghost use Rattle.std.specs.Str.{is_utf8};
 ghost use Rattle.field_codec.specs.Readers.{text_at, program_at};
 ghost use Rattle.field_codec.specs.Results.{GivesRead};
 ghost use Rattle.field_codec.specs.Spelling.{spelling_of_text, TextFits};
-ghost use Rattle.field_codec.specs.declared.formats.Format.TheVariants.{One};
+ghost use Rattle.field_codec.specs.declared.formats.Format.TheVariants.{Two};
 
 use crate::faults::CodecFault;
 use crate::formats::Format;
@@ -51,7 +51,7 @@ pub fn get_text(
 /// Appends a text's length and its bytes. Without memory some of them may have been appended.
 pub fn append_text(into: &mut Vec<u8>, text: &Text) -> Result<(), AllocError>
     ensures ok { OnOk result (into.new.items ≡ into.old.items ++ spelling_of_text text.now) }
-    ensures fits { TextFits One text.now }
+    ensures fits { TextFits Two text.now }
     ensures begins { take (length into.old.items) into.new.items ≡ into.old.items }
 {
     let bytes = text.as_str().as_bytes();

@@ -4,7 +4,7 @@ ghost use Rattle.field_codec.specs.Fields.{value_at, values_at, exactly_at};
 ghost use Rattle.field_codec.specs.Results.{GivesRead, FindsSpelling, Only};
 ghost use Rattle.field_codec.specs.Spelling.{spelling_of_value, spelling_of_values, ValueFits, ValuesFit};
 ghost use Rattle.field_codec.specs.Formats.{field_limit};
-ghost use Rattle.field_codec.specs.declared.formats.Format.TheVariants.{One};
+ghost use Rattle.field_codec.specs.declared.formats.Format.TheVariants.{Two};
 
 use crate::faults::CodecFault;
 use crate::formats::Format;
@@ -16,13 +16,13 @@ use std::alloc::{AllocError, Global};
 
 impl Spelled for Value {
     ghost use Rattle.field_codec.specs.Spelling.{spelling_of_value, ValueFits};
-    ghost use Rattle.field_codec.specs.declared.formats.Format.TheVariants.{One};
+    ghost use Rattle.field_codec.specs.declared.formats.Format.TheVariants.{Two};
 
     ghost may_spell = { λ _. Unit {0} };
 
     ghost spelling = { spelling_of_value };
 
-    ghost fits = { ValueFits One };
+    ghost fits = { ValueFits Two };
 
     fn append(&self, into: &mut Vec<u8>) -> Result<(), AllocError> {
         match self {
@@ -42,9 +42,9 @@ impl Spelled for Value {
 
 /// Appends how many values there are, and each. Without memory some of their bytes may have been appended.
 pub fn append_values(into: &mut Vec<u8>, values: &[Value]) -> Result<(), AllocError>
-    requires { length values.now ≤ 16 }
+    requires { length values.now ≤ 64 }
     ensures ok { OnOk result (into.new.items ≡ into.old.items ++ spelling_of_values values.now) }
-    ensures fits { OnOk result (ValuesFit One 16 values.now) }
+    ensures fits { OnOk result (ValuesFit Two 64 values.now) }
     ensures begins { take (length into.old.items) into.new.items ≡ into.old.items }
 {
     put_u16(into, values.len() as u16)?;
@@ -54,13 +54,13 @@ pub fn append_values(into: &mut Vec<u8>, values: &[Value]) -> Result<(), AllocEr
 
 impl Spelled for State {
     ghost use Rattle.field_codec.specs.Spelling.{spelling_of_values, ValuesFit};
-    ghost use Rattle.field_codec.specs.declared.formats.Format.TheVariants.{One};
+    ghost use Rattle.field_codec.specs.declared.formats.Format.TheVariants.{Two};
 
     ghost may_spell = { λ _. Unit {0} };
 
     ghost spelling = { spelling_of_values };
 
-    ghost fits = { ValuesFit One 16 };
+    ghost fits = { ValuesFit Two 64 };
 
     fn append(&self, into: &mut Vec<u8>) -> Result<(), AllocError> {
         // Its contract bounds the count.
@@ -181,6 +181,7 @@ pub fn get_value(
     value_there(alloc, bytes, at, format)
 }
 
+#[tactic(auto, using(crate::proofs::Counts::field_limit_within))]
 fn state_there(
     alloc: Global,
     bytes: &[u8],

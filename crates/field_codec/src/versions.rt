@@ -7,13 +7,13 @@ use std::alloc::AllocError;
 
 impl Spelled for Version {
     ghost use Rattle.field_codec.specs.Spelling.{spelling_of_version, VersionFits};
-    ghost use Rattle.field_codec.specs.declared.formats.Format.TheVariants.{One};
+    ghost use Rattle.field_codec.specs.declared.formats.Format.TheVariants.{Two};
 
     ghost may_spell = { λ _. Unit {0} };
 
     ghost spelling = { spelling_of_version };
 
-    ghost fits = { VersionFits One };
+    ghost fits = { VersionFits Two };
 
     fn append(&self, into: &mut Vec<u8>) -> Result<(), AllocError> {
         // Its contract bounds the count.

@@ -1,6 +1,6 @@
 -- Versions of a unit: the eight bytes before a version's state.
 use Rattle.std.specs.Prelude.{bytes_eq}
-use Rattle.std.proofs.Common.{◌≡◌, inl, inr, ℕ, ◌+◌, ◌-◌, ◌^◌, ◌<◌, ◌≤◌, min, Bool, true, false, if◌then◌else◌, nat_lt, ltb, Option, Some, None, List, length, take, drop, Result, Ok, Err, refl, sym, ◌∙◌, ap, subst, arith, length-take}
+use Rattle.std.proofs.Common.{◌≡◌, inl, inr, ℕ, ◌+◌, ◌-◌, ◌<◌, ◌≤◌, Bool, true, false, if◌then◌else◌, Option, Some, None, List, length, take, drop, Result, Err, refl, sym, ◌∙◌, ap, subst, arith, length-take}
 use Rattle.std.proofs.lemmas.Bool.{cases_Bool, cases_lt, false_from_ne_true, le-ltb, lt-ltb}
 use Rattle.std.proofs.lemmas.List.{take-take}
 use Rattle.std.proofs.lemmas.Slice.Eq.{bytes_eq-Decides}
@@ -9,14 +9,13 @@ use Rattle.base_types.specs.declared.calls.UnitNo.{UnitNo}
 use Rattle.base_types.specs.declared.stores.Place.{Place}
 use Rattle.base_types.specs.declared.stores.Version.{Version}
 use Rattle.field_codec.specs.declared.formats.Format.{Format}
-use Rattle.field_codec.specs.declared.faults.CodecFault.{CodecFault}
 use Rattle.field_codec.specs.declared.faults.CodecFault.TheVariants.{Short}
-use Rattle.field_codec.specs.Readers.{field, number_at}
+use Rattle.field_codec.specs.Readers.{field}
 use Rattle.field_codec.specs.Units.{may_be_unit}
 use Rattle.field_codec.specs.declared.units.Numbers.TheVariants.{Logged}
 use Rattle.field_codec.proofs.Counts.{wide64}
 use Rattle.grain_log.specs.declared.faults.VersionFault.{VersionFault}
-use Rattle.grain_log.specs.Reads.{version_in, version_of, is_beyond, in_file, text_in, version_at_place, version_by_owner, BeginsBy, IsTextAt, GivesVersion}
+use Rattle.grain_log.specs.Reads.{version_in, version_of, is_beyond, in_file, version_at_place, version_by_owner, BeginsBy, IsTextAt, GivesVersion}
 
 -- fewer than eight bytes are no number
 pub too_short : (text : List ℕ) (unit : ℕ) → length text < 8 → take 8 text ≡ to_le_bytes w64 unit → ⊥

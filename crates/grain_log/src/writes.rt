@@ -4,7 +4,7 @@ ghost use Rattle.host_trait.specs.Disk.{Tears};
 ghost use Rattle.host_trait.specs.Faults.{NoneFailed};
 ghost use Rattle.host_trait.specs.Files.{HasSlot, StaysReady};
 ghost use Rattle.host_trait.specs.Runs.{RunsOnFile};
-ghost use Rattle.field_codec.specs.declared.formats.Format.TheVariants.{One};
+ghost use Rattle.field_codec.specs.declared.formats.Format.TheVariants.{Two};
 ghost use Rattle.field_codec.specs.Spelling.{VersionFits};
 ghost use Rattle.grain_log.specs.Counts.{WriteFaulted};
 ghost use Rattle.grain_log.specs.Places.{spelling_of_versions, places_from, WroteVersions};
@@ -25,7 +25,7 @@ fn encode(
     requires { at < 2 ^ 63 }
     ensures bytes { IfOk result (λ made. made.0.items ≡ spelling_of_versions versions.now) }
     ensures places { IfOk result (λ made. made.1 ≡ places_from at versions.now) }
-    ensures fits { OnOk result (AllByRecursion (VersionFits One) versions.now) }
+    ensures fits { OnOk result (AllByRecursion (VersionFits Two) versions.now) }
 {
     let mut bytes = Vec::new(alloc);
     let mut places = List::new(alloc);
@@ -59,7 +59,7 @@ pub fn write_versions<H: Host>(
     // Once it is done the versions last, each at its place.
     ensures wrote { OnOk result (IsTrue H.tells → WroteVersions file at versions.now (H.world host.old) (H.world host.new)) }
     ensures places { IfOk result (λ places. places ≡ places_from at versions.now) }
-    ensures fits { OnOk result (AllByRecursion (VersionFits One) versions.now) }
+    ensures fits { OnOk result (AllByRecursion (VersionFits Two) versions.now) }
     ensures bound { OnOk result (at + length (spelling_of_versions versions.now) < 2 ^ 63) }
 
     // Without memory nothing was written.

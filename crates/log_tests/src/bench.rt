@@ -1,10 +1,11 @@
 ghost use Rattle.std.specs.Prelude.{◌<◌, ◌^◌};
 
+use crate::bodies::{Reading, add_body, block_of, said_in};
 use crate::cases::{Case, case_of};
 use crate::fields::add_field;
 use crate::folder::Folder;
+use crate::pieces::add_piece;
 use crate::printer::add_bytes;
-use crate::records::{add_records, block_of, records_in};
 use base_types::{GrainId, List, Place, Shape, State, Text, TypeShape, UnitNo, Value, Version};
 use commit_log::seal;
 use field_codec::{Format, get_state};
@@ -24,19 +25,20 @@ const GRAIN: FileId = FileId::Grain {
     grain: GrainId { kind: 0, key: 1 },
 };
 
-/// A folder, and the fields that its program's only type has. That type has a method of one parameter, one of none and one of 8.
+/// A folder, its format, and the fields that its program's only type has. That type has a method of one parameter, one of none and one of 8.
 #[derive(Drop)]
 pub struct Bench {
     alloc: Global,
     folder: Folder,
+    format: Format,
     fields: u64,
 }
 
-// One type with so many fields, at most 16.
+// One type with so many fields, at most 64.
 fn shape_of(alloc: Global, fields: u64) -> Result<Shape, AllocError> {
     let mut initial = State::new(alloc);
-    for _ in 0..fields.min(16) {
-        if initial.len() < 16 {
+    for _ in 0..fields.min(64) {
+        if initial.len() < 64 {
             initial.push(Value::Int(0))?;
         }
     }
@@ -59,11 +61,16 @@ fn params_of(alloc: Global) -> Result<List<u16>, AllocError> {
 }
 
 // The versions of this unit and of those behind it, whose states stand one behind the other in the bytes.
-fn versions_of(alloc: Global, unit: u64, bytes: &[u8]) -> Result<List<Version>, AllocError> {
+fn versions_of(
+    alloc: Global,
+    unit: u64,
+    bytes: &[u8],
+    format: Format,
+) -> Result<List<Version>, AllocError> {
     let mut versions = List::new(alloc);
     let mut at = 0;
     for i in 0..64 {
-        let Ok((state, end)) = get_state(alloc, bytes, at, Format::One) else {
+        let Ok((state, end)) = get_state(alloc, bytes, at, format) else {
             return Ok(versions);
         };
         versions.push(Version {
@@ -76,11 +83,12 @@ fn versions_of(alloc: Global, unit: u64, bytes: &[u8]) -> Result<List<Version>, 
 }
 
 impl Bench {
-    /// An empty folder, and a type of one field.
+    /// An empty folder of format 2, and a type of one field.
     pub fn new(alloc: Global) -> Bench {
         Bench {
             alloc,
             folder: Folder::new(alloc),
+            format: Format::Two,
             fields: 1,
         }
     }
@@ -118,6 +126,12 @@ impl Bench {
                 self.folder.bad_sync = case.number(1);
             }
             "fields" => self.fields = case.number(0),
+            "format" => {
+                self.format = match case.number(0) {
+                    1 => Format::One,
+                    _ => Format::Two,
+                }
+            }
             _ => return Ok(false),
         }
         Ok(true)
@@ -125,8 +139,9 @@ impl Bench {
 
     fn add_case(&mut self, out: &mut String, case: &Case) -> Result<(), AllocError> {
         match case.word {
-            "body" => self.add_body(out, &case.bytes, false),
-            "log" => self.add_body(out, &case.bytes, true),
+            "body" => self.add_body(out, case, false),
+            "log" => self.add_body(out, case, true),
+            "piece" => self.add_piece(out, &case.bytes),
             "append" | "open" | "block" | "seal" => self.add_gate(out, case),
             "write" => self.add_write(out, case),
             "read" => self.add_read(out, case),
@@ -136,13 +151,23 @@ impl Bench {
                 write!(out, "{reads}")
             }
             "files" => self.add_files(out),
-            _ => add_field(self.alloc, out, case),
+            _ => add_field(self.alloc, out, case, self.format),
         }
     }
 
-    fn add_body(&self, out: &mut String, body: &[u8], logged: bool) -> Result<(), AllocError> {
+    fn add_body(&self, out: &mut String, case: &Case, logged: bool) -> Result<(), AllocError> {
         let shape = shape_of(self.alloc, self.fields)?;
-        add_records(self.alloc, out, body, &shape, logged)
+        let reading = Reading {
+            logged,
+            format: self.format,
+            session: case.number(0),
+        };
+        add_body(self.alloc, out, &case.bytes, &shape, reading)
+    }
+
+    fn add_piece(&self, out: &mut String, body: &[u8]) -> Result<(), AllocError> {
+        let shape = shape_of(self.alloc, self.fields)?;
+        add_piece(self.alloc, out, body, &shape, self.format)
     }
 
     // A call on the manager file, at the gate that the case says.
@@ -178,16 +203,21 @@ impl Bench {
         }
     }
 
-    // Seals the block of the records that a body has.
+    // Seals the block of what a body says.
     fn add_seal(&mut self, out: &mut String, gate: u64, body: &[u8]) -> Result<(), AllocError>
         requires { gate < 2 ^ 62 }
     {
         let shape = shape_of(self.alloc, self.fields)?;
-        let records = match records_in(self.alloc, body, &shape, true) {
-            Ok(records) => records,
+        let reading = Reading {
+            logged: true,
+            format: self.format,
+            session: 0,
+        };
+        let (session, said) = match said_in(self.alloc, body, &shape, reading) {
+            Ok(said) => said,
             Err(fault) => return write!(out, "{fault}"),
         };
-        let block = block_of(self.alloc, &records)?;
+        let block = block_of(self.alloc, session, &said)?;
         let sealing = seal(&mut self.folder, SLOT, gate, block.as_slice());
         write!(out, "{sealing:?}")
     }
@@ -197,7 +227,7 @@ impl Bench {
         if at >= 1 << 62 {
             return out.push_str("no such place");
         }
-        let versions = versions_of(self.alloc, case.number(1), &case.bytes)?;
+        let versions = versions_of(self.alloc, case.number(1), &case.bytes, self.format)?;
         match write_versions(self.alloc, &mut self.folder, GRAIN, at, &versions) {
             Ok(places) => add_places(out, places.as_slice()),
             Err(fault) => write!(out, "{fault}"),
@@ -216,7 +246,7 @@ impl Bench {
             GRAIN,
             place,
             &shape,
-            Format::One,
+            self.format,
         ) {
             Ok(version) => {
                 let unit = version.unit.0;

@@ -29,6 +29,7 @@ fn item_at(
     kind: &str,
     bytes: &[u8],
     at: usize,
+    format: Format,
 ) -> Result<Option<(Item, usize)>, CodecFault> {
     let (item, end) = match kind {
         "two" => {
@@ -51,7 +52,7 @@ fn item_at(
             let (number, end) = get_unit(bytes, at, Numbers::Free)?;
             (Item::Eight(number), end)
         }
-        _ => return long_item_at(alloc, kind, bytes, at),
+        _ => return long_item_at(alloc, kind, bytes, at, format),
     };
     Ok(Some((item, end)))
 }
@@ -59,18 +60,18 @@ fn item_at(
 // An item that was read, and where it ends.
 type Found = Result<(Item, usize), CodecFault>;
 
-fn value_at(alloc: Global, bytes: &[u8], at: usize) -> Found {
-    let (value, end) = get_value(alloc, bytes, at, Format::One)?;
+fn value_at(alloc: Global, bytes: &[u8], at: usize, format: Format) -> Found {
+    let (value, end) = get_value(alloc, bytes, at, format)?;
     Ok((Item::Value(value), end))
 }
 
-fn state_at(alloc: Global, bytes: &[u8], at: usize) -> Found {
-    let (state, end) = get_state(alloc, bytes, at, Format::One)?;
+fn state_at(alloc: Global, bytes: &[u8], at: usize, format: Format) -> Found {
+    let (state, end) = get_state(alloc, bytes, at, format)?;
     Ok((Item::State(state), end))
 }
 
-fn call_at(alloc: Global, bytes: &[u8], at: usize) -> Found {
-    let (call, end) = get_call(alloc, bytes, at, Format::One)?;
+fn call_at(alloc: Global, bytes: &[u8], at: usize, format: Format) -> Found {
+    let (call, end) = get_call(alloc, bytes, at, format)?;
     Ok((Item::Call(call), end))
 }
 
@@ -79,13 +80,13 @@ fn origin_at(bytes: &[u8], at: usize, numbers: Numbers) -> Found {
     Ok((Item::Origin(origin), end))
 }
 
-fn answer_at(alloc: Global, bytes: &[u8], at: usize) -> Found {
-    let (answer, end) = get_answer(alloc, bytes, at, Format::One)?;
+fn answer_at(alloc: Global, bytes: &[u8], at: usize, format: Format) -> Found {
+    let (answer, end) = get_answer(alloc, bytes, at, format)?;
     Ok((Item::Outcome(answer), end))
 }
 
-fn result_at(alloc: Global, bytes: &[u8], at: usize) -> Found {
-    let (outcome, end) = get_result(alloc, bytes, at, Format::One)?;
+fn result_at(alloc: Global, bytes: &[u8], at: usize, format: Format) -> Found {
+    let (outcome, end) = get_result(alloc, bytes, at, format)?;
     Ok((Item::Outcome(outcome), end))
 }
 
@@ -94,15 +95,16 @@ fn long_item_at(
     kind: &str,
     bytes: &[u8],
     at: usize,
+    format: Format,
 ) -> Result<Option<(Item, usize)>, CodecFault> {
     let found = match kind {
-        "value" => value_at(alloc, bytes, at),
-        "state" => state_at(alloc, bytes, at),
-        "call" => call_at(alloc, bytes, at),
+        "value" => value_at(alloc, bytes, at, format),
+        "state" => state_at(alloc, bytes, at, format),
+        "call" => call_at(alloc, bytes, at, format),
         "origin" => origin_at(bytes, at, Numbers::Logged),
         "any-origin" => origin_at(bytes, at, Numbers::Free),
-        "answer" => answer_at(alloc, bytes, at),
-        "result" => result_at(alloc, bytes, at),
+        "answer" => answer_at(alloc, bytes, at, format),
+        "result" => result_at(alloc, bytes, at, format),
         _ => return Ok(None),
     };
     Ok(Some(found?))
@@ -163,10 +165,15 @@ fn add_fault(out: &mut String, fault: CodecFault) -> Result<(), AllocError> {
 }
 
 /// Writes the item at the place that the case says, where it ends, and whether its spelling is what was read; or its fault.
-pub fn add_field(alloc: Global, out: &mut String, case: &Case) -> Result<(), AllocError> {
+pub fn add_field(
+    alloc: Global,
+    out: &mut String,
+    case: &Case,
+    format: Format,
+) -> Result<(), AllocError> {
     let bytes = case.bytes.as_slice();
     let at = usize::try_from(case.number(0)).unwrap_or(0);
-    match item_at(alloc, case.word, bytes, at) {
+    match item_at(alloc, case.word, bytes, at, format) {
         Ok(Some((item, end))) => add_found(alloc, out, &item, end, bytes.get(at..end)),
         Ok(None) => out.push_str("no such case"),
         Err(fault) => add_fault(out, fault),

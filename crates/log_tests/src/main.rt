@@ -2,16 +2,17 @@
 //! back, and blocks, seals and versions in the files of a folder whose calls fail where a case says so. `stdin` has the cases,
 //! and `stdout` the answers, worked out by hand from `docs/FORMATS.md`.
 //!
-//! A line is a word, numbers, and behind a colon bytes in hexadecimal, where `61*256` is a byte 256 times. A line that begins
-//! with `#` says what the cases behind it show.
+//! A line is a word, numbers, and behind a colon bytes in hexadecimal, where `61*256` is a byte 256 times. The lines behind `format 1`
+//! or `format 2` are of that format, the first ones of format 2. A line that begins with `#` says what the cases behind it show.
 #![tactic(auto)]
 
 mod bench;
+mod bodies;
 mod cases;
 mod fields;
 mod folder;
+mod pieces;
 mod printer;
-mod records;
 
 use crate::bench::Bench;
 use std::io;

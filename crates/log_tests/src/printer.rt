@@ -26,7 +26,8 @@ fn add_answers(out: &mut String, answers: &[Outcome]) -> Result<(), AllocError> 
     Ok(())
 }
 
-fn add_writes(out: &mut String, writes: &[Written]) -> Result<(), AllocError> {
+/// Writes writes, or how many there are where that is more than 4.
+pub fn add_writes(out: &mut String, writes: &[Written]) -> Result<(), AllocError> {
     let count = writes.len();
     if count > MOST {
         return write!(out, "; {count} writes");

@@ -1,5 +1,5 @@
-use Rattle.commit_log.proofs.BodiesRead.{contents_apart}
+use Rattle.commit_log.proofs.FrontsRead.{fronts_apart}
 use Rattle.commit_log.proofs.laws.bodies_are_apart.Goals as goal
 
 pub returns : goal.returns
-returns c = contents_apart
+returns c = fronts_apart

@@ -1,4 +1,4 @@
-use Rattle.std.proofs.Common.{rules, ◌≡◌, ◌-◌, ◌≤◌, ℕ, List, Option, Some, length, take, drop, ap, ◌∙◌}
+use Rattle.std.proofs.Common.{rules, ◌≡◌, ◌-◌, ◌≤◌, ℕ, Option, Some, length, take, drop, ap, ◌∙◌}
 use Rattle.grain_log.specs.Reads.{fields_in, version_by_owner, IsTextAt}
 use Rattle.grain_log.proofs.reads.read_named.Goals as goal
 

@@ -1,4 +1,4 @@
-use Rattle.std.proofs.Common.{rules, ◌≡◌, ◌+◌, ◌^◌, ◌≤◌, ℕ, length, ap, ◌∙◌, arith}
+use Rattle.std.proofs.Common.{rules, ◌≡◌, ◌+◌, ◌^◌, ◌≤◌, length, ap, ◌∙◌, arith}
 use Rattle.host_trait.specs.World.{World}
 use Rattle.grain_log.proofs.reads.read_text.Goals as goal
 
