@@ -14,14 +14,14 @@ use Rattle.script_tree.specs.Programs.{ProgramTree, program_tree}
 use Rattle.script_check.specs.Shapes.{type_shapes}
 use Rattle.script_check.specs.Comparison.{last_program}
 use Rattle.program_file.specs.Programs.{Program, shape_in}
-use Rattle.log_entries.specs.Entries.{BodyEntry, Recorded, Upgraded, IsEntryIn}
+use Rattle.log_reading.specs.Entries.{BodyEntry, Recorded, Upgraded, IsEntryIn}
 use Rattle.log_reading.specs.declared.entries.LogSoFar.{LogSoFar}
 use Rattle.log_reading.specs.declared.log.ReadLog.{ReadLog}
 use Rattle.log_reading.specs.Blocks.{LogBase, ReadEntry, ReadRecord, ReadUpgrade, LogRead, entries_said, program_behind, log_in_file, records_read, programs_read, program_after}
 use Rattle.log_reading.specs.Versions.{named_by, named_of_base, named_in}
 use Rattle.log_reading.specs.Steps.{next_in, text_behind, shapes_behind, IsFollowedBy}
 use Rattle.log_reading.specs.Sums.{next_after, AddsEntry, AreRecordsIn, AreUpgradesIn, IsReadAs}
-use Rattle.log_reading.proofs.LogBlocks.{none_shut, after_more, follows_on, follows_ends, follows_breaks}
+use Rattle.log_reading.proofs.LogBlocks.{none_shut, after_more, follows_on, follows_ends, follows_breaks, ends_session}
 use Rattle.log_reading.proofs.RecordSums.{next_after-append}
 
 -- ---- what some entries and others say
@@ -89,8 +89,9 @@ last_is p (ReadUpgrade q ∷ entries) = last_is q entries
 
 -- ---- what was read
 
-pub record HasRead (tells : Bool) (format : Format) (p : Program) (file : List ℕ) (s : LogSoFar) (gate : ℕ) : Type 0 where
+pub record HasRead (tells : Bool) (format : Format) (p : Program) (file : List ℕ) (s : LogSoFar) (session gate : ℕ) : Type 0 where
   pub log : LogRead
+  pub sessions : List ℕ
   pub count_is : s.count ≡ log.base.count + length log.entries
   pub next_is : s.next ≡ next_after log.base.next (records_read log.entries)
   pub named_is : s.named ≡ named_in log
@@ -99,13 +100,14 @@ pub record HasRead (tells : Bool) (format : Format) (p : Program) (file : List �
   pub shape_is : s.shape.types ≡ type_shapes (program_after p log.entries).types
   pub fit : AreRecordsIn format p log.entries
   pub follow : AreUpgradesIn p log.entries
-  pub follows : IsTrue tells → IsFollowedBy format p file log.base log.entries gate
+  pub follows : IsTrue tells → IsFollowedBy format p file log.base log.entries sessions session gate
 
 module _ (tells : Bool) (format : Format) (p : Program) (file : List ℕ) where
   pub has_begun : (base : LogBase) (gate : ℕ) (s : LogSoFar) → s.count ≡ base.count → s.next ≡ base.next → s.named ≡ named_of_base base → s.later ≡ [] → s.shape.types ≡ type_shapes p.types → s.text ≡ None
-      → (IsTrue tells → IsFollowedBy format p file base [] gate) → HasRead tells format p file s gate
+      → (IsTrue tells → IsFollowedBy format p file base [] [] base.session gate) → HasRead tells format p file s base.session gate
   has_begun base gate s counts nexts names later shape text begins = record {
     log = record { base = base; entries = [] };
+    sessions = [];
     count_is = omega (arith, counts);
     next_is = nexts;
     named_is = names ∙ sym (append-nil (named_of_base base));
@@ -117,7 +119,7 @@ module _ (tells : Bool) (format : Format) (p : Program) (file : List ℕ) where
     follows = begins;
   }
 
-  module _ (s : LogSoFar) (gate : ℕ) (h : HasRead tells format p file s gate) where
+  module _ (s : LogSoFar) (session gate : ℕ) (h : HasRead tells format p file s session gate) where
     abbrev here : Program
     here = program_after p h.log.entries
 
@@ -128,13 +130,14 @@ module _ (tells : Bool) (format : Format) (p : Program) (file : List ℕ) where
     numbers_are : length s.later ≡ length (programs_read h.log.entries)
     numbers_are = sym (length-map s.later program_tree) ∙ ap length h.later_are ∙ length-map (programs_read h.log.entries) (λ (q : Program). q.types)
 
-    pub has_more : (s2 : LogSoFar) (entry : BodyEntry) (behind : ℕ) → AddsEntry s s2 entry → IsEntryIn format here entry
-        → (IsTrue tells → next_in format (last_program p.types (map program_tree s.later)) gate file ≡ Ok (Some (entry, behind))) → HasRead tells format p file s2 behind
-    has_more s2 entry behind adds is step =
+    pub has_more : (s2 : LogSoFar) (own : ℕ) (entry : BodyEntry) (behind : ℕ) → AddsEntry s s2 entry → IsEntryIn format here entry
+        → (IsTrue tells → next_in format (last_program p.types (map program_tree s.later)) session gate file ≡ Ok (Some (own, entry, behind))) → HasRead tells format p file s2 own behind
+    has_more s2 own entry behind adds is step =
         let old : List ReadEntry = h.log.entries in
         let more : List ReadEntry = entries_said entry in
         let after : program_after p (old ++ more) ≡ program_behind here entry = after_more p old entry in record {
           log = record { base = h.log.base; entries = old ++ more };
+          sessions = h.sessions ++ map (λ e. own) more;
           count_is = (let was = h.count_is in let now = adds.count in omega (arith, now, was, length-append old more));
           next_is = adds.next ∙ ap (λ (n : ℕ). next_after n (records_read more)) h.next_is ∙ sym (next_after-append h.log.base.next (records_read old) (records_read more)) ∙ ap (next_after h.log.base.next) (sym (records_append old more));
           named_is = adds.named ∙ (λ i. h.named_is i ++ named_by (numbers_are i) more) ∙ append_assoc (named_of_base h.log.base) (named_by 0 old) (named_by (length (programs_read old)) more)
@@ -145,13 +148,13 @@ module _ (tells : Bool) (format : Format) (p : Program) (file : List ℕ) where
           shape_is = adds.shape ∙ shapes_more here entry s.shape.types h.shape_is ∙ ap (λ (q : Program). type_shapes q.types) (sym after);
           fit = records_in_append format p old more h.fit (said_records_in format here entry is);
           follow = upgrades_in_append p old more h.follow (said_upgrades_in format here entry is);
-          follows = λ told. follows_on format p file h.log.base old gate (h.follows told) entry behind (subst (λ (t : ProgramTree). next_in format t gate file ≡ Ok (Some (entry, behind))) in_force_is (step told));
+          follows = λ told. follows_on format p file h.log.base old h.sessions session gate (h.follows told) own entry behind (subst (λ (t : ProgramTree). next_in format t session gate file ≡ Ok (Some (own, entry, behind))) in_force_is (step told));
         }
 
-    pub has_ended : (l : ReadLog) → l.count ≡ s.count → l.next_unit.0 ≡ s.next → l.named ≡ s.named → l.later ≡ s.later → l.text ≡ s.text → l.gate_at ≡ gate
-        → (IsTrue tells → next_in format (last_program p.types (map program_tree s.later)) gate file ≡ Ok None) → IsReadAs tells format p file l
-    has_ended l count next named later text at step =
-        let none : IsTrue tells → next_in format here.types gate file ≡ Ok None = λ told. subst (λ (t : ProgramTree). next_in format t gate file ≡ Ok None) in_force_is (step told) in record {
+    pub has_ended : (l : ReadLog) → l.count ≡ s.count → l.next_unit.0 ≡ s.next → l.named ≡ s.named → l.later ≡ s.later → l.text ≡ s.text → l.session ≡ session → l.gate_at ≡ gate
+        → (IsTrue tells → next_in format (last_program p.types (map program_tree s.later)) session gate file ≡ Ok None) → IsReadAs tells format p file l
+    has_ended l count next named later text own at step =
+        let none : IsTrue tells → next_in format here.types session gate file ≡ Ok None = λ told. subst (λ (t : ProgramTree). next_in format t session gate file ≡ Ok None) in_force_is (step told) in record {
           log = h.log;
           count = count ∙ h.count_is;
           next = next ∙ h.next_is;
@@ -160,10 +163,11 @@ module _ (tells : Bool) (format : Format) (p : Program) (file : List ℕ) where
           text = ap (λ (t : Option (List ℕ)). unwrap_or t p.text) text ∙ h.text_is;
           fit = h.fit;
           follow = h.follow;
-          read = λ told. (follows_ends format p file h.log.base h.log.entries gate (h.follows told) (none told)).0;
-          gate = λ told. (follows_ends format p file h.log.base h.log.entries gate (h.follows told) (none told)).1 ∙ sym at;
-          closed = λ told. ap (λ (g : ℕ). found_at g file) at ∙ none_shut format here.types gate (found_at gate file) (none told);
+          read = λ told. (follows_ends format p file h.log.base h.log.entries h.sessions session gate (h.follows told) (none told)).0;
+          session = λ told. own ∙ sym (ends_session format p file h.log.base h.log.entries h.sessions session gate (h.follows told) (none told));
+          gate = λ told. (follows_ends format p file h.log.base h.log.entries h.sessions session gate (h.follows told) (none told)).1 ∙ sym at;
+          closed = λ told. ap (λ (g : ℕ). found_at g file) at ∙ none_shut format here.types session gate (found_at gate file) (none told);
         }
 
-    pub has_broken : IsTrue tells → (place : ℕ) → next_in format (last_program p.types (map program_tree s.later)) gate file ≡ Err place → log_in_file format p file ≡ Err place
-    has_broken told place step = follows_breaks format p file h.log.base h.log.entries gate (h.follows told) place (subst (λ (t : ProgramTree). next_in format t gate file ≡ Err place) in_force_is step)
+    pub has_broken : IsTrue tells → (place : ℕ) → next_in format (last_program p.types (map program_tree s.later)) session gate file ≡ Err place → log_in_file format p file ≡ Err place
+    has_broken told place step = follows_breaks format p file h.log.base h.log.entries h.sessions session gate (h.follows told) place (subst (λ (t : ProgramTree). next_in format t session gate file ≡ Err place) in_force_is step)

@@ -8,7 +8,7 @@ use Rattle.script_tree.specs.Programs.{ProgramTree, program_tree}
 use Rattle.script_check.specs.Shapes.{type_shapes}
 use Rattle.script_check.specs.Comparison.{last_program}
 use Rattle.program_file.specs.Programs.{Program}
-use Rattle.log_entries.specs.Entries.{Recorded, Upgraded}
+use Rattle.log_reading.specs.Entries.{Recorded, Upgraded}
 use Rattle.log_reading.specs.declared.entries.LogSoFar.{LogSoFar}
 use Rattle.log_reading.specs.Blocks.{ReadRecord}
 use Rattle.log_reading.specs.Sums.{named_of_records, next_after, AddsEntry}

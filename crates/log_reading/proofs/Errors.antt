@@ -6,8 +6,8 @@ use Rattle.field_codec.specs.declared.faults.CodecFault.{CodecFault}
 use Rattle.field_codec.specs.declared.faults.CodecFault.TheVariants.{Short, BadTag, NotUtf8, Over, BadOrder, Unknown, Trailing, Memory}
 use Rattle.field_codec.specs.Results.{Faults, named_place}
 use Rattle.log_reading.specs.declared.faults.FolderFault.{FolderFault}
-use Rattle.log_entries.specs.declared.entries.EntryFault.{EntryFault}
-use Rattle.log_entries.specs.Entries.{BodyEntry, IsRead}
+use Rattle.log_reading.specs.declared.bodies.EntryFault.{EntryFault}
+use Rattle.log_reading.specs.Entries.{BodyEntry, IsRead}
 use Rattle.log_reading.specs.Counts.{damage_in, entry_damage}
 use Rattle.log_reading.specs.Steps.{placed, counted_from}
 

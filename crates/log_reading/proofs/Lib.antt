@@ -1,4 +1,6 @@
+pub mod Upgrading
 pub mod LogBlocks
+mod PieceFlags
 pub mod CheckpointLoop
 pub mod RecordSums
 pub mod Orders

@@ -141,7 +141,7 @@ both_equal Equal Greater e = absurd (cc e)
 both_equal Equal Equal e = (refl, refl)
 
 -- grains that the order doesn't tell apart are one
-same_by_order : (a b : GrainId) → eq_by_cmp grain_cmp a b ≡ true → a ≡ b
+pub same_by_order : (a b : GrainId) → eq_by_cmp grain_cmp a b ≡ true → a ≡ b
 same_by_order a b e =
     let equal = both_equal (nat_cmp a.kind b.kind) (nat_cmp a.key b.key) e in
     let kind : a.kind ≡ b.kind = exact_unsigned a.kind b.kind equal.0 in

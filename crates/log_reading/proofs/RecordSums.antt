@@ -7,15 +7,17 @@ use Rattle.std.proofs.lemmas.List.{length-map}
 use Rattle.std.proofs.lemmas.Bool.{and_parts, ltb-true}
 use Rattle.base_types.specs.declared.shapes.Shape.{Shape}
 use Rattle.field_codec.specs.declared.formats.Format.{Format}
+use Rattle.field_codec.specs.declared.formats.Format.TheVariants.{One, Two}
+use Rattle.field_codec.specs.Units.{SessionFits}
 use Rattle.field_codec.specs.declared.units.Numbers.TheVariants.{Logged}
 use Rattle.field_codec.proofs.Counts.{wide32, wide64}
 use Rattle.commit_log.specs.declared.records.CommitRecord.{CommitRecord}
 use Rattle.commit_log.specs.Bodies.{IsRecordIn}
 use Rattle.commit_log.specs.Spelling.{spelling_of_record, spelling_of_body}
 use Rattle.commit_log.specs.declared.records.Named.{Named}
-use Rattle.field_codec.specs.Spelling.{spelling_of_program}
+use Rattle.field_codec.specs.Spelling.{spelling_of_session, spelling_of_program}
 use Rattle.program_file.specs.Programs.{Program, shape_in}
-use Rattle.log_entries.specs.Entries.{BodyEntry, Recorded, Upgraded, IsEntryIn, body_said}
+use Rattle.log_reading.specs.Entries.{BodyEntry, Recorded, Upgraded, IsEntryIn, body_said}
 use Rattle.log_reading.specs.Blocks.{ReadRecord, entries_said, records_read, programs_read}
 use Rattle.log_reading.specs.Versions.{named_by}
 use Rattle.log_reading.specs.Sums.{next_after, named_of_records, AreUnitsLow}
@@ -116,13 +118,21 @@ pub said_low : (entry : BodyEntry) → AreUnitsLow entry → AllByRecursion (λ 
 said_low (Recorded rs) low = subst (AllByRecursion (λ r. r.unit.0 < 2 ^ 63)) (sym (records_of_records rs)) low
 said_low (Upgraded q) low = tt
 
+-- a session that a log may have is below 2 to the 63
+pub session_low : (format : Format) (last session : ℕ) → SessionFits format Logged last session → session < 2 ^ 63
+session_low One last session fits = omega (arith, fits)
+session_low Two last session fits = ltb-true session 9223372036854775808 fits.1.1
+
 -- a body has at least as many bytes as entries
-pub few_entries : (entry : BodyEntry) (bytes : List ℕ) → bytes ≡ body_said entry → length (entries_said entry) ≤ length bytes
-few_entries (Recorded rs) bytes is = subst (λ (n : ℕ). n ≤ length bytes) (sym (length-map rs ReadRecord)) (few_records rs bytes is)
-few_entries (Upgraded q) bytes is =
-    let size : length bytes ≡ length (body_said (Upgraded q)) = ap length is in
-    let mark : length (body_said (Upgraded q)) ≡ length (to_le_bytes w32 4294967295) + length (spelling_of_program q.text) = length-append (to_le_bytes w32 4294967295) (spelling_of_program q.text) in
-    omega (arith, size, mark, wide32.len 4294967295)
+pub few_entries : (format : Format) (session : ℕ) (entry : BodyEntry) (bytes : List ℕ) → bytes ≡ body_said format session entry → length (entries_said entry) ≤ length bytes
+few_entries format session (Recorded rs) bytes is =
+    let few : length rs ≤ length (spelling_of_body rs) = few_records rs (spelling_of_body rs) refl in
+    let size : length bytes ≡ length (spelling_of_session format session ++ spelling_of_body rs) = ap length is in
+    subst (λ (n : ℕ). n ≤ length bytes) (sym (length-map rs ReadRecord)) (omega (arith, few, size, length-append (spelling_of_session format session) (spelling_of_body rs)))
+few_entries format session (Upgraded q) bytes is =
+    let text : List ℕ = spelling_of_program q.text in
+    let size : length bytes ≡ length (spelling_of_session format session ++ (to_le_bytes w32 4294967295 ++ text)) = ap length is in
+    omega (arith, size, length-append (spelling_of_session format session) (to_le_bytes w32 4294967295 ++ text), length-append (to_le_bytes w32 4294967295) text, wide32.len 4294967295)
 
 pub next_more : (x : CommitRecord) (rest items : List CommitRecord) (old new all : ℕ) → items ≡ x ∷ rest → new ≡ max old (x.unit.0 + 1) → next_after old items ≡ all → next_after new rest ≡ all
 next_more x rest items old new all are is so_far = ap (λ (n : ℕ). next_after n rest) is ∙ ap (λ (l : List CommitRecord). next_after old l) (sym are) ∙ so_far

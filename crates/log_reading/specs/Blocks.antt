@@ -6,6 +6,7 @@ use Rattle.base_types.specs.declared.shapes.Shape.{Shape}
 use Rattle.field_codec.specs.declared.formats.Format.{Format}
 use Rattle.field_codec.specs.declared.faults.CodecFault.{CodecFault}
 use Rattle.field_codec.specs.Results.{place_of}
+use Rattle.field_codec.specs.Fields.{session_of}
 use Rattle.gate_block.specs.Blocks.{BehindGate, shut, bad, whole, found_at}
 use Rattle.gate_block.specs.Log.{first_gate, bodies_of, gate_of}
 use Rattle.commit_log.specs.declared.records.CheckpointHead.{CheckpointHead}
@@ -17,18 +18,19 @@ use Rattle.commit_log.specs.Orders.{grain_after}
 use Rattle.script_tree.specs.Programs.{ProgramTree}
 use Rattle.program_file.specs.Programs.{Program, shape_in}
 use Rattle.program_file.specs.Succession.{shapes_in_turn}
-use Rattle.log_entries.specs.Entries.{BodyEntry, Recorded, Upgraded, entry_of_body, IsEntryIn, body_said}
+use Rattle.log_reading.specs.Entries.{BodyEntry, Recorded, Upgraded, entry_of_body, SessionEntry, body_with, IsSessionEntryIn}
 
--- What a log begins with: how many records stand before it, the number of the unit behind these, and the version of each grain that
--- has one.
+-- What a log begins with: how many records stand before it, the number of the unit behind these, the greatest session of these, and the
+-- version of each grain that has one.
 pub record LogBase : Type 0 where
   pub count : ℕ
   pub next : ℕ
+  pub session : ℕ
   pub writes : List Written
 
 -- what the log of a new silo begins with
 abbrev pub fresh_base : LogBase
-fresh_base = record { count = 0; next = 1; writes = [] }
+fresh_base = record { count = 0; next = 1; session = 0; writes = [] }
 
 -- an entry as it is read: a record, or the program that comes into force
 pub data ReadEntry : Type 0 where
@@ -80,30 +82,32 @@ no_more gate shut = Ok []
 no_more gate bad = Err (gate + 1)
 no_more gate (whole bytes) = Ok []
 
--- the entries of these bodies, of which the first stands behind this gate and is read under this program, and then of what ends them
-abbrev pub entries_behind : Format → Program → ℕ → List (List ℕ) → Result (List ReadEntry) ℕ → Result (List ReadEntry) ℕ
-entries_behind format p gate [] end = end
-entries_behind format p gate (bytes ∷ bodies) end =
-    and_entries p (gate + 5) (λ q. entries_behind format q (gate + 5 + length bytes) bodies end) (entry_of_body format p.types (shape_in p) bytes)
+-- The entries of these bodies, and then of what ends them. The first body is read under this program and behind this session, the greatest
+-- before it, and stands behind this gate.
+abbrev pub entries_behind : Format → Program → ℕ → ℕ → List (List ℕ) → Result (List ReadEntry) ℕ → Result (List ReadEntry) ℕ
+entries_behind format p last gate [] end = end
+entries_behind format p last gate (bytes ∷ bodies) end =
+    and_entries p (gate + 5) (λ q. entries_behind format q (session_of format bytes) (gate + 5 + length bytes) bodies end)
+    (entry_of_body format p.types (shape_in p) last bytes)
 
 -- the log that begins so
 abbrev pub behind_base : LogBase → Result (List ReadEntry) ℕ → Result LogRead ℕ
 behind_base base (Ok entries) = Ok (record { base = base; entries = entries })
 behind_base base (Err place) = Err place
 
--- each of these is so under the program in force behind those before it
-abbrev pub AreEntriesIn : Format → Program → List BodyEntry → Type 0
-AreEntriesIn format p [] = ⊤
-AreEntriesIn format p (entry ∷ later) = IsEntryIn format p entry × AreEntriesIn format (program_behind p entry) later
+-- each of these is so under the program in force and behind the session of those before it
+abbrev pub AreEntriesIn : Format → Program → ℕ → List SessionEntry → Type 0
+AreEntriesIn format p last [] = ⊤
+AreEntriesIn format p last (b ∷ later) = IsSessionEntryIn format p last b × AreEntriesIn format (program_behind p b.entry) b.session later
 
 -- These entries were read of the bodies that say them, each under the program in force at it, and the rest is what ends them.
-pub record AreSaidBy (format : Format) (p : Program) (bodies : List (List ℕ)) (end : Result (List ReadEntry) ℕ) (found : List ReadEntry) : Type 0 where
-  pub said : List BodyEntry
+pub record AreSaidBy (format : Format) (p : Program) (last : ℕ) (bodies : List (List ℕ)) (end : Result (List ReadEntry) ℕ) (found : List ReadEntry) : Type 0 where
+  pub said : List SessionEntry
   pub rest : List ReadEntry
-  pub bodies_are : bodies ≡ map body_said said
-  pub entries : AreEntriesIn format p said
+  pub bodies_are : bodies ≡ map (body_with format) said
+  pub entries : AreEntriesIn format p last said
   pub ended : end ≡ Ok rest
-  pub are : found ≡ flat_map entries_said said ++ rest
+  pub are : found ≡ flat_map (λ b. entries_said b.entry) said ++ rest
 
 -- ---- pieces of a checkpoint
 
@@ -126,14 +130,15 @@ abbrev pub saved_behind : Format → Program → ℕ → Option CheckpointHead �
 saved_behind format p gate first before [] end missing = Err missing
 saved_behind format p gate first before (bytes ∷ bodies) end missing = and_piece (gate + 5)
     (λ piece. if piece.more then saved_behind format p (gate + 5 + length bytes) (Some piece.head) (before ++ piece.writes) bodies end missing
-    else behind_base (record { count = piece.head.count; next = piece.head.next_unit.0; writes = before ++ piece.writes }) (entries_behind format p (gate + 5 + length bytes) bodies end))
-    (piece_body_in (shape_in p) first (fold grain_after None before) bytes)
+    else behind_base (record { count = piece.head.count; next = piece.head.next_unit.0; session = piece.head.session; writes = before ++ piece.writes })
+    (entries_behind format p piece.head.session (gate + 5 + length bytes) bodies end))
+    (piece_body_in format (shape_in p) first (fold grain_after None before) bytes)
 
 -- ---- the file
 
 -- the log of these bodies under the program of the folder, which begins with a checkpoint or not
 abbrev pub log_as : Format → Program → Bool → List (List ℕ) → ℕ → BehindGate → Result LogRead ℕ
-log_as format p false bodies gate end = behind_base fresh_base (entries_behind format p first_gate bodies (no_more gate end))
+log_as format p false bodies gate end = behind_base fresh_base (entries_behind format p fresh_base.session first_gate bodies (no_more gate end))
 log_as format p true bodies gate end = saved_behind format p first_gate None [] bodies (no_more gate end) (no_piece gate end)
 
 -- the log of a manager file under the program of the folder, or the first place that is damaged

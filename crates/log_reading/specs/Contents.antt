@@ -15,13 +15,14 @@ use Rattle.script_tree.specs.Programs.{program_tree}
 use Rattle.program_file.specs.Programs.{Program, text_limit, program_in}
 use Rattle.program_file.specs.Succession.{ArePrograms, newest_program}
 use Rattle.log_reading.specs.Blocks.{LogRead, log_in_file, records_read, program_after, types_read, shapes_read}
+use Rattle.log_reading.specs.Sessions.{session_in_file}
 use Rattle.log_reading.specs.Versions.{named_in, named_by_grain, first_missing}
 use Rattle.log_reading.specs.Sums.{next_after, placed_after, end_after, AreNear, AreOfPrograms, AreUpgradesIn, StopsAt}
 
 -- The live manager file has this log under the program of the folder, and each version that it names is there. Of them is kept which
 -- programs are in force one after the other and the text of the last, how many entries there are, those before the log's beginning too,
--- the number of the next unit, where the last version of each grain that has one stands, the greatest end in its file, and the gate at
--- which the log ends, behind which no block counts.
+-- the number of the next unit, the greatest session, where the last version of each grain that has one stands, the greatest end in its
+-- file, and the gate at which the log ends, behind which no block counts.
 pub record HasContents (live : ℕ) (format : Format) (p : Program) (image : Image) (kept : Contents) : Type 0 where
   pub log : LogRead
   pub read : log_in_file format p (image (Manager live)) ≡ Ok log
@@ -31,6 +32,7 @@ pub record HasContents (live : ℕ) (format : Format) (p : Program) (image : Ima
   pub whole : first_missing live format (shapes_read p log) image (named_by_grain (named_in log)) ≡ None
   pub count : kept.count ≡ log.base.count + length log.entries
   pub next : kept.next_unit.0 ≡ next_after log.base.next (records_read log.entries)
+  pub session : kept.session ≡ session_in_file format p (image (Manager live))
   pub places : (grain : GrainId) → placed_in kept.places grain ≡ placed_after live format (types_read p log.entries) image None (named_by_grain (named_in log)) grain
   pub ends : (grain : GrainId) → end_in kept.ends grain ≡ end_after None (named_by_grain (named_in log)) grain
   pub gate : gate_of (image (Manager live)) ≡ kept.gate_at
@@ -41,6 +43,7 @@ pub record HasContents (live : ℕ) (format : Format) (p : Program) (image : Ima
 pub record AreContentsInBounds (kept : Contents) : Type 0 where
   pub gate : kept.gate_at < 2 ^ 63
   pub next : (0 < kept.next_unit.0) × (kept.next_unit.0 ≤ 2 ^ 63)
+  pub session : kept.session < 2 ^ 63
   pub near : AreNear kept.ends
   pub programs : ArePrograms (map program_tree kept.programs)
   pub small : length kept.text ≤ text_limit

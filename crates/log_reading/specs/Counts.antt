@@ -4,8 +4,8 @@ use Rattle.host_trait.specs.declared.channels.Channel.{Channel}
 use Rattle.host_trait.specs.declared.channels.Channel.TheVariants.{File}
 use Rattle.host_trait.specs.declared.channels.FileId.TheVariants.{Manager}
 use Rattle.host_trait.specs.Faults.{NoneFailed, FailedOn}
-use Rattle.log_entries.specs.declared.entries.EntryFault.{EntryFault}
-use Rattle.log_entries.specs.declared.entries.EntryFault.TheVariants.{Damaged, Memory}
+use Rattle.log_reading.specs.declared.bodies.EntryFault.{EntryFault}
+use Rattle.log_reading.specs.declared.bodies.EntryFault.TheVariants.{Damaged, Memory}
 use Rattle.log_reading.specs.declared.faults.FolderFault.{FolderFault}
 
 -- a call on the file failed where `Failed` is answered, and none did where another fault is

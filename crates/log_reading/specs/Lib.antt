@@ -1,4 +1,6 @@
+pub mod Entries
 pub mod Blocks
+pub mod Sessions
 pub mod Versions
 pub mod Sums
 pub mod Steps

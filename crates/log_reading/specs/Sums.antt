@@ -25,13 +25,14 @@ use Rattle.script_tree.specs.declared.programs.Program.{Program as TreeProgram}
 use Rattle.script_check.specs.Comparison.{last_program}
 use Rattle.program_file.specs.Succession.{shapes_in_turn, version_meant}
 use Rattle.program_file.specs.Programs.{Program, shape_in}
-use Rattle.log_entries.specs.Entries.{BodyEntry, Recorded, Upgraded, MayFollow}
+use Rattle.log_reading.specs.Entries.{BodyEntry, Recorded, Upgraded, MayFollow}
 use Rattle.commit_log.specs.declared.records.Named.{Named}
 use Rattle.log_reading.specs.declared.log.ReadLog.{ReadLog}
 use Rattle.log_reading.specs.declared.entries.LogSoFar.{LogSoFar}
 use Rattle.log_reading.specs.declared.faults.FolderFault.{FolderFault}
 use Rattle.host_trait.specs.Files.{same_grain}
 use Rattle.log_reading.specs.Blocks.{ReadEntry, ReadRecord, ReadUpgrade, LogRead, entries_said, log_in_file, records_read, programs_read, program_after}
+use Rattle.log_reading.specs.Sessions.{session_in_file}
 use Rattle.log_reading.specs.Steps.{text_behind, shapes_behind}
 use Rattle.log_reading.specs.Versions.{named_by, named_in, version_numbered, version_found, state_of, first_missing}
 
@@ -75,7 +76,7 @@ AreUpgradesIn p (ReadUpgrade q ∷ later) = MayFollow p q × AreUpgradesIn q lat
 
 -- What is kept of a log of this program is that of what it begins with and of entries within the limits, each under the program of its
 -- time: the programs that come into force, and the text of the last one. Where the file is told they are the file's and end at the log's
--- gate, behind which no block counts.
+-- gate, behind which no block counts, and the greatest session is the file's.
 pub record IsReadAs (tells : Bool) (format : Format) (p : Program) (file : List ℕ) (l : ReadLog) : Type 0 where
   pub log : LogRead
   pub count : l.count ≡ log.base.count + length log.entries
@@ -86,6 +87,7 @@ pub record IsReadAs (tells : Bool) (format : Format) (p : Program) (file : List 
   pub fit : AreRecordsIn format p log.entries
   pub follow : AreUpgradesIn p log.entries
   pub read : IsTrue tells → log_in_file format p file ≡ Ok log
+  pub session : IsTrue tells → l.session ≡ session_in_file format p file
   pub gate : IsTrue tells → gate_of file ≡ l.gate_at
   pub closed : IsTrue tells → found_at l.gate_at file ≡ shut
 

@@ -4,7 +4,6 @@ ghost use Rattle.host_trait.specs.Faults.{NoneFailed};
 ghost use Rattle.host_trait.specs.Runs.{OnlyAsked};
 ghost use Rattle.host_trait.specs.declared.channels.FileId.{FileId};
 ghost use Rattle.host_trait.specs.declared.channels.FileId.TheVariants.{Manager};
-ghost use Rattle.field_codec.specs.declared.formats.Format.{Format};
 ghost use Rattle.commit_log.specs.Checkpoints.{IsPieceIn, piece_body_in};
 ghost use Rattle.commit_log.specs.Orders.{grain_after};
 ghost use Rattle.program_file.specs.Programs.{Program, shape_in};
@@ -18,17 +17,19 @@ use crate::faults::FolderFault;
 use crate::header::check_header;
 use base_types::{GrainId, List, Shape, UnitNo};
 use commit_log::{CheckpointHead, CheckpointPiece, Written, get_piece};
+use field_codec::Format;
 use gate_block::{BlockFault, read_block};
 use host_trait::{FileId, Host};
 use std::alloc::{AllocError, Global};
 
-/// What a log begins with: how many entries stand before it, the number of the unit behind these, the place of the version of each
-/// grain that has one, in ascending grain order, and the gate behind which the first block of its entries stands. Of a log that begins
-/// with no checkpoint these are 0, 1, none and 15.
+/// What a log begins with: how many entries stand before it, the number of the unit behind these, the greatest session of these, the place
+/// of the version of each grain that has one, in ascending grain order, and the gate behind which the first block of its entries stands.
+/// Of a log that begins with no checkpoint these are 0, 1, 0, none and 15.
 #[derive(Drop)]
 pub struct Base {
     pub count: u64,
     pub next_unit: UnitNo,
+    pub session: u64,
     pub saved: List<Written>,
     pub gate_at: u64,
 }
@@ -40,17 +41,18 @@ fn piece_at(
     shape: &Shape,
     first: Option<CheckpointHead>,
     last: Option<GrainId>,
+    format: Format,
     start: u64,
     body: &[u8],
 ) -> Result<CheckpointPiece, FolderFault>
     requires { start + length body.now < 2 ^ 63 }
-    ensures found { IfOk result (λ piece. piece_body_in shape.now first last body.now ≡ Ok piece) }
-    ensures fits { IfOk result (λ piece. IsPieceIn shape.now first last piece) }
+    ensures found { IfOk result (λ piece. piece_body_in format shape.now first last body.now ≡ Ok piece) }
+    ensures fits { IfOk result (λ piece. IsPieceIn format shape.now first last piece) }
     ensures damaged { (file : FileId) (place : ℕ) → IsErrOf result (FolderFault.Damaged file place)
-        → (file ≡ Manager slot) × (placed start (piece_body_in shape.now first last body.now) ≡ Err place) }
+        → (file ≡ Manager slot) × (placed start (piece_body_in format shape.now first last body.now) ≡ Err place) }
     ensures failed { (file : FileId) → IsErrOf result (FolderFault.Failed file) → ⊥ }
 {
-    match get_piece(alloc, body, shape, first, last) {
+    match get_piece(alloc, body, shape, first, last, format) {
         Ok(piece) => Ok(piece),
         Err(fault) => Err(in_file(slot, start, fault)),
     }
@@ -64,6 +66,7 @@ fn next_piece<H: Host>(
     host: &mut H,
     slot: u8,
     shape: &Shape,
+    format: Format,
     gate_at: u64,
     first: Option<CheckpointHead>,
     last: Option<GrainId>,
@@ -71,11 +74,11 @@ fn next_piece<H: Host>(
     requires slot { slot ≤ 1 }
     requires place { gate_at < 2 ^ 63 }
     ensures found { IfOk result (λ found. IsTrue H.tells
-        → next_piece_in shape.now first last gate_at ((H.world host.old).disk (Manager slot)).seen ≡ Ok found) }
-    ensures fits { IfOk result (λ found. IsPieceIn shape.now first last found.0) }
+        → next_piece_in format shape.now first last gate_at ((H.world host.old).disk (Manager slot)).seen ≡ Ok found) }
+    ensures fits { IfOk result (λ found. IsPieceIn format shape.now first last found.0) }
     ensures further { IfOk result (λ found. (gate_at < found.1) × (found.1 < 2 ^ 63)) }
     ensures damaged { (file : FileId) (place : ℕ) → IsErrOf result (FolderFault.Damaged file place) → IsTrue H.tells
-        → next_piece_in shape.now first last gate_at ((H.world host.old).disk (Manager slot)).seen ≡ Err place }
+        → next_piece_in format shape.now first last gate_at ((H.world host.old).disk (Manager slot)).seen ≡ Err place }
     ensures file { (file : FileId) (place : ℕ) → IsErrOf result (FolderFault.Damaged file place) → file ≡ Manager slot }
     ensures failed { (file : FileId) → IsErrOf result (FolderFault.Failed file) → file ≡ Manager slot }
     ensures asked { IsTrue H.tells → OnlyAsked (H.world host.old) (H.world host.new) }
@@ -103,6 +106,7 @@ fn next_piece<H: Host>(
         shape,
         first,
         last,
+        format,
         gate_at + 5,
         body.as_slice(),
     ) {
@@ -134,15 +138,16 @@ fn read_checkpoint<H: Host>(
     host: &mut H,
     slot: u8,
     shape: &Shape,
+    format: Format,
 ) -> Result<Base, FolderFault>
     requires slot { slot ≤ 1 }
-    ensures begins { IfOk result (λ b. IsTrue H.tells → (f : Format) (p : Program) → shape_in p ≡ shape.now
+    ensures begins { IfOk result (λ b. IsTrue H.tells → (p : Program) → shape_in p ≡ shape.now
         → BeginsSaved ((H.world host.old).disk (Manager slot)).seen
-        → IsFollowedBy f p ((H.world host.old).disk (Manager slot)).seen (log_base_of b) [] b.gate_at) }
+        → IsFollowedBy format p ((H.world host.old).disk (Manager slot)).seen (log_base_of b) [] [] b.session b.gate_at) }
     ensures bound { IfOk result (λ b. IsBaseInBounds b) }
     ensures damaged { (file : FileId) (place : ℕ) → IsErrOf result (FolderFault.Damaged file place) → IsTrue H.tells
-        → (f : Format) (p : Program) → shape_in p ≡ shape.now → BeginsSaved ((H.world host.old).disk (Manager slot)).seen
-        → log_in_file f p ((H.world host.old).disk (Manager slot)).seen ≡ Err place }
+        → (p : Program) → shape_in p ≡ shape.now → BeginsSaved ((H.world host.old).disk (Manager slot)).seen
+        → log_in_file format p ((H.world host.old).disk (Manager slot)).seen ≡ Err place }
     ensures file { (file : FileId) (place : ℕ) → IsErrOf result (FolderFault.Damaged file place) → file ≡ Manager slot }
     ensures failed { (file : FileId) → IsErrOf result (FolderFault.Failed file) → file ≡ Manager slot }
     ensures asked { IsTrue H.tells → OnlyAsked (H.world host.old) (H.world host.new) }
@@ -155,13 +160,14 @@ fn read_checkpoint<H: Host>(
     let mut last = None;
     let mut gate_at = 15;
     loop {
-        let (piece, behind) = next_piece(alloc, host, slot, shape, gate_at, first, last)?;
+        let (piece, behind) = next_piece(alloc, host, slot, shape, format, gate_at, first, last)?;
         last = add_saved(&mut saved, last, piece.writes.as_slice())?;
         gate_at = behind;
         if !piece.more {
             return Ok(Base {
                 count: piece.head.count,
                 next_unit: piece.head.next_unit,
+                session: piece.head.session,
                 saved,
                 gate_at,
             });
@@ -170,7 +176,7 @@ fn read_checkpoint<H: Host>(
     }
 }
 
-/// Reads what the log of a slot's manager file begins with, and keeps the gate behind which its first block of records stands, from
+/// Reads what the log of a slot's manager file begins with, by a format, and keeps the gate behind which its first block of records stands, from
 /// which [`crate::next_entry`] goes on. `Damaged` names the first place of the header or of a checkpoint's pieces that is damaged, and
 /// `Failed` that file, a call on which failed.
 pub fn read_base<H: Host>(
@@ -178,13 +184,14 @@ pub fn read_base<H: Host>(
     host: &mut H,
     slot: u8,
     shape: &Shape,
+    format: Format,
 ) -> Result<Base, FolderFault>
     requires slot { slot ≤ 1 }
-    ensures begins { IfOk result (λ b. IsTrue H.tells → (f : Format) (p : Program) → shape_in p ≡ shape.now
-        → IsFollowedBy f p ((H.world host.old).disk (Manager slot)).seen (log_base_of b) [] b.gate_at) }
+    ensures begins { IfOk result (λ b. IsTrue H.tells → (p : Program) → shape_in p ≡ shape.now
+        → IsFollowedBy format p ((H.world host.old).disk (Manager slot)).seen (log_base_of b) [] [] b.session b.gate_at) }
     ensures bound { IfOk result (λ b. IsBaseInBounds b) }
     ensures damaged { (file : FileId) (place : ℕ) → IsErrOf result (FolderFault.Damaged file place) → IsTrue H.tells
-        → (f : Format) (p : Program) → shape_in p ≡ shape.now → log_in_file f p ((H.world host.old).disk (Manager slot)).seen ≡ Err place }
+        → (p : Program) → shape_in p ≡ shape.now → log_in_file format p ((H.world host.old).disk (Manager slot)).seen ≡ Err place }
     ensures file { (file : FileId) (place : ℕ) → IsErrOf result (FolderFault.Damaged file place) → file ≡ Manager slot }
     ensures failed { (file : FileId) → IsErrOf result (FolderFault.Failed file) → file ≡ Manager slot }
     ensures asked { IsTrue H.tells → OnlyAsked (H.world host.old) (H.world host.new) }
@@ -200,11 +207,12 @@ pub fn read_base<H: Host>(
         return Ok(Base {
             count: 0,
             next_unit: UnitNo(1),
+            session: 0,
             saved: List::new(alloc),
             gate_at: 15,
         });
     }
-    match read_checkpoint(alloc, host, slot, shape) {
+    match read_checkpoint(alloc, host, slot, shape, format) {
         Ok(base) => Ok(base),
         Err(fault) => Err(fault),
     }

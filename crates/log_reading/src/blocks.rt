@@ -4,20 +4,23 @@ ghost use Rattle.host_trait.specs.Faults.{NoneFailed};
 ghost use Rattle.host_trait.specs.Runs.{OnlyAsked};
 ghost use Rattle.host_trait.specs.declared.channels.FileId.{FileId};
 ghost use Rattle.host_trait.specs.declared.channels.FileId.TheVariants.{Manager};
+ghost use Rattle.field_codec.specs.declared.units.Numbers.TheVariants.{Logged};
 ghost use Rattle.field_codec.specs.Results.{named_place, place_of};
+ghost use Rattle.field_codec.specs.Units.{SessionFits};
+ghost use Rattle.field_codec.specs.Fields.{session_of};
 ghost use Rattle.script_tree.specs.Programs.{program_tree};
-ghost use Rattle.log_entries.specs.Entries.{entry_said, IsNear};
+ghost use Rattle.log_reading.specs.Entries.{entry_said, IsNear};
 ghost use Rattle.log_reading.specs.declared.faults.FolderFault.{FolderFault as Fault};
 ghost use Rattle.log_reading.specs.Blocks.{entries_said};
 ghost use Rattle.log_reading.specs.Counts.{ReadFaulted, damage_in, entry_damage};
 ghost use Rattle.log_reading.specs.Steps.{entry_under, counted_from, next_at, found_as, IsShapeOf, IsSaidIn, IsFoundIn, IsSaidBehind};
 
+use crate::bodies::{EntryFault, Said, read_entry};
 use crate::faults::FolderFault;
 use base_types::Shape;
 use field_codec::{CodecFault, Format};
 use gate_block::{BlockFault, read_block};
 use host_trait::{FileId, Host};
-use log_entries::{EntryFault, Said, read_entry};
 use script_check::Checked;
 use std::alloc::Global;
 
@@ -49,52 +52,57 @@ fn in_block(slot: u8, start: u64, fault: EntryFault) -> FolderFault
     }
 }
 
-// What a body says that stands at an offset of a slot's manager file.
+// The session of a body that stands at an offset of a slot's manager file, behind the greatest before it, and what it says.
 fn entry_at(
     alloc: Global,
     slot: u8,
     program: &Checked,
     shape: &Shape,
+    session: u64,
     format: Format,
     start: u64,
     body: &[u8],
-) -> Result<Said, FolderFault>
+) -> Result<(u64, Said), FolderFault>
     requires shape { IsShapeOf (program_tree program.now) shape.now }
     requires place { start + length body.now < 2 ^ 63 }
-    ensures found { IfOk result (λ said. entry_under format (program_tree program.now) body.now ≡ Ok (entry_said said)) }
-    ensures fit { IfOk result (λ said. IsSaidIn format (program_tree program.now) said) }
-    ensures few { IfOk result (λ said. length (entries_said (entry_said said)) ≤ length body.now) }
+    ensures found { IfOk result (λ found. entry_under format (program_tree program.now) session body.now ≡ Ok (entry_said found.1)) }
+    ensures session { IfOk result (λ found. found.0 ≡ session_of format body.now) }
+    ensures taken { IfOk result (λ found. SessionFits format Logged session found.0) }
+    ensures fit { IfOk result (λ found. IsSaidIn format (program_tree program.now) found.1) }
+    ensures few { IfOk result (λ found. length (entries_said (entry_said found.1)) ≤ length body.now) }
     ensures damaged { (file : FileId) (place : ℕ) → IsErrOf result (Fault.Damaged file place)
-        → (file ≡ Manager slot) × (counted_from start (entry_under format (program_tree program.now) body.now) ≡ Err place) }
+        → (file ≡ Manager slot) × (counted_from start (entry_under format (program_tree program.now) session body.now) ≡ Err place) }
     ensures failed { (file : FileId) → IsErrOf result (Fault.Failed file) → ⊥ }
 {
-    match read_entry(alloc, body, program, shape, format) {
-        Ok(said) => Ok(said),
+    match read_entry(alloc, body, program, shape, session, format) {
+        Ok(found) => Ok(found),
         Err(fault) => Err(in_block(slot, start, fault)),
     }
 }
 
-/// What the block behind a gate of a slot's manager file says under the program in force, of which this is the shape, and the next gate;
-/// none where the gate isn't open. `Damaged` names the block's length field where the block isn't whole, and else the first place in its
-/// body that isn't that of records of the program, or of a program that may follow it.
+/// The session of the block behind a gate of a slot's manager file, what it says under the program in force, of which this is the shape,
+/// and the next gate; none where the gate isn't open. `Damaged` names the block's length field where the block isn't whole, and else the
+/// first place in its body that isn't that of a session, behind the greatest before it, and of records of the program, or of a program
+/// that may follow it.
 pub fn next_entry<H: Host>(
     alloc: Global,
     host: &mut H,
     slot: u8,
     program: &Checked,
     shape: &Shape,
+    session: u64,
     format: Format,
     gate_at: u64,
-) -> Result<Option<(Said, u64)>, FolderFault>
+) -> Result<Option<(u64, Said, u64)>, FolderFault>
     requires slot { slot ≤ 1 }
     requires shape { IsShapeOf (program_tree program.now) shape.now }
     requires place { gate_at < 2 ^ 63 }
-    ensures found { IfOk result (λ found. IsTrue H.tells
-        → next_at format (program_tree program.now) gate_at (H.world host.old).disk slot ≡ Ok (found_as found)) }
-    ensures fit { IfOk result (λ found. IfSome found (IsFoundIn format (program_tree program.now))) }
-    ensures further { IfOk result (λ found. IfSome found (IsSaidBehind gate_at)) }
+    ensures found { IfOk result (λ n. IsTrue H.tells
+        → next_at format (program_tree program.now) session gate_at (H.world host.old).disk slot ≡ Ok (found_as n)) }
+    ensures fit { IfOk result (λ n. IfSome n (IsFoundIn format (program_tree program.now) session)) }
+    ensures further { IfOk result (λ n. IfSome n (IsSaidBehind gate_at)) }
     ensures damaged { (file : FileId) (place : ℕ) → IsErrOf result (Fault.Damaged file place) → IsTrue H.tells
-        → next_at format (program_tree program.now) gate_at (H.world host.old).disk slot ≡ Err place }
+        → next_at format (program_tree program.now) session gate_at (H.world host.old).disk slot ≡ Err place }
     ensures file { (file : FileId) (place : ℕ) → IsErrOf result (Fault.Damaged file place) → file ≡ Manager slot }
     ensures failed { (file : FileId) → IsErrOf result (Fault.Failed file) → file ≡ Manager slot }
     ensures asked { IsTrue H.tells → OnlyAsked (H.world host.old) (H.world host.new) }
@@ -116,11 +124,12 @@ pub fn next_entry<H: Host>(
         slot,
         program,
         shape,
+        session,
         format,
         gate_at + 5,
         body.as_slice(),
     ) {
-        Ok(said) => Ok(Some((said, next))),
+        Ok((own, said)) => Ok(Some((own, said, next))),
         Err(fault) => Err(fault),
     }
 }

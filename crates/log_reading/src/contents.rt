@@ -19,14 +19,15 @@ use script_check::Checked;
 use std::alloc::{AllocError, Global};
 
 /// What is kept of a log and of its versions: the programs that came into force one after the other, from that of the program file, and the
-/// text of the last; how many entries the log has, the number of the next unit, the gate at which it ends, where each grain's last version
-/// stands, and where the places in its file end. No state is kept.
+/// text of the last; how many entries the log has, the number of the next unit, the greatest session, the gate at which it ends, where
+/// each grain's last version stands, and where the places in its file end. No state is kept.
 #[derive(Drop)]
 pub struct Contents {
     pub programs: List<Checked>,
     pub text: List<u8>,
     pub count: u64,
     pub next_unit: UnitNo,
+    pub session: u64,
     pub gate_at: u64,
     pub places: Places,
     pub ends: Ends,
@@ -92,6 +93,7 @@ pub fn read_contents<H: Host>(
             text: log.text.unwrap_or(text),
             count: log.count,
             next_unit: log.next_unit,
+            session: log.session,
             gate_at: log.gate_at,
             places,
             ends,

@@ -8,7 +8,7 @@ ghost use Rattle.host_trait.specs.declared.channels.FileId.TheVariants.{Manager}
 ghost use Rattle.script_tree.specs.Programs.{program_tree};
 ghost use Rattle.script_check.specs.Shapes.{type_shapes};
 ghost use Rattle.script_check.specs.Comparison.{last_program};
-ghost use Rattle.log_entries.specs.Entries.{Recorded, Upgraded, entry_said};
+ghost use Rattle.log_reading.specs.Entries.{Recorded, Upgraded, entry_said};
 ghost use Rattle.log_reading.specs.declared.faults.FolderFault.{FolderFault as Fault};
 ghost use Rattle.log_reading.specs.Blocks.{entries_said};
 ghost use Rattle.log_reading.specs.Counts.{ReadFaulted};
@@ -18,12 +18,12 @@ ghost use Rattle.log_reading.specs.Sums.{named_of_records, next_after, types_now
 
 use crate::bases::Base;
 use crate::blocks::next_entry;
+use crate::bodies::Said;
 use crate::faults::FolderFault;
 use base_types::{List, Shape, UnitNo};
 use commit_log::{CommitRecord, Named, Written};
 use field_codec::Format;
 use host_trait::Host;
-use log_entries::Said;
 use script_check::Checked;
 use std::alloc::{AllocError, Global};
 
@@ -168,25 +168,26 @@ fn in_force<'a>(first: &'a Checked, later: &'a [Checked]) -> &'a Checked
     }
 }
 
-/// What the block behind a gate says under the program in force, and the next gate, as [`next_entry`] answers it.
+/// The session of the block behind a gate, what it says under the program in force, and the next gate, as [`next_entry`] answers it.
 pub(crate) fn next_said<H: Host>(
     alloc: Global,
     host: &mut H,
     slot: u8,
     first: &Checked,
     log: &LogSoFar,
+    session: u64,
     format: Format,
     gate: u64,
-) -> Result<Option<(Said, u64)>, FolderFault>
+) -> Result<Option<(u64, Said, u64)>, FolderFault>
     requires slot { slot ≤ 1 }
     requires shape { IsShapeOf (types_now first.now log.now) log.now.shape }
     requires place { gate < 2 ^ 63 }
-    ensures found { IfOk result (λ found. IsTrue H.tells
-        → next_at format (types_now first.now log.now) gate (H.world host.old).disk slot ≡ Ok (found_as found)) }
-    ensures fit { IfOk result (λ found. IfSome found (IsFoundIn format (types_now first.now log.now))) }
-    ensures further { IfOk result (λ found. IfSome found (IsSaidBehind gate)) }
+    ensures found { IfOk result (λ n. IsTrue H.tells
+        → next_at format (types_now first.now log.now) session gate (H.world host.old).disk slot ≡ Ok (found_as n)) }
+    ensures fit { IfOk result (λ n. IfSome n (IsFoundIn format (types_now first.now log.now) session)) }
+    ensures further { IfOk result (λ n. IfSome n (IsSaidBehind gate)) }
     ensures damaged { (file : FileId) (place : ℕ) → IsErrOf result (Fault.Damaged file place) → IsTrue H.tells
-        → next_at format (types_now first.now log.now) gate (H.world host.old).disk slot ≡ Err place }
+        → next_at format (types_now first.now log.now) session gate (H.world host.old).disk slot ≡ Err place }
     ensures file { (file : FileId) (place : ℕ) → IsErrOf result (Fault.Damaged file place) → file ≡ Manager slot }
     ensures failed { (file : FileId) → IsErrOf result (Fault.Failed file) → file ≡ Manager slot }
     ensures asked { IsTrue H.tells → OnlyAsked (H.world host.old) (H.world host.new) }
@@ -195,5 +196,7 @@ pub(crate) fn next_said<H: Host>(
     ensures ready { StaysReady (H.is_ready host.old) (H.is_ready host.new) }
 {
     let program = in_force(first, log.later.as_slice());
-    next_entry(alloc, host, slot, program, &log.shape, format, gate)
+    next_entry(
+        alloc, host, slot, program, &log.shape, session, format, gate,
+    )
 }

@@ -1,4 +1,4 @@
-ghost use Rattle.std.specs.Prelude.{◌≡◌, ◌++◌, List, map, Option, Some, None, Result, Ok, false, ℕ};
+ghost use Rattle.std.specs.Prelude.{◌≡◌, ◌++◌, List, map, fold, Option, Some, None, Result, Ok, false, ℕ};
 ghost use Rattle.std.specs.List.{flat_map, list_any, AllByRecursion};
 ghost use Rattle.base_types.specs.declared.calls.GrainId.{GrainId};
 ghost use Rattle.base_types.specs.declared.calls.Value.{Value};
@@ -13,8 +13,9 @@ ghost use Rattle.commit_log.specs.declared.records.Named.{Named};
 ghost use Rattle.commit_log.specs.Orders.{IsAscending};
 ghost use Rattle.field_codec.specs.Readers.{AreBytes};
 ghost use Rattle.program_file.specs.Programs.{Program};
-ghost use Rattle.log_entries.specs.Entries.{BodyEntry, body_said};
+ghost use Rattle.log_reading.specs.Entries.{SessionEntry, body_with};
 ghost use Rattle.log_reading.specs.Blocks.{ReadEntry, entries_said, entries_behind, AreEntriesIn, AreSaidBy};
+ghost use Rattle.log_reading.specs.Sessions.{last_session, sessions_behind};
 ghost use Rattle.log_reading.specs.Versions.{named_by_grain, is_before, version_numbered, state_of, first_missing, latest_of};
 ghost use Rattle.log_reading.specs.Sums.{state_after, StopsAt};
 
@@ -38,10 +39,18 @@ pub fn latest_states_stand()
     ensures among { (named : List Named) (n : Named) → Member n (latest_of (named_by_grain named)) → Member n (named_by_grain named) }
 {}
 
-/// Entries are read of exactly the bodies that say them: records of the program in force at each body, and programs that may follow it.
+/// Entries are read of exactly the bodies that say them: of sessions that never fall, with records of the program in force at each body,
+/// and programs that may follow it.
 pub fn entries_are_read()
-    ensures reads { (format : AFormat) (p : Program) (gate : ℕ) (said : List BodyEntry) (rest : List ReadEntry) → AreEntriesIn format p said
-        → entries_behind format p gate (map body_said said) (Ok rest) ≡ Ok (flat_map entries_said said ++ rest) }
-    ensures only { (format : AFormat) (p : Program) (gate : ℕ) (bodies : List (List ℕ)) (end : Result (List ReadEntry) ℕ) (found : List ReadEntry)
-        → AllByRecursion AreBytes bodies → entries_behind format p gate bodies end ≡ Ok found → AreSaidBy format p bodies end found }
+    ensures reads { (format : AFormat) (p : Program) (last gate : ℕ) (said : List SessionEntry) (rest : List ReadEntry) → AreEntriesIn format p last said
+        → entries_behind format p last gate (map (body_with format) said) (Ok rest) ≡ Ok (flat_map (λ b. entries_said b.entry) said ++ rest) }
+    ensures only { (format : AFormat) (p : Program) (last gate : ℕ) (bodies : List (List ℕ)) (end : Result (List ReadEntry) ℕ)
+        (found : List ReadEntry) → AllByRecursion AreBytes bodies → entries_behind format p last gate bodies end ≡ Ok found
+        → AreSaidBy format p last bodies end found }
+
+    // Their sessions are those of the bodies, and none is below the one before it.
+    ensures sessions { (format : AFormat) (p : Program) (last : ℕ) (said : List SessionEntry) → AreEntriesIn format p last said
+        → sessions_behind format p last (map (body_with format) said) ≡ flat_map (λ b. map (λ e. b.session) (entries_said b.entry)) said }
+    ensures last { (format : AFormat) (p : Program) (last : ℕ) (said : List SessionEntry) → AreEntriesIn format p last said
+        → last_session format last (map (body_with format) said) ≡ fold (λ before b. b.session) last said }
 {}

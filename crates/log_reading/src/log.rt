@@ -22,13 +22,14 @@ use host_trait::Host;
 use script_check::Checked;
 use std::alloc::{AllocError, Global};
 
-/// What opening keeps of a log: how many entries it has, those before its beginning too, the number of the next unit, each version that
-/// it names, those of its beginning first and then in the log's order, the gate at which it ends, the programs that came into force after
+/// What opening keeps of a log: how many entries it has, those before its beginning too, the number of the next unit, the greatest
+/// session, each version that it names, those of its beginning first and then in the log's order, the gate at which it ends, the programs that came into force after
 /// that of the program file, in their order, and the text of the last of them.
 #[derive(Drop)]
 pub struct ReadLog {
     pub count: u64,
     pub next_unit: UnitNo,
+    pub session: u64,
     pub named: List<Named>,
     pub gate_at: u64,
     pub later: List<Checked>,
@@ -36,8 +37,8 @@ pub struct ReadLog {
 }
 
 /// Reads the log of a slot's manager file, block by block behind the header, first the pieces of a checkpoint, where it begins with
-/// one, and then records and upgrades, each under the program in force, which is that of the program file first; and keeps what opening
-/// needs of it. `Damaged` names the first place that is damaged, and `Failed` that file, a call on which failed.
+/// one, and then records and upgrades, each under the program in force, which is that of the program file first, and behind the sessions
+/// before it; and keeps what opening needs of it. `Damaged` names the first place that is damaged, and `Failed` that file, a call on which failed.
 pub fn read_log<H: Host>(
     alloc: Global,
     host: &mut H,
@@ -49,6 +50,7 @@ pub fn read_log<H: Host>(
     ensures log { IfOk result (λ l. (p : Program) → p.types ≡ program_tree first.now
         → IsReadAs H.tells format p ((H.world host.old).disk (Manager slot)).seen l) }
     ensures bound { IfOk result (λ l. (l.gate_at < 2 ^ 63) × ((0 < l.next_unit.0) × (l.next_unit.0 ≤ 2 ^ 63))) }
+    ensures session { IfOk result (λ l. l.session < 2 ^ 63) }
     ensures numbers { IfOk result (λ l. length l.later < 2 ^ 32) }
     ensures damaged { (file : FileId) (place : ℕ) → IsErrOf result (FolderFault.Damaged file place) → IsTrue H.tells
         → (p : Program) → p.types ≡ program_tree first.now → log_in_file format p ((H.world host.old).disk (Manager slot)).seen ≡ Err place }
@@ -60,21 +62,24 @@ pub fn read_log<H: Host>(
     ensures ready { StaysReady (H.is_ready host.old) (H.is_ready host.new) }
 {
     let shape = first.shape()?;
-    let base = match read_base(alloc, host, slot, &shape) {
+    let base = match read_base(alloc, host, slot, &shape, format) {
         Ok(base) => base,
         Err(fault) => return Err(fault),
     };
     let mut so_far = begin(alloc, &base, first)?;
+    let mut session = base.session;
     let mut gate_at = base.gate_at;
-    while let Some((said, behind)) = next_said(
-        alloc, host, slot, first, &so_far, format, gate_at,
+    while let Some((own, said, behind)) = next_said(
+        alloc, host, slot, first, &so_far, session, format, gate_at,
     )? {
         add_said(&mut so_far, said)?;
+        session = own;
         gate_at = behind;
     }
     Ok(ReadLog {
         count: so_far.count,
         next_unit: UnitNo(so_far.next),
+        session,
         named: so_far.named,
         gate_at,
         later: so_far.later,

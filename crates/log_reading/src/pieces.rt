@@ -165,7 +165,8 @@ fn read_piece<H: Host>(
 }
 
 /// Reads the piece that begins with the first of these versions, where that one isn't in the piece at hand: it and those behind it,
-/// as far as they stand one behind the other in its grain's file in the slot, at most 65,536 bytes. Nothing is read but named versions.
+/// as far as they stand one behind the other in its grain's file in the slot, at most 65,536 bytes; none where the first is longer.
+/// Nothing is read but named versions.
 pub fn refill<H: Host>(
     alloc: Global,
     host: &mut H,
@@ -193,6 +194,9 @@ pub fn refill<H: Host>(
         return Ok(());
     }
     let size = run_of(grain, start, named);
+    if size == 0 {
+        return Ok(());
+    }
     *piece = read_piece(alloc, host, slot, grain, start, size)?;
     Ok(())
 }

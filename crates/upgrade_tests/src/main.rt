@@ -6,8 +6,9 @@
 //! | `# ..` | what the cases behind it show |
 //! | `compare OLD NEW` | whether the program NEW may follow OLD |
 //! | `carry KIND N .. : PROGRAM ..` | the state of the numbers N under the last of the programs, carried to each in turn |
-//! | `entry OLD : BODY` | what a body says under the program OLD |
-//! | `block : TEXT` | the block of an upgrade to TEXT |
+//! | `first OLD : BODY` | what a body of format 1 says under the program OLD |
+//! | `entry S OLD : BODY` | what a body of format 2 says under the program OLD, behind a session S |
+//! | `block S : TEXT` | the block of an upgrade to TEXT in a session S |
 //!
 //! Texts and bytes are in hexadecimal; `-` has none.
 #![tactic(auto)]

@@ -2,7 +2,7 @@ use crate::cases::{bytes_of, words_of};
 use base_types::{State, Value};
 use commit_log::encode_upgrade;
 use field_codec::Format;
-use log_entries::{EntryFault, Said, read_entry};
+use log_reading::{EntryFault, Said, read_entry};
 use program_file::accept;
 use script_check::{Checked, carry_state, compare};
 use std::alloc::{AllocError, Global};
@@ -97,32 +97,43 @@ fn carried(alloc: Global, numbers: &str, programs: &str) -> Result<String, Alloc
     Ok(out)
 }
 
-fn entry(alloc: Global, old: &str, body: &str) -> Result<String, AllocError> {
+fn session_of(word: &str) -> u64 {
+    word.parse::<u64>().unwrap_or(0)
+}
+
+// What a body of a format says under a program, behind a session.
+fn entry(
+    alloc: Global,
+    session: u64,
+    old: &str,
+    body: &str,
+    format: Format,
+) -> Result<String, AllocError> {
     let Some(program) = program_of(alloc, old)? else {
         return String::from_str(alloc, " -> no program");
     };
     let shape = program.shape()?;
     let body = bytes_of(alloc, body)?;
-    match read_entry(alloc, body.as_slice(), &program, &shape, Format::One) {
-        Ok(Said::Records(records)) => {
+    match read_entry(alloc, body.as_slice(), &program, &shape, session, format) {
+        Ok((own, Said::Records(records))) => {
             let count = records.len();
-            format!(in alloc; " -> {count} records")
+            format!(in alloc; " -> session {own}, {count} records")
         }
-        Ok(Said::Upgrade { text, checked }) => {
+        Ok((own, Said::Upgrade { text, checked })) => {
             let len = text.len();
             let types = checked.program().types.len();
-            format!(in alloc; " -> upgrade of {len} bytes, {types} types")
+            format!(in alloc; " -> session {own}, upgrade of {len} bytes, {types} types")
         }
         Err(EntryFault::Damaged { place }) => format!(in alloc; " -> damaged at {place}"),
         Err(EntryFault::Memory) => String::from_str(alloc, " -> no memory"),
     }
 }
 
-fn block(alloc: Global, word: &str) -> Result<String, AllocError> {
+fn block(alloc: Global, session: u64, word: &str) -> Result<String, AllocError> {
     let text = bytes_of(alloc, word)?;
     let mut out = String::from_str(alloc, " -> ")?;
     if text.len() <= 262_144 {
-        let block = encode_upgrade(alloc, text.as_slice())?;
+        let block = encode_upgrade(alloc, text.as_slice(), session)?;
         for byte in block.as_slice() {
             write!(out, "{byte:02x}")?;
         }
@@ -137,11 +148,15 @@ pub fn told(alloc: Global, line: &str) -> Result<String, AllocError> {
     if word == "carry" {
         return carried(alloc, numbers, rest);
     }
+    if word == "first" {
+        return entry(alloc, 0, numbers, rest, Format::One);
+    }
     if word == "entry" {
-        return entry(alloc, numbers, rest);
+        let (session, old) = numbers.split_once(' ').unwrap_or((numbers, ""));
+        return entry(alloc, session_of(session), old, rest, Format::Two);
     }
     if word == "block" {
-        return block(alloc, rest);
+        return block(alloc, session_of(numbers), rest);
     }
     if word == "compare" {
         let words = words_of(alloc, numbers)?;

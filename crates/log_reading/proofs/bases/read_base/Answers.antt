@@ -20,29 +20,29 @@ damaged_log : (format : Format) (p : Program) (file : List ℕ) (place : ℕ) �
 damaged_log format p file place is = ap (λ (d : Option ℕ). behind_header d (log_as format p (eqb (slice_index file 13) 1) (bodies_of file) (gate_of file) (found_at (gate_of file) file))) is
 
 pub returns-in-Err-clause-damaged : goal.returns-in-Err-clause-damaged
-returns-in-Err-clause-damaged g c file place is told format p same =
-    damaged_log format p ((g.H.Host.world c.args.host.now).disk (Manager c.args.slot)).seen place (c.in-Err.ensures.damaged file place (other_value _ (FolderFault.Damaged file place) is) told)
+returns-in-Err-clause-damaged g c file place is told p same =
+    damaged_log c.args.format p ((g.H.Host.world c.args.host.now).disk (Manager c.args.slot)).seen place (c.in-Err.ensures.damaged file place (other_value _ (FolderFault.Damaged file place) is) told)
 
 -- no checkpoint follows
 pub returns-then-not-saved-clause-begins : goal.returns-then-not-saved-clause-begins
-returns-then-not-saved-clause-begins g c told format p same =
+returns-then-not-saved-clause-begins g c told p same =
     let seen = ((g.H.Host.world c.args.host.now).disk (Manager c.args.slot)).seen in
     let none : c.in-Ok.saved ≡ false = search rules in
     let fresh : eqb (slice_index seen 13) 1 ≡ false = sym (c.in-Ok.ensures.begins told) ∙ none in
-    subst (λ (l : List Written). IsFollowedBy format p seen (record { count = 0; next = 1; writes = l }) [] 15) (sym c.new.ensures) (follows_begins format p seen (c.in-Ok.ensures.whole told) fresh)
+    subst (λ (l : List Written). IsFollowedBy c.args.format p seen (record { count = 0; next = 1; session = 0; writes = l }) [] [] 0 15) (sym c.new.ensures) (follows_begins c.args.format p seen (c.in-Ok.ensures.whole told) fresh)
 
 pub returns-then-not-saved-clause-bound : goal.returns-then-not-saved-clause-bound
-returns-then-not-saved-clause-bound g c = record { gate = omega arith; count = omega arith; some = omega arith; next = omega arith }
+returns-then-not-saved-clause-bound g c = record { gate = omega arith; count = omega arith; some = omega arith; next = omega arith; session = omega arith }
 
 -- the checkpoint
 pub returns-in-Ok-read_checkpoint-clause-begins : goal.returns-in-Ok-read_checkpoint-clause-begins
-returns-in-Ok-read_checkpoint-clause-begins g c told format p shape =
+returns-in-Ok-read_checkpoint-clause-begins g c told p shape =
     let seen : Disk → List ℕ = λ d. (d (Manager c.args.slot)).seen in
     let same = (c.check_header.ensures.asked told).disk in
     let is : c.in-Ok.saved ≡ true = search rules in
     let begins : BeginsSaved (seen (g.H.Host.world c.args.host.now).disk) = (c.in-Ok.ensures.whole told, sym (c.in-Ok.ensures.begins told) ∙ is) in
     let base = c.in-Ok-read_checkpoint.base in
-    subst (λ (d : Disk). IsFollowedBy format p (seen d) (log_base_of base) [] base.gate_at) same (c.in-Ok-read_checkpoint.ensures.begins told format p shape (subst (λ (d : Disk). BeginsSaved (seen d)) (sym same) begins))
+    subst (λ (d : Disk). IsFollowedBy c.args.format p (seen d) (log_base_of base) [] [] base.session base.gate_at) same (c.in-Ok-read_checkpoint.ensures.begins told p shape (subst (λ (d : Disk). BeginsSaved (seen d)) (sym same) begins))
 
 pub returns-in-Ok-read_checkpoint-clause-asked : goal.returns-in-Ok-read_checkpoint-clause-asked
 returns-in-Ok-read_checkpoint-clause-asked g c told = asked_then _ _ _ (c.check_header.ensures.asked told) (c.read_checkpoint.ensures.asked told)
@@ -51,13 +51,13 @@ pub returns-in-Ok-read_checkpoint-clause-calm : goal.returns-in-Ok-read_checkpoi
 returns-in-Ok-read_checkpoint-clause-calm g c = none_then _ _ _ c.in-Ok.ensures.calm c.in-Ok-read_checkpoint.ensures.calm
 
 pub returns-in-Err-read_checkpoint-clause-damaged : goal.returns-in-Err-read_checkpoint-clause-damaged
-returns-in-Err-read_checkpoint-clause-damaged g c file place is told format p shape =
+returns-in-Err-read_checkpoint-clause-damaged g c file place is told p shape =
     let seen : Disk → List ℕ = λ d. (d (Manager c.args.slot)).seen in
     let same = (c.check_header.ensures.asked told).disk in
     let saved : c.in-Ok.saved ≡ true = search rules in
     let begins : BeginsSaved (seen (g.H.Host.world c.args.host.now).disk) = (c.in-Ok.ensures.whole told, sym (c.in-Ok.ensures.begins told) ∙ saved) in
-    let here = c.in-Err-read_checkpoint.ensures.damaged file place (other_value _ (FolderFault.Damaged file place) is) told format p shape (subst (λ (d : Disk). BeginsSaved (seen d)) (sym same) begins) in
-    subst (λ (d : Disk). log_in_file format p (seen d) ≡ Err place) same here
+    let here = c.in-Err-read_checkpoint.ensures.damaged file place (other_value _ (FolderFault.Damaged file place) is) told p shape (subst (λ (d : Disk). BeginsSaved (seen d)) (sym same) begins) in
+    subst (λ (d : Disk). log_in_file c.args.format p (seen d) ≡ Err place) same here
 
 pub returns-in-Err-read_checkpoint-clause-asked : goal.returns-in-Err-read_checkpoint-clause-asked
 returns-in-Err-read_checkpoint-clause-asked g c told = asked_then _ _ _ (c.check_header.ensures.asked told) (c.read_checkpoint.ensures.asked told)

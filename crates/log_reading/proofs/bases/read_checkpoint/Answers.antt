@@ -11,6 +11,7 @@ use Rattle.commit_log.specs.Orders.{grain_after}
 use Rattle.log_reading.specs.declared.faults.FolderFault.{FolderFault}
 use Rattle.log_reading.specs.Steps.{next_piece_in, IsFollowedBy}
 use Rattle.log_reading.proofs.Errors.{other_value}
+use Rattle.log_reading.proofs.RecordSums.{session_low}
 use Rattle.log_reading.proofs.CheckpointLoop.{last_of, last_more, FollowsPieces, pieces_begin, pieces_on, pieces_end, pieces_break}
 use Rattle.log_reading.proofs.bases.read_checkpoint.Goals as goal
 
@@ -18,7 +19,7 @@ pub loop-saved-init : goal.loop-saved-init
 loop-saved-init g c = record {
   bound = omega arith;
   last = sym (ap last_of c.new-saved.ensures);
-  pieces = λ told format of_text same begins. subst (λ (l : List Written). FollowsPieces format of_text ((g.H.Host.world c.args.host.now).disk (Manager c.args.slot)).seen None l 15) (sym c.new-saved.ensures) (pieces_begin format of_text _ begins);
+  pieces = λ told of_text same begins. subst (λ (l : List Written). FollowsPieces c.args.format of_text ((g.H.Host.world c.args.host.now).disk (Manager c.args.slot)).seen None l 15) (sym c.new-saved.ensures) (pieces_begin c.args.format of_text _ begins);
   asked = search rules;
   calm = λ channel. refl;
   ready = λ file was. was;
@@ -28,15 +29,16 @@ pub returns-in_err-piece-clause-damaged : goal.returns-in_err-piece-clause-damag
 returns-in_err-piece-clause-damaged g c =
     let p = err_from_is_err_and c.from_residual.result c.from_residual.ensures.1 in
     let inv = c.loop-saved.invariant in
+    let format = c.args.format in
     let shape = c.args.shape.now in
     let gate = c.loop-saved.gate_at in
     let first = c.loop-saved.first in
     let seen = ((g.H.Host.world c.args.host.now).disk (Manager c.args.slot)).seen in
-    rw (p.1, p.2) λ file place is told format of_text same begins.
+    rw (p.1, p.2) λ file place is told of_text same begins.
     let here = c.in_err-piece.ensures.damaged file place (other_value _ (FolderFault.Damaged file place) is) told in
-    let there : next_piece_in shape first c.loop-saved.last gate seen ≡ Err place = subst (λ (d : Disk). next_piece_in shape first c.loop-saved.last gate (d (Manager c.args.slot)).seen ≡ Err place) (inv.asked told).disk here in
-    pieces_break format of_text seen first c.loop-saved.saved gate (inv.pieces told format of_text same begins) place
-    (subst (λ (s : Shape). next_piece_in s first (last_of c.loop-saved.saved) gate seen ≡ Err place) (sym same) (subst (λ (l : Option GrainId). next_piece_in shape first l gate seen ≡ Err place) inv.last there))
+    let there : next_piece_in format shape first c.loop-saved.last gate seen ≡ Err place = subst (λ (d : Disk). next_piece_in format shape first c.loop-saved.last gate (d (Manager c.args.slot)).seen ≡ Err place) (inv.asked told).disk here in
+    pieces_break format of_text seen first c.loop-saved.saved gate (inv.pieces told of_text same begins) place
+    (subst (λ (s : Shape). next_piece_in format s first (last_of c.loop-saved.saved) gate seen ≡ Err place) (sym same) (subst (λ (l : Option GrainId). next_piece_in format shape first l gate seen ≡ Err place) inv.last there))
 
 pub returns-in_err-piece-clause-asked : goal.returns-in_err-piece-clause-asked
 returns-in_err-piece-clause-asked g c told = asked_then _ _ _ (c.loop-saved.invariant.asked told) (c.next_piece.ensures.asked told)
@@ -47,6 +49,7 @@ returns-in_err-last-clause-asked g c told = asked_then _ _ _ (c.loop-saved.invar
 pub loop-saved-preserved : goal.loop-saved-preserved
 loop-saved-preserved g c =
     let inv = c.loop-saved.invariant in
+    let format = c.args.format in
     let shape = c.args.shape.now in
     let gate = c.loop-saved.gate_at in
     let first = c.loop-saved.first in
@@ -60,11 +63,11 @@ loop-saved-preserved g c =
     record {
       bound = c.in_ok-piece.ensures.further.1;
       last = grain ∙ ap (λ (l : Option GrainId). fold grain_after l piece.writes) inv.last ∙ sym (last_more before piece.writes) ∙ sym (ap last_of saved);
-      pieces = λ told format of_text same begins.
-          let here : next_piece_in shape first c.loop-saved.last gate ((g.H.Host.world c.loop-saved.host).disk (Manager c.args.slot)).seen ≡ Ok (piece, behind) = c.in_ok-piece.ensures.found told in
-          let there : next_piece_in shape first c.loop-saved.last gate seen ≡ Ok (piece, behind) = subst (λ (d : Disk). next_piece_in shape first c.loop-saved.last gate (d (Manager c.args.slot)).seen ≡ Ok (piece, behind)) (inv.asked told).disk here in
-          let at_last : next_piece_in shape first (last_of before) gate seen ≡ Ok (piece, behind) = subst (λ (l : Option GrainId). next_piece_in shape first l gate seen ≡ Ok (piece, behind)) inv.last there in
-          subst (λ (l : List Written). FollowsPieces format of_text seen (Some piece.head) l behind) (sym saved) (pieces_on format of_text seen first before gate (inv.pieces told format of_text same begins) piece behind (subst (λ (s : Shape). next_piece_in s first (last_of before) gate seen ≡ Ok (piece, behind)) (sym same) at_last) more);
+      pieces = λ told of_text same begins.
+          let here : next_piece_in format shape first c.loop-saved.last gate ((g.H.Host.world c.loop-saved.host).disk (Manager c.args.slot)).seen ≡ Ok (piece, behind) = c.in_ok-piece.ensures.found told in
+          let there : next_piece_in format shape first c.loop-saved.last gate seen ≡ Ok (piece, behind) = subst (λ (d : Disk). next_piece_in format shape first c.loop-saved.last gate (d (Manager c.args.slot)).seen ≡ Ok (piece, behind)) (inv.asked told).disk here in
+          let at_last : next_piece_in format shape first (last_of before) gate seen ≡ Ok (piece, behind) = subst (λ (l : Option GrainId). next_piece_in format shape first l gate seen ≡ Ok (piece, behind)) inv.last there in
+          subst (λ (l : List Written). FollowsPieces format of_text seen (Some piece.head) l behind) (sym saved) (pieces_on format of_text seen first before gate (inv.pieces told of_text same begins) piece behind (subst (λ (s : Shape). next_piece_in format s first (last_of before) gate seen ≡ Ok (piece, behind)) (sym same) at_last) more);
       asked = λ told. asked_then _ _ _ (inv.asked told) (c.next_piece.ensures.asked told);
       calm = none_then _ _ _ inv.calm c.in_ok-piece.ensures.calm;
       ready = λ file was. c.next_piece.ensures.ready file (inv.ready file was);
@@ -73,6 +76,7 @@ loop-saved-preserved g c =
 pub returns-then-not-piece-clause-begins : goal.returns-then-not-piece-clause-begins
 returns-then-not-piece-clause-begins g c =
     let inv = c.loop-saved.invariant in
+    let format = c.args.format in
     let shape = c.args.shape.now in
     let gate = c.loop-saved.gate_at in
     let first = c.loop-saved.first in
@@ -82,11 +86,11 @@ returns-then-not-piece-clause-begins g c =
     let seen = ((g.H.Host.world c.args.host.now).disk (Manager c.args.slot)).seen in
     let saved : c.add_saved.new.saved ≡ before ++ piece.writes = c.in_ok-last.ensures.saved ∙ ap (λ (l : List Written). before ++ l) c.as_slice.ensures in
     let more : piece.more ≡ false = search rules in
-    λ told format of_text same begins.
-    let here : next_piece_in shape first c.loop-saved.last gate ((g.H.Host.world c.loop-saved.host).disk (Manager c.args.slot)).seen ≡ Ok (piece, behind) = c.in_ok-piece.ensures.found told in
-    let there : next_piece_in shape first c.loop-saved.last gate seen ≡ Ok (piece, behind) = subst (λ (d : Disk). next_piece_in shape first c.loop-saved.last gate (d (Manager c.args.slot)).seen ≡ Ok (piece, behind)) (inv.asked told).disk here in
-    let at_last : next_piece_in shape first (last_of before) gate seen ≡ Ok (piece, behind) = subst (λ (l : Option GrainId). next_piece_in shape first l gate seen ≡ Ok (piece, behind)) inv.last there in
-    subst (λ (l : List Written). IsFollowedBy format of_text seen (record { count = piece.head.count; next = piece.head.next_unit.0; writes = l }) [] behind) (sym saved) (pieces_end format of_text seen first before gate (inv.pieces told format of_text same begins) piece behind (subst (λ (s : Shape). next_piece_in s first (last_of before) gate seen ≡ Ok (piece, behind)) (sym same) at_last) more)
+    λ told of_text same begins.
+    let here : next_piece_in format shape first c.loop-saved.last gate ((g.H.Host.world c.loop-saved.host).disk (Manager c.args.slot)).seen ≡ Ok (piece, behind) = c.in_ok-piece.ensures.found told in
+    let there : next_piece_in format shape first c.loop-saved.last gate seen ≡ Ok (piece, behind) = subst (λ (d : Disk). next_piece_in format shape first c.loop-saved.last gate (d (Manager c.args.slot)).seen ≡ Ok (piece, behind)) (inv.asked told).disk here in
+    let at_last : next_piece_in format shape first (last_of before) gate seen ≡ Ok (piece, behind) = subst (λ (l : Option GrainId). next_piece_in format shape first l gate seen ≡ Ok (piece, behind)) inv.last there in
+    subst (λ (l : List Written). IsFollowedBy format of_text seen (record { count = piece.head.count; next = piece.head.next_unit.0; session = piece.head.session; writes = l }) [] [] piece.head.session behind) (sym saved) (pieces_end format of_text seen first before gate (inv.pieces told of_text same begins) piece behind (subst (λ (s : Shape). next_piece_in format s first (last_of before) gate seen ≡ Ok (piece, behind)) (sym same) at_last) more)
 
 pub returns-then-not-piece-clause-bound : goal.returns-then-not-piece-clause-bound
 returns-then-not-piece-clause-bound g c = record {
@@ -94,6 +98,7 @@ returns-then-not-piece-clause-bound g c = record {
   count = c.in_ok-piece.ensures.fits.count;
   some = c.in_ok-piece.ensures.fits.next.0;
   next = c.in_ok-piece.ensures.fits.next.1;
+  session = session_low c.args.format 0 c.in_ok-piece.piece.head.session c.in_ok-piece.ensures.fits.session;
 }
 
 pub returns-then-not-piece-clause-asked : goal.returns-then-not-piece-clause-asked

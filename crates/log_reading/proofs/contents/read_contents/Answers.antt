@@ -42,6 +42,7 @@ returns-in-Ok-read_versions-clause-opened g c told =
       whole = sym (λ i. first_missing c.args.slot format (shapes_in_turn (are i)) (same i) (order i)) ∙ kept.whole;
       count = l.count;
       next = l.next;
+      session = l.session told;
       places = λ grain. kept.places grain ∙ (λ i. placed_after c.args.slot format (are i) (same i) (c.new-places.ensures grain i) (order i) grain);
       ends = λ grain. v.ends grain ∙ (λ i. end_after (c.new-ends.ensures grain i) (order i) grain);
       gate = l.gate told;
@@ -63,6 +64,7 @@ returns-in-Ok-read_versions-clause-bounds g c =
     record {
       gate = c.in-Ok.ensures.bound.0;
       next = c.in-Ok.ensures.bound.1;
+      session = c.in-Ok.ensures.session;
       near = c.in-Ok-read_versions.ensures.near (λ grain. subst (λ (end : Option ℕ). unwrap_or end 0 < 2 ^ 63) (sym (c.new-ends.ensures grain)) (omega arith));
       programs = subst ArePrograms (sym listed) (are_programs p l.log.entries l.follow few);
       small = subst (λ (t : List ℕ). length t ≤ text_limit) (sym text) (text_small p l.log.entries l.follow c.requires.small);
