@@ -9,13 +9,13 @@ use Rattle.silo_spec.specs.Slots.{IsLive}
 use Rattle.silo_spec.specs.Moments.{IsAsAtEntry, IsUntouched}
 
 -- an image that is a silo is such a silo, in slot 0
-abbrev pub IsNewIfSilo : List ℕ → List ℕ → Image → Type 0
-IsNewIfSilo magic text image = (live : ℕ) → IsLive magic live image → (live ≡ 0) × IsNewSilo magic text image
+abbrev pub IsNewIfSilo : (List ℕ → Type 0) → List ℕ → Image → Type 0
+IsNewIfSilo magic text image = (live : ℕ) → IsLive magic live image → (live ≡ 0) × IsNewSilo text image
 
 -- the two files of a new silo: nothing is pending in them
-pub record IsMade (magic text : List ℕ) (disk : Disk) : Type 0 where
+pub record IsMade (text : List ℕ) (disk : Disk) : Type 0 where
   pub log_lasts : disk manager ≡ settled (disk manager).seen
-  pub header : take 16 (disk manager).seen ≡ new_header magic
+  pub header : take 16 (disk manager).seen ≡ new_header
   pub program_lasts : disk program_file ≡ settled (disk program_file).seen
   pub program : HasProgram text (disk program_file).seen
 
@@ -36,7 +36,7 @@ pub record StaysBeside (old new : World) : Type 0 where
   pub now : IsBeside old (moment_of new)
 
 -- each image is no silo, or a silo of this program with an empty log
-abbrev pub IsNewAt : List ℕ → List ℕ → Moment → Type 0
+abbrev pub IsNewAt : (List ℕ → Type 0) → List ℕ → Moment → Type 0
 IsNewAt magic text m = (image : Image) → IsImage m.disk image → IsNewIfSilo magic text image
 
 -- A moment before each manager file that reads with bytes was synced: something is pending in one of them still, and nothing
@@ -56,5 +56,5 @@ pub record FromFirstSync (P : Moment → Type 0) (old new : World) : Type 0 wher
 
 -- How far a call came, where no manager file that reads too short is a silo's: nothing was written at all, or these syncs have
 -- succeeded, and from then on each image that is a silo is one of this program with an empty log.
-abbrev pub CameThisFar : List ℕ → List ℕ → World → World → Type 0
+abbrev pub CameThisFar : (List ℕ → Type 0) → List ℕ → World → World → Type 0
 CameThisFar magic text old new = IsUntouched old new ⊎ FromFirstSync (IsNewAt magic text) old new

@@ -15,16 +15,16 @@ last_generation = 4294967295
 
 -- The live slot: its manager file is a silo's, and the other one's isn't, or has a lower generation; of two with one
 -- generation it is slot 0.
-pub record IsLive (magic : List ℕ) (live : ℕ) (image : Image) : Type 0 where
+pub record IsLive (magic : List ℕ → Type 0) (live : ℕ) (image : Image) : Type 0 where
   pub slot : live ≤ 1
   pub silo : IsSilo magic (image (Manager live))
   pub over : IsSilo magic (image (Manager (1 - live))) → generation (image (Manager (1 - live))) < generation (image (Manager live)) + (1 - live)
 
 -- the image is a silo
-abbrev pub IsSiloImage : List ℕ → Image → Type 0
+abbrev pub IsSiloImage : (List ℕ → Type 0) → Image → Type 0
 IsSiloImage magic image = (live : ℕ) × IsLive magic live image
 
 -- no image is a silo by a slot whose manager file reads shorter than 16 bytes
-abbrev pub ShowsSilos : List ℕ → Disk → Type 0
+abbrev pub ShowsSilos : (List ℕ → Type 0) → Disk → Type 0
 ShowsSilos magic disk = (image : Image) → IsImage disk image → (slot : ℕ) → slot ≤ 1 →
     length (disk (Manager slot)).seen < 16 → IsSilo magic (image (Manager slot)) → ⊥
