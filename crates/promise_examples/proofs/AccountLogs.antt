@@ -1,24 +1,26 @@
 -- Batches of records in a silo of accounts are its log.
 use Rattle.std.proofs.Common.{◌≡◌, ℕ, List, [], length, slice_index, refl, ap, arith}
+use Rattle.field_codec.specs.declared.formats.Format.TheVariants.{Two}
 use Rattle.gate_block.specs.Log.{HasBlocks}
 use Rattle.host_trait.specs.World.{Image}
 use Rattle.host_trait.specs.declared.channels.FileId.TheVariants.{Manager}
 use Rattle.silo_spec.specs.Silos.{manager, program_file, IsSilo, HasProgram}
+use Rattle.silo_spec.proofs.Magics.{silo_of_format}
 use Rattle.promise_spec.specs.Programs.{shape_in}
 use Rattle.promise_spec.specs.Records.{Commit}
 use Rattle.promise_spec.specs.Blocks.{Fresh}
-use Rattle.promise_spec.specs.Logs.{magic, IsLog, StandsUpTo}
+use Rattle.promise_spec.specs.Logs.{IsFormat, IsMagic, IsLog, StandsUpTo}
 use Rattle.promise_spec.proofs.Slots.{only_live}
 use Rattle.promise_spec.proofs.Batched.{IsBatched, logged_in}
 use Rattle.promise_examples.specs.Examples.{account_text, account_program, account_log}
 use Rattle.promise_examples.proofs.AccountText.{account_is_checked}
 
 -- a file of no bytes is no silo's
-pub no_bytes : (file : List ℕ) → file ≡ [] → IsSilo magic file → ⊥
+pub no_bytes : (file : List ℕ) → file ≡ [] → IsSilo IsMagic file → ⊥
 no_bytes file none silo = omega (arith, silo.long, ap length none)
 
 -- where no block stands, the empty log stands up to the first gate
-pub account_begins : (image : Image) → IsSilo magic (image manager) → slice_index (image manager) 13 ≡ 0 → slice_index (image manager) 14 ≡ 0 → HasProgram account_text (image program_file) → HasBlocks [] 15 (image manager) → StandsUpTo 0 image (account_log []) [] 15
+pub account_begins : (image : Image) → IsSilo (IsFormat Two) (image manager) → slice_index (image manager) 13 ≡ 0 → slice_index (image manager) 14 ≡ 0 → HasProgram account_text (image program_file) → HasBlocks [] 15 (image manager) → StandsUpTo Two 0 image (account_log []) [] 15 0
 account_begins image silo kind zero text none = record {
   silo = silo;
   program = account_program;
@@ -31,6 +33,7 @@ account_begins image silo kind zero text none = record {
   whole = tt;
   blocks = [];
   fit = tt;
+  never_fall = refl;
   spelled = refl;
   stand = none;
   entries = refl;
@@ -38,8 +41,8 @@ account_begins image silo kind zero text none = record {
 }
 
 -- and all blocks up to a closed gate are the log, where slot 1 has no manager file
-pub account_logged : (image : Image) (commits : List Commit) → image (Manager 1) ≡ [] → IsSilo magic (image manager) → HasProgram account_text (image program_file) → IsBatched 0 (shape_in account_program) image commits → IsLog 0 image (account_log commits)
+pub account_logged : (image : Image) (commits : List Commit) → image (Manager 1) ≡ [] → IsSilo (IsFormat Two) (image manager) → HasProgram account_text (image program_file) → IsBatched Two 1 0 (shape_in account_program) image commits → IsLog 0 image (account_log commits)
 account_logged image commits alone silo text b = record {
-  is_live = only_live 0 image (omega arith) silo (no_bytes (image (Manager 1)) alone);
-  is = logged_in 0 image account_program commits silo account_is_checked text b;
+  is_live = only_live 0 image (omega arith) (silo_of_format Two (image manager) silo) (no_bytes (image (Manager 1)) alone);
+  is = logged_in Two 1 0 image account_program commits silo account_is_checked text b;
 }

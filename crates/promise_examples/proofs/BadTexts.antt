@@ -18,6 +18,7 @@ use Rattle.script_scopes.specs.Expressions.{expression_fault}
 use Rattle.script_scopes.specs.Statements.{statement_fault, block_fault}
 use Rattle.script_check.specs.Programs.{each_fault, program_fault}
 use Rattle.silo_spec.specs.Silos.{program_file}
+use Rattle.field_codec.specs.declared.formats.Format.TheVariants.{Two}
 use Rattle.promise_spec.specs.Programs.{checked_in, program_in}
 use Rattle.promise_spec.specs.Openings.{Reading, DamagedAt, with_types, with_program, opened_as}
 use Rattle.promise_examples.specs.Readings.{program_folder, program_with}
@@ -33,7 +34,7 @@ text_lexed text ascii =
 
 -- what a program file of such a text reads as
 abbrev of_tokens : List ℕ → TokensAndStop → Reading
-of_tokens text found = with_program 0 (program_folder (program_with text)) (with_types text (checked_in (program_over found.1 found.0)))
+of_tokens text found = with_program Two 0 (program_folder (program_with text)) (with_types text (checked_in (program_over found.1 found.0)))
 
 -- what the texts read as
 pub record Texts : Type 0 where

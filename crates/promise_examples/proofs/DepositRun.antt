@@ -18,6 +18,7 @@ use Rattle.host_trait.specs.declared.channels.FileId.TheVariants.{Grain}
 use Rattle.host_trait.specs.World.{Moment, Image, IsImage, moment_of}
 use Rattle.silo_spec.specs.Silos.{manager, program_file, HasProgram}
 use Rattle.silo_spec.specs.OpenedDisks.{opening_syncs}
+use Rattle.field_codec.specs.declared.formats.Format.TheVariants.{Two}
 use Rattle.promise_spec.specs.Programs.{shape_in}
 use Rattle.promise_spec.specs.Entries.{Log}
 use Rattle.promise_spec.specs.Logs.{IsLog, IsPrefix}
@@ -226,9 +227,9 @@ module _ (r : Observed) (opened : Moment) (sealing : List Moment) (run : IsDepos
 
   whole_batches : (image : Image) (log : Log) → MayHaveDeposit image → IsLog 0 image log → EndsABatch (core_end account_program course) (account_log []) log
   whole_batches image log (inl none) is =
-      subst (EndsABatch (core_end account_program course) (account_log [])) (one_log 0 0 image (account_log []) log none.0 is) (no_batch (core_end account_program course) (account_log []))
+      subst (EndsABatch (core_end account_program course) (account_log [])) (one_log Two Two 0 0 image (account_log []) log none.0 is) (no_batch (core_end account_program course) (account_log []))
   whole_batches image log (inr has) is =
-      subst (EndsABatch (core_end account_program course) (account_log [])) (one_log 0 0 image (account_log (first_commit ∷ [])) log has.0 is) one_batch
+      subst (EndsABatch (core_end account_program course) (account_log [])) (one_log Two Two 0 0 image (account_log (first_commit ∷ [])) log has.0 is) one_batch
 
   crashes : SurvivesCrashes r course
   crashes = record {
@@ -264,7 +265,7 @@ module _ (r : Observed) (opened : Moment) (sealing : List Moment) (run : IsDepos
   exit = record {
     logs = λ image left. record { log = account_log (first_commit ∷ []); is = (run.logged image left).0; which = inl refl };
     doubt = λ one other a b is_one is_other log_a log_b differ.
-        absurd (differ (one_log 0 0 one a (account_log (first_commit ∷ [])) log_a (run.logged one is_one).0 ∙ sym (one_log 0 0 other b (account_log (first_commit ∷ [])) log_b (run.logged other is_other).0)));
+        absurd (differ (one_log Two Two 0 0 one a (account_log (first_commit ∷ [])) log_a (run.logged one is_one).0 ∙ sym (one_log Two Two 0 0 other b (account_log (first_commit ∷ [])) log_b (run.logged other is_other).0)));
     nowhere = λ e there. only (λ (d : Entry). d.what ≡ settled.InDoubt → IsNowhere 0 r d.unit → HasNoRecord course d.unit) first_entry e (λ is. absurd (cc is)) there;
     block = λ doubt. absurd (no_doubt doubt);
     behind = λ none. run.behind;

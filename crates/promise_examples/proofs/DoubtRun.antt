@@ -24,6 +24,7 @@ use Rattle.host_trait.specs.declared.channels.FileId.TheVariants.{Manager, Grain
 use Rattle.host_trait.specs.World.{Moment, Image, IsImage, moment_of}
 use Rattle.silo_spec.specs.Silos.{manager, program_file, HasProgram}
 use Rattle.silo_spec.specs.OpenedDisks.{opening_syncs}
+use Rattle.field_codec.specs.declared.formats.Format.TheVariants.{Two}
 use Rattle.promise_spec.specs.Programs.{shape_in}
 use Rattle.promise_spec.specs.Entries.{Log}
 use Rattle.promise_spec.specs.Records.{Commit, AreRecordsOf}
@@ -283,9 +284,9 @@ module _ (r : Observed) (opened : Moment) (told doubting : List Moment) (run : I
 
   whole_batches : (image : Image) (log : Log) → MayHaveDeposit image → IsLog 0 image log → EndsABatch (core_end account_program course) (account_log []) log
   whole_batches image log (inl none) is =
-      subst (EndsABatch (core_end account_program course) (account_log [])) (one_log 0 0 image (account_log []) log none.0 is) (no_batch (core_end account_program course) (account_log []))
+      subst (EndsABatch (core_end account_program course) (account_log [])) (one_log Two Two 0 0 image (account_log []) log none.0 is) (no_batch (core_end account_program course) (account_log []))
   whole_batches image log (inr has) is =
-      subst (EndsABatch (core_end account_program course) (account_log [])) (one_log 0 0 image (account_log (first_commit ∷ [])) log has.0 is) one_batch
+      subst (EndsABatch (core_end account_program course) (account_log [])) (one_log Two Two 0 0 image (account_log (first_commit ∷ [])) log has.0 is) one_batch
 
   sound_all : StaySound r course
   sound_all image is = sound 0 account_program (account_log []) r.old.output journal is.moment image (keeps_at image is) serial numbered
@@ -362,6 +363,9 @@ module _ (r : Observed) (opened : Moment) (told doubting : List Moment) (run : I
         (λ is nowhere. absurd (nowhere run.some (account_log (first_commit ∷ [])) first_commit run.possible run.there.0 (inl refl) refl)) there;
     block = λ doubt. record {
       gate = 15;
+      reached = 0;
+      session = 1;
+      follows = omega arith;
       batch = first_commit ∷ [];
       before = account_log [];
       bodies = [];

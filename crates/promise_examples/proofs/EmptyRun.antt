@@ -6,7 +6,7 @@ use Rattle.host_trait.specs.declared.channels.Channel.TheVariants.{Input}
 use Rattle.promise_spec.specs.Programs.{Program}
 use Rattle.promise_spec.specs.Entries.{Log}
 use Rattle.promise_spec.specs.Causes.{RoseBy, NoneRose}
-use Rattle.promise_spec.specs.Endings.{Ending, Done, BadUse, Memory, ReadFault, WriteFault, DiskFault, NotASilo, AlreadyASilo, Damaged, BadProgram, InputTooLong, LastGeneration, UpgradeRefused, HasRisen, IsCarried, IsAllWritten, IsCalm}
+use Rattle.promise_spec.specs.Endings.{Ending, Done, BadUse, Memory, ReadFault, WriteFault, DiskFault, NotASilo, OldFormat, NotOld, AlreadyASilo, Damaged, BadProgram, InputTooLong, LastGeneration, UpgradeRefused, HasRisen, IsCarried, IsAllWritten, IsCalm}
 use Rattle.promise_spec.specs.Courses.{Observed}
 use Rattle.promise_spec.specs.Promise.{Keeps}
 use Rattle.promise_spec.proofs.Lists.{none_at}
@@ -26,6 +26,8 @@ module _ (p : Program) (r : Observed) (opening : Log) (run : IsEmptyRun p r open
   carried WriteFault all = tt
   carried (DiskFault file) all = tt
   carried NotASilo all = absurd all
+  carried OldFormat all = absurd all
+  carried NotOld all = absurd all
   carried AlreadyASilo all = absurd all
   carried (Damaged file place) all = absurd all
   carried (BadProgram fault) all = absurd all
@@ -42,6 +44,8 @@ module _ (p : Program) (r : Observed) (opening : Log) (run : IsEmptyRun p r open
   calm WriteFault all risen none = absurd all
   calm (DiskFault file) all risen none = absurd all
   calm NotASilo all risen none = absurd all
+  calm OldFormat all risen none = absurd all
+  calm NotOld all risen none = absurd all
   calm AlreadyASilo all risen none = absurd all
   calm (Damaged file place) all risen none = absurd all
   calm (BadProgram fault) all risen none = absurd all

@@ -6,6 +6,7 @@ use Rattle.std.specs.Fmt.{digits}
 use Rattle.std.proofs.lemmas.Int.{fits_signed_from_abs}
 use Rattle.serde_json.proofs.OnLiterals.{serde_json_on_literals}
 use Rattle.base_types.specs.declared.calls.Value.TheVariants.{Int}
+use Rattle.field_codec.specs.declared.formats.Format.TheVariants.{Two}
 use Rattle.field_codec.specs.Spelling.{spelling_of_version}
 use Rattle.request_wire.specs.Reply.{reply_line}
 use Rattle.script_meaning.specs.Play.{unit, play_over}
@@ -28,23 +29,24 @@ use Rattle.promise_spec.specs.Versions.{IsKept}
 pub version_spelled : spelling_of_version first_version ≡ grain_bytes
 version_spelled = refl
 
-pub block_spelled : block_of (body_of (Records (first_commit ∷ []))) ≡ block_bytes
+pub block_spelled : block_of (body_of Two (Records 1 (first_commit ∷ []))) ≡ block_bytes
 block_spelled = refl
 
-pub manager_size : length (manager_bytes 1) ≡ 89
+pub manager_size : length (manager_bytes 1) ≡ 97
 manager_size = refl
 
 pub five : FitsSigned w64 (pos 5)
 five = fits_signed_from_abs w64 (pos 5) (lit< tt)
 
 -- the image's log is that one record
-pub logged_batch : IsBatched 0 (shape_in account_program) (folder 1 grain_bytes) (first_commit ∷ [])
+pub logged_batch : IsBatched Two 1 0 (shape_in account_program) (folder 1 grain_bytes) (first_commit ∷ [])
 logged_batch = record {
   kind = refl;
   zero = refl;
   batches = (first_commit ∷ []) ∷ [];
-  gate = 88;
+  gate = 96;
   blocks = record { blocks = record { small = (omega arith, tt); at = refl; within = omega arith; blocks = refl }; closed = λ e. cc e };
+  may = lit< tt;
   sizes = (omega arith, tt);
   are = refl;
   kept = (
@@ -75,17 +77,18 @@ pub logged : IsLog 0 (folder 1 grain_bytes) (account_log (first_commit ∷ []))
 logged = account_logged (folder 1 grain_bytes) (first_commit ∷ []) refl (record { long = omega arith; gate = refl; named = refl }) refl logged_batch
 
 -- it ends at the file's last byte
-pub ends_last : LogsUpTo (map body_of (Records (first_commit ∷ []) ∷ [])) 88 (manager_bytes 1)
+pub ends_last : LogsUpTo (map (body_of Two) (Records 1 (first_commit ∷ []) ∷ [])) 96 (manager_bytes 1)
 ends_last = record { blocks = record { small = (omega arith, tt); at = refl; within = omega arith; blocks = refl }; closed = λ e. cc e }
 
 -- where the block's gate is closed, the log is empty
-closed_batch : IsBatched 0 (shape_in account_program) (folder 0 grain_bytes) []
+closed_batch : IsBatched Two 1 0 (shape_in account_program) (folder 0 grain_bytes) []
 closed_batch = record {
   kind = refl;
   zero = refl;
   batches = [];
   gate = 15;
   blocks = record { blocks = record { small = tt; at = refl; within = omega arith; blocks = refl }; closed = λ e. cc e };
+  may = lit< tt;
   sizes = tt;
   are = refl;
   kept = tt;
@@ -120,7 +123,7 @@ torn log is =
     absurd (cc whole)
 
 -- where the grain's file is cut within the version, the record isn't kept, whatever its states
-pub cut : (states : List (List Value)) → IsKept 0 (shape_in account_program) (folder 1 (take 10 grain_bytes)) (record { logged = deposit; states = states }) → ⊥
+pub cut : (states : List (List Value)) → IsKept Two 0 (shape_in account_program) (folder 1 (take 10 grain_bytes)) (record { logged = deposit; states = states }) → ⊥
 cut [] kept = kept.whole
 cut (state ∷ states) kept =
     let v = kept.whole.0.version in
@@ -131,7 +134,7 @@ pub shown : show_text (account_1 ∷ []) (account_log (first_commit ∷ [])) ≡
 unfolding serde_json_on_literals digits
 shown = refl
 
-pub told : history_text (account_log (first_commit ∷ [])) ≡ codes "{\"args\":[5],\"call\":\"account/1.deposit\",\"n\":1,\"reply\":5,\"unit\":1}\n"
+pub told : history_text (1 ∷ []) (account_log (first_commit ∷ [])) ≡ codes "{\"args\":[5],\"call\":\"account/1.deposit\",\"n\":1,\"reply\":5,\"session\":1,\"unit\":1}\n"
 unfolding serde_json_on_literals digits
 told = refl
 

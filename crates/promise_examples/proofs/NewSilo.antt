@@ -1,5 +1,5 @@
 -- The disks of a new silo of the accounts, and of one whose first deposit is sealed or being sealed: what their images have.
-use Rattle.std.proofs.Common.{◌≡◌, ◌≢◌, ◌⊎◌, inl, inr, ℕ, zero, suc, ◌+◌, ◌^◌, ◌<◌, ◌≤◌, Bool, true, false, if◌then◌else◌, List, [], ◌∷◌, ◌++◌, length, map, drop, slice_index, Option, Some, Result, Ok, refl, sym, ◌∙◌, ap, subst, arith, length-append, lit≤}
+use Rattle.std.proofs.Common.{◌≡◌, ◌≢◌, ◌⊎◌, inl, inr, ℕ, zero, suc, ◌+◌, ◌^◌, ◌<◌, ◌≤◌, Bool, true, false, if◌then◌else◌, List, [], ◌∷◌, ◌++◌, length, map, drop, slice_index, Option, Some, Result, Ok, refl, sym, ◌∙◌, ap, subst, arith, length-append, lit≤, lit<}
 use Rattle.std.specs.Prelude.{codes, nat_lt}
 use Rattle.std.specs.Option.{ok_or}
 use Rattle.std.proofs.lemmas.Bool.{cases_eq, cases_lt}
@@ -17,7 +17,7 @@ use Rattle.host_trait.specs.declared.channels.FileId.TheVariants.{Manager, Progr
 use Rattle.host_trait.specs.Disk.{FileState, Untouched, MayLeave, settled}
 use Rattle.host_trait.specs.World.{Image, IsImage, World}
 use Rattle.host_trait.proofs.Crashes.{settled_only}
-use Rattle.field_codec.specs.declared.formats.Format.TheVariants.{One}
+use Rattle.field_codec.specs.declared.formats.Format.TheVariants.{Two}
 use Rattle.gate_block.specs.Log.{LogsUpTo, gate_of}
 use Rattle.gate_block.proofs.Logs as blocks
 use Rattle.grain_log.specs.Places.{IsVersionAt}
@@ -30,7 +30,8 @@ use Rattle.request_wire.proofs.Arguments.{json_of-read}
 use Rattle.silo_spec.specs.OpenedDisks.{opened_disk}
 use Rattle.promise_spec.specs.Programs.{ProgramFault, program_in}
 use Rattle.promise_spec.specs.Openings.{with_types, program_in_file}
-use Rattle.promise_spec.specs.Logs.{magic, HasLog}
+use Rattle.field_codec.specs.Formats.{magic_of}
+use Rattle.promise_spec.specs.Logs.{IsFormat, IsMagic, HasLog}
 use Rattle.promise_spec.specs.Crashes.{IsAside}
 use Rattle.promise_spec.specs.Promise.{IsSoundFolder}
 use Rattle.field_codec.specs.Examples.{first_version}
@@ -59,14 +60,15 @@ module _ (image : Image) (program_is : image program_file ≡ program_bytes) whe
 
 module _ (image : Image) (program_is : image program_file ≡ program_bytes) (alone : image (Manager 1) ≡ []) where
   -- a manager file whose first gate is closed
-  pub has_none : (file : List ℕ) → IsSilo magic file → slice_index file 13 ≡ 0 → slice_index file 14 ≡ 0 → LogsUpTo [] 15 file → image manager ≡ file → HasNone image
+  pub has_none : (file : List ℕ) → IsSilo (IsFormat Two) file → slice_index file 13 ≡ 0 → slice_index file 14 ≡ 0 → LogsUpTo [] 15 file → image manager ≡ file → HasNone image
   has_none file silo kind nought blocks is = (
-    account_logged image [] alone (subst (λ (f : List ℕ). IsSilo magic f) (sym is) silo) (has_program image program_is) (record {
+    account_logged image [] alone (subst (λ (f : List ℕ). IsSilo (IsFormat Two) f) (sym is) silo) (has_program image program_is) (record {
       kind = ap (λ (f : List ℕ). slice_index f 13) is ∙ kind;
       zero = ap (λ (f : List ℕ). slice_index f 14) is ∙ nought;
       batches = [];
       gate = 15;
       blocks = subst (λ (f : List ℕ). LogsUpTo [] 15 f) (sym is) blocks;
+      may = lit< tt;
       sizes = tt;
       are = refl;
       kept = tt;
@@ -78,12 +80,13 @@ module _ (image : Image) (program_is : image program_file ≡ program_bytes) (al
   pub has_deposit : image manager ≡ manager_bytes 1 → image (Grain 0 account_1) ≡ grain_bytes → HasDeposit image
   has_deposit is grain_is =
       let stands = logged_batch.kept.0.whole.0 in (
-        account_logged image (first_commit ∷ []) alone (subst (λ (f : List ℕ). IsSilo magic f) (sym is) logged.is_live.silo) (has_program image program_is) (record {
+        account_logged image (first_commit ∷ []) alone (subst (λ (f : List ℕ). IsSilo (IsFormat Two) f) (sym is) logged.is.stands.silo) (has_program image program_is) (record {
           kind = ap (λ (f : List ℕ). slice_index f 13) is ∙ logged_batch.kind;
           zero = ap (λ (f : List ℕ). slice_index f 14) is ∙ logged_batch.zero;
           batches = logged_batch.batches;
           gate = logged_batch.gate;
-          blocks = subst (λ (f : List ℕ). LogsUpTo (map batch_body logged_batch.batches) logged_batch.gate f) (sym is) logged_batch.blocks;
+          blocks = subst (λ (f : List ℕ). LogsUpTo (map (batch_body Two 1) logged_batch.batches) logged_batch.gate f) (sym is) logged_batch.blocks;
+          may = logged_batch.may;
           sizes = logged_batch.sizes;
           are = logged_batch.are;
           kept = (
@@ -93,7 +96,7 @@ module _ (image : Image) (program_is : image program_file ≡ program_bytes) (al
                 record {
                   near = stands.near;
                   fields = stands.fields;
-                  version = subst (λ (f : List ℕ). IsVersionAt One 1 (record { offset = 0; len = 19 }) f first_version) (sym grain_is) stands.version;
+                  version = subst (λ (f : List ℕ). IsVersionAt Two 1 (record { offset = 0; len = 19 }) f first_version) (sym grain_is) stands.version;
                 },
                 tt,
               );
@@ -104,16 +107,16 @@ module _ (image : Image) (program_is : image program_file ≡ program_bytes) (al
         has_program image program_is,
       )
 
-new_is_silo : IsSilo magic new_manager
+new_is_silo : IsSilo (IsFormat Two) new_manager
 new_is_silo = record { long = omega arith; gate = refl; named = refl }
 
 new_has_none : LogsUpTo [] 15 new_manager
 new_has_none = record { blocks = record { small = tt; at = refl; within = omega arith; blocks = refl }; closed = λ e. cc e }
 
 pub manager_long : (block : List ℕ) (g : ℕ) → length (manager_of block g) ≡ 16 + length block
-manager_long block g = length-append (1 ∷ (magic ++ 0 ∷ 0 ∷ 0 ∷ 0 ∷ 0 ∷ 0 ∷ g ∷ [])) block
+manager_long block g = length-append (1 ∷ (magic_of Two ++ 0 ∷ 0 ∷ 0 ∷ 0 ∷ 0 ∷ 0 ∷ g ∷ [])) block
 
-pub gate_is_silo : (block : List ℕ) (g : ℕ) → IsSilo magic (manager_of block g)
+pub gate_is_silo : (block : List ℕ) (g : ℕ) → IsSilo (IsFormat Two) (manager_of block g)
 gate_is_silo block g = record { long = omega (arith, manager_long block g); gate = refl; named = refl }
 
 pub shut_has_none : (block : List ℕ) (g : ℕ) → g ≢ 1 → LogsUpTo [] 15 (manager_of block g)
@@ -129,7 +132,7 @@ other_items (x ∷ front) back g h zero other = refl
 other_items (x ∷ front) back g h (suc i) other = other_items front back g h i (λ same. other (ap suc same))
 
 header : List ℕ
-header = 1 ∷ (magic ++ 0 ∷ 0 ∷ 0 ∷ 0 ∷ 0 ∷ 0 ∷ [])
+header = 1 ∷ (magic_of Two ++ 0 ∷ 0 ∷ 0 ∷ 0 ∷ 0 ∷ 0 ∷ [])
 
 pub other_bytes : (block : List ℕ) (g h i : ℕ) → i ≢ 15 → slice_index (manager_of block g) i ≡ slice_index (manager_of block h) i
 unfolding header
@@ -228,13 +231,13 @@ abbrev pub new_folder : Image
 new_folder file = (new_disk file).seen
 
 -- its manager file is as long as a header and a gate, and slot 1 has none
-pub new_shows : ShowsSilos magic new_disk
+pub new_shows : ShowsSilos IsMagic new_disk
 new_shows image left zero low short silo = absurd (let long : 16 ≤ length new_manager = lit≤ tt in omega (arith, long, short))
 new_shows image left (suc zero) low short silo = no_bytes (image (Manager 1)) (settled_only [] (image (Manager 1)) (left (Manager 1))) silo
 new_shows image left (suc (suc slot)) low short silo = absurd (omega (arith, low))
 
 -- each image has the empty log
-pub sound_world : (w : World) → ((image : Image) → IsImage w.disk image → IsImage new_disk image) → ShowsSilos magic w.disk → IsSoundFolder w
+pub sound_world : (w : World) → ((image : Image) → IsImage w.disk image → IsImage new_disk image) → ShowsSilos IsMagic w.disk → IsSoundFolder w
 sound_world w same shows = record {
   chain = λ one other is_one is_other a b has_a has_b.
       (let a_is : a ≡ account_log [] = log_is one is_one a has_a in
@@ -242,12 +245,12 @@ sound_world w same shows = record {
       inl (subst (λ (l : Log). IsPrefixOf l b) (sym a_is) (subst (λ (l : Log). IsPrefixOf (account_log []) l) (sym b_is) (of_itself (account_log [])))));
   sound = λ image left live is.
       (let new = (new_images image (same image left)).0 in
-      subst (λ (slot : ℕ). IsSound slot image) (one_slot 0 live image new.is_live is) (record { log = account_log []; is = new; serial = tt; numbered = tt }));
+      subst (λ (slot : ℕ). IsSound slot image) (one_slot 0 live image new.is_live is) (record { format = Two; log = account_log []; is = new; serial = tt; numbered = tt }));
   shows = shows;
 }
   where
     log_is : (image : Image) → IsImage w.disk image → (log : Log) → HasLog image log → log ≡ account_log []
-    log_is image left log has = one_log has.0 0 image log (account_log []) has.1 (new_images image (same image left)).0
+    log_is image left log has = one_log has.0 Two has.1 0 image log (account_log []) has.2 (new_images image (same image left)).0
 
 -- ---- the program file
 

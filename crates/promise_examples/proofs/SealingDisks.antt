@@ -11,7 +11,8 @@ use Rattle.host_trait.proofs.Crashes.{settled_only}
 use Rattle.gate_block.specs.Log.{LogsUpTo}
 use Rattle.silo_spec.specs.Silos.{manager, program_file, IsSilo}
 use Rattle.silo_spec.specs.OpenedDisks.{opened_disk}
-use Rattle.promise_spec.specs.Logs.{magic}
+use Rattle.field_codec.specs.declared.formats.Format.TheVariants.{Two}
+use Rattle.promise_spec.specs.Logs.{IsFormat}
 use Rattle.promise_spec.specs.Courses.{Observed}
 use Rattle.promise_spec.specs.Crashes.{LeavesAlone}
 use Rattle.promise_examples.specs.Examples.{account_1, program_bytes, grain_bytes, block_bytes, manager_of, manager_bytes}
@@ -41,7 +42,7 @@ module _ (block c : List ℕ) (left : MayLeave (pending_block block) c) where
   block_is = sym (take-append-drop 16 c) ∙ ap (λ (l : List ℕ). l ++ drop 16 c) front_is
 
 -- such a file is a silo's with an empty log
-more_is_silo : (more : List ℕ) → IsSilo magic (new_manager ++ more)
+more_is_silo : (more : List ℕ) → IsSilo (IsFormat Two) (new_manager ++ more)
 more_is_silo more = record { long = omega (arith, length-append new_manager more); gate = refl; named = refl }
 
 more_has_none : (more : List ℕ) → LogsUpTo [] 15 (new_manager ++ more)

@@ -5,6 +5,7 @@ use Rattle.core_model.specs.declared.events.CoreEvent.{CoreEvent}
 use Rattle.core_model.specs.CoreState.{Member}
 use Rattle.host_trait.specs.World.{Moment, Image, IsImage, moment_of}
 use Rattle.host_trait.specs.declared.channels.FileId.TheVariants.{Grain}
+use Rattle.field_codec.specs.declared.formats.Format.TheVariants.{Two}
 use Rattle.promise_spec.specs.Prefixes.{IsPrefixOf}
 use Rattle.promise_spec.proofs.Prefixes.{of_itself}
 use Rattle.promise_spec.proofs.Standings.{grown_none}
@@ -67,7 +68,7 @@ module _ (p : Program) (r : Observed) (opening : Log) (run : IsStillRun p r open
         image = run.some;
         left = record { moment = moment_of r.new; member = inl refl; left = run.possible };
         log = whole run.some run.possible;
-        longest = λ other log is has. first_of_both log (grown opening []) (one_log has.0 0 other log (grown opening []) has.1 (whole other (at_exit other is)));
+        longest = λ other log is has. first_of_both log (grown opening []) (one_log has.0 Two has.1 0 other log (grown opening []) has.2 (whole other (at_exit other is)));
       };
       serial = tt;
     };
@@ -83,7 +84,7 @@ module _ (p : Program) (r : Observed) (opening : Log) (run : IsStillRun p r open
       past = run.synced;
       quiet = λ m there. elim there [ inl same ↦ ap (λ (n : Moment). n.output) same ∙ run.output | inr none ↦ absurd none ];
       before = λ image is. elim is.member [ inl same ↦ run.entry image (subst (λ (m : Moment). IsImage m.disk image) same is.left) | inr none ↦ absurd none ];
-      chain = λ one other a b x y has also. inl (first_of_both x y (one_log has.0 0 one x (grown opening []) has.1 (whole one (at_exit one a)) ∙ sym (one_log also.0 0 other y (grown opening []) also.1 (whole other (at_exit other b)))));
+      chain = λ one other a b x y has also. inl (first_of_both x y (one_log has.0 Two has.1 0 one x (grown opening []) has.2 (whole one (at_exit one a)) ∙ sym (one_log also.0 Two also.1 0 other y (grown opening []) also.2 (whole other (at_exit other b)))));
       whole = λ image is. whole_if image (run.sound image (at_exit image is));
       keeps = λ image is. record { more = []; is = whole image (at_exit image is); front = ([], refl) };
       alone = λ m there. elim there [
@@ -107,7 +108,7 @@ module _ (p : Program) (r : Observed) (opening : Log) (run : IsStillRun p r open
   pub traced : ComeOfEvents p r course
   traced = record {
     family = no_family p.types (lines r) _ _ _;
-    whole = λ image log is log_is. subst (EndsABatch (core_end p course) opening) (one_log 0 0 image opening log (run.logs image (at_exit image is)) log_is) (no_batch (core_end p course) opening);
+    whole = λ image log is log_is. subst (EndsABatch (core_end p course) opening) (one_log Two Two 0 0 image opening log (run.logs image (at_exit image is)) log_is) (no_batch (core_end p course) opening);
   }
 
   -- no grain's file is written
@@ -121,7 +122,7 @@ module _ (p : Program) (r : Observed) (opening : Log) (run : IsStillRun p r open
   pub exit : (RunHasDoubt (core_run p course) → ⊥) → IsExit p r course
   exit no_doubt = record {
     logs = λ image is. record { log = grown opening []; is = whole image is; which = inl refl };
-    doubt = λ one other a b is_one is_other log_a log_b differ. absurd (differ (one_log 0 0 one a (grown opening []) log_a (whole one is_one) ∙ sym (one_log 0 0 other b (grown opening []) log_b (whole other is_other))));
+    doubt = λ one other a b is_one is_other log_a log_b differ. absurd (differ (one_log Two Two 0 0 one a (grown opening []) log_a (whole one is_one) ∙ sym (one_log Two Two 0 0 other b (grown opening []) log_b (whole other is_other))));
     nowhere = λ e none. absurd none;
     block = λ doubt. absurd (no_doubt doubt);
     behind = λ none. run.behind;

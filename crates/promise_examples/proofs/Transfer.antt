@@ -16,11 +16,13 @@ use Rattle.promise_examples.proofs.AccountLogs.{no_bytes}
 use Rattle.silo_spec.specs.Silos.{manager}
 use Rattle.silo_spec.specs.Slots.{IsLive}
 use Rattle.promise_spec.specs.Programs.{shape_in}
-use Rattle.promise_spec.specs.Logs.{magic}
+use Rattle.field_codec.specs.declared.formats.Format.TheVariants.{Two}
+use Rattle.silo_spec.proofs.Magics.{silo_of_format}
+use Rattle.promise_spec.specs.Logs.{IsMagic}
 use Rattle.promise_spec.specs.Records.{written}
 use Rattle.promise_spec.specs.SerialExecution.{IsSerial}
 use Rattle.promise_spec.specs.Blocks.{Records, body_of, AreKept}
-use Rattle.promise_examples.specs.Transfers.{bank_program, paid_in, moved, balance, version_of_source, version_of_target, transfer_body, bank_folder, bank_log}
+use Rattle.promise_examples.specs.Transfers.{bank_program, paid_in, moved, balance, version_of_source, version_of_target, transfer_body, bank_manager, bank_folder, bank_log}
 use Rattle.promise_spec.specs.Entries.{new_silo, standing_of}
 use Rattle.promise_spec.specs.Versions.{IsKept}
 
@@ -30,7 +32,7 @@ source_spelled = refl
 pub target_spelled : spelling_of_version (balance 2 30) ≡ version_of_target
 target_spelled = refl
 
-pub body_spelled : body_of (Records (moved 70 30 ∷ [])) ≡ transfer_body
+pub body_spelled : body_of Two (Records 1 (moved 70 30 ∷ [])) ≡ transfer_body
 body_spelled = refl
 
 hundred : FitsSigned w64 (pos 100)
@@ -49,7 +51,7 @@ two : FitsSigned w64 (pos 2)
 two = fits_signed_from_abs w64 (pos 2) (lit< tt)
 
 -- the deposit is kept
-deposit_kept : IsKept 0 (shape_in bank_program) bank_folder paid_in
+deposit_kept : IsKept Two 0 (shape_in bank_program) bank_folder paid_in
 deposit_kept = record {
   fits = record {
     units = record { unit = refl; parent = tt };
@@ -71,7 +73,7 @@ deposit_kept = record {
 }
 
 -- and so is the transfer, with both versions at their places
-transfer_kept : IsKept 0 (shape_in bank_program) bank_folder (moved 70 30)
+transfer_kept : IsKept Two 0 (shape_in bank_program) bank_folder (moved 70 30)
 transfer_kept = record {
   fits = record {
     units = record { unit = refl; parent = tt };
@@ -96,16 +98,16 @@ transfer_kept = record {
 }
 
 -- the folder's manager file is a silo's, with the blocks of both records, of which each is kept
-pub live : IsLive magic 0 bank_folder
-live = only_live 0 bank_folder (omega arith) (record { long = omega arith; gate = refl; named = refl }) (no_bytes [] refl)
+pub live : IsLive IsMagic 0 bank_folder
+live = only_live 0 bank_folder (omega arith) (silo_of_format Two bank_manager (record { long = omega arith; gate = refl; named = refl })) (no_bytes [] refl)
 
 pub header : header_damage (bank_folder manager) ≡ None
 header = refl
 
-pub stand : LogsUpTo (map body_of (Records (paid_in ∷ []) ∷ Records (moved 70 30 ∷ []) ∷ [])) 197 (bank_folder manager)
+pub stand : LogsUpTo (map (body_of Two) (Records 1 (paid_in ∷ []) ∷ Records 1 (moved 70 30 ∷ []) ∷ [])) 213 (bank_folder manager)
 stand = record { blocks = record { small = (lit< tt, (lit< tt, tt)); at = refl; within = omega arith; blocks = refl }; closed = λ e. cc e }
 
-pub kept : AreKept 0 bank_folder bank_program (bank_log (paid_in ∷ moved 70 30 ∷ [])).entries
+pub kept : AreKept Two 0 bank_folder bank_program (bank_log (paid_in ∷ moved 70 30 ∷ [])).entries
 kept = (deposit_kept, (transfer_kept, tt))
 
 -- it stands for both new balances

@@ -22,6 +22,7 @@ use Rattle.host_trait.specs.declared.channels.FileId.TheVariants.{Manager, Grain
 use Rattle.host_trait.specs.World.{Moment, Image, IsImage, moment_of}
 use Rattle.silo_spec.specs.Silos.{manager, program_file, HasProgram}
 use Rattle.silo_spec.specs.OpenedDisks.{opening_syncs}
+use Rattle.field_codec.specs.declared.formats.Format.TheVariants.{Two}
 use Rattle.promise_spec.specs.Programs.{shape_in}
 use Rattle.promise_spec.specs.Records.{AreRecordsOf}
 use Rattle.promise_spec.specs.Logs.{IsPrefix}
@@ -286,7 +287,7 @@ module _ (r : Observed) (opened : Moment) (failing told : List Moment) (run : Is
   of_events = record {
     family = no_family accounts (lines r) _ _ _;
     whole = λ image log is log_is.
-        subst (EndsABatch (core_end account_program course) (account_log [])) (one_log 0 0 image (account_log []) log (have_none is.moment is.member image is.left).0 log_is) (no_batch (core_end account_program course) (account_log []));
+        subst (EndsABatch (core_end account_program course) (account_log [])) (one_log Two Two 0 0 image (account_log []) log (have_none is.moment is.member image is.left).0 log_is) (no_batch (core_end account_program course) (account_log []));
   }
 
   replied : HoldsReplies account_program r course
@@ -296,7 +297,7 @@ module _ (r : Observed) (opened : Moment) (failing told : List Moment) (run : Is
   exit = record {
     logs = λ image left. record { log = account_log []; is = (run.exit image left).0; which = inl refl };
     doubt = λ one other a b is_one is_other log_a log_b differ.
-        absurd (differ (one_log 0 0 one a (account_log []) log_a (run.exit one is_one).0 ∙ sym (one_log 0 0 other b (account_log []) log_b (run.exit other is_other).0)));
+        absurd (differ (one_log Two Two 0 0 one a (account_log []) log_a (run.exit one is_one).0 ∙ sym (one_log Two Two 0 0 other b (account_log []) log_b (run.exit other is_other).0)));
     nowhere = λ e there is nowhere l none. absurd none;
     block = λ doubt. absurd (no_doubt doubt);
     behind = λ none. run.behind;

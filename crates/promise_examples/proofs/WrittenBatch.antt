@@ -14,7 +14,7 @@ use Rattle.base_types.specs.declared.entries.Entry.{Entry}
 use Rattle.base_types.specs.declared.entries.Settled.TheVariants as settled_as
 use Rattle.base_types.specs.declared.stores.Version.{Version}
 use Rattle.core_model.specs.CoreState.{UnitNo, Member}
-use Rattle.field_codec.specs.declared.formats.Format.TheVariants.{One}
+use Rattle.field_codec.specs.declared.formats.Format.TheVariants.{Two}
 use Rattle.field_codec.specs.declared.units.Numbers.TheVariants.{Logged}
 use Rattle.commit_log.specs.Bodies.{IsRecordIn}
 use Rattle.gate_block.specs.Blocks.{block_of}
@@ -29,7 +29,7 @@ use Rattle.promise_spec.specs.Programs.{shape_in}
 use Rattle.promise_spec.specs.Entries.{Log}
 use Rattle.promise_spec.specs.Records.{Commit}
 use Rattle.promise_spec.specs.Blocks.{Records, body_of}
-use Rattle.promise_spec.specs.Logs.{magic, IsLog}
+use Rattle.promise_spec.specs.Logs.{IsFormat, IsLog}
 use Rattle.promise_spec.specs.Outputs.{IsProper, Grew, reply_lines}
 use Rattle.promise_spec.specs.Causes.{RoseBy, most_syncs_of}
 use Rattle.promise_spec.specs.Courses.{moments, core_run, core_end, seen_at_entry}
@@ -66,7 +66,7 @@ use Rattle.promise_examples.proofs.WrittenDoubt.{asks, sound_at_entry}
 
 -- ---- the bytes
 
-pub block_spelled : block_of (body_of (Records both_commits)) ≡ both_block
+pub block_spelled : block_of (body_of Two (Records 1 both_commits)) ≡ both_block
 block_spelled = refl
 
 four : FitsSigned w64 (pos 4)
@@ -79,13 +79,13 @@ abbrev last_version : Version
 last_version = record { unit = unit_no 2; state = Int (pos 9) ∷ [] }
 
 -- the file has both versions
-first_there : IsVersionAt One 1 (record { offset = 0; len = 19 }) both_versions first_version
+first_there : IsVersionAt Two 1 (record { offset = 0; len = 19 }) both_versions first_version
 first_there = record { version_is = logged_batch.kept.0.whole.0.version.version_is; here = refl }
 
-last_there : IsVersionAt One 1 (record { offset = 19; len = 19 }) both_versions last_version
+last_there : IsVersionAt Two 1 (record { offset = 19; len = 19 }) both_versions last_version
 last_there = record { version_is = record { fits = record { unit = lit< tt; state = (omega arith, (nine, tt)) }; count = refl; len = refl }; here = refl }
 
-last_fits : IsRecordIn One Logged (shape_in account_program) (next_commit 4 9).logged
+last_fits : IsRecordIn Two Logged (shape_in account_program) (next_commit 4 9).logged
 last_fits = record {
   units = record { unit = refl; parent = tt };
   fits = record {
@@ -101,7 +101,7 @@ last_fits = record {
 }
 
 -- the block is whole, and its gate is the last byte's
-both_blocks : LogsUpTo (map body_of (Records both_commits ∷ [])) 152 (manager_of both_block 1)
+both_blocks : LogsUpTo (map (body_of Two) (Records 1 both_commits ∷ [])) 160 (manager_of both_block 1)
 both_blocks = record { blocks = record { small = (lit< tt, tt); at = refl; within = omega arith; blocks = refl }; closed = λ e. cc e }
 
 -- ---- the images
@@ -116,12 +116,13 @@ MayHaveBoth image = HasNone image ⊎ HasBoth image
 
 module _ (image : Image) where
   has_both : image (Manager 1) ≡ [] → image manager ≡ manager_of both_block 1 → image (Grain 0 account_1) ≡ both_versions → HasProgram account_text (image program_file) → HasBoth image
-  has_both alone is grain_is file = account_logged image both_commits alone (subst (λ (f : List ℕ). IsSilo magic f) (sym is) (gate_is_silo both_block 1)) file (record {
+  has_both alone is grain_is file = account_logged image both_commits alone (subst (λ (f : List ℕ). IsSilo (IsFormat Two) f) (sym is) (gate_is_silo both_block 1)) file (record {
     kind = ap (λ (f : List ℕ). slice_index f 13) is;
     zero = ap (λ (f : List ℕ). slice_index f 14) is;
     batches = both_commits ∷ [];
-    gate = 152;
-    blocks = subst (λ (f : List ℕ). LogsUpTo (map body_of (Records both_commits ∷ [])) 152 f) (sym is) both_blocks;
+    gate = 160;
+    blocks = subst (λ (f : List ℕ). LogsUpTo (map (body_of Two) (Records 1 both_commits ∷ [])) 160 f) (sym is) both_blocks;
+    may = lit< tt;
     sizes = (omega arith, tt);
     are = refl;
     kept = (
@@ -131,7 +132,7 @@ module _ (image : Image) where
           record {
             near = lit< tt;
             fields = refl;
-            version = subst (λ (f : List ℕ). IsVersionAt One 1 (record { offset = 0; len = 19 }) f first_version) (sym grain_is) first_there;
+            version = subst (λ (f : List ℕ). IsVersionAt Two 1 (record { offset = 0; len = 19 }) f first_version) (sym grain_is) first_there;
           },
           tt,
         );
@@ -143,7 +144,7 @@ module _ (image : Image) where
             record {
               near = lit< tt;
               fields = refl;
-              version = subst (λ (f : List ℕ). IsVersionAt One 1 (record { offset = 19; len = 19 }) f last_version) (sym grain_is) last_there;
+              version = subst (λ (f : List ℕ). IsVersionAt Two 1 (record { offset = 19; len = 19 }) f last_version) (sym grain_is) last_there;
             },
             tt,
           );
@@ -230,8 +231,8 @@ alone =
     (alone_of batched refl (reply_text ++ second_text) (settled (manager_of both_block 1)) (settled both_versions) (sealed_front both_block 1))
 
 whole_batches : (image : Image) (log : Log) → MayHaveBoth image → IsLog 0 image log → EndsABatch (core_end account_program batch_course) (account_log []) log
-whole_batches image log (inl none) is = subst (EndsABatch (core_end account_program batch_course) (account_log [])) (one_log 0 0 image (account_log []) log none.0 is) (no_batch (core_end account_program batch_course) (account_log []))
-whole_batches image log (inr has) is = subst (EndsABatch (core_end account_program batch_course) (account_log [])) (one_log 0 0 image (account_log both_commits) log has is) both_end
+whole_batches image log (inl none) is = subst (EndsABatch (core_end account_program batch_course) (account_log [])) (one_log Two Two 0 0 image (account_log []) log none.0 is) (no_batch (core_end account_program batch_course) (account_log []))
+whole_batches image log (inr has) is = subst (EndsABatch (core_end account_program batch_course) (account_log [])) (one_log Two Two 0 0 image (account_log both_commits) log has is) both_end
 
 -- ---- the journal
 
@@ -393,7 +394,7 @@ leaves = record {
   nowhere = λ e there.
       either_of (λ (d : Entry). d.what ≡ settled_as.InDoubt → IsNowhere 0 batched d.unit → HasNoRecord batch_course d.unit) first_entry second_entry e (λ is. absurd (cc is)) (λ is. absurd (cc is)) there;
   block = λ doubt. absurd (no_doubt doubt);
-  behind = λ none image left. ends_there (map body_of (Records both_commits ∷ [])) 152 (image manager) (manager_of both_block 1) new_manager (settled_only (manager_of both_block 1) (image manager) (left manager)) both_blocks refl (omega arith);
+  behind = λ none image left. ends_there (map (body_of Two) (Records 1 both_commits ∷ [])) 160 (image manager) (manager_of both_block 1) new_manager (settled_only (manager_of both_block 1) (image manager) (left manager)) both_blocks refl (omega arith);
 }
 
 answered : (n : ℕ) → 1 ≤ n → n ≤ 2 → (e : Entry) × Member e both_entries × (e.line ≡ n)

@@ -1,7 +1,8 @@
 -- The run that is written out, of two deposits of which one is left in doubt, meets all that is asked of such a run.
 use Rattle.host_trait.proofs.Crashes.{settled_only}
 use Rattle.silo_spec.specs.OpenedDisks.{opening_syncs}
-use Rattle.promise_spec.specs.Logs.{magic, StandsUpTo}
+use Rattle.field_codec.specs.declared.formats.Format.TheVariants.{Two}
+use Rattle.promise_spec.specs.Logs.{IsFormat, StandsUpTo}
 use Rattle.promise_examples.proofs.AccountLogs.{account_begins}
 use Rattle.std.proofs.Common.{◌≡◌, ◌≢◌, ◌⊎◌, inl, inr, ℕ, zero, suc, ◌+◌, ◌<◌, ◌≤◌, List, [], ◌∷◌, ◌++◌, length, take, drop, slice_index, refl, sym, ◌∙◌, ap, subst, arith}
 use Rattle.std.specs.List.{AllByRecursion}
@@ -63,12 +64,12 @@ module _ (image : Image) (left : IsImage sealing_disk image) where
   unfolding gate
   file_is = gate_only block_bytes (image manager) (left manager)
 
-  front : StandsUpTo 0 image (account_log []) [] 15
-  front = account_begins image (subst (IsSilo magic) (sym file_is) (gate_is_silo block_bytes gate)) (ap (λ (f : List ℕ). slice_index f 13) file_is) (ap (λ (f : List ℕ). slice_index f 14) file_is) (has_program image (settled_only program_bytes (image program_file) (left program_file)))
+  front : StandsUpTo Two 0 image (account_log []) [] 15 0
+  front = account_begins image (subst (IsSilo (IsFormat Two)) (sym file_is) (gate_is_silo block_bytes gate)) (ap (λ (f : List ℕ). slice_index f 13) file_is) (ap (λ (f : List ℕ). slice_index f 14) file_is) (has_program image (settled_only program_bytes (image program_file) (left program_file)))
       (subst (λ (f : List ℕ). HasBlocks [] 15 f) (sym file_is) (record { small = tt; at = refl; within = omega arith; blocks = refl }))
 
-  block : HasBlock 0 15 (first_commit ∷ []) image
-  block = ap (λ (f : List ℕ). take 73 (drop 16 f)) file_is
+  block : HasBlock 0 15 1 (first_commit ∷ []) image
+  block = ap (λ (f : List ℕ). take 81 (drop 16 f)) file_is
 
 differ : (one other : Image) → IsImage sealing_disk one → IsImage sealing_disk other → DifferAt 15 (one manager) (other manager)
 differ one other is_one is_other =

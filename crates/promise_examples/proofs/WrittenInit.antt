@@ -17,8 +17,10 @@ use Rattle.silo_spec.specs.Creation.{IsBeside, IsNewAt, IsNewIfSilo}
 use Rattle.promise_spec.proofs.Slots.{only_live}
 use Rattle.promise_examples.proofs.AccountLogs.{no_bytes}
 use Rattle.promise_spec.specs.Programs.{text_limit, program_in}
-use Rattle.promise_spec.specs.Logs.{magic}
-use Rattle.promise_spec.specs.Words.{Command, Init, Run, Show, History, Audit, Load, Check, Compact, Upgrade, Say}
+use Rattle.field_codec.specs.declared.formats.Format.TheVariants.{Two}
+use Rattle.silo_spec.proofs.Magics.{silo_of_format}
+use Rattle.promise_spec.specs.Logs.{IsFormat, IsMagic}
+use Rattle.promise_spec.specs.Words.{Command, Init, Run, Show, History, Audit, Load, Check, Compact, Upgrade, Migrate, Say}
 use Rattle.promise_spec.specs.Courses.{Observed}
 use Rattle.promise_spec.specs.Promise.{IsSoundFolder}
 use Rattle.promise_spec.specs.Commands.{IsProgramText, WasSilo, MakesSilo, ManagersLast}
@@ -38,13 +40,13 @@ use Rattle.promise_examples.proofs.HostSteps.{held, pulled, ended}
 -- ---- what images have
 
 -- a manager file whose header gate is closed, or that is too short, is no silo's
-shut_none : (file : List ℕ) → slice_index file 0 ≡ 0 → IsSilo magic file → ⊥
+shut_none : (file : List ℕ) → slice_index file 0 ≡ 0 → IsSilo IsMagic file → ⊥
 shut_none file shut silo = let e : 0 ≡ 1 = sym shut ∙ silo.gate in cc e
 
 -- the new silo
-new_silo : (image : Image) → image manager ≡ new_manager → image program_file ≡ program_bytes → IsNewSilo magic account_text image
+new_silo : (image : Image) → image manager ≡ new_manager → image program_file ≡ program_bytes → IsNewSilo account_text image
 new_silo image log_is program_is = record {
-  silo = subst (λ (f : List ℕ). IsSilo magic f) (sym log_is) (record { long = lit≤ tt; gate = refl; named = refl });
+  silo = subst (λ (f : List ℕ). IsSilo (IsFormat Two) f) (sym log_is) (record { long = lit≤ tt; gate = refl; named = refl });
   header = ap (λ (f : List ℕ). take 16 f) log_is;
   program = subst (λ (f : List ℕ). HasProgram account_text f) (sym program_is) refl;
   empty = ap bodies_of log_is;
@@ -52,23 +54,23 @@ new_silo image log_is program_is = record {
 }
 
 -- where slot 1 has no manager file, an image is a silo by slot 0 alone
-first_of : (image : Image) → image (Manager 1) ≡ [] → (live : ℕ) → IsLive magic live image → (live ≡ 0) × IsSilo magic (image manager)
+first_of : (image : Image) → image (Manager 1) ≡ [] → (live : ℕ) → IsLive IsMagic live image → (live ≡ 0) × IsSilo IsMagic (image manager)
 first_of image alone zero is = (refl, is.silo)
 first_of image alone (suc zero) is = absurd (no_bytes (image (Manager 1)) alone is.silo)
 first_of image alone (suc (suc slot)) is = absurd (omega (arith, is.slot))
 
 -- and is the new one where it is one by slot 0
-new_if : (program log : FileState) (image : Image) → IsImage (head_disk program log) image → (IsSilo magic (image manager) → IsNewSilo magic account_text image) → IsNewIfSilo magic account_text image
+new_if : (program log : FileState) (image : Image) → IsImage (head_disk program log) image → (IsSilo IsMagic (image manager) → IsNewSilo account_text image) → IsNewIfSilo IsMagic account_text image
 new_if program log image left new live is =
     let first = first_of image (settled_only [] (image (Manager 1)) (left (Manager 1))) live is in
     (first.0, new first.1)
 
 -- while the gate is shut in each image, none is a silo
-shut_at : (program log : FileState) → ((c : List ℕ) → MayLeave log c → slice_index c 0 ≡ 0) → IsNewAt magic account_text (moment [] (head_disk program log))
+shut_at : (program log : FileState) → ((c : List ℕ) → MayLeave log c → slice_index c 0 ≡ 0) → IsNewAt IsMagic account_text (moment [] (head_disk program log))
 shut_at program log shut image left = new_if program log image left (λ silo. absurd (shut_none (image manager) (shut (image manager) (left manager)) silo))
 
 -- nor while the manager file is too short
-short_at : (program log : FileState) → log.longest < 16 → IsNewAt magic account_text (moment [] (head_disk program log))
+short_at : (program log : FileState) → log.longest < 16 → IsNewAt IsMagic account_text (moment [] (head_disk program log))
 short_at program log short image left = new_if program log image left (λ silo. absurd (omega (arith, silo.long, (left manager).no_longer, short)))
 
 settled_shut : (bytes c : List ℕ) → slice_index bytes 0 ≡ 0 → MayLeave (settled bytes) c → slice_index c 0 ≡ 0
@@ -91,20 +93,20 @@ opening_is c left = ext_get_or 0 c (slice_index c 0 ∷ header_bytes) size byte 
   byte (suc i) low = left.same (suc i) (let high : length c ≤ 16 = left.no_longer in omega (arith, low, high)) (inr (omega arith), tt)
 
 -- an image of the disk while the gate is pending is the new silo, or none
-pub opening_at : IsNewAt magic account_text (moment [] opening_disk)
+pub opening_at : IsNewAt IsMagic account_text (moment [] opening_disk)
 opening_at image left = new_if (settled program_bytes) opening_gate image left (λ silo.
     new_silo image (opening_is (image manager) (left manager) ∙ ap (λ (g : ℕ). g ∷ header_bytes) silo.gate) (settled_only program_bytes (image program_file) (left program_file)))
 
 -- each image of the disk that was made is the new silo
-made_images : (image : Image) → IsImage made_disk image → IsNewSilo magic account_text image
+made_images : (image : Image) → IsImage made_disk image → IsNewSilo account_text image
 made_images image left = new_silo image (settled_only new_manager (image manager) (left manager)) (settled_only program_bytes (image program_file) (left program_file))
 
 -- and its slot is the live one
-made_live : (image : Image) → IsImage made_disk image → IsLive magic 0 image
-made_live image left = only_live 0 image (omega arith) (made_images image left).silo (no_bytes (image (Manager 1)) (settled_only [] (image (Manager 1)) (left (Manager 1))))
+made_live : (image : Image) → IsImage made_disk image → IsLive IsMagic 0 image
+made_live image left = only_live 0 image (omega arith) (silo_of_format Two (image manager) (made_images image left).silo) (no_bytes (image (Manager 1)) (settled_only [] (image (Manager 1)) (left (Manager 1))))
 
 -- slot 1 has no manager file, and that of slot 0 reads as long as a header and a gate, or no image is longer than it reads
-shows_long : (program log : FileState) → 16 ≤ length log.seen → ShowsSilos magic (head_disk program log)
+shows_long : (program log : FileState) → 16 ≤ length log.seen → ShowsSilos IsMagic (head_disk program log)
 shows_long program log long image left zero low short silo = absurd (omega (arith, long, short))
 shows_long program log long image left (suc zero) low short silo = no_bytes (image (Manager 1)) (settled_only [] (image (Manager 1)) (left (Manager 1))) silo
 shows_long program log long image left (suc (suc slot)) low short silo = absurd (omega (arith, low))
@@ -144,11 +146,11 @@ beside_empty program log = record {
 
 -- ---- the moments
 
-made_at : IsNewAt magic account_text (moment [] made_disk)
+made_at : IsNewAt IsMagic account_text (moment [] made_disk)
 made_at image left = new_if (settled program_bytes) (settled new_manager) image left (λ silo. made_images image left)
 
 -- those up to that at which the gate is opened
-filled_later : (disk : Disk) → IsNewAt magic account_text (moment [] disk) → AllByRecursion (IsNewAt magic account_text) (filling ++ moment [] disk ∷ [])
+filled_later : (disk : Disk) → IsNewAt IsMagic account_text (moment [] disk) → AllByRecursion (IsNewAt IsMagic account_text) (filling ++ moment [] disk ∷ [])
 filled_later disk last = (
   shut_at (settled []) (settled (0 ∷ [])) (λ c left. settled_shut (0 ∷ []) c refl left),
   (
@@ -167,7 +169,7 @@ filled_later disk last = (
 )
 
 -- and the first, at which the file is too short
-filled_by : (disk : Disk) → IsNewAt magic account_text (moment [] disk) → AllByRecursion (IsNewAt magic account_text) (unsynced ∷ (filling ++ moment [] disk ∷ []))
+filled_by : (disk : Disk) → IsNewAt IsMagic account_text (moment [] disk) → AllByRecursion (IsNewAt IsMagic account_text) (unsynced ∷ (filling ++ moment [] disk ∷ []))
 filled_by disk last = (short_at (settled []) closing_gate (omega arith), filled_later disk last)
 
 -- no file but the two changes
@@ -358,7 +360,7 @@ again_lasts image left (suc (suc slot)) low some = absurd (omega (arith, low))
 
 -- the folder is a silo
 again_silo : WasSilo made_again
-again_silo = (0, only_live 0 (λ file. (made_disk file).seen) (omega arith) (record { long = lit≤ tt; gate = refl; named = refl }) (no_bytes [] refl))
+again_silo = (0, only_live 0 (λ file. (made_disk file).seen) (omega arith) (silo_of_format Two new_manager (record { long = lit≤ tt; gate = refl; named = refl })) (no_bytes [] refl))
 
 pub again_makes : MakesSilo made_again
 again_makes = record {
@@ -455,10 +457,10 @@ gated_left gate (Manager (suc slot)) = settled_stays []
 gated_left gate (Grain slot grain) = settled_stays []
 
 -- so a crash may leave the new silo, and may leave none
-pub halted_open : (image : Image) × IsImage opening_disk image × IsNewSilo magic account_text image
+pub halted_open : (image : Image) × IsImage opening_disk image × IsNewSilo account_text image
 halted_open = (gated 1, gated_left 1, new_silo (gated 1) refl refl)
 
-pub halted_shut : (image : Image) × IsImage opening_disk image × (IsSilo magic (image manager) → ⊥)
+pub halted_shut : (image : Image) × IsImage opening_disk image × (IsSilo IsMagic (image manager) → ⊥)
 halted_shut = (gated 0, gated_left 0, shut_none (0 ∷ header_bytes) refl)
 
 -- ---- words that say nothing
@@ -472,6 +474,7 @@ other_say Audit says = absurd (cc says)
 other_say (Load n seed m) says = let letter : ◌≡◌ {A = ℕ} 105 108 = ap (λ (l : List (List ℕ)). get_or (get_or l 0 []) 0 0) says.words_are in absurd (omega (arith, letter))
 other_say (Check n seed) says = let letter : ◌≡◌ {A = ℕ} 105 99 = ap (λ (l : List (List ℕ)). get_or (get_or l 0 []) 0 0) says.words_are in absurd (omega (arith, letter))
 other_say Compact says = let letter : ◌≡◌ {A = ℕ} 105 99 = ap (λ (l : List (List ℕ)). get_or (get_or l 0 []) 0 0) says in absurd (omega (arith, letter))
+other_say Migrate says = let letter : ◌≡◌ {A = ℕ} 105 109 = ap (λ (l : List (List ℕ)). get_or (get_or l 0 []) 0 0) says in absurd (omega (arith, letter))
 other_say Upgrade says = let letter : ◌≡◌ {A = ℕ} 105 117 = ap (λ (l : List (List ℕ)). get_or (get_or l 0 []) 0 0) says in absurd (omega (arith, letter))
 
 pub serves_none : (words : List (List ℕ)) → ((c : Command) → Say (λ g. true) words c → ⊥) → Serves words (λ c. unused)

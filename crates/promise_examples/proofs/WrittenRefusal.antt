@@ -4,6 +4,7 @@ use Rattle.host_trait.specs.Disk.{settled}
 use Rattle.silo_spec.specs.Silos.{manager}
 use Rattle.silo_spec.specs.Moments.{IsUntouched}
 use Rattle.silo_spec.specs.OpenedDisks.{opening_syncs}
+use Rattle.field_codec.specs.declared.formats.Format.TheVariants.{Two}
 use Rattle.promise_spec.specs.Programs.{Program}
 use Rattle.promise_spec.specs.Openings.{DamagedAt, with_program, opened_as}
 use Rattle.promise_spec.specs.Words.{plain_manner}
@@ -19,7 +20,7 @@ use Rattle.promise_examples.proofs.HostSteps.{synced_log}
 
 -- the folder reads as damaged there
 pub reads : opened_as (seen_at_entry refused) ≡ DamagedAt manager 16
-reads = ap (λ (r : Result Program ℕ). with_program 0 (seen_at_entry refused) r) file_is_read
+reads = ap (λ (r : Result Program ℕ). with_program Two 0 (seen_at_entry refused) r) file_is_read
 
 -- at each moment all is as at entry
 untouched : IsUntouched torn_before torn_after

@@ -5,6 +5,7 @@ use Rattle.host_trait.specs.Disk.{Overwrote, settled}
 use Rattle.host_trait.specs.World.{Moment}
 use Rattle.host_trait.proofs.Crashes.{settled_only}
 use Rattle.silo_spec.specs.Silos.{manager}
+use Rattle.field_codec.specs.declared.formats.Format.TheVariants.{Two}
 use Rattle.promise_spec.specs.Blocks.{Records, body_of}
 use Rattle.promise_spec.specs.Logs.{}
 use Rattle.promise_spec.specs.Programs.{shape_in}
@@ -59,7 +60,7 @@ is_deposit_run = record {
     ),
   );
   logged = sealed_images;
-  behind = λ image left. ends_there (map body_of (Records (first_commit ∷ []) ∷ [])) 88 (image manager) (manager_bytes 1) new_manager (settled_only (manager_bytes 1) (image manager) (left manager)) ends_last refl (omega arith);
+  behind = λ image left. ends_there (map (body_of Two) (Records 1 (first_commit ∷ []) ∷ [])) 96 (image manager) (manager_bytes 1) new_manager (settled_only (manager_bytes 1) (image manager) (left manager)) ends_last refl (omega arith);
   alone = ((at_new written_run refl [] (settled [])).alone, (at_sealed written_run refl reply_text).alone);
   apart = ((at_new written_run refl [] (settled [])).apart, (at_sealed written_run refl reply_text).apart);
   some = λ file. (sealed_disk file).seen;

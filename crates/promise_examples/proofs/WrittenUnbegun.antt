@@ -18,7 +18,8 @@ use Rattle.silo_spec.specs.Silos.{manager, program_file, IsSilo}
 use Rattle.promise_spec.specs.Programs.{shape_in}
 use Rattle.promise_spec.specs.Entries.{Log}
 use Rattle.promise_spec.specs.Records.{AreRecordsOf}
-use Rattle.promise_spec.specs.Logs.{magic, IsLog, StandsUpTo}
+use Rattle.field_codec.specs.declared.formats.Format.TheVariants.{Two}
+use Rattle.promise_spec.specs.Logs.{IsFormat, IsLog, StandsUpTo}
 use Rattle.promise_spec.specs.Outputs.{Grew, reply_lines}
 use Rattle.promise_spec.specs.Causes.{RoseBy, NoneRose, most_syncs_of}
 use Rattle.promise_spec.specs.Endings.{DiskFault}
@@ -103,7 +104,7 @@ alone =
 -- an empty log ends where a batch does
 whole_batches : (image : Image) (log : Log) → HasNone image → IsLog 0 image log → EndsABatch (core_end account_program unbegun_course) (account_log []) log
 whole_batches image log none is =
-    subst (EndsABatch (core_end account_program unbegun_course) (account_log [])) (one_log 0 0 image (account_log []) log none.0 is) (no_batch (core_end account_program unbegun_course) (account_log []))
+    subst (EndsABatch (core_end account_program unbegun_course) (account_log [])) (one_log Two Two 0 0 image (account_log []) log none.0 is) (no_batch (core_end account_program unbegun_course) (account_log []))
 
 -- ---- the journal: both entries, and no record
 
@@ -253,13 +254,13 @@ module _ (image : Image) (left : IsImage staged_disk image) where
   staged_is = settled_only (manager_bytes 0) (image manager) (left manager)
 
   -- the empty log stands up to its gate
-  front : StandsUpTo 0 image (account_log []) [] 15
-  front = account_begins image (subst (IsSilo magic) (sym staged_is) (gate_is_silo block_bytes 0)) (ap (λ (f : List ℕ). slice_index f 13) staged_is) (ap (λ (f : List ℕ). slice_index f 14) staged_is) (has_program image (settled_only program_bytes (image program_file) (left program_file)))
+  front : StandsUpTo Two 0 image (account_log []) [] 15 0
+  front = account_begins image (subst (IsSilo (IsFormat Two)) (sym staged_is) (gate_is_silo block_bytes 0)) (ap (λ (f : List ℕ). slice_index f 13) staged_is) (ap (λ (f : List ℕ). slice_index f 14) staged_is) (has_program image (settled_only program_bytes (image program_file) (left program_file)))
       (subst (λ (f : List ℕ). HasBlocks [] 15 f) (sym staged_is) (record { small = tt; at = refl; within = omega arith; blocks = refl }))
 
   -- it is the batch's
-  block : HasBlock 0 15 (first_commit ∷ []) image
-  block = ap (λ (f : List ℕ). take 73 (drop 16 f)) staged_is
+  block : HasBlock 0 15 1 (first_commit ∷ []) image
+  block = ap (λ (f : List ℕ). take 81 (drop 16 f)) staged_is
 
 -- the images have one manager file
 one_file : (one other : Image) → IsImage staged_disk one → IsImage staged_disk other → DifferAt 15 (one manager) (other manager)
@@ -271,6 +272,9 @@ one_file one other is_one is_other =
 doubtful_block : BlockInDoubt 0 unbegun unbegun_course (core_end account_program unbegun_course)
 doubtful_block = record {
   gate = 15;
+  reached = 0;
+  session = 1;
+  follows = omega arith;
   batch = first_commit ∷ [];
   before = account_log [];
   bodies = [];

@@ -20,11 +20,14 @@ use Rattle.request_wire.specs.Reply.{reply_data, reply_line}
 use Rattle.script_tree.specs.Programs.{ProgramTree}
 use Rattle.silo_spec.specs.Silos.{program_file, IsSilo, HasProgram}
 use Rattle.promise_spec.specs.Programs.{Program, ProgramFault, IsChecked, shape_in, unless_fault, checked_in, program_in}
-use Rattle.promise_spec.specs.Logs.{magic, IsLog}
+use Rattle.field_codec.specs.declared.formats.Format.TheVariants.{One, Two}
+use Rattle.field_codec.specs.declared.formats.Format.{Format}
+use Rattle.silo_spec.proofs.Magics.{silo_format}
+use Rattle.promise_spec.specs.Logs.{IsFormat, IsMagic, IsLog}
 use Rattle.promise_spec.specs.Images.{IsSound}
-use Rattle.promise_spec.specs.Openings.{Reading, NoSilo, DamagedAt, Reads, opened_as}
+use Rattle.promise_spec.specs.Openings.{Reading, NoSilo, OtherFormat, DamagedAt, Reads, program_in_file, sessions_read, reading_in, opened_as}
 use Rattle.promise_spec.specs.Outputs.{reply_lines}
-use Rattle.promise_spec.specs.Words.{Command, Init, Run, Show, History, Audit, Load, Check, Compact, Upgrade, Manner}
+use Rattle.promise_spec.specs.Words.{Command, Init, Run, Show, History, Audit, Load, Check, Compact, Upgrade, Migrate, Manner}
 use Rattle.promise_spec.specs.Endings as ending
 use Rattle.promise_spec.specs.Windows.{first_bad, told_number, before_bad, whole_windows}
 use Rattle.promise_spec.specs.Courses.{Observed, lines, seen_at_entry}
@@ -35,15 +38,16 @@ use Rattle.promise_laws.specs.AnsweredRuns.{HasAnswered, HasOpened}
 use Rattle.promise_laws.proofs.OpenedRuns.{anywhere_opened}
 use Rattle.promise_spec.specs.Commands.{MakesAs, MakesSilo, MayCut, IsReported, Reports, ShowsStates, Audits}
 use Rattle.promise_spec.specs.Compaction.{IsRewritten, Compacts}
+use Rattle.promise_spec.specs.Migration.{Migrates}
 use Rattle.promise_spec.specs.Upgrading.{RefusesInput, UpgradesAs, UpgradesSilo}
-use Rattle.promise_spec.proofs.Slots.{some_live}
+use Rattle.promise_spec.proofs.Slots.{one_slot, some_live}
 use Rattle.promise_spec.specs.Loads.{IsUnmadeBy, Loads}
 use Rattle.promise_spec.specs.Checks.{Checks}
 use Rattle.promise_spec.specs.Calls.{Understands, Obeys, Serves, AnswersAs, MayGoOn}
 use Rattle.promise_spec.proofs.Lists.{some_is, in_append}
 use Rattle.promise_examples.proofs.WholeInputs.{all_lines}
 use Rattle.promise_examples.proofs.BadLines.{one_front}
-use Rattle.promise_spec.proofs.Openings.{log_is_read, no_silo_is_read, sound_is_read, reads_is, reads_is_live}
+use Rattle.promise_spec.proofs.Openings.{log_is_read, no_silo_is_read, other_is_read, sound_is_read, reads_is, reads_is_live}
 use Rattle.silo_spec.specs.Slots.{IsLive}
 
 -- ---- a folder reads in one way
@@ -54,10 +58,27 @@ not_two reading live log f place a b = let e : Reads live log ≡ DamagedAt f pl
 not_none : (reading : Reading) (live : ℕ) (log : Log) → reading ≡ Reads live log → reading ≡ NoSilo → ⊥
 not_none reading live log a b = let e : Reads live log ≡ NoSilo = sym a ∙ b in absurd (cc e)
 
+not_other : (reading : Reading) (live : ℕ) (log : Log) → reading ≡ Reads live log → reading ≡ OtherFormat → ⊥
+not_other reading live log a b = let e : Reads live log ≡ OtherFormat = sym a ∙ b in absurd (cc e)
+
+other_place : (reading : Reading) (f : FileId) (place : ℕ) → reading ≡ OtherFormat → reading ≡ DamagedAt f place → ⊥
+other_place reading f place a b = let e : OtherFormat ≡ DamagedAt f place = sym a ∙ b in absurd (cc e)
+
+-- a folder of format 1 is another's
+old_is_other : (live : ℕ) (image : Image) → IsLive IsMagic live image → IsSilo (IsFormat One) (image (file.Manager live)) → opened_as image ≡ OtherFormat
+old_is_other live image is old = (other_is_read Two image).1 (live, is, λ new. (let same : One ≡ Two = silo_format One Two (image (file.Manager live)) old new in absurd (cc same)))
+
+-- a sound folder isn't damaged, whichever format it has
+sound_undamaged : (live : ℕ) (image : Image) (sound : IsSound live image) (format : Format) → sound.format ≡ format → (f : FileId) (place : ℕ) → opened_as image ≡ DamagedAt f place → ⊥
+sound_undamaged live image sound One named f place damaged =
+    other_place (opened_as image) f place (old_is_other live image sound.is.is_live (subst (λ (g : Format). IsSilo (IsFormat g) (image (file.Manager live))) named sound.is.is.stands.silo)) damaged
+sound_undamaged live image sound Two named f place damaged =
+    not_two (opened_as image) live sound.log f place (subst (λ (g : Format). reading_in g image ≡ Reads live sound.log) named (sound_is_read live image sound)) damaged
+
 -- ---- refusals
 
 pub not_opened : (r : Observed) → IsUnopened r → r.ending ≡ ending.Done → ⊥
-not_opened r unopened is = subst (IsRefusedBy (seen_at_entry r) (opened_as (seen_at_entry r))) is unopened.refused
+not_opened r unopened is = subst (IsRefusedBy Two (seen_at_entry r) (opened_as (seen_at_entry r))) is unopened.refused
 
 pub more_syncs : (r : Observed) → IsUnopened r → r.old.syncs + opening_syncs (seen_at_entry r) < r.new.syncs → ⊥
 more_syncs r unopened more = let most = unopened.syncs in omega (arith, most, more)
@@ -80,11 +101,11 @@ no_head live slot grain (inr same) = absurd (cc same)
 same_file : (live slot : ℕ) (grain other : GrainId) → file.Grain slot grain ≡ file.Grain live other → (live ≡ slot) × (other ≡ grain)
 same_file live slot grain other same = (cc, cc)
 
-named_of_file : (image : Image) (live slot : ℕ) (grain : GrainId) → IsReadFor live image (file.Grain slot grain) → IsNamedIn slot image grain
+named_of_file : (image : Image) (live slot : ℕ) (grain : GrainId) → IsReadFor Two live image (file.Grain slot grain) → IsNamedIn Two slot image grain
 named_of_file image live slot grain (inl head) = absurd (no_head live slot grain head)
 named_of_file image live slot grain (inr named) =
     let same = same_file live slot grain named.0 named.1 in
-    subst (λ (n : ℕ). IsNamedIn n image grain) same.0 (subst (IsNamedIn live image) same.1 named.2)
+    subst (λ (n : ℕ). IsNamedIn Two n image grain) same.0 (subst (IsNamedIn Two live image) same.1 named.2)
 
 -- the line of an entry is no empty text
 said_some : (shape : Shape) (entries : List Entry) (e : Entry) → Member e entries → [] ≡ reply_lines shape entries ++ [] → ⊥
@@ -107,24 +128,38 @@ answered m r keeps = elim keeps.answers [ inl unopened ↦ inl unopened | inr ke
 module _ (m : Manner) (r : Observed) where
   pub another_place : (f : FileId) (place : ℕ) → Promises m r → r.ending ≡ ending.Damaged f place → opened_as (seen_at_entry r) ≢ DamagedAt f place → ⊥
   another_place f place keeps is other = elim (answered m r keeps) [
-    | inl unopened ↦ other (subst (IsRefusedBy (seen_at_entry r) (opened_as (seen_at_entry r))) is unopened.refused)
+    | inl unopened ↦ other (subst (IsRefusedBy Two (seen_at_entry r) (opened_as (seen_at_entry r))) is unopened.refused)
     | inr opened ↦ subst ending.IsCarried is opened.carried
   ]
 
   pub sound_damaged : (live : ℕ) (f : FileId) (place : ℕ) → Promises m r → IsSound live (seen_at_entry r) → r.ending ≡ ending.Damaged f place → ⊥
-  sound_damaged live f place keeps sound is =
-      another_place f place keeps is (not_two (opened_as (seen_at_entry r)) live sound.log f place (sound_is_read live (seen_at_entry r) sound))
+  sound_damaged live f place keeps sound is = another_place f place keeps is (λ damaged. sound_undamaged live (seen_at_entry r) sound sound.format refl f place damaged)
 
-  pub silo_called_none : (live : ℕ) → Promises m r → IsLive magic live (seen_at_entry r) → r.ending ≡ ending.NotASilo → ⊥
-  silo_called_none live keeps silo is = elim (answered m r keeps) [
-    | inl unopened ↦ (no_silo_is_read (seen_at_entry r)).0 (subst (IsRefusedBy (seen_at_entry r) (opened_as (seen_at_entry r))) is unopened.refused) live silo
+  pub called_old : (live : ℕ) → Promises m r → IsLive IsMagic live (seen_at_entry r) → IsSilo (IsFormat Two) (seen_at_entry r (file.Manager live)) → r.ending ≡ ending.OldFormat → ⊥
+  called_old live keeps is_live new is = elim (answered m r keeps) [
+    | inl unopened ↦
+        let refused : (Two ≡ Two) × (opened_as (seen_at_entry r) ≡ OtherFormat) = subst (IsRefusedBy Two (seen_at_entry r) (opened_as (seen_at_entry r))) is unopened.refused in
+        let other = (other_is_read Two (seen_at_entry r)).0 refused.1 in
+        other.2 (subst (λ (slot : ℕ). IsSilo (IsFormat Two) (seen_at_entry r (file.Manager slot))) (one_slot live other.0 (seen_at_entry r) is_live other.1) new)
     | inr opened ↦ subst ending.IsCarried is opened.carried
   ]
 
-  pub none_opened : Promises m r → ((live : ℕ) → IsLive magic live (seen_at_entry r) → ⊥) → r.ending ≡ ending.Done → ⊥
+  pub opened_old : (live : ℕ) → Promises m r → IsLive IsMagic live (seen_at_entry r) → IsSilo (IsFormat One) (seen_at_entry r (file.Manager live)) → r.ending ≡ ending.Done → ⊥
+  opened_old live keeps is_live old is = elim (answered m r keeps) [
+    | inl unopened ↦ not_opened r unopened is
+    | inr opened ↦ not_other (opened_as (seen_at_entry r)) opened.openable.live opened.openable.log opened.openable.reads (old_is_other live (seen_at_entry r) is_live old)
+  ]
+
+  pub silo_called_none : (live : ℕ) → Promises m r → IsLive IsMagic live (seen_at_entry r) → r.ending ≡ ending.NotASilo → ⊥
+  silo_called_none live keeps silo is = elim (answered m r keeps) [
+    | inl unopened ↦ (no_silo_is_read Two (seen_at_entry r)).0 (subst (IsRefusedBy Two (seen_at_entry r) (opened_as (seen_at_entry r))) is unopened.refused) live silo
+    | inr opened ↦ subst ending.IsCarried is opened.carried
+  ]
+
+  pub none_opened : Promises m r → ((live : ℕ) → IsLive IsMagic live (seen_at_entry r) → ⊥) → r.ending ≡ ending.Done → ⊥
   none_opened keeps none is = elim (answered m r keeps) [
     | inl unopened ↦ not_opened r unopened is
-    | inr opened ↦ not_none (opened_as (seen_at_entry r)) opened.openable.live opened.openable.log opened.openable.reads ((no_silo_is_read (seen_at_entry r)).1 none)
+    | inr opened ↦ not_none (opened_as (seen_at_entry r)) opened.openable.live opened.openable.log opened.openable.reads ((no_silo_is_read Two (seen_at_entry r)).1 none)
   ]
 
   pub damaged_carried : (f : FileId) (place : ℕ) → Promises m r → opened_as (seen_at_entry r) ≡ DamagedAt f place → r.new.input ≢ r.old.input → ⊥
@@ -135,21 +170,22 @@ module _ (m : Manner) (r : Observed) where
 
   pub no_bad_use : Promises m r → r.ending ≡ ending.BadUse → ⊥
   no_bad_use keeps is = elim (answered m r keeps) [
-    | inl unopened ↦ subst (IsRefusedBy (seen_at_entry r) (opened_as (seen_at_entry r))) is unopened.refused
+    | inl unopened ↦ subst (IsRefusedBy Two (seen_at_entry r) (opened_as (seen_at_entry r))) is unopened.refused
     | inr opened ↦ subst ending.IsCarried is opened.carried
   ]
 
-  pub grain_blamed : (slot : ℕ) (grain : GrainId) → Promises m r → ((live : ℕ) → IsLive magic live (seen_at_entry r) → ⊥) → r.ending ≡ ending.DiskFault (file.Grain slot grain) → ⊥
+  pub grain_blamed : (slot : ℕ) (grain : GrainId) → Promises m r → ((live : ℕ) → IsLive IsMagic live (seen_at_entry r) → ⊥) → r.ending ≡ ending.DiskFault (file.Grain slot grain) → ⊥
   grain_blamed slot grain keeps none is = elim (answered m r keeps) [
     | inl unopened ↦
-        let must : MustBeRead (seen_at_entry r) (opened_as (seen_at_entry r)) (file.Grain slot grain) = subst (IsRefusedBy (seen_at_entry r) (opened_as (seen_at_entry r))) is unopened.refused in
-        neither_manager slot grain (subst (λ (reading : Reading). MustBeRead (seen_at_entry r) reading (file.Grain slot grain)) ((no_silo_is_read (seen_at_entry r)).1 none) must)
-    | inr opened ↦ not_none (opened_as (seen_at_entry r)) opened.openable.live opened.openable.log opened.openable.reads ((no_silo_is_read (seen_at_entry r)).1 none)
+        let must : MustBeRead Two (seen_at_entry r) (opened_as (seen_at_entry r)) (file.Grain slot grain) = subst (IsRefusedBy Two (seen_at_entry r) (opened_as (seen_at_entry r))) is unopened.refused in
+        neither_manager slot grain (subst (λ (reading : Reading). MustBeRead Two (seen_at_entry r) reading (file.Grain slot grain)) ((no_silo_is_read Two (seen_at_entry r)).1 none) must)
+    | inr opened ↦ not_none (opened_as (seen_at_entry r)) opened.openable.live opened.openable.log opened.openable.reads ((no_silo_is_read Two (seen_at_entry r)).1 none)
   ]
 
   -- where a grain's file is blamed a record names the grain
-  named_of_reading : (image : Image) (reading : Reading) (slot : ℕ) (grain : GrainId) → MustBeRead image reading (file.Grain slot grain) → IsNamedIn slot image grain
+  named_of_reading : (image : Image) (reading : Reading) (slot : ℕ) (grain : GrainId) → MustBeRead Two image reading (file.Grain slot grain) → IsNamedIn Two slot image grain
   named_of_reading image NoSilo slot grain must = absurd (neither_manager slot grain must)
+  named_of_reading image OtherFormat slot grain must = absurd (neither_manager slot grain must)
   named_of_reading image (DamagedAt (file.Program other) place) slot grain must = absurd (no_head other slot grain must)
   named_of_reading image (DamagedAt (file.Manager other) place) slot grain must = absurd (no_head other slot grain must)
   named_of_reading image (DamagedAt (file.Grain other last) place) slot grain must = elim must [
@@ -158,10 +194,10 @@ module _ (m : Manner) (r : Observed) where
   ]
   named_of_reading image (Reads live log) slot grain must = named_of_file image live slot grain must
 
-  pub unnamed_blamed : (slot : ℕ) (grain : GrainId) → Promises m r → (IsNamedIn slot (seen_at_entry r) grain → ⊥) → r.new.input ≡ r.old.input → r.ending ≡ ending.DiskFault (file.Grain slot grain) → ⊥
+  pub unnamed_blamed : (slot : ℕ) (grain : GrainId) → Promises m r → (IsNamedIn Two slot (seen_at_entry r) grain → ⊥) → r.new.input ≡ r.old.input → r.ending ≡ ending.DiskFault (file.Grain slot grain) → ⊥
   unnamed_blamed slot grain keeps unnamed unread is = elim (answered m r keeps) [
     | inl unopened ↦
-        unnamed (named_of_reading (seen_at_entry r) (opened_as (seen_at_entry r)) slot grain (subst (IsRefusedBy (seen_at_entry r) (opened_as (seen_at_entry r))) is unopened.refused))
+        unnamed (named_of_reading (seen_at_entry r) (opened_as (seen_at_entry r)) slot grain (subst (IsRefusedBy Two (seen_at_entry r) (opened_as (seen_at_entry r))) is unopened.refused))
     | inr opened ↦ elim (opened.file (file.Grain slot grain) is) [
       | inl manager ↦ not_manager opened.openable.live slot grain manager
       | inr named ↦ named.2 unread
@@ -169,7 +205,7 @@ module _ (m : Manner) (r : Observed) where
   ]
 
   -- a grain behind the first damaged one has not to be read
-  not_behind : (last grain : GrainId) (live place slot : ℕ) → is_before last grain ≡ true → MustBeRead (seen_at_entry r) (DamagedAt (file.Grain live last) place) (file.Grain slot grain) → ⊥
+  not_behind : (last grain : GrainId) (live place slot : ℕ) → is_before last grain ≡ true → MustBeRead Two (seen_at_entry r) (DamagedAt (file.Grain live last) place) (file.Grain slot grain) → ⊥
   not_behind last grain live place slot later must = elim must [
     | inl head ↦ no_head live slot grain head
     | inr g ↦
@@ -182,8 +218,8 @@ module _ (m : Manner) (r : Observed) where
   pub blamed_behind : (last grain : GrainId) (live place slot : ℕ) → Promises m r → opened_as (seen_at_entry r) ≡ DamagedAt (file.Grain live last) place → is_before last grain ≡ true → r.ending ≡ ending.DiskFault (file.Grain slot grain) → ⊥
   blamed_behind last grain live place slot keeps damaged later is = elim (answered m r keeps) [
     | inl unopened ↦
-        let must : MustBeRead (seen_at_entry r) (opened_as (seen_at_entry r)) (file.Grain slot grain) = subst (IsRefusedBy (seen_at_entry r) (opened_as (seen_at_entry r))) is unopened.refused in
-        not_behind last grain live place slot later (subst (λ (reading : Reading). MustBeRead (seen_at_entry r) reading (file.Grain slot grain)) damaged must)
+        let must : MustBeRead Two (seen_at_entry r) (opened_as (seen_at_entry r)) (file.Grain slot grain) = subst (IsRefusedBy Two (seen_at_entry r) (opened_as (seen_at_entry r))) is unopened.refused in
+        not_behind last grain live place slot later (subst (λ (reading : Reading). MustBeRead Two (seen_at_entry r) reading (file.Grain slot grain)) damaged must)
     | inr opened ↦ not_two (opened_as (seen_at_entry r)) opened.openable.live opened.openable.log (file.Grain live last) place opened.openable.reads damaged
   ]
 
@@ -230,7 +266,7 @@ module _ (m : Manner) (r : Observed) where
 
   pub fault_forgets : (front : List ℕ) → Promises m r → r.ending ≡ ending.ReadFault → r.old.input ≡ front ++ r.new.input → 1 ≤ whole_windows front → r.new.output ≡ r.old.output → ⊥
   fault_forgets front keeps is split some quiet = elim (answered m r keeps) [
-    | inl unopened ↦ subst (IsRefusedBy (seen_at_entry r) (opened_as (seen_at_entry r))) is unopened.refused
+    | inl unopened ↦ subst (IsRefusedBy Two (seen_at_entry r) (opened_as (seen_at_entry r))) is unopened.refused
     | inr opened ↦
         let a = opened_answered ending.ReadFault opened is tt in
         let so_many : a.allowed ≡ whole_windows front = fault_allows front (standing_of opened.openable.log).program a is split in
@@ -260,7 +296,7 @@ module _ (m : Manner) (r : Observed) where
 
     pub long_forgets : (number : ℕ) → Promises m r → first_bad 0 (lines_of r.old.input) ≡ Some number → 1 ≤ before_bad number → r.new.output ≡ r.old.output → ⊥
     long_forgets number keeps first some quiet = elim (answered m r keeps) [
-      | inl unopened ↦ subst (IsRefusedBy (seen_at_entry r) (opened_as (seen_at_entry r))) is unopened.refused
+      | inl unopened ↦ subst (IsRefusedBy Two (seen_at_entry r) (opened_as (seen_at_entry r))) is unopened.refused
       | inr opened ↦
           let a = opened_answered (ending.InputTooLong told) opened is tt in
           let so_many : a.allowed ≡ before_bad number = (long_allows (standing_of opened.openable.log).program a).before ∙ ap before_bad (long_number number opened first) in
@@ -277,7 +313,7 @@ module _ (m : Manner) (r : Observed) where
 
     pub long_misnumbers : (number : ℕ) → Promises m r → first_bad 0 (lines_of r.old.input) ≡ Some number → told ≢ told_number number → ⊥
     long_misnumbers number keeps first differ = elim (answered m r keeps) [
-      | inl unopened ↦ subst (IsRefusedBy (seen_at_entry r) (opened_as (seen_at_entry r))) is unopened.refused
+      | inl unopened ↦ subst (IsRefusedBy Two (seen_at_entry r) (opened_as (seen_at_entry r))) is unopened.refused
       | inr opened ↦
           let a = opened_answered (ending.InputTooLong told) opened is tt in
           differ ((long_allows (standing_of opened.openable.log).program a).is_told ∙ ap told_number (long_number number opened first))
@@ -285,7 +321,7 @@ module _ (m : Manner) (r : Observed) where
 
     pub long_blames : Promises m r → first_bad 0 (lines_of r.old.input) ≡ None → ⊥
     long_blames keeps none = elim (answered m r keeps) [
-      | inl unopened ↦ subst (IsRefusedBy (seen_at_entry r) (opened_as (seen_at_entry r))) is unopened.refused
+      | inl unopened ↦ subst (IsRefusedBy Two (seen_at_entry r) (opened_as (seen_at_entry r))) is unopened.refused
       | inr opened ↦
           let a = opened_answered (ending.InputTooLong told) opened is tt in
           let l = long_allows (standing_of opened.openable.log).program a in
@@ -322,21 +358,37 @@ module _ (m : Manner) (r : Observed) where
 
 -- ---- reports
 
-pub another_text : (text : Log → List ℕ) (r : Observed) (live : ℕ) (log : Log) → Reports text r → r.ending ≡ ending.Done
+-- what a command promises that reports the log in a text
+abbrev Tells : (Log → List ℕ) → Observed → Type 0
+Tells text r = IsUnopened r ⊎ IsReported text r
+
+pub another_text : (text : Log → List ℕ) (r : Observed) (live : ℕ) (log : Log) → Tells text r → r.ending ≡ ending.Done
     → IsLog live (seen_at_entry r) log → r.new.output ≢ r.old.output ++ text log → ⊥
 another_text text r live log (inl unopened) done is differ = not_opened r unopened done
 another_text text r live log (inr reported) done is differ =
-    let e = reads_is reported.live live reported.log log (sym reported.reads ∙ log_is_read (seen_at_entry r) live log is) in
+    let e = reads_is reported.live live reported.log log (sym reported.reads ∙ log_is_read Two (seen_at_entry r) live log is) in
     differ (reported.prints.output ∙ ap (λ (l : List ℕ). r.old.output ++ l) (reported.prints.whole done ∙ ap text e.1))
 
-pub changed_by_report : (text : Log → List ℕ) (r : Observed) (image : Image) → Reports text r → IsImage r.new.disk image → (IsImage r.old.disk image → ⊥) → ⊥
+pub other_sessions : (r : Observed) (live : ℕ) (log : Log) (p : Program) → Reports r → r.ending ≡ ending.Done → IsLog live (seen_at_entry r) log
+    → program_in_file (seen_at_entry r (file.Program live)) ≡ Ok p
+    → r.new.output ≢ r.old.output ++ history_text (sessions_read Two p (seen_at_entry r (file.Manager live))) log → ⊥
+other_sessions r live log p (inl unopened) done is first differ = not_opened r unopened done
+other_sessions r live log p (inr told) done is first differ =
+    let reported = told.report in
+    let e = reads_is reported.live live reported.log log (sym reported.reads ∙ log_is_read Two (seen_at_entry r) live log is) in
+    let here : program_in_file (seen_at_entry r (file.Program live)) ≡ Ok told.program = ap (λ (slot : ℕ). program_in_file (seen_at_entry r (file.Program slot))) (sym e.0) ∙ told.first in
+    let same : told.program ≡ p = (let both : Ok told.program ≡ Ok p = sym here ∙ first in cc both) in
+    let sessions : told.sessions ≡ sessions_read Two p (seen_at_entry r (file.Manager live)) = told.are ∙ (λ i. sessions_read Two (same i) (seen_at_entry r (file.Manager (e.0 i)))) in
+    differ (reported.prints.output ∙ ap (λ (l : List ℕ). r.old.output ++ l) (reported.prints.whole done ∙ (λ i. history_text (sessions i) (e.1 i))))
+
+pub changed_by_report : (text : Log → List ℕ) (r : Observed) (image : Image) → Tells text r → IsImage r.new.disk image → (IsImage r.old.disk image → ⊥) → ⊥
 changed_by_report text r image (inl unopened) left new = new (unopened.untouched.now.images image left)
 changed_by_report text r image (inr reported) left new = new (reported.now image left).0
 
-pub told_and_taken : (text : Log → List ℕ) (r : Observed) (image : Image) → Reports text r → IsImage r.new.disk image → r.new.output ≢ r.old.output
-    → ((live : ℕ) → IsLive magic live (seen_at_entry r) → image (file.Manager live) ≢ seen_at_entry r (file.Manager live)) → ⊥
+pub told_and_taken : (text : Log → List ℕ) (r : Observed) (image : Image) → Tells text r → IsImage r.new.disk image → r.new.output ≢ r.old.output
+    → ((live : ℕ) → IsLive IsMagic live (seen_at_entry r) → image (file.Manager live) ≢ seen_at_entry r (file.Manager live)) → ⊥
 told_and_taken text r image (inl unopened) left told other = told unopened.untouched.now.quiet
-told_and_taken text r image (inr reported) left told other = other reported.live (reads_is_live (seen_at_entry r) reported.live reported.log reported.reads) ((reported.now image left).1 told)
+told_and_taken text r image (inr reported) left told other = other reported.live (reads_is_live Two (seen_at_entry r) reported.live reported.log reported.reads) ((reported.now image left).1 told)
 
 -- ---- init
 
@@ -359,7 +411,7 @@ module _ (r : Observed) (makes : MakesSilo r) where
   pub no_program : (fault : ProgramFault) → r.ending ≡ ending.Done → program_in r.old.input ≡ Err fault → ⊥
   no_program fault done bad = fault_again r.old.input (ended_as ending.Done done).0.types fault (ended_as ending.Done done).0.reads bad
 
-  pub made_again : (slot : ℕ) → r.ending ≡ ending.Done → slot ≤ 1 → IsSilo magic (seen_at_entry r (file.Manager slot)) → ⊥
+  pub made_again : (slot : ℕ) → r.ending ≡ ending.Done → slot ≤ 1 → IsSilo IsMagic (seen_at_entry r (file.Manager slot)) → ⊥
   made_again slot done low silo = (ended_as ending.Done done).1 (some_live (seen_at_entry r) slot low silo)
 
   pub checked_refused : (p : Program) (fault : ProgramFault) → IsChecked p → r.old.input ≡ p.text → r.ending ≡ ending.BadProgram fault → ⊥
@@ -370,7 +422,7 @@ module _ (r : Observed) (makes : MakesSilo r) where
   pub another_fault : (fault other : ProgramFault) → program_in r.old.input ≡ Err fault → r.ending ≡ ending.BadProgram other → fault ≢ other → ⊥
   another_fault fault other bad is differ = differ (one_fault r.old.input fault other bad (ended_as (ending.BadProgram other) is).0.2)
 
-  pub no_silo_already : r.ending ≡ ending.AlreadyASilo → ((live : ℕ) → IsLive magic live (seen_at_entry r) → ⊥) → ⊥
+  pub no_silo_already : r.ending ≡ ending.AlreadyASilo → ((live : ℕ) → IsLive IsMagic live (seen_at_entry r) → ⊥) → ⊥
   no_silo_already is none = (let silo = (ended_as ending.AlreadyASilo is).1 in none silo.0 silo.1)
 
   pub taken_back : (image : Image) (slot : ℕ) → r.ending ≡ ending.AlreadyASilo → IsImage r.new.disk image → slot ≤ 1 → seen_at_entry r (file.Manager slot) ≢ []
@@ -380,7 +432,7 @@ module _ (r : Observed) (makes : MakesSilo r) where
 -- ---- words
 
 unopened_bad : (r : Observed) → IsUnopened r → r.ending ≡ ending.BadUse → ⊥
-unopened_bad r unopened is = subst (IsRefusedBy (seen_at_entry r) (opened_as (seen_at_entry r))) is unopened.refused
+unopened_bad r unopened is = subst (IsRefusedBy Two (seen_at_entry r) (opened_as (seen_at_entry r))) is unopened.refused
 
 reported_bad : (text : Log → List ℕ) (r : Observed) → IsReported text r → r.ending ≡ ending.BadUse → ⊥
 reported_bad text r reported is = elim reported.ending [
@@ -388,9 +440,9 @@ reported_bad text r reported is = elim reported.ending [
   | inr cut ↦ subst MayCut is cut
 ]
 
-unreported : (text : Log → List ℕ) (r : Observed) → Reports text r → r.ending ≡ ending.BadUse → ⊥
-unreported text r (inl unopened) is = unopened_bad r unopened is
-unreported text r (inr reported) is = reported_bad text r reported is
+unreported : (r : Observed) → Reports r → r.ending ≡ ending.BadUse → ⊥
+unreported r (inl unopened) is = unopened_bad r unopened is
+unreported r (inr told) is = reported_bad _ r told.report is
 
 unshown : (r : Observed) → ShowsStates r → r.ending ≡ ending.BadUse → ⊥
 unshown r (inl unopened) is = unopened_bad r unopened is
@@ -407,10 +459,16 @@ uncompacted r (inl unopened) is = unopened_bad r unopened is
 uncompacted r (inr (inl last)) is = (let e : ending.LastGeneration ≡ ending.BadUse = sym last.ending ∙ is in absurd (cc e))
 uncompacted r (inr (inr compacted)) is = rewritten_bad r.ending compacted.ending is
 
+-- so does a migration
+unmigrated : (r : Observed) → Migrates r → r.ending ≡ ending.BadUse → ⊥
+unmigrated r (inl unopened) is = subst (λ (e : ending.Ending). IsRefusedBy One (seen_at_entry r) (reading_in One (seen_at_entry r)) e) is unopened.refused
+unmigrated r (inr (inl last)) is = (let e : ending.LastGeneration ≡ ending.BadUse = sym last.ending ∙ is in absurd (cc e))
+unmigrated r (inr (inr migrated)) is = rewritten_bad r.ending migrated.ending is
+
 -- an upgrade ends otherwise
 unupgraded : (r : Observed) → UpgradesSilo r → r.ending ≡ ending.BadUse → ⊥
 unupgraded r (inl input) is = subst (λ (e : ending.Ending). RefusesInput e r) is input.refused
-unupgraded r (inr (inl unopened)) is = subst (λ (e : ending.Ending). IsRefusedBy (seen_at_entry r) (opened_as (seen_at_entry r)) e) is unopened.refused
+unupgraded r (inr (inl unopened)) is = subst (λ (e : ending.Ending). IsRefusedBy Two (seen_at_entry r) (opened_as (seen_at_entry r)) e) is unopened.refused
 unupgraded r (inr (inr (inl refused))) is = (let e : ending.UpgradeRefused refused.at ≡ ending.BadUse = sym refused.ending ∙ is in absurd (cc e))
 unupgraded r (inr (inr (inr upgraded))) is = subst (λ (e : ending.Ending). UpgradesAs e upgraded.live r) is upgraded.ends_as
 
@@ -438,12 +496,13 @@ never_bad_use : (c : Command) (r : Observed) → Obeys c r → r.ending ≡ endi
 never_bad_use Init r makes is = subst (λ (e : ending.Ending). MakesAs e r) is makes.ends_as
 never_bad_use (Run m) r keeps is = no_bad_use m r keeps is
 never_bad_use Show r shows is = unshown r shows is
-never_bad_use History r reports is = unreported history_text r reports is
+never_bad_use History r reports is = unreported r reports is
 never_bad_use Audit r audits is = unaudited r audits is
 never_bad_use (Load n seed m) r loads is = unloaded n seed m r loads is
 never_bad_use (Check n seed) r checks is = unchecked n seed r checks is
 never_bad_use Compact r compacts is = uncompacted r compacts is
 never_bad_use Upgrade r upgrades is = unupgraded r upgrades is
+never_bad_use Migrate r migrates is = unmigrated r migrates is
 
 module _ (words : List (List ℕ)) (shown : Command → Observed) (c : Command) (serves : Serves words shown) where
   pub other_answer : ((d : Command) → Understands words d → ⊥) → (shown c).ending ≢ ending.BadUse → (shown c).ending ≢ ending.Memory → ⊥

@@ -51,7 +51,10 @@ use Rattle.promise_spec.specs.Programs.{Program, shape_in}
 use Rattle.promise_spec.specs.Entries.{Log, Standing, standing_of, grown, records_of}
 use Rattle.promise_spec.specs.Records.{Commit, States, after_writes, AreRecordsOf}
 use Rattle.promise_spec.specs.SerialExecution.{IsSerial, played}
-use Rattle.promise_spec.specs.Logs.{magic, IsLog, IsPrefix, StandsUpTo}
+use Rattle.field_codec.specs.declared.formats.Format.TheVariants.{Two}
+use Rattle.commit_log.specs.declared.contents.Body.TheVariants as body
+use Rattle.commit_log.specs.Sessions.{spelling_with_session}
+use Rattle.promise_spec.specs.Logs.{IsMagic, IsLog, IsPrefix, StandsUpTo}
 use Rattle.promise_spec.specs.Moments.{IsImageOf}
 use Rattle.promise_spec.specs.Lines.{ReadsLineAs, IsLineCall}
 use Rattle.promise_spec.specs.Outputs.{reply_lines}
@@ -81,7 +84,7 @@ use Rattle.promise_examples.proofs.WholeBatches.{not_between}
 use Rattle.promise_examples.proofs.EmittedReplies.{emitted_before, nothing_unwritten}
 use Rattle.promise_spec.proofs.OneLog.{one_log}
 use Rattle.silo_spec.specs.Slots.{IsLive}
-use Rattle.promise_spec.specs.Blocks.{body_of, Block, Records, Upgrade, BlockFits, Saved, Checkpoint, spelled_piece, Beginning, Fresh, From, bodies_before}
+use Rattle.promise_spec.specs.Blocks.{body_of, Block, Records, Upgrade, BlockFits, Beginning, Fresh, From, begin_byte, bodies_before}
 
 ok_is : (x y : Result Call BadRequest) (a b : Call) → x ≡ Ok a → y ≡ Ok b → x ≡ y → a ≡ b
 ok_is x y a b is_a is_b same = cc
@@ -122,44 +125,34 @@ length-count n = refl
 count_of : (rs : List CommitRecord) → length rs < 2 ^ 32 → from_le_bytes w32 (take 4 (spelling_of_body rs)) ≡ length rs
 count_of rs small = ap (from_le_bytes w32) (take_at (to_le_bytes w32 (length rs)) (flat_map spelling_of_record rs) 4 (length-count (length rs))) ∙ from_le_bytes-to_le_bytes_4 (length rs) small
 
-many : (blocks : List Block) (records : List CommitRecord) → AllByRecursion BlockFits blocks → length records ≡ 65 → map body_of blocks ≡ spelling_of_body records ∷ [] → ⊥
-many [] records sizes long same = none_is (spelling_of_body records) [] (sym same)
-many (Records batch ∷ blocks) records sizes long same =
-    let body : body_of (Records batch) ≡ spelling_of_body records = head_of (body_of (Records batch)) (spelling_of_body records) (map body_of blocks) [] same in
+many : (blocks : List Block) (session : ℕ) (records : List CommitRecord) → AllByRecursion (BlockFits Two) blocks → length records ≡ 65 → map (body_of Two) blocks ≡ spelling_with_session Two session (body.Records records) ∷ [] → ⊥
+many [] session records sizes long same = none_is (spelling_with_session Two session (body.Records records)) [] (sym same)
+many (Records other_session batch ∷ blocks) session records sizes long same =
+    let whole = head_of (body_of Two (Records other_session batch)) (spelling_with_session Two session (body.Records records)) (map (body_of Two) blocks) [] same in
+    let content : spelling_of_body (map (λ (c : Commit). c.logged) batch) ≡ spelling_of_body records = ap (λ (l : List ℕ). drop 8 l) whole in
     let size : length (map (λ (c : Commit). c.logged) batch) ≡ length batch = length-map batch (λ (c : Commit). c.logged) in
-    let few : length batch ≤ 64 = sizes.0 in
-    let one : from_le_bytes w32 (take 4 (body_of (Records batch))) ≡ length (map (λ (c : Commit). c.logged) batch) = count_of (map (λ (c : Commit). c.logged) batch) (omega (arith, size, few)) in
+    let few : length batch ≤ 64 = sizes.0.0 in
+    let one : from_le_bytes w32 (take 4 (spelling_of_body (map (λ (c : Commit). c.logged) batch))) ≡ length (map (λ (c : Commit). c.logged) batch) = count_of (map (λ (c : Commit). c.logged) batch) (omega (arith, size, few)) in
     let other : from_le_bytes w32 (take 4 (spelling_of_body records)) ≡ length records = count_of records (omega (arith, long)) in
-    let same_count : length (map (λ (c : Commit). c.logged) batch) ≡ length records = sym one ∙ ap (λ (l : List ℕ). from_le_bytes w32 (take 4 l)) body ∙ other in
+    let same_count : length (map (λ (c : Commit). c.logged) batch) ≡ length records = sym one ∙ ap (λ (l : List ℕ). from_le_bytes w32 (take 4 l)) content ∙ other in
     omega (arith, same_count, size, few, long)
-many (Upgrade p ∷ blocks) records sizes long same =
-    let body : body_of (Upgrade p) ≡ spelling_of_body records = head_of (body_of (Upgrade p)) (spelling_of_body records) (map body_of blocks) [] same in
-    let byte : 255 ≡ 65 = ap (λ (l : List ℕ). slice_index l 0) body ∙ ap (λ (n : ℕ). slice_index (to_le_bytes w32 n ++ flat_map spelling_of_record records) 0) long in
+many (Upgrade other_session p ∷ blocks) session records sizes long same =
+    let whole = head_of (body_of Two (Upgrade other_session p)) (spelling_with_session Two session (body.Records records)) (map (body_of Two) blocks) [] same in
+    let byte : 255 ≡ 65 = ap (λ (l : List ℕ). slice_index l 8) whole ∙ ap (λ (n : ℕ). slice_index (to_le_bytes w32 n ++ flat_map spelling_of_record records) 0) long in
     absurd (omega (arith, byte))
 
--- a piece of a checkpoint begins with 0 or 1, and so many records with another byte
-no_piece : (ck : Checkpoint) (front : List (List Saved)) (last : List Saved) (more : List (List ℕ)) (records : List CommitRecord) → length records ≡ 65
-    → (map (spelled_piece ck 1) front ++ spelled_piece ck 0 last ∷ []) ++ more ≡ spelling_of_body records ∷ [] → ⊥
-no_piece ck [] last more records long same =
-    let body : spelled_piece ck 0 last ≡ spelling_of_body records = head_of (spelled_piece ck 0 last) (spelling_of_body records) more [] same in
-    let byte : 0 ≡ 65 = ap (λ (l : List ℕ). slice_index l 0) body ∙ ap (λ (n : ℕ). slice_index (to_le_bytes w32 n ++ flat_map spelling_of_record records) 0) long in
-    absurd (omega (arith, byte))
-no_piece ck (piece ∷ front) last more records long same =
-    let body : spelled_piece ck 1 piece ≡ spelling_of_body records = head_of (spelled_piece ck 1 piece) (spelling_of_body records) ((map (spelled_piece ck 1) front ++ spelled_piece ck 0 last ∷ []) ++ more) [] same in
-    let byte : 1 ≡ 65 = ap (λ (l : List ℕ). slice_index l 0) body ∙ ap (λ (n : ℕ). slice_index (to_le_bytes w32 n ++ flat_map spelling_of_record records) 0) long in
-    absurd (omega (arith, byte))
+-- where the log begins with a new silo
+many_behind : (begins : Beginning) (blocks : List Block) (session : ℕ) (records : List CommitRecord) → begin_byte begins ≡ 0 → AllByRecursion (BlockFits Two) blocks → length records ≡ 65
+    → bodies_before Two begins ++ map (body_of Two) blocks ≡ spelling_with_session Two session (body.Records records) ∷ [] → ⊥
+many_behind Fresh blocks session records kind sizes long same = many blocks session records sizes long same
+many_behind (From ck) blocks session records kind sizes long same = absurd (omega (arith, kind))
 
--- whatever the log begins with
-many_behind : (begins : Beginning) (blocks : List Block) (records : List CommitRecord) → AllByRecursion BlockFits blocks → length records ≡ 65
-    → bodies_before begins ++ map body_of blocks ≡ spelling_of_body records ∷ [] → ⊥
-many_behind Fresh blocks records sizes long same = many blocks records sizes long same
-many_behind (From ck) blocks records sizes long same = no_piece ck ck.front ck.last (map body_of blocks) records long same
-
-pub too_many : (live : ℕ) (image : Image) (records : List CommitRecord) (gate : ℕ) (log : Log) → length records ≡ 65 → LogsUpTo (spelling_of_body records ∷ []) gate (image (file.Manager live)) → IsLog live image log → ⊥
-too_many live image records gate log long blocks_are is =
+pub too_many : (live : ℕ) (image : Image) (session : ℕ) (records : List CommitRecord) (gate : ℕ) (log : Log) → slice_index (image (file.Manager live)) 13 ≡ 0 → length records ≡ 65
+    → LogsUpTo (spelling_with_session Two session (body.Records records) ∷ []) gate (image (file.Manager live)) → IsLog live image log → ⊥
+too_many live image session records gate log fresh long blocks_are is =
     let stands = is.is.stands in
-    many_behind stands.begins stands.blocks records stands.fit long
-    (sym stands.spelled ∙ (blocks.one_log is.is.bodies (spelling_of_body records ∷ []) is.is.gate gate (image (file.Manager live)) (record { blocks = stands.stand; closed = is.is.closed }) blocks_are).0)
+    many_behind stands.begins stands.blocks session records (sym stands.kind ∙ fresh) stands.fit long
+    (sym stands.spelled ∙ (blocks.one_log is.is.bodies (spelling_with_session Two session (body.Records records) ∷ []) is.is.gate gate (image (file.Manager live)) (record { blocks = stands.stand; closed = is.is.closed }) blocks_are).0)
 
 -- without events no record is added
 nothing_added : (types : ProgramTree) (standing : Standing) (added : List Commit) → AreAdded (ends (core_from types standing [])) added → (l : Commit) → Member l added → ⊥
@@ -217,16 +210,16 @@ module _ (p : Program) (r : Observed) (c : Course) where
       (passed (applied_from (begins (core_run p c)) (take at c.events)))
 
   pub read_at_entry : (log : Log) → Keeps p r c → IsLog c.live (seen_at_entry r) log → c.opening ≡ log
-  read_at_entry log keeps is = one_log c.live c.live (seen_at_entry r) c.opening log keeps.headline.ordered.read is
+  read_at_entry log keeps is = one_log Two Two c.live c.live (seen_at_entry r) c.opening log keeps.headline.ordered.read is
 
   pub opening_is : (image : Image) (log : Log) → Keeps p r c → IsImage (last_of (moment_of r.old) c.early).disk image → IsLog c.live image log → c.opening ≡ log
-  opening_is image log keeps left is = one_log c.live c.live image c.opening log (keeps.headline.ordered.opened image left).log is
+  opening_is image log keeps left is = one_log Two Two c.live c.live image c.opening log (keeps.headline.ordered.opened image left).log is
 
   pub shorter : (image : Image) (log : Log) → Keeps p r c → IsImageOf (moments r c) image → IsLog c.live image log → (IsPrefixOf c.opening log → ⊥) → ⊥
   shorter image log keeps left is lost =
       let k = keeps.headline.crashes.keeps image left in
       let longer : IsPrefixOf c.opening (grown c.opening k.more) = subst (λ (l : Log). IsPrefixOf l (grown c.opening k.more)) (grown_none c.opening) (grown_front c.opening [] k.more (k.more, refl)) in
-      lost (subst (λ (l : Log). IsPrefixOf c.opening l) (one_log c.live c.live image (grown c.opening k.more) log k.is is) longer)
+      lost (subst (λ (l : Log). IsPrefixOf c.opening l) (one_log Two Two c.live c.live image (grown c.opening k.more) log k.is is) longer)
 
   pub part_of_batch : (image : Image) (more : List Commit) (n : ℕ) → Keeps p r c → IsImageOf (moments r c) image → IsLog c.live image (grown c.opening more)
       → length (kept_by (core_end p c) n) < length more → length more < length (kept_by (core_end p c) (n + 1)) → ⊥
@@ -248,7 +241,7 @@ module _ (p : Program) (r : Observed) (c : Course) where
   pub other_long_syncs : (line : ℕ) → Keeps p r c → NoneRose r.faults_before r.faults_after → r.ending ≡ ending.InputTooLong line → c.allowed ≡ 0 → r.new.syncs ≢ r.old.syncs + opening_syncs (seen_at_entry r) → ⊥
   other_long_syncs line keeps calm is none differ = differ (unbegun_syncs p r c keeps calm (subst ending.CountsSyncs (sym is) tt) none)
 
-  pub closed : (image : Image) → Keeps p r c → IsImage r.new.disk image → (IsLive magic c.live image → ⊥) → ⊥
+  pub closed : (image : Image) → Keeps p r c → IsImage r.new.disk image → (IsLive IsMagic c.live image → ⊥) → ⊥
   closed image keeps left none = none (keeps.exit.logs image left).is.is_live
 
   pub changed_aside : (m : Moment) (f : FileId) → Keeps p r c → Member m (moments r c) → IsAside c.live f → m.disk f ≢ opened_disk r.old.disk f → ⊥
@@ -265,7 +258,7 @@ module _ (p : Program) (r : Observed) (c : Course) where
       let w = written_some (shape_in p) h.written c.entries h.rest more same h.output.unended feed h.front in
       let b = backed w.0 w.2 in
       let has : Member b.0 (records_of h.log) = h.has w.0 b.0 w.1 b.1 b.2 in
-      b.3 (subst (λ (l : Log). Member b.0 (records_of l)) (one_log c.live c.live image h.log c.opening h.is is) has)
+      b.3 (subst (λ (l : Log). Member b.0 (records_of l)) (one_log Two Two c.live c.live image h.log c.opening h.is is) has)
 
   pub untold : Keeps p r c → length c.entries < (core_end p c).manager.emitted → ⊥
   untold keeps more = let told : (core_end p c).manager.emitted ≤ length c.entries = keeps.settled.told in omega arith
@@ -291,7 +284,7 @@ module _ (p : Program) (r : Observed) (c : Course) where
   in_order : (image : Image) (log : Log) (l : Commit) → Keeps p r c → IsImage r.new.disk image → IsLog c.live image log → Member l (records_of log) → Member l (records_of (order c))
   in_order image log l keeps left is there =
       let k = keeps.exit.logs image left in
-      let here : Member l (records_of k.log) = subst (λ (x : Log). Member l (records_of x)) (one_log c.live c.live image log k.log is k.is) there in
+      let here : Member l (records_of k.log) = subst (λ (x : Log). Member l (records_of x)) (one_log Two Two c.live c.live image log k.log is k.is) there in
       elim k.which [
         | inl same ↦ subst (λ (x : Log). Member l (records_of x)) same here
         | inr lacks ↦ subst (λ (x : List Commit). Member l x) (sym (ap records_of lacks.split ∙ grown_records k.log lacks.last)) (in_append l (records_of k.log) lacks.last (inl here))
@@ -304,10 +297,11 @@ module _ (p : Program) (r : Observed) (c : Course) where
       elim (either_in l (records_of c.opening) c.added (subst (λ (x : List Commit). Member l x) (grown_records c.opening c.added) (in_order image log l keeps left log_is in_log))) [ inl old ↦ not_old old | inr added ↦ none l added same ]
 
   pub another_block : (image : Image) → Keeps p r c → RunHasDoubt (core_run p c) → IsImage r.new.disk image
-      → ((gate : ℕ) (batch : List Commit) (before : Log) (bodies : List (List ℕ)) → AreRecordsOf (chosen (core_end p c)) batch → StandsUpTo c.live image before bodies gate → HasBlock c.live gate batch image → ⊥) → ⊥
+      → ((gate reached session : ℕ) (batch : List Commit) (before : Log) (bodies : List (List ℕ)) → AreRecordsOf (chosen (core_end p c)) batch → StandsUpTo Two c.live image before bodies gate reached
+      → reached ≤ session → HasBlock c.live gate session batch image → ⊥) → ⊥
   another_block image keeps doubt left none =
       let b = keeps.exit.block doubt in
-      none b.gate b.batch b.before b.bodies b.records (b.front image left) (b.block image left)
+      none b.gate b.reached b.session b.batch b.before b.bodies b.records (b.front image left) b.follows (b.block image left)
 
   pub no_such_line : (l : Commit) (n : ℕ) → Keeps p r c → Member l c.added → l.logged.origin ≡ Line n → length (lines r) < n → ⊥
   no_such_line l n keeps added is beyond =

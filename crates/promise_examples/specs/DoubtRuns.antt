@@ -9,6 +9,7 @@ use Rattle.request_wire.specs.Lines.{lines_of}
 use Rattle.silo_spec.specs.OpenedDisks.{opening_syncs}
 use Rattle.promise_spec.specs.Programs.{shape_in}
 use Rattle.promise_spec.specs.Windows.{first_bad}
+use Rattle.field_codec.specs.declared.formats.Format.TheVariants.{Two}
 use Rattle.promise_spec.specs.Logs.{IsLog, StandsUpTo}
 use Rattle.promise_spec.specs.Outputs.{reply_lines}
 use Rattle.promise_spec.specs.Endings.{DiskFault}
@@ -43,8 +44,8 @@ pub record IsDoubtRun (r : Observed) (opened : Moment) (told doubting : List Mom
   pub none : AllByRecursion (IsBetween r (first_told r) HasNone) told
   pub either : AllByRecursion (IsBetween r (first_told r) MayHaveDeposit) doubting
   pub exit : (image : Image) → IsImage r.new.disk image → MayHaveDeposit image
-  pub front : (image : Image) → IsImage r.new.disk image → StandsUpTo 0 image (account_log []) [] 15
-  pub block : (image : Image) → IsImage r.new.disk image → HasBlock 0 15 (first_commit ∷ []) image
+  pub front : (image : Image) → IsImage r.new.disk image → StandsUpTo Two 0 image (account_log []) [] 15 0
+  pub block : (image : Image) → IsImage r.new.disk image → HasBlock 0 15 1 (first_commit ∷ []) image
   pub differ : (one other : Image) → IsImage r.new.disk one → IsImage r.new.disk other →
       DifferAt 15 (one manager) (other manager)
   pub alone : LeavesAlone 0 r opened × LeavesAlone 0 r (moment_of r.new)

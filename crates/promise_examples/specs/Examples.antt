@@ -19,6 +19,8 @@ use Rattle.script_tree.specs.declared.options.TxnOption.TheVariants.{CreateOrJoi
 use Rattle.script_tree.specs.Exprs.{Variable, Joined}
 use Rattle.script_tree.specs.Stmts.{SetField, Give, NoMore, Then}
 use Rattle.script_tree.specs.Programs.{MethodTree, ProgramTree}
+use Rattle.field_codec.specs.declared.formats.Format.TheVariants.{Two}
+use Rattle.field_codec.specs.Formats.{magic_of}
 use Rattle.commit_log.specs.declared.records.CommitRecord.{CommitRecord}
 use Rattle.core_model.specs.declared.effects.Effect.{Effect}
 use Rattle.core_model.specs.declared.events.CoreEvent.{CoreEvent}
@@ -27,7 +29,6 @@ use Rattle.core_model.specs.LegalRuns.{Run}
 use Rattle.promise_spec.specs.Programs.{Program}
 use Rattle.promise_spec.specs.Records.{Commit}
 use Rattle.promise_spec.specs.Entries.{new_silo, Log, new_log, grown, standing_of}
-use Rattle.promise_spec.specs.Logs.{magic}
 use Rattle.promise_spec.specs.Lines.{IsLineCall}
 use Rattle.promise_spec.specs.Cores.{core_from}
 use Rattle.promise_spec.specs.UnitRule.{Basis}
@@ -133,10 +134,10 @@ next_commit n sum = record {
 abbrev pub grain_bytes : List ℕ
 grain_bytes = 1 ∷ 0 ∷ 0 ∷ 0 ∷ 0 ∷ 0 ∷ 0 ∷ 0 ∷ 1 ∷ 0 ∷ 0 ∷ 5 ∷ 0 ∷ 0 ∷ 0 ∷ 0 ∷ 0 ∷ 0 ∷ 0 ∷ []
 
--- the block: the body's length, the body, and the closed gate of the next block
+-- the block: the body's length, the body, which begins with the session, 1, and the closed gate of the next block
 abbrev pub block_bytes : List ℕ
 block_bytes =
-    68 ∷ 0 ∷ 0 ∷ 0 ∷ 1 ∷ 0 ∷ 0 ∷ 0 ∷
+    76 ∷ 0 ∷ 0 ∷ 0 ∷ 1 ∷ 0 ∷ 0 ∷ 0 ∷ 0 ∷ 0 ∷ 0 ∷ 0 ∷ 1 ∷ 0 ∷ 0 ∷ 0 ∷
     1 ∷ 0 ∷ 0 ∷ 0 ∷ 0 ∷ 0 ∷ 0 ∷ 0 ∷ 0 ∷ 1 ∷ 0 ∷ 0 ∷ 0 ∷
     0 ∷ 0 ∷ 1 ∷ 0 ∷ 0 ∷ 0 ∷ 0 ∷ 0 ∷ 1 ∷ 0 ∷
     0 ∷ 5 ∷ 0 ∷ 0 ∷ 0 ∷ 0 ∷ 0 ∷ 0 ∷ 0 ∷
@@ -145,7 +146,7 @@ block_bytes =
 
 -- a manager file whose first block is this, with this byte as its gate
 abbrev pub manager_of : List ℕ → ℕ → List ℕ
-manager_of block gate = 1 ∷ (magic ++ 0 ∷ 0 ∷ 0 ∷ 0 ∷ 0 ∷ 0 ∷ gate ∷ block)
+manager_of block gate = 1 ∷ (magic_of Two ++ 0 ∷ 0 ∷ 0 ∷ 0 ∷ 0 ∷ 0 ∷ gate ∷ block)
 
 -- the manager file, with this byte as the gate of the deposit's block
 abbrev pub manager_bytes : ℕ → List ℕ

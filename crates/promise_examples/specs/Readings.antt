@@ -2,7 +2,8 @@
 use Rattle.std.specs.Prelude.{ℕ, zero, suc, ◌+◌, List, [], ◌∷◌, ◌++◌, length, take, drop, ◌==◌, if◌then◌else◌}
 use Rattle.host_trait.specs.declared.channels.FileId.TheVariants.{Manager, Program as ProgramFile, Grain}
 use Rattle.host_trait.specs.World.{Image}
-use Rattle.promise_spec.specs.Logs.{magic}
+use Rattle.field_codec.specs.declared.formats.Format.TheVariants.{One, Two}
+use Rattle.field_codec.specs.Formats.{magic_of}
 use Rattle.promise_examples.specs.Examples.{program_bytes, grain_bytes, manager_bytes}
 
 -- the bytes, with this one at this place
@@ -39,15 +40,20 @@ program_with text = length text ∷ 0 ∷ 0 ∷ 0 ∷ text
 -- the manager file, where the record has a second write, on the same grain
 abbrev pub two_writes : List ℕ
 two_writes =
-    changed 16 86 (changed 68 2 (take 88 (manager_bytes 1)))
+    changed 16 94 (changed 76 2 (take 96 (manager_bytes 1)))
     ++ (0 ∷ 0 ∷ 1 ∷ 0 ∷ 0 ∷ 0 ∷ 19 ∷ 0 ∷ 0 ∷ 0 ∷ 0 ∷ 0 ∷ 0 ∷ 0 ∷ 19 ∷ 0 ∷ 0 ∷ 0 ∷ 0 ∷ [])
+
+-- the manager file of the first deposit in format 1, whose body names no session
+abbrev pub old_manager_bytes : List ℕ
+old_manager_bytes =
+    1 ∷ (magic_of One ++ 0 ∷ 0 ∷ 0 ∷ 0 ∷ 0 ∷ 0 ∷ 1 ∷ 68 ∷ 0 ∷ 0 ∷ 0 ∷ drop 28 (manager_bytes 1))
 
 -- ---- logs of two records
 
--- an open gate, and a block of one record: unit u deposits 5 in `account/k` as line u, and its version stands at `from`
+-- an open gate, and a block of one record, in session 1: unit u deposits 5 in `account/k` as line u, and its version stands at `from`
 abbrev pub block_on : ℕ → ℕ → ℕ → List ℕ
 block_on k u from =
-    1 ∷ 68 ∷ 0 ∷ 0 ∷ 0 ∷ 1 ∷ 0 ∷ 0 ∷ 0 ∷
+    1 ∷ 76 ∷ 0 ∷ 0 ∷ 0 ∷ 1 ∷ 0 ∷ 0 ∷ 0 ∷ 0 ∷ 0 ∷ 0 ∷ 0 ∷ 1 ∷ 0 ∷ 0 ∷ 0 ∷
     u ∷ 0 ∷ 0 ∷ 0 ∷ 0 ∷ 0 ∷ 0 ∷ 0 ∷ 0 ∷ u ∷ 0 ∷ 0 ∷ 0 ∷
     0 ∷ 0 ∷ k ∷ 0 ∷ 0 ∷ 0 ∷ 0 ∷ 0 ∷ 1 ∷ 0 ∷
     0 ∷ 5 ∷ 0 ∷ 0 ∷ 0 ∷ 0 ∷ 0 ∷ 0 ∷ 0 ∷
@@ -56,7 +62,7 @@ block_on k u from =
 
 -- a manager file of two blocks, which ends with a closed gate
 abbrev pub two_blocks : List ℕ → List ℕ → List ℕ
-two_blocks first second = 1 ∷ (magic ++ (0 ∷ 0 ∷ 0 ∷ 0 ∷ 0 ∷ 0 ∷ (first ++ (second ++ 0 ∷ []))))
+two_blocks first second = 1 ∷ (magic_of Two ++ (0 ∷ 0 ∷ 0 ∷ 0 ∷ 0 ∷ 0 ∷ (first ++ (second ++ 0 ∷ []))))
 
 -- two deposits in one account, the second one's version behind the first one's
 abbrev pub same_account : List ℕ

@@ -3,13 +3,14 @@ use Rattle.std.specs.Prelude.{ℕ, zero, suc, ◌==◌, if◌then◌else◌, Lis
 use Rattle.base_types.specs.declared.calls.Origin.TheVariants.{Line}
 use Rattle.base_types.specs.declared.calls.Outcome.TheVariants as outcome
 use Rattle.base_types.specs.declared.stores.Version.{Version}
+use Rattle.field_codec.specs.declared.formats.Format.TheVariants.{Two}
+use Rattle.field_codec.specs.Formats.{magic_of}
 use Rattle.commit_log.specs.declared.records.CommitRecord.{CommitRecord}
 use Rattle.host_trait.specs.declared.channels.FileId.TheVariants.{Manager, Program as ProgramFile, Grain}
 use Rattle.host_trait.specs.World.{Image}
 use Rattle.script_meaning.specs.WorkedExamples.{bank, at, int, call}
 use Rattle.promise_spec.specs.Programs.{Program}
 use Rattle.promise_spec.specs.Records.{Commit}
-use Rattle.promise_spec.specs.Logs.{magic}
 use Rattle.promise_spec.specs.Entries.{Log, new_log, grown}
 
 -- the bank's program: no text is needed, as only its types are looked at
@@ -67,20 +68,20 @@ version_of_source = 2 ∷ 0 ∷ 0 ∷ 0 ∷ 0 ∷ 0 ∷ 0 ∷ 0 ∷ 1 ∷ 0 ∷ 
 abbrev pub version_of_target : List ℕ
 version_of_target = 2 ∷ 0 ∷ 0 ∷ 0 ∷ 0 ∷ 0 ∷ 0 ∷ 0 ∷ 1 ∷ 0 ∷ 0 ∷ 30 ∷ 0 ∷ 0 ∷ 0 ∷ 0 ∷ 0 ∷ 0 ∷ 0 ∷ []
 
--- the deposit's body, of 68 bytes: one record, its unit, line, call, no answers, its result and its write
+-- the deposit's body, of 76 bytes: session 1, one record, its unit, line, call, no answers, its result and its write
 abbrev pub deposit_body : List ℕ
 deposit_body =
-    1 ∷ 0 ∷ 0 ∷ 0 ∷
+    1 ∷ 0 ∷ 0 ∷ 0 ∷ 0 ∷ 0 ∷ 0 ∷ 0 ∷ 1 ∷ 0 ∷ 0 ∷ 0 ∷
     1 ∷ 0 ∷ 0 ∷ 0 ∷ 0 ∷ 0 ∷ 0 ∷ 0 ∷ 0 ∷ 1 ∷ 0 ∷ 0 ∷ 0 ∷
     0 ∷ 0 ∷ 1 ∷ 0 ∷ 0 ∷ 0 ∷ 0 ∷ 0 ∷ 1 ∷ 0 ∷
     0 ∷ 100 ∷ 0 ∷ 0 ∷ 0 ∷ 0 ∷ 0 ∷ 0 ∷ 0 ∷
     0 ∷ 0 ∷ 1 ∷ 0 ∷ 100 ∷ 0 ∷ 0 ∷ 0 ∷ 0 ∷ 0 ∷ 0 ∷ 0 ∷
     1 ∷ 0 ∷ 0 ∷ 0 ∷ 1 ∷ 0 ∷ 0 ∷ 0 ∷ 0 ∷ 0 ∷ 0 ∷ 0 ∷ 0 ∷ 0 ∷ 0 ∷ 0 ∷ 19 ∷ 0 ∷ 0 ∷ 0 ∷ []
 
--- the transfer's body, of 104 bytes: the same, with three arguments and two writes
+-- the transfer's body, of 112 bytes: the same, with three arguments and two writes
 abbrev pub transfer_body : List ℕ
 transfer_body =
-    1 ∷ 0 ∷ 0 ∷ 0 ∷
+    1 ∷ 0 ∷ 0 ∷ 0 ∷ 0 ∷ 0 ∷ 0 ∷ 0 ∷ 1 ∷ 0 ∷ 0 ∷ 0 ∷
     2 ∷ 0 ∷ 0 ∷ 0 ∷ 0 ∷ 0 ∷ 0 ∷ 0 ∷ 0 ∷ 2 ∷ 0 ∷ 0 ∷ 0 ∷
     1 ∷ 0 ∷ 0 ∷ 0 ∷ 0 ∷ 0 ∷ 0 ∷ 0 ∷ 3 ∷ 0 ∷
     0 ∷ 1 ∷ 0 ∷ 0 ∷ 0 ∷ 0 ∷ 0 ∷ 0 ∷ 0 ∷
@@ -94,7 +95,7 @@ transfer_body =
 -- the manager file: its header, an open block of each body, and a closed gate
 abbrev pub bank_manager : List ℕ
 bank_manager =
-    1 ∷ (magic ++ 0 ∷ 0 ∷ 0 ∷ 0 ∷ 0 ∷ 0 ∷ 1 ∷ 68 ∷ 0 ∷ 0 ∷ 0 ∷ (deposit_body ++ 1 ∷ 104 ∷ 0 ∷ 0 ∷ 0 ∷ (transfer_body ++ 0 ∷ [])))
+    1 ∷ (magic_of Two ++ 0 ∷ 0 ∷ 0 ∷ 0 ∷ 0 ∷ 0 ∷ 1 ∷ 76 ∷ 0 ∷ 0 ∷ 0 ∷ (deposit_body ++ 1 ∷ 112 ∷ 0 ∷ 0 ∷ 0 ∷ (transfer_body ++ 0 ∷ [])))
 
 -- the folder
 abbrev pub bank_folder : Image

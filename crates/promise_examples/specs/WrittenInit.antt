@@ -5,9 +5,10 @@ use Rattle.host_trait.specs.declared.channels.FileId.TheVariants.{Manager, Progr
 use Rattle.host_trait.specs.Disk.{FileState, settled}
 use Rattle.host_trait.specs.World.{World, Moment, Disk}
 use Rattle.script_lexer.specs.declared.faults.ParseFault.TheVariants.{Unexpected}
+use Rattle.field_codec.specs.declared.formats.Format.TheVariants.{Two}
+use Rattle.field_codec.specs.Formats.{magic_of}
 use Rattle.silo_spec.specs.Silos.{manager, program_file}
 use Rattle.promise_spec.specs.Programs.{ProgramFault, Unparsed}
-use Rattle.promise_spec.specs.Logs.{magic}
 use Rattle.promise_spec.specs.Words.{plain_manner}
 use Rattle.promise_spec.specs.Endings.{Done, BadUse, DiskFault, AlreadyASilo, BadProgram}
 use Rattle.promise_spec.specs.Courses.{Observed}
@@ -32,7 +33,7 @@ head_disk program log (Grain slot grain) = settled []
 
 -- what stands behind the header gate: the magic, the generation 0, two zeros and the closed gate of the first block
 abbrev pub header_bytes : List ℕ
-header_bytes = magic ++ 0 ∷ 0 ∷ 0 ∷ 0 ∷ 0 ∷ 0 ∷ 0 ∷ []
+header_bytes = magic_of Two ++ 0 ∷ 0 ∷ 0 ∷ 0 ∷ 0 ∷ 0 ∷ 0 ∷ []
 
 -- the program file's length field
 abbrev pub length_field : List ℕ

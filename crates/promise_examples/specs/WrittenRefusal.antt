@@ -10,7 +10,7 @@ use Rattle.promise_examples.specs.Examples.{grain_bytes, manager_bytes}
 use Rattle.promise_examples.specs.HostCalls.{HostStep, Sync}
 use Rattle.promise_examples.specs.WrittenRun.{disk_of, request_line, moment}
 
--- the disk: the gate is open, and the last nine of the manager file's 89 bytes aren't there
+-- the disk: the gate is open, and the last seventeen of the manager file's 97 bytes aren't there
 abbrev pub torn_disk : Disk
 torn_disk = disk_of (settled (take 80 (manager_bytes 1))) (settled grain_bytes)
 

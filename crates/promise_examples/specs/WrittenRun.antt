@@ -5,7 +5,6 @@ use Rattle.host_trait.specs.Disk.{FileState, settled}
 use Rattle.host_trait.specs.World.{World, Moment, Disk}
 use Rattle.cell_model.specs.Units.{same_grain}
 use Rattle.silo_spec.specs.Silos.{manager, new_header}
-use Rattle.promise_spec.specs.Logs.{magic}
 use Rattle.promise_spec.specs.Words.{plain_manner}
 use Rattle.promise_spec.specs.Endings.{Done}
 use Rattle.promise_spec.specs.Courses.{Observed}
@@ -14,7 +13,7 @@ use Rattle.promise_examples.specs.HostCalls.{HostState, HostStep, Pull, Emit, Wr
 
 -- the manager file of a new silo: its 16 bytes
 abbrev pub new_manager : List ℕ
-new_manager = new_header magic
+new_manager = new_header
 
 -- A disk of the accounts' silo, with this manager file and this file of `account/1`. The program file is settled; all
 -- other files are settled and empty.
@@ -44,7 +43,7 @@ abbrev pub pending_gate : List ℕ → FileState
 pending_gate block =
     record { base = manager_of block 0; seen = manager_of block 1; ranges = (15, 1) ∷ []; longest = length (manager_of block 0) }
 
--- the same of the deposit's block, of 73 bytes
+-- the same of the deposit's block, of 81 bytes
 abbrev pub block_pending : FileState
 block_pending = pending_block block_bytes
 

@@ -8,11 +8,12 @@ ghost use Rattle.request_wire.specs.Reply.{reply_line};
 ghost use Rattle.promise_spec.specs.Programs.{Program, IsChecked, shape_in, program_in};
 ghost use Rattle.promise_spec.specs.SerialExecution.{IsSerial};
 ghost use Rattle.promise_spec.specs.Blocks.{Records, body_of, AreKept};
-ghost use Rattle.promise_spec.specs.Logs.{magic, IsLog};
+ghost use Rattle.field_codec.specs.declared.formats.Format.TheVariants.{One, Two};
+ghost use Rattle.promise_spec.specs.Logs.{IsMagic, IsLog};
 ghost use Rattle.promise_spec.specs.Courses.{Observed, lines, moments, seen_at_entry, core_run, core_end};
 ghost use Rattle.promise_spec.specs.Promise.{Keeps, IsSoundFolder, Promises};
 ghost use Rattle.promise_laws.specs.Obligations.{Shows};
-ghost use Rattle.promise_spec.specs.Openings.{NoSilo, DamagedAt, Reads, opened_as};
+ghost use Rattle.promise_spec.specs.Openings.{NoSilo, OtherFormat, DamagedAt, Reads, reading_in, opened_as};
 ghost use Rattle.promise_spec.specs.Words.{plain_manner, Command, Say};
 ghost use Rattle.promise_examples.specs.HostCalls.{IsHosted};
 ghost use Rattle.promise_examples.specs.WrittenRun.{opened, sealing, written_run, written_steps};
@@ -50,7 +51,8 @@ ghost use Rattle.log_reading.specs.Blocks.{header_damage};
 ghost use Rattle.silo_spec.specs.Creation.{IsNewIfSilo};
 ghost use Rattle.silo_spec.specs.Slots.{IsLive};
 ghost use Rattle.silo_spec.specs.Silos.{manager, program_file, IsSilo, IsNewSilo};
-ghost use Rattle.promise_examples.specs.Readings.{changed, folder_of, program_folder, log_folder, log_changed, grain_folder, program_with, two_writes, same_account, version_by, two_folder};
+ghost use Rattle.promise_laws.specs.MigratedFiles.{migrated_file};
+ghost use Rattle.promise_examples.specs.Readings.{changed, folder_of, program_folder, log_folder, log_changed, grain_folder, program_with, two_writes, same_account, version_by, two_folder, old_manager_bytes};
 ghost use Rattle.promise_spec.specs.Reports.{show_text, history_text, audit_text};
 ghost use Rattle.field_codec.specs.Examples.{first_version};
 ghost use Rattle.promise_examples.specs.Examples.{account_log, accounts, account_program, program_bytes, account_1, account_2, bringing, unit_no, deposit_call, first_commit, next_commit, grain_bytes, block_bytes, manager_bytes, folder, torn_folder, deposit, first_entry, deposit_events, conflict_events, conflict_entries, account_run, account_basis, AskDeposits, vote_events, vote_entries, AskBoth};
@@ -66,12 +68,12 @@ ghost use Rattle.promise_spec.specs.TurnRule.{KeepsTurnRule};
 ghost use Rattle.promise_spec.specs.Entries.{new_silo, Log, standing_of};
 ghost use Rattle.promise_spec.specs.Versions.{IsKept};
 
-/// The first deposit in its bytes: 19 of the version and 89 of the manager file spell its record. The folder's log is
+/// The first deposit in its bytes: 19 of the version and 97 of the manager file spell its record, in session 1. The folder's log is
 /// that record, which stands for 5 in `account/1`; with the block's gate closed the log is empty. The reply is a line.
 pub fn first_deposit_reads()
     ensures version { spelling_of_version first_version ≡ grain_bytes }
-    ensures block { block_of (body_of (Records (first_commit ∷ []))) ≡ block_bytes }
-    ensures size { length (manager_bytes 1) ≡ 89 }
+    ensures block { block_of (body_of Two (Records 1 (first_commit ∷ []))) ≡ block_bytes }
+    ensures size { length (manager_bytes 1) ≡ 97 }
     ensures log { IsLog 0 (folder 1 grain_bytes) (account_log (first_commit ∷ [])) }
     ensures closed { IsLog 0 (folder 0 grain_bytes) (account_log []) }
     ensures stands { (standing_of (account_log (first_commit ∷ []))).states account_1 ≡ Int (pos 5) ∷ [] }
@@ -82,7 +84,8 @@ pub fn first_deposit_reads()
 pub fn reports_tell_the_first_deposit()
     ensures show { show_text (account_1 ∷ []) (account_log (first_commit ∷ []))
         ≡ codes "{\"fields\":{\"balance\":5},\"grain\":\"account/1\"}\n{\"count\":1}\n" }
-    ensures history { history_text (account_log (first_commit ∷ [])) ≡ codes "{\"args\":[5],\"call\":\"account/1.deposit\",\"n\":1,\"reply\":5,\"unit\":1}\n" }
+    ensures history { history_text (1 ∷ []) (account_log (first_commit ∷ []))
+        ≡ codes "{\"args\":[5],\"call\":\"account/1.deposit\",\"n\":1,\"reply\":5,\"session\":1,\"unit\":1}\n" }
     ensures audit { audit_text (account_log (first_commit ∷ [])) None ≡ codes "{\"count\":1,\"first_bad\":null}\n" }
 {}
 
@@ -90,7 +93,7 @@ pub fn reports_tell_the_first_deposit()
 pub fn torn_folders_have_no_log()
     ensures block { (log : Log) → IsLog 0 (torn_folder 80) log → ⊥ }
     ensures version { (states : List (List Value))
-        → IsKept 0 (shape_in account_program) (folder 1 (take 10 grain_bytes)) (record { logged = deposit; states = states }) → ⊥ }
+        → IsKept Two 0 (shape_in account_program) (folder 1 (take 10 grain_bytes)) (record { logged = deposit; states = states }) → ⊥ }
 {}
 
 /// A deposit of 5 and one of 4 that leaves 9 are serial, and not where the second leaves 4.
@@ -105,11 +108,11 @@ pub fn deposits_are_serial()
 pub fn transfers_read()
     ensures source { spelling_of_version (balance 2 70) ≡ version_of_source }
     ensures target { spelling_of_version (balance 2 30) ≡ version_of_target }
-    ensures body { body_of (Records (moved 70 30 ∷ [])) ≡ transfer_body }
-    ensures live { IsLive magic 0 bank_folder }
+    ensures body { body_of Two (Records 1 (moved 70 30 ∷ [])) ≡ transfer_body }
+    ensures live { IsLive IsMagic 0 bank_folder }
     ensures header { header_damage (bank_folder manager) ≡ None }
-    ensures stand { LogsUpTo (map body_of (Records (paid_in ∷ []) ∷ Records (moved 70 30 ∷ []) ∷ [])) 197 (bank_folder manager) }
-    ensures kept { AreKept 0 bank_folder bank_program (bank_log (paid_in ∷ moved 70 30 ∷ [])).entries }
+    ensures stand { LogsUpTo (map (body_of Two) (Records 1 (paid_in ∷ []) ∷ Records 1 (moved 70 30 ∷ []) ∷ [])) 213 (bank_folder manager) }
+    ensures kept { AreKept Two 0 bank_folder bank_program (bank_log (paid_in ∷ moved 70 30 ∷ [])).entries }
     ensures one { (standing_of (bank_log (paid_in ∷ moved 70 30 ∷ []))).states (at 0 1) ≡ int 70 ∷ [] }
     ensures other { (standing_of (bank_log (paid_in ∷ moved 70 30 ∷ []))).states (at 0 2) ≡ int 30 ∷ [] }
     ensures serial { IsSerial bank (new_silo bank_program).states (paid_in ∷ moved 70 30 ∷ []) }
@@ -227,7 +230,7 @@ pub fn a_vote_is_written_out()
 /// both. A log with the first alone doesn't end where a batch does.
 pub fn a_batch_is_written_out()
     ensures sound { IsSoundFolder batched.old }
-    ensures block { block_of (body_of (Records both_commits)) ≡ both_block }
+    ensures block { block_of (body_of Two (Records 1 both_commits)) ≡ both_block }
     ensures whole { EndsABatch (core_end account_program batch_course) (account_log []) (account_log both_commits) }
     ensures cut { EndsABatch (core_end account_program batch_course) (account_log []) (account_log (first_commit ∷ [])) → ⊥ }
     ensures shown { Shows account_program batched batch_course }
@@ -266,7 +269,7 @@ pub fn folders_read_so()
     // no silo: the manager file is too short, or has another header gate or magic
     ensures short { opened_as (log_folder (take 15 (manager_bytes 1))) ≡ NoSilo }
     ensures header_gate { (byte : ℕ) → byte ≢ 1 → opened_as (log_changed 0 byte) ≡ NoSilo }
-    ensures other_magic { (name : List ℕ) → length name ≡ 8 → name ≢ magic
+    ensures other_magic { (name : List ℕ) → length name ≡ 8 → (IsMagic name → ⊥)
         → opened_as (log_folder (1 ∷ (name ++ drop 9 (manager_bytes 1)))) ≡ NoSilo }
 
     // a header that has another byte than 0 in front of the first gate, or another than 0 and 1 before it, which comes before any block
@@ -278,28 +281,31 @@ pub fn folders_read_so()
     ensures torn { opened_as (torn_folder 80) ≡ DamagedAt manager 16 }
     ensures cut { opened_as (torn_folder 16) ≡ DamagedAt manager 16 }
 
-    // a body: the count of its records; the unit's number, 0 or 2 to the 63; the origin's tag; the call's type, method and count
+    // a body: its session, 2 to the 63; the count of its records; the unit's number, 0 or 2 to the 63; the origin's tag; the call's type, method and count
     // of arguments, another one or one above 8; an argument's tag; the result's tag, and that of its value; a write's type; a
     // second write on the same grain; a body that is a byte too short, or too long
-    ensures count { opened_as (log_changed 20 65) ≡ DamagedAt manager 20 }
-    ensures unit { opened_as (log_changed 24 0) ≡ DamagedAt manager 24 }
-    ensures great_unit { opened_as (log_changed 31 128) ≡ DamagedAt manager 24 }
-    ensures origin { opened_as (log_changed 32 2) ≡ DamagedAt manager 32 }
-    ensures called_type { opened_as (log_changed 37 1) ≡ DamagedAt manager 37 }
-    ensures method { opened_as (log_changed 43 2) ≡ DamagedAt manager 43 }
-    ensures params { opened_as (log_changed 45 2) ≡ DamagedAt manager 45 }
-    ensures arguments { opened_as (log_changed 45 9) ≡ DamagedAt manager 45 }
-    ensures argument { opened_as (log_changed 47 2) ≡ DamagedAt manager 47 }
-    ensures outcome { opened_as (log_changed 58 0) ≡ DamagedAt manager 58 }
-    ensures value { opened_as (log_changed 59 2) ≡ DamagedAt manager 59 }
-    ensures written_type { opened_as (log_changed 70 1) ≡ DamagedAt manager 70 }
-    ensures order { opened_as (log_folder two_writes) ≡ DamagedAt manager 88 }
-    ensures less { opened_as (log_changed 16 67) ≡ DamagedAt manager 84 }
-    ensures trailing { opened_as (log_folder (changed 16 69 (manager_bytes 1) ++ 0 ∷ [])) ≡ DamagedAt manager 88 }
+    ensures great_session { opened_as (log_changed 27 128) ≡ DamagedAt manager 20 }
+    ensures count { opened_as (log_changed 28 65) ≡ DamagedAt manager 28 }
+    ensures unit { opened_as (log_changed 32 0) ≡ DamagedAt manager 32 }
+    ensures great_unit { opened_as (log_changed 39 128) ≡ DamagedAt manager 32 }
+    ensures origin { opened_as (log_changed 40 2) ≡ DamagedAt manager 40 }
+    ensures called_type { opened_as (log_changed 45 1) ≡ DamagedAt manager 45 }
+    ensures method { opened_as (log_changed 51 2) ≡ DamagedAt manager 51 }
+    ensures params { opened_as (log_changed 53 2) ≡ DamagedAt manager 53 }
+    ensures arguments { opened_as (log_changed 53 9) ≡ DamagedAt manager 53 }
+    ensures argument { opened_as (log_changed 55 2) ≡ DamagedAt manager 55 }
+    ensures outcome { opened_as (log_changed 66 0) ≡ DamagedAt manager 66 }
+    ensures value { opened_as (log_changed 67 2) ≡ DamagedAt manager 67 }
+    ensures written_type { opened_as (log_changed 78 1) ≡ DamagedAt manager 78 }
+    ensures order { opened_as (log_folder two_writes) ≡ DamagedAt manager 96 }
+    ensures less { opened_as (log_changed 16 75) ≡ DamagedAt manager 92 }
+    ensures trailing { opened_as (log_folder (changed 16 77 (manager_bytes 1) ++ 0 ∷ [])) ≡ DamagedAt manager 96 }
 
-    // two blocks, of which the second is damaged, or both are
-    ensures second_block { opened_as (log_folder (changed 93 65 same_account)) ≡ DamagedAt manager 93 }
-    ensures first_block { opened_as (log_folder (changed 24 0 (changed 93 65 same_account))) ≡ DamagedAt manager 24 }
+    // two blocks, of which the second is damaged, or both are; or the second's session is lower, which comes before what stands behind it
+    ensures second_block { opened_as (log_folder (changed 109 65 same_account)) ≡ DamagedAt manager 109 }
+    ensures first_block { opened_as (log_folder (changed 32 0 (changed 109 65 same_account))) ≡ DamagedAt manager 32 }
+    ensures lower_session { opened_as (log_folder (changed 101 0 same_account)) ≡ DamagedAt manager 101 }
+    ensures session_first { opened_as (log_folder (changed 101 0 (changed 109 65 same_account))) ≡ DamagedAt manager 101 }
 
     // a version: it's cut, it's another unit's, it has another count of fields, or another tag
     ensures version_cut { opened_as (grain_folder (take 10 grain_bytes)) ≡ DamagedAt (Grain 0 account_1) 0 }
@@ -345,6 +351,15 @@ pub fn folders_read_so()
         ≡ DamagedAt manager 16 }
 {}
 
+/// The first deposit's folder in format 1, whose manager file has 89 bytes: it is one of another format than the commands read, and in its
+/// own it reads as the same log. A folder of format 2 is another's there. Written in format 2 its body says the same, in session 1.
+pub fn formats_are_told_apart()
+    ensures old { opened_as (log_folder old_manager_bytes) ≡ OtherFormat }
+    ensures new { reading_in One (folder 1 grain_bytes) ≡ OtherFormat }
+    ensures read { reading_in One (log_folder old_manager_bytes) ≡ Reads 0 (account_log (first_commit ∷ [])) }
+    ensures migrated { migrated_file 0 old_manager_bytes [] ≡ manager_bytes 1 }
+{}
+
 /// A refusal is written out: the first deposit's block is cut, and the run answers that the manager file is damaged at the
 /// block's length field.
 pub fn a_refusal_is_written_out()
@@ -385,9 +400,9 @@ pub fn a_failed_init_is_written_out()
     ensures hosted { IsHosted halted halted_steps }
     ensures made { MakesSilo halted }
     ensures rose { Rose (halted.faults_before (File manager)) (halted.faults_after (File manager)) }
-    ensures images { (image : Image) → IsImage halted.new.disk image → IsNewIfSilo magic account_program.text image }
-    ensures opened { (image : Image) × IsImage halted.new.disk image × IsNewSilo magic account_program.text image }
-    ensures shut { (image : Image) × IsImage halted.new.disk image × (IsSilo magic (image manager) → ⊥) }
+    ensures images { (image : Image) → IsImage halted.new.disk image → IsNewIfSilo IsMagic account_program.text image }
+    ensures opened { (image : Image) × IsImage halted.new.disk image × IsNewSilo account_program.text image }
+    ensures shut { (image : Image) × IsImage halted.new.disk image × (IsSilo IsMagic (image manager) → ⊥) }
     ensures served { Serves init_words (λ c. halted) }
 {}
 

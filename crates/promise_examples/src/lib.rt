@@ -19,9 +19,10 @@ pub use examples::{
     a_run_is_written_out, a_run_shows_enough, a_second_init_is_written_out, a_vote_is_written_out,
     an_init_is_written_out, an_unbegun_doubt_is_written_out, an_unbrought_grain_is_written_out,
     bad_use_is_written_out, deposit_runs_keep, deposits_are_serial, deposits_keep_the_rules,
-    doubt_runs_keep, empty_runs_keep, first_deposit_reads, folders_read_so, grains_are_brought_so,
-    loads_draw_and_sum, reports_tell_the_first_deposit, the_bank_is_a_program,
-    torn_folders_have_no_log, transfers_read, vote_runs_keep, votes_keep_the_rules,
+    doubt_runs_keep, empty_runs_keep, first_deposit_reads, folders_read_so, formats_are_told_apart,
+    grains_are_brought_so, loads_draw_and_sum, reports_tell_the_first_deposit,
+    the_bank_is_a_program, torn_folders_have_no_log, transfers_read, vote_runs_keep,
+    votes_keep_the_rules,
 };
 pub use windows::windows_are_counted_so;
 pub use wrong_runs::{

@@ -1,4 +1,4 @@
-ghost use Rattle.std.specs.Prelude.{◌≡◌, ◌≢◌, ◌+◌, ◌-◌, ◌%◌, ◌^◌, ◌<◌, ◌≤◌, ◌++◌, ◌∷◌, [], ℕ, Bool, true, false, List, length, Some, None, Err, take};
+ghost use Rattle.std.specs.Prelude.{◌≡◌, ◌≢◌, ◌⊎◌, ◌+◌, ◌-◌, ◌%◌, ◌^◌, ◌<◌, ◌≤◌, ◌++◌, ◌∷◌, [], ℕ, Bool, true, false, List, length, Some, None, Ok, Err, take, slice_index};
 ghost use Rattle.base_types.specs.declared.calls.Call.{Call};
 ghost use Rattle.base_types.specs.declared.calls.GrainId.{GrainId};
 ghost use Rattle.base_types.specs.declared.calls.Origin.TheVariants.{Line, Child};
@@ -7,7 +7,6 @@ ghost use Rattle.base_types.specs.declared.calls.UnitNo.{UnitNo};
 ghost use Rattle.base_types.specs.declared.entries.Entry.{Entry};
 ghost use Rattle.base_types.specs.declared.entries.Settled.TheVariants as settled;
 ghost use Rattle.commit_log.specs.declared.records.CommitRecord.{CommitRecord};
-ghost use Rattle.commit_log.specs.Spelling.{spelling_of_body};
 ghost use Rattle.core_model.specs.declared.effects.Effect.{Effect};
 ghost use Rattle.core_model.specs.declared.events.CoreEvent.{CoreEvent};
 ghost use Rattle.core_model.specs.declared.events.CoreEvent.TheVariants as event;
@@ -33,12 +32,15 @@ ghost use Rattle.silo_spec.specs.OpenedDisks.{opening_syncs, opened_disk};
 ghost use Rattle.promise_spec.specs.Programs.{Program, ProgramFault, IsChecked, shape_in, program_in};
 ghost use Rattle.promise_spec.specs.Entries.{Log, standing_of, grown, records_of};
 ghost use Rattle.promise_spec.specs.Images.{IsSound};
-ghost use Rattle.promise_spec.specs.Openings.{DamagedAt, Reads, opened_as};
+ghost use Rattle.promise_spec.specs.Openings.{DamagedAt, Reads, program_in_file, sessions_read, opened_as};
 ghost use Rattle.promise_spec.specs.Words.{Command, Manner};
 ghost use Rattle.promise_spec.specs.Refusals.{IsUnopened, IsNamedIn};
 ghost use Rattle.promise_spec.specs.Records.{Commit, States, AreRecordsOf};
 ghost use Rattle.promise_spec.specs.SerialExecution.{played};
-ghost use Rattle.promise_spec.specs.Logs.{magic, IsLog, IsPrefix, StandsUpTo};
+ghost use Rattle.field_codec.specs.declared.formats.Format.TheVariants.{One, Two};
+ghost use Rattle.commit_log.specs.declared.contents.Body.TheVariants as body;
+ghost use Rattle.commit_log.specs.Sessions.{spelling_with_session};
+ghost use Rattle.promise_spec.specs.Logs.{IsFormat, IsMagic, IsLog, IsPrefix, StandsUpTo};
 ghost use Rattle.promise_spec.specs.Moments.{IsImageOf};
 ghost use Rattle.promise_spec.specs.Lines.{IsLineCall};
 ghost use Rattle.promise_spec.specs.Windows.{window_lines, first_bad, told_number, before_bad, whole_windows};
@@ -55,7 +57,8 @@ ghost use Rattle.promise_spec.specs.Crashes.{Acknowledges, IsAside};
 ghost use Rattle.promise_spec.specs.Batches.{kept_by};
 ghost use Rattle.promise_spec.specs.Exits.{HasBlock};
 ghost use Rattle.promise_spec.specs.Promise.{Keeps, KeepsAnywhere, Promises};
-ghost use Rattle.promise_spec.specs.Commands.{MakesSilo, Reports};
+ghost use Rattle.promise_spec.specs.Reports.{history_text};
+ghost use Rattle.promise_spec.specs.Commands.{MakesSilo, IsReported, Reports};
 ghost use Rattle.promise_spec.specs.Calls.{Understands, Serves, AnswersAs, MayGoOn};
 ghost use Rattle.promise_spec.specs.Loads.{KeepsLoad, summary_text};
 ghost use Rattle.promise_spec.specs.Checks.{Checks};
@@ -78,7 +81,7 @@ pub fn logs_are_not_lost()
     ensures shorter { (p : Program) (r : Observed) (c : Course) (image : Image) (log : Log) → Keeps p r c
         → IsImageOf (moments r c) image → IsLog c.live image log → (IsPrefixOf c.opening log → ⊥) → ⊥ }
     ensures closed { (p : Program) (r : Observed) (c : Course) (image : Image) → Keeps p r c
-        → IsImage r.new.disk image → (IsLive magic c.live image → ⊥) → ⊥ }
+        → IsImage r.new.disk image → (IsLive IsMagic c.live image → ⊥) → ⊥ }
 {}
 
 /// No run keeps the promise that at some moment may leave a part of a batch: a log with more records behind the opening log than
@@ -190,11 +193,11 @@ pub fn aborted_units_have_no_record()
 {}
 
 /// No run keeps the promise that is left with a batch in doubt, and has no block of the records of its units behind the blocks
-/// of the log, as where other records stand there, or the block stands elsewhere.
+/// of the log, as where other records stand there, the block stands elsewhere, or its session is below one of the log's.
 pub fn the_block_in_doubt_is_the_batchs()
     ensures { (p : Program) (r : Observed) (c : Course) (image : Image) → Keeps p r c → RunHasDoubt (core_run p c) → IsImage r.new.disk image
-        → ((gate : ℕ) (batch : List Commit) (before : Log) (bodies : List (List ℕ)) → AreRecordsOf (chosen (core_end p c)) batch
-        → StandsUpTo c.live image before bodies gate → HasBlock c.live gate batch image → ⊥) → ⊥ }
+        → ((gate reached session : ℕ) (batch : List Commit) (before : Log) (bodies : List (List ℕ)) → AreRecordsOf (chosen (core_end p c)) batch
+        → StandsUpTo Two c.live image before bodies gate reached → reached ≤ session → HasBlock c.live gate session batch image → ⊥) → ⊥ }
 {}
 
 /// No run keeps the promise that adds a record of a line that isn't there, or of a child for which its parent's play doesn't
@@ -256,20 +259,25 @@ pub fn endings_are_true()
 /// one that is done and hasn't read its input to the end, or has told a line nothing; that has opened the folder, as the input shows that
 /// it read, and ends with a grain file's fault of another slot; that writes something and ends as none does that opened its folder;
 /// that ends as reading failed or a line is too long and says nothing of the windows before, or something of that window; that tells
-/// another line's number, or a line where none is too long, or is done where one is.
+/// another line's number, or a line where none is too long, or is done where one is. None calls a silo of format 2 old, or opens one of
+/// format 1.
 pub fn refusals_are_true()
     ensures place { (m : Manner) (r : Observed) (f : FileId) (place : ℕ) → Promises m r → r.ending ≡ ending.Damaged f place
         → opened_as (seen_at_entry r) ≢ DamagedAt f place → ⊥ }
     ensures sound { (m : Manner) (r : Observed) (live : ℕ) (f : FileId) (place : ℕ) → Promises m r → IsSound live (seen_at_entry r)
         → r.ending ≡ ending.Damaged f place → ⊥ }
-    ensures silo { (m : Manner) (r : Observed) (live : ℕ) → Promises m r → IsLive magic live (seen_at_entry r) → r.ending ≡ ending.NotASilo → ⊥ }
-    ensures opened { (m : Manner) (r : Observed) → Promises m r → ((live : ℕ) → IsLive magic live (seen_at_entry r) → ⊥) → r.ending ≡ ending.Done → ⊥ }
+    ensures silo { (m : Manner) (r : Observed) (live : ℕ) → Promises m r → IsLive IsMagic live (seen_at_entry r) → r.ending ≡ ending.NotASilo → ⊥ }
+    ensures opened { (m : Manner) (r : Observed) → Promises m r → ((live : ℕ) → IsLive IsMagic live (seen_at_entry r) → ⊥) → r.ending ≡ ending.Done → ⊥ }
+    ensures called_old { (m : Manner) (r : Observed) (live : ℕ) → Promises m r → IsLive IsMagic live (seen_at_entry r)
+        → IsSilo (IsFormat Two) (seen_at_entry r (file.Manager live)) → r.ending ≡ ending.OldFormat → ⊥ }
+    ensures opened_old { (m : Manner) (r : Observed) (live : ℕ) → Promises m r → IsLive IsMagic live (seen_at_entry r)
+        → IsSilo (IsFormat One) (seen_at_entry r (file.Manager live)) → r.ending ≡ ending.Done → ⊥ }
     ensures carried { (m : Manner) (r : Observed) (f : FileId) (place : ℕ) → Promises m r → opened_as (seen_at_entry r) ≡ DamagedAt f place
         → r.new.input ≢ r.old.input → ⊥ }
     ensures bad_use { (m : Manner) (r : Observed) → Promises m r → r.ending ≡ ending.BadUse → ⊥ }
-    ensures blamed { (m : Manner) (r : Observed) (slot : ℕ) (grain : GrainId) → Promises m r → ((live : ℕ) → IsLive magic live (seen_at_entry r) → ⊥)
+    ensures blamed { (m : Manner) (r : Observed) (slot : ℕ) (grain : GrainId) → Promises m r → ((live : ℕ) → IsLive IsMagic live (seen_at_entry r) → ⊥)
         → r.ending ≡ ending.DiskFault (file.Grain slot grain) → ⊥ }
-    ensures unnamed { (m : Manner) (r : Observed) (slot : ℕ) (grain : GrainId) → Promises m r → (IsNamedIn slot (seen_at_entry r) grain → ⊥)
+    ensures unnamed { (m : Manner) (r : Observed) (slot : ℕ) (grain : GrainId) → Promises m r → (IsNamedIn Two slot (seen_at_entry r) grain → ⊥)
         → r.new.input ≡ r.old.input → r.ending ≡ ending.DiskFault (file.Grain slot grain) → ⊥ }
     ensures behind { (m : Manner) (r : Observed) (last grain : GrainId) (live place slot : ℕ) → Promises m r
         → opened_as (seen_at_entry r) ≡ DamagedAt (file.Grain live last) place → is_before last grain ≡ true
@@ -398,16 +406,19 @@ pub fn grains_are_brought_truly()
         → applies w (event.Load g u state) ≡ false }
 {}
 
-/// No report of a folder prints the text of another log than the one that it reads as, or may leave what couldn't stand there
+/// No report of a folder prints the text of another log than the one that it reads as, or a history with other sessions than its blocks', or may leave what couldn't stand there
 /// before, or prints while a crash may take back what it tells.
 pub fn reports_tell_the_folder()
-    ensures text { (text : Log → List ℕ) (r : Observed) (live : ℕ) (log : Log) → Reports text r → r.ending ≡ ending.Done
+    ensures text { (text : Log → List ℕ) (r : Observed) (live : ℕ) (log : Log) → IsUnopened r ⊎ IsReported text r → r.ending ≡ ending.Done
         → IsLog live (seen_at_entry r) log → r.new.output ≢ r.old.output ++ text log → ⊥ }
-    ensures changed { (text : Log → List ℕ) (r : Observed) (image : Image) → Reports text r
+    ensures sessions { (r : Observed) (live : ℕ) (log : Log) (p : Program) → Reports r → r.ending ≡ ending.Done
+        → IsLog live (seen_at_entry r) log → program_in_file (seen_at_entry r (file.Program live)) ≡ Ok p
+        → r.new.output ≢ r.old.output ++ history_text (sessions_read Two p (seen_at_entry r (file.Manager live))) log → ⊥ }
+    ensures changed { (text : Log → List ℕ) (r : Observed) (image : Image) → IsUnopened r ⊎ IsReported text r
         → IsImage r.new.disk image → (IsImage r.old.disk image → ⊥) → ⊥ }
-    ensures taken { (text : Log → List ℕ) (r : Observed) (image : Image) → Reports text r → IsImage r.new.disk image
+    ensures taken { (text : Log → List ℕ) (r : Observed) (image : Image) → IsUnopened r ⊎ IsReported text r → IsImage r.new.disk image
         → r.new.output ≢ r.old.output
-        → ((live : ℕ) → IsLive magic live (seen_at_entry r) → image (file.Manager live) ≢ seen_at_entry r (file.Manager live)) → ⊥ }
+        → ((live : ℕ) → IsLive IsMagic live (seen_at_entry r) → image (file.Manager live) ≢ seen_at_entry r (file.Manager live)) → ⊥ }
 {}
 
 /// No `init` makes a silo of another program than its input, or of a text that is no program, or in place of a silo; refuses a
@@ -417,12 +428,12 @@ pub fn inits_make_their_input()
     ensures program { (r : Observed) (image : Image) → MakesSilo r → r.ending ≡ ending.Done → IsImage r.new.disk image
         → (HasProgram r.old.input (image program_file) → ⊥) → ⊥ }
     ensures text { (r : Observed) (fault : ProgramFault) → MakesSilo r → r.ending ≡ ending.Done → program_in r.old.input ≡ Err fault → ⊥ }
-    ensures again { (r : Observed) (slot : ℕ) → MakesSilo r → r.ending ≡ ending.Done → slot ≤ 1 → IsSilo magic (seen_at_entry r (file.Manager slot)) → ⊥ }
+    ensures again { (r : Observed) (slot : ℕ) → MakesSilo r → r.ending ≡ ending.Done → slot ≤ 1 → IsSilo IsMagic (seen_at_entry r (file.Manager slot)) → ⊥ }
     ensures refused { (r : Observed) (p : Program) (fault : ProgramFault) → MakesSilo r → IsChecked p → r.old.input ≡ p.text
         → r.ending ≡ ending.BadProgram fault → ⊥ }
     ensures fault { (r : Observed) (fault other : ProgramFault) → MakesSilo r → program_in r.old.input ≡ Err fault
         → r.ending ≡ ending.BadProgram other → fault ≢ other → ⊥ }
-    ensures empty { (r : Observed) → MakesSilo r → r.ending ≡ ending.AlreadyASilo → ((live : ℕ) → IsLive magic live (seen_at_entry r) → ⊥) → ⊥ }
+    ensures empty { (r : Observed) → MakesSilo r → r.ending ≡ ending.AlreadyASilo → ((live : ℕ) → IsLive IsMagic live (seen_at_entry r) → ⊥) → ⊥ }
     ensures taken { (r : Observed) (image : Image) (slot : ℕ) → MakesSilo r → r.ending ≡ ending.AlreadyASilo → IsImage r.new.disk image → slot ≤ 1
         → seen_at_entry r (file.Manager slot) ≢ [] → image (file.Manager slot) ≢ seen_at_entry r (file.Manager slot) → ⊥ }
 {}
@@ -459,8 +470,9 @@ pub fn checks_tell_their_world()
         → r.faults_after Output ≡ r.faults_before Output → ⊥ }
 {}
 
-/// A live manager file with a block of 65 records has no log.
+/// A live manager file with a block of 65 records has no log, where it begins with a new silo.
 pub fn batches_are_small()
-    ensures { (live : ℕ) (image : Image) (records : List CommitRecord) (gate : ℕ) (log : Log) → length records ≡ 65
-        → LogsUpTo (spelling_of_body records ∷ []) gate (image (file.Manager live)) → IsLog live image log → ⊥ }
+    ensures { (live : ℕ) (image : Image) (session : ℕ) (records : List CommitRecord) (gate : ℕ) (log : Log)
+        → slice_index (image (file.Manager live)) 13 ≡ 0 → length records ≡ 65
+        → LogsUpTo (spelling_with_session Two session (body.Records records) ∷ []) gate (image (file.Manager live)) → IsLog live image log → ⊥ }
 {}

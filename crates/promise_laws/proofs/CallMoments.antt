@@ -6,12 +6,11 @@ use Rattle.core_model.specs.CoreState.{Member}
 use Rattle.silo_spec.specs.Moments.{IsAsAtEntry, IsUntouched}
 use Rattle.silo_spec.specs.Creation.{CameThisFar, IsEarly, FromFirstSync, IsNewAt}
 use Rattle.promise_spec.specs.Programs.{Program, IsChecked}
-use Rattle.promise_spec.specs.Entries.{Log}
-use Rattle.promise_spec.specs.Logs.{magic}
+use Rattle.promise_spec.specs.Logs.{IsMagic}
 use Rattle.promise_spec.specs.Moments.{IsImageOf}
 use Rattle.promise_spec.specs.Endings as ending
 use Rattle.promise_spec.specs.Endings.{Ending}
-use Rattle.promise_spec.specs.Words.{Manner, Command, Init, Run, Show, History, Audit, Load, Check, Compact, Upgrade}
+use Rattle.promise_spec.specs.Words.{Manner, Command, Init, Run, Show, History, Audit, Load, Check, Compact, Upgrade, Migrate}
 use Rattle.promise_spec.specs.Courses.{Observed, Course, moments, program_in_force}
 use Rattle.promise_spec.specs.Crashes.{SurvivesCrashes, StaySound}
 use Rattle.promise_spec.specs.Refusals.{IsUnopened}
@@ -25,7 +24,7 @@ use Rattle.promise_laws.specs.Closings.{ReadsMayStay}
 use Rattle.promise_laws.specs.SoundMoments.{IsSoundAt}
 use Rattle.promise_spec.proofs.Lists.{all_of, in_append, either_in}
 use Rattle.promise_spec.proofs.WholeFolders.{whole_folder}
-use Rattle.promise_laws.proofs.RewrittenFolders.{entry_sound, compact_moments}
+use Rattle.promise_laws.proofs.RewrittenFolders.{entry_sound, compact_moments, migrate_moments}
 use Rattle.promise_laws.proofs.SoundUpgrades.{upgrade_moments}
 use Rattle.promise_laws.proofs.SoundFolders.{input_program, new_moment, made_sound}
 
@@ -59,9 +58,9 @@ run_moments m r promises sound = elim (promises.over_whole (whole_folder r.old s
 ]
 
 -- of a report
-report_moments : (text : Log → List ℕ) (r : Observed) → Reports text r → IsSoundFolder r.old → Passes IsSoundAt r.old.past r.new.past
-report_moments text r (inl unopened) sound = untouched_moments r.old r.new unopened.untouched sound
-report_moments text r (inr is) sound = weaker (LeavesAsBefore is.live r.old) IsSoundAt (λ m before. entry_sound r.old m sound (λ image left. (before image left).0)) is.moments
+report_moments : (r : Observed) → Reports r → IsSoundFolder r.old → Passes IsSoundAt r.old.past r.new.past
+report_moments r (inl unopened) sound = untouched_moments r.old r.new unopened.untouched sound
+report_moments r (inr is) sound = weaker (LeavesAsBefore is.report.live r.old) IsSoundAt (λ m before. entry_sound r.old m sound (λ image left. (before image left).0)) is.report.moments
 
 -- of an audit
 audit_moments : (r : Observed) → Audits r → IsSoundFolder r.old → Passes IsSoundAt r.old.past r.new.past
@@ -69,12 +68,12 @@ audit_moments r (inl unopened) sound = untouched_moments r.old r.new unopened.un
 audit_moments r (inr is) sound = weaker (LeavesAsBefore is.report.live r.old) IsSoundAt (λ m before. entry_sound r.old m sound (λ image left. (before image left).0)) is.report.moments
 
 -- the moments of the making of a silo whose first syncs succeeded
-first_moments : (q : Program) (old new : World) → IsChecked q → IsSoundFolder old → FromFirstSync (IsNewAt magic q.text) old new → Passes IsSoundAt old.past new.past
+first_moments : (q : Program) (old new : World) → IsChecked q → IsSoundFolder old → FromFirstSync (IsNewAt IsMagic q.text) old new → Passes IsSoundAt old.past new.past
 first_moments q old new checked sound first =
-    joined IsSoundAt (weaker_twice (IsEarly old) (IsNewAt magic q.text) IsSoundAt IsSoundAt (λ m early. entry_sound old m sound early.unwritten.images) (λ m is. new_moment q checked m is) first.moments)
+    joined IsSoundAt (weaker_twice (IsEarly old) (IsNewAt IsMagic q.text) IsSoundAt IsSoundAt (λ m early. entry_sound old m sound early.unwritten.images) (λ m is. new_moment q checked m is) first.moments)
 
 -- and of one, however far it came
-makes_moments : (q : Program) (old new : World) → IsChecked q → CameThisFar magic q.text old new → IsSoundFolder old → Passes IsSoundAt old.past new.past
+makes_moments : (q : Program) (old new : World) → IsChecked q → CameThisFar IsMagic q.text old new → IsSoundFolder old → Passes IsSoundAt old.past new.past
 makes_moments q old new checked (inl u) sound = untouched_moments old new u sound
 makes_moments q old new checked (inr first) sound = first_moments q old new checked sound first
 
@@ -96,6 +95,8 @@ init_moments r makes sound = by r.ending makes.ends_as
     by ending.WriteFault is = absurd is
     by (ending.DiskFault file) is = of_text is.0
     by ending.NotASilo is = absurd is
+    by ending.OldFormat is = absurd is
+    by ending.NotOld is = absurd is
     by ending.AlreadyASilo is = of_text is.0
     by (ending.Damaged file place) is = absurd is
     by (ending.BadProgram fault) is = stays is.1
@@ -109,9 +110,9 @@ load_moments : (n seed : ℕ) (m : Manner) (bank : Program) (r : Observed) → I
 load_moments n seed m bank r checked text loads sound = by loads.answers
   where
     by : IsUnmade r ⊎ LoadsFrom n seed r → Passes IsSoundAt r.old.past r.new.past
-    by (inl un) = makes_moments bank r.old r.new checked (subst (λ (t : List ℕ). CameThisFar magic t r.old r.new) (sym text) (un.makes sound.shows)) sound
+    by (inl un) = makes_moments bank r.old r.new checked (subst (λ (t : List ℕ). CameThisFar IsMagic t r.old r.new) (sym text) (un.makes sound.shows)) sound
     by (inr from) = both IsSoundAt
-        (first_moments bank r.old from.made checked sound (subst (λ (t : List ℕ). FromFirstSync (IsNewAt magic t) r.old from.made) (sym text) (from.has.makes sound.shows)))
+        (first_moments bank r.old from.made checked sound (subst (λ (t : List ℕ). FromFirstSync (IsNewAt IsMagic t) r.old from.made) (sym text) (from.has.makes sound.shows)))
         (carried (from.carried sound.shows))
       where
         made : IsSoundFolder from.made
@@ -136,9 +137,10 @@ pub obeying_moments : (c : Command) (bank : Program) (r : Observed) → IsChecke
 obeying_moments Init bank r checked text stay obeys sound = init_moments r obeys sound
 obeying_moments (Run m) bank r checked text stay obeys sound = run_moments m r obeys sound
 obeying_moments Show bank r checked text stay obeys sound = show_moments r obeys sound
-obeying_moments History bank r checked text stay obeys sound = report_moments _ r obeys sound
+obeying_moments History bank r checked text stay obeys sound = report_moments r obeys sound
 obeying_moments Audit bank r checked text stay obeys sound = audit_moments r obeys sound
 obeying_moments (Load n seed m) bank r checked text stay obeys sound = load_moments n seed m bank r checked text obeys sound
 obeying_moments (Check n seed) bank r checked text stay obeys sound = check_moments n seed r obeys sound
 obeying_moments Compact bank r checked text stay obeys sound = compact_moments r stay obeys sound
 obeying_moments Upgrade bank r checked text stay obeys sound = upgrade_moments r stay obeys sound
+obeying_moments Migrate bank r checked text stay obeys sound = migrate_moments r stay obeys sound

@@ -20,6 +20,7 @@ use Rattle.core_model.specs.LegalRuns.{Run, begins}
 use Rattle.core_model.specs.Lines.{DifferInLine}
 use Rattle.script_tree.specs.Programs.{ProgramTree}
 use Rattle.script_meaning.proofs.Plays.{plays_are_orderly_lem}
+use Rattle.field_codec.specs.declared.formats.Format.TheVariants.{Two}
 use Rattle.promise_spec.specs.Programs.{Program}
 use Rattle.promise_spec.specs.Records.{Commit, States, after_writes}
 use Rattle.promise_spec.specs.Entries.{Log, new_silo, records_of, standing_of}
@@ -254,7 +255,7 @@ module _ (p : Program) (n seed : ℕ) (r : Observed) (c : Course) (keeps : Keeps
   opening_numbered =
       let longest = keeps.ordered.longest in
       let whole : IsWholeSilo c.live longest.image = keeps.crashes.whole longest.image longest.left c.live longest.log.is_live in
-      let same : whole.log ≡ order c = one_log c.live c.live longest.image whole.log (order c) whole.is longest.log in
+      let same : whole.log ≡ order c = one_log whole.format Two c.live c.live longest.image whole.log (order c) whole.is longest.log in
       let all : AreNumbered c.opening.base.next (records_of (order c)) = subst (λ (l : Log). AreNumbered l.base.next (records_of l)) same whole.numbered in
       numbered_front c.opening.base.next (records_of c.opening) c.added (subst (AreNumbered c.opening.base.next) (grown_records c.opening c.added) all)
 

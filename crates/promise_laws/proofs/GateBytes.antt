@@ -4,9 +4,8 @@ use Rattle.std.specs.Int.{w32, from_le_bytes}
 use Rattle.std.proofs.lemmas.List.{drop-drop}
 use Rattle.host_trait.specs.Disk.{FileState, MayLeave, Tears, settled}
 use Rattle.host_trait.proofs.Crashes.{settled_only}
-use Rattle.silo_spec.specs.Silos.{IsSilo}
+use Rattle.silo_spec.specs.Silos.{IsMagic, IsSilo}
 use Rattle.silo_spec.specs.Slots.{generation}
-use Rattle.promise_spec.specs.Logs.{magic}
 use Rattle.promise_spec.specs.EitherSlot.{StaysBelow}
 
 module _ (before after : List ℕ) (tears : Tears 0 1 before after) where
@@ -17,18 +16,18 @@ module _ (before after : List ℕ) (tears : Tears 0 1 before after) where
       ap (λ (l : List ℕ). from_le_bytes w32 (take 4 l)) nine
 
   -- a silo's file was long before too
-  pub was_long : IsSilo magic after → 16 ≤ length before
+  pub was_long : IsSilo IsMagic after → 16 ≤ length before
   was_long silo = omega (arith, silo.long, tears.no_longer)
 
   -- and was a silo's, where its gate was open
-  pub was_silo : slice_index before 0 ≡ 1 → IsSilo magic after → IsSilo magic before
-  was_silo gate silo = record { long = was_long silo; gate = gate; named = sym (ap (λ (l : List ℕ). take 8 l) tears.after) ∙ silo.named }
+  pub was_silo : slice_index before 0 ≡ 1 → IsSilo IsMagic after → IsSilo IsMagic before
+  was_silo gate silo = record { long = was_long silo; gate = gate; named = subst IsMagic (ap (λ (l : List ℕ). take 8 l) tears.after) silo.named }
 
 -- a file that lasts with an open gate
-pub open_below : (bound : ℕ) (bytes : List ℕ) → slice_index bytes 0 ≡ 1 → (IsSilo magic bytes → generation bytes < bound) → StaysBelow bound (settled bytes)
+pub open_below : (bound : ℕ) (bytes : List ℕ) → slice_index bytes 0 ≡ 1 → (IsSilo IsMagic bytes → generation bytes < bound) → StaysBelow bound (settled bytes)
 open_below bound bytes gate below before after left tears silo =
     let is : before ≡ bytes = settled_only bytes before left in
-    let was : IsSilo magic bytes = subst (IsSilo magic) is (was_silo before after tears (ap (λ (l : List ℕ). slice_index l 0) is ∙ gate) silo) in
+    let was : IsSilo IsMagic bytes = subst (IsSilo IsMagic) is (was_silo before after tears (ap (λ (l : List ℕ). slice_index l 0) is ∙ gate) silo) in
     let same : generation after ≡ generation bytes = generation_stays before after tears ∙ ap generation is in
     omega (arith, same, below was)
 
@@ -38,7 +37,7 @@ short_below bound bytes short before after left tears silo =
     absurd (omega (arith, was_long before after tears silo, short, ap length (settled_only bytes before left)))
 
 -- a file that reads as empty, of which no crash leaves a silo's
-pub empty_below : (bound : ℕ) (file : FileState) → file.seen ≡ [] → MayLeave file file.seen → ((bytes : List ℕ) → MayLeave file bytes → IsSilo magic bytes → ⊥) → StaysBelow bound file
+pub empty_below : (bound : ℕ) (file : FileState) → file.seen ≡ [] → MayLeave file file.seen → ((bytes : List ℕ) → MayLeave file bytes → IsSilo IsMagic bytes → ⊥) → StaysBelow bound file
 empty_below bound file empty here none before after left tears silo =
     let low : length file.base ≡ 0 = omega (arith, here.no_shorter, ap length empty) in
     absurd (none after (record {

@@ -3,6 +3,7 @@ use Rattle.std.proofs.Common.{◌≡◌, ◌⊎◌, inl, inr, ℕ, List, [], ◌
 use Rattle.base_types.specs.declared.entries.Entry.{Entry}
 use Rattle.core_model.specs.CoreState.{Member}
 use Rattle.host_trait.specs.World.{Moment, Image}
+use Rattle.field_codec.specs.declared.formats.Format.TheVariants.{Two}
 use Rattle.promise_spec.specs.Programs.{Program}
 use Rattle.promise_spec.specs.Records.{Commit}
 use Rattle.promise_spec.specs.Entries.{LogEntry, Recorded, Upgraded, Standing, after_entry, Log, records_of, grown}
@@ -33,8 +34,8 @@ module _ (live : ℕ) (p : Program) (opening : Log) (before : List ℕ) (journal
   chained m n a b ka kb one other has_one has_other =
       let first : Log = grown opening (commits_of (ka.said ++ ka.unsaid)) in
       let second : Log = grown opening (commits_of (kb.said ++ kb.unsaid)) in
-      let one_is : one ≡ first = one_log has_one.0 live a one first has_one.1 ka.log in
-      let other_is : other ≡ second = one_log has_other.0 live b other second has_other.1 kb.log in
+      let one_is : one ≡ first = one_log has_one.0 Two has_one.1 live a one first has_one.2 ka.log in
+      let other_is : other ≡ second = one_log has_other.0 Two has_other.1 live b other second has_other.2 kb.log in
       let order : IsPrefixOf first second ⊎ IsPrefixOf second first = elim (fronts (ka.said ++ ka.unsaid) (kb.said ++ kb.unsaid) ka.later kb.later (sym ka.split ∙ kb.split)) [
         | inl q ↦ inl (longer opening (ka.said ++ ka.unsaid) (kb.said ++ kb.unsaid) q)
         | inr q ↦ inr (longer opening (kb.said ++ kb.unsaid) (ka.said ++ ka.unsaid) q)
@@ -51,7 +52,7 @@ module _ (live : ℕ) (p : Program) (opening : Log) (before : List ℕ) (journal
     longest = λ other other_log is has.
         let k = all is.moment is.member other is.left in
         let kept : Log = grown opening (commits_of (k.said ++ k.unsaid)) in
-        let same : other_log ≡ kept = one_log has.0 live other other_log kept has.1 k.log in
+        let same : other_log ≡ kept = one_log has.0 Two has.1 live other other_log kept has.2 k.log in
         subst (λ (l : Log). IsPrefixOf l (grown opening (commits_of journal))) (sym same) (longer opening (k.said ++ k.unsaid) journal (k.later, k.split));
   }
 
@@ -130,10 +131,10 @@ module _ (live : ℕ) (p : Program) (opening : Log) (before : List ℕ) (journal
   pub whole : AreNumbered opening.base.next (records_of (grown opening (commits_of journal))) → IsWholeIfSilo image
   unfolding front
   whole numbered slot is_live =
-      subst (λ (n : ℕ). IsWholeSilo n image) (one_slot live slot image k.log.is_live is_live) (record { log = front; is = k.log; numbered = front_numbered numbered })
+      subst (λ (n : ℕ). IsWholeSilo n image) (one_slot live slot image k.log.is_live is_live) (record { format = Two; log = front; is = k.log; numbered = front_numbered numbered })
 
   -- where the order is serial, each image of each moment is sound
   pub sound : IsSerialFrom opening.base (grown opening (commits_of journal)).entries → AreNumbered opening.base.next (records_of (grown opening (commits_of journal))) → IsSoundIfSilo image
   unfolding front
   sound serial numbered slot is_live =
-      subst (λ (n : ℕ). IsSound n image) (one_slot live slot image k.log.is_live is_live) (record { log = front; is = k.log; serial = front_serial serial; numbered = front_numbered numbered })
+      subst (λ (n : ℕ). IsSound n image) (one_slot live slot image k.log.is_live is_live) (record { format = Two; log = front; is = k.log; serial = front_serial serial; numbered = front_numbered numbered })

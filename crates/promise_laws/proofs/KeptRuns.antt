@@ -14,6 +14,7 @@ use Rattle.core_model.specs.CoreState as core
 use Rattle.core_model.specs.CoreState.{Member}
 use Rattle.silo_spec.specs.Moments.{IsAsAtEntry}
 use Rattle.silo_spec.specs.OpenedDisks.{is_synced}
+use Rattle.field_codec.specs.declared.formats.Format.TheVariants.{Two}
 use Rattle.promise_spec.specs.Programs.{Program, shape_in}
 use Rattle.promise_spec.specs.Records.{Commit}
 use Rattle.promise_spec.specs.Entries.{Log, records_of, grown}
@@ -30,7 +31,7 @@ use Rattle.promise_spec.specs.Replies.{HasNoRecord}
 use Rattle.promise_spec.proofs.Standings.{grown_none, grown_records}
 use Rattle.promise_spec.proofs.Lists.{each_of, in_append, either_in}
 use Rattle.promise_spec.proofs.OneLog.{one_log}
-use Rattle.promise_spec.proofs.Openings.{reads_is_live, log_is_read, reads_is}
+use Rattle.promise_spec.proofs.Openings.{reads_is_live, whole_read}
 use Rattle.promise_laws.proofs.SettledLogs.{settled_logs}
 use Rattle.promise_laws.proofs.JournalSteps.{entries_of-append, joined_logs, begins_at, now_says, keep_more, say_more, cut_says}
 use Rattle.promise_laws.specs.Closings.{ReadsMayStay, IsBehind, AllEnd, Carries}
@@ -44,9 +45,8 @@ module _ (p : Program) (r : Observed) (c : Course) (mid : World) (b : IsBehind r
   -- over a whole folder the files have the log that they read as
   pub read_log : IsWholeFolder r.old → ReadsMayStay r.old → IsLog c.live (seen_at_entry r) c.opening
   read_log whole stay =
-      let s : IsWholeSilo c.live (seen_at_entry r) = whole.whole (seen_at_entry r) stay c.live (reads_is_live (seen_at_entry r) c.live c.opening b.reads) in
-      let both = reads_is c.live c.live s.log c.opening (sym (log_is_read (seen_at_entry r) c.live s.log s.is) ∙ b.reads) in
-      subst (IsLog c.live (seen_at_entry r)) both.1 s.is
+      let s : IsWholeSilo c.live (seen_at_entry r) = whole.whole (seen_at_entry r) stay c.live (reads_is_live Two (seen_at_entry r) c.live c.opening b.reads) in
+      whole_read Two c.live (seen_at_entry r) c.opening s b.reads
 
   -- the early moments are those of the opening
   early_is : b.untouched.moments.more ≡ c.early
@@ -85,7 +85,7 @@ module _ (p : Program) (r : Observed) (c : Course) (mid : World) (b : IsBehind r
   -- over a whole folder whose files have the log
   pub opens : IsWholeFolder r.old → ReadsMayStay r.old → ReadsMayStay mid → IsLog c.live (seen_at_entry r) c.opening → Opens r c
   opens whole stay stay_mid read =
-      let all : AllLog c.live c.opening mid.disk = settled_logs c.live r.old mid.disk c.opening whole stay stays_sound read in
+      let all : AllLog c.live c.opening mid.disk = settled_logs Two c.live r.old mid.disk c.opening whole stay stays_sound read in
       record {
         folder = whole;
         read = read;
@@ -126,7 +126,7 @@ module _ (p : Program) (r : Observed) (c : Course) (mid : World) (b : IsBehind r
   first_ends o image log left is = record {
     batches = 0;
     more = [];
-    split = one_log c.live c.live image log c.opening is (opened_at o image left) ∙ sym (grown_none c.opening);
+    split = one_log Two Two c.live c.live image log c.opening is (opened_at o image left) ∙ sym (grown_none c.opening);
     records = tt;
   }
 
@@ -263,7 +263,7 @@ carried_promised m p r c mid answers is windowed behind stay stay_mid lasts =
 
 -- another log of the image is the same, and ends so too
 same_ends : (live : ℕ) (w : core.CoreState) (opening log other : Log) (image : Image) → EndsABatch w opening log → IsLog live image log → IsLog live image other → EndsABatch w opening other
-same_ends live w opening log other image ends is is_too = subst (EndsABatch w opening) (one_log live live image log other is is_too) ends
+same_ends live w opening log other image ends is is_too = subst (EndsABatch w opening) (one_log Two Two live live image log other is is_too) ends
 
 -- where each image has one log
 pub logged_ends : (live : ℕ) (w : core.CoreState) (opening log : Log) (m : Moment) → AllLog live log m.disk → EndsABatch w opening log → AllEnd live w opening m

@@ -9,6 +9,8 @@ pub mod GateBytes
 pub mod MovedLogs
 pub mod OtherSlots
 pub mod RewrittenFolders
+pub mod MigratedBodies
+pub mod MigratedLogs
 pub mod SoundUpgrades
 pub mod SoundFolders
 pub mod CallMoments

@@ -188,7 +188,7 @@ module _ (p : Program) (r s : Observed) (c : Course) (told : List Moment) (told_
     nowhere = k.nowhere;
     block = λ doubted.
         let o = k.block doubted in
-        record { gate = o.gate; batch = o.batch; before = o.before; bodies = o.bodies; records = o.records; log = o.log; front = o.front; block = o.block; differ = o.differ };
+        record { gate = o.gate; reached = o.reached; session = o.session; follows = o.follows; batch = o.batch; before = o.before; bodies = o.bodies; records = o.records; log = o.log; front = o.front; block = o.block; differ = o.differ };
     behind = k.behind;
   }
 

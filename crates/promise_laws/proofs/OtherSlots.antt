@@ -9,11 +9,13 @@ use Rattle.host_trait.specs.World.{World, Moment, Image, IsImage, with_bytes}
 use Rattle.host_trait.specs.Runs.{ChangesFile}
 use Rattle.host_trait.proofs.Names.{cases_file}
 use Rattle.host_trait.proofs.Runs.{image_from, settled_image, with_bytes-there, with_bytes-other}
-use Rattle.silo_spec.specs.Silos.{IsSilo}
+use Rattle.field_codec.specs.declared.formats.Format.{Format}
+use Rattle.silo_spec.specs.Silos.{IsMagic, IsSilo}
 use Rattle.silo_spec.specs.Slots.{generation}
+use Rattle.silo_spec.proofs.Magics.{silo_of_format}
 use Rattle.promise_spec.specs.Entries.{Log}
-use Rattle.promise_spec.specs.Logs.{magic, IsLogIn, IsLog}
-use Rattle.promise_spec.specs.Journals.{AllLog}
+use Rattle.promise_spec.specs.Logs.{IsLogIn, IsLogOf}
+use Rattle.promise_spec.specs.Journals.{AllLogOf}
 use Rattle.promise_spec.specs.EitherSlot.{HasEither, MayClose, IsFilling, IsCompactable, IsReadyToOpen}
 use Rattle.promise_laws.proofs.MovedLogs.{log_moves}
 use Rattle.promise_laws.proofs.GateBytes.{generation_stays}
@@ -31,24 +33,24 @@ first_byte (y ∷ l) x some is = ap (λ (z : ℕ). z ∷ l) is
 mix : ℕ → Image → Image → Image
 mix live a b file = if slot_of file == live then a file else b file
 
-module _ (live : ℕ) (log : Log) (w : World) (can : IsCompactable live log w) where
+module _ (format : Format) (live : ℕ) (log : Log) (w : World) (can : IsCompactable format live log w) where
   -- An image whose files of the live slot are as they may be left, and whose other manager file is no silo's of as high a
   -- generation, still has the log.
   still : (image : Image) → ((file : FileId) → slot_of file ≡ live → MayLeave (w.disk file) (image file))
-      → (IsSilo magic (image (Manager (1 - live))) → generation (image (Manager (1 - live))) < generation (w.disk (Manager live)).seen + (1 - live)) → IsLog live image log
+      → (IsSilo IsMagic (image (Manager (1 - live))) → generation (image (Manager (1 - live))) < generation (w.disk (Manager live)).seen + (1 - live)) → IsLogOf format live image log
   unfolding mix
   still image left below =
       let from : Image = mix live image (λ file. (w.disk file).seen) in
-      let is : IsLog live from log = can.logged from (λ file. possible file (cases_eq (slot_of file) live)) in
+      let is : IsLogOf format live from log = can.logged from (λ file. possible file (cases_eq (slot_of file) live)) in
       let moved : (file : FileId) → slot_of file ≡ live → image file ≡ from file = λ file here. sym (mixed file here) in
       let seen : image (Manager live) ≡ (w.disk (Manager live)).seen = settled_image w.disk (Manager live) (w.disk (Manager live)).seen (image (Manager live)) can.lasts (left (Manager live) refl) in
       record {
         is_live = record {
           slot = can.slot;
-          silo = subst (IsSilo magic) (sym (moved (Manager live) refl)) is.is_live.silo;
+          silo = subst (IsSilo IsMagic) (sym (moved (Manager live) refl)) is.is_live.silo;
           over = λ silo. subst (λ (l : List ℕ). generation (image (Manager (1 - live))) < generation l + (1 - live)) (sym seen) (below silo);
         };
-        is = log_moves live from image moved log is.is;
+        is = log_moves format live from image moved log is.is;
       }
     where
       mixed : (file : FileId) → slot_of file ≡ live → mix live image (λ file. (w.disk file).seen) file ≡ image file
@@ -60,24 +62,24 @@ module _ (live : ℕ) (log : Log) (w : World) (can : IsCompactable live log w) w
           subst (MayLeave (w.disk file)) (sym (ap (λ (b : Bool). if b then image file else (w.disk file).seen) (ne_eqb (slot_of file) live other))) (can.seen file)
 
   -- while the other header gate is closed
-  pub closing : MayClose live w → (m : Moment) → ChangesFile (Manager (1 - live)) (Tears 0 1) w m → AllLog live log m.disk
+  pub closing : MayClose live w → (m : Moment) → ChangesFile (Manager (1 - live)) (Tears 0 1) w m → AllLogOf format live log m.disk
   closing below m changes image is =
       let comes = image_from (Manager (1 - live)) (Tears 0 1) w m changes image is in
       still image (λ file here. subst (MayLeave (w.disk file)) (sym (comes.others file (apart live file can.slot here))) (comes.possible file))
       (below (comes.from (Manager (1 - live))) (image (Manager (1 - live))) (comes.possible (Manager (1 - live))) comes.changed)
 
   -- while the other slot's files are filled
-  pub filling : (m : Moment) → IsFilling live w.disk m → AllLog live log m.disk
+  pub filling : (m : Moment) → IsFilling live w.disk m → AllLogOf format live log m.disk
   filling m fills image is =
       still image (λ file here. subst (λ (s : FileState). MayLeave s (image file)) (fills.kept file here) (is file))
       (λ silo. absurd (fills.shut (image (Manager (1 - live))) (is (Manager (1 - live))) silo.gate))
 
-  module _ (new : Log) (mid : World) (ready : IsReadyToOpen live new w mid) (m : Moment) (changes : ChangesFile (Manager (1 - live)) (Tears 0 1) mid m) (image : Image) (is : IsImage m.disk image) where
+  module _ (to : Format) (new : Log) (mid : World) (ready : IsReadyToOpen to live new w mid) (m : Moment) (changes : ChangesFile (Manager (1 - live)) (Tears 0 1) mid m) (image : Image) (is : IsImage m.disk image) where
     left_now : (file : FileId) → slot_of file ≡ live → MayLeave (w.disk file) (image file)
     left_now file here = subst (λ (s : FileState). MayLeave s (image file)) (changes.others file (apart live file can.slot here) ∙ ready.filling.kept file here) (is file)
 
     -- an image with the gate open has the new log in the other slot
-    pub opened : slice_index (image (Manager (1 - live))) 0 ≡ 1 → IsLog (1 - live) image new
+    pub opened : slice_index (image (Manager (1 - live))) 0 ≡ 1 → IsLogOf to (1 - live) image new
     opened gate =
         let comes = image_from (Manager (1 - live)) (Tears 0 1) mid m changes image is in
         let from : Image = comes.from in
@@ -89,23 +91,23 @@ module _ (live : ℕ) (log : Log) (w : World) (can : IsCompactable live log w) w
               (bytes ∙ sym (with_bytes-there from (Manager (1 - live)) (1 ∷ drop 1 (from (Manager (1 - live))))))
           | inr other ↦ comes.others file other ∙ sym (with_bytes-other from (Manager (1 - live)) (1 ∷ drop 1 (from (Manager (1 - live)))) file other)
         ] in
-        let whole : IsLogIn (1 - live) image new = log_moves (1 - live) (with_bytes from (Manager (1 - live)) (1 ∷ drop 1 (from (Manager (1 - live))))) image moved new (ready.whole from comes.possible) in
+        let whole : IsLogIn to (1 - live) image new = log_moves to (1 - live) (with_bytes from (Manager (1 - live)) (1 ∷ drop 1 (from (Manager (1 - live))))) image moved new (ready.whole from comes.possible) in
         let back : 1 - (1 - live) ≡ live = omega (arith, can.slot) in
         let old : image (Manager live) ≡ (w.disk (Manager live)).seen = settled_image w.disk (Manager live) (w.disk (Manager live)).seen (image (Manager live)) can.lasts (left_now (Manager live) refl) in
         let mine : generation (image (Manager (1 - live))) ≡ generation (w.disk (Manager live)).seen + 1 =
         generation_stays (from (Manager (1 - live))) (image (Manager (1 - live))) comes.changed ∙ ready.risen from comes.possible in
         let its : generation (image (Manager (1 - (1 - live)))) ≡ generation (w.disk (Manager live)).seen = ap (λ (s : ℕ). generation (image (Manager s))) back ∙ ap generation old in
         record {
-          is_live = record { slot = omega arith; silo = whole.stands.silo; over = λ silo. omega (arith, mine, its) };
+          is_live = record { slot = omega arith; silo = silo_of_format to (image (Manager (1 - live))) whole.stands.silo; over = λ silo. omega (arith, mine, its) };
           is = whole;
         }
 
     -- one with it closed has the log in the slot that was live
-    pub unopened : slice_index (image (Manager (1 - live))) 0 ≢ 1 → IsLog live image log
+    pub unopened : slice_index (image (Manager (1 - live))) 0 ≢ 1 → IsLogOf format live image log
     unopened shut = still image left_now (λ silo. absurd (shut silo.gate))
 
     -- whatever byte a crash leaves in the gate's place
-    pub either : HasEither live log new image
+    pub either : HasEither format to live log new image
     either = elim (cases_eq (slice_index (image (Manager (1 - live))) 0) 1) [
       | inl gate ↦ inr (opened gate)
       | inr shut ↦ inl (unopened shut)

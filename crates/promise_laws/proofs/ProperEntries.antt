@@ -8,7 +8,7 @@ use Rattle.base_types.specs.declared.entries.Settled.TheVariants as settled
 use Rattle.base_types.specs.declared.calls.Outcome.{Outcome}
 use Rattle.base_types.specs.declared.shapes.Shape.{Shape}
 use Rattle.cell_model.proofs.Units.{same_grain-true, cases_unit}
-use Rattle.field_codec.specs.declared.formats.Format.TheVariants.{One}
+use Rattle.field_codec.specs.declared.formats.Format.TheVariants.{Two}
 use Rattle.field_codec.specs.Spelling.{ResultFits}
 use Rattle.core_model.specs.declared.effects.Effect.{Effect}
 use Rattle.core_model.specs.declared.effects.Read.{Read}
@@ -66,7 +66,7 @@ module _ (shape : Shape) where
 
   -- the results are within the limits
   abbrev ResultsFit : (UnitNo → Phase) → (UnitNo → Outcome) → Type 0
-  ResultsFit phase result = (u : UnitNo) → IsEnded (phase u) → ResultFits One (result u)
+  ResultsFit phase result = (u : UnitNo) → IsEnded (phase u) → ResultFits Two (result u)
 
   -- and the written grains are the program's
   abbrev Fits : CoreState → Type 0
@@ -74,13 +74,13 @@ module _ (shape : Shape) where
 
   -- a unit in another phase than an end
   other-phase : (phase : UnitNo → Phase) (result : UnitNo → Outcome) (u : UnitNo) (p : Phase) → (IsEnded p → ⊥) → ResultsFit phase result → ResultsFit (put phase u p) result
-  other-phase phase result u p never s x = put-from phase u p IsEnded (ResultFits One (result x)) x (λ q e. absurd (never e)) (λ q e. s x e)
+  other-phase phase result u p never s x = put-from phase u p IsEnded (ResultFits Two (result x)) x (λ q e. absurd (never e)) (λ q e. s x e)
 
   -- a unit that comes to its end with a result that fits
-  new-result : (phase : UnitNo → Phase) (result : UnitNo → Outcome) (u : UnitNo) (p : Phase) (o : Outcome) → ResultFits One o → ResultsFit phase result → ResultsFit (put phase u p) (put result u o)
+  new-result : (phase : UnitNo → Phase) (result : UnitNo → Outcome) (u : UnitNo) (p : Phase) (o : Outcome) → ResultFits Two o → ResultsFit phase result → ResultsFit (put phase u p) (put result u o)
   new-result phase result u p o fits s x e = elim (cases_unit x u) [
-    | inl same ↦ subst (ResultFits One) (sym (put-is result u o x same)) fits
-    | inr other ↦ subst (ResultFits One) (sym (put-other result u o x other)) (s x (subst IsEnded (put-other phase u p x other) e))
+    | inl same ↦ subst (ResultFits Two) (sym (put-is result u o x same)) fits
+    | inr other ↦ subst (ResultFits Two) (sym (put-other result u o x other)) (s x (subst IsEnded (put-other phase u p x other) e))
   ]
 
   -- a grain that was written is one of the writes
@@ -208,7 +208,7 @@ module _ (types : ProgramTree) (lines : List (List ℕ)) (shape : Shape) (plays 
 
     -- what it says may be said
     may-say : (s : Settled) → HasCause (ends front) cause.event (step (ends front) cause.event) x.unit s → Tells types lines (ends r) x s → MaySay shape s
-    may-say (settled.Done outcome) c t = subst (ResultFits One) t.1 (fits-end.0 x.unit (elim t.0 [ inl e ↦ inr e | inr f ↦ inl f.0 ]))
+    may-say (settled.Done outcome) c t = subst (ResultFits Two) t.1 (fits-end.0 x.unit (elim t.0 [ inl e ↦ inr e | inr f ↦ inl f.0 ]))
     may-say (settled.Lock other g) c t = (
       (let older = c.older in let low = (born x.unit (aborted-born x.unit t)).1 in omega (arith, older, low)),
       subst (IsEventIn shape) c.refused event-in,

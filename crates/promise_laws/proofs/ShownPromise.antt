@@ -1,5 +1,6 @@
 -- What a run shows is enough for what is promised of it over any folder.
 use Rattle.std.proofs.Common.{◌≡◌, inr, true, sym, subst}
+use Rattle.field_codec.specs.declared.formats.Format.TheVariants.{Two}
 use Rattle.promise_spec.specs.Programs.{Program}
 use Rattle.promise_spec.specs.Words.{Manner}
 use Rattle.promise_spec.specs.Openings.{Reads, opened_as}
@@ -13,7 +14,7 @@ use Rattle.promise_laws.proofs.ShownRuns.{shown}
 module _ (p : Program) (r : Observed) (c : Course) (s : Shows p r c) where
   -- the files read as the log that it opened
   reads : opened_as (seen_at_entry r) ≡ Reads c.live c.opening
-  reads = log_is_read (seen_at_entry r) c.live c.opening s.opens.read
+  reads = log_is_read Two (seen_at_entry r) c.live c.opening s.opens.read
 
   pub promised : (m : Manner) → r.manner ≡ m → r.windowed ≡ true → Promises m r
   promised m is windowed =

@@ -5,6 +5,7 @@ use Rattle.host_trait.specs.declared.channels.Channel.{Channel}
 use Rattle.host_trait.specs.declared.channels.Channel.TheVariants.{Input, Output, File}
 use Rattle.host_trait.specs.Faults.{Rose}
 use Rattle.host_trait.specs.World.{Moment, Image, IsImage, moment_of, last_of}
+use Rattle.field_codec.specs.declared.formats.Format.TheVariants.{Two}
 use Rattle.promise_spec.specs.Programs.{Program}
 use Rattle.promise_spec.specs.Records.{Commit}
 use Rattle.promise_spec.specs.Entries.{Log, records_of, standing_of, grown}
@@ -72,14 +73,14 @@ pub opening_numbered : (r : Observed) (c : Course) → Opens r c → AreNumbered
 opening_numbered r c o =
     let log : IsLog c.live o.some c.opening = o.opened o.some o.possible in
     let s : IsWholeSilo c.live o.some = o.folder.whole o.some (at_entry r c o o.some o.possible) c.live log.is_live in
-    subst (λ (l : Log). AreNumbered l.base.next (records_of l)) (one_log c.live c.live o.some s.log c.opening s.is log) s.numbered
+    subst (λ (l : Log). AreNumbered l.base.next (records_of l)) (one_log s.format Two c.live c.live o.some s.log c.opening s.is log) s.numbered
 
 -- and over a sound folder it is serial from its base
 pub opening_serial : (r : Observed) (c : Course) → Opens r c → IsSoundFolder r.old → IsSerialFrom c.opening.base c.opening.entries
 opening_serial r c o folder =
     let log : IsLog c.live o.some c.opening = o.opened o.some o.possible in
     let s : IsSound c.live o.some = folder.sound o.some (at_entry r c o o.some o.possible) c.live log.is_live in
-    subst (λ (l : Log). IsSerialFrom l.base l.entries) (one_log c.live c.live o.some s.log c.opening s.is log) s.serial
+    subst (λ (l : Log). IsSerialFrom l.base l.entries) (one_log s.format Two c.live c.live o.some s.log c.opening s.is log) s.serial
 
 -- ---- the end
 
@@ -99,6 +100,8 @@ module _ (p : Program) (r : Observed) (c : Course) (based : 0 < c.opening.base.n
       go ending.WriteFault carried risen = rose Output risen
       go (ending.DiskFault file) carried risen = rose (File file) risen
       go ending.NotASilo carried risen = absurd carried
+      go ending.OldFormat carried risen = absurd carried
+      go ending.NotOld carried risen = absurd carried
       go ending.AlreadyASilo carried risen = absurd carried
       go (ending.Damaged file place) carried risen = absurd carried
       go (ending.BadProgram fault) carried risen = absurd carried
@@ -217,7 +220,7 @@ module _ (p : Program) (r : Observed) (c : Course) (s : Shows p r c) where
       let y = s.leaves.logs other left_too in
       elim x.which [
         | inl whole ↦ elim y.which [
-          | inl whole_too ↦ absurd (differ (one_log c.live c.live one a x.log is_a x.is ∙ whole ∙ sym whole_too ∙ one_log c.live c.live other y.log b y.is is_b))
+          | inl whole_too ↦ absurd (differ (one_log Two Two c.live c.live one a x.log is_a x.is ∙ whole ∙ sym whole_too ∙ one_log Two Two c.live c.live other y.log b y.is is_b))
           | inr lacks ↦ (lacks.begins, lacks.doubt)
         ]
         | inr lacks ↦ (lacks.begins, lacks.doubt)

@@ -13,16 +13,17 @@ use Rattle.silo_spec.specs.Silos.{manager, IsNewSilo, new_header}
 use Rattle.silo_spec.specs.Moments.{IsUntouched}
 use Rattle.silo_spec.specs.OpenedDisks.{is_synced, opened_file, opened_disk}
 use Rattle.silo_spec.specs.Creation.{CameThisFar, IsNewAt}
+use Rattle.field_codec.specs.declared.formats.Format.TheVariants.{Two}
 use Rattle.promise_spec.specs.Programs.{Program, IsChecked}
 use Rattle.promise_spec.specs.Entries.{Log, new_log}
 use Rattle.promise_spec.specs.Blocks.{Fresh}
 use Rattle.promise_spec.specs.Prefixes.{IsPrefixOf}
-use Rattle.promise_spec.specs.Logs.{magic, IsLog, HasLog}
+use Rattle.promise_spec.specs.Logs.{IsMagic, IsLog, HasLog}
 use Rattle.promise_spec.specs.Images.{IsSound}
 use Rattle.promise_spec.specs.Moments.{IsImageOf}
 use Rattle.promise_spec.specs.Endings as ending
 use Rattle.promise_spec.specs.Endings.{Ending}
-use Rattle.promise_spec.specs.Words.{Manner, Command, Init, Run, Show, History, Audit, Load, Check, Compact, Upgrade}
+use Rattle.promise_spec.specs.Words.{Manner, Command, Init, Run, Show, History, Audit, Load, Check, Compact, Upgrade, Migrate}
 use Rattle.promise_spec.specs.Courses.{Observed, Course, moments, program_in_force}
 use Rattle.promise_spec.specs.Crashes.{SurvivesCrashes, StaySound, LeavesAlone}
 use Rattle.promise_spec.specs.Refusals.{IsUnopened}
@@ -40,7 +41,7 @@ use Rattle.promise_spec.proofs.Slots.{one_slot, shows_file}
 use Rattle.promise_spec.proofs.Lists.{in_append}
 use Rattle.promise_spec.proofs.Openings.{program_checked}
 use Rattle.promise_spec.proofs.WholeFolders.{whole_folder}
-use Rattle.promise_laws.proofs.RewrittenFolders.{compact_keeps}
+use Rattle.promise_laws.proofs.RewrittenFolders.{compact_keeps, migrate_keeps}
 use Rattle.promise_laws.proofs.SoundUpgrades.{upgrade_keeps}
 
 -- ---- what an opening leaves of a file
@@ -105,7 +106,7 @@ module _ (r : Observed) (c : Course) (s : SurvivesCrashes r c) (stay_old : Reads
       there ∙ short_opened slot (r.old.disk (Manager slot)) low
 
   -- no image is a silo by a slot whose manager file reads too short
-  shows_at_exit : ShowsSilos magic r.old.disk → ShowsSilos magic r.new.disk
+  shows_at_exit : ShowsSilos IsMagic r.old.disk → ShowsSilos IsMagic r.new.disk
   shows_at_exit shows image left slot low short silo = elim (cases_eq slot c.live) [
     | inl same ↦ (let long : 16 ≤ length (r.new.disk (Manager slot)).seen = subst (λ (n : ℕ). 16 ≤ length (r.new.disk (Manager n)).seen) (sym same) long_at_exit in absurd (omega (arith, long, short)))
     | inr other ↦
@@ -115,7 +116,7 @@ module _ (r : Observed) (c : Course) (s : SurvivesCrashes r c) (stay_old : Reads
   ]
 
   -- what survives crashes leaves a sound folder
-  pub survives : StaySound r c → ShowsSilos magic r.old.disk → IsSoundFolder r.new
+  pub survives : StaySound r c → ShowsSilos IsMagic r.old.disk → IsSoundFolder r.new
   survives sound shows = record {
     chain = λ one other left left_too. s.chain one other (exit_of r c one left) (exit_of r c other left_too);
     sound = λ image left. sound image (exit_of r c image left);
@@ -134,9 +135,9 @@ reported : (text : Log → List ℕ) (r : Observed) → IsReported text r → Is
 reported text r is sound = as_before r.old r.new (λ image left. (is.now image left).0) is.seen sound
 
 -- a report
-pub reports_keep : (text : Log → List ℕ) (r : Observed) → Reports text r → IsSoundFolder r.old → IsSoundFolder r.new
-reports_keep text r (inl unopened) sound = untouched r.old r.new unopened.untouched sound
-reports_keep text r (inr is) sound = reported text r is sound
+pub reports_keep : (r : Observed) → Reports r → IsSoundFolder r.old → IsSoundFolder r.new
+reports_keep r (inl unopened) sound = untouched r.old r.new unopened.untouched sound
+reports_keep r (inr is) sound = reported _ r is.report sound
 
 -- a listing of the grains
 pub shows_keep : (r : Observed) → ShowsStates r → IsSoundFolder r.old → IsSoundFolder r.new
@@ -159,12 +160,13 @@ checks_keep n seed r checks sound = same_files r.old r.new checks.files sound
 -- ---- new silos
 
 -- a new silo of a checked program in the live slot has the empty log
-pub fresh : (p : Program) (image : Image) → IsChecked p → IsNewSilo magic p.text image → IsLive magic 0 image → IsLog 0 image (new_log p)
+pub fresh : (p : Program) (image : Image) → IsChecked p → IsNewSilo p.text image → IsLive IsMagic 0 image → IsLog 0 image (new_log p)
 fresh p image checked new is_live = record {
   is_live = is_live;
   is = record {
     bodies = [];
     gate = first_gate;
+    session = 0;
     stands = record {
       silo = new.silo;
       program = p;
@@ -177,6 +179,7 @@ fresh p image checked new is_live = record {
       whole = tt;
       blocks = [];
       fit = tt;
+      never_fall = refl;
       spelled = refl;
       stand = no_blocks (image manager) (omega (arith, new.silo.long));
       entries = refl;
@@ -187,7 +190,7 @@ fresh p image checked new is_live = record {
 }
   where
     -- the bytes of its header are a new header's
-    byte_of : (i : ℕ) → i < 16 → slice_index (image manager) i ≡ slice_index (new_header magic) i
+    byte_of : (i : ℕ) → i < 16 → slice_index (image manager) i ≡ slice_index (new_header) i
     byte_of i low = sym (get_or-take 16 (image manager) i 0 low) ∙ ap (λ (l : List ℕ). slice_index l i) new.header
 
     byte : slice_index (image manager) 15 ≡ 0
@@ -197,15 +200,15 @@ fresh p image checked new is_live = record {
     shut : slice_index (image manager) 15 ≢ 1
     shut open_gate = omega (arith, byte, open_gate)
 
-module _ (p : Program) (checked : IsChecked p) (m : Moment) (new : IsNewAt magic p.text m) where
+module _ (p : Program) (checked : IsChecked p) (m : Moment) (new : IsNewAt IsMagic p.text m) where
   -- an image that is a silo is a new one, in slot 0, with the empty log
-  new_log_of : (live : ℕ) (image : Image) → IsImage m.disk image → IsLive magic live image → (live ≡ 0) × IsLog 0 image (new_log p)
+  new_log_of : (live : ℕ) (image : Image) → IsImage m.disk image → IsLive IsMagic live image → (live ≡ 0) × IsLog 0 image (new_log p)
   new_log_of live image left is =
       let n = new image left live is in
-      (n.0, fresh p image checked n.1 (subst (λ (slot : ℕ). IsLive magic slot image) n.0 is))
+      (n.0, fresh p image checked n.1 (subst (λ (slot : ℕ). IsLive IsMagic slot image) n.0 is))
 
   log_is : (image : Image) → IsImage m.disk image → (log : Log) → HasLog image log → log ≡ new_log p
-  log_is image left log has = one_log has.0 0 image log (new_log p) has.1 (new_log_of has.0 image left has.1.is_live).1
+  log_is image left log has = one_log has.0 Two has.1 0 image log (new_log p) has.2 (new_log_of has.1 image left has.2.is_live).1
 
   -- images that are new silos of this program, or none, are a chain, and each is sound
   pub new_moment : IsSoundAt m
@@ -216,19 +219,19 @@ module _ (p : Program) (checked : IsChecked p) (m : Moment) (new : IsNewAt magic
         inl (subst (λ (l : Log). IsPrefixOf l b) (sym a_is) (subst (λ (l : Log). IsPrefixOf (new_log p) l) (sym b_is) (of_itself (new_log p)))));
     sound = λ image left live is.
         (let n = new_log_of live image left is in
-        subst (λ (slot : ℕ). IsSound slot image) (sym n.0) (record { log = new_log p; is = n.1; serial = tt; numbered = tt }));
+        subst (λ (slot : ℕ). IsSound slot image) (sym n.0) (record { format = Two; log = new_log p; is = n.1; serial = tt; numbered = tt }));
   }
 
 -- and a sound folder, where none is a silo by a manager file that reads too short
-pub new_folder : (p : Program) (w : World) → IsChecked p → IsNewAt magic p.text (moment_of w) → ShowsSilos magic w.disk → IsSoundFolder w
+pub new_folder : (p : Program) (w : World) → IsChecked p → IsNewAt IsMagic p.text (moment_of w) → ShowsSilos IsMagic w.disk → IsSoundFolder w
 new_folder p w checked new shows = (let is = new_moment p checked (moment_of w) new in record { chain = is.chain; sound = is.sound; shows = shows })
 
 -- images of which each is a new silo in the live slot
-all_new : (text : List ℕ) (w : World) → ((image : Image) → IsImage w.disk image → IsNewSilo magic text image × IsLive magic 0 image) → IsNewAt magic text (moment_of w)
+all_new : (text : List ℕ) (w : World) → ((image : Image) → IsImage w.disk image → IsNewSilo text image × IsLive IsMagic 0 image) → IsNewAt IsMagic text (moment_of w)
 all_new text w each image left live is = (let n = each image left in (one_slot live 0 image is n.1, n.0))
 
 -- however far a call came that makes a silo of q
-pub makes_keeps : (q : Program) (old new : World) → IsChecked q → CameThisFar magic q.text old new → (ShowsSilos magic old.disk → ShowsSilos magic new.disk) → IsSoundFolder old → IsSoundFolder new
+pub makes_keeps : (q : Program) (old new : World) → IsChecked q → CameThisFar IsMagic q.text old new → (ShowsSilos IsMagic old.disk → ShowsSilos IsMagic new.disk) → IsSoundFolder old → IsSoundFolder new
 makes_keeps q old new checked (inl u) shows sound = untouched old new u sound
 makes_keeps q old new checked (inr first) shows sound = new_folder q new checked first.now (shows sound.shows)
 
@@ -256,6 +259,8 @@ init_keeps r makes sound = by r.ending makes.ends_as
     by ending.WriteFault is = absurd is
     by (ending.DiskFault file) is = of_text is.0
     by ending.NotASilo is = absurd is
+    by ending.OldFormat is = absurd is
+    by ending.NotOld is = absurd is
     by ending.AlreadyASilo is = of_text is.0
     by (ending.Damaged file place) is = absurd is
     by (ending.BadProgram fault) is = stays is.1
@@ -264,13 +269,13 @@ init_keeps r makes sound = by r.ending makes.ends_as
     by (ending.UpgradeRefused at) is = absurd is
 
 -- one that is done leaves a sound folder, whatever there was, in which each image has the empty log of its input
-pub init_makes : (r : Observed) → ShowsSilos magic r.old.disk → MakesSilo r → r.ending ≡ ending.Done
+pub init_makes : (r : Observed) → ShowsSilos IsMagic r.old.disk → MakesSilo r → r.ending ≡ ending.Done
     → (q : Program) × (IsChecked q × ((q.text ≡ r.old.input) × (IsSoundFolder r.new × ((image : Image) → IsImage r.new.disk image → IsLog 0 image (new_log q)))))
 init_makes r shows makes done =
     let is : MakesAs ending.Done r = subst (λ (e : Ending). MakesAs e r) done makes.ends_as in
     let q : Program = record { text = r.old.input; types = is.0.types } in
     let checked : IsChecked q = input_program r is.0 in
-    let each : (image : Image) → IsImage r.new.disk image → IsNewSilo magic r.old.input image × IsLive magic 0 image = λ image left. ((is.2 image left).0, (is.2 image left).1 shows) in
+    let each : (image : Image) → IsImage r.new.disk image → IsNewSilo r.old.input image × IsLive IsMagic 0 image = λ image left. ((is.2 image left).0, (is.2 image left).1 shows) in
     (q, (checked, (refl, (new_folder q r.new checked (all_new r.old.input r.new each) (makes.shows shows), λ image left. fresh q image checked (each image left).0 (each image left).1))))
 
 -- ---- load
@@ -278,12 +283,12 @@ init_makes r shows makes done =
 -- a load that made no silo
 unmade_keeps : (bank : Program) (r : Observed) → IsChecked bank → bank.text ≡ bank_text → IsUnmade r → IsSoundFolder r.old → IsSoundFolder r.new
 unmade_keeps bank r checked text un sound =
-    makes_keeps bank r.old r.new checked (subst (λ (t : List ℕ). CameThisFar magic t r.old r.new) (sym text) (un.makes sound.shows)) un.shows sound
+    makes_keeps bank r.old r.new checked (subst (λ (t : List ℕ). CameThisFar IsMagic t r.old r.new) (sym text) (un.makes sound.shows)) un.shows sound
 
 -- one that made one: the folder was sound then
 pub made_sound : (n seed : ℕ) (bank : Program) (r : Observed) → IsChecked bank → bank.text ≡ bank_text → (from : LoadsFrom n seed r) → IsSoundFolder r.old → IsSoundFolder from.made
 made_sound n seed bank r checked text from sound =
-    new_folder bank from.made checked (subst (λ (t : List ℕ). IsNewAt magic t (moment_of from.made)) (sym text) (from.has.makes sound.shows).now) (from.has.shows sound.shows)
+    new_folder bank from.made checked (subst (λ (t : List ℕ). IsNewAt IsMagic t (moment_of from.made)) (sym text) (from.has.makes sound.shows).now) (from.has.shows sound.shows)
 
 -- a load
 pub load_keeps : (n seed : ℕ) (m : Manner) (bank : Program) (r : Observed) → IsChecked bank → bank.text ≡ bank_text → ReadsMayStay r.new → Loads n seed m r → IsSoundFolder r.old → IsSoundFolder r.new
@@ -307,12 +312,13 @@ pub obeying_keeps : (c : Command) (bank : Program) (r : Observed) → IsChecked 
 obeying_keeps Init bank r checked text stay_old stay_new obeys sound = init_keeps r obeys sound
 obeying_keeps (Run m) bank r checked text stay_old stay_new obeys sound = run_keeps m r stay_old stay_new obeys sound
 obeying_keeps Show bank r checked text stay_old stay_new obeys sound = shows_keep r obeys sound
-obeying_keeps History bank r checked text stay_old stay_new obeys sound = reports_keep _ r obeys sound
+obeying_keeps History bank r checked text stay_old stay_new obeys sound = reports_keep r obeys sound
 obeying_keeps Audit bank r checked text stay_old stay_new obeys sound = audits_keep r obeys sound
 obeying_keeps (Load n seed m) bank r checked text stay_old stay_new obeys sound = load_keeps n seed m bank r checked text stay_new obeys sound
 obeying_keeps (Check n seed) bank r checked text stay_old stay_new obeys sound = checks_keep n seed r obeys sound
 obeying_keeps Compact bank r checked text stay_old stay_new obeys sound = compact_keeps r stay_old obeys sound
 obeying_keeps Upgrade bank r checked text stay_old stay_new obeys sound = upgrade_keeps r stay_old obeys sound
+obeying_keeps Migrate bank r checked text stay_old stay_new obeys sound = migrate_keeps r stay_old obeys sound
 
 -- ---- after a crash
 

@@ -1,7 +1,8 @@
 -- Folders stay sound at the moments of an upgrade.
-use Rattle.std.proofs.Common.{◌≡◌, ◌⊎◌, inl, inr, ℕ, List, [], ◌∷◌, ◌++◌, refl, sym, ap, subst, ◌∙◌}
+use Rattle.std.proofs.Common.{◌≡◌, ◌⊎◌, inl, inr, ℕ, List, [], ◌∷◌, ◌++◌, refl, sym, ap, subst}
 use Rattle.core_model.specs.CoreState.{Member}
 use Rattle.host_trait.specs.World.{Moment, Image, IsImage, Passes, moment_of}
+use Rattle.field_codec.specs.declared.formats.Format.TheVariants.{Two}
 use Rattle.promise_spec.specs.Programs.{Program}
 use Rattle.promise_spec.specs.Records.{Commit}
 use Rattle.promise_spec.specs.Entries.{LogEntry, Recorded, Upgraded, records_among, Standing, after_entry, Log, upgraded}
@@ -38,8 +39,8 @@ upgrading_sound live log q m either good =
     two_logs log (upgraded log q) (over_one_base log (upgraded log q) refl (Upgraded q ∷ [], refl)) m (λ image left. sides image (either image left)) good (good_upgraded log q good)
   where
     sides : (image : Image) → IsLog live image log ⊎ IsLog live image (upgraded log q) → HasLog image log ⊎ HasLog image (upgraded log q)
-    sides image (inl x) = inl (live, x)
-    sides image (inr x) = inr (live, x)
+    sides image (inl x) = inl (Two, live, x)
+    sides image (inr x) = inr (Two, live, x)
 
 module _ (r : Observed) (stay : ReadsMayStay r.old) (is : IsUpgraded r) (sound : IsSoundFolder r.old) where
   upgrades : Upgrades is.live is.log (program_read is.text) r
@@ -47,7 +48,7 @@ module _ (r : Observed) (stay : ReadsMayStay r.old) (is : IsUpgraded r) (sound :
 
   -- a moment from the opening's last sync on
   sound_at : (m : Moment) → IsUpgrading is.live is.log (program_read is.text) r m → IsSoundAt m
-  sound_at m at = upgrading_sound is.live is.log (program_read is.text) m at.either (log_good is.live is.log r stay sound upgrades.read)
+  sound_at m at = upgrading_sound is.live is.log (program_read is.text) m at.either (log_good Two is.live is.log r stay sound upgrades.read)
 
   upgraded_keeps : IsSoundFolder r.new
   upgraded_keeps =

@@ -1,5 +1,6 @@
 pub mod QuietRuns
 pub mod SoundMoments
+pub mod MigratedFiles
 pub mod KeptFolders
 pub mod RunJournals
 pub mod Legality

@@ -9,7 +9,7 @@
 //! says that it is enough for the whole promise; `answered_runs` parts it in two, and `whole_folders` has what a run's loop carries, from
 //! which it follows; `windows` how a run goes on from one window of its input to the next. `Journals` of `promise_spec` is what was settled and what each moment keeps of it, and `steps` says how a journal goes on call
 //! by call, and that the crash clause follows. `folders` says that each call leaves a sound folder, at each moment too
-//! (`SoundMoments`).
+//! (`SoundMoments`); `compaction` and `migration` what a slot has that is written anew.
 #![tactic(auto)]
 
 mod answered_runs;
@@ -20,6 +20,7 @@ mod compaction;
 mod families;
 mod folders;
 mod loads;
+mod migration;
 mod proper_entries;
 mod replies;
 mod serial_runs;
@@ -39,9 +40,10 @@ pub use compaction::{
 pub use families::explained_runs_are_families;
 pub use folders::{
     crashes_leave_sound_folders, folders_keep_their_program, folders_stay_sound,
-    fresh_silos_have_an_empty_log, made_folders_are_sound,
+    fresh_silos_have_an_empty_log, made_folders_are_sound, rewriting_keeps_the_program,
 };
 pub use loads::{loads_count_each_line, loads_follow_runs};
+pub use migration::migrated_files_are_logs;
 pub use proper_entries::settled_entries_are_proper;
 pub use replies::explained_replies_are_true;
 pub use serial_runs::{explained_entries_have_causes, explained_runs_are_serial, runs_are_legal};

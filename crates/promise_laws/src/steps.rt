@@ -1,7 +1,8 @@
-ghost use Rattle.std.specs.Prelude.{◌≡◌, ◌⊎◌, ◌++◌, ℕ, List, [], ◌∷◌, take, ◌≤◌, length};
+ghost use Rattle.std.specs.Prelude.{◌≡◌, ◌⊎◌, ◌++◌, ℕ, List, [], ◌∷◌, take, ◌≤◌, ◌<◌, ◌^◌, length};
 ghost use Rattle.std.specs.List.{AllByRecursion};
 ghost use Rattle.base_types.specs.declared.shapes.Shape.{Shape};
-ghost use Rattle.field_codec.specs.declared.formats.Format.TheVariants.{One};
+ghost use Rattle.field_codec.specs.declared.formats.Format.{Format};
+ghost use Rattle.field_codec.specs.declared.formats.Format.TheVariants.{Two};
 ghost use Rattle.field_codec.specs.declared.units.Numbers.TheVariants.{Logged};
 ghost use Rattle.commit_log.specs.Bodies.{IsRecordIn};
 ghost use Rattle.gate_block.specs.Log.{LogsUpTo};
@@ -11,7 +12,7 @@ ghost use Rattle.host_trait.specs.declared.channels.FileId.{FileId};
 ghost use Rattle.host_trait.specs.declared.channels.FileId.TheVariants.{Manager};
 ghost use Rattle.host_trait.specs.World.{World, Moment, Disk, Image, IsImage, Passes, Ticks, Emitted, IsEmitted, moment_of, Arrives};
 ghost use Rattle.host_trait.specs.Runs.{OnlyAsked};
-ghost use Rattle.promise_spec.specs.Logs.{StandsUpTo, IsLog, IsPrefix};
+ghost use Rattle.promise_spec.specs.Logs.{StandsUpTo, IsLogOf, IsLog, IsPrefix};
 ghost use Rattle.promise_spec.specs.Images.{IsWholeFolder, AreChained, IsSoundIfSilo};
 ghost use Rattle.request_wire.specs.Reply.{reply_line};
 ghost use Rattle.promise_spec.specs.Programs.{Program, shape_in};
@@ -20,7 +21,7 @@ ghost use Rattle.promise_spec.specs.Entries.{Log, standing_of, grown};
 ghost use Rattle.promise_spec.specs.Blocks.{Records, body_of};
 ghost use Rattle.core_model.specs.CoreState.{Member};
 ghost use Rattle.promise_spec.specs.Crashes.{Acknowledges, Holds};
-ghost use Rattle.promise_spec.specs.Journals.{Settlement, Backs, AllKeep, AllSay, AllLog, JournalAt, Seals, Doubts, commits_of, entries_of, KeepsJournal};
+ghost use Rattle.promise_spec.specs.Journals.{Settlement, Backs, AllKeep, AllSay, AllLogOf, AllLog, JournalAt, Seals, Doubts, commits_of, entries_of, KeepsJournal};
 ghost use Rattle.promise_laws.specs.RunJournals.{RunJournal, HasProperLines, IsNextEntry, IsJournalAt, IsDoubtedAt, IsCutShortAt, with_settled, with_said, journal_log, journal_line};
 ghost use Rattle.promise_laws.specs.SoundMoments.{IsSerialLog};
 ghost use Rattle.promise_spec.specs.Moments.{IsImageOf, IsLongest};
@@ -79,13 +80,14 @@ pub fn whole_journals_are_cut()
     ensures doubt { (j : RunJournal) (batch : Settlement) (now : World) → IsDoubtedAt j batch now → IsCutShortAt j (batch ∷ []) [] now }
 {}
 
-/// Over a whole folder whose files read as this log, each image that has the live manager file as it reads has this log too, and the
+/// Over a whole folder whose files have this log, in whichever format, each image that has the live manager file as it reads has this log too, and the
 /// other one where it reads 16 bytes or more: so after a sync of these every image has it.
 pub fn settled_folders_have_one_log()
-    ensures { (live : ℕ) (w : World) (disk : Disk) (log : Log) → IsWholeFolder w → ((file : FileId) → MayLeave (w.disk file) (w.disk file).seen)
+    ensures { (format : Format) (live : ℕ) (w : World) (disk : Disk) (log : Log) → IsWholeFolder w
+        → ((file : FileId) → MayLeave (w.disk file) (w.disk file).seen)
         → ((image : Image) → IsImage disk image → IsImage w.disk image × ((slot : ℕ) → slot ≤ 1
         → (slot ≡ live) ⊎ (16 ≤ length (w.disk (Manager slot)).seen) → image (Manager slot) ≡ (w.disk (Manager slot)).seen))
-        → IsLog live (λ file. (w.disk file).seen) log → AllLog live log disk }
+        → IsLogOf format live (λ file. (w.disk file).seen) log → AllLogOf format live log disk }
 {}
 
 /// The last moment of a call is what the host then shows, so it is after one call, after one run of calls and another, and where
@@ -106,12 +108,14 @@ pub fn journals_back_entries()
         → Backs (j ++ batch) (commits_of (j ++ batch)) }
 {}
 
-/// Where the live manager file may be left with the block of a batch in doubt behind the bodies of a log, an image has the batch.
+/// Where the live manager file may be left with the block of a batch in doubt behind the bodies of a log, in a session that isn't below the
+/// greatest that the log reached, an image has the batch.
 pub fn doubts_have_an_image()
-    ensures { (live : ℕ) (disk : Disk) (some : Image) (before : Log) (bodies : List (List ℕ)) (at : ℕ) (batch : List Commit) (gate : ℕ) (c : List ℕ)
-        → StandsUpTo live some before bodies at → length batch ≤ 64
-        → AllByRecursion (λ (l : Commit). IsRecordIn One Logged (shape_in (standing_of before).program) l.logged) batch
-        → MayLeave (disk (Manager live)) c → LogsUpTo (bodies ++ body_of (Records batch) ∷ []) gate c → (rest : Image) → IsImage disk rest
+    ensures { (live : ℕ) (disk : Disk) (some : Image) (before : Log) (bodies : List (List ℕ)) (at reached session : ℕ)
+        (batch : List Commit) (gate : ℕ) (c : List ℕ)
+        → StandsUpTo Two live some before bodies at reached → reached ≤ session → session < 2 ^ 63 → length batch ≤ 64
+        → AllByRecursion (λ (l : Commit). IsRecordIn Two Logged (shape_in (standing_of before).program) l.logged) batch
+        → MayLeave (disk (Manager live)) c → LogsUpTo (bodies ++ body_of Two (Records session batch) ∷ []) gate c → (rest : Image) → IsImage disk rest
         → ((image : Image) → IsImage disk image → IsLog live image before ⊎ IsLog live image (grown before batch))
         → (image : Image) × (IsImage disk image × IsLog live image (grown before batch)) }
 {}

@@ -29,7 +29,7 @@ use Rattle.serde_json.specs.Read.{number_of}
 use Rattle.serde_json.specs.Written.{number_text, outline, compact_text}
 use Rattle.serde_json.proofs.Numbers.{number_of-decimal, number_of-negative}
 use Rattle.serde_json.proofs.Texts.{print-outline}
-use Rattle.field_codec.specs.declared.formats.Format.TheVariants.{One}
+use Rattle.field_codec.specs.declared.formats.Format.TheVariants.{Two}
 use Rattle.field_codec.specs.Spelling.{ValueFits}
 use Rattle.core_model.specs.CoreState.{Member}
 use Rattle.request_wire.specs.Lines.{lines_of}
@@ -204,7 +204,7 @@ module _ (shape : Shape) (plain : HavePlainNames shape.types) where
   abbrev unit_in : json.Members → ℕ
   unit_in ms = if is_some (find_in (codes "bad") ms) then 0 else count_at (codes "unit") ms
 
-  value_back : (v : Value) → ValueFits One v → value_in (Some (outline (value_data v))) ≡ v
+  value_back : (v : Value) → ValueFits Two v → value_in (Some (outline (value_data v))) ≡ v
   value_back (Int z) fits = ap Int (int_back z fits)
   value_back (Text text) fits = refl
 

@@ -7,6 +7,7 @@ use Rattle.base_types.specs.declared.calls.GrainId.{GrainId}
 use Rattle.base_types.specs.declared.calls.Value.{Value}
 use Rattle.host_trait.specs.declared.channels.FileId.TheVariants.{Manager}
 use Rattle.host_trait.specs.World.{Image}
+use Rattle.field_codec.specs.declared.formats.Format.{Format}
 use Rattle.gate_block.specs.Log.{HasBlocks}
 use Rattle.script_check.specs.Carrying.{carried_state}
 use Rattle.script_holding.specs.Holding.{same_grain}
@@ -14,7 +15,7 @@ use Rattle.promise_spec.specs.Programs.{Program, shape_in}
 use Rattle.promise_spec.specs.Records.{Commit, States, written, put_state}
 use Rattle.promise_spec.specs.Entries.{LogEntry, Recorded, Upgraded, records_among, Standing, initial_states, is_among, new_silo, after_entry, after_entries, Log, standing_of, grown, upgraded}
 use Rattle.promise_spec.specs.Versions.{IsKept}
-use Rattle.promise_spec.specs.Blocks.{Block, Records, Upgrade, entries_in, body_of, BlockFits, MayFollow, AreKept, states_saved, Beginning, Fresh, From, base_of, bodies_before}
+use Rattle.promise_spec.specs.Blocks.{Block, Records, Upgrade, session_in, entries_in, body_of, SessionIs, BlockFits, NeverFall, MayFollow, AreKept, states_saved, Beginning, Fresh, From, base_of, session_before, bodies_before}
 use Rattle.promise_spec.specs.Logs.{StandsUpTo}
 use Rattle.promise_spec.proofs.Lists.{both_parts}
 
@@ -24,27 +25,32 @@ pub entries_more : (blocks : List Block) (b : Block) → flat_map entries_in (bl
 entries_more [] b = append-nil (entries_in b)
 entries_more (x ∷ blocks) b = ap (λ (l : List LogEntry). entries_in x ++ l) (entries_more blocks b) ∙ sym (append_assoc (entries_in x) (flat_map entries_in blocks) (entries_in b))
 
-module _ (slot : ℕ) (image : Image) (p : Program) where
-  records_kept : (batch : List Commit) → AllByRecursion (IsKept slot (shape_in p) image) batch → AreKept slot image p (map Recorded batch)
+module _ (format : Format) (slot : ℕ) (image : Image) (p : Program) where
+  records_kept : (batch : List Commit) → AllByRecursion (IsKept format slot (shape_in p) image) batch → AreKept format slot image p (map Recorded batch)
   records_kept [] all = tt
   records_kept (c ∷ batch) all = (all.0, records_kept batch all.1)
 
 -- entries that are kept under the program in force, behind others that are kept
-kept_both : (slot : ℕ) (image : Image) (before : Standing) (entries more : List LogEntry) → AreKept slot image before.program entries → AreKept slot image (after_entries before entries).program more → AreKept slot image before.program (entries ++ more)
-kept_both slot image before [] more kept all = all
-kept_both slot image before (Recorded c ∷ entries) more kept all = (kept.0, kept_both slot image (after_entry before (Recorded c)) entries more kept.1 all)
-kept_both slot image before (Upgraded q ∷ entries) more kept all = (kept.0, kept_both slot image (after_entry before (Upgraded q)) entries more kept.1 all)
+kept_both : (format : Format) (slot : ℕ) (image : Image) (before : Standing) (entries more : List LogEntry) → AreKept format slot image before.program entries → AreKept format slot image (after_entries before entries).program more → AreKept format slot image before.program (entries ++ more)
+kept_both format slot image before [] more kept all = all
+kept_both format slot image before (Recorded c ∷ entries) more kept all = (kept.0, kept_both format slot image (after_entry before (Recorded c)) entries more kept.1 all)
+kept_both format slot image before (Upgraded q ∷ entries) more kept all = (kept.0, kept_both format slot image (after_entry before (Upgraded q)) entries more kept.1 all)
 
 pub program_begins : (p : Program) (b : Beginning) → (base_of p b).program ≡ p
 program_begins p Fresh = refl
 program_begins p (From ck) = refl
 
+-- a block more, whose session isn't below those before it
+pub rises : (from reached : ℕ) (blocks : List Block) (block : Block) → NeverFall from blocks reached → reached ≤ session_in block → NeverFall from (blocks ++ block ∷ []) (session_in block)
+rises from reached [] block up later = (subst (λ (n : ℕ). n ≤ session_in block) (sym up) later, refl)
+rises from reached (b ∷ blocks) block up later = (up.0, rises (session_in b) reached blocks block up.1 later)
+
 -- a block stands behind the log, and its entries are kept under the program in force
-pub block_more : (slot : ℕ) (image : Image) (log : Log) (bodies : List (List ℕ)) (gate : ℕ) → StandsUpTo slot image log bodies gate
-    → (block : Block) (next : ℕ) → BlockFits block → AreKept slot image (standing_of log).program (entries_in block)
-    → HasBlocks (bodies ++ body_of block ∷ []) next (image (Manager slot))
-    → StandsUpTo slot image (record { base = log.base; entries = log.entries ++ entries_in block }) (bodies ++ body_of block ∷ []) next
-block_more slot image log bodies gate is block next fits kept there =
+pub block_more : (format : Format) (slot : ℕ) (image : Image) (log : Log) (bodies : List (List ℕ)) (gate reached : ℕ) → StandsUpTo format slot image log bodies gate reached
+    → (block : Block) → reached ≤ session_in block → (next : ℕ) → BlockFits format block → AreKept format slot image (standing_of log).program (entries_in block)
+    → HasBlocks (bodies ++ body_of format block ∷ []) next (image (Manager slot))
+    → StandsUpTo format slot image (record { base = log.base; entries = log.entries ++ entries_in block }) (bodies ++ body_of format block ∷ []) next (session_in block)
+block_more format slot image log bodies gate reached is block later next fits kept there =
     let begins : log.base.program ≡ is.program = ap (λ (s : Standing). s.program) is.base ∙ program_begins is.program is.begins in
     record {
       silo = is.silo;
@@ -57,39 +63,44 @@ block_more slot image log bodies gate is block next fits kept there =
       base = is.base;
       whole = is.whole;
       blocks = is.blocks ++ block ∷ [];
-      fit = both_parts BlockFits is.blocks (block ∷ []) is.fit (fits, tt);
+      fit = both_parts (BlockFits format) is.blocks (block ∷ []) is.fit (fits, tt);
+      never_fall = rises (session_before is.begins) reached is.blocks block is.never_fall later;
       spelled =
-          ap (λ (l : List (List ℕ)). l ++ body_of block ∷ []) is.spelled
-          ∙ append_assoc (bodies_before is.begins) (map body_of is.blocks) (body_of block ∷ [])
-          ∙ ap (λ (l : List (List ℕ)). bodies_before is.begins ++ l) (sym (map-append body_of is.blocks (block ∷ [])));
+          ap (λ (l : List (List ℕ)). l ++ body_of format block ∷ []) is.spelled
+          ∙ append_assoc (bodies_before format is.begins) (map (body_of format) is.blocks) (body_of format block ∷ [])
+          ∙ ap (λ (l : List (List ℕ)). bodies_before format is.begins ++ l) (sym (map-append (body_of format) is.blocks (block ∷ [])));
       stand = there;
       entries = ap (λ (l : List LogEntry). l ++ entries_in block) is.entries ∙ sym (entries_more is.blocks block);
-      kept = subst (λ (p : Program). AreKept slot image p (log.entries ++ entries_in block)) begins
-          (kept_both slot image log.base log.entries (entries_in block) (subst (λ (p : Program). AreKept slot image p log.entries) (sym begins) is.kept) kept);
+      kept = subst (λ (p : Program). AreKept format slot image p (log.entries ++ entries_in block)) begins
+          (kept_both format slot image log.base log.entries (entries_in block) (subst (λ (p : Program). AreKept format slot image p log.entries) (sym begins) is.kept) kept);
     }
 
 -- the block of a batch, whose records are kept under the program in force
-pub sealed : (slot : ℕ) (image : Image) (log : Log) (bodies : List (List ℕ)) (gate : ℕ) → StandsUpTo slot image log bodies gate
-    → (batch : List Commit) (next : ℕ) → length batch ≤ 64 → AllByRecursion (IsKept slot (shape_in (standing_of log).program) image) batch
-    → HasBlocks (bodies ++ body_of (Records batch) ∷ []) next (image (Manager slot))
-    → StandsUpTo slot image (grown log batch) (bodies ++ body_of (Records batch) ∷ []) next
-sealed slot image log bodies gate is batch next few kept there =
-    block_more slot image log bodies gate is (Records batch) next few (records_kept slot image (standing_of log).program batch kept) there
+pub sealed : (format : Format) (slot : ℕ) (image : Image) (log : Log) (bodies : List (List ℕ)) (gate reached : ℕ) → StandsUpTo format slot image log bodies gate reached
+    → (session : ℕ) → reached ≤ session → SessionIs format session
+    → (batch : List Commit) (next : ℕ) → length batch ≤ 64 → AllByRecursion (IsKept format slot (shape_in (standing_of log).program) image) batch
+    → HasBlocks (bodies ++ body_of format (Records session batch) ∷ []) next (image (Manager slot))
+    → StandsUpTo format slot image (grown log batch) (bodies ++ body_of format (Records session batch) ∷ []) next session
+sealed format slot image log bodies gate reached is session later may batch next few kept there =
+    block_more format slot image log bodies gate reached is (Records session batch) later next (few, may) (records_kept format slot image (standing_of log).program batch kept) there
 
 -- the block of an upgrade, whose program may follow the one in force
-pub sealed_upgrade : (slot : ℕ) (image : Image) (log : Log) (bodies : List (List ℕ)) (gate : ℕ) → StandsUpTo slot image log bodies gate
+pub sealed_upgrade : (format : Format) (slot : ℕ) (image : Image) (log : Log) (bodies : List (List ℕ)) (gate reached : ℕ) → StandsUpTo format slot image log bodies gate reached
+    → (session : ℕ) → reached ≤ session → SessionIs format session
     → (q : Program) (next : ℕ) → MayFollow (standing_of log).program q
-    → HasBlocks (bodies ++ body_of (Upgrade q) ∷ []) next (image (Manager slot))
-    → StandsUpTo slot image (upgraded log q) (bodies ++ body_of (Upgrade q) ∷ []) next
-sealed_upgrade slot image log bodies gate is q next may there = block_more slot image log bodies gate is (Upgrade q) next tt (may, tt) there
+    → HasBlocks (bodies ++ body_of format (Upgrade session q) ∷ []) next (image (Manager slot))
+    → StandsUpTo format slot image (upgraded log q) (bodies ++ body_of format (Upgrade session q) ∷ []) next session
+sealed_upgrade format slot image log bodies gate reached is session later may q next follows there =
+    block_more format slot image log bodies gate reached is (Upgrade session q) later next may (follows, tt) there
 
 -- with a batch it begins as before
-pub sealed_begins : (slot : ℕ) (image : Image) (log : Log) (bodies : List (List ℕ)) (gate : ℕ) → (is : StandsUpTo slot image log bodies gate)
-    → (batch : List Commit) (next : ℕ) → (few : length batch ≤ 64) → (kept : AllByRecursion (IsKept slot (shape_in (standing_of log).program) image) batch)
-    → (there : HasBlocks (bodies ++ body_of (Records batch) ∷ []) next (image (Manager slot)))
-    → (sealed slot image log bodies gate is batch next few kept there).begins ≡ is.begins
+pub sealed_begins : (format : Format) (slot : ℕ) (image : Image) (log : Log) (bodies : List (List ℕ)) (gate reached : ℕ) → (is : StandsUpTo format slot image log bodies gate reached)
+    → (session : ℕ) → (later : reached ≤ session) → (may : SessionIs format session)
+    → (batch : List Commit) (next : ℕ) → (few : length batch ≤ 64) → (kept : AllByRecursion (IsKept format slot (shape_in (standing_of log).program) image) batch)
+    → (there : HasBlocks (bodies ++ body_of format (Records session batch) ∷ []) next (image (Manager slot)))
+    → (sealed format slot image log bodies gate reached is session later may batch next few kept there).begins ≡ is.begins
 unfolding sealed block_more
-sealed_begins slot image log bodies gate is batch next few kept there = refl
+sealed_begins format slot image log bodies gate reached is session later may batch next few kept there = refl
 
 -- ---- grains without a state in the store
 

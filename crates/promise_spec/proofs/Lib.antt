@@ -12,6 +12,7 @@ pub mod ReadBlocks
 pub mod ReadCheckpoints
 pub mod ReadVersions
 pub mod ReadLogs
+pub mod ReadSessions
 pub mod Slots
 pub mod Openings
 pub mod OneLog

@@ -187,7 +187,7 @@ when_short : (b : Bool) (said : List ℕ) → b ≡ true → unwrap_or (if b the
 when_short b said is = rw is refl
 
 fitted_same : (said : List ℕ) → length said ≤ 32 → fitted said ≡ said
-fitted_same said short = when_short (nat_le (length said) 256) said (le-leb (length said) 256 (omega arith))
+fitted_same said short = when_short (nat_le (length said) 4096) said (le-leb (length said) 4096 (omega arith))
 
 apart_shapes : (said : List ℕ) (types : List TypeTree) → All (λ (other_name : List ℕ). said ≢ other_name) (map (λ (t : TypeTree). t.name.text) types) → AllByRecursion (λ (t : TypeTree). IsPlain t.name.text) types
     → AllByRecursion (λ u. u.name ≢ said) (type_shapes types)

@@ -13,7 +13,7 @@ use Rattle.base_types.specs.declared.stores.Version.{Version}
 use Rattle.host_trait.specs.declared.channels.FileId.{FileId}
 use Rattle.host_trait.specs.declared.channels.FileId.TheVariants.{Grain}
 use Rattle.host_trait.specs.World.{Image}
-use Rattle.field_codec.specs.declared.formats.Format.TheVariants.{One}
+use Rattle.field_codec.specs.declared.formats.Format.{Format}
 use Rattle.field_codec.specs.Formats.{version_limit}
 use Rattle.field_codec.specs.Spelling.{spelling_of_values, spelling_of_version}
 use Rattle.field_codec.specs.Readers.{AreBytes}
@@ -122,26 +122,26 @@ units_same : (m n : ℕ) → m < 2 ^ 64 → n < 2 ^ 64 → to_le_bytes w64 m ≡
 units_same m n low also e = sym (wide64.again m low) ∙ ap (from_le_bytes w64) e ∙ wide64.again n also
 
 -- the version that is named is there, by the shape of its program
-abbrev pub IsThere : ℕ → List Shape → Image → Named → Type 0
-IsThere live shapes image n = (v : Version) × (version_numbered live One shapes image n ≡ Ok v)
+abbrev pub IsThere : Format → ℕ → List Shape → Image → Named → Type 0
+IsThere format live shapes image n = (v : Version) × (version_numbered live format shapes image n ≡ Ok v)
 
-module _ (live : ℕ) (shape : Shape) (image : Image) where
+module _ (format : Format) (live : ℕ) (shape : Shape) (image : Image) where
   module _ (w : Written) where
-    near_by : (o : Option ℕ) (v : Version) → version_at_place One o w.place (image (Grain live w.grain)) ≡ Ok v → w.place.offset < 2 ^ 63
+    near_by : (o : Option ℕ) (v : Version) → version_at_place format o w.place (image (Grain live w.grain)) ≡ Ok v → w.place.offset < 2 ^ 63
     near_by None v e = absurd cc
     near_by (Some count) v e =
-        let one = past (is_beyond One w.place) w.place.offset (text_in One count w.place (image (Grain live w.grain))) v e in
-        let low : w.place.offset ≤ 9223372036854775807 = ltb-false 9223372036854775807 w.place.offset (or_parts (nat_lt 9223372036854775807 w.place.offset) (nat_lt (version_limit One) w.place.len) one.0).0 in
+        let one = past (is_beyond format w.place) w.place.offset (text_in format count w.place (image (Grain live w.grain))) v e in
+        let low : w.place.offset ≤ 9223372036854775807 = ltb-false 9223372036854775807 w.place.offset (or_parts (nat_lt 9223372036854775807 w.place.offset) (nat_lt (version_limit format) w.place.len) one.0).0 in
         omega (arith, low)
 
     -- a version that is read at its place stands there, with its own unit
-    place_stands : AreBytes (image (Grain live w.grain)) → (v : Version) → version_at_place One (fields_of (slice_get shape.types w.grain.kind)) w.place (image (Grain live w.grain)) ≡ Ok v
-        → WriteStands live shape image v.unit w v.state × (take 8 (drop w.place.offset (image (Grain live w.grain))) ≡ to_le_bytes w64 v.unit.0) × (v.unit.0 < 2 ^ 64)
+    place_stands : AreBytes (image (Grain live w.grain)) → (v : Version) → version_at_place format (fields_of (slice_get shape.types w.grain.kind)) w.place (image (Grain live w.grain)) ≡ Ok v
+        → WriteStands format live shape image v.unit w v.state × (take 8 (drop w.place.offset (image (Grain live w.grain))) ≡ to_le_bytes w64 v.unit.0) × (v.unit.0 < 2 ^ 64)
     place_stands are v e =
-        let is = found_when (Unit {0}) One (fields_of (slice_get shape.types w.grain.kind)) w.place (image (Grain live w.grain)) (Ok v) (λ told. e) (λ told. AreBytes-cut w.place.len w.place.offset (image (Grain live w.grain)) are) tt in
+        let is = found_when (Unit {0}) format (fields_of (slice_get shape.types w.grain.kind)) w.place (image (Grain live w.grain)) (Ok v) (λ told. e) (λ told. AreBytes-cut w.place.len w.place.offset (image (Grain live w.grain)) are) tt in
         let first : take 8 (drop w.place.offset (image (Grain live w.grain))) ≡ to_le_bytes w64 v.unit.0 = first_eight w.place.len (drop w.place.offset (image (Grain live w.grain))) v is.2.here (sym is.2.version_is.len) in
         let count : is.0 ≡ length v.state = sym is.2.version_is.count in
-        let there : IsVersionAt One (length v.state) w.place (image (Grain live w.grain)) v = subst (λ (n : ℕ). IsVersionAt One n w.place (image (Grain live w.grain)) v) count is.2 in (
+        let there : IsVersionAt format (length v.state) w.place (image (Grain live w.grain)) v = subst (λ (n : ℕ). IsVersionAt format n w.place (image (Grain live w.grain)) v) count is.2 in (
           record {
             near = near_by (fields_of (slice_get shape.types w.grain.kind)) v e;
             fields = is.1 ∙ ap (λ (n : ℕ). Some n) count;
@@ -152,16 +152,16 @@ module _ (live : ℕ) (shape : Shape) (image : Image) where
         )
 
     -- a version that stands there is read at its place
-    place_stood : (unit : UnitNo) (state : List Value) → WriteStands live shape image unit w state
-        → version_at_place One (fields_of (slice_get shape.types w.grain.kind)) w.place (image (Grain live w.grain)) ≡ Ok (record { unit = unit; state = state })
+    place_stood : (unit : UnitNo) (state : List Value) → WriteStands format live shape image unit w state
+        → version_at_place format (fields_of (slice_get shape.types w.grain.kind)) w.place (image (Grain live w.grain)) ≡ Ok (record { unit = unit; state = state })
     place_stood unit state s =
         let v : Version = record { unit = unit; state = state } in
         let o : Option ℕ = fields_of (slice_get shape.types w.grain.kind) in
-        let found : Result Version ℕ = version_at_place One o w.place (image (Grain live w.grain)) in
-        gives_answer found v (only_at One o w.place (image (Grain live w.grain)) (as_answer found) (answer_gives found) (length state) v s.fields s.near s.version)
+        let found : Result Version ℕ = version_at_place format o w.place (image (Grain live w.grain)) in
+        gives_answer found v (only_at format o w.place (image (Grain live w.grain)) (as_answer found) (answer_gives found) (length state) v s.fields s.near s.version)
 
     -- and begins with its unit's number
-    unit_stood : (unit : UnitNo) (state : List Value) → WriteStands live shape image unit w state → take 8 (drop w.place.offset (image (Grain live w.grain))) ≡ to_le_bytes w64 unit.0
+    unit_stood : (unit : UnitNo) (state : List Value) → WriteStands format live shape image unit w state → take 8 (drop w.place.offset (image (Grain live w.grain))) ≡ to_le_bytes w64 unit.0
     unit_stood unit state s =
         first_eight w.place.len (drop w.place.offset (image (Grain live w.grain))) (record { unit = unit; state = state }) s.version.here (sym s.version.version_is.len)
 
@@ -170,19 +170,19 @@ module _ (live : ℕ) (shape : Shape) (image : Image) where
     named_as = record { unit = Some unit; program = 0; written = w }
 
     -- a version that is read stands there
-    pub stands : AreBytes (image (Grain live w.grain)) → unit.0 < 2 ^ 64 → (v : Version) → version_named live One shape image named_as ≡ Ok v → WriteStands live shape image unit w v.state
+    pub stands : AreBytes (image (Grain live w.grain)) → unit.0 < 2 ^ 64 → (v : Version) → version_named live format shape image named_as ≡ Ok v → WriteStands format live shape image unit w v.state
     stands are low v e =
-        let t = passed (is_owned unit w.place (image (Grain live w.grain))) w.place.offset (version_at_place One (fields_of (slice_get shape.types w.grain.kind)) w.place (image (Grain live w.grain))) v e in
+        let t = passed (is_owned unit w.place (image (Grain live w.grain))) w.place.offset (version_at_place format (fields_of (slice_get shape.types w.grain.kind)) w.place (image (Grain live w.grain))) v e in
         let is = place_stands w are v t.1 in
         let own : take 8 (drop w.place.offset (image (Grain live w.grain))) ≡ to_le_bytes w64 unit.0 =
         (bytes_eq-Decides (take 8 (drop w.place.offset (image (Grain live w.grain)))) (to_le_bytes w64 unit.0)).0 t.0 in
         let number : v.unit.0 ≡ unit.0 = units_same v.unit.0 unit.0 is.2 low (sym is.1 ∙ own) in
-        subst (λ (n : ℕ). WriteStands live shape image (record { 0 = n }) w v.state) number is.0
+        subst (λ (n : ℕ). WriteStands format live shape image (record { 0 = n }) w v.state) number is.0
 
     -- a version that stands there is read
-    pub stood : (state : List Value) → WriteStands live shape image unit w state → version_named live One shape image named_as ≡ Ok (record { unit = unit; state = state })
+    pub stood : (state : List Value) → WriteStands format live shape image unit w state → version_named live format shape image named_as ≡ Ok (record { unit = unit; state = state })
     stood state s =
-        let found : Result Version ℕ = version_at_place One (fields_of (slice_get shape.types w.grain.kind)) w.place (image (Grain live w.grain)) in
+        let found : Result Version ℕ = version_at_place format (fields_of (slice_get shape.types w.grain.kind)) w.place (image (Grain live w.grain)) in
         let own : is_owned unit w.place (image (Grain live w.grain)) ≡ true =
         (bytes_eq-Decides (take 8 (drop w.place.offset (image (Grain live w.grain)))) (to_le_bytes w64 unit.0)).1 (unit_stood w unit state s) in
         ap (λ (b : Bool). if b then found else Err w.place.offset) own ∙ place_stood w unit state s
@@ -194,10 +194,10 @@ module _ (live : ℕ) (shape : Shape) (image : Image) where
     saved_as = record { unit = None; program = 0; written = w }
 
     -- a version that is read there is a unit's that may be logged, and stands
-    pub saved_stands : AreBytes (image (Grain live w.grain)) → (v : Version) → version_named live One shape image saved_as ≡ Ok v
-        → ((0 < v.unit.0) × (v.unit.0 < 2 ^ 63)) × WriteStands live shape image v.unit w v.state
+    pub saved_stands : AreBytes (image (Grain live w.grain)) → (v : Version) → version_named live format shape image saved_as ≡ Ok v
+        → ((0 < v.unit.0) × (v.unit.0 < 2 ^ 63)) × WriteStands format live shape image v.unit w v.state
     saved_stands are v e =
-        let t = passed (is_logged w.place (image (Grain live w.grain))) w.place.offset (version_at_place One (fields_of (slice_get shape.types w.grain.kind)) w.place (image (Grain live w.grain))) v e in
+        let t = passed (is_logged w.place (image (Grain live w.grain))) w.place.offset (version_at_place format (fields_of (slice_get shape.types w.grain.kind)) w.place (image (Grain live w.grain))) v e in
         let is = place_stands w are v t.1 in
         let number : from_le_bytes w64 (take 8 (drop w.place.offset (image (Grain live w.grain)))) ≡ v.unit.0 = ap (from_le_bytes w64) is.1 ∙ wide64.again v.unit.0 is.2 in
         let may : may_be_unit Logged v.unit.0 ≡ true = sym (ap (may_be_unit Logged) number) ∙ t.0 in
@@ -207,9 +207,9 @@ module _ (live : ℕ) (shape : Shape) (image : Image) where
         ((above, omega (arith, below)), is.0)
 
     -- a version that stands there is read
-    pub saved_stood : (unit : UnitNo) (state : List Value) → 0 < unit.0 → unit.0 < 2 ^ 63 → WriteStands live shape image unit w state → version_named live One shape image saved_as ≡ Ok (record { unit = unit; state = state })
+    pub saved_stood : (unit : UnitNo) (state : List Value) → 0 < unit.0 → unit.0 < 2 ^ 63 → WriteStands format live shape image unit w state → version_named live format shape image saved_as ≡ Ok (record { unit = unit; state = state })
     saved_stood unit state above below s =
-        let found : Result Version ℕ = version_at_place One (fields_of (slice_get shape.types w.grain.kind)) w.place (image (Grain live w.grain)) in
+        let found : Result Version ℕ = version_at_place format (fields_of (slice_get shape.types w.grain.kind)) w.place (image (Grain live w.grain)) in
         let number : from_le_bytes w64 (take 8 (drop w.place.offset (image (Grain live w.grain)))) ≡ unit.0 = ap (from_le_bytes w64) (unit_stood w unit state s) ∙ wide64.again unit.0 (omega (arith, below)) in
         let may : may_be_unit Logged unit.0 ≡ true = and_from (nat_lt 0 unit.0) (nat_lt unit.0 9223372036854775808) (lt-ltb 0 unit.0 above) (lt-ltb unit.0 9223372036854775808 (omega (arith, below))) in
         let own : is_logged w.place (image (Grain live w.grain)) ≡ true = ap (may_be_unit Logged) number ∙ may in
@@ -218,39 +218,39 @@ module _ (live : ℕ) (shape : Shape) (image : Image) where
   -- ---- the versions of a record
 
   -- states of versions that stand are read
-  all_states : (unit : UnitNo) (ws : List Written) (states : List (List Value)) → WritesStand live shape image unit ws states → map (λ w. state_of (version_named live One shape image (record { unit = Some unit; program = 0; written = w }))) ws ≡ states
+  all_states : (unit : UnitNo) (ws : List Written) (states : List (List Value)) → WritesStand format live shape image unit ws states → map (λ w. state_of (version_named live format shape image (record { unit = Some unit; program = 0; written = w }))) ws ≡ states
   all_states unit [] [] all = refl
   all_states unit [] (state ∷ states) all = absurd all
   all_states unit (w ∷ ws) [] all = absurd all
   all_states unit (w ∷ ws) (state ∷ states) all =
-      let one : state_of (version_named live One shape image (record { unit = Some unit; program = 0; written = w })) ≡ state = ap state_of (stood unit w state all.0) in
+      let one : state_of (version_named live format shape image (record { unit = Some unit; program = 0; written = w })) ≡ state = ap state_of (stood unit w state all.0) in
       let more = all_states unit ws states all.1 in
       λ i. one i ∷ more i
 
 -- ---- by the number of the program of their time
 
-module _ (live : ℕ) (shapes : List Shape) (image : Image) (number : ℕ) (shape : Shape) (at : slice_get shapes number ≡ Some shape) where
+module _ (format : Format) (live : ℕ) (shapes : List Shape) (image : Image) (number : ℕ) (shape : Shape) (at : slice_get shapes number ≡ Some shape) where
   -- the shape is taken by its number
   pub by_number : (unit : Option UnitNo) (w : Written)
-      → version_numbered live One shapes image (record { unit = unit; program = number; written = w }) ≡ version_named live One shape image (record { unit = unit; program = 0; written = w })
-  by_number unit w = ap (λ (o : Option Shape). version_by_shape live One o image (record { unit = unit; program = number; written = w })) at
+      → version_numbered live format shapes image (record { unit = unit; program = number; written = w }) ≡ version_named live format shape image (record { unit = unit; program = 0; written = w })
+  by_number unit w = ap (λ (o : Option Shape). version_by_shape live format o image (record { unit = unit; program = number; written = w })) at
 
   -- versions that are there stand, with the states that are read
-  all_stand : (unit : UnitNo) (ws : List Written) → ((file : FileId) → AreBytes (image file)) → unit.0 < 2 ^ 64 → AllByRecursion (IsThere live shapes image) (map (λ w. record { unit = Some unit; program = number; written = w }) ws)
-      → WritesStand live shape image unit ws (map (λ w. state_of (version_named live One shape image (record { unit = Some unit; program = 0; written = w }))) ws)
+  all_stand : (unit : UnitNo) (ws : List Written) → ((file : FileId) → AreBytes (image file)) → unit.0 < 2 ^ 64 → AllByRecursion (IsThere format live shapes image) (map (λ w. record { unit = Some unit; program = number; written = w }) ws)
+      → WritesStand format live shape image unit ws (map (λ w. state_of (version_named live format shape image (record { unit = Some unit; program = 0; written = w }))) ws)
   all_stand unit [] are low all = tt
   all_stand unit (w ∷ ws) are low all =
-      let read : version_named live One shape image (record { unit = Some unit; program = 0; written = w }) ≡ Ok all.0.0 = sym (by_number (Some unit) w) ∙ all.0.1 in
-      let state : all.0.0.state ≡ state_of (version_named live One shape image (record { unit = Some unit; program = 0; written = w })) = ap state_of (sym read) in
-      (subst (WriteStands live shape image unit w) state (stands live shape image unit w (are (Grain live w.grain)) low all.0.0 read), all_stand unit ws are low all.1)
+      let read : version_named live format shape image (record { unit = Some unit; program = 0; written = w }) ≡ Ok all.0.0 = sym (by_number (Some unit) w) ∙ all.0.1 in
+      let state : all.0.0.state ≡ state_of (version_named live format shape image (record { unit = Some unit; program = 0; written = w })) = ap state_of (sym read) in
+      (subst (WriteStands format live shape image unit w) state (stands format live shape image unit w (are (Grain live w.grain)) low all.0.0 read), all_stand unit ws are low all.1)
 
   -- versions that stand are there
-  all_there : (unit : UnitNo) (ws : List Written) (states : List (List Value)) → WritesStand live shape image unit ws states
-      → AllByRecursion (IsThere live shapes image) (map (λ w. record { unit = Some unit; program = number; written = w }) ws)
+  all_there : (unit : UnitNo) (ws : List Written) (states : List (List Value)) → WritesStand format live shape image unit ws states
+      → AllByRecursion (IsThere format live shapes image) (map (λ w. record { unit = Some unit; program = number; written = w }) ws)
   all_there unit [] states all = tt
   all_there unit (w ∷ ws) [] all = absurd all
   all_there unit (w ∷ ws) (state ∷ states) all =
-      ((record { unit = unit; state = state }, by_number (Some unit) w ∙ stood live shape image unit w state all.0), all_there unit ws states all.1)
+      ((record { unit = unit; state = state }, by_number (Some unit) w ∙ stood format live shape image unit w state all.0), all_there unit ws states all.1)
 
 -- ---- the versions of a log
 
@@ -270,55 +270,55 @@ entry_seen (Recorded c) = ReadRecord c.logged
 entry_seen (Upgraded q) = ReadUpgrade q
 
 -- Each record is one of the program in force, and each program may follow the one before it.
-abbrev pub AreFit : Program → List ReadEntry → Type 0
-AreFit p [] = Unit {0}
-AreFit p (ReadRecord r ∷ later) = IsRecordIn One Logged (shape_in p) r × AreFit p later
-AreFit p (ReadUpgrade q ∷ later) = MayFollow p q × AreFit q later
+abbrev pub AreFit : Format → Program → List ReadEntry → Type 0
+AreFit format p [] = Unit {0}
+AreFit format p (ReadRecord r ∷ later) = IsRecordIn format Logged (shape_in p) r × AreFit format p later
+AreFit format p (ReadUpgrade q ∷ later) = MayFollow p q × AreFit format q later
 
 -- entries that are kept are so
-pub fit_of : (live : ℕ) (image : Image) (p : Program) (entries : List LogEntry) → AreKept live image p entries → AreFit p (map entry_seen entries)
-fit_of live image p [] all = tt
-fit_of live image p (Recorded c ∷ entries) all = (all.0.fits, fit_of live image p entries all.1)
-fit_of live image p (Upgraded q ∷ entries) all = (all.0, fit_of live image q entries all.1)
+pub fit_of : (format : Format) (live : ℕ) (image : Image) (p : Program) (entries : List LogEntry) → AreKept format live image p entries → AreFit format p (map entry_seen entries)
+fit_of format live image p [] all = tt
+fit_of format live image p (Recorded c ∷ entries) all = (all.0.fits, fit_of format live image p entries all.1)
+fit_of format live image p (Upgraded q ∷ entries) all = (all.0, fit_of format live image q entries all.1)
 
 -- and are read with their states
-pub same_entries : (live : ℕ) (image : Image) (p : Program) (entries : List LogEntry) → AreKept live image p entries → entries_logged live p image (map entry_seen entries) ≡ entries
-same_entries live image p [] kept = refl
-same_entries live image p (Recorded c ∷ entries) kept =
-    let states = all_states live (shape_in p) image c.logged.unit c.logged.writes c.states kept.0.whole in
-    let more = same_entries live image p entries kept.1 in
+pub same_entries : (format : Format) (live : ℕ) (image : Image) (p : Program) (entries : List LogEntry) → AreKept format live image p entries → entries_logged format live p image (map entry_seen entries) ≡ entries
+same_entries format live image p [] kept = refl
+same_entries format live image p (Recorded c ∷ entries) kept =
+    let states = all_states format live (shape_in p) image c.logged.unit c.logged.writes c.states kept.0.whole in
+    let more = same_entries format live image p entries kept.1 in
     λ i. Recorded (record { logged = c.logged; states = states i }) ∷ more i
-same_entries live image p (Upgraded q ∷ entries) kept = ap (λ (l : List LogEntry). Upgraded q ∷ l) (same_entries live image q entries kept.1)
+same_entries format live image p (Upgraded q ∷ entries) kept = ap (λ (l : List LogEntry). Upgraded q ∷ l) (same_entries format live image q entries kept.1)
 
 -- the shapes of the programs that come into force among entries
 abbrev pub later_shapes : List ReadEntry → List Shape
 later_shapes entries = shapes_in_turn (map (λ (q : Program). q.types) (programs_read entries))
 
-module _ (live : ℕ) (shapes : List Shape) (image : Image) where
+module _ (format : Format) (live : ℕ) (shapes : List Shape) (image : Image) where
   -- from this number on the shapes are those of this program and of those that come into force among these entries
   abbrev pub AreShapes : ℕ → Program → List ReadEntry → Type 0
   AreShapes number p entries = drop number shapes ≡ shapes_in_turn (types_read p entries)
 
   -- entries whose versions are there are kept
-  pub all_are_kept : ((file : FileId) → AreBytes (image file)) → (number : ℕ) (p : Program) (entries : List ReadEntry) → AreShapes number p entries → AreFit p entries
-      → AllByRecursion (IsThere live shapes image) (named_by number entries) → AreKept live image p (entries_logged live p image entries)
+  pub all_are_kept : ((file : FileId) → AreBytes (image file)) → (number : ℕ) (p : Program) (entries : List ReadEntry) → AreShapes number p entries → AreFit format p entries
+      → AllByRecursion (IsThere format live shapes image) (named_by number entries) → AreKept format live image p (entries_logged format live p image entries)
   all_are_kept are number p [] goes fit there = tt
   all_are_kept are number p (ReadRecord r ∷ entries) goes fit there =
       let at = item_at number shapes (shape_in p) (later_shapes entries) goes in
-      let t = parts_of (IsThere live shapes image) (map (λ w. record { unit = Some r.unit; program = number; written = w }) r.writes) (named_by number entries) there in
-      (record { fits = fit.0; whole = all_stand live shapes image number (shape_in p) at.0 r.unit r.writes are fit.0.fits.unit t.0 }, all_are_kept are number p entries goes fit.1 t.1)
+      let t = parts_of (IsThere format live shapes image) (map (λ w. record { unit = Some r.unit; program = number; written = w }) r.writes) (named_by number entries) there in
+      (record { fits = fit.0; whole = all_stand format live shapes image number (shape_in p) at.0 r.unit r.writes are fit.0.fits.unit t.0 }, all_are_kept are number p entries goes fit.1 t.1)
   all_are_kept are number p (ReadUpgrade q ∷ entries) goes fit there =
       let at = item_at number shapes (shape_in p) (later_shapes (ReadUpgrade q ∷ entries)) goes in
       (fit.0, all_are_kept are (number + 1) q entries at.1 fit.1 there)
 
   -- the versions of entries that are kept are there
-  pub all_are_there : (number : ℕ) (p : Program) (entries : List LogEntry) → AreShapes number p (map entry_seen entries) → AreKept live image p entries
-      → AllByRecursion (IsThere live shapes image) (named_by number (map entry_seen entries))
+  pub all_are_there : (number : ℕ) (p : Program) (entries : List LogEntry) → AreShapes number p (map entry_seen entries) → AreKept format live image p entries
+      → AllByRecursion (IsThere format live shapes image) (named_by number (map entry_seen entries))
   all_are_there number p [] goes kept = tt
   all_are_there number p (Recorded c ∷ entries) goes kept =
       let at = item_at number shapes (shape_in p) (later_shapes (map entry_seen entries)) goes in
-      both_parts (IsThere live shapes image) (map (λ w. record { unit = Some c.logged.unit; program = number; written = w }) c.logged.writes) (named_by number (map entry_seen entries))
-      (all_there live shapes image number (shape_in p) at.0 c.logged.unit c.logged.writes c.states kept.0.whole) (all_are_there number p entries goes kept.1)
+      both_parts (IsThere format live shapes image) (map (λ w. record { unit = Some c.logged.unit; program = number; written = w }) c.logged.writes) (named_by number (map entry_seen entries))
+      (all_there format live shapes image number (shape_in p) at.0 c.logged.unit c.logged.writes c.states kept.0.whole) (all_are_there number p entries goes kept.1)
   all_are_there number p (Upgraded q ∷ entries) goes kept =
       let at = item_at number shapes (shape_in p) (later_shapes (ReadUpgrade q ∷ map entry_seen entries)) goes in
       all_are_there (number + 1) q entries at.1 kept.1
@@ -329,12 +329,12 @@ module _ (live : ℕ) (shapes : List Shape) (image : Image) where
   none_by n (Ok v) later e = ((v, refl), e)
   none_by n (Err place) later e = absurd cc
 
-  pub none_missing : (named : List Named) → first_missing live One shapes image named ≡ None → AllByRecursion (IsThere live shapes image) named
+  pub none_missing : (named : List Named) → first_missing live format shapes image named ≡ None → AllByRecursion (IsThere format live shapes image) named
   none_missing [] e = tt
   none_missing (n ∷ named) e =
-      let t = none_by n (version_numbered live One shapes image n) (first_missing live One shapes image named) e in
+      let t = none_by n (version_numbered live format shapes image n) (first_missing live format shapes image named) e in
       (t.0, none_missing named t.1)
 
-  pub missing_none : (named : List Named) → AllByRecursion (IsThere live shapes image) named → first_missing live One shapes image named ≡ None
+  pub missing_none : (named : List Named) → AllByRecursion (IsThere format live shapes image) named → first_missing live format shapes image named ≡ None
   missing_none [] all = refl
-  missing_none (n ∷ named) all = ap (λ (r : Result Version ℕ). missing_or live n.written.grain r (first_missing live One shapes image named)) all.0.1 ∙ missing_none named all.1
+  missing_none (n ∷ named) all = ap (λ (r : Result Version ℕ). missing_or live n.written.grain r (first_missing live format shapes image named)) all.0.1 ∙ missing_none named all.1

@@ -7,6 +7,7 @@ use Rattle.base_types.specs.declared.calls.Value.{Value}
 use Rattle.script_holding.specs.Holding.{same_grain}
 use Rattle.host_trait.proofs.Names.{same_grain-is}
 use Rattle.host_trait.specs.World.{Image}
+use Rattle.field_codec.specs.declared.formats.Format.{Format}
 use Rattle.promise_spec.specs.Logs.{IsLogIn}
 use Rattle.promise_spec.specs.Records.{States, put_state}
 use Rattle.promise_spec.specs.Entries.{Standing, initial_states, is_among, Log, standing_of, checkpointed}
@@ -49,9 +50,9 @@ stands_alike standing ck plain is =
         by false e = others_stay (states_saved ck) (initial_states standing.program) grain e ∙ sym (plain grain (sym (is.held grain) ∙ e))
 
 -- so does one of what an image's log stands for
-pub stands_for : (slot : ℕ) (image : Image) (log : Log) (ck : Checkpoint) → IsLogIn slot image log → IsSavedFrom (standing_of log) ck
+pub stands_for : (format : Format) (slot : ℕ) (image : Image) (log : Log) (ck : Checkpoint) → IsLogIn format slot image log → IsSavedFrom (standing_of log) ck
     → record { base = standing_saved (standing_of log).program ck; entries = [] } ≡ checkpointed log
-stands_for slot image log ck is saved =
+stands_for format slot image log ck is saved =
     let plain : IsPlain (standing_of log) = plain_entries log.base log.entries (subst IsPlain (sym is.stands.base) (plain_base is.stands.program is.stands.begins)) in
     let same : standing_saved (standing_of log).program ck ≡ standing_of log = stands_alike (standing_of log) ck plain saved in
     λ i. record { base = same i; entries = [] }

@@ -1,46 +1,46 @@
 -- Which slot of an image is live.
-use Rattle.std.proofs.Common.{◌≡◌, ◌≢◌, ◌⊎◌, inl, inr, ℕ, zero, suc, ◌+◌, ◌-◌, ◌<◌, ◌≤◌, Bool, true, false, ◌&&◌, nat_le, List, length, take, drop, slice_index, bytes_eq, refl, sym, ap, subst, ◌∙◌, arith, get_or-take}
+use Rattle.std.proofs.Common.{◌≡◌, ◌≢◌, ◌⊎◌, inl, inr, ℕ, zero, suc, ◌+◌, ◌-◌, ◌<◌, ◌≤◌, Bool, true, false, ◌&&◌, nat_le, List, length, take, drop, slice_index, refl, sym, ap, subst, ◌∙◌, arith, get_or-take}
 use Rattle.std.specs.Prelude.{◌==◌}
 use Rattle.std.specs.Int.{w32, from_le_bytes}
 use Rattle.std.proofs.lemmas.Bool.{cases_lt, and_parts, and_from, leb-true, le-leb, eqb-true, eq-eqb, false≢true}
 use Rattle.std.proofs.lemmas.List.{take-take, drop-take}
-use Rattle.std.proofs.lemmas.Slice.Eq.{bytes_eq-Decides}
 use Rattle.host_trait.specs.declared.channels.FileId.{FileId}
 use Rattle.host_trait.specs.declared.channels.FileId.TheVariants.{Manager}
 use Rattle.host_trait.specs.Disk.{FileState, MayLeave}
 use Rattle.host_trait.specs.Files.{slot_of}
 use Rattle.host_trait.specs.World.{World, Moment, Disk, Image, IsImage, with_bytes}
 use Rattle.host_trait.proofs.Runs.{image_with, with_bytes-there, with_bytes-other}
-use Rattle.silo_spec.specs.Silos.{IsSilo}
+use Rattle.field_codec.specs.declared.formats.Format.{Format}
+use Rattle.silo_spec.specs.Silos.{IsSilo, IsFormat, IsMagic, is_magic}
 use Rattle.silo_spec.specs.Slots.{generation, IsLive, ShowsSilos}
-use Rattle.promise_spec.specs.Logs.{magic}
+use Rattle.silo_spec.proofs.Magics.{magic_named, named_magic}
 use Rattle.promise_spec.specs.Openings.{is_silo}
 
 -- ---- the test of a manager file
 
-pub silo_read : (file : List ℕ) → is_silo file ≡ true → IsSilo magic file
+pub silo_read : (file : List ℕ) → is_silo file ≡ true → IsSilo IsMagic file
 silo_read file e =
-    let one = and_parts (nat_le 16 (length file)) ((slice_index file 0 == 1) && bytes_eq (take 8 (drop 1 file)) magic) e in
-    let two = and_parts (slice_index file 0 == 1) (bytes_eq (take 8 (drop 1 file)) magic) one.1 in
-    record { long = leb-true 16 (length file) one.0; gate = eqb-true (slice_index file 0) 1 two.0; named = (bytes_eq-Decides (take 8 (drop 1 file)) magic).0 two.1 }
+    let one = and_parts (nat_le 16 (length file)) ((slice_index file 0 == 1) && is_magic (take 8 (drop 1 file))) e in
+    let two = and_parts (slice_index file 0 == 1) (is_magic (take 8 (drop 1 file))) one.1 in
+    record { long = leb-true 16 (length file) one.0; gate = eqb-true (slice_index file 0) 1 two.0; named = magic_named (take 8 (drop 1 file)) two.1 }
 
-pub silo_is : (file : List ℕ) → IsSilo magic file → is_silo file ≡ true
+pub silo_is : (file : List ℕ) → IsSilo IsMagic file → is_silo file ≡ true
 silo_is file s =
-    and_from (nat_le 16 (length file)) ((slice_index file 0 == 1) && bytes_eq (take 8 (drop 1 file)) magic) (le-leb 16 (length file) s.long)
-    (and_from (slice_index file 0 == 1) (bytes_eq (take 8 (drop 1 file)) magic) (eq-eqb (slice_index file 0) 1 s.gate) ((bytes_eq-Decides (take 8 (drop 1 file)) magic).1 s.named))
+    and_from (nat_le 16 (length file)) ((slice_index file 0 == 1) && is_magic (take 8 (drop 1 file))) (le-leb 16 (length file) s.long)
+    (and_from (slice_index file 0 == 1) (is_magic (take 8 (drop 1 file))) (eq-eqb (slice_index file 0) 1 s.gate) (named_magic (take 8 (drop 1 file)) s.named))
 
 -- a silo's, or not
-pub silo_or_not : (file : List ℕ) → IsSilo magic file ⊎ (IsSilo magic file → ⊥)
+pub silo_or_not : (file : List ℕ) → IsSilo IsMagic file ⊎ (IsSilo IsMagic file → ⊥)
 silo_or_not file = by (is_silo file) refl
   where
-    by : (b : Bool) → is_silo file ≡ b → IsSilo magic file ⊎ (IsSilo magic file → ⊥)
+    by : (b : Bool) → is_silo file ≡ b → IsSilo IsMagic file ⊎ (IsSilo IsMagic file → ⊥)
     by true e = inl (silo_read file e)
     by false e = inr (λ s. false≢true (sym e ∙ silo_is file s))
 
 -- ---- the live slot
 
 -- one slot of an image is live
-pub one_slot : (one other : ℕ) (image : Image) → IsLive magic one image → IsLive magic other image → one ≡ other
+pub one_slot : (one other : ℕ) (image : Image) → IsLive IsMagic one image → IsLive IsMagic other image → one ≡ other
 one_slot zero zero image x y = refl
 one_slot (suc zero) (suc zero) image x y = refl
 one_slot zero (suc zero) image x y =
@@ -56,11 +56,11 @@ one_slot zero (suc (suc b)) image x y = absurd (omega (arith, y.slot))
 one_slot (suc zero) (suc (suc b)) image x y = absurd (omega (arith, y.slot))
 
 -- of one manager file that is a silo's alone
-pub only_live : (slot : ℕ) (image : Image) → slot ≤ 1 → IsSilo magic (image (Manager slot)) → (IsSilo magic (image (Manager (1 - slot))) → ⊥) → IsLive magic slot image
+pub only_live : (slot : ℕ) (image : Image) → slot ≤ 1 → IsSilo IsMagic (image (Manager slot)) → (IsSilo IsMagic (image (Manager (1 - slot))) → ⊥) → IsLive IsMagic slot image
 only_live slot image low silo none = record { slot = low; silo = silo; over = λ s. absurd (none s) }
 
 -- of two that are
-pub either_live : (image : Image) → IsSilo magic (image (Manager 0)) → IsSilo magic (image (Manager 1)) → (live : ℕ) × IsLive magic live image
+pub either_live : (image : Image) → IsSilo IsMagic (image (Manager 0)) → IsSilo IsMagic (image (Manager 1)) → (live : ℕ) × IsLive IsMagic live image
 either_live image a b = elim (cases_lt (generation (image (Manager 0))) (generation (image (Manager 1)))) [
   | inl later ↦
       let over : generation (image (Manager 0)) < generation (image (Manager 1)) + 0 = omega (arith, later) in
@@ -71,7 +71,7 @@ either_live image a b = elim (cases_lt (generation (image (Manager 0))) (generat
 ]
 
 -- some slot is live where some manager file is a silo's
-pub some_live : (image : Image) (slot : ℕ) → slot ≤ 1 → IsSilo magic (image (Manager slot)) → (live : ℕ) × IsLive magic live image
+pub some_live : (image : Image) (slot : ℕ) → slot ≤ 1 → IsSilo IsMagic (image (Manager slot)) → (live : ℕ) × IsLive IsMagic live image
 some_live image zero low silo = elim (silo_or_not (image (Manager 1))) [
   | inl other ↦ either_live image silo other
   | inr none ↦ (0, only_live 0 image low silo none)
@@ -101,36 +101,36 @@ part_of from n f g within same =
 pub header_generation : (f g : List ℕ) → take 15 f ≡ take 15 g → generation f ≡ generation g
 header_generation f g head = ap (λ (l : List ℕ). from_le_bytes w32 l) (part_of 9 4 f g (omega arith) head)
 
-pub header_silo : (f g : List ℕ) → take 15 f ≡ take 15 g → 16 ≤ length f → IsSilo magic g → IsSilo magic f
-header_silo f g head long silo =
+pub header_silo : (names : List ℕ → Type 0) (f g : List ℕ) → take 15 f ≡ take 15 g → 16 ≤ length f → IsSilo names g → IsSilo names f
+header_silo names f g head long silo =
     let one : 0 < 15 = omega arith in
     let gate : slice_index f 0 ≡ 1 = sym (get_or-take 15 f 0 0 one) ∙ ap (λ (l : List ℕ). slice_index l 0) head ∙ get_or-take 15 g 0 0 one ∙ silo.gate in
-    record { long = long; gate = gate; named = part_of 1 8 f g (omega arith) head ∙ silo.named }
+    record { long = long; gate = gate; named = subst names (sym (part_of 1 8 f g (omega arith) head)) silo.named }
 
 -- a slot is live where another image's manager files have it live, and have the header of its own and, of the other's, the same bytes
 -- or no silo's
-pub live_moves : (live : ℕ) (from image : Image) → IsLive magic live from → take 15 (image (Manager live)) ≡ take 15 (from (Manager live)) → 16 ≤ length (image (Manager live))
-    → ((image (Manager (1 - live)) ≡ from (Manager (1 - live))) ⊎ (IsSilo magic (image (Manager (1 - live))) → ⊥)) → IsLive magic live image
+pub live_moves : (live : ℕ) (from image : Image) → IsLive IsMagic live from → take 15 (image (Manager live)) ≡ take 15 (from (Manager live)) → 16 ≤ length (image (Manager live))
+    → ((image (Manager (1 - live)) ≡ from (Manager (1 - live))) ⊎ (IsSilo IsMagic (image (Manager (1 - live))) → ⊥)) → IsLive IsMagic live image
 live_moves live from image is head long other = record {
   slot = is.slot;
-  silo = header_silo (image (Manager live)) (from (Manager live)) head long is.silo;
+  silo = header_silo IsMagic (image (Manager live)) (from (Manager live)) head long is.silo;
   over = λ silo. by other silo;
 }
   where
     mine : generation (image (Manager live)) ≡ generation (from (Manager live))
     mine = header_generation (image (Manager live)) (from (Manager live)) head
 
-    by : (image (Manager (1 - live)) ≡ from (Manager (1 - live))) ⊎ (IsSilo magic (image (Manager (1 - live))) → ⊥) → IsSilo magic (image (Manager (1 - live)))
+    by : (image (Manager (1 - live)) ≡ from (Manager (1 - live))) ⊎ (IsSilo IsMagic (image (Manager (1 - live))) → ⊥) → IsSilo IsMagic (image (Manager (1 - live)))
         → generation (image (Manager (1 - live))) < generation (image (Manager live)) + (1 - live)
     by (inl same) silo =
         let its : generation (image (Manager (1 - live))) ≡ generation (from (Manager (1 - live))) = ap generation same in
-        omega (arith, mine, its, is.over (subst (IsSilo magic) same silo))
+        omega (arith, mine, its, is.over (subst (IsSilo IsMagic) same silo))
     by (inr none) silo = absurd (none silo)
 
 -- at a moment of a run, which leaves the other manager file and its own header
-pub live_stays : (live : ℕ) (w : World) → live ≤ 1 → ((file : FileId) → MayLeave (w.disk file) (w.disk file).seen) → ((image : Image) → IsImage w.disk image → IsLive magic live image)
+pub live_stays : (live : ℕ) (w : World) → live ≤ 1 → ((file : FileId) → MayLeave (w.disk file) (w.disk file).seen) → ((image : Image) → IsImage w.disk image → IsLive IsMagic live image)
     → (m : Moment) → m.disk (Manager (1 - live)) ≡ w.disk (Manager (1 - live)) → (image : Image) → IsImage m.disk image
-    → take 15 (image (Manager live)) ≡ take 15 (w.disk (Manager live)).seen → 16 ≤ length (image (Manager live)) → IsLive magic live image
+    → take 15 (image (Manager live)) ≡ take 15 (w.disk (Manager live)).seen → 16 ≤ length (image (Manager live)) → IsLive IsMagic live image
 live_stays live w low seen at m kept image is head long =
     let read : Image = λ file. (w.disk file).seen in
     let other : List ℕ = image (Manager (1 - live)) in
@@ -143,9 +143,9 @@ live_stays live w low seen at m kept image is head long =
 -- ---- manager files that read too short
 
 -- what a crash leaves of such a file is no silo's, whatever it leaves of the others
-pub shows_file : (disk : Disk) → ShowsSilos magic disk → ((file : FileId) → MayLeave (disk file) (disk file).seen) → (slot : ℕ) → slot ≤ 1 → length (disk (Manager slot)).seen < 16
-    → (bytes : List ℕ) → MayLeave (disk (Manager slot)) bytes → IsSilo magic bytes → ⊥
+pub shows_file : (disk : Disk) → ShowsSilos IsMagic disk → ((file : FileId) → MayLeave (disk file) (disk file).seen) → (slot : ℕ) → slot ≤ 1 → length (disk (Manager slot)).seen < 16
+    → (bytes : List ℕ) → MayLeave (disk (Manager slot)) bytes → IsSilo IsMagic bytes → ⊥
 shows_file disk shows seen slot low short bytes left silo =
     let read : Image = λ file. (disk file).seen in
     shows (with_bytes read (Manager slot) bytes) (image_with disk read (Manager slot) bytes seen left) slot low short
-    (subst (IsSilo magic) (sym (with_bytes-there read (Manager slot) bytes)) silo)
+    (subst (IsSilo IsMagic) (sym (with_bytes-there read (Manager slot) bytes)) silo)

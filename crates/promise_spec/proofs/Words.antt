@@ -7,7 +7,7 @@ use Rattle.std.specs.Str.Parse.{AllDigits, digits_value}
 use Rattle.std.proofs.lemmas.Bool.Decides.{nat_tests}
 use Rattle.std.proofs.lemmas.Fmt.{decimal_is_IsNumeral}
 use Rattle.std.proofs.lemmas.Str.Parse.{digit_from_value}
-use Rattle.promise_spec.specs.Words.{Choice, Width, Turns, Workers, Form, Apart, Joined, GivenOption, Manner, Command, Init, Run, Show, History, Audit, Load, Check, Compact, Upgrade, Say, SpellsRun, SpellsLoad, SpellsCheck, choice_name, value_text, list_text, words_in, words_of_all, manner_of, IsWithin, IsNoTurns, AreOptions}
+use Rattle.promise_spec.specs.Words.{Choice, Width, Turns, Workers, Form, Apart, Joined, GivenOption, Manner, Command, Init, Run, Show, History, Audit, Load, Check, Compact, Upgrade, Migrate, Say, SpellsRun, SpellsLoad, SpellsCheck, choice_name, value_text, list_text, words_in, words_of_all, manner_of, IsWithin, IsNoTurns, AreOptions}
 use Rattle.promise_spec.proofs.Lists.{tail_of, none_is, parts_of}
 
 -- ---- what a word says
@@ -75,7 +75,8 @@ command_by letter second words =
     else (if letter == 97 then Audit
     else (if letter == 99 then (if second == 111 then Compact else Check (get_or (numbers_in None words) 0 0) (get_or (numbers_in None words) 1 0))
     else (if letter == 117 then Upgrade
-    else Load (get_or (numbers_in None words) 0 0) (get_or (numbers_in None words) 1 0) (manner_of (options_in None words))))))))
+    else (if letter == 109 then Migrate
+    else Load (get_or (numbers_in None words) 0 0) (get_or (numbers_in None words) 1 0) (manner_of (options_in None words)))))))))
 
 abbrev command_in : List (List ℕ) → Command
 command_in [] = Init
@@ -250,6 +251,7 @@ module _ (takes : GivenOption → Bool) (words : List (List ℕ)) where
   command_back (Check n seed) k = check_back n seed k
   command_back Compact k = ap command_in k
   command_back Upgrade k = ap command_in k
+  command_back Migrate k = ap command_in k
 
 -- ---- words that say nothing
 
@@ -268,6 +270,7 @@ no_run rest takes refused (Load n seed m) k = absurd (cc (command_back takes (co
 no_run rest takes refused (Check n seed) k = absurd (cc (command_back takes (codes "run" ∷ rest) (Check n seed) k))
 no_run rest takes refused Compact k = absurd (cc (command_back takes (codes "run" ∷ rest) Compact k))
 no_run rest takes refused Upgrade k = absurd (cc (command_back takes (codes "run" ∷ rest) Upgrade k))
+no_run rest takes refused Migrate k = absurd (cc (command_back takes (codes "run" ∷ rest) Migrate k))
 
 -- the words of a load say the two numbers and the options that are read in them, and nothing where these may not stand
 pub no_load : (rest : List (List ℕ)) (takes : GivenOption → Bool)
@@ -291,6 +294,7 @@ no_load rest takes refused (Load n seed m) k =
 no_load rest takes refused (Check n seed) k = absurd (cc (command_back takes (codes "load" ∷ rest) (Check n seed) k))
 no_load rest takes refused Compact k = absurd (cc (command_back takes (codes "load" ∷ rest) Compact k))
 no_load rest takes refused Upgrade k = absurd (cc (command_back takes (codes "load" ∷ rest) Upgrade k))
+no_load rest takes refused Migrate k = absurd (cc (command_back takes (codes "load" ∷ rest) Migrate k))
 
 -- the words of a check say the two numbers that are read in them, and nothing where an option is
 pub no_check : (rest : List (List ℕ)) (takes : GivenOption → Bool) → ((n seed : ℕ) → numbers_in None rest ≡ n ∷ seed ∷ [] → options_in None rest ≡ [] → n ≤ 10000 → seed < 2 ^ 64 → ⊥)
@@ -307,6 +311,7 @@ no_check rest takes refused (Check n seed) k =
     refused n seed (ap (numbers_in None) words ∙ check_numbers n seed small k.small) (ap (options_in None) words ∙ check_options n seed small k.small) k.few k.small
 no_check rest takes refused Compact k = absurd (cc (command_back takes (codes "check" ∷ rest) Compact k))
 no_check rest takes refused Upgrade k = absurd (cc (command_back takes (codes "check" ∷ rest) Upgrade k))
+no_check rest takes refused Migrate k = absurd (cc (command_back takes (codes "check" ∷ rest) Migrate k))
 
 -- the word of a compaction stands alone
 pub no_compact : (word : List ℕ) (rest : List (List ℕ)) (takes : GivenOption → Bool) (c : Command) → Say takes (codes "compact" ∷ word ∷ rest) c → ⊥
@@ -319,6 +324,7 @@ no_compact word rest takes (Load n seed m) k = absurd (cc (command_back takes (c
 no_compact word rest takes (Check n seed) k = absurd (cc (command_back takes (codes "compact" ∷ word ∷ rest) (Check n seed) k))
 no_compact word rest takes Compact k = absurd (none_is word rest (tail_of (codes "compact") (codes "compact") (word ∷ rest) [] k))
 no_compact word rest takes Upgrade k = absurd (cc (command_back takes (codes "compact" ∷ word ∷ rest) Upgrade k))
+no_compact word rest takes Migrate k = absurd (cc (command_back takes (codes "compact" ∷ word ∷ rest) Migrate k))
 
 -- the word of an upgrade stands alone
 pub no_upgrade : (word : List ℕ) (rest : List (List ℕ)) (takes : GivenOption → Bool) (c : Command) → Say takes (codes "upgrade" ∷ word ∷ rest) c → ⊥
@@ -331,6 +337,20 @@ no_upgrade word rest takes (Load n seed m) k = absurd (cc (command_back takes (c
 no_upgrade word rest takes (Check n seed) k = absurd (cc (command_back takes (codes "upgrade" ∷ word ∷ rest) (Check n seed) k))
 no_upgrade word rest takes Compact k = absurd (cc (command_back takes (codes "upgrade" ∷ word ∷ rest) Compact k))
 no_upgrade word rest takes Upgrade k = absurd (none_is word rest (tail_of (codes "upgrade") (codes "upgrade") (word ∷ rest) [] k))
+no_upgrade word rest takes Migrate k = absurd (cc (command_back takes (codes "upgrade" ∷ word ∷ rest) Migrate k))
+
+-- the word of a migration stands alone
+pub no_migrate : (word : List ℕ) (rest : List (List ℕ)) (takes : GivenOption → Bool) (c : Command) → Say takes (codes "migrate" ∷ word ∷ rest) c → ⊥
+no_migrate word rest takes Init k = absurd (cc (command_back takes (codes "migrate" ∷ word ∷ rest) Init k))
+no_migrate word rest takes (Run m) k = absurd (cc (command_back takes (codes "migrate" ∷ word ∷ rest) (Run m) k))
+no_migrate word rest takes Show k = absurd (cc (command_back takes (codes "migrate" ∷ word ∷ rest) Show k))
+no_migrate word rest takes History k = absurd (cc (command_back takes (codes "migrate" ∷ word ∷ rest) History k))
+no_migrate word rest takes Audit k = absurd (cc (command_back takes (codes "migrate" ∷ word ∷ rest) Audit k))
+no_migrate word rest takes (Load n seed m) k = absurd (cc (command_back takes (codes "migrate" ∷ word ∷ rest) (Load n seed m) k))
+no_migrate word rest takes (Check n seed) k = absurd (cc (command_back takes (codes "migrate" ∷ word ∷ rest) (Check n seed) k))
+no_migrate word rest takes Compact k = absurd (cc (command_back takes (codes "migrate" ∷ word ∷ rest) Compact k))
+no_migrate word rest takes Upgrade k = absurd (cc (command_back takes (codes "migrate" ∷ word ∷ rest) Upgrade k))
+no_migrate word rest takes Migrate k = absurd (none_is word rest (tail_of (codes "migrate") (codes "migrate") (word ∷ rest) [] k))
 
 -- words say at most one command
 pub one_command : (takes : GivenOption → Bool) (words : List (List ℕ)) (c d : Command) → Say takes words c → Say takes words d → c ≡ d

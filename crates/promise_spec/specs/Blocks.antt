@@ -5,14 +5,16 @@ use Rattle.base_types.specs.declared.calls.GrainId.{GrainId}
 use Rattle.base_types.specs.declared.calls.UnitNo.{UnitNo}
 use Rattle.base_types.specs.declared.calls.Value.{Value}
 use Rattle.host_trait.specs.World.{Image}
+use Rattle.field_codec.specs.declared.formats.Format.{Format}
+use Rattle.field_codec.specs.declared.formats.Format.TheVariants.{One, Two}
 use Rattle.commit_log.specs.declared.records.Written.{Written}
 use Rattle.commit_log.specs.declared.contents.Body.TheVariants as body
-use Rattle.commit_log.specs.Contents.{spelling_of_content}
+use Rattle.commit_log.specs.Sessions.{spelling_with_session}
 use Rattle.commit_log.specs.Orders.{IsAscending}
-use Rattle.commit_log.specs.Spelling.{spelling_of_body, WriteFits}
+use Rattle.commit_log.specs.Spelling.{WriteFits}
 use Rattle.commit_log.specs.Checkpoints.{spelling_of_piece}
 -- when a program may come into force after another
-pub use Rattle.log_entries.specs.Entries.{MayFollow}
+pub use Rattle.log_reading.specs.Entries.{MayFollow}
 use Rattle.promise_spec.specs.Programs.{Program, shape_in}
 use Rattle.promise_spec.specs.Records.{Commit, put_state}
 use Rattle.promise_spec.specs.Entries.{LogEntry, Recorded, Upgraded, Standing, initial_states, is_among, new_silo}
@@ -20,31 +22,50 @@ use Rattle.promise_spec.specs.Versions.{WriteStands, IsKept}
 
 -- ---- records and upgrades
 
--- a block: the records of a batch, or an upgrade to a program
+-- a block: the session of the call that wrote it, and the records of a batch, or an upgrade to a program
 pub data Block : Type 0 where
-  Records : List Commit → Block
-  Upgrade : Program → Block
+  Records : ℕ → List Commit → Block
+  Upgrade : ℕ → Program → Block
+
+-- its session
+abbrev pub session_in : Block → ℕ
+session_in (Records session batch) = session
+session_in (Upgrade session p) = session
 
 -- its entries
 abbrev pub entries_in : Block → List LogEntry
-entries_in (Records batch) = map Recorded batch
-entries_in (Upgrade p) = Upgraded p ∷ []
+entries_in (Records session batch) = map Recorded batch
+entries_in (Upgrade session p) = Upgraded p ∷ []
 
--- its body
-abbrev pub body_of : Block → List ℕ
-body_of (Records batch) = spelling_of_body (map (λ c. c.logged) batch)
-body_of (Upgrade p) = spelling_of_content (body.Upgrade p.text)
+-- the session of each of these
+abbrev pub sessions_in : Block → List ℕ
+sessions_in b = map (λ entry. session_in b) (entries_in b)
 
--- a batch has at most 64 records
-abbrev pub BlockFits : Block → Type 0
-BlockFits (Records batch) = length batch ≤ 64
-BlockFits (Upgrade p) = ⊤
+-- its body, which spells the session in format 2 alone
+abbrev pub body_of : Format → Block → List ℕ
+body_of format (Records session batch) = spelling_with_session format session (body.Records (map (λ c. c.logged) batch))
+body_of format (Upgrade session p) = spelling_with_session format session (body.Upgrade p.text)
+
+-- a session that a log may have: each block of format 1 counts as one of session 1
+abbrev pub SessionIs : Format → ℕ → Type 0
+SessionIs One session = session ≡ 1
+SessionIs Two session = session < 2 ^ 63
+
+-- a batch has at most 64 records, and the session is one that a log may have
+abbrev pub BlockFits : Format → Block → Type 0
+BlockFits format (Records session batch) = (length batch ≤ 64) × SessionIs format session
+BlockFits format (Upgrade session p) = SessionIs format session
+
+-- sessions never fall, from the one before these blocks to that of the last, which is the one before them where there are none
+abbrev pub NeverFall : ℕ → List Block → ℕ → Type 0
+NeverFall from [] to = from ≡ to
+NeverFall from (b ∷ blocks) to = (from ≤ session_in b) × NeverFall (session_in b) blocks to
 
 -- each entry is kept whole, under the program of its time; an upgrade is to a program that may follow the one in force
-abbrev pub AreKept : ℕ → Image → Program → List LogEntry → Type 0
-AreKept live image p [] = ⊤
-AreKept live image p (Recorded c ∷ later) = IsKept live (shape_in p) image c × AreKept live image p later
-AreKept live image p (Upgraded q ∷ later) = MayFollow p q × AreKept live image q later
+abbrev pub AreKept : Format → ℕ → Image → Program → List LogEntry → Type 0
+AreKept format live image p [] = ⊤
+AreKept format live image p (Recorded c ∷ later) = IsKept format live (shape_in p) image c × AreKept format live image p later
+AreKept format live image p (Upgraded q ∷ later) = MayFollow p q × AreKept format live image q later
 
 -- ---- checkpoints
 
@@ -54,10 +75,11 @@ pub record Saved : Type 0 where
   pub write : Written
   pub state : List Value
 
--- a checkpoint: a position, the next unit, and the versions that it names, in pieces of a block each
+-- a checkpoint: a position, the next unit, the greatest session before it, and the versions that it names, in pieces of a block each
 pub record Checkpoint : Type 0 where
   pub count : ℕ
   pub next : ℕ
+  pub session : ℕ
   pub front : List (List Saved)
   pub last : List Saved
 
@@ -66,26 +88,27 @@ abbrev pub saved_by : Checkpoint → List Saved
 saved_by ck = flat_map (λ piece. piece) ck.front ++ ck.last
 
 -- the body of a piece; the flag says whether another one follows
-abbrev pub spelled_piece : Checkpoint → ℕ → List Saved → List ℕ
-spelled_piece ck flag piece = spelling_of_piece flag ck.count ck.next (map (λ s. s.write) piece)
+abbrev pub spelled_piece : Format → Checkpoint → ℕ → List Saved → List ℕ
+spelled_piece format ck flag piece = spelling_of_piece format flag ck.count ck.next ck.session (map (λ s. s.write) piece)
 
 -- the bodies of its pieces
-abbrev pub pieces_of : Checkpoint → List (List ℕ)
-pieces_of ck = map (spelled_piece ck 1) ck.front ++ spelled_piece ck 0 ck.last ∷ []
+abbrev pub pieces_of : Format → Checkpoint → List (List ℕ)
+pieces_of format ck = map (spelled_piece format ck 1) ck.front ++ spelled_piece format ck 0 ck.last ∷ []
 
 -- a version that is named stands whole, and is a unit's that may be logged
-pub record IsSaved (live : ℕ) (p : Program) (image : Image) (s : Saved) : Type 0 where
+pub record IsSaved (format : Format) (live : ℕ) (p : Program) (image : Image) (s : Saved) : Type 0 where
   pub fits : WriteFits s.write
   pub unit : (0 < s.unit.0) × (s.unit.0 < 2 ^ 63)
-  pub stands : WriteStands live (shape_in p) image s.unit s.write s.state
+  pub stands : WriteStands format live (shape_in p) image s.unit s.write s.state
 
 -- The checkpoint is within the format's limits, its grains ascend over all pieces, and its versions stand.
-pub record IsCheckpoint (live : ℕ) (p : Program) (image : Image) (ck : Checkpoint) : Type 0 where
+pub record IsCheckpoint (format : Format) (live : ℕ) (p : Program) (image : Image) (ck : Checkpoint) : Type 0 where
   pub count : ck.count < 2 ^ 63
   pub next : (1 ≤ ck.next) × (ck.next ≤ 2 ^ 63)
+  pub session : SessionIs format ck.session
   pub sizes : AllByRecursion (λ (piece : List Saved). length piece ≤ 65536) (ck.front ++ ck.last ∷ [])
   pub order : IsAscending None (map (λ s. s.write) (saved_by ck))
-  pub each : AllByRecursion (IsSaved live p image) (saved_by ck)
+  pub each : AllByRecursion (IsSaved format live p image) (saved_by ck)
 
 -- the grains that it names, each with its state
 abbrev pub states_saved : Checkpoint → List (GrainId × List Value)
@@ -129,12 +152,17 @@ abbrev pub base_of : Program → Beginning → Standing
 base_of p Fresh = new_silo p
 base_of p (From ck) = standing_saved p ck
 
+-- the greatest session before the first block, 0 where there is none
+abbrev pub session_before : Beginning → ℕ
+session_before Fresh = 0
+session_before (From ck) = ck.session
+
 -- the bodies before those of the records
-abbrev pub bodies_before : Beginning → List (List ℕ)
-bodies_before Fresh = []
-bodies_before (From ck) = pieces_of ck
+abbrev pub bodies_before : Format → Beginning → List (List ℕ)
+bodies_before format Fresh = []
+bodies_before format (From ck) = pieces_of format ck
 
 -- a checkpoint stands whole
-abbrev pub BeginsWhole : ℕ → Program → Image → Beginning → Type 0
-BeginsWhole live p image Fresh = ⊤
-BeginsWhole live p image (From ck) = IsCheckpoint live p image ck
+abbrev pub BeginsWhole : Format → ℕ → Program → Image → Beginning → Type 0
+BeginsWhole format live p image Fresh = ⊤
+BeginsWhole format live p image (From ck) = IsCheckpoint format live p image ck

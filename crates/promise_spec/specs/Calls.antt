@@ -3,15 +3,15 @@ use Rattle.std.specs.Prelude.{◌≡◌, ◌≢◌, ◌⊎◌, ℕ, Bool, true, 
 use Rattle.host_trait.specs.declared.channels.Channel.{Channel}
 use Rattle.host_trait.specs.declared.channels.Channel.TheVariants.{Input, Output}
 use Rattle.host_trait.specs.Faults.{NoneFailed}
-use Rattle.promise_spec.specs.Words.{GivenOption, Command, Init, Run, Show, History, Audit, Load, Check, Compact, Upgrade, Say}
+use Rattle.promise_spec.specs.Words.{GivenOption, Command, Init, Run, Show, History, Audit, Load, Check, Compact, Upgrade, Migrate, Say}
 use Rattle.promise_spec.specs.Endings.{Ending, BadUse, Memory, ReadFault, WriteFault, HasRisen, HasFailedAs, MayEndRun, MayEndLoad}
 use Rattle.promise_spec.specs.Courses.{Observed}
 use Rattle.promise_spec.specs.Promise.{Promises}
-use Rattle.promise_spec.specs.Reports.{history_text}
 use Rattle.promise_spec.specs.Commands.{MakesSilo, Reports, ShowsStates, Audits}
 use Rattle.promise_spec.specs.Loads.{Loads}
 use Rattle.promise_spec.specs.Checks.{Checks}
 use Rattle.promise_spec.specs.Compaction.{Compacts}
+use Rattle.promise_spec.specs.Migration.{Migrates}
 use Rattle.promise_spec.specs.Upgrading.{UpgradesSilo}
 
 -- what each command promises
@@ -19,12 +19,13 @@ abbrev pub Obeys : Command → Observed → Type 0
 Obeys Init r = MakesSilo r
 Obeys (Run m) r = Promises m r
 Obeys Show r = ShowsStates r
-Obeys History r = Reports history_text r
+Obeys History r = Reports r
 Obeys Audit r = Audits r
 Obeys (Load n seed m) r = Loads n seed m r
 Obeys (Check n seed) r = Checks n seed r
 Obeys Compact r = Compacts r
 Obeys Upgrade r = UpgradesSilo r
+Obeys Migrate r = Migrates r
 
 -- nothing was done: the host is as it was. Only want of memory may come in place of bad use, where the words are read.
 pub record IsBadUse (r : Observed) : Type 0 where

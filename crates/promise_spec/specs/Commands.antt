@@ -2,23 +2,24 @@
 use Rattle.std.specs.Prelude.{◌≡◌, ◌≢◌, ◌⊎◌, ℕ, ◌<◌, ◌≤◌, List, [], ◌∷◌, ◌++◌, length, Option, Some, None, Ok, Err, ⊤}
 use Rattle.base_types.specs.declared.calls.GrainId.{GrainId}
 use Rattle.host_trait.specs.declared.channels.FileId.{FileId}
-use Rattle.host_trait.specs.declared.channels.FileId.TheVariants.{Manager}
+use Rattle.host_trait.specs.declared.channels.FileId.TheVariants.{Manager, Program as ProgramFile}
 use Rattle.host_trait.specs.World.{World, Moment, Image, IsImage, Passes, moment_of}
+use Rattle.field_codec.specs.declared.formats.Format.TheVariants.{Two}
 use Rattle.silo_spec.specs.Silos.{IsEitherManager, IsMadeFile, IsNewSilo}
 use Rattle.silo_spec.specs.Slots.{IsLive, IsSiloImage, ShowsSilos}
 use Rattle.silo_spec.specs.Moments.{IsUntouched}
 use Rattle.silo_spec.specs.Creation.{CameThisFar, IsBeside}
 use Rattle.script_tree.specs.Programs.{ProgramTree}
-use Rattle.promise_spec.specs.Programs.{ProgramFault, text_limit, program_in}
+use Rattle.promise_spec.specs.Programs.{Program, ProgramFault, text_limit, program_in}
 use Rattle.promise_spec.specs.Records.{Commit}
 use Rattle.promise_spec.specs.Entries.{LogEntry, Recorded, Log, standing_of, after_entries}
 use Rattle.promise_spec.specs.SerialExecution.{IsSerialFrom, Replays}
-use Rattle.promise_spec.specs.Logs.{magic, IsPrefix}
-use Rattle.promise_spec.specs.Openings.{Reads, opened_as}
+use Rattle.promise_spec.specs.Logs.{IsMagic, IsPrefix}
+use Rattle.promise_spec.specs.Openings.{Reads, program_in_file, sessions_read, opened_as}
 use Rattle.promise_spec.specs.Endings.{Ending, Done, Memory, ReadFault, WriteFault, DiskFault, AlreadyASilo, BadProgram, InputTooLong, HasRisen}
 use Rattle.promise_spec.specs.Courses.{Observed, seen_at_entry}
 use Rattle.promise_spec.specs.Refusals.{IsUnopened}
-use Rattle.promise_spec.specs.Reports.{AreHeld, show_text, audit_text}
+use Rattle.promise_spec.specs.Reports.{AreHeld, show_text, history_text, audit_text}
 
 -- ---- init
 
@@ -31,7 +32,7 @@ pub record IsProgramText (r : Observed) : Type 0 where
 
 -- the folder reads as a silo at entry, by either slot
 abbrev pub WasSilo : Observed → Type 0
-WasSilo r = IsSiloImage magic (seen_at_entry r)
+WasSilo r = IsSiloImage IsMagic (seen_at_entry r)
 
 -- where it did, a manager file alone may be at fault, and all stays as it was
 abbrev pub StaysSilo : Observed → FileId → Type 0
@@ -50,7 +51,7 @@ ManagersLast r = (image : Image) → IsImage r.new.disk image → (slot : ℕ) �
 -- silo's.
 abbrev pub AreNewSilos : List ℕ → Observed → World → Type 0
 AreNewSilos text r made = (image : Image) → IsImage made.disk image →
-    IsNewSilo magic text image × (ShowsSilos magic r.old.disk → IsLive magic 0 image)
+    IsNewSilo text image × (ShowsSilos IsMagic r.old.disk → IsLive IsMagic 0 image)
 
 -- How `init` ends. The input comes before the program in it, and that before the folder; want of memory is free, and
 -- comes before the folder.
@@ -71,8 +72,8 @@ MakesAs _ r = ⊥
 pub record MakesSilo (r : Observed) : Type 0 where
   pub beside : Passes (IsBeside r.old) r.old.past r.new.past
   pub beside_now : IsBeside r.old (moment_of r.new)
-  pub makes : ShowsSilos magic r.old.disk → CameThisFar magic r.old.input r.old r.new
-  pub shows : ShowsSilos magic r.old.disk → ShowsSilos magic r.new.disk
+  pub makes : ShowsSilos IsMagic r.old.disk → CameThisFar IsMagic r.old.input r.old r.new
+  pub shows : ShowsSilos IsMagic r.old.disk → ShowsSilos IsMagic r.new.disk
   pub ends_as : MakesAs r.ending r
   pub risen : HasRisen r.ending r.faults_before r.faults_after
 
@@ -115,9 +116,17 @@ pub record IsReported (text : Log → List ℕ) (r : Observed) : Type 0 where
   pub ending : (r.ending ≡ Done) ⊎ MayCut r.ending
   pub risen : HasRisen r.ending r.faults_before r.faults_after
 
--- What `history` promises of any folder, of its text: it doesn't open it and leaves all as it was, or it reports its log.
-abbrev pub Reports : (Log → List ℕ) → Observed → Type 0
-Reports text r = IsUnopened r ⊎ IsReported text r
+-- a report of the log's entries, each with the session of the block that it stands in, as the live manager file says it
+pub record IsHistoryTold (r : Observed) : Type 0 where
+  pub sessions : List ℕ
+  pub report : IsReported (history_text sessions) r
+  pub program : Program
+  pub first : program_in_file (seen_at_entry r (ProgramFile report.live)) ≡ Ok program
+  pub are : sessions ≡ sessions_read Two program (seen_at_entry r (Manager report.live))
+
+-- What `history` promises of any folder: it doesn't open it and leaves all as it was, or it reports its log.
+abbrev pub Reports : Observed → Type 0
+Reports r = IsUnopened r ⊎ IsHistoryTold r
 
 -- a report of the grains that have a state in the store
 pub record IsShown (r : Observed) : Type 0 where

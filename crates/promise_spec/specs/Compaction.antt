@@ -4,38 +4,40 @@ use Rattle.core_model.specs.CoreState.{Member}
 use Rattle.host_trait.specs.declared.channels.FileId.TheVariants.{Manager}
 use Rattle.host_trait.specs.Faults.{NoneFailed}
 use Rattle.host_trait.specs.World.{Moment, Image, IsImage}
+use Rattle.field_codec.specs.declared.formats.Format.{Format}
+use Rattle.field_codec.specs.declared.formats.Format.TheVariants.{Two}
 use Rattle.silo_spec.specs.Slots.{generation, last_generation, ShowsSilos}
 use Rattle.silo_spec.specs.Moments.{IsAsAtEntry, IsUntouched}
 use Rattle.silo_spec.specs.OpenedDisks.{opened_disk, opening_syncs}
 use Rattle.promise_spec.specs.Entries.{Log, checkpointed}
-use Rattle.promise_spec.specs.Logs.{magic, IsLog}
+use Rattle.promise_spec.specs.Logs.{IsMagic, IsLogOf}
 use Rattle.promise_spec.specs.Images.{IsWholeFolder}
 use Rattle.promise_spec.specs.Moments.{counted_moments}
-use Rattle.promise_spec.specs.Openings.{Reads, opened_as}
+use Rattle.promise_spec.specs.Openings.{Reads, reading_in, opened_as}
 use Rattle.promise_spec.specs.Endings.{Ending, Done, Memory, LastGeneration, IsDiskFault, HasFailedAs}
 use Rattle.promise_spec.specs.Courses.{Observed, seen_at_entry}
 use Rattle.promise_spec.specs.Refusals.{IsUnopened}
 use Rattle.promise_spec.specs.EitherSlot.{KeepsSlot, AllEither}
 
 -- Nothing is emitted, the live slot's files are as an opening leaves them, and each image has the log there, or the new one in the
--- other slot.
-pub record IsRewriting (live : ℕ) (old new : Log) (r : Observed) (m : Moment) : Type 0 where
+-- other slot, each in its format.
+pub record IsRewriting (from to : Format) (live : ℕ) (old new : Log) (r : Observed) (m : Moment) : Type 0 where
   pub quiet : m.output ≡ r.old.output
   pub kept : KeepsSlot live (opened_disk r.old.disk) m.disk
-  pub either : AllEither live old new m
+  pub either : AllEither from to live old new m
 
 -- Up to the return of the opening's last sync each image is one of those at entry, and from then on the log is rewritten. Done means
 -- that each image has the new log, in the next generation. No image is a silo by a slot whose manager file reads too short at the end.
-pub record Rewrites (live : ℕ) (old new : Log) (r : Observed) : Type 0 where
-  pub read : IsLog live (seen_at_entry r) old
+pub record Rewrites (from to : Format) (live : ℕ) (old new : Log) (r : Observed) : Type 0 where
+  pub read : IsLogOf from live (seen_at_entry r) old
   pub early : List Moment
   pub late : List Moment
   pub past : r.new.past ≡ r.old.past ++ (early ++ late)
   pub before : (m : Moment) → Member m early → IsAsAtEntry r.old m
-  pub moments : (m : Moment) → Member m (counted_moments r.old early late r.new) → IsRewriting live old new r m
-  pub shows : ShowsSilos magic r.new.disk
+  pub moments : (m : Moment) → Member m (counted_moments r.old early late r.new) → IsRewriting from to live old new r m
+  pub shows : ShowsSilos IsMagic r.new.disk
   pub done : r.ending ≡ Done → (image : Image) → IsImage r.new.disk image
-      → IsLog (1 - live) image new × (generation (image (Manager (1 - live))) ≡ generation (seen_at_entry r (Manager live)) + 1)
+      → IsLogOf to (1 - live) image new × (generation (image (Manager (1 - live))) ≡ generation (seen_at_entry r (Manager live)) + 1)
 
 -- how a command that rewrites may end
 abbrev pub IsRewritten : Ending → Type 0
@@ -52,13 +54,13 @@ pub record IsCompacted (r : Observed) : Type 0 where
   pub quiet : r.new.output ≡ r.old.output
   pub ending : IsRewritten r.ending
   pub failed : HasFailedAs r.ending r.faults_before r.faults_after
-  pub over_whole : IsWholeFolder r.old → Rewrites live log (checkpointed log) r
+  pub over_whole : IsWholeFolder r.old → Rewrites Two Two live log (checkpointed log) r
 
--- The folder was opened, but no generation follows its own: all is left as it was.
-pub record IsLastGeneration (r : Observed) : Type 0 where
+-- The folder was opened in this format, but no generation follows its own: all is left as it was.
+pub record IsLastGeneration (format : Format) (r : Observed) : Type 0 where
   pub live : ℕ
   pub log : Log
-  pub reads : opened_as (seen_at_entry r) ≡ Reads live log
+  pub reads : reading_in format (seen_at_entry r) ≡ Reads live log
   pub last : last_generation ≤ generation (seen_at_entry r (Manager live))
   pub untouched : IsUntouched r.old r.new
   pub unread : r.new.input ≡ r.old.input
@@ -68,4 +70,4 @@ pub record IsLastGeneration (r : Observed) : Type 0 where
 
 -- What `compact` promises of any folder: it doesn't open it and leaves all as it was, or no generation follows, or it is written anew.
 abbrev pub Compacts : Observed → Type 0
-Compacts r = IsUnopened r ⊎ (IsLastGeneration r ⊎ IsCompacted r)
+Compacts r = IsUnopened r ⊎ (IsLastGeneration Two r ⊎ IsCompacted r)

@@ -8,7 +8,8 @@ use Rattle.promise_spec.specs.Programs.{ProgramFault}
 
 -- All is done; the words aren't a command; there was no memory; the input, the output or a file failed; the folder is
 -- no silo, or is one already, or is damaged in a file at a place; the input is no program, or is too long at a line; no generation
--- follows that of the silo; the program that is the input may not follow the one in force, for what stands at a place.
+-- follows that of the silo; the program that is the input may not follow the one in force, for what stands at a place; the silo has the
+-- old format; or, of `migrate`, it has the new one already.
 pub data Ending : Type 0 where
   Done : Ending
   BadUse : Ending
@@ -23,6 +24,8 @@ pub data Ending : Type 0 where
   InputTooLong : ℕ → Ending
   LastGeneration : Ending
   UpgradeRefused : ℕ → Ending
+  OldFormat : Ending
+  NotOld : Ending
 
 -- ---- what each ending says
 

@@ -1,5 +1,5 @@
 -- The exit clause: the log at the end of a run, and what is in doubt.
-use Rattle.std.specs.Prelude.{◌≡◌, ◌≢◌, ◌⊎◌, ℕ, ◌+◌, List, length, map, take, drop, slice_index, Some}
+use Rattle.std.specs.Prelude.{◌≡◌, ◌≢◌, ◌⊎◌, ℕ, ◌+◌, ◌≤◌, List, length, map, take, drop, slice_index, Some}
 use Rattle.base_types.specs.declared.entries.Entry.{Entry}
 use Rattle.base_types.specs.declared.entries.Settled.TheVariants.{InDoubt}
 use Rattle.core_model.specs.CoreState.{UnitNo, Member, CoreState}
@@ -10,6 +10,7 @@ use Rattle.host_trait.specs.declared.channels.Channel.TheVariants.{File}
 use Rattle.host_trait.specs.declared.channels.FileId.TheVariants.{Manager}
 use Rattle.host_trait.specs.Faults.{Rose}
 use Rattle.host_trait.specs.World.{Image, IsImage}
+use Rattle.field_codec.specs.declared.formats.Format.TheVariants.{Two}
 use Rattle.promise_spec.specs.Records.{Commit, AreRecordsOf}
 use Rattle.promise_spec.specs.Entries.{Log, records_of, grown}
 use Rattle.promise_spec.specs.Blocks.{Records, body_of}
@@ -56,10 +57,10 @@ IsNowhere live r u =
     (image : Image) (log : Log) (l : Commit) → IsImage r.new.disk image → IsLog live image log →
     Member l (records_of log) → l.logged.unit ≢ u
 
--- the whole block of a batch stands behind a gate of the live manager file, which is open or not
-abbrev pub HasBlock : ℕ → ℕ → List Commit → Image → Type 0
-HasBlock live gate batch image =
-    take (length (block_of (body_of (Records batch)))) (drop (gate + 1) (image (Manager live))) ≡ block_of (body_of (Records batch))
+-- the whole block of a batch, with this session, stands behind a gate of the live manager file, which is open or not
+abbrev pub HasBlock : ℕ → ℕ → ℕ → List Commit → Image → Type 0
+HasBlock live gate session batch image =
+    take (length (block_of (body_of Two (Records session batch)))) (drop (gate + 1) (image (Manager live))) ≡ block_of (body_of Two (Records session batch))
 
 -- the two manager files differ at most in this byte
 pub record DifferAt (gate : ℕ) (one other : List ℕ) : Type 0 where
@@ -67,17 +68,20 @@ pub record DifferAt (gate : ℕ) (one other : List ℕ) : Type 0 where
   pub same : (i : ℕ) → i ≢ gate → slice_index one i ≡ slice_index other i
 
 -- The batch has the records of the units to commit of the batch in doubt, and the order is the log before it, or that with
--- the batch. In every image at the exit that log stands up to the gate, the batch's whole block stands behind it, and the
--- images differ at most in the gate.
+-- the batch. In every image at the exit that log stands up to the gate, the batch's whole block stands behind it, whose session isn't
+-- below the greatest that the log reached, and the images differ at most in the gate.
 pub record BlockInDoubt (live : ℕ) (r : Observed) (c : Course) (w : CoreState) : Type 0 where
   pub gate : ℕ
   pub batch : List Commit
   pub before : Log
   pub bodies : List (List ℕ)
+  pub reached : ℕ
+  pub session : ℕ
+  pub follows : reached ≤ session
   pub records : AreRecordsOf (chosen w) batch
   pub log : (order c ≡ before) ⊎ (order c ≡ grown before batch)
-  pub front : (image : Image) → IsImage r.new.disk image → StandsUpTo live image before bodies gate
-  pub block : (image : Image) → IsImage r.new.disk image → HasBlock live gate batch image
+  pub front : (image : Image) → IsImage r.new.disk image → StandsUpTo Two live image before bodies gate reached
+  pub block : (image : Image) → IsImage r.new.disk image → HasBlock live gate session batch image
   pub differ : (one other : Image) → IsImage r.new.disk one → IsImage r.new.disk other →
       DifferAt gate (one (Manager live)) (other (Manager live))
 

@@ -4,11 +4,12 @@ use Rattle.std.specs.List.{AllByRecursion}
 use Rattle.base_types.specs.declared.calls.Origin.{Origin}
 use Rattle.base_types.specs.declared.calls.Origin.TheVariants.{Line, Child}
 use Rattle.host_trait.specs.World.{World, Image, IsImage}
+use Rattle.field_codec.specs.declared.formats.Format.{Format}
 use Rattle.silo_spec.specs.Slots.{IsLive, ShowsSilos}
 use Rattle.promise_spec.specs.Records.{Commit}
 use Rattle.promise_spec.specs.Entries.{Log, records_of}
 use Rattle.promise_spec.specs.SerialExecution.{IsSerialFrom}
-use Rattle.promise_spec.specs.Logs.{magic, IsLog, HasLog}
+use Rattle.promise_spec.specs.Logs.{IsMagic, IsLogOf, HasLog}
 use Rattle.promise_spec.specs.Prefixes.{IsPrefixOf}
 
 -- a child is above its parent
@@ -23,26 +24,29 @@ AreNumbered first (c ∷ later) =
     (first ≤ c.logged.unit.0) × IsAboveParent c.logged.origin c.logged.unit.0
     × AllByRecursion (λ d. d.logged.unit ≢ c.logged.unit) later × AreNumbered first later
 
--- The image is a silo, with this live slot. All that it names is in the format and whole, and its records' units are numbered.
+-- The image is a silo, with this live slot, in one of the formats. All that it names is in the format and whole, and its records' units
+-- are numbered.
 pub record IsWholeSilo (live : ℕ) (image : Image) : Type 0 where
+  pub format : Format
   pub log : Log
-  pub is : IsLog live image log
+  pub is : IsLogOf format live image log
   pub numbered : AreNumbered log.base.next (records_of log)
 
 -- The image is whole, and its entries are what the one-thread store gives from its base.
 pub record IsSound (live : ℕ) (image : Image) : Type 0 where
+  pub format : Format
   pub log : Log
-  pub is : IsLog live image log
+  pub is : IsLogOf format live image log
   pub serial : IsSerialFrom log.base log.entries
   pub numbered : AreNumbered log.base.next (records_of log)
 
 -- an image that is a silo is whole
 abbrev pub IsWholeIfSilo : Image → Type 0
-IsWholeIfSilo image = (live : ℕ) → IsLive magic live image → IsWholeSilo live image
+IsWholeIfSilo image = (live : ℕ) → IsLive IsMagic live image → IsWholeSilo live image
 
 -- an image that is a silo is sound
 abbrev pub IsSoundIfSilo : Image → Type 0
-IsSoundIfSilo image = (live : ℕ) → IsLive magic live image → IsSound live image
+IsSoundIfSilo image = (live : ℕ) → IsLive IsMagic live image → IsSound live image
 
 -- Of whatever logs the two have, one is a prefix of the other. An image that is no silo counts as before every log.
 abbrev pub AreChained : Image → Image → Type 0
@@ -52,10 +56,10 @@ AreChained one other = (a b : Log) → HasLog one a → HasLog other b → IsPre
 pub record IsWholeFolder (w : World) : Type 0 where
   pub chain : (one other : Image) → IsImage w.disk one → IsImage w.disk other → AreChained one other
   pub whole : (image : Image) → IsImage w.disk image → IsWholeIfSilo image
-  pub shows : ShowsSilos magic w.disk
+  pub shows : ShowsSilos IsMagic w.disk
 
 -- they are a chain, each that is a silo is sound, and none is one by such a slot
 pub record IsSoundFolder (w : World) : Type 0 where
   pub chain : (one other : Image) → IsImage w.disk one → IsImage w.disk other → AreChained one other
   pub sound : (image : Image) → IsImage w.disk image → IsSoundIfSilo image
-  pub shows : ShowsSilos magic w.disk
+  pub shows : ShowsSilos IsMagic w.disk

@@ -38,5 +38,6 @@ pub mod Checks
 pub mod Journals
 pub mod EitherSlot
 pub mod Compaction
+pub mod Migration
 pub mod Upgrading
 pub mod Calls

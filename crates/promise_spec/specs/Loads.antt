@@ -20,7 +20,7 @@ use Rattle.script_tree.specs.Programs.{ProgramTree}
 use Rattle.promise_spec.specs.Programs.{Program}
 use Rattle.promise_spec.specs.Records.{States}
 use Rattle.promise_spec.specs.Entries.{standing_of}
-use Rattle.promise_spec.specs.Logs.{magic, IsLog}
+use Rattle.promise_spec.specs.Logs.{IsMagic, IsLog}
 use Rattle.promise_spec.specs.Lines.{IsLineCall}
 use Rattle.promise_spec.specs.Kinds.{kind_of}
 use Rattle.promise_spec.specs.Causes.{NoneRose, RunHasDoubt, syncs_of, most_syncs_of}
@@ -178,8 +178,8 @@ IsUnmadeBy _ r = ⊥
 -- ended for that call, and for no other.
 pub record IsUnmade (r : Observed) : Type 0 where
   pub beside : StaysBeside r.old r.new
-  pub makes : ShowsSilos magic r.old.disk → CameThisFar magic bank_text r.old r.new
-  pub shows : ShowsSilos magic r.old.disk → ShowsSilos magic r.new.disk
+  pub makes : ShowsSilos IsMagic r.old.disk → CameThisFar IsMagic bank_text r.old r.new
+  pub shows : ShowsSilos IsMagic r.old.disk → ShowsSilos IsMagic r.new.disk
   pub ends_as : IsUnmadeBy r.ending r
   pub failed : ending.HasFailedAs r.ending r.faults_before r.faults_after
 
@@ -188,8 +188,8 @@ pub record IsUnmade (r : Observed) : Type 0 where
 pub record HasMade (r : Observed) (made : World) : Type 0 where
   pub absent : WasSilo r → ⊥
   pub beside : StaysBeside r.old made
-  pub makes : ShowsSilos magic r.old.disk → FromFirstSync (IsNewAt magic bank_text) r.old made
-  pub shows : ShowsSilos magic r.old.disk → ShowsSilos magic made.disk
+  pub makes : ShowsSilos IsMagic r.old.disk → FromFirstSync (IsNewAt IsMagic bank_text) r.old made
+  pub shows : ShowsSilos IsMagic r.old.disk → ShowsSilos IsMagic made.disk
   pub stays : (file : FileId) → MayLeave (made.disk file) (made.disk file).seen
   pub new : AreNewSilos bank_text r made
   pub syncs : (r.old.syncs + 4 ≤ made.syncs) × (made.syncs ≤ r.old.syncs + 6)
@@ -205,7 +205,7 @@ pub record LoadsFrom (n seed : ℕ) (r : Observed) : Type 0 where
   pub has : HasMade r made
   pub good : r.ending ≢ ending.BadUse
   pub risen : ending.HasRisen r.ending r.faults_before r.faults_after
-  pub carried : ShowsSilos magic r.old.disk → IsUnopened (from_there r made) ⊎ ((c : Course) × ((program_in_force c).text ≡ bank_text) × KeepsLoad (program_in_force c) n seed (from_there r made) c)
+  pub carried : ShowsSilos IsMagic r.old.disk → IsUnopened (from_there r made) ⊎ ((c : Course) × ((program_in_force c).text ≡ bank_text) × KeepsLoad (program_in_force c) n seed (from_there r made) c)
 
 -- What `load` promises, carried in the manner of its words, without windows: it makes no silo, or makes one and carries its lines in it.
 pub record Loads (n seed : ℕ) (m : Manner) (r : Observed) : Type 0 where

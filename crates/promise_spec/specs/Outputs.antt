@@ -9,7 +9,7 @@ use Rattle.base_types.specs.declared.entries.Settled.TheVariants.{Done, Lock, Vo
 use Rattle.base_types.specs.declared.shapes.Shape.{Shape}
 use Rattle.base_types.specs.declared.shapes.TypeShape.{TypeShape}
 use Rattle.cell_model.specs.Units.{nobody}
-use Rattle.field_codec.specs.declared.formats.Format.TheVariants.{One}
+use Rattle.field_codec.specs.declared.formats.Format.TheVariants.{Two}
 use Rattle.field_codec.specs.Spelling.{ResultFits}
 use Rattle.request_wire.specs.Reply.{reply_line}
 
@@ -24,7 +24,7 @@ IsGrainIn shape grain = (grain.kind < length shape.types) × (grain.key < 2 ^ 32
 
 -- what an entry may say: no outcome that is an abort, values and texts within their limits, and grains of the program
 abbrev pub MaySay : Shape → Settled → Type 0
-MaySay shape (Done outcome) = ResultFits One outcome
+MaySay shape (Done outcome) = ResultFits Two outcome
 MaySay shape (Lock by grain) = (by.0 < 2 ^ 64) × IsGrainIn shape grain
 MaySay shape (Vote grain) = IsGrainIn shape grain
 MaySay shape (Dependency on) = on.0 < 2 ^ 64

@@ -1,5 +1,5 @@
 -- What the commands print that only read.
-use Rattle.std.specs.Prelude.{◌≡◌, ℕ, List, [], ◌∷◌, ◌++◌, length, codes, option_map, unwrap_or, slice_get, Option, Some, None}
+use Rattle.std.specs.Prelude.{◌≡◌, ℕ, List, [], ◌∷◌, ◌++◌, length, zip, codes, option_map, unwrap_or, slice_get, Option, Some, None}
 use Rattle.std.specs.List.{flat_map, list_any}
 use Rattle.base_types.specs.declared.calls.Call.{Call}
 use Rattle.base_types.specs.declared.calls.GrainId.{GrainId}
@@ -73,34 +73,38 @@ abbrev pub origin_count : Origin → Members → Members
 origin_count (Line n) rest = counted (codes "n") n rest
 origin_count (Child parent index depth) rest = counted (codes "parent") parent.0 rest
 
--- how a unit ended, with its origin and number; no record has an abort here
-abbrev pub ended_as : Origin → ℕ → Outcome → Members
-ended_as origin unit (outcome.Value v) =
-    origin_count origin (member (codes "reply") (value_data v) (counted (codes "unit") unit no_members))
-ended_as origin unit (outcome.Fault text) =
-    member (codes "fault") (string text) (origin_count origin (counted (codes "unit") unit no_members))
-ended_as origin unit outcome.Aborted = no_members
+-- the session of its block, and its number
+abbrev pub unit_counts : ℕ → ℕ → Members
+unit_counts session unit = counted (codes "session") session (counted (codes "unit") unit no_members)
 
--- a record
-abbrev pub record_line : Program → Commit → List ℕ
-record_line p c =
-    let how = ended_as c.logged.origin c.logged.unit.0 c.logged.result in
+-- how a unit ended, with its origin, session and number; no record has an abort here
+abbrev pub ended_as : Origin → ℕ → ℕ → Outcome → Members
+ended_as origin session unit (outcome.Value v) =
+    origin_count origin (member (codes "reply") (value_data v) (unit_counts session unit))
+ended_as origin session unit (outcome.Fault text) =
+    member (codes "fault") (string text) (origin_count origin (unit_counts session unit))
+ended_as origin session unit outcome.Aborted = no_members
+
+-- a record, in a block of this session
+abbrev pub record_line : Program → ℕ → Commit → List ℕ
+record_line p session c =
+    let how = ended_as c.logged.origin session c.logged.unit.0 c.logged.result in
     let args = array (items_of c.logged.call.args) in
     line_of (object (member (codes "args") args (member (codes "call") (string (call_text p c.logged.call)) how)))
 
--- the line of an upgrade: its text's length in bytes
-abbrev pub upgrade_line : Program → List ℕ
-upgrade_line p = line_of (object (counted (codes "upgrade") (length p.text) no_members))
+-- the line of an upgrade: the session of its block, and its text's length in bytes
+abbrev pub upgrade_line : ℕ → Program → List ℕ
+upgrade_line session p = line_of (object (counted (codes "session") session (counted (codes "upgrade") (length p.text) no_members)))
 
--- the entries behind a standing, each record under the program of its time
-abbrev pub entries_text : Standing → List LogEntry → List ℕ
+-- the entries behind a standing, each with its session, and each record under the program of its time
+abbrev pub entries_text : Standing → List (ℕ × LogEntry) → List ℕ
 entries_text before [] = []
-entries_text before (Recorded c ∷ later) = record_line before.program c ++ entries_text (after_entry before (Recorded c)) later
-entries_text before (Upgraded p ∷ later) = upgrade_line p ++ entries_text (after_entry before (Upgraded p)) later
+entries_text before ((session, Recorded c) ∷ later) = record_line before.program session c ++ entries_text (after_entry before (Recorded c)) later
+entries_text before ((session, Upgraded p) ∷ later) = upgrade_line session p ++ entries_text (after_entry before (Upgraded p)) later
 
--- each entry of the log
-abbrev pub history_text : Log → List ℕ
-history_text log = entries_text log.base log.entries
+-- each entry of the log, by these sessions
+abbrev pub history_text : List ℕ → Log → List ℕ
+history_text sessions log = entries_text log.base (zip sessions log.entries)
 
 -- ---- audit
 

@@ -5,13 +5,14 @@ use Rattle.host_trait.specs.declared.channels.FileId.{FileId}
 use Rattle.host_trait.specs.declared.channels.FileId.TheVariants.{Manager}
 use Rattle.host_trait.specs.Faults.{NoneFailed}
 use Rattle.host_trait.specs.World.{Moment, Image, IsImage}
+use Rattle.field_codec.specs.declared.formats.Format.TheVariants.{Two}
 use Rattle.script_check.specs.Comparison.{GoesOnFrom, compared}
 use Rattle.silo_spec.specs.Slots.{ShowsSilos}
 use Rattle.silo_spec.specs.Moments.{IsAsAtEntry, IsUntouched}
 use Rattle.silo_spec.specs.OpenedDisks.{opened_disk, opening_syncs}
 use Rattle.promise_spec.specs.Programs.{Program, text_limit}
 use Rattle.promise_spec.specs.Entries.{Log, standing_of, upgraded}
-use Rattle.promise_spec.specs.Logs.{magic, IsLog}
+use Rattle.promise_spec.specs.Logs.{IsMagic, IsLog}
 use Rattle.promise_spec.specs.Images.{IsWholeFolder}
 use Rattle.promise_spec.specs.Moments.{counted_moments}
 use Rattle.promise_spec.specs.Openings.{Reads, opened_as}
@@ -43,7 +44,7 @@ pub record IsUpgradeUnopened (r : Observed) : Type 0 where
   pub text : IsProgramText r
   pub untouched : IsUntouched r.old r.new
   pub syncs : r.new.syncs ≤ r.old.syncs + opening_syncs (seen_at_entry r)
-  pub refused : IsRefusedBy (seen_at_entry r) (opened_as (seen_at_entry r)) r.ending
+  pub refused : IsRefusedBy Two (seen_at_entry r) (opened_as (seen_at_entry r)) r.ending
   pub failed : HasFailedAs r.ending r.faults_before r.faults_after
 
 -- The folder was opened, but the program's types don't begin with the names of those in force: nothing was written. The place that is told
@@ -83,7 +84,7 @@ pub record Upgrades (live : ℕ) (log : Log) (p : Program) (r : Observed) : Type
   pub past : r.new.past ≡ r.old.past ++ (early ++ late)
   pub before : (m : Moment) → Member m early → IsAsAtEntry r.old m
   pub moments : (m : Moment) → Member m (counted_moments r.old early late r.new) → IsUpgrading live log p r m
-  pub shows : ShowsSilos magic r.new.disk
+  pub shows : ShowsSilos IsMagic r.new.disk
   pub done : r.ending ≡ Done → (image : Image) → IsImage r.new.disk image → IsLog live image (upgraded log p)
 
 -- How it ends: done, with two syncs behind those of the opening; for a fault of the live slot's manager file; or for want of memory, and

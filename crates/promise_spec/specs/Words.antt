@@ -143,8 +143,9 @@ pub data Command : Type 0 where
   Check : ℕ → ℕ → Command
   Compact : Command
   Upgrade : Command
+  Migrate : Command
 
--- The words say this command. Those that only read, `init`, `compact` and `upgrade` are one word.
+-- The words say this command. Those that only read, `init`, `compact`, `upgrade` and `migrate` are one word.
 abbrev pub Say : (GivenOption → Bool) → List (List ℕ) → Command → Type 0
 Say takes words Init = words ≡ codes "init" ∷ []
 Say takes words (Run m) = SpellsRun takes words m
@@ -155,3 +156,4 @@ Say takes words (Load n seed m) = SpellsLoad takes words n seed m
 Say takes words (Check n seed) = SpellsCheck words n seed
 Say takes words Compact = words ≡ codes "compact" ∷ []
 Say takes words Upgrade = words ≡ codes "upgrade" ∷ []
+Say takes words Migrate = words ≡ codes "migrate" ∷ []

@@ -1,4 +1,4 @@
-ghost use Rattle.std.specs.Prelude.{◌≡◌, ◌⊎◌, ◌↔◌, ◌++◌, ◌+◌, ◌≤◌, ◌<◌, ◌||◌, max, fold, map, ℕ, Bool, true, false, List, [], ◌∷◌, length, codes, Some, Ok};
+ghost use Rattle.std.specs.Prelude.{◌≡◌, ◌⊎◌, ◌↔◌, ◌++◌, ◌+◌, ◌≤◌, ◌<◌, ◌^◌, ◌||◌, max, fold, map, ℕ, Bool, true, false, List, [], ◌∷◌, length, codes, Some, Ok};
 ghost use Rattle.std.specs.List.{AllByRecursion, flat_map};
 ghost use Rattle.base_types.specs.declared.calls.GrainId.{GrainId};
 ghost use Rattle.base_types.specs.declared.shapes.Shape.{Shape};
@@ -7,21 +7,23 @@ ghost use Rattle.host_trait.specs.declared.channels.FileId.TheVariants.{Manager}
 ghost use Rattle.base_types.specs.declared.entries.Entry.{Entry};
 ghost use Rattle.host_trait.specs.World.{Image};
 ghost use Rattle.host_trait.specs.declared.channels.FileId.{FileId};
+ghost use Rattle.field_codec.specs.declared.formats.Format.{Format as AFormat};
 ghost use Rattle.field_codec.specs.Readers.{AreBytes};
 ghost use Rattle.script_tree.specs.Programs.{ProgramTree};
+ghost use Rattle.silo_spec.specs.Silos.{IsSilo};
 ghost use Rattle.silo_spec.specs.Slots.{IsLive};
 ghost use Rattle.silo_spec.specs.OpenedDisks.{opening_syncs};
 ghost use Rattle.promise_spec.specs.Programs.{Program, IsChecked, text_limit, shape_in, program_in};
 ghost use Rattle.promise_spec.specs.Records.{Commit, written, after_writes};
 ghost use Rattle.promise_spec.specs.Entries.{LogEntry, Recorded, records_among, Standing, after_entries, initial_states, new_silo, is_among, Log, records_of, standing_of, grown, upgraded, checkpointed};
 ghost use Rattle.promise_spec.specs.Versions.{IsKept};
-ghost use Rattle.promise_spec.specs.Blocks.{Records, Upgrade, body_of, MayFollow, Beginning, base_of};
+ghost use Rattle.promise_spec.specs.Blocks.{Records, Upgrade, sessions_in, body_of, SessionIs, MayFollow, Beginning, base_of};
 ghost use Rattle.promise_spec.specs.SerialExecution.{IsSerial, IsSerialFrom};
 ghost use Rattle.promise_spec.specs.Prefixes.{last_position, from_position, IsPrefixOf};
-ghost use Rattle.promise_spec.specs.Logs.{magic, StandsUpTo, IsLogIn, IsLog, IsPrefix};
-ghost use Rattle.promise_spec.specs.Images.{IsSound, AreChained, IsWholeFolder};
-ghost use Rattle.promise_spec.specs.Openings.{NoSilo, Reads, live_in, opened_as};
-ghost use Rattle.promise_spec.specs.Words.{GivenOption, Manner, plain_manner, Command, Run, Load, Check, Compact, Upgrade, Say};
+ghost use Rattle.promise_spec.specs.Logs.{IsFormat, IsMagic, StandsUpTo, IsLogIn, IsLogOf, IsPrefix};
+ghost use Rattle.promise_spec.specs.Images.{IsWholeSilo, IsSound, AreChained, IsWholeFolder};
+ghost use Rattle.promise_spec.specs.Openings.{NoSilo, OtherFormat, Reads, live_in, reading_in, session_in_file, sessions_read};
+ghost use Rattle.promise_spec.specs.Words.{GivenOption, Manner, plain_manner, Command, Run, Load, Check, Compact, Upgrade, Migrate, Say};
 ghost use Rattle.request_wire.specs.Reply.{reply_line};
 ghost use Rattle.promise_spec.specs.Outputs.{HavePlainNames, IsProper, Grew};
 ghost use Rattle.promise_spec.specs.Endings.{Done, InputTooLong, CountsSyncs};
@@ -37,19 +39,31 @@ pub fn promises_keep_the_headline()
     ensures call { (m : Manner) (r : Observed) → Promises m r → IsWholeFolder r.old → HasHeadline r }
 {}
 
-/// An image has at most one log, whichever slots are said to be live: the program, the records and their states are the bytes'. So
-/// where a definition says that an image has a log, it is the log. A slot's files have at most one too, live or not; and the unit that
-/// is next where a log begins has a number above 0.
+/// An image has at most one log, whichever slots are said to be live, and in whichever formats: the program, the records and their
+/// states are the bytes'. So where a definition says that an image has a log, it is the log. It has it in one format. A slot's files
+/// have at most one too, live or not; and the unit that is next where a log begins has a number above 0.
 pub fn one_log()
-    ensures image { (one other : ℕ) (image : Image) (a b : Log) → IsLog one image a → IsLog other image b → a ≡ b }
-    ensures slot { (slot : ℕ) (image : Image) (a b : Log) → IsLogIn slot image a → IsLogIn slot image b → a ≡ b }
-    ensures begins { (live : ℕ) (image : Image) (log : Log) → IsLog live image log → 0 < log.base.next }
+    ensures image { (f g : AFormat) (one other : ℕ) (image : Image) (a b : Log) → IsLogOf f one image a → IsLogOf g other image b → a ≡ b }
+    ensures format { (f g : AFormat) (one other : ℕ) (image : Image) (a b : Log) → IsLogOf f one image a → IsLogOf g other image b → f ≡ g }
+    ensures slot { (f g : AFormat) (slot : ℕ) (image : Image) (a b : Log) → IsLogIn f slot image a → IsLogIn g slot image b → a ≡ b }
+    ensures begins { (format : AFormat) (live : ℕ) (image : Image) (log : Log) → IsLogOf format live image log → 0 < log.base.next }
+{}
+
+/// The greatest session up to which a slot's files have a log is that of its manager file's last block: that of the checkpoint with
+/// which the log begins where no block follows it, 0 where there is none. No session of a log is 2 to the 63 or more. Of each entry is
+/// read the session of the block that it stands in.
+pub fn sessions_are_read()
+    ensures greatest { (format : AFormat) (slot : ℕ) (image : Image) (log : Log) → (is : IsLogIn format slot image log)
+        → is.session ≡ session_in_file format is.stands.program (image (Manager slot)) }
+    ensures small { (format : AFormat) (slot : ℕ) (image : Image) (log : Log) → (is : IsLogIn format slot image log) → is.session < 2 ^ 63 }
+    ensures each { (format : AFormat) (slot : ℕ) (image : Image) (log : Log) → (is : IsLogIn format slot image log)
+        → sessions_read format is.stands.program (image (Manager slot)) ≡ flat_map sessions_in is.stands.blocks }
 {}
 
 /// Of two images that are a chain, whose logs begin at one position, the logs have one base, and the entries of one are a first part
 /// of the other's.
 pub fn chains_compare()
-    ensures { (one other : ℕ) (x y : Image) (a b : Log) → AreChained x y → IsLog one x a → IsLog other y b → a.base.count ≡ b.base.count
+    ensures { (f g : AFormat) (one other : ℕ) (x y : Image) (a b : Log) → AreChained x y → IsLogOf f one x a → IsLogOf g other y b → a.base.count ≡ b.base.count
         → (a.base ≡ b.base) × (IsPrefix a.entries b.entries ⊎ IsPrefix b.entries a.entries) }
 {}
 
@@ -97,20 +111,24 @@ pub fn grown_logs_go_on()
         → IsSerialFrom before (map Recorded more) ↔ IsSerial before.program.types before.states more }
 {}
 
-/// A batch's block behind a log, where its records are kept under the program in force: the log grew by them.
+/// A batch's block behind a log, whose session isn't below those before it, and whose records are kept under the program in force: the
+/// log grew by them.
 pub fn sealed_batches_grow_a_log()
-    ensures { (slot : ℕ) (image : Image) (log : Log) (bodies : List (List ℕ)) (gate : ℕ) → StandsUpTo slot image log bodies gate
-        → (batch : List Commit) (next : ℕ) → length batch ≤ 64 → AllByRecursion (IsKept slot (shape_in (standing_of log).program) image) batch
-        → HasBlocks (bodies ++ body_of (Records batch) ∷ []) next (image (Manager slot))
-        → StandsUpTo slot image (grown log batch) (bodies ++ body_of (Records batch) ∷ []) next }
+    ensures { (format : AFormat) (slot : ℕ) (image : Image) (log : Log) (bodies : List (List ℕ)) (gate reached : ℕ)
+        → StandsUpTo format slot image log bodies gate reached → (session : ℕ) → reached ≤ session → SessionIs format session
+        → (batch : List Commit) (next : ℕ) → length batch ≤ 64 → AllByRecursion (IsKept format slot (shape_in (standing_of log).program) image) batch
+        → HasBlocks (bodies ++ body_of format (Records session batch) ∷ []) next (image (Manager slot))
+        → StandsUpTo format slot image (grown log batch) (bodies ++ body_of format (Records session batch) ∷ []) next session }
 {}
 
-/// An upgrade's block behind a log, where its program may follow the one in force: the log has the upgrade more.
+/// An upgrade's block behind a log, whose session isn't below those before it, and whose program may follow the one in force: the log
+/// has the upgrade more.
 pub fn sealed_upgrades_grow_a_log()
-    ensures { (slot : ℕ) (image : Image) (log : Log) (bodies : List (List ℕ)) (gate : ℕ) → StandsUpTo slot image log bodies gate
+    ensures { (format : AFormat) (slot : ℕ) (image : Image) (log : Log) (bodies : List (List ℕ)) (gate reached : ℕ)
+        → StandsUpTo format slot image log bodies gate reached → (session : ℕ) → reached ≤ session → SessionIs format session
         → (q : Program) (next : ℕ) → MayFollow (standing_of log).program q
-        → HasBlocks (bodies ++ body_of (Upgrade q) ∷ []) next (image (Manager slot))
-        → StandsUpTo slot image (upgraded log q) (bodies ++ body_of (Upgrade q) ∷ []) next }
+        → HasBlocks (bodies ++ body_of format (Upgrade session q) ∷ []) next (image (Manager slot))
+        → StandsUpTo format slot image (upgraded log q) (bodies ++ body_of format (Upgrade session q) ∷ []) next session }
 {}
 
 /// Where a grain has no state in the store it has its type's initial fields, behind any entries: from any base of which this is so,
@@ -158,15 +176,21 @@ pub fn programs_are_read()
         → IsChecked (record { text = text; types = types }) }
 {}
 
-/// A folder reads as a silo with a live slot and a log exactly where that slot is live and it has that log there; it reads as no silo
-/// exactly where no slot is live. So one that is sound is opened with its log, and is neither called damaged nor no silo.
+/// A folder reads in a format as a silo with a live slot and a log exactly where that slot is live and it has that log there in the
+/// format; it reads as no silo exactly where no slot is live, and as one of the other format exactly where a live slot's manager file
+/// isn't of this one. So one that is sound is opened in its format with its log, and is neither called damaged nor no silo; and what
+/// an image that is whole reads as is its log.
 pub fn folders_are_read()
-    ensures slot { (image : Image) (live : ℕ) → (live_in image ≡ Some live) ↔ IsLive magic live image }
-    ensures reads { (image : Image) (live : ℕ) (log : Log) → ((file : FileId) → AreBytes (image file))
-        → opened_as image ≡ Reads live log → IsLog live image log }
-    ensures read { (image : Image) (live : ℕ) (log : Log) → IsLog live image log → opened_as image ≡ Reads live log }
-    ensures no_silo { (image : Image) → (opened_as image ≡ NoSilo) ↔ ((live : ℕ) → IsLive magic live image → ⊥) }
-    ensures sound { (live : ℕ) (image : Image) → (s : IsSound live image) → opened_as image ≡ Reads live s.log }
+    ensures slot { (image : Image) (live : ℕ) → (live_in image ≡ Some live) ↔ IsLive IsMagic live image }
+    ensures reads { (format : AFormat) (image : Image) (live : ℕ) (log : Log) → ((file : FileId) → AreBytes (image file))
+        → reading_in format image ≡ Reads live log → IsLogOf format live image log }
+    ensures read { (format : AFormat) (image : Image) (live : ℕ) (log : Log) → IsLogOf format live image log → reading_in format image ≡ Reads live log }
+    ensures no_silo { (format : AFormat) (image : Image) → (reading_in format image ≡ NoSilo) ↔ ((live : ℕ) → IsLive IsMagic live image → ⊥) }
+    ensures other { (format : AFormat) (image : Image) → (reading_in format image ≡ OtherFormat)
+        ↔ ((live : ℕ) × IsLive IsMagic live image × (IsSilo (IsFormat format) (image (Manager live)) → ⊥)) }
+    ensures sound { (live : ℕ) (image : Image) → (s : IsSound live image) → reading_in s.format image ≡ Reads live s.log }
+    ensures whole { (format : AFormat) (live : ℕ) (image : Image) (log : Log) → IsWholeSilo live image → reading_in format image ≡ Reads live log
+        → IsLogOf format live image log }
 {}
 
 /// The words of a command say one thing: one manner of a run, one number of transfers, seed and manner of a load, and one number
@@ -204,6 +228,8 @@ pub fn words_are_read()
     ensures compact_alone { (takes : GivenOption → Bool) (c : Command) → Say takes (codes "compact" ∷ codes "now" ∷ []) c → ⊥ }
     ensures upgrade { Say (λ g. true) (codes "upgrade" ∷ []) Upgrade }
     ensures upgrade_alone { (takes : GivenOption → Bool) (c : Command) → Say takes (codes "upgrade" ∷ codes "now" ∷ []) c → ⊥ }
+    ensures migrate { Say (λ g. true) (codes "migrate" ∷ []) Migrate }
+    ensures migrate_alone { (takes : GivenOption → Bool) (c : Command) → Say takes (codes "migrate" ∷ codes "now" ∷ []) c → ⊥ }
     ensures large_seed { (takes : GivenOption → Bool) (c : Command)
         → Say takes (codes "load" ∷ codes "4" ∷ codes "18446744073709551616" ∷ []) c → ⊥ }
     ensures third_number { (takes : GivenOption → Bool) (c : Command) → Say takes (codes "load" ∷ codes "4" ∷ codes "7" ∷ codes "9" ∷ []) c → ⊥ }

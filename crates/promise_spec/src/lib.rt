@@ -6,7 +6,7 @@
 //! `TurnRule`, `Causes`, `Family` (what the core's events are, and where records come from), `Openings` (what a folder
 //! reads as), `Words`, `Endings`, `Courses`, `Refusals`; the clauses `Orders`, `Replies` and `Crashes`, which `Headline`
 //! says alone; and the others, `Batches`, `Explanation`, `Exits` and `Promise`. `Reports`, `Commands`, `Loads`, `Checks`,
-//! `EitherSlot`, `Compaction` and `Upgrading` have the other commands, and `Calls` the whole program.
+//! `EitherSlot`, `Compaction`, `Migration` and `Upgrading` have the other commands, and `Calls` the whole program.
 //!
 //! `laws` has what follows from the definitions alone, `checkpoints` what of a log's beginning, and `folders` that a sound folder is
 //! whole. `promise_laws` has what
@@ -24,5 +24,6 @@ pub use laws::{
     chains_compare, checked_programs_have_plain_names, done_runs_count_syncs, folders_are_read,
     grown_logs_go_on, one_entry, one_log, one_output, prefixes_are_an_order, programs_are_read,
     promises_keep_the_headline, sealed_batches_grow_a_log, sealed_upgrades_grow_a_log,
-    standings_are_folds, unheld_grains_are_initial, words_are_read, words_say_one_command,
+    sessions_are_read, standings_are_folds, unheld_grains_are_initial, words_are_read,
+    words_say_one_command,
 };

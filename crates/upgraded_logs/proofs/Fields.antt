@@ -7,6 +7,7 @@ use Rattle.base_types.specs.declared.calls.GrainId.{GrainId}
 use Rattle.base_types.specs.declared.calls.UnitNo.{UnitNo}
 use Rattle.base_types.specs.declared.calls.Value.{Value}
 use Rattle.host_trait.specs.World.{Image}
+use Rattle.field_codec.specs.declared.formats.Format.{Format}
 use Rattle.script_holding.specs.Holding.{same_grain}
 use Rattle.script_meaning.specs.Play.{initial_of}
 use Rattle.script_meaning.proofs.Grains.{same_grain_is}
@@ -49,12 +50,12 @@ put_fits p states w state one fit g = by_case (same_grain w g) refl where
   by_case true e = one ∙ ap (λ (x : GrainId). length (fields_of_kind p.types x.kind)) (same_grain_is w g e)
   by_case false e = fit g
 
-writes_fit : (live : ℕ) (image : Image) (p : Program) (unit : UnitNo) (ws : List Written) (new : List (List Value)) (states : States) → WritesStand live (shape_in p) image unit ws new → Fit p states → Fit p (fold put_state states (zip (map (λ w. w.grain) ws) new))
-writes_fit live image p unit [] [] states h fit = fit
-writes_fit live image p unit [] (s ∷ new) states h fit = fit
-writes_fit live image p unit (w ∷ ws) [] states h fit = fit
-writes_fit live image p unit (w ∷ ws) (s ∷ new) states h fit =
-    writes_fit live image p unit ws new (put_state states (w.grain, s)) h.1 (put_fits p states w.grain s (shape_fields p.types w.grain.kind (length s) h.0.fields) fit)
+writes_fit : (format : Format) (live : ℕ) (image : Image) (p : Program) (unit : UnitNo) (ws : List Written) (new : List (List Value)) (states : States) → WritesStand format live (shape_in p) image unit ws new → Fit p states → Fit p (fold put_state states (zip (map (λ w. w.grain) ws) new))
+writes_fit format live image p unit [] [] states h fit = fit
+writes_fit format live image p unit [] (s ∷ new) states h fit = fit
+writes_fit format live image p unit (w ∷ ws) [] states h fit = fit
+writes_fit format live image p unit (w ∷ ws) (s ∷ new) states h fit =
+    writes_fit format live image p unit ws new (put_state states (w.grain, s)) h.1 (put_fits p states w.grain s (shape_fields p.types w.grain.kind (length s) h.0.fields) fit)
 
 upgrade_fits : (s : Standing) (q : Program) → Fit q ((after_entry s (Upgraded q)).states)
 upgrade_fits s q g = by_case (s.held g) where
@@ -62,8 +63,8 @@ upgrade_fits s q g = by_case (s.held g) where
   by_case true = count (fields_of_kind s.program.types g.kind) (fields_of_kind q.types g.kind) (s.states g)
   by_case false = initial_fit (slice_get q.types g.kind)
 
-pub fields : (live : ℕ) (image : Image) (before : Standing) (entries : List LogEntry) → AreKept live image before.program entries → HaveTheirFields before → HaveTheirFields (after_entries before entries)
-fields live image before [] h fit = fit
-fields live image before (Recorded c ∷ entries) h fit =
-    fields live image (after_entry before (Recorded c)) entries h.1 (writes_fit live image before.program c.logged.unit c.logged.writes c.states before.states h.0.whole fit)
-fields live image before (Upgraded q ∷ entries) h fit = fields live image (after_entry before (Upgraded q)) entries h.1 (upgrade_fits before q)
+pub fields : (format : Format) (live : ℕ) (image : Image) (before : Standing) (entries : List LogEntry) → AreKept format live image before.program entries → HaveTheirFields before → HaveTheirFields (after_entries before entries)
+fields format live image before [] h fit = fit
+fields format live image before (Recorded c ∷ entries) h fit =
+    fields format live image (after_entry before (Recorded c)) entries h.1 (writes_fit format live image before.program c.logged.unit c.logged.writes c.states before.states h.0.whole fit)
+fields format live image before (Upgraded q ∷ entries) h fit = fields format live image (after_entry before (Upgraded q)) entries h.1 (upgrade_fits before q)

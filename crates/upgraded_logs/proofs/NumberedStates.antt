@@ -7,7 +7,7 @@ use Rattle.base_types.specs.declared.calls.Value.{Value}
 use Rattle.base_types.specs.declared.shapes.Shape.{Shape}
 use Rattle.host_trait.specs.Files.{same_grain}
 use Rattle.host_trait.specs.World.{Image}
-use Rattle.field_codec.specs.declared.formats.Format.TheVariants.{One}
+use Rattle.field_codec.specs.declared.formats.Format.{Format}
 use Rattle.commit_log.specs.declared.records.Written.{Written}
 use Rattle.commit_log.specs.declared.records.Named.{Named}
 use Rattle.script_tree.specs.Programs.{ProgramTree}
@@ -17,7 +17,7 @@ use Rattle.log_reading.specs.Blocks.{ReadEntry, ReadRecord, ReadUpgrade, LogRead
 use Rattle.log_reading.specs.Versions.{named_by, named_in, version_named, version_numbered, state_of}
 use Rattle.promise_spec.specs.Programs.{Program, shape_in}
 use Rattle.promise_spec.specs.Records.{States, put_state}
-use Rattle.promise_spec.specs.Entries.{Standing, initial_states, is_among, LogEntry, programs_among, after_entries, Log, standing_of}
+use Rattle.promise_spec.specs.Entries.{Standing, initial_states, is_among, LogEntry, programs_among, standing_of}
 use Rattle.promise_spec.specs.Blocks.{standing_with}
 use Rattle.promise_spec.specs.Openings.{states_read, entries_logged, log_of}
 use Rattle.promise_spec.proofs.Growing.{others_stay}
@@ -29,13 +29,13 @@ use Rattle.upgraded_logs.proofs.Numbers.{numbers}
 -- ---- the last of a grain's versions
 
 -- the state of a version that is named, with the number of its program
-abbrev pub numbered : ℕ → List Shape → Image → Named → NumberedState
-numbered live shapes image n = record { number = n.program; state = state_of (version_numbered live One shapes image n) }
+abbrev pub numbered : Format → ℕ → List Shape → Image → Named → NumberedState
+numbered format live shapes image n = record { number = n.program; state = state_of (version_numbered live format shapes image n) }
 
 -- the last of a grain's among these, or one of before
-abbrev pub last_numbered : ℕ → List Shape → Image → Option NumberedState → List Named → GrainId → Option NumberedState
-last_numbered live shapes image s [] g = s
-last_numbered live shapes image s (n ∷ named) g = last_numbered live shapes image (if same_grain n.written.grain g then Some (numbered live shapes image n) else s) named g
+abbrev pub last_numbered : Format → ℕ → List Shape → Image → Option NumberedState → List Named → GrainId → Option NumberedState
+last_numbered format live shapes image s [] g = s
+last_numbered format live shapes image s (n ∷ named) g = last_numbered format live shapes image (if same_grain n.written.grain g then Some (numbered format live shapes image n) else s) named g
 
 or_swap : (a b h : Bool) → (a || (b || h)) ≡ ((b || a) || h)
 or_swap true true h = refl
@@ -43,24 +43,24 @@ or_swap true false h = refl
 or_swap false true h = refl
 or_swap false false h = refl
 
-module _ (live : ℕ) (shapes : List Shape) (image : Image) where
+module _ (format : Format) (live : ℕ) (shapes : List Shape) (image : Image) where
   module _ (number : ℕ) (shape : Shape) (at : slice_get shapes number ≡ Some shape) where
     abbrev named_of : Option UnitNo → Written → Named
     named_of unit w = record { unit = unit; program = number; written = w }
 
     abbrev state_at : Option UnitNo → Written → List Value
-    state_at unit w = state_of (version_named live One shape image (record { unit = unit; program = 0; written = w }))
+    state_at unit w = state_of (version_named live format shape image (record { unit = unit; program = 0; written = w }))
 
-    numbered_is : (unit : Option UnitNo) (w : Written) → numbered live shapes image (named_of unit w) ≡ record { number = number; state = state_at unit w }
-    numbered_is unit w = (let read = by_number live shapes image number shape at unit w in λ i. record { number = number; state = state_of (read i) })
+    numbered_is : (unit : Option UnitNo) (w : Written) → numbered format live shapes image (named_of unit w) ≡ record { number = number; state = state_at unit w }
+    numbered_is unit w = (let read = by_number format live shapes image number shape at unit w in λ i. record { number = number; state = state_of (read i) })
 
     -- those of a record
     over_writes : (unit : Option UnitNo) (ws : List Written) (more : List Named) (s : Option NumberedState) (g : GrainId)
-        → last_numbered live shapes image s (map (named_of unit) ws ++ more) g
-        ≡ last_numbered live shapes image (fold (numbered_write number g) s (zip (map (λ (w : Written). w.grain) ws) (map (state_at unit) ws))) more g
+        → last_numbered format live shapes image s (map (named_of unit) ws ++ more) g
+        ≡ last_numbered format live shapes image (fold (numbered_write number g) s (zip (map (λ (w : Written). w.grain) ws) (map (state_at unit) ws))) more g
     over_writes unit [] more s g = refl
     over_writes unit (w ∷ ws) more s g =
-        ap (λ (x : NumberedState). last_numbered live shapes image (if same_grain w.grain g then Some x else s) (map (named_of unit) ws ++ more) g) (numbered_is unit w)
+        ap (λ (x : NumberedState). last_numbered format live shapes image (if same_grain w.grain g then Some x else s) (map (named_of unit) ws ++ more) g) (numbered_is unit w)
         ∙ over_writes unit ws more (numbered_write number g s (w.grain, state_at unit w)) g
 
     -- what is kept of a grain where it is held
@@ -73,20 +73,20 @@ module _ (live : ℕ) (shapes : List Shape) (image : Image) where
 
     -- those of a checkpoint
     over_base : (unit : Option UnitNo) (ws : List Written) (more : List Named) (h : Bool) (before : States) (g : GrainId)
-        → last_numbered live shapes image (kept_if h (before g)) (map (named_of unit) ws ++ more) g
-        ≡ last_numbered live shapes image (kept_if (is_among (map (λ (w : Written). (w.grain, state_at unit w)) ws) g || h) (fold put_state before (map (λ (w : Written). (w.grain, state_at unit w)) ws) g)) more g
+        → last_numbered format live shapes image (kept_if h (before g)) (map (named_of unit) ws ++ more) g
+        ≡ last_numbered format live shapes image (kept_if (is_among (map (λ (w : Written). (w.grain, state_at unit w)) ws) g || h) (fold put_state before (map (λ (w : Written). (w.grain, state_at unit w)) ws) g)) more g
     over_base unit [] more h before g = refl
     over_base unit (w ∷ ws) more h before g =
         let pairs : List (GrainId × List Value) = map (λ (v : Written). (v.grain, state_at unit v)) ws in
         let after : States = put_state before (w.grain, state_at unit w) in
-        ap (λ (x : NumberedState). last_numbered live shapes image (if same_grain w.grain g then Some x else kept_if h (before g)) (map (named_of unit) ws ++ more) g) (numbered_is unit w)
-        ∙ ap (λ (s : Option NumberedState). last_numbered live shapes image s (map (named_of unit) ws ++ more) g) (one_kept (same_grain w.grain g) h (before g) (state_at unit w))
+        ap (λ (x : NumberedState). last_numbered format live shapes image (if same_grain w.grain g then Some x else kept_if h (before g)) (map (named_of unit) ws ++ more) g) (numbered_is unit w)
+        ∙ ap (λ (s : Option NumberedState). last_numbered format live shapes image s (map (named_of unit) ws ++ more) g) (one_kept (same_grain w.grain g) h (before g) (state_at unit w))
         ∙ over_base unit ws more (same_grain w.grain g || h) after g
-        ∙ ap (λ (b : Bool). last_numbered live shapes image (kept_if b (fold put_state after pairs g)) more g) (or_swap (is_among pairs g) (same_grain w.grain g) h)
+        ∙ ap (λ (b : Bool). last_numbered format live shapes image (kept_if b (fold put_state after pairs g)) more g) (or_swap (is_among pairs g) (same_grain w.grain g) h)
 
   -- those of entries
-  over_entries : (number : ℕ) (p : Program) (entries : List ReadEntry) → AreShapes live shapes image number p entries → (s : Option NumberedState) (g : GrainId)
-      → last_numbered live shapes image s (named_by number entries) g ≡ numbered_after g number s (entries_logged live p image entries)
+  over_entries : (number : ℕ) (p : Program) (entries : List ReadEntry) → AreShapes format live shapes image number p entries → (s : Option NumberedState) (g : GrainId)
+      → last_numbered format live shapes image s (named_by number entries) g ≡ numbered_after g number s (entries_logged format live p image entries)
   over_entries number p [] goes s g = refl
   over_entries number p (ReadRecord r ∷ entries) goes s g =
       let at = item_at number shapes (shape_in p) (later_shapes entries) goes in
@@ -140,47 +140,47 @@ meant_is p g (Some k) = refl
 
 -- ---- the log
 
-programs_are : (live : ℕ) (p : Program) (image : Image) (entries : List ReadEntry) → programs_among (entries_logged live p image entries) ≡ programs_read entries
-programs_are live p image [] = refl
-programs_are live p image (ReadRecord r ∷ entries) = programs_are live p image entries
-programs_are live p image (ReadUpgrade q ∷ entries) = ap (λ (l : List Program). q ∷ l) (programs_are live q image entries)
+programs_are : (format : Format) (live : ℕ) (p : Program) (image : Image) (entries : List ReadEntry) → programs_among (entries_logged format live p image entries) ≡ programs_read entries
+programs_are format live p image [] = refl
+programs_are format live p image (ReadRecord r ∷ entries) = programs_are format live p image entries
+programs_are format live p image (ReadUpgrade q ∷ entries) = ap (λ (l : List Program). q ∷ l) (programs_are format live q image entries)
 
-module _ (live : ℕ) (p : Program) (image : Image) (l : LogRead) (g : GrainId) where
+module _ (format : Format) (live : ℕ) (p : Program) (image : Image) (l : LogRead) (g : GrainId) where
   abbrev shapes : List Shape
   shapes = shapes_read p l
 
   abbrev base : Standing
-  base = standing_with p l.base.count l.base.next (states_read live (shape_in p) image l.base)
+  base = standing_with p l.base.count l.base.next (states_read format live (shape_in p) image l.base)
 
   abbrev entries : List LogEntry
-  entries = entries_logged live p image l.entries
+  entries = entries_logged format live p image l.entries
 
   -- the last version of a grain, with the number of its program
   abbrev pub last_named : Option NumberedState
-  last_named = last_numbered live shapes image None (named_in l) g
+  last_named = last_numbered format live shapes image None (named_in l) g
 
   last_is : last_named ≡ numbered_after g 0 (numbered_of_base base g) entries
   last_is =
-      over_base live shapes image 0 (shape_in p) refl None l.base.writes (named_by 0 l.entries) false (initial_states p) g
-      ∙ ap (λ (b : Bool). last_numbered live shapes image (if b then Some (record { number = 0; state = base.states g }) else None) (named_by 0 l.entries) g) (or_none (base.held g))
-      ∙ over_entries live shapes image 0 p l.entries refl (numbered_of_base base g) g
+      over_base format live shapes image 0 (shape_in p) refl None l.base.writes (named_by 0 l.entries) false (initial_states p) g
+      ∙ ap (λ (b : Bool). last_numbered format live shapes image (if b then Some (record { number = 0; state = base.states g }) else None) (named_by 0 l.entries) g) (or_none (base.held g))
+      ∙ over_entries format live shapes image 0 p l.entries refl (numbered_of_base base g) g
     where
       or_none : (b : Bool) → (b || false) ≡ b
       or_none true = refl
       or_none false = refl
 
   means : MeansKept (p ∷ programs_read l.entries) last_named (kept_after g p (kept_of_base base g) entries)
-  means = subst (λ (ps : List Program). MeansKept (p ∷ ps) last_named (kept_after g p (kept_of_base base g) entries)) (programs_are live p image l.entries)
+  means = subst (λ (ps : List Program). MeansKept (p ∷ ps) last_named (kept_after g p (kept_of_base base g) entries)) (programs_are format live p image l.entries)
       (subst (λ (a : Option NumberedState). MeansKept (p ∷ programs_among entries) a (kept_after g p (kept_of_base base g) entries)) (sym last_is) (numbers base entries g))
 
   -- it is the state for which the log stands, carried from the program of its time, or the initial fields of the program in force
-  pub states_meant : unwrap_or (option_map (λ (n : NumberedState). carried_from (types_read p l.entries) n.number g.kind n.state) last_named) (initial_states (standing_of (log_of live p image l)).program g)
-      ≡ (standing_of (log_of live p image l)).states g
+  pub states_meant : unwrap_or (option_map (λ (n : NumberedState). carried_from (types_read p l.entries) n.number g.kind n.state) last_named) (initial_states (standing_of (log_of format live p image l)).program g)
+      ≡ (standing_of (log_of format live p image l)).states g
   states_meant =
-      carried_same (p ∷ programs_read l.entries) g (initial_states (standing_of (log_of live p image l)).program g) last_named (kept_after g p (kept_of_base base g) entries) means
-      ∙ meant_is (standing_of (log_of live p image l)).program g (kept_after g p (kept_of_base base g) entries)
-      ∙ states base entries g (λ grain none. others_stay (states_read live (shape_in p) image l.base) (initial_states p) grain none)
+      carried_same (p ∷ programs_read l.entries) g (initial_states (standing_of (log_of format live p image l)).program g) last_named (kept_after g p (kept_of_base base g) entries) means
+      ∙ meant_is (standing_of (log_of format live p image l)).program g (kept_after g p (kept_of_base base g) entries)
+      ∙ states base entries g (λ grain none. others_stay (states_read format live (shape_in p) image l.base) (initial_states p) grain none)
 
   -- and the grain is held where there is one
-  pub held_meant : is_some last_named ≡ (standing_of (log_of live p image l)).held g
+  pub held_meant : is_some last_named ≡ (standing_of (log_of format live p image l)).held g
   held_meant = some_same (p ∷ programs_read l.entries) g [] last_named (kept_after g p (kept_of_base base g) entries) means ∙ held base entries g

@@ -1,6 +1,7 @@
 ghost use Rattle.std.specs.Prelude.{◌≡◌, ◌↔◌, ◌≤◌, ℕ, List, [], ◌∷◌, ◌++◌, length, map, Result, Ok, Err, is_some};
 ghost use Rattle.base_types.specs.declared.calls.GrainId.{GrainId as AGrain};
 ghost use Rattle.host_trait.specs.World.{Image};
+ghost use Rattle.field_codec.specs.declared.formats.Format.{Format};
 ghost use Rattle.script_check.specs.Comparison.{GoesOnFrom, GoOnInTurn, last_program};
 ghost use Rattle.script_check.specs.Carrying.{fields_of_kind};
 ghost use Rattle.promise_spec.specs.Programs.{Program, shape_in};
@@ -28,9 +29,10 @@ pub fn states_are_kept()
 /// Behind entries that are kept whole each grain's state has its type's fields in the program in force, whose types go on from all before,
 /// so that a type's number and a grain of it stay.
 pub fn states_have_their_fields()
-    ensures fields { (live : ℕ) (image : Image) (before : Standing) (entries : List LogEntry) → AreKept live image before.program entries
+    ensures fields { (format : Format) (live : ℕ) (image : Image) (before : Standing) (entries : List LogEntry)
+        → AreKept format live image before.program entries
         → HaveTheirFields before → HaveTheirFields (after_entries before entries) }
-    ensures programs { (live : ℕ) (image : Image) (p : Program) (entries : List LogEntry) → AreKept live image p entries
+    ensures programs { (format : Format) (live : ℕ) (image : Image) (p : Program) (entries : List LogEntry) → AreKept format live image p entries
         → GoOnInTurn p.types (map (λ q. q.types) (programs_among entries)) }
     ensures last { (before : Standing) (entries : List LogEntry) → (after_entries before entries).program.types
         ≡ last_program before.program.types (map (λ q. q.types) (programs_among entries)) }
@@ -38,8 +40,8 @@ pub fn states_have_their_fields()
 
 /// An upgrade behind a log's entries is kept whole exactly where the program may follow the one in force, and leaves the log serial.
 pub fn upgrades_are_serial()
-    ensures kept { (live : ℕ) (image : Image) (before : Standing) (entries : List LogEntry) (q : Program)
-        → (AreKept live image before.program (entries ++ Upgraded q ∷ []) ↔ (AreKept live image before.program entries
+    ensures kept { (format : Format) (live : ℕ) (image : Image) (before : Standing) (entries : List LogEntry) (q : Program)
+        → (AreKept format live image before.program (entries ++ Upgraded q ∷ []) ↔ (AreKept format live image before.program entries
         × MayFollow (after_entries before entries).program q)) }
     ensures serial { (before : Standing) (entries : List LogEntry) (q : Program)
         → (IsSerialFrom before (entries ++ Upgraded q ∷ []) ↔ IsSerialFrom before entries) }

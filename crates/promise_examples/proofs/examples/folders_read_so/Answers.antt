@@ -83,6 +83,15 @@ returns-clause-second_block c = logs_read.later
 pub returns-clause-first_block : goal.returns-clause-first_block
 returns-clause-first_block c = logs_read.earlier
 
+pub returns-clause-great_session : goal.returns-clause-great_session
+returns-clause-great_session c = logs_read.great_session
+
+pub returns-clause-lower_session : goal.returns-clause-lower_session
+returns-clause-lower_session c = logs_read.falls
+
+pub returns-clause-session_first : goal.returns-clause-session_first
+returns-clause-session_first c = logs_read.session_first
+
 pub returns-clause-version_cut : goal.returns-clause-version_cut
 returns-clause-version_cut c = versions_read.cut
 

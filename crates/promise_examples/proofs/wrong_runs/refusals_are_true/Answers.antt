@@ -1,4 +1,4 @@
-use Rattle.promise_examples.proofs.WrongAnswers.{another_place, sound_damaged, silo_called_none, none_opened, damaged_carried, no_bad_use, grain_blamed, unnamed_blamed, done_unread, done_unanswered, fault_forgets, fault_says, long_forgets, long_says, long_misnumbers, long_blames, done_passes, grain_fault_opened, said_unopened, blamed_behind}
+use Rattle.promise_examples.proofs.WrongAnswers.{called_old, opened_old, another_place, sound_damaged, silo_called_none, none_opened, damaged_carried, no_bad_use, grain_blamed, unnamed_blamed, done_unread, done_unanswered, fault_forgets, fault_says, long_forgets, long_says, long_misnumbers, long_blames, done_passes, grain_fault_opened, said_unopened, blamed_behind}
 use Rattle.promise_examples.proofs.wrong_runs.refusals_are_true.Goals as goal
 
 pub returns-clause-place : goal.returns-clause-place
@@ -60,3 +60,9 @@ returns-clause-no_bad c m r told keeps is none = long_blames m r told is keeps n
 
 pub returns-clause-passed : goal.returns-clause-passed
 returns-clause-passed c = done_passes
+
+pub returns-clause-called_old : goal.returns-clause-called_old
+returns-clause-called_old c m r live = called_old m r live
+
+pub returns-clause-opened_old : goal.returns-clause-opened_old
+returns-clause-opened_old c m r live = opened_old m r live

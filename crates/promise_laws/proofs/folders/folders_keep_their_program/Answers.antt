@@ -1,4 +1,4 @@
-use Rattle.promise_laws.proofs.SamePrograms.{run_stays, shows_stay, reports_stay, audits_stay, bad_use_stays, checks_stay, restart_stays, upgrade_stays, compact_stays}
+use Rattle.promise_laws.proofs.SamePrograms.{run_stays, shows_stay, reports_stay, audits_stay, bad_use_stays, checks_stay, restart_stays}
 use Rattle.promise_laws.proofs.folders.folders_keep_their_program.Goals as goal
 
 pub returns-clause-run : goal.returns-clause-run
@@ -21,9 +21,3 @@ returns-clause-restart c = restart_stays
 
 pub returns-clause-show : goal.returns-clause-show
 returns-clause-show c = shows_stay
-
-pub returns-clause-compact : goal.returns-clause-compact
-returns-clause-compact c = compact_stays
-
-pub returns-clause-upgrade : goal.returns-clause-upgrade
-returns-clause-upgrade c = upgrade_stays

@@ -1,5 +1,5 @@
 use Rattle.promise_laws.proofs.SoundFolders.{run_keeps, shows_keep, reports_keep, audits_keep, bad_use_keeps, load_keeps, checks_keep, obeying_keeps}
-use Rattle.promise_laws.proofs.RewrittenFolders.{compact_keeps}
+use Rattle.promise_laws.proofs.RewrittenFolders.{compact_keeps, migrate_keeps}
 use Rattle.promise_laws.proofs.SoundUpgrades.{upgrade_keeps}
 use Rattle.promise_laws.proofs.folders.folders_stay_sound.Goals as goal
 
@@ -32,3 +32,6 @@ returns-clause-compact c = compact_keeps
 
 pub returns-clause-upgrade : goal.returns-clause-upgrade
 returns-clause-upgrade c = upgrade_keeps
+
+pub returns-clause-migrate : goal.returns-clause-migrate
+returns-clause-migrate c = migrate_keeps

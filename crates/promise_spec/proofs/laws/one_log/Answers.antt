@@ -1,4 +1,4 @@
-use Rattle.promise_spec.proofs.OneLog.{one_log, one_in}
+use Rattle.promise_spec.proofs.OneLog.{one_log, one_in, image_format}
 use Rattle.promise_spec.proofs.Chains.{begins_above}
 use Rattle.promise_spec.proofs.laws.one_log.Goals as goal
 
@@ -10,3 +10,6 @@ returns-clause-slot c = one_in
 
 pub returns-clause-begins : goal.returns-clause-begins
 returns-clause-begins c = begins_above
+
+pub returns-clause-format : goal.returns-clause-format
+returns-clause-format c = image_format

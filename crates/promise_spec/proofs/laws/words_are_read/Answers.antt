@@ -1,7 +1,7 @@
 use Rattle.std.proofs.Common.{◌≡◌, ℕ, false, get_or, length, ap, List, [], ◌∷◌, refl, arith, lit<, lit≤}
 use Rattle.std.specs.Fmt.{digits}
-use Rattle.promise_spec.specs.Words.{Width, Turns, Workers, Apart, Joined, Init, Run, Show, History, Audit, Load, Check, Compact, Upgrade}
-use Rattle.promise_spec.proofs.Words.{no_run, no_load, no_check, no_compact, no_upgrade}
+use Rattle.promise_spec.specs.Words.{Width, Turns, Workers, Apart, Joined, Init, Run, Show, History, Audit, Load, Check, Compact, Upgrade, Migrate}
+use Rattle.promise_spec.proofs.Words.{no_run, no_load, no_check, no_compact, no_upgrade, no_migrate}
 use Rattle.promise_spec.proofs.laws.words_are_read.Goals as goal
 
 pub returns-clause-run : goal.returns-clause-run
@@ -157,6 +157,7 @@ returns-clause-no_words c takes (Load n seed m) said = absurd (cc said.words_are
 returns-clause-no_words c takes (Check n seed) said = absurd (cc said.words_are)
 returns-clause-no_words c takes Compact said = absurd (cc said)
 returns-clause-no_words c takes Upgrade said = absurd (cc said)
+returns-clause-no_words c takes Migrate said = absurd (cc said)
 
 pub returns-clause-compact : goal.returns-clause-compact
 returns-clause-compact c = refl
@@ -169,3 +170,9 @@ returns-clause-upgrade c = refl
 
 pub returns-clause-upgrade_alone : goal.returns-clause-upgrade_alone
 returns-clause-upgrade_alone c takes = no_upgrade _ [] takes
+
+pub returns-clause-migrate : goal.returns-clause-migrate
+returns-clause-migrate c = refl
+
+pub returns-clause-migrate_alone : goal.returns-clause-migrate_alone
+returns-clause-migrate_alone c takes = no_migrate _ [] takes
