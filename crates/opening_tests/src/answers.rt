@@ -2,14 +2,15 @@ ghost use Rattle.silo_opening.specs.OpenedSilo.{IsOpenedInBounds};
 
 use crate::names::{NAMES, add_bytes, add_file, grain_of};
 use base_types::{GrainId, State, Store};
-use field_codec::put_state;
+use field_codec::{Format, put_state};
 use host_memory::MemoryHost;
-use silo_opening::{InitFault, OpenFault, Opened, init, open_silo, states};
+use silo_opening::{InitFault, OpenFault, Opened, init, open_silo, open_silo_in, states};
 use std::alloc::{AllocError, Global};
 
 fn add_open_fault(out: &mut String, fault: OpenFault) -> Result<(), AllocError> {
     match fault {
         OpenFault::NotASilo => out.push_str("no silo"),
+        OpenFault::OldFormat => out.push_str("old format"),
         OpenFault::Damaged { file, place } => {
             add_file(out, file)?;
             write!(out, " at {place}")
@@ -63,11 +64,15 @@ fn add_opened(
     };
     let count = opened.count;
     let next = opened.next_unit.0;
+    let session = opened.session;
     let gate = opened.gate_at;
     if opened.slot == 1 {
         out.push_str("slot 1: ")?;
     }
-    write!(out, "{count} records, next unit {next}, gate {gate}")?;
+    write!(
+        out,
+        "{count} records, next unit {next}, session {session}, gate {gate}"
+    )?;
     for name in NAMES {
         if let Some(grain) = grain_of(name) {
             add_grain(alloc, out, opened, &store, grain)?;
@@ -84,6 +89,19 @@ pub fn add_opening(
 ) -> Result<(), AllocError> {
     match open_silo(alloc, host) {
         Ok(opened) => add_opened(alloc, out, host, &opened),
+        Err(fault) => add_open_fault(out, fault),
+    }
+}
+
+/// Writes what opening in format 1 answers.
+pub fn add_old_opening(
+    alloc: Global,
+    out: &mut String,
+    host: &mut MemoryHost,
+) -> Result<(), AllocError> {
+    match open_silo_in(alloc, host, Format::One) {
+        Ok(Some(opened)) => add_opened(alloc, out, host, &opened),
+        Ok(None) => out.push_str("new format"),
         Err(fault) => add_open_fault(out, fault),
     }
 }

@@ -1,4 +1,4 @@
-use crate::answers::{add_making, add_opening};
+use crate::answers::{add_making, add_old_opening, add_opening};
 use crate::changes::add_changes;
 use crate::names::{add_bytes, bytes_of, channel_of, file_of, kind_of};
 use crate::stops::{add_stopped_making, add_stopped_opening};
@@ -86,6 +86,7 @@ impl Bench {
         let (name, how) = rest.split_once(' ').unwrap_or((rest, ""));
         match word {
             "open" => add_opening(alloc, out, &mut self.host),
+            "open-old" => add_old_opening(alloc, out, &mut self.host),
             "init" => add_making(alloc, out, &mut self.host),
             "show" => self.add_shown(out, name),
             "syncs" => {

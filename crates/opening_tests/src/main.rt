@@ -9,7 +9,7 @@
 //! | `put FILE BYTES`, `program TEXT` | gives a file these bytes, in hexadecimal, where `61*256` is a byte 256 times; gives the program file this text |
 //! | `input TEXT`, `blanks N` | gives the input |
 //! | `fail CALL FILE N` | has the call of this kind fail that comes as the N-th from here on |
-//! | `open`, `init`, `show FILE` | tells what opening answers, what making answers, what a file has |
+//! | `open`, `open-old`, `init`, `show FILE` | tells what opening answers, what opening in format 1 answers, what making answers, what a file has |
 //! | `cuts FILE`, `bytes FILE HOW` | tells what opening answers where the file is cut at each place, or has another byte there; an answer stands at the first place that has it |
 //! | `stopped-init`, `stopped-open` | stops after each call in turn, and opens images that a crash leaves there |
 //!

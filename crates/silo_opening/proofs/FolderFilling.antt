@@ -8,13 +8,15 @@ use Rattle.host_trait.specs.World.{World, Moment, Image, IsImage, Written, momen
 use Rattle.host_trait.specs.Runs.{ChangesFile, RunsOnFile}
 use Rattle.host_trait.proofs.Crashes.{Tears-at, Tears-trans, Tears-wider}
 use Rattle.host_trait.proofs.Runs.{Change, settled_image, run_one_write, run_wrote, run_weaker}
+use Rattle.field_codec.specs.declared.formats.Format.TheVariants.{Two}
+use Rattle.field_codec.specs.Formats.{magic_of}
 use Rattle.gate_block.specs.Log.{LogsUpTo, first_gate}
 use Rattle.gate_block.proofs.Logs.{no_blocks, logged}
 use Rattle.silo_spec.specs.OtherSlot.{IsShutFile}
-use Rattle.silo_spec.specs.Silos.{manager, program_file, IsSilo, HasProgram, IsNewSilo, new_header}
-use Rattle.promise_spec.specs.Logs.{magic}
+use Rattle.silo_spec.specs.Silos.{manager, program_file, IsSilo, HasProgram, IsNewSilo, new_header, IsMagic}
 use Rattle.silo_spec.specs.Creation.{IsNewAt, IsMade}
 use Rattle.silo_opening.specs.Steps.{LacksSilo, HasNoSilo}
+use Rattle.silo_opening.proofs.Fronts.{first_in, name_in}
 use Rattle.silo_opening.proofs.GateClosing.{changes_lacks}
 
 log_apart : manager ≢ program_file
@@ -25,20 +27,20 @@ program_apart e = cc
 
 -- what stands behind the header gate
 abbrev pub header : List ℕ
-header = magic ++ 0 ∷ 0 ∷ 0 ∷ 0 ∷ 0 ∷ 0 ∷ 0 ∷ []
+header = magic_of Two ++ 0 ∷ 0 ∷ 0 ∷ 0 ∷ 0 ∷ 0 ∷ 0 ∷ []
 
 -- the program file's text behind its length
 abbrev pub program_bytes : List ℕ → List ℕ
 program_bytes text = to_le_bytes w32 (length text) ++ text
 
-closed_silo : {A : Type 0} (file c : List ℕ) → slice_index file 0 ≢ 1 → slice_index c 0 ≡ slice_index file 0 → IsSilo magic c → A
+closed_silo : {A : Type 0} (file c : List ℕ) → slice_index file 0 ≢ 1 → slice_index c 0 ≡ slice_index file 0 → IsSilo IsMagic c → A
 closed_silo file c closed same silo = absurd (closed (sym same ∙ silo.gate))
 
 gate_after : (file : List ℕ) → 0 < length file → slice_index (overlaid file 1 header) 15 ≡ 0
 gate_after [] some = absurd (omega arith)
 gate_after (x ∷ file) some = refl
 
-header_after : (file : List ℕ) → 0 < length file → take 16 (overlaid (overlaid file 1 header) 0 (1 ∷ [])) ≡ new_header magic
+header_after : (file : List ℕ) → 0 < length file → take 16 (overlaid (overlaid file 1 header) 0 (1 ∷ [])) ≡ new_header
 header_after [] some = absurd (omega arith)
 header_after (x ∷ file) some = refl
 
@@ -54,10 +56,12 @@ pub new_log : (c : List ℕ) → 16 ≤ length c → slice_index c 15 ≡ 0 → 
 new_log c long closed = record { blocks = no_blocks c long; closed = λ one. let wrong : 0 ≡ 1 = sym closed ∙ one in omega (arith, wrong) }
 
 -- a silo whose first gate is closed
-pub new_silo : (text : List ℕ) (image : Image) → IsSilo magic (image manager) → take 16 (image manager) ≡ new_header magic → HasProgram text (image program_file) → slice_index (image manager) 15 ≡ 0 → IsNewSilo magic text image
-new_silo text image silo head program closed =
-    let log = logged [] first_gate (image manager) (new_log (image manager) silo.long closed) in
-    record { silo = silo; header = head; program = program; empty = log.0; whole = log.2 }
+pub new_silo : (text : List ℕ) (image : Image) → 16 ≤ length (image manager) → take 16 (image manager) ≡ new_header → HasProgram text (image program_file) → slice_index (image manager) 15 ≡ 0 → IsNewSilo text image
+new_silo text image long head program closed =
+    let file : List ℕ = image manager in
+    let log = logged [] first_gate file (new_log file long closed) in
+    let named : magic_of Two ≡ take 8 (drop 1 file) = name_in file new_header (sym head) in
+    record { silo = record { long = long; gate = sym (first_in file new_header (sym head)); named = sym named }; header = head; program = program; empty = log.0; whole = log.2 }
 
 -- the first bytes of a file, by its first one and those behind it
 first_and_rest : (c : List ℕ) (x : ℕ) (rest : List ℕ) → 16 ≤ length c → slice_index c 0 ≡ x → take 15 (drop 1 c) ≡ rest → take 16 c ≡ x ∷ rest
@@ -72,33 +76,33 @@ header_behind [] some = absurd (omega arith)
 header_behind (x ∷ file) some = refl
 
 -- a moment at which no image is a silo
-pub no_silo_at : (text : List ℕ) (m : Moment) → HasNoSilo magic m → IsNewAt magic text m
+pub no_silo_at : (text : List ℕ) (m : Moment) → HasNoSilo IsMagic m → IsNewAt IsMagic text m
 no_silo_at text m none image is zero live = absurd (none.0 image is live.silo)
 no_silo_at text m none image is (suc zero) live = absurd (none.1 image is live.silo)
 no_silo_at text m none image is (suc (suc n)) live = absurd (omega (arith, live.slot))
 
 -- A moment at which slot 1's manager file is a silo's in no image, and each image in which slot 0's is one is a new silo.
-pub new_at : (text : List ℕ) (m : Moment) → LacksSilo magic 1 m → ((image : Image) → IsImage m.disk image → IsSilo magic (image manager) → IsNewSilo magic text image) → IsNewAt magic text m
+pub new_at : (text : List ℕ) (m : Moment) → LacksSilo IsMagic 1 m → ((image : Image) → IsImage m.disk image → IsSilo IsMagic (image manager) → IsNewSilo text image) → IsNewAt IsMagic text m
 new_at text m lacks first image is zero live = (refl, first image is live.silo)
 new_at text m lacks first image is (suc zero) live = absurd (lacks image is live.silo)
 new_at text m lacks first image is (suc (suc n)) live = absurd (omega (arith, live.slot))
 
 -- slot 1's manager file is a silo's in no image still, while the program file is written, and while slot 0's manager file is
-pub lacks_program : (text : List ℕ) (w : World) → LacksSilo magic 1 (moment_of w) → (m : Moment) → ChangesFile program_file (Tears 0 (4 + length text)) w m → LacksSilo magic 1 m
-lacks_program text w lacks m changes = changes_lacks magic program_file (Tears 0 (4 + length text)) 1 (λ e. absurd cc) w lacks m changes
+pub lacks_program : (text : List ℕ) (w : World) → LacksSilo IsMagic 1 (moment_of w) → (m : Moment) → ChangesFile program_file (Tears 0 (4 + length text)) w m → LacksSilo IsMagic 1 m
+lacks_program text w lacks m changes = changes_lacks IsMagic program_file (Tears 0 (4 + length text)) 1 (λ e. absurd cc) w lacks m changes
 
-pub lacks_log : (R : Change) (w : World) → LacksSilo magic 1 (moment_of w) → (m : Moment) → ChangesFile manager R w m → LacksSilo magic 1 m
-lacks_log R w lacks m changes = changes_lacks magic manager R 1 (λ e. absurd cc) w lacks m changes
+pub lacks_log : (R : Change) (w : World) → LacksSilo IsMagic 1 (moment_of w) → (m : Moment) → ChangesFile manager R w m → LacksSilo IsMagic 1 m
+lacks_log R w lacks m changes = changes_lacks IsMagic manager R 1 (λ e. absurd cc) w lacks m changes
 
 module _ (text : List ℕ) (w0 : World) (shut : IsShutFile (w0.disk manager)) where
   -- while the program file is written the gate is closed in each image
-  pub program_shut : (m : Moment) → ChangesFile program_file (Tears 0 (4 + length text)) w0 m → LacksSilo magic 0 m
+  pub program_shut : (m : Moment) → ChangesFile program_file (Tears 0 (4 + length text)) w0 m → LacksSilo IsMagic 0 m
   program_shut m changes image is silo =
       let c : List ℕ = image manager in
       let was : c ≡ (w0.disk manager).seen = settled_image m.disk manager (w0.disk manager).seen c (changes.others manager log_apart ∙ shut.lasts) (is manager) in
       closed_silo (w0.disk manager).seen c shut.closed (ap (λ (l : List ℕ). slice_index l 0) was) silo
 
-  pub while_program : LacksSilo magic 1 (moment_of w0) → (m : Moment) → ChangesFile program_file (Tears 0 (4 + length text)) w0 m → IsNewAt magic text m
+  pub while_program : LacksSilo IsMagic 1 (moment_of w0) → (m : Moment) → ChangesFile program_file (Tears 0 (4 + length text)) w0 m → IsNewAt IsMagic text m
   while_program lacks m changes = no_silo_at text m (program_shut m changes, lacks_program text w0 lacks m changes)
 
   module _ (w1 : World) (program : ChangesFile program_file (Tears 0 (4 + length text)) w0 (moment_of w1)) where
@@ -106,7 +110,7 @@ module _ (text : List ℕ) (w0 : World) (shut : IsShutFile (w0.disk manager)) wh
     lasts1 = program.others manager log_apart ∙ shut.lasts
 
     -- and while the bytes behind the gate are written
-    pub header_shut : (m : Moment) → ChangesFile manager (Tears 1 15) w1 m → LacksSilo magic 0 m
+    pub header_shut : (m : Moment) → ChangesFile manager (Tears 1 15) w1 m → LacksSilo IsMagic 0 m
     header_shut m changes image is silo =
         let c : List ℕ = image manager in
         let from = changes.crash c (is manager) in
@@ -114,7 +118,7 @@ module _ (text : List ℕ) (w0 : World) (shut : IsShutFile (w0.disk manager)) wh
         let low : 0 < 1 = omega arith in
         closed_silo (w0.disk manager).seen c shut.closed (Tears-at 1 15 from.0 c from.2 0 (inl low) ∙ ap (λ (l : List ℕ). slice_index l 0) was) silo
 
-    pub while_header : LacksSilo magic 1 (moment_of w1) → (m : Moment) → ChangesFile manager (Tears 1 15) w1 m → IsNewAt magic text m
+    pub while_header : LacksSilo IsMagic 1 (moment_of w1) → (m : Moment) → ChangesFile manager (Tears 1 15) w1 m → IsNewAt IsMagic text m
     while_header lacks m changes = no_silo_at text m (header_shut m changes, lacks_log (Tears 1 15) w1 lacks m changes)
 
     module _ (written : w1.disk program_file ≡ settled (overlaid (w0.disk program_file).seen 0 (program_bytes text))) (w2 : World) (head : ChangesFile manager (Tears 1 15) w1 (moment_of w2))
@@ -138,7 +142,7 @@ module _ (text : List ℕ) (w0 : World) (shut : IsShutFile (w0.disk manager)) wh
       seen_long w3 tears = let size : length (w2.disk manager).seen ≡ length file2 = ap (λ (s : FileState). length s.seen) lasts2 in omega (arith, tears.no_shorter, size, long2)
 
       -- while the gate is opened
-      pub while_opened : LacksSilo magic 1 (moment_of w2) → (m : Moment) → ChangesFile manager (Tears 0 1) w2 m → IsNewAt magic text m
+      pub while_opened : LacksSilo IsMagic 1 (moment_of w2) → (m : Moment) → ChangesFile manager (Tears 0 1) w2 m → IsNewAt IsMagic text m
       unfolding file2
       while_opened lacks m changes = new_at text m (lacks_log (Tears 0 1) w2 lacks m changes) (λ image is silo.
           let c : List ℕ = image manager in
@@ -149,10 +153,10 @@ module _ (text : List ℕ) (w0 : World) (shut : IsShutFile (w0.disk manager)) wh
           let closed : slice_index c 15 ≡ 0 = Tears-at 0 1 from.0 c from.2 15 (inr high) ∙ ap (λ (l : List ℕ). slice_index l 15) was ∙ gate_after (w0.disk manager).seen shut.some in
           let text_is : p ≡ overlaid (w0.disk program_file).seen 0 (program_bytes text) = settled_image m.disk program_file _ p (changes.others program_file program_apart ∙ program2) (is program_file) in
           let behind : take 15 (drop 1 c) ≡ header = ap (λ (l : List ℕ). take 15 l) from.2.after ∙ ap (λ (l : List ℕ). take 15 (drop 1 l)) was ∙ header_behind (w0.disk manager).seen shut.some in
-          new_silo text image silo (first_and_rest c 1 header silo.long silo.gate behind) (subst (λ (l : List ℕ). HasProgram text l) (sym text_is) (has_program text (w0.disk program_file).seen)) closed)
+          new_silo text image silo.long (first_and_rest c 1 header silo.long silo.gate behind) (subst (λ (l : List ℕ). HasProgram text l) (sym text_is) (has_program text (w0.disk program_file).seen)) closed)
 
       -- and once it is open
-      pub filled : (w3 : World) → ChangesFile manager (Tears 0 1) w2 (moment_of w3) → w3.disk manager ≡ settled (overlaid (w2.disk manager).seen 0 (1 ∷ [])) → IsMade magic text w3.disk
+      pub filled : (w3 : World) → ChangesFile manager (Tears 0 1) w2 (moment_of w3) → w3.disk manager ≡ settled (overlaid (w2.disk manager).seen 0 (1 ∷ [])) → IsMade text w3.disk
       unfolding file2
       filled w3 changes opened =
           let log : w3.disk manager ≡ settled (overlaid file2 0 (1 ∷ [])) = opened ∙ ap (λ (s : FileState). settled (overlaid s.seen 0 (1 ∷ []))) lasts2 in

@@ -46,10 +46,10 @@ pub cases_empty : (file : List ℕ) → (file ≡ []) ⊎ (file ≢ [])
 cases_empty [] = inl refl
 cases_empty (byte ∷ file) = inr (λ e. cc)
 
-short_no_silo : (magic file : List ℕ) → length file < 16 → IsSilo magic file → ⊥
+short_no_silo : (magic : List ℕ → Type 0) (file : List ℕ) → length file < 16 → IsSilo magic file → ⊥
 short_no_silo magic file short silo = omega (arith, short, silo.long)
 
-pub otherwise_no_silo : (magic file : List ℕ) → IsNamedOtherwise magic file → IsSilo magic file → ⊥
+pub otherwise_no_silo : (magic : List ℕ → Type 0) (file : List ℕ) → IsNamedOtherwise magic file → IsSilo magic file → ⊥
 otherwise_no_silo magic file (inl short) silo = short_no_silo magic file short silo
 otherwise_no_silo magic file (inr other) silo = other silo.named
 
@@ -70,7 +70,7 @@ once_lasts slot old new once = ap (λ (d : Disk). d (Manager slot)) once.more.di
 
 -- ---- looking at both manager files
 
-module _ (magic : List ℕ) (old : World) (here : SeenMayStay old) (shows : ShowsSilos magic old.disk) where
+module _ (magic : List ℕ → Type 0) (old : World) (here : SeenMayStay old) (shows : ShowsSilos magic old.disk) where
   -- a manager file at rest: it reads as empty, or nothing is pending of what it reads
   abbrev pub Rests : ℕ → Moment → Type 0
   Rests slot m = ((old.disk (Manager slot)).seen ≡ []) ⊎ (m.disk (Manager slot) ≡ settled (old.disk (Manager slot)).seen)
@@ -217,24 +217,24 @@ both_last old mid new looks-0 looks-1 syncs-0 syncs-1 (suc (suc n)) low some = a
 -- ---- closing slot 0's header gate
 
 -- a slot that no image has as a silo's, while another file is changed
-pub changes_lacks : (magic : List ℕ) (file : FileId) (R : Change) (slot : ℕ) → Manager slot ≢ file → (w : World) → LacksSilo magic slot (moment_of w) → (m : Moment) → ChangesFile file R w m → LacksSilo magic slot m
+pub changes_lacks : (magic : List ℕ → Type 0) (file : FileId) (R : Change) (slot : ℕ) → Manager slot ≢ file → (w : World) → LacksSilo magic slot (moment_of w) → (m : Moment) → ChangesFile file R w m → LacksSilo magic slot m
 changes_lacks magic file R slot other w lacks m changes image is silo =
     let from = image_from file R w m changes image is in
     lacks from.from from.possible (subst (IsSilo magic) (from.others (Manager slot) other) silo)
 
-torn_no_silo : (magic d c : List ℕ) → IsNamedOtherwise magic d → Tears 0 1 d c → IsSilo magic c → ⊥
+torn_no_silo : (magic : List ℕ → Type 0) (d c : List ℕ) → IsNamedOtherwise magic d → Tears 0 1 d c → IsSilo magic c → ⊥
 torn_no_silo magic d c (inl short) tears silo = omega (arith, short, tears.no_longer, silo.long)
-torn_no_silo magic d c (inr other) tears silo = other (ap (λ (l : List ℕ). take 8 l) (sym tears.after) ∙ silo.named)
+torn_no_silo magic d c (inr other) tears silo = other (subst magic (ap (λ (l : List ℕ). take 8 l) tears.after) silo.named)
 
 -- a file that lasts, and is none whatever its first byte
-otherwise_closing : (magic file : List ℕ) (w : World) → w.disk manager ≡ settled file → IsNamedOtherwise magic file → (m : Moment) → ChangesFile manager (Tears 0 1) w m → LacksSilo magic 0 m
+otherwise_closing : (magic : List ℕ → Type 0) (file : List ℕ) (w : World) → w.disk manager ≡ settled file → IsNamedOtherwise magic file → (m : Moment) → ChangesFile manager (Tears 0 1) w m → LacksSilo magic 0 m
 otherwise_closing magic file w lasts other m changes image is silo =
     let from = changes.crash (image manager) (is manager) in
     let was : from.0 ≡ file = settled_image w.disk manager file from.0 lasts from.1 in
     torn_no_silo magic file (image manager) other (subst (λ (f : List ℕ). Tears 0 1 f (image manager)) was from.2) silo
 
 -- a file that reads as empty: whatever a crash leaves in the gate's place, it might have left before
-empty_closing : (magic : List ℕ) (w : World) → SeenMayStay w → (w.disk manager).seen ≡ [] → LacksSilo magic 0 (moment_of w) → (m : Moment) → ChangesFile manager (Tears 0 1) w m → LacksSilo magic 0 m
+empty_closing : (magic : List ℕ → Type 0) (w : World) → SeenMayStay w → (w.disk manager).seen ≡ [] → LacksSilo magic 0 (moment_of w) → (m : Moment) → ChangesFile manager (Tears 0 1) w m → LacksSilo magic 0 m
 empty_closing magic w here empty lacks m changes image is silo =
     let from = changes.crash (image manager) (is manager) in
     let there = here manager in
@@ -250,10 +250,10 @@ empty_closing magic w here empty lacks m changes image is silo =
     ]) silo
 
 -- the two kinds of files whose gate is closed
-abbrev pub MayBeClosed : List ℕ → World → Type 0
+abbrev pub MayBeClosed : (List ℕ → Type 0) → World → Type 0
 MayBeClosed magic w = ((file : List ℕ) × (w.disk manager ≡ settled file) × IsNamedOtherwise magic file) ⊎ ((w.disk manager).seen ≡ [])
 
-pub while_closing : (magic : List ℕ) (w : World) → SeenMayStay w → MayBeClosed magic w → HasNoSilo magic (moment_of w) → (m : Moment) → ChangesFile manager (Tears 0 1) w m → HasNoSilo magic m
+pub while_closing : (magic : List ℕ → Type 0) (w : World) → SeenMayStay w → MayBeClosed magic w → HasNoSilo magic (moment_of w) → (m : Moment) → ChangesFile manager (Tears 0 1) w m → HasNoSilo magic m
 while_closing magic w here may lacks m changes = (first may, changes_lacks magic manager (Tears 0 1) 1 (λ e. absurd cc) w lacks.1 m changes)
   where
     first : MayBeClosed magic w → LacksSilo magic 0 m
@@ -261,7 +261,7 @@ while_closing magic w here may lacks m changes = (first may, changes_lacks magic
     first (inr empty) = empty_closing magic w here empty lacks.0 m changes
 
 -- the gate is closed behind the looks
-pub closed_first : (magic : List ℕ) (old mid new : World) → SeenMayStay mid → MayBeClosed magic mid → FromFirstSync (HasNoSilo magic) old mid → RunsOnFile manager (Tears 0 1) 1 mid new → FromFirstSync (HasNoSilo magic) old new
+pub closed_first : (magic : List ℕ → Type 0) (old mid new : World) → SeenMayStay mid → MayBeClosed magic mid → FromFirstSync (HasNoSilo magic) old mid → RunsOnFile manager (Tears 0 1) 1 mid new → FromFirstSync (HasNoSilo magic) old new
 closed_first magic old mid new here may first run =
     let closing = while_closing magic mid here may first.now in
     first_then (HasNoSilo magic) old mid new first (weaker (ChangesFile manager (Tears 0 1) mid) (HasNoSilo magic) closing run.moments) (closing (moment_of new) run.now)
@@ -269,22 +269,22 @@ closed_first magic old mid new here may first run =
 -- ---- manager files that read too short
 
 -- where no image has one as a silo's
-pub none_shown : (magic : List ℕ) (w : World) → HasNoSilo magic (moment_of w) → ShowsSilos magic w.disk
+pub none_shown : (magic : List ℕ → Type 0) (w : World) → HasNoSilo magic (moment_of w) → ShowsSilos magic w.disk
 none_shown magic w none image is zero low short silo = none.0 image is silo
 none_shown magic w none image is (suc zero) low short silo = none.1 image is silo
 none_shown magic w none image is (suc (suc n)) low short silo = absurd (omega (arith, low))
 
 -- where slot 0's reads long enough
-pub long_shown : (magic : List ℕ) (w : World) → 16 ≤ length (w.disk manager).seen → LacksSilo magic 1 (moment_of w) → ShowsSilos magic w.disk
+pub long_shown : (magic : List ℕ → Type 0) (w : World) → 16 ≤ length (w.disk manager).seen → LacksSilo magic 1 (moment_of w) → ShowsSilos magic w.disk
 long_shown magic w long lacks image is zero low short silo = absurd (omega (arith, long, short))
 long_shown magic w long lacks image is (suc zero) low short silo = lacks image is silo
 long_shown magic w long lacks image is (suc (suc n)) low short silo = absurd (omega (arith, low))
 
 -- where nothing was written
-pub untouched_shown : (magic : List ℕ) (old new : World) → IsUntouched old new → ShowsSilos magic old.disk → ShowsSilos magic new.disk
+pub untouched_shown : (magic : List ℕ → Type 0) (old new : World) → IsUntouched old new → ShowsSilos magic old.disk → ShowsSilos magic new.disk
 untouched_shown magic old new untouched shows image is slot low short silo = shows image (untouched.now.images image is) slot low (subst (λ (l : List ℕ). length l < 16) (untouched.seen (Manager slot)) short) silo
 
-pub came_shown : (magic : List ℕ) (old new : World) → IsUntouched old new ⊎ FromFirstSync (HasNoSilo magic) old new → ShowsSilos magic old.disk → ShowsSilos magic new.disk
+pub came_shown : (magic : List ℕ → Type 0) (old new : World) → IsUntouched old new ⊎ FromFirstSync (HasNoSilo magic) old new → ShowsSilos magic old.disk → ShowsSilos magic new.disk
 came_shown magic old new (inl untouched) shows = untouched_shown magic old new untouched shows
 came_shown magic old new (inr first) shows = none_shown magic new first.now
 

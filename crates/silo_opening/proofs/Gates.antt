@@ -1,11 +1,11 @@
 -- The gate at which the log of a silo ends is closed.
-use Rattle.std.proofs.Common.{◌≡◌, ℕ, zero, suc, ◌+◌, ◌<◌, ◌≤◌, ◌&&◌, ◌==◌, nat_le, true, List, length, take, drop, slice_index, bytes_eq, refl, subst, arith}
+use Rattle.std.proofs.Common.{◌≡◌, ℕ, zero, suc, ◌+◌, ◌<◌, ◌≤◌, ◌&&◌, ◌==◌, nat_le, true, List, length, take, drop, slice_index, refl, subst, arith}
 use Rattle.std.proofs.lemmas.Bool.{and_parts, leb-true}
 use Rattle.gate_block.specs.Blocks.{BehindGate, shut, bad, whole, found_at}
 use Rattle.gate_block.specs.Gates.{IsClosedAt}
 use Rattle.gate_block.specs.Log.{first_gate, then_gate, gate_from, gate_of}
 use Rattle.gate_block.proofs.Logs.{whole_fits}
-use Rattle.promise_spec.specs.Logs.{magic}
+use Rattle.silo_spec.specs.Silos.{is_magic}
 use Rattle.promise_spec.specs.Openings.{is_silo}
 use Rattle.promise_spec.proofs.ReadBlocks.{shut_closed}
 
@@ -22,5 +22,5 @@ module _ (file : List ℕ) where
 
   pub closed_at : (gate : ℕ) → is_silo file ≡ true → gate_of file ≡ gate → found_at gate file ≡ shut → IsClosedAt gate file
   closed_at gate silo is shuts =
-      let long : 16 ≤ length file = leb-true 16 (length file) (and_parts (nat_le 16 (length file)) ((slice_index file 0 == 1) && bytes_eq (take 8 (drop 1 file)) magic) silo).0 in
+      let long : 16 ≤ length file = leb-true 16 (length file) (and_parts (nat_le 16 (length file)) ((slice_index file 0 == 1) && is_magic (take 8 (drop 1 file))) silo).0 in
       (subst (λ (n : ℕ). n < length file) is (lies (length file) first_gate (omega (arith, long))), shut_closed gate file shuts)

@@ -1,36 +1,18 @@
 -- What making a silo comes to behind calls that changed no file and emitted nothing.
-use Rattle.std.proofs.Common.{◌≡◌, ◌≢◌, ◌⊎◌, inl, inr, ℕ, ◌≤◌, List, [], length, take, drop, slice_index, refl, sym, ◌∙◌, ap, subst, arith}
-use Rattle.std.proofs.lemmas.Bool.{cases_Bool, cases_lt, cases_eq, false≢true}
-use Rattle.std.proofs.lemmas.Slice.Eq.{bytes_eq-Decides}
-use Rattle.std.specs.Str.{bytes_eq}
+use Rattle.std.proofs.Common.{◌≡◌, ◌≢◌, inl, inr, ℕ, ◌≤◌, List, [], refl, sym, ◌∙◌, ap, subst, arith}
 use Rattle.host_trait.specs.declared.channels.FileId.TheVariants.{Manager}
 use Rattle.host_trait.specs.Disk.{settled}
 use Rattle.host_trait.specs.World.{World, Moment, Disk, Image, IsImage, Passes, moment_of}
 use Rattle.host_trait.proofs.Moments.{both, weaker, all_late, weaker_twice, joined, same_moment}
-use Rattle.silo_spec.specs.Silos.{IsSilo}
+use Rattle.silo_spec.specs.Silos.{IsSilo, IsMagic}
 use Rattle.silo_spec.specs.Slots.{ShowsSilos}
 use Rattle.silo_spec.specs.Moments.{IsAsAtEntry, IsUntouched}
 use Rattle.silo_spec.specs.Creation.{IsLookedAt, IsBeside, StaysBeside, IsEarly, IsNewAt, FromFirstSync, CameThisFar}
-use Rattle.promise_spec.specs.Logs.{magic}
+use Rattle.promise_spec.proofs.Slots.{silo_or_not}
 use Rattle.silo_opening.specs.Steps.{HasNoSilo, ReadsSilo}
 use Rattle.silo_opening.proofs.ManagerLook.{SeenMayStay}
 use Rattle.silo_opening.proofs.GateClosing.{Rests, rests_lacks, cases_rest}
 use Rattle.silo_opening.proofs.FolderFilling.{no_silo_at}
-
--- a file is a silo's or isn't
-pub cases_silo : (magic file : List ℕ) → IsSilo magic file ⊎ (IsSilo magic file → ⊥)
-cases_silo magic file = elim (cases_lt (length file) 16) [
-  | inl short ↦ inr (λ silo. omega (arith, short, silo.long))
-  | inr long ↦
-      elim (cases_eq (slice_index file 0) 1) [
-        | inr shut ↦ inr (λ silo. shut silo.gate)
-        | inl gate ↦
-            elim (cases_Bool (bytes_eq (take 8 (drop 1 file)) magic)) [
-              | inl same ↦ inl (record { long = long; gate = gate; named = (bytes_eq-Decides (take 8 (drop 1 file)) magic).0 same })
-              | inr other ↦ inr (λ silo. false≢true (sym other ∙ (bytes_eq-Decides (take 8 (drop 1 file)) magic).1 silo.named))
-            ]
-      ]
-]
 
 module _ (old mid : World) (disk : mid.disk ≡ old.disk) (output : mid.output ≡ old.output) (still : Passes (λ m. m ≡ moment_of old) old.past mid.past) where
   -- each moment so far showed what the first one did
@@ -95,11 +77,11 @@ module _ (old mid : World) (disk : mid.disk ≡ old.disk) (output : mid.output �
     unwritten = entry_from m e.unwritten;
   }
 
-  module _ (text : List ℕ) (here : SeenMayStay old) (shows : ShowsSilos magic old.disk) where
+  module _ (text : List ℕ) (here : SeenMayStay old) (shows : ShowsSilos IsMagic old.disk) where
     -- where neither manager file reads as a silo's
-    module _ (lacks-0 : IsSilo magic (old.disk (Manager 0)).seen → ⊥) (lacks-1 : IsSilo magic (old.disk (Manager 1)).seen → ⊥) (new : World) (first : FromFirstSync (IsNewAt magic text) mid new) where
+    module _ (lacks-0 : IsSilo IsMagic (old.disk (Manager 0)).seen → ⊥) (lacks-1 : IsSilo IsMagic (old.disk (Manager 1)).seen → ⊥) (new : World) (first : FromFirstSync (IsNewAt IsMagic text) mid new) where
       -- something is pending in one at first
-      pending_from : (slot : ℕ) → slot ≤ 1 → ((old.disk (Manager slot)).seen ≢ []) → (old.disk (Manager slot) ≢ settled (old.disk (Manager slot)).seen) → FromFirstSync (IsNewAt magic text) old new
+      pending_from : (slot : ℕ) → slot ≤ 1 → ((old.disk (Manager slot)).seen ≢ []) → (old.disk (Manager slot) ≢ settled (old.disk (Manager slot)).seen) → FromFirstSync (IsNewAt IsMagic text) old new
       pending_from slot low some pending =
           let own : IsEarly old (moment_of old) = record { slot = slot; low = low; bytes = some; pending = pending; unwritten = own_entry } in
           record {
@@ -112,27 +94,27 @@ module _ (old mid : World) (disk : mid.disk ≡ old.disk) (output : mid.output �
           }
 
       -- nothing is
-      settled_from : Rests magic old here shows 0 (moment_of old) → Rests magic old here shows 1 (moment_of old) → FromFirstSync (IsNewAt magic text) old new
+      settled_from : Rests IsMagic old here shows 0 (moment_of old) → Rests IsMagic old here shows 1 (moment_of old) → FromFirstSync (IsNewAt IsMagic text) old new
       settled_from rest-0 rest-1 =
-          let none : HasNoSilo magic (moment_of old) = (rests_lacks magic old here shows 0 (omega arith) lacks-0 (moment_of old) own_entry rest-0, rests_lacks magic old here shows 1 (omega arith) lacks-1 (moment_of old) own_entry rest-1) in
-          let own : IsNewAt magic text (moment_of old) = no_silo_at text (moment_of old) none in
-          let as_new : (m : Moment) → IsEarly mid m → IsNewAt magic text m = λ m e image is. own image ((early_from m e).unwritten.images image is) in
+          let none : HasNoSilo IsMagic (moment_of old) = (rests_lacks IsMagic old here shows 0 (omega arith) lacks-0 (moment_of old) own_entry rest-0, rests_lacks IsMagic old here shows 1 (omega arith) lacks-1 (moment_of old) own_entry rest-1) in
+          let own : IsNewAt IsMagic text (moment_of old) = no_silo_at text (moment_of old) none in
+          let as_new : (m : Moment) → IsEarly mid m → IsNewAt IsMagic text m = λ m e image is. own image ((early_from m e).unwritten.images image is) in
           record {
-            moments = all_late (IsEarly old) (IsNewAt magic text) (both (IsNewAt magic text) (while (IsNewAt magic text) own)
-                (joined (IsNewAt magic text) (weaker_twice (IsEarly mid) (IsNewAt magic text) (IsNewAt magic text) (IsNewAt magic text) as_new (λ m new_at. new_at) first.moments)));
+            moments = all_late (IsEarly old) (IsNewAt IsMagic text) (both (IsNewAt IsMagic text) (while (IsNewAt IsMagic text) own)
+                (joined (IsNewAt IsMagic text) (weaker_twice (IsEarly mid) (IsNewAt IsMagic text) (IsNewAt IsMagic text) (IsNewAt IsMagic text) as_new (λ m new_at. new_at) first.moments)));
             now = first.now;
           }
 
-      first_from : FromFirstSync (IsNewAt magic text) old new
-      first_from = elim (cases_rest magic old here shows 0) [
+      first_from : FromFirstSync (IsNewAt IsMagic text) old new
+      first_from = elim (cases_rest IsMagic old here shows 0) [
         | inr pending ↦ pending_from 0 (omega arith) pending.0 pending.1
-        | inl rest-0 ↦ elim (cases_rest magic old here shows 1) [ inr pending ↦ pending_from 1 (omega arith) pending.0 pending.1 | inl rest-1 ↦ settled_from rest-0 rest-1 ]
+        | inl rest-0 ↦ elim (cases_rest IsMagic old here shows 1) [ inr pending ↦ pending_from 1 (omega arith) pending.0 pending.1 | inl rest-1 ↦ settled_from rest-0 rest-1 ]
       ]
 
     -- how far the call came, seen from the first
-    pub makes_from : (new : World) → (ReadsSilo magic old.disk → IsUntouched mid new) → CameThisFar magic text mid new → CameThisFar magic text old new
+    pub makes_from : (new : World) → (ReadsSilo IsMagic old.disk → IsUntouched mid new) → CameThisFar IsMagic text mid new → CameThisFar IsMagic text old new
     makes_from new kept (inl untouched) = inl (untouched_from new untouched)
-    makes_from new kept (inr first) = elim (cases_silo magic (old.disk (Manager 0)).seen) [
+    makes_from new kept (inr first) = elim (silo_or_not (old.disk (Manager 0)).seen) [
       | inl silo ↦ inl (untouched_from new (kept (inl silo)))
-      | inr lacks-0 ↦ elim (cases_silo magic (old.disk (Manager 1)).seen) [ inl silo ↦ inl (untouched_from new (kept (inr silo))) | inr lacks-1 ↦ inr (first_from lacks-0 lacks-1 new first) ]
+      | inr lacks-0 ↦ elim (silo_or_not (old.disk (Manager 1)).seen) [ inl silo ↦ inl (untouched_from new (kept (inr silo))) | inr lacks-1 ↦ inr (first_from lacks-0 lacks-1 new first) ]
     ]

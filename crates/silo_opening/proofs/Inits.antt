@@ -10,11 +10,10 @@ use Rattle.host_trait.proofs.Runs.{settled_image}
 use Rattle.program_file.specs.declared.faults.ProgramFault.{ProgramFault}
 use Rattle.program_file.specs.Programs.{text_limit}
 use Rattle.program_file.specs.Answers.{program_fault_place, IsFaultOf}
-use Rattle.silo_spec.specs.Silos.{IsEitherManager, IsNewSilo}
+use Rattle.silo_spec.specs.Silos.{IsEitherManager, IsNewSilo, IsMagic}
 use Rattle.silo_spec.specs.Slots.{IsLive, IsSiloImage, ShowsSilos}
 use Rattle.silo_spec.specs.Moments.{IsUntouched}
 use Rattle.silo_spec.specs.Creation.{StaysBeside, CameThisFar}
-use Rattle.promise_spec.specs.Logs.{magic}
 use Rattle.promise_spec.specs.Words.{Manner}
 use Rattle.promise_spec.specs.Commands.{MakesSilo, MakesAs, IsProgramText}
 use Rattle.promise_spec.specs.Endings.{HasRisen}
@@ -43,12 +42,12 @@ same_file_of : {A : Type 0} (a b : FileId) → failed {A = A} (CreateFault.DiskF
 same_file_of a b e = cc
 
 -- a folder that reads as a silo, by its manager files and by its live slot
-reads_silo : (old : World) → IsSiloImage magic (seen_in old.disk) → ReadsSilo magic old.disk
+reads_silo : (old : World) → IsSiloImage IsMagic (seen_in old.disk) → ReadsSilo IsMagic old.disk
 reads_silo old (zero, live) = inl live.silo
 reads_silo old (suc zero, live) = inr live.silo
 reads_silo old (suc (suc n), live) = absurd (omega (arith, live.slot))
 
-was_silo : (old : World) → ReadsSilo magic old.disk → IsSiloImage magic (seen_in old.disk)
+was_silo : (old : World) → ReadsSilo IsMagic old.disk → IsSiloImage IsMagic (seen_in old.disk)
 was_silo old (inl silo) = some_live (seen_in old.disk) 0 (omega arith) silo
 was_silo old (inr silo) = some_live (seen_in old.disk) 1 (omega arith) silo
 
@@ -81,7 +80,7 @@ module _ (A : Type 0) (manner : Manner) (asked : List (List ℕ)) (old mid : Wor
     beside = beside_so_far old mid disk output still;
     beside_now = beside_here old mid disk output still;
     makes = λ shows. inl (untouched_so_far old mid disk output still);
-    shows = λ shows. subst (ShowsSilos magic) (sym disk) shows;
+    shows = λ shows. subst (ShowsSilos IsMagic) (sym disk) shows;
     ends_as = ended;
     risen = risen;
   }
@@ -104,15 +103,15 @@ module _ (A : Type 0) (manner : Manner) (asked : List (List ℕ)) (old mid : Wor
       → MakesSilo (ended_with manner asked old mid before after (failed {A = A} (in_program fault (program_fault_place fault))))
   program_refused fault end small is = program_by fault (program_fault_place fault) end small is
 
-  module _ (new : World) (beside : StaysBeside mid new) (makes : ShowsSilos magic mid.disk → CameThisFar magic old.input mid new) (kept : ReadsSilo magic mid.disk → IsUntouched mid new)
+  module _ (new : World) (beside : StaysBeside mid new) (makes : ShowsSilos IsMagic mid.disk → CameThisFar IsMagic old.input mid new) (kept : ReadsSilo IsMagic mid.disk → IsUntouched mid new)
       (text : IsProgramText (ended_with {A = A} manner asked old new before after (Err InitFault.Memory))) (here : SeenMayStay old)
-      (shown : ShowsSilos magic mid.disk → ShowsSilos magic new.disk) where
+      (shown : ShowsSilos IsMagic mid.disk → ShowsSilos IsMagic new.disk) where
     -- the manager files are as they were at first
     same_log : (slot : ℕ) → (mid.disk (Manager slot)).seen ≡ (old.disk (Manager slot)).seen
     same_log slot = ap (λ (d : Disk). (d (Manager slot)).seen) disk
 
-    there : ReadsSilo magic old.disk → ReadsSilo magic mid.disk
-    there silo = subst (ReadsSilo magic) (sym disk) silo
+    there : ReadsSilo IsMagic old.disk → ReadsSilo IsMagic mid.disk
+    there silo = subst (ReadsSilo IsMagic) (sym disk) silo
 
     -- the folder was touched, or left as it was
     pub made_so : (result : Result A InitFault) → MakesAs (ending_of result) (ended_with manner asked old new before after result) → HasRisen (ending_of result) before after
@@ -120,19 +119,19 @@ module _ (A : Type 0) (manner : Manner) (asked : List (List ℕ)) (old mid : Wor
     made_so result ended risen = record {
       beside = beside_all old mid disk output still new beside;
       beside_now = beside_last old mid disk output still new beside;
-      makes = λ shows. makes_from old mid disk output still old.input here shows new (λ silo. kept (there silo)) (makes (subst (ShowsSilos magic) (sym disk) shows));
-      shows = λ shows. shown (subst (ShowsSilos magic) (sym disk) shows);
+      makes = λ shows. makes_from old mid disk output still old.input here shows new (λ silo. kept (there silo)) (makes (subst (ShowsSilos IsMagic) (sym disk) shows));
+      shows = λ shows. shown (subst (ShowsSilos IsMagic) (sym disk) shows);
       ends_as = ended;
       risen = risen;
     }
 
     -- a silo was made
-    pub is_made : (made : A) → ((image : Image) → IsImage new.disk image → IsNewSilo magic old.input image) → (ShowsSilos magic mid.disk → (image : Image) → IsImage new.disk image → IsLive magic 0 image) → (ReadsSilo magic mid.disk → ⊥)
+    pub is_made : (made : A) → ((image : Image) → IsImage new.disk image → IsNewSilo old.input image) → (ShowsSilos IsMagic mid.disk → (image : Image) → IsImage new.disk image → IsLive IsMagic 0 image) → (ReadsSilo IsMagic mid.disk → ⊥)
         → MakesSilo (ended_with manner asked old new before after (Ok made))
     is_made made new_one live lacks = made_so (Ok made) (
       text_is,
       (λ was. lacks (there (reads_silo old was))),
-      λ image is. (new_one image is, λ shows. live (subst (ShowsSilos magic) (sym disk) shows) image is),
+      λ image is. (new_one image is, λ shows. live (subst (ShowsSilos IsMagic) (sym disk) shows) image is),
     ) tt
       where
         text_is : IsProgramText (ended_with {A = A} manner asked old new before after (Ok made))
@@ -144,15 +143,15 @@ module _ (A : Type 0) (manner : Manner) (asked : List (List ℕ)) (old mid : Wor
 
     -- none was
     pub creation_refused : (e : CreateFault) → CreateFaulted e before after
-        → (failed {A = A} e ≡ failed CreateFault.AlreadyASilo → ReadsSilo magic mid.disk)
+        → (failed {A = A} e ≡ failed CreateFault.AlreadyASilo → ReadsSilo IsMagic mid.disk)
         → (failed {A = A} e ≡ failed CreateFault.AlreadyASilo → (slot : ℕ) → slot ≤ 1 → (mid.disk (Manager slot)).seen ≢ [] → new.disk (Manager slot) ≡ settled (mid.disk (Manager slot)).seen)
-        → (ReadsSilo magic mid.disk → (failed {A = A} e ≡ failed CreateFault.AlreadyASilo) ⊎ ((file : FileId) × IsEitherManager file × (failed {A = A} e ≡ failed (CreateFault.DiskFault file))))
+        → (ReadsSilo IsMagic mid.disk → (failed {A = A} e ≡ failed CreateFault.AlreadyASilo) ⊎ ((file : FileId) × IsEitherManager file × (failed {A = A} e ≡ failed (CreateFault.DiskFault file))))
         → MakesSilo (ended_with manner asked old new before after (failed {A = A} (in_creation e)))
     creation_refused CreateFault.AlreadyASilo faulted already lasts silo =
         let reads = already refl in
         made_so (Err InitFault.AlreadyASilo) (
           text_of InitFault.AlreadyASilo,
-          was_silo old (subst (ReadsSilo magic) disk reads),
+          was_silo old (subst (ReadsSilo IsMagic) disk reads),
           untouched_from old mid disk output still new (kept reads),
           λ image is slot low some.
               let last = lasts refl slot low (λ none. some (sym (same_log slot) ∙ none)) in

@@ -1,12 +1,16 @@
 -- What the first bytes of both manager files mean for a silo that is to be made.
-use Rattle.std.proofs.Common.{◌≡◌, ◌≢◌, ◌⊎◌, inl, inr, ℕ, ◌<◌, ◌≤◌, List, [], ◌∷◌, length, refl, sym, ◌∙◌, ap, subst, arith}
+use Rattle.std.proofs.Common.{◌≡◌, ◌≢◌, ◌⊎◌, inl, inr, ℕ, ◌<◌, ◌≤◌, List, [], ◌∷◌, length, refl, sym, ◌∙◌, ap, subst, arith, Ok}
+use Rattle.std.specs.Prelude.{Result, IsErrOf}
+use Rattle.host_trait.specs.declared.channels.FileId.{FileId}
 use Rattle.host_trait.specs.declared.channels.FileId.TheVariants.{Manager}
 use Rattle.host_trait.specs.Disk.{FileState, settled, overlaid}
 use Rattle.host_trait.specs.World.{World, Disk}
 use Rattle.silo_spec.specs.OtherSlot.{IsShutFile}
-use Rattle.silo_spec.specs.Silos.{manager, IsSilo}
+use Rattle.silo_spec.specs.Silos.{manager, IsEitherManager, IsSilo}
 use Rattle.silo_opening.specs.declared.creation.Front.{Front}
 use Rattle.silo_opening.specs.declared.creation.Front.TheVariants.{Empty, Silo, Open, Closed}
+use Rattle.silo_opening.specs.declared.faults.CreateFault.{CreateFault}
+use Rattle.silo_opening.specs.NewSilos.{KeepsSilo}
 use Rattle.silo_opening.specs.Steps.{ShowsFront, syncs_for, ReadsSilo}
 use Rattle.silo_opening.proofs.GateClosing.{MayBeClosed, otherwise_no_silo}
 
@@ -14,7 +18,7 @@ use Rattle.silo_opening.proofs.GateClosing.{MayBeClosed, otherwise_no_silo}
 some_bytes : (file : List ℕ) → 0 < length file → file ≢ []
 some_bytes file some none = omega (arith, some, ap length none)
 
-module _ (magic : List ℕ) where
+module _ (magic : List ℕ → Type 0) where
   -- a front that isn't a silo's
   pub front_lacks : (front : Front) (file : List ℕ) → front ≢ Silo → ShowsFront magic front file → IsSilo magic file → ⊥
   front_lacks Empty file other shows silo = omega (arith, silo.long, ap length shows)
@@ -61,3 +65,15 @@ syncs_low Closed = omega arith
 
 pub closed_syncs : (front : Front) → front ≡ Closed → syncs_for front ≡ 1
 closed_syncs front is = ap syncs_for is
+
+-- an answer that a silo was made
+abbrev made_so : {A : Type 0} → A → Result A CreateFault
+made_so made = Ok made
+
+-- none was made where the folder is called one
+pub none_kept : {A B : Type 0} (made : A) (old new : World) → KeepsSilo (made_so made) old new → B
+none_kept made old new kept = by kept.answer
+  where
+    by : {C : Type 0} → (IsErrOf (made_so made) CreateFault.AlreadyASilo) ⊎ ((file : FileId) × IsEitherManager file × IsErrOf (made_so made) (CreateFault.DiskFault file)) → C
+    by (inl is) = absurd cc
+    by (inr at) = (let is = at.2 in absurd cc)

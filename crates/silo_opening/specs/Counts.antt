@@ -12,6 +12,7 @@ use Rattle.silo_opening.specs.declared.silo_init.InitFault.{InitFault}
 -- a call on the file failed where `DiskFault` is answered, and none did where another fault is
 abbrev pub OpenFaulted : OpenFault → (Channel → ℕ) → (Channel → ℕ) → Type 0
 OpenFaulted OpenFault.NotASilo old new = NoneFailed old new
+OpenFaulted OpenFault.OldFormat old new = NoneFailed old new
 OpenFaulted (OpenFault.Damaged file place) old new = NoneFailed old new
 OpenFaulted (OpenFault.DiskFault file) old new = FailedOn (File file) old new
 OpenFaulted OpenFault.LastGeneration old new = NoneFailed old new

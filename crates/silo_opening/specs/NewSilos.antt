@@ -5,11 +5,10 @@ use Rattle.host_trait.specs.declared.channels.FileId.TheVariants.{Manager}
 use Rattle.host_trait.specs.Disk.{settled}
 use Rattle.host_trait.specs.World.{World, Moment, Image, IsImage, Passes, moment_of}
 use Rattle.silo_spec.specs.OtherSlot.{IsShutFile}
-use Rattle.silo_spec.specs.Silos.{manager, IsEitherManager, IsNewSilo}
+use Rattle.silo_spec.specs.Silos.{manager, IsEitherManager, IsMagic, IsNewSilo}
 use Rattle.silo_spec.specs.Slots.{IsLive, ShowsSilos}
 use Rattle.silo_spec.specs.Moments.{IsUntouched}
 use Rattle.silo_spec.specs.Creation.{IsMade, IsNewAt, FromFirstSync}
-use Rattle.promise_spec.specs.Logs.{magic}
 use Rattle.silo_opening.specs.declared.creation.Front.{Front}
 use Rattle.silo_opening.specs.declared.creation.Front.TheVariants.{Silo}
 use Rattle.silo_opening.specs.declared.faults.CreateFault.{CreateFault}
@@ -28,7 +27,7 @@ pub record KeepsSilo {A : Type 0} (result : Result A CreateFault) (old new : Wor
 
 -- The folder reads as a silo, and what was read of its manager files lasts.
 pub record FoundSilo (old new : World) : Type 0 where
-  pub reads : ReadsSilo magic old.disk
+  pub reads : ReadsSilo IsMagic old.disk
   pub lasts : ManagersStay old new
 
 -- ---- steps
@@ -36,16 +35,16 @@ pub record FoundSilo (old new : World) : Type 0 where
 -- Both manager files were looked at, slot 0's has the low front and slot 1's the high one. What was read of them lasts; each that has
 -- bytes was synced, once; and where neither is a silo's, none is in any image from the last of these syncs on.
 pub record LooksAtBoth (low high : Front) (old new : World) : Type 0 where
-  pub front : ShowsFront magic low (old.disk (Manager 0)).seen
-  pub other : ShowsFront magic high (old.disk (Manager 1)).seen
+  pub front : ShowsFront IsMagic low (old.disk (Manager 0)).seen
+  pub other : ShowsFront IsMagic high (old.disk (Manager 1)).seen
   pub lasts : ManagersStay old new
-  pub first : ShowsSilos magic old.disk → low ≢ Silo → high ≢ Silo → FromFirstSync (HasNoSilo magic) old new
+  pub first : ShowsSilos IsMagic old.disk → low ≢ Silo → high ≢ Silo → FromFirstSync (HasNoSilo IsMagic) old new
   pub count : new.syncs ≡ old.syncs + (syncs_for low + syncs_for high)
 
 -- The folder may be filled: slot 0's header gate is closed, with one to three syncs, and no image is a silo where no manager file that
 -- read too short was a silo's.
 pub record IsPrepared (old new : World) : Type 0 where
-  pub first : ShowsSilos magic old.disk → FromFirstSync (HasNoSilo magic) old new
+  pub first : ShowsSilos IsMagic old.disk → FromFirstSync (HasNoSilo IsMagic) old new
   pub shut : IsShutFile (new.disk manager)
   pub least : old.syncs + 1 ≤ new.syncs
   pub most : new.syncs ≤ old.syncs + 3
@@ -54,15 +53,15 @@ pub record IsPrepared (old new : World) : Type 0 where
 -- has P once the manager files that have bytes are synced. So it stays that none that reads too short is a silo's.
 pub record ComesSoFar (P : Moment → Type 0) (old new : World) : Type 0 where
   pub moments : IsUntouched old new ⊎ FromFirstSync P old new
-  pub shows : ShowsSilos magic new.disk
+  pub shows : ShowsSilos IsMagic new.disk
 
 -- How far the filling came of a folder whose slot 1 is a silo's in no image: so it stays, and at each moment each image that is a silo
 -- is one of this program with an empty log.
 pub record FillsSoFar (text : List ℕ) (old new : World) : Type 0 where
-  pub moments : Passes (IsNewAt magic text) old.past new.past
-  pub now : IsNewAt magic text (moment_of new)
-  pub lacks : LacksSilo magic 1 (moment_of new)
-  pub shows : ShowsSilos magic new.disk
+  pub moments : Passes (IsNewAt IsMagic text) old.past new.past
+  pub now : IsNewAt IsMagic text (moment_of new)
+  pub lacks : LacksSilo IsMagic 1 (moment_of new)
+  pub shows : ShowsSilos IsMagic new.disk
 
 -- ---- a silo that was made
 
@@ -70,8 +69,8 @@ pub record FillsSoFar (text : List ℕ) (old new : World) : Type 0 where
 -- file that read too short was a silo's. Four syncs were asked, one more where slot 1's manager file has bytes, and one more where the
 -- header of slot 0's was closed first and has bytes.
 pub record IsCreated (text : List ℕ) (old new : World) : Type 0 where
-  pub made : (image : Image) → IsImage new.disk image → IsNewSilo magic text image
-  pub live : ShowsSilos magic old.disk → (image : Image) → IsImage new.disk image → IsLive magic 0 image
-  pub files : IsMade magic text new.disk
+  pub made : (image : Image) → IsImage new.disk image → IsNewSilo text image
+  pub live : ShowsSilos IsMagic old.disk → (image : Image) → IsImage new.disk image → IsLive IsMagic 0 image
+  pub files : IsMade text new.disk
   pub least : old.syncs + 4 ≤ new.syncs
   pub most : new.syncs ≤ old.syncs + 6

@@ -1,4 +1,4 @@
--- The steps of `create` and of `open_silo`.
+-- The steps of `create` and of `open_silo_in`.
 use Rattle.std.specs.Prelude.{◌≡◌, ◌≢◌, ◌⊎◌, ℕ, ◌<◌, ◌≤◌, true, List, [], length, take, drop, slice_index}
 use Rattle.host_trait.specs.declared.channels.FileId.{FileId}
 use Rattle.host_trait.specs.declared.channels.FileId.TheVariants.{Manager}
@@ -9,12 +9,12 @@ use Rattle.silo_spec.specs.Creation.{IsLookedAt}
 use Rattle.silo_opening.specs.declared.creation.Front.{Front}
 use Rattle.silo_opening.specs.declared.creation.Front.TheVariants.{Empty, Silo, Open, Closed}
 
--- No byte 0 makes it a silo: it is too short, or its name isn't the magic.
-abbrev pub IsNamedOtherwise : List ℕ → List ℕ → Type 0
-IsNamedOtherwise magic file = (length file < 16) ⊎ (take 8 (drop 1 file) ≢ magic)
+-- No byte 0 makes it a silo: it is too short, or its name is no such magic.
+abbrev pub IsNamedOtherwise : (List ℕ → Type 0) → List ℕ → Type 0
+IsNamedOtherwise magic file = (length file < 16) ⊎ (magic (take 8 (drop 1 file)) → ⊥)
 
 -- what the first bytes of a manager file say
-abbrev pub ShowsFront : List ℕ → Front → List ℕ → Type 0
+abbrev pub ShowsFront : (List ℕ → Type 0) → Front → List ℕ → Type 0
 ShowsFront magic Empty file = file ≡ []
 ShowsFront magic Silo file = IsSilo magic file
 ShowsFront magic Open file = (0 < length file) × IsNamedOtherwise magic file
@@ -64,13 +64,13 @@ syncs_for Open = 1
 syncs_for Closed = 1
 
 -- in no image is this slot's manager file a silo's
-abbrev pub LacksSilo : List ℕ → ℕ → Moment → Type 0
+abbrev pub LacksSilo : (List ℕ → Type 0) → ℕ → Moment → Type 0
 LacksSilo magic slot m = (image : Image) → IsImage m.disk image → IsSilo magic (image (Manager slot)) → ⊥
 
 -- in no image is a manager file a silo's
-abbrev pub HasNoSilo : List ℕ → Moment → Type 0
+abbrev pub HasNoSilo : (List ℕ → Type 0) → Moment → Type 0
 HasNoSilo magic m = LacksSilo magic 0 m × LacksSilo magic 1 m
 
 -- a manager file reads as a silo's
-abbrev pub ReadsSilo : List ℕ → Disk → Type 0
+abbrev pub ReadsSilo : (List ℕ → Type 0) → Disk → Type 0
 ReadsSilo magic disk = IsSilo magic (disk (Manager 0)).seen ⊎ IsSilo magic (disk (Manager 1)).seen

@@ -8,10 +8,9 @@ ghost use Rattle.host_trait.specs.Faults.{Counted, NoneFailed};
 ghost use Rattle.host_trait.specs.declared.channels.FileId.{FileId};
 ghost use Rattle.host_trait.specs.declared.channels.FileId.TheVariants.{Manager, Program as ProgramFile};
 ghost use Rattle.host_trait.specs.declared.channels.Channel.TheVariants.{File};
-ghost use Rattle.silo_spec.specs.Silos.{manager, IsEitherManager, IsNewSilo};
+ghost use Rattle.silo_spec.specs.Silos.{manager, IsEitherManager, IsMagic, IsNewSilo};
 ghost use Rattle.silo_spec.specs.OtherSlot.{IsShutFile};
 ghost use Rattle.silo_spec.specs.Slots.{IsLive, ShowsSilos};
-ghost use Rattle.promise_spec.specs.Logs.{magic};
 ghost use Rattle.silo_spec.specs.Moments.{IsUntouched};
 ghost use Rattle.silo_opening.specs.declared.faults.CreateFault.{CreateFault};
 ghost use Rattle.silo_opening.specs.declared.creation.Front.{Front};
@@ -21,17 +20,15 @@ ghost use Rattle.silo_opening.specs.NewSilos.{KeepsSilo, FoundSilo, LooksAtBoth,
 ghost use Rattle.silo_opening.specs.Steps.{ShowsFront, OnlyLooks, SyncsFor, syncs_for, LacksSilo, HasNoSilo, ReadsSilo};
 
 use crate::faults::CreateFault;
+use crate::headers::format_named;
 use host_trait::{Failed, FileId, Host, read_full, write_synced};
 
 // The manager file of a new silo, which is made in slot 0.
 const MANAGER: FileId = FileId::Manager { slot: 0 };
 
-// The eight bytes behind the header gate that name a silo.
-const MAGIC: [u8; 8] = *b"OTXLOG01";
-
-// What stands behind the header gate of a new manager file: the magic, the generation 0, two zeros, and the closed gate of
+// What stands behind the header gate of a new manager file: the magic of format 2, the generation 0, two zeros, and the closed gate of
 // the first block.
-const HEADER: [u8; 15] = *b"OTXLOG01\0\0\0\0\0\0\0";
+const HEADER: [u8; 15] = *b"OTXLOG02\0\0\0\0\0\0\0";
 
 // What the first 16 bytes of a manager file say.
 #[derive(Clone, Copy)]
@@ -40,13 +37,13 @@ enum Front {
     Empty,
     // They are a silo's.
     Silo,
-    // They are no silo's, whatever byte 0 is: there are fewer, or the gate is open and the name isn't the magic.
+    // They are no silo's, whatever byte 0 is: there are fewer, or the gate is open and the name is no magic.
     Open,
     // The gate is closed.
     Closed,
 }
 
-/// Makes the folder a silo of this program with an empty log, or leaves it as it was where it is a silo.
+/// Makes the folder a silo of this program with an empty log, of format 2, or leaves it as it was where it is a silo of either format.
 ///
 /// The program is checked text of at most 262,144 bytes. The manager files of both slots are looked at first, slot 0's before
 /// slot 1's, and each that has bytes is synced; the silo is made in slot 0. No memory is taken. A crash at any moment leaves no silo
@@ -65,13 +62,13 @@ pub fn create<H: Host>(host: &mut H, program: &[u8]) -> Result<(), CreateFault>
     ensures made { OnOk result (IsTrue H.tells → IsCreated program.now (H.world host.old) (H.world host.new)) }
 
     // A folder that reads as a silo is left as it was, and only such a one is called a silo; what its manager files read lasts then.
-    ensures silo { IsTrue H.tells → ReadsSilo magic (H.world host.old).disk → KeepsSilo result (H.world host.old) (H.world host.new) }
+    ensures silo { IsTrue H.tells → ReadsSilo IsMagic (H.world host.old).disk → KeepsSilo result (H.world host.old) (H.world host.new) }
     ensures already { IsErrOf result CreateFault.AlreadyASilo → IsTrue H.tells → FoundSilo (H.world host.old) (H.world host.new) }
 
     // A crash at any moment leaves a folder of before, until the manager files that have bytes are synced, and from then on no silo
     // or a new one; and it stays that no manager file that reads shorter than 16 bytes is a silo's in any image.
-    ensures moments { IsTrue H.tells → ShowsSilos magic (H.world host.old).disk
-        → ComesSoFar (IsNewAt magic program.now) (H.world host.old) (H.world host.new) }
+    ensures moments { IsTrue H.tells → ShowsSilos IsMagic (H.world host.old).disk
+        → ComesSoFar (IsNewAt IsMagic program.now) (H.world host.old) (H.world host.new) }
 
     // No other file changes, slot 1's manager file is at most synced, and no output or input changes.
     ensures beside { IsTrue H.tells → StaysBeside (H.world host.old) (H.world host.new) }
@@ -91,10 +88,10 @@ pub fn create<H: Host>(host: &mut H, program: &[u8]) -> Result<(), CreateFault>
 // image is a silo.
 fn prepare<H: Host>(host: &mut H) -> Result<(), CreateFault>
     ensures prepared { OnOk result (IsTrue H.tells → IsPrepared (H.world host.old) (H.world host.new)) }
-    ensures silo { IsTrue H.tells → ReadsSilo magic (H.world host.old).disk → KeepsSilo result (H.world host.old) (H.world host.new) }
+    ensures silo { IsTrue H.tells → ReadsSilo IsMagic (H.world host.old).disk → KeepsSilo result (H.world host.old) (H.world host.new) }
     ensures already { IsErrOf result CreateFault.AlreadyASilo → IsTrue H.tells → FoundSilo (H.world host.old) (H.world host.new) }
-    ensures moments { IsTrue H.tells → ShowsSilos magic (H.world host.old).disk
-        → ComesSoFar (HasNoSilo magic) (H.world host.old) (H.world host.new) }
+    ensures moments { IsTrue H.tells → ShowsSilos IsMagic (H.world host.old).disk
+        → ComesSoFar (HasNoSilo IsMagic) (H.world host.old) (H.world host.new) }
     ensures beside { IsTrue H.tells → StaysBeside (H.world host.old) (H.world host.new) }
     ensures calm { OnOk result (NoneFailed (H.faults host.old) (H.faults host.new)) }
     ensures fault { IfErr result (λ e. CreateFaulted e (H.faults host.old) (H.faults host.new)) }
@@ -185,7 +182,7 @@ fn manager_fault(slot: u8) -> CreateFault
 fn look<H: Host>(host: &mut H, slot: u8) -> Result<Front, Failed>
     requires slot { slot ≤ 1 }
     ensures looks { IsTrue H.tells → OnlyLooks slot (H.world host.old) (H.world host.new) }
-    ensures shows { IfOk result (λ front. IsTrue H.tells → ShowsFront magic front ((H.world host.old).disk (Manager slot)).seen) }
+    ensures shows { IfOk result (λ front. IsTrue H.tells → ShowsFront IsMagic front ((H.world host.old).disk (Manager slot)).seen) }
     ensures syncs { OnOk result (IsTrue H.tells → SyncsFor slot (H.world host.old) (H.world host.new)) }
     ensures count { IfOk result (λ front. IsTrue H.tells → (H.world host.new).syncs ≡ (H.world host.old).syncs + syncs_for front) }
     ensures faults { Counted (File (Manager slot)) result (H.faults host.old) (H.faults host.new) }
@@ -204,7 +201,7 @@ fn look<H: Host>(host: &mut H, slot: u8) -> Result<Front, Failed>
 fn read_front<H: Host>(host: &mut H, slot: u8) -> Result<Front, Failed>
     requires slot { slot ≤ 1 }
     requires some { IsTrue H.tells → 0 < length ((H.world host.old).disk (Manager slot)).seen }
-    ensures shows { IfOk result (λ front. IsTrue H.tells → ShowsFront magic front ((H.world host.old).disk (Manager slot)).seen) }
+    ensures shows { IfOk result (λ front. IsTrue H.tells → ShowsFront IsMagic front ((H.world host.old).disk (Manager slot)).seen) }
     ensures some { IfOk result (λ front. syncs_for front ≡ 1) }
     ensures asked { IsTrue H.tells → OnlyAsked (H.world host.old) (H.world host.new) }
     ensures faults { Counted (File (Manager slot)) result (H.faults host.old) (H.faults host.new) }
@@ -217,10 +214,10 @@ fn read_front<H: Host>(host: &mut H, slot: u8) -> Result<Front, Failed>
     if bytes[0] != 1 {
         return Ok(Front::Closed);
     }
-    if bytes[1..9] == MAGIC[..] {
-        return Ok(Front::Silo);
+    match format_named(&bytes[1..9]) {
+        Some(_) => Ok(Front::Silo),
+        None => Ok(Front::Open),
     }
-    Ok(Front::Open)
 }
 
 // Step two: closes slot 0's header gate, by one write of that byte alone and one sync.
@@ -240,8 +237,8 @@ fn close_header<H: Host>(host: &mut H) -> Result<(), Failed>
 fn fill<H: Host>(host: &mut H, program: &[u8]) -> Result<(), CreateFault>
     requires small { length program.now ≤ 262144 }
     requires shut { IsTrue H.tells → IsShutFile ((H.world host.old).disk manager) }
-    ensures files { OnOk result (IsTrue H.tells → IsMade magic program.now (H.world host.new).disk) }
-    ensures filled { IsTrue H.tells → LacksSilo magic 1 (moment_of (H.world host.old)) → FillsSoFar program.now (H.world host.old) (H.world host.new) }
+    ensures files { OnOk result (IsTrue H.tells → IsMade program.now (H.world host.new).disk) }
+    ensures filled { IsTrue H.tells → LacksSilo IsMagic 1 (moment_of (H.world host.old)) → FillsSoFar program.now (H.world host.old) (H.world host.new) }
     ensures beside { IsTrue H.tells → StaysBeside (H.world host.old) (H.world host.new) }
     ensures count { OnOk result (IsTrue H.tells → (H.world host.new).syncs ≡ (H.world host.old).syncs + 3) }
     ensures already { IsErrOf result CreateFault.AlreadyASilo → ⊥ }

@@ -16,10 +16,13 @@ pub enum CreateFault {
 /// Why a silo wasn't opened.
 #[derive(Debug, Clone, Copy, PartialEq, Eq, Error)]
 pub enum OpenFault {
-    /// Neither slot's manager file is a silo's: each is shorter than 16 bytes, or its first byte isn't 1, or the next eight aren't the
+    /// Neither slot's manager file is a silo's: each is shorter than 16 bytes, or its first byte isn't 1, or the next eight are no
     /// magic.
     #[error("the folder is no silo")]
     NotASilo,
+    /// The live slot has format 1, which `migrate` alone reads.
+    #[error("the silo has the old format")]
+    OldFormat,
     /// The file is damaged at this offset.
     #[error("{file:?} is damaged at {place}")]
     Damaged { file: FileId, place: u64 },

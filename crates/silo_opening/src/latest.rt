@@ -41,7 +41,7 @@ pub fn latest_versions<H: Host>(
     ensures ready { StaysReady (H.is_ready host.old) (H.is_ready host.new) }
 {
     let first = &opened.programs.as_slice()[0];
-    match read_latest(alloc, host, opened.slot, first, Format::One) {
+    match read_latest(alloc, host, opened.slot, first, Format::Two) {
         Ok(named) => Ok(named),
         Err(fault) => Err(folder_fault(fault)),
     }

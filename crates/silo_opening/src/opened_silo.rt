@@ -1,4 +1,4 @@
-ghost use Rattle.std.specs.Prelude.{◌≡◌, ◌+◌, ◌^◌, ◌<◌, ◌≤◌, ℕ, nat_le, IsTrue, length, OnOk, IfOk, IfErr, IfSome, IsErrOf};
+ghost use Rattle.std.specs.Prelude.{◌≡◌, ◌+◌, ◌^◌, ◌<◌, ◌≤◌, ℕ, nat_le, IsTrue, length, Option, None, OnOk, IfOk, IfErr, IfSome, IsErrOf};
 ghost use Rattle.host_trait.specs.Disk.{settled};
 ghost use Rattle.host_trait.specs.Files.{StaysReady};
 ghost use Rattle.host_trait.specs.Faults.{Counted, NoneFailed};
@@ -8,15 +8,16 @@ ghost use Rattle.host_trait.specs.declared.channels.FileId.TheVariants.{Manager}
 ghost use Rattle.silo_spec.specs.OpenedDisks.{slot_syncs, opening_syncs, opened_disk, OpensBy, OnlyOpens};
 ghost use Rattle.log_reading.specs.Steps.{seen_in};
 ghost use Rattle.log_reading.specs.Sums.{AreNear};
-ghost use Rattle.silo_spec.specs.Slots.{generation};
-ghost use Rattle.promise_spec.specs.Openings.{opened_as};
+ghost use Rattle.field_codec.specs.declared.formats.Format.TheVariants.{Two};
+ghost use Rattle.promise_spec.specs.Openings.{OtherFormat, reading_in, opened_as};
 ghost use Rattle.promise_spec.specs.Refusals.{IsRefusedBy};
 ghost use Rattle.silo_opening.specs.Steps.{Settles, SettlesBoth};
 ghost use Rattle.silo_opening.specs.declared.faults.OpenFault.{OpenFault};
 ghost use Rattle.silo_opening.specs.Counts.{OpenFaulted};
-ghost use Rattle.silo_opening.specs.OpenedSilo.{is_header, header_in, live_header, in_program_file, in_folder, ending_of, LeavesOpened, IsOpenedInBounds};
+ghost use Rattle.silo_opening.specs.OpenedSilo.{header_in, live_header, in_program_file, in_folder, ending_of, LeavesOpenedIn, LeavesOpened, IsOpenedInBounds};
 
 use crate::faults::OpenFault;
+use crate::headers::{Header, header_of, live_header};
 use base_types::{Ends, List, Places, UnitNo};
 use field_codec::Format;
 use host_trait::{Failed, FileId, Host, read_full};
@@ -26,8 +27,10 @@ use script_check::Checked;
 use std::alloc::Global;
 
 /// An opened silo: the slot that is live and its generation, the program in force with its text, all programs that came into force one after
-/// the other, the one in force too, how many entries its log has, those before the log's beginning too, where the last version of each grain that has one stands, the greatest end among the places that are named in each
-/// grain's file, the number of the next unit, and the place of the gate at which the log ends. Its states aren't kept: `states` reads them.
+/// the other, the one in force too, how many entries its log has, those before the log's beginning too, where the last version of each grain
+/// that has one stands, the greatest end among the places that are named in each grain's file, the number of the next unit, the greatest
+/// session of the log's blocks, 0 where it has none, and the place of the gate at which the log ends. Its states aren't kept: `states`
+/// reads them.
 #[derive(Drop)]
 pub struct Opened {
     pub slot: u8,
@@ -39,6 +42,7 @@ pub struct Opened {
     pub places: Places,
     pub ends: Ends,
     pub next_unit: UnitNo,
+    pub session: u64,
     pub gate_at: u64,
 }
 
@@ -62,22 +66,8 @@ fn settle<H: Host>(host: &mut H, slot: u8) -> Result<bool, Failed>
     Ok(true)
 }
 
-// Whether the first bytes of a file are the header of a silo.
-fn is_header(head: &[u8; 16]) -> bool
-    ensures { result ≡ is_header head.now }
-{
-    head[0] == 1 && &head[1..9] == b"OTXLOG01".as_slice()
-}
-
-// The generation of a silo's header.
-fn generation_of(head: &[u8; 16]) -> u32
-    ensures { result ≡ generation head.now }
-{
-    u32::from_le_bytes([head[9], head[10], head[11], head[12]])
-}
-
-// The generation of a slot's manager file, none where it isn't a silo's. Nothing is read of one that is said to be too short.
-fn read_header<H: Host>(host: &mut H, slot: u8, long: bool) -> Result<Option<u32>, Failed>
+// The header of a slot's manager file, none where it isn't a silo's. Nothing is read of one that is said to be too short.
+fn read_header<H: Host>(host: &mut H, slot: u8, long: bool) -> Result<Option<Header>, Failed>
     requires slot { slot ≤ 1 }
     requires long { IsTrue H.tells → long ≡ nat_le 16 (length ((H.world host.old).disk (Manager slot)).seen) }
     ensures told { IfOk result (λ found. IsTrue H.tells → found ≡ header_in ((H.world host.old).disk (Manager slot)).seen) }
@@ -92,32 +82,7 @@ fn read_header<H: Host>(host: &mut H, slot: u8, long: bool) -> Result<Option<u32
     if !read_full(host, FileId::Manager { slot }, 0, &mut head)? {
         return Ok(None);
     }
-    if !is_header(&head) {
-        return Ok(None);
-    }
-    Ok(Some(generation_of(&head)))
-}
-
-// The live slot and its generation, by the generations of both slots: that of the greater one, and slot 0 where both are equal.
-fn live_header(first: Option<u32>, other: Option<u32>) -> Option<(u8, u32)>
-    ensures { result ≡ live_header first other }
-{
-    match first {
-        None => match other {
-            None => None,
-            Some(other) => Some((1, other)),
-        },
-        Some(first) => match other {
-            None => Some((0, first)),
-            Some(other) => {
-                if first < other {
-                    Some((1, other))
-                } else {
-                    Some((0, first))
-                }
-            }
-        },
-    }
+    Ok(header_of(&head))
 }
 
 // The fault of a call on a slot's manager file.
@@ -152,8 +117,8 @@ fn settle_both<H: Host>(host: &mut H) -> Result<(bool, bool), OpenFault>
     Ok((first, other))
 }
 
-// The live slot and its generation, by the manager files, each of which is synced where it is as long as a header and a gate.
-fn find_live<H: Host>(host: &mut H) -> Result<Option<(u8, u32)>, OpenFault>
+// The live slot and its header, by the manager files, each of which is synced where it is as long as a header and a gate.
+fn find_live<H: Host>(host: &mut H) -> Result<Option<(u8, Header)>, OpenFault>
     ensures told { IfOk result (λ found. IsTrue H.tells
         → found ≡ live_header (header_in ((H.world host.old).disk (Manager 0)).seen) (header_in ((H.world host.old).disk (Manager 1)).seen)) }
     ensures slot { IfOk result (λ found. IfSome found (λ live. live.0 ≤ 1)) }
@@ -204,27 +169,36 @@ pub(crate) fn folder_fault(fault: FolderFault) -> OpenFault
     }
 }
 
-/// Opens the silo of the host's folder, and writes nothing.
+/// Opens the silo of the host's folder where its live slot has this format, and writes nothing. `None` says that it has the other one;
+/// nothing more was read then.
 ///
 /// It asks for the length of both manager files and syncs each that has 16 bytes or more, slot 0's first, so that nothing of these
-/// is pending afterwards. Then it reads the headers of these; and of the live slot, which is the silo's of the greater generation, the
-/// program file, the blocks up to the first closed gate, and each version that they name, by grains. Each is read once. Beside what it
-/// answers it keeps 48 bytes for each named version while it reads. `docs/FORMATS.md` has the bytes.
+/// is pending afterwards. Then it reads the headers of these, whatever format they have; and of the live slot, which is the silo's of the
+/// greater generation, the program file, the blocks up to the first closed gate, and each version that they name, by grains. Each is read
+/// once. Beside what it answers it keeps 48 bytes for each named version while it reads. `docs/FORMATS.md` has the bytes.
 ///
 /// # Errors
 ///
 /// `NotASilo` exactly where neither slot's manager file has 16 bytes or more and begins with the header of a silo. `Damaged` names the
 /// first damage in the order of reading. `DiskFault` where a call on that file failed, and `Memory` at any place.
-pub fn open_silo<H: Host>(alloc: Global, host: &mut H) -> Result<Opened, OpenFault>
+pub fn open_silo_in<H: Host>(
+    alloc: Global,
+    host: &mut H,
+    format: Format,
+) -> Result<Option<Opened>, OpenFault>
     // The folder reads as a silo with a program and a log, and this is what they stand for. Each manager file of 16 bytes or more was
     // synced once, the live one among them, and beside that there was nothing but asking.
-    ensures opened { IfOk result (λ o. IsTrue H.tells → LeavesOpened (H.world host.old) (H.world host.new) o) }
-    ensures bounds { IfOk result (λ o. IsOpenedInBounds o) }
+    ensures opened { IfOk result (λ found. IfSome found (λ o. IsTrue H.tells → LeavesOpenedIn format (H.world host.old) (H.world host.new) o)) }
+    ensures bounds { IfOk result (λ found. IfSome found (λ o. IsOpenedInBounds o)) }
+
+    // Or its live slot has the other format.
+    ensures other { IfOk result (λ found. found ≡ None → IsTrue H.tells → reading_in format (seen_in (H.world host.old).disk) ≡ OtherFormat) }
 
     // A refusal is what the folder reads as, a fault of a file that has to be read, or want of memory.
     ensures refused { IfErr result (λ e. IsTrue H.tells
-        → IsRefusedBy (seen_in (H.world host.old).disk) (opened_as (seen_in (H.world host.old).disk)) (ending_of e)) }
+        → IsRefusedBy format (seen_in (H.world host.old).disk) (reading_in format (seen_in (H.world host.old).disk)) (ending_of e)) }
     ensures not_last { IsErrOf result OpenFault.LastGeneration → ⊥ }
+    ensures not_old { IsErrOf result OpenFault.OldFormat → ⊥ }
 
     // `DiskFault` is answered exactly where a call on the file failed: its count rose, and no other changed. With another answer
     // no count has changed.
@@ -236,23 +210,26 @@ pub fn open_silo<H: Host>(alloc: Global, host: &mut H) -> Result<Opened, OpenFau
     ensures only { IsTrue H.tells → OnlyOpens (H.world host.old) (H.world host.new) }
     ensures ready { StaysReady (H.is_ready host.old) (H.is_ready host.new) }
 {
-    let Some((slot, generation)) = find_live(host)? else {
+    let Some((slot, header)) = find_live(host)? else {
         return Err(OpenFault::NotASilo);
     };
+    if header.format != format {
+        return Ok(None);
+    }
     let (text, first) = match read_program(alloc, host, slot) {
         Ok(found) => found,
         Err(fault) => return Err(program_fault(slot, fault)),
     };
-    let contents = match read_contents(alloc, host, slot, text, first, Format::One) {
+    let contents = match read_contents(alloc, host, slot, text, first, format) {
         Ok(contents) => contents,
         Err(fault) => return Err(folder_fault(fault)),
     };
     let Ok(checked) = accept(alloc, contents.text.as_slice()) else {
         return Err(OpenFault::Memory);
     };
-    Ok(Opened {
+    Ok(Some(Opened {
         slot,
-        generation,
+        generation: header.generation,
         text: contents.text,
         checked,
         programs: contents.programs,
@@ -260,6 +237,35 @@ pub fn open_silo<H: Host>(alloc: Global, host: &mut H) -> Result<Opened, OpenFau
         places: contents.places,
         ends: contents.ends,
         next_unit: contents.next_unit,
+        session: contents.session,
         gate_at: contents.gate_at,
-    })
+    }))
+}
+
+/// Opens the silo of the host's folder, which has format 2, as `open_silo_in` does.
+///
+/// # Errors
+///
+/// Those of `open_silo_in`, and `OldFormat` exactly where the live slot has format 1.
+pub fn open_silo<H: Host>(alloc: Global, host: &mut H) -> Result<Opened, OpenFault>
+    // The folder reads as a silo with a program and a log, and this is what they stand for.
+    ensures opened { IfOk result (λ o. IsTrue H.tells → LeavesOpened (H.world host.old) (H.world host.new) o) }
+    ensures bounds { IfOk result (λ o. IsOpenedInBounds o) }
+
+    // A refusal is what the folder reads as, a fault of a file that has to be read, or want of memory.
+    ensures refused { IfErr result (λ e. IsTrue H.tells
+        → IsRefusedBy Two (seen_in (H.world host.old).disk) (opened_as (seen_in (H.world host.old).disk)) (ending_of e)) }
+    ensures not_last { IsErrOf result OpenFault.LastGeneration → ⊥ }
+
+    // `DiskFault` is answered exactly where a call on the file failed, and each file is left as `open_silo_in` leaves it.
+    ensures calm { OnOk result (NoneFailed (H.faults host.old) (H.faults host.new)) }
+    ensures fault { IfErr result (λ e. OpenFaulted e (H.faults host.old) (H.faults host.new)) }
+    ensures only { IsTrue H.tells → OnlyOpens (H.world host.old) (H.world host.new) }
+    ensures ready { StaysReady (H.is_ready host.old) (H.is_ready host.new) }
+{
+    match open_silo_in(alloc, host, Format::Two) {
+        Ok(Some(opened)) => Ok(opened),
+        Ok(None) => Err(OpenFault::OldFormat),
+        Err(fault) => Err(fault),
+    }
 }

@@ -42,7 +42,7 @@ pub fn states<H: Host>(alloc: Global, host: &mut H, opened: &Opened) -> Result<S
         host,
         opened.slot,
         opened.programs.as_slice(),
-        Format::One,
+        Format::Two,
         &opened.places,
     ) {
         Ok(store) => Ok(store),

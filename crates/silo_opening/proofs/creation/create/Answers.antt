@@ -1,6 +1,7 @@
-use Rattle.std.proofs.Common.{refl, arith}
+use Rattle.std.proofs.Common.{refl, arith, rules}
 use Rattle.host_trait.specs.World.{moment_of}
 use Rattle.silo_opening.proofs.ManagerLook.{beside_then}
+use Rattle.silo_opening.proofs.Preparing.{none_kept}
 use Rattle.silo_opening.proofs.Outcomes.{made_silo, made_live, so_far, came_on}
 use Rattle.silo_opening.proofs.creation.create.Goals as goal
 
@@ -39,3 +40,14 @@ returns-clause-moments g c told shows =
 
 pub returns-clause-beside : goal.returns-clause-beside
 returns-clause-beside g c told = beside_then _ _ _ (c.prepare.ensures.beside told) (c.fill.ensures.beside told)
+
+-- ---- a folder that is a silo stops it at the first step
+
+pub returns-in_err-prepare-clause-silo : goal.returns-in_err-prepare-clause-silo
+returns-in_err-prepare-clause-silo g c told reads = let kept = c.in_err-prepare.ensures.silo told reads in search (kept, rules)
+
+pub returns-in_err-fill-clause-silo : goal.returns-in_err-fill-clause-silo
+returns-in_err-fill-clause-silo g c told reads = none_kept c.in_ok-prepare.field-0 _ _ (c.in_ok-prepare.ensures.silo told reads)
+
+pub returns-clause-silo : goal.returns-clause-silo
+returns-clause-silo g c told reads = none_kept c.in_ok-prepare.field-0 _ _ (c.in_ok-prepare.ensures.silo told reads)

@@ -3,8 +3,7 @@ use Rattle.host_trait.specs.Disk.{Tears}
 use Rattle.host_trait.specs.World.{moment_of}
 use Rattle.host_trait.specs.Runs.{ChangesFile}
 use Rattle.host_trait.proofs.Moments.{both, weaker}
-use Rattle.silo_spec.specs.Silos.{manager, program_file}
-use Rattle.promise_spec.specs.Logs.{magic}
+use Rattle.silo_spec.specs.Silos.{manager, program_file, IsMagic}
 use Rattle.silo_spec.specs.Creation.{IsNewAt}
 use Rattle.silo_opening.proofs.GateClosing.{on_ok, none_shown, long_shown}
 use Rattle.silo_opening.proofs.ManagerLook.{log_run_beside, program_run_beside, beside_then}
@@ -17,10 +16,10 @@ returns-in_err-map_err-clause-filled g c told lacks =
     let text : List ℕ = c.args.program.now in
     let first = c.write_program.ensures.run told in
     record {
-      moments = weaker (ChangesFile program_file (Tears 0 (4 + length text)) w0) (IsNewAt magic text) (while_program text w0 (c.requires.shut told) lacks) first.moments;
+      moments = weaker (ChangesFile program_file (Tears 0 (4 + length text)) w0) (IsNewAt IsMagic text) (while_program text w0 (c.requires.shut told) lacks) first.moments;
       now = while_program c.args.program.now w0 (c.requires.shut told) lacks _ first.now;
       lacks = lacks_program c.args.program.now (g.H.Host.world c.args.host.now) lacks _ (c.write_program.ensures.run told).now;
-      shows = none_shown magic (g.H.Host.world c.write_program.new.host) (program_shut c.args.program.now w0 (c.requires.shut told) (moment_of (g.H.Host.world c.write_program.new.host)) first.now, lacks_program c.args.program.now w0 lacks (moment_of (g.H.Host.world c.write_program.new.host)) first.now);
+      shows = none_shown IsMagic (g.H.Host.world c.write_program.new.host) (program_shut c.args.program.now w0 (c.requires.shut told) (moment_of (g.H.Host.world c.write_program.new.host)) first.now, lacks_program c.args.program.now w0 lacks (moment_of (g.H.Host.world c.write_program.new.host)) first.now);
     }
 
 pub returns-in_err-map_err-clause-beside : goal.returns-in_err-map_err-clause-beside
@@ -31,7 +30,7 @@ returns-in_err-map_err-2-clause-filled g c told lacks =
     let w0 = g.H.Host.world c.args.host.now in
     let w1 = g.H.Host.world c.write_program.new.host in
     let text : List ℕ = c.args.program.now in
-    let P = IsNewAt magic text in
+    let P = IsNewAt IsMagic text in
     let first = c.write_program.ensures.run told in
     let second = c.write_synced.ensures.run told in
     let w2 = g.H.Host.world c.write_synced.new.host in
@@ -39,7 +38,7 @@ returns-in_err-map_err-2-clause-filled g c told lacks =
       moments = both P (weaker (ChangesFile program_file (Tears 0 (4 + length text)) w0) P (while_program text w0 (c.requires.shut told) lacks) first.moments) (weaker (ChangesFile manager (Tears 1 15) w1) P (while_header text w0 (c.requires.shut told) w1 first.now (lacks_program text w0 lacks _ first.now)) second.moments);
       now = while_header c.args.program.now w0 (c.requires.shut told) w1 (c.write_program.ensures.run told).now (lacks_program c.args.program.now w0 lacks _ (c.write_program.ensures.run told).now) _ (c.write_synced.ensures.run told).now;
       lacks = lacks_log (Tears 1 15) (g.H.Host.world c.write_program.new.host) (lacks_program c.args.program.now (g.H.Host.world c.args.host.now) lacks _ (c.write_program.ensures.run told).now) _ (c.write_synced.ensures.run told).now;
-      shows = none_shown magic w2 (header_shut c.args.program.now w0 (c.requires.shut told) w1 first.now (moment_of w2) second.now, lacks_log (Tears 1 15) w1 (lacks_program c.args.program.now w0 lacks (moment_of w1) first.now) (moment_of w2) second.now);
+      shows = none_shown IsMagic w2 (header_shut c.args.program.now w0 (c.requires.shut told) w1 first.now (moment_of w2) second.now, lacks_log (Tears 1 15) w1 (lacks_program c.args.program.now w0 lacks (moment_of w1) first.now) (moment_of w2) second.now);
     }
 
 pub returns-in_err-map_err-2-clause-beside : goal.returns-in_err-map_err-2-clause-beside
@@ -52,7 +51,7 @@ returns-in_err-map_err-3-clause-filled g c told lacks =
     let w1 = g.H.Host.world c.write_program.new.host in
     let w2 = g.H.Host.world c.write_synced.new.host in
     let text : List ℕ = c.args.program.now in
-    let P = IsNewAt magic text in
+    let P = IsNewAt IsMagic text in
     let first = c.write_program.ensures.run told in
     let second = c.write_synced.ensures.run told in
     let third = c.write_synced-2.ensures.run told in
@@ -63,7 +62,7 @@ returns-in_err-map_err-3-clause-filled g c told lacks =
       moments = both P (both P (weaker (ChangesFile program_file (Tears 0 (4 + length text)) w0) P (while_program text w0 (c.requires.shut told) lacks) first.moments) (weaker (ChangesFile manager (Tears 1 15) w1) P (while_header text w0 (c.requires.shut told) w1 first.now (lacks_program text w0 lacks _ first.now)) second.moments)) (weaker (ChangesFile manager (Tears 0 1) w2) P (while_opened text w0 (c.requires.shut told) w1 first.now (on_ok _ c.write_program.result c.write_program.ensures.ok ok-1 told) w2 second.now (on_ok _ c.write_synced.result c.write_synced.ensures.ok ok-2 told) (lacks_log (Tears 1 15) w1 (lacks_program text w0 lacks _ first.now) _ second.now)) third.moments);
       now = while_opened c.args.program.now w0 (c.requires.shut told) w1 first.now (on_ok _ c.write_program.result c.write_program.ensures.ok ok-1 told) w2 second.now (on_ok _ c.write_synced.result c.write_synced.ensures.ok ok-2 told) (lacks_log (Tears 1 15) w1 (lacks_program c.args.program.now w0 lacks _ first.now) _ second.now) _ third.now;
       lacks = lacks_log (Tears 0 1) (g.H.Host.world c.write_synced.new.host) (lacks_log (Tears 1 15) (g.H.Host.world c.write_program.new.host) (lacks_program c.args.program.now (g.H.Host.world c.args.host.now) lacks _ (c.write_program.ensures.run told).now) _ (c.write_synced.ensures.run told).now) _ (c.write_synced-2.ensures.run told).now;
-      shows = long_shown magic w3 (seen_long c.args.program.now w0 (c.requires.shut told) w1 first.now (on_ok _ c.write_program.result c.write_program.ensures.ok ok-1 told) w2 second.now (on_ok _ c.write_synced.result c.write_synced.ensures.ok ok-2 told) w3 third.seen) (lacks_log (Tears 0 1) w2 (lacks_log (Tears 1 15) w1 (lacks_program c.args.program.now w0 lacks (moment_of w1) first.now) (moment_of w2) second.now) (moment_of w3) third.now);
+      shows = long_shown IsMagic w3 (seen_long c.args.program.now w0 (c.requires.shut told) w1 first.now (on_ok _ c.write_program.result c.write_program.ensures.ok ok-1 told) w2 second.now (on_ok _ c.write_synced.result c.write_synced.ensures.ok ok-2 told) w3 third.seen) (lacks_log (Tears 0 1) w2 (lacks_log (Tears 1 15) w1 (lacks_program c.args.program.now w0 lacks (moment_of w1) first.now) (moment_of w2) second.now) (moment_of w3) third.now);
     }
 
 pub returns-in_err-map_err-3-clause-beside : goal.returns-in_err-map_err-3-clause-beside
@@ -92,7 +91,7 @@ returns-clause-filled g c told lacks =
     let w1 = g.H.Host.world c.write_program.new.host in
     let w2 = g.H.Host.world c.write_synced.new.host in
     let text : List ℕ = c.args.program.now in
-    let P = IsNewAt magic text in
+    let P = IsNewAt IsMagic text in
     let first = c.write_program.ensures.run told in
     let second = c.write_synced.ensures.run told in
     let third = c.write_synced-2.ensures.run told in
@@ -103,7 +102,7 @@ returns-clause-filled g c told lacks =
       moments = both P (both P (weaker (ChangesFile program_file (Tears 0 (4 + length text)) w0) P (while_program text w0 (c.requires.shut told) lacks) first.moments) (weaker (ChangesFile manager (Tears 1 15) w1) P (while_header text w0 (c.requires.shut told) w1 first.now (lacks_program text w0 lacks _ first.now)) second.moments)) (weaker (ChangesFile manager (Tears 0 1) w2) P (while_opened text w0 (c.requires.shut told) w1 first.now (on_ok _ c.write_program.result c.write_program.ensures.ok ok-1 told) w2 second.now (on_ok _ c.write_synced.result c.write_synced.ensures.ok ok-2 told) (lacks_log (Tears 1 15) w1 (lacks_program text w0 lacks _ first.now) _ second.now)) third.moments);
       now = while_opened c.args.program.now w0 (c.requires.shut told) w1 first.now (on_ok _ c.write_program.result c.write_program.ensures.ok ok-1 told) w2 second.now (on_ok _ c.write_synced.result c.write_synced.ensures.ok ok-2 told) (lacks_log (Tears 1 15) w1 (lacks_program c.args.program.now w0 lacks _ first.now) _ second.now) _ third.now;
       lacks = lacks_log (Tears 0 1) (g.H.Host.world c.write_synced.new.host) (lacks_log (Tears 1 15) (g.H.Host.world c.write_program.new.host) (lacks_program c.args.program.now (g.H.Host.world c.args.host.now) lacks _ (c.write_program.ensures.run told).now) _ (c.write_synced.ensures.run told).now) _ (c.write_synced-2.ensures.run told).now;
-      shows = long_shown magic w3 (seen_long c.args.program.now w0 (c.requires.shut told) w1 first.now (on_ok _ c.write_program.result c.write_program.ensures.ok ok-1 told) w2 second.now (on_ok _ c.write_synced.result c.write_synced.ensures.ok ok-2 told) w3 third.seen) (lacks_log (Tears 0 1) w2 (lacks_log (Tears 1 15) w1 (lacks_program c.args.program.now w0 lacks (moment_of w1) first.now) (moment_of w2) second.now) (moment_of w3) third.now);
+      shows = long_shown IsMagic w3 (seen_long c.args.program.now w0 (c.requires.shut told) w1 first.now (on_ok _ c.write_program.result c.write_program.ensures.ok ok-1 told) w2 second.now (on_ok _ c.write_synced.result c.write_synced.ensures.ok ok-2 told) w3 third.seen) (lacks_log (Tears 0 1) w2 (lacks_log (Tears 1 15) w1 (lacks_program c.args.program.now w0 lacks (moment_of w1) first.now) (moment_of w2) second.now) (moment_of w3) third.now);
     }
 
 pub returns-clause-beside : goal.returns-clause-beside

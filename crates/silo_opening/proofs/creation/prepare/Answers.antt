@@ -1,7 +1,6 @@
 use Rattle.std.proofs.Common.{◌≡◌, ◌≢◌, ◌⊎◌, inl, inr, Err, true, is_ok, ap, arith, rules}
 use Rattle.host_trait.specs.Disk.{Tears}
-use Rattle.silo_spec.specs.Silos.{manager}
-use Rattle.promise_spec.specs.Logs.{magic}
+use Rattle.silo_spec.specs.Silos.{manager, IsMagic}
 use Rattle.silo_opening.specs.declared.creation.Front.TheVariants.{Silo, Closed}
 use Rattle.silo_opening.proofs.ManagerLook.{log_run_beside, beside_then}
 use Rattle.silo_opening.proofs.GateClosing.{on_ok, closed_first, none_shown, came_shown}
@@ -18,7 +17,7 @@ returns-in-Err-clause-silo g c told reads =
 pub returns-in-Err-clause-moments : goal.returns-in-Err-clause-moments
 returns-in-Err-clause-moments g c told shows =
     let untouched = c.look_both.ensures.untouched told in
-    record { moments = inl untouched; shows = came_shown magic (g.H.Host.world c.args.host.now) (g.H.Host.world c.look_both.new.host) (inl untouched) shows }
+    record { moments = inl untouched; shows = came_shown IsMagic (g.H.Host.world c.args.host.now) (g.H.Host.world c.look_both.new.host) (inl untouched) shows }
 
 -- ---- the folder is a silo
 
@@ -26,12 +25,12 @@ pub returns-then-is_either_silo-clause-already : goal.returns-then-is_either_sil
 returns-then-is_either_silo-clause-already g c is told =
     let either : (c.in-Ok.fronts.0 ≡ Silo) ⊎ (c.in-Ok.fronts.1 ≡ Silo) = search rules in
     let looked = c.in-Ok.ensures.looked told in
-    record { reads = fronts_read magic c.in-Ok.fronts.0 c.in-Ok.fronts.1 (g.H.Host.world c.args.host.now).disk either looked.front looked.other; lasts = looked.lasts }
+    record { reads = fronts_read IsMagic c.in-Ok.fronts.0 c.in-Ok.fronts.1 (g.H.Host.world c.args.host.now).disk either looked.front looked.other; lasts = looked.lasts }
 
 pub returns-then-is_either_silo-clause-moments : goal.returns-then-is_either_silo-clause-moments
 returns-then-is_either_silo-clause-moments g c told shows =
     let untouched = c.look_both.ensures.untouched told in
-    record { moments = inl untouched; shows = came_shown magic (g.H.Host.world c.args.host.now) (g.H.Host.world c.look_both.new.host) (inl untouched) shows }
+    record { moments = inl untouched; shows = came_shown IsMagic (g.H.Host.world c.args.host.now) (g.H.Host.world c.look_both.new.host) (inl untouched) shows }
 
 -- ---- the gate is closed
 
@@ -43,7 +42,7 @@ returns-then-is_closed-clause-prepared g c told =
     let count = looked.count in
     record {
       first = λ shows. looked.first shows are.0 are.1;
-      shut = closed_shut magic c.in-Ok.fronts.0 is (g.H.Host.world c.args.host.now) (g.H.Host.world c.look_both.new.host) looked.front (looked.lasts 0 (omega arith));
+      shut = closed_shut IsMagic c.in-Ok.fronts.0 is (g.H.Host.world c.args.host.now) (g.H.Host.world c.look_both.new.host) looked.front (looked.lasts 0 (omega arith));
       least = omega (arith, count, closed_syncs c.in-Ok.fronts.0 is);
       most = omega (arith, count, syncs_low c.in-Ok.fronts.0, syncs_low c.in-Ok.fronts.1);
     }
@@ -52,12 +51,12 @@ pub returns-then-is_closed-clause-silo : goal.returns-then-is_closed-clause-silo
 returns-then-is_closed-clause-silo g c told reads =
     let are : (c.in-Ok.fronts.0 ≢ Silo) × (c.in-Ok.fronts.1 ≢ Silo) = search rules in
     let looked = c.in-Ok.ensures.looked told in
-    fronts_lack magic c.in-Ok.fronts.0 c.in-Ok.fronts.1 (g.H.Host.world c.args.host.now).disk are looked.front looked.other reads
+    fronts_lack IsMagic c.in-Ok.fronts.0 c.in-Ok.fronts.1 (g.H.Host.world c.args.host.now).disk are looked.front looked.other reads
 
 pub returns-then-is_closed-clause-moments : goal.returns-then-is_closed-clause-moments
 returns-then-is_closed-clause-moments g c told shows =
     let untouched = c.look_both.ensures.untouched told in
-    record { moments = inl untouched; shows = came_shown magic (g.H.Host.world c.args.host.now) (g.H.Host.world c.look_both.new.host) (inl untouched) shows }
+    record { moments = inl untouched; shows = came_shown IsMagic (g.H.Host.world c.args.host.now) (g.H.Host.world c.look_both.new.host) (inl untouched) shows }
 
 -- ---- the gate has to be closed, which fails
 
@@ -65,16 +64,16 @@ pub returns-in_err-map_err-clause-silo : goal.returns-in_err-map_err-clause-silo
 returns-in_err-map_err-clause-silo g c told reads =
     let are : (c.in-Ok.fronts.0 ≢ Silo) × (c.in-Ok.fronts.1 ≢ Silo) = search rules in
     let looked = c.in-Ok.ensures.looked told in
-    fronts_lack magic c.in-Ok.fronts.0 c.in-Ok.fronts.1 (g.H.Host.world c.args.host.now).disk are looked.front looked.other reads
+    fronts_lack IsMagic c.in-Ok.fronts.0 c.in-Ok.fronts.1 (g.H.Host.world c.args.host.now).disk are looked.front looked.other reads
 
 pub returns-in_err-map_err-clause-moments : goal.returns-in_err-map_err-clause-moments
 returns-in_err-map_err-clause-moments g c told shows =
     let are : (c.in-Ok.fronts.0 ≢ Silo) × (c.in-Ok.fronts.1 ≢ Silo) = search rules in
     let unclosed : c.in-Ok.fronts.0 ≢ Closed = search rules in
     let looked = c.in-Ok.ensures.looked told in
-    let may = may_close magic c.in-Ok.fronts.0 are.0 unclosed (g.H.Host.world c.args.host.now) (g.H.Host.world c.look_both.new.host) looked.front ((c.look_both.ensures.untouched told).seen manager) (looked.lasts 0 (omega arith)) in
-    let first = closed_first magic (g.H.Host.world c.args.host.now) (g.H.Host.world c.look_both.new.host) (g.H.Host.world c.close_header.new.host) (λ file. g.met.H.Host.seen_may_stay c.look_both.new.host file told) may (looked.first shows are.0 are.1) (c.close_header.ensures.run told) in
-    record { moments = inr first; shows = came_shown magic (g.H.Host.world c.args.host.now) (g.H.Host.world c.close_header.new.host) (inr first) shows }
+    let may = may_close IsMagic c.in-Ok.fronts.0 are.0 unclosed (g.H.Host.world c.args.host.now) (g.H.Host.world c.look_both.new.host) looked.front ((c.look_both.ensures.untouched told).seen manager) (looked.lasts 0 (omega arith)) in
+    let first = closed_first IsMagic (g.H.Host.world c.args.host.now) (g.H.Host.world c.look_both.new.host) (g.H.Host.world c.close_header.new.host) (λ file. g.met.H.Host.seen_may_stay c.look_both.new.host file told) may (looked.first shows are.0 are.1) (c.close_header.ensures.run told) in
+    record { moments = inr first; shows = came_shown IsMagic (g.H.Host.world c.args.host.now) (g.H.Host.world c.close_header.new.host) (inr first) shows }
 
 pub returns-in_err-map_err-clause-beside : goal.returns-in_err-map_err-clause-beside
 returns-in_err-map_err-clause-beside g c told = beside_then _ _ _ (c.look_both.ensures.beside told) (log_run_beside (Tears 0 1) 1 _ _ (c.close_header.ensures.run told))
@@ -87,11 +86,11 @@ returns-clause-prepared g c told =
     let unclosed : c.in-Ok.fronts.0 ≢ Closed = search rules in
     let ok : is_ok c.close_header.result ≡ true = search rules in
     let looked = c.in-Ok.ensures.looked told in
-    let may = may_close magic c.in-Ok.fronts.0 are.0 unclosed (g.H.Host.world c.args.host.now) (g.H.Host.world c.look_both.new.host) looked.front ((c.look_both.ensures.untouched told).seen manager) (looked.lasts 0 (omega arith)) in
+    let may = may_close IsMagic c.in-Ok.fronts.0 are.0 unclosed (g.H.Host.world c.args.host.now) (g.H.Host.world c.look_both.new.host) looked.front ((c.look_both.ensures.untouched told).seen manager) (looked.lasts 0 (omega arith)) in
     let count = looked.count in
     let closed = on_ok _ c.close_header.result c.close_header.ensures.count ok told in
     record {
-      first = λ shows. closed_first magic (g.H.Host.world c.args.host.now) (g.H.Host.world c.look_both.new.host) (g.H.Host.world c.close_header.new.host) (λ file. g.met.H.Host.seen_may_stay c.look_both.new.host file told) may (looked.first shows are.0 are.1) (c.close_header.ensures.run told);
+      first = λ shows. closed_first IsMagic (g.H.Host.world c.args.host.now) (g.H.Host.world c.look_both.new.host) (g.H.Host.world c.close_header.new.host) (λ file. g.met.H.Host.seen_may_stay c.look_both.new.host file told) may (looked.first shows are.0 are.1) (c.close_header.ensures.run told);
       shut = gate_shut ((g.H.Host.world c.look_both.new.host).disk manager).seen ((g.H.Host.world c.close_header.new.host).disk manager) (on_ok _ c.close_header.result c.close_header.ensures.ok ok told);
       least = omega (arith, count, closed);
       most = omega (arith, count, closed, syncs_low c.in-Ok.fronts.0, syncs_low c.in-Ok.fronts.1);
@@ -101,16 +100,16 @@ pub returns-clause-silo : goal.returns-clause-silo
 returns-clause-silo g c told reads =
     let are : (c.in-Ok.fronts.0 ≢ Silo) × (c.in-Ok.fronts.1 ≢ Silo) = search rules in
     let looked = c.in-Ok.ensures.looked told in
-    fronts_lack magic c.in-Ok.fronts.0 c.in-Ok.fronts.1 (g.H.Host.world c.args.host.now).disk are looked.front looked.other reads
+    fronts_lack IsMagic c.in-Ok.fronts.0 c.in-Ok.fronts.1 (g.H.Host.world c.args.host.now).disk are looked.front looked.other reads
 
 pub returns-clause-moments : goal.returns-clause-moments
 returns-clause-moments g c told shows =
     let are : (c.in-Ok.fronts.0 ≢ Silo) × (c.in-Ok.fronts.1 ≢ Silo) = search rules in
     let unclosed : c.in-Ok.fronts.0 ≢ Closed = search rules in
     let looked = c.in-Ok.ensures.looked told in
-    let may = may_close magic c.in-Ok.fronts.0 are.0 unclosed (g.H.Host.world c.args.host.now) (g.H.Host.world c.look_both.new.host) looked.front ((c.look_both.ensures.untouched told).seen manager) (looked.lasts 0 (omega arith)) in
-    let first = closed_first magic (g.H.Host.world c.args.host.now) (g.H.Host.world c.look_both.new.host) (g.H.Host.world c.close_header.new.host) (λ file. g.met.H.Host.seen_may_stay c.look_both.new.host file told) may (looked.first shows are.0 are.1) (c.close_header.ensures.run told) in
-    record { moments = inr first; shows = none_shown magic (g.H.Host.world c.close_header.new.host) first.now }
+    let may = may_close IsMagic c.in-Ok.fronts.0 are.0 unclosed (g.H.Host.world c.args.host.now) (g.H.Host.world c.look_both.new.host) looked.front ((c.look_both.ensures.untouched told).seen manager) (looked.lasts 0 (omega arith)) in
+    let first = closed_first IsMagic (g.H.Host.world c.args.host.now) (g.H.Host.world c.look_both.new.host) (g.H.Host.world c.close_header.new.host) (λ file. g.met.H.Host.seen_may_stay c.look_both.new.host file told) may (looked.first shows are.0 are.1) (c.close_header.ensures.run told) in
+    record { moments = inr first; shows = none_shown IsMagic (g.H.Host.world c.close_header.new.host) first.now }
 
 pub returns-clause-beside : goal.returns-clause-beside
 returns-clause-beside g c told = beside_then _ _ _ (c.look_both.ensures.beside told) (log_run_beside (Tears 0 1) 1 _ _ (c.close_header.ensures.run told))

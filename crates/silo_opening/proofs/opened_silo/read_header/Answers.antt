@@ -1,7 +1,6 @@
-use Rattle.std.proofs.Common.{◌≡◌, List, ℕ, true, Some, ap, ◌∙◌, arith, rules}
+use Rattle.std.proofs.Common.{List, ℕ, ◌∙◌, arith, rules}
 use Rattle.host_trait.specs.declared.channels.FileId.TheVariants.{Manager}
-use Rattle.silo_opening.specs.OpenedSilo.{is_header}
-use Rattle.silo_opening.proofs.Fronts.{header_short, header_none, header_some, header_other}
+use Rattle.silo_opening.proofs.Fronts.{header_short, header_none, header_told}
 use Rattle.silo_opening.proofs.opened_silo.read_header.Goals as goal
 
 pub returns-then-not-long-clause-told : goal.returns-then-not-long-clause-told
@@ -13,15 +12,8 @@ returns-then-not-branch-clause-told g c told =
     let short = c.in_ok-read_full.ensures.short told (search rules) in
     header_none seen (omega (arith, short))
 
-pub returns-then-not-is_header-clause-told : goal.returns-then-not-is_header-clause-told
-returns-then-not-is_header-clause-told g c told =
-    let seen : List ℕ = ((g.H.Host.world c.args.host.now).disk (Manager c.args.slot)).seen in
-    let full = c.in_ok-read_full.ensures.full told (search rules) in
-    header_other seen c.read_full.new.into (omega (arith, full.0)) full.1 (search rules)
-
 pub returns-clause-told : goal.returns-clause-told
 returns-clause-told g c told =
     let seen : List ℕ = ((g.H.Host.world c.args.host.now).disk (Manager c.args.slot)).seen in
     let full = c.in_ok-read_full.ensures.full told (search rules) in
-    let header : is_header c.read_full.new.into ≡ true = search rules in
-    ap Some c.generation_of.ensures ∙ header_some seen c.read_full.new.into (omega (arith, full.0)) full.1 header
+    c.header_of.ensures ∙ header_told seen c.read_full.new.into (omega (arith, full.0)) full.1

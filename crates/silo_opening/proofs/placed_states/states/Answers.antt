@@ -3,7 +3,7 @@ use Rattle.std.specs.Prelude.{unwrap_or}
 use Rattle.base_types.specs.declared.calls.GrainId.{GrainId}
 use Rattle.base_types.specs.declared.calls.Value.{Value}
 use Rattle.base_types.specs.Places.{placed_in}
-use Rattle.field_codec.specs.declared.formats.Format.TheVariants.{One}
+use Rattle.field_codec.specs.declared.formats.Format.TheVariants.{Two}
 use Rattle.log_reading.specs.Steps.{seen_in}
 use Rattle.log_reading.specs.PlacedVersions.{state_placed, IsUnreadAt}
 use Rattle.script_tree.specs.Programs.{program_tree}
@@ -20,7 +20,7 @@ returns-in-Ok-clause-stand g c told o grain =
     let opened = c.args.opened.now in
     let programs : c.as_slice.result.now ≡ opened.programs = search rules in
     ap (λ (s : Option (List Value)). unwrap_or s (initial_states (program_in opened) grain))
-    (c.in-Ok.ensures.stand told grain ∙ ap (λ (ps : List Checked). state_placed opened.slot One (map program_tree ps) image grain (placed_in opened.places grain) None) programs)
+    (c.in-Ok.ensures.stand told grain ∙ ap (λ (ps : List Checked). state_placed opened.slot Two (map program_tree ps) image grain (placed_in opened.places grain) None) programs)
     ∙ states_stand image opened o grain
 
 pub returns-in-Err-clause-refused : goal.returns-in-Err-clause-refused
@@ -30,7 +30,7 @@ returns-in-Err-clause-refused g c told o =
     let programs : c.as_slice.result.now ≡ opened.programs = search rules in
     let fault = c.in-Err.fault in
     only_failed image opened o fault
-    (subst (λ (ps : List Checked). (grain : GrainId) × IsUnreadAt opened.slot One (shapes_in_turn (map program_tree ps)) image grain (placed_in opened.places grain) fault) programs (c.in-Err.ensures.unread told))
+    (subst (λ (ps : List Checked). (grain : GrainId) × IsUnreadAt opened.slot Two (shapes_in_turn (map program_tree ps)) image grain (placed_in opened.places grain) fault) programs (c.in-Err.ensures.unread told))
     c.folder_fault.result c.folder_fault.ensures
 
 pub returns-in-Err-clause-not_last : goal.returns-in-Err-clause-not_last

@@ -4,9 +4,8 @@ use Rattle.host_trait.specs.declared.channels.Channel.{Channel}
 use Rattle.script_tree.specs.Programs.{program_tree}
 use Rattle.program_file.specs.Programs.{program_in}
 use Rattle.program_file.specs.Answers.{program_fault_place, IsFaultOf}
-use Rattle.promise_spec.specs.Logs.{magic}
 use Rattle.promise_spec.specs.Commands.{MakesSilo, IsProgramText}
-use Rattle.silo_spec.specs.Silos.{IsNewSilo}
+use Rattle.silo_spec.specs.Silos.{IsNewSilo, IsMagic}
 use Rattle.silo_spec.specs.Slots.{ShowsSilos}
 use Rattle.silo_spec.specs.Creation.{CameThisFar}
 use Rattle.silo_opening.specs.declared.silo_init.InitFault.{InitFault}
@@ -69,9 +68,9 @@ returns-in-Ok-create-clause-makes g c told manner asked =
       reads = ap program_in same ∙ c.in-Ok-accept.ensures;
     } in
     is_made (Unit {0}) manner asked old mid before after (c.read_input.ensures.disk told) (c.read_input.ensures.output told) (c.read_input.ensures.moments told)
-    new (c.create.ensures.beside told) (subst (λ (t : List ℕ). ShowsSilos magic mid.disk → CameThisFar magic t mid new) (sym again) (λ shows. (c.create.ensures.moments told shows).moments)) (λ silo. (c.create.ensures.silo told silo).untouched) reads
+    new (c.create.ensures.beside told) (subst (λ (t : List ℕ). ShowsSilos IsMagic mid.disk → CameThisFar IsMagic t mid new) (sym again) (λ shows. (c.create.ensures.moments told shows).moments)) (λ silo. (c.create.ensures.silo told silo).untouched) reads
     (λ file. g.met.H.Host.seen_may_stay c.args.host.now file told) (λ shows. (c.create.ensures.moments told shows).shows)
-    tt (λ image is. subst (λ (t : List ℕ). IsNewSilo magic t image) (sym again) ((c.in-Ok-create.ensures.made told).made image is)) (c.in-Ok-create.ensures.made told).live
+    tt (λ image is. subst (λ (t : List ℕ). IsNewSilo t image) (sym again) ((c.in-Ok-create.ensures.made told).made image is)) (c.in-Ok-create.ensures.made told).live
     (λ silo. made_no_fault tt _ _ _ (c.in-Ok-create.ensures.silo told silo).answer)
 
 pub returns-in-Ok-create-clause-calm : goal.returns-in-Ok-create-clause-calm
@@ -98,7 +97,7 @@ returns-clause-makes g c told manner asked =
     } in
     subst (λ (e : InitFault). MakesSilo (ended_with {A = Unit {0}} manner asked old new before after (failed e))) (sym c.creation_fault.ensures)
     (creation_refused (Unit {0}) manner asked old mid before after (c.read_input.ensures.disk told) (c.read_input.ensures.output told) (c.read_input.ensures.moments told)
-    new (c.create.ensures.beside told) (subst (λ (t : List ℕ). ShowsSilos magic mid.disk → CameThisFar magic t mid new) (sym again) (λ shows. (c.create.ensures.moments told shows).moments)) (λ silo. (c.create.ensures.silo told silo).untouched) reads
+    new (c.create.ensures.beside told) (subst (λ (t : List ℕ). ShowsSilos IsMagic mid.disk → CameThisFar IsMagic t mid new) (sym again) (λ shows. (c.create.ensures.moments told shows).moments)) (λ silo. (c.create.ensures.silo told silo).untouched) reads
     (λ file. g.met.H.Host.seen_may_stay c.args.host.now file told) (λ shows. (c.create.ensures.moments told shows).shows)
     fault (subst (λ (f : Channel → ℕ). CreateFaulted fault f after) (same_counts before between c.in-Ok.ensures.calm) c.in-Err-create.ensures.fault)
     (λ is. (c.in-Err-create.ensures.already is told).reads) (λ is. (c.in-Err-create.ensures.already is told).lasts)
