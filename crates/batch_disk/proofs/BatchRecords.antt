@@ -14,7 +14,7 @@ use Rattle.host_trait.specs.Files.{same_grain}
 use Rattle.host_trait.proofs.Names.{same_grain-is}
 use Rattle.cell_model.specs.Units.{same_unit, Member}
 use Rattle.core_model.specs.declared.effects.Effect.{Effect}
-use Rattle.field_codec.specs.declared.formats.Format.TheVariants.{One}
+use Rattle.field_codec.specs.declared.formats.Format.TheVariants.{Two}
 use Rattle.field_codec.specs.Units.{may_be_unit, HasParent}
 use Rattle.field_codec.specs.declared.units.Numbers.TheVariants.{Logged}
 use Rattle.commit_log.specs.declared.records.Written.{Written}
@@ -109,7 +109,7 @@ types_are voted shape u [] (w ∷ ws) are typed = absurd are
 types_are voted shape u (x ∷ xs) [] are typed = absurd are
 types_are voted shape u (x ∷ xs) (w ∷ ws) are typed = (subst (λ (g : GrainId). IsShapeType shape g.kind) (sym are.0.0) typed.0, types_are voted shape u xs ws are.1 typed.1)
 
-each_voted : (shape : Shape) (voted : List Voted) (es : List Effect) (rs : List CommitRecord) → AreRecordsFor voted es rs → AllByRecursion (RecordFits One) rs → AllByRecursion (MayBeLogged shape) es → AllByRecursion (IsAsWritten voted) es
+each_voted : (shape : Shape) (voted : List Voted) (es : List Effect) (rs : List CommitRecord) → AreRecordsFor voted es rs → AllByRecursion (RecordFits Two) rs → AllByRecursion (MayBeLogged shape) es → AllByRecursion (IsAsWritten voted) es
     → AllByRecursion (IsVoted shape voted) (commits_by es rs)
 each_voted shape voted [] [] are fits typed true_of = tt
 each_voted shape voted [] (r ∷ rs) are fits typed true_of = absurd are
@@ -141,7 +141,7 @@ more_voted some all within u (w ∷ ws) [] are = absurd are
 more_voted some all within u (w ∷ ws) (s ∷ ss) are = (within (record { unit = u; write = w; state = s }) are.0, more_voted some all within u ws ss are.1)
 
 -- the records of a batch's units to commit are a batch that can be sealed
-pub next_batch : (shape : Shape) (voted all : List Voted) (es : List Effect) (rs : List CommitRecord) → ((v : Voted) → Member v voted → Member v all) → AreRecordsFor voted es rs → AllByRecursion (RecordFits One) rs → length rs ≤ 64
+pub next_batch : (shape : Shape) (voted all : List Voted) (es : List Effect) (rs : List CommitRecord) → ((v : Voted) → Member v voted → Member v all) → AreRecordsFor voted es rs → AllByRecursion (RecordFits Two) rs → length rs ≤ 64
     → AllByRecursion (MayBeLogged shape) es → AllByRecursion (IsAsWritten voted) es → IsNextBatch shape all (commits_by es rs)
 next_batch shape voted all es rs within are fits few typed true_of = record {
   size = (let most = commits-length es rs in omega (arith, most, few));

@@ -15,6 +15,7 @@ use Rattle.field_codec.specs.Spelling.{spelling_of_version, spelling_of_values}
 use Rattle.commit_log.specs.declared.records.Written.{Written}
 use Rattle.commit_log.specs.declared.records.CommitRecord.{CommitRecord}
 use Rattle.host_trait.specs.declared.channels.FileId.TheVariants.{Grain}
+use Rattle.field_codec.specs.declared.formats.Format.TheVariants.{Two}
 use Rattle.promise_spec.specs.Records.{Commit}
 use Rattle.promise_spec.specs.Versions.{IsKept, WriteStands, WritesStand}
 use Rattle.batch_disk.specs.ImagesAtRest.{write_end, IsBelow, raised_end, raised_ends, all_writes}
@@ -57,19 +58,19 @@ eight n = refl
 has_bytes : (v : Version) → 8 ≤ length (spelling_of_version v)
 has_bytes v = omega (arith, eight v.unit.0, length-append (to_le_bytes w64 v.unit.0) (spelling_of_values v.state))
 
-pub stands_within : (live : ℕ) (shape : Shape) (image : Image) (unit : UnitNo) (w : Written) (s : List Value) → WriteStands live shape image unit w s → write_end w ≤ length (image (Grain live w.grain))
+pub stands_within : (live : ℕ) (shape : Shape) (image : Image) (unit : UnitNo) (w : Written) (s : List Value) → WriteStands Two live shape image unit w s → write_end w ≤ length (image (Grain live w.grain))
 stands_within live shape image unit w s st =
     let file = image (Grain live w.grain) in
     let size : length (take w.place.len (drop w.place.offset file)) ≡ w.place.len = ap length st.version.here ∙ st.version.version_is.len in
     omega (arith, size, st.version.version_is.len, has_bytes (record { unit = unit; state = s }), length-take w.place.len (drop w.place.offset file), length-drop w.place.offset file)
 
-all_within : (live : ℕ) (shape : Shape) (image : Image) (unit : UnitNo) (ws : List Written) (ss : List (List Value)) → WritesStand live shape image unit ws ss → AllByRecursion (λ w. write_end w ≤ length (image (Grain live w.grain))) ws
+all_within : (live : ℕ) (shape : Shape) (image : Image) (unit : UnitNo) (ws : List Written) (ss : List (List Value)) → WritesStand Two live shape image unit ws ss → AllByRecursion (λ w. write_end w ≤ length (image (Grain live w.grain))) ws
 all_within live shape image unit [] [] st = tt
 all_within live shape image unit [] (s ∷ ss) st = absurd st
 all_within live shape image unit (w ∷ ws) [] st = absurd st
 all_within live shape image unit (w ∷ ws) (s ∷ ss) st = (stands_within live shape image unit w s st.0, all_within live shape image unit ws ss st.1)
 
-pub kept_within : (live : ℕ) (shape : Shape) (image : Image) (batch : List Commit) → AllByRecursion (IsKept live shape image) batch → AllByRecursion (λ w. write_end w ≤ length (image (Grain live w.grain))) (all_writes batch)
+pub kept_within : (live : ℕ) (shape : Shape) (image : Image) (batch : List Commit) → AllByRecursion (IsKept Two live shape image) batch → AllByRecursion (λ w. write_end w ≤ length (image (Grain live w.grain))) (all_writes batch)
 kept_within live shape image [] kept = tt
 kept_within live shape image (c ∷ batch) kept =
     both_parts (λ (w : Written). write_end w ≤ length (image (Grain live w.grain))) c.logged.writes (all_writes batch) (all_within live shape image c.logged.unit c.logged.writes c.states kept.0.whole) (kept_within live shape image batch kept.1)

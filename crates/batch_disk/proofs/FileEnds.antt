@@ -72,11 +72,12 @@ moved_number count n vs u grain g old low kept p is =
 
 -- ---- in bounds
 
-pub raised_bounds : (a b : BatchWriter) (u : UnitNo) (w : Written) → b.slot ≡ a.slot → b.gate_at ≡ a.gate_at → b.programs ≡ a.programs
+pub raised_bounds : (a b : BatchWriter) (u : UnitNo) (w : Written) → b.slot ≡ a.slot → b.gate_at ≡ a.gate_at → b.session ≡ a.session → b.programs ≡ a.programs
     → ((g : GrainId) → placed_in b.places g ≡ moved_by_write (newest_number a) (kept_of a) u w.grain g (placed_in a.places g)) → b.kept ≡ a.kept → KeepsRoom a.ends b.ends → KeepsSeats a.places b.places → ((g : GrainId) → file_end b g ≡ raised_end (file_end a) w g) → write_end w < 2 ^ 63 → IsInBounds a → IsInBounds b
-raised_bounds a b u w slot gate programs places kept room seats ends fits bounds = record {
+raised_bounds a b u w slot gate session programs places kept room seats ends fits bounds = record {
   slot = subst (λ (n : ℕ). n ≤ 1) (sym slot) bounds.slot;
   gate = subst (λ (n : ℕ). n < 2 ^ 63) (sym gate) bounds.gate;
+  session = subst (λ (n : ℕ). n < 2 ^ 63) (sym session) bounds.session;
   ends = λ g. subst (λ (n : ℕ). n < 2 ^ 63) (sym (ends g)) (raised_one-small (file_end a) w fits bounds.ends g);
   kept = kept_can_count a b kept room bounds.kept;
   seats = kept_has_seats a b kept seats bounds.seats;

@@ -8,14 +8,14 @@ use Rattle.base_types.specs.declared.calls.Value.{Value}
 use Rattle.base_types.specs.declared.calls.GrainId.{GrainId}
 use Rattle.base_types.specs.declared.shapes.Shape.{Shape}
 use Rattle.host_trait.specs.World.{Image}
-use Rattle.field_codec.specs.declared.formats.Format.TheVariants.{One}
+use Rattle.field_codec.specs.declared.formats.Format.TheVariants.{Two}
 use Rattle.gate_block.specs.Log.{HasBlocks}
 use Rattle.cell_model.specs.Units.{Member}
 use Rattle.field_codec.specs.declared.units.Numbers.TheVariants.{Logged}
 use Rattle.commit_log.specs.Bodies.{IsRecordIn}
 use Rattle.commit_log.specs.declared.records.Written.{Written}
 use Rattle.host_trait.specs.declared.channels.FileId.TheVariants.{Manager, Program as ProgramFile, Grain}
-use Rattle.silo_spec.specs.Silos.{HasProgram}
+use Rattle.silo_spec.specs.Silos.{IsFormat, HasProgram}
 use Rattle.promise_spec.specs.Records.{Commit}
 use Rattle.promise_spec.specs.Programs.{Program, shape_in}
 use Rattle.promise_spec.specs.Entries.{LogEntry, Recorded, Upgraded, records_among, Log, records_of}
@@ -31,21 +31,21 @@ module _ (live : ℕ) (shape : Shape) (was image : Image) where
   abbrev pub IsSameAt : Written → Type 0
   IsSameAt w = take w.place.len (drop w.place.offset (image (Grain live w.grain))) ≡ take w.place.len (drop w.place.offset (was (Grain live w.grain)))
 
-  pub stands_same : (unit : UnitNo) (w : Written) (s : List Value) → IsSameAt w → WriteStands live shape was unit w s → WriteStands live shape image unit w s
+  pub stands_same : (unit : UnitNo) (w : Written) (s : List Value) → IsSameAt w → WriteStands Two live shape was unit w s → WriteStands Two live shape image unit w s
   stands_same unit w s same st = record { near = st.near; fields = st.fields; version = record { version_is = st.version.version_is; here = same ∙ st.version.here } }
 
-  all_same : (unit : UnitNo) (ws : List Written) (ss : List (List Value)) → AllByRecursion IsSameAt ws → WritesStand live shape was unit ws ss → WritesStand live shape image unit ws ss
+  all_same : (unit : UnitNo) (ws : List Written) (ss : List (List Value)) → AllByRecursion IsSameAt ws → WritesStand Two live shape was unit ws ss → WritesStand Two live shape image unit ws ss
   all_same unit [] [] same st = tt
   all_same unit [] (s ∷ ss) same st = absurd st
   all_same unit (w ∷ ws) [] same st = absurd st
   all_same unit (w ∷ ws) (s ∷ ss) same st = (stands_same unit w s same.0 st.0, all_same unit ws ss same.1 st.1)
 
-  pub kept_one : (c : Commit) → AllByRecursion IsSameAt c.logged.writes → IsKept live shape was c → IsKept live shape image c
+  pub kept_one : (c : Commit) → AllByRecursion IsSameAt c.logged.writes → IsKept Two live shape was c → IsKept Two live shape image c
   kept_one c same kept = record { fits = kept.fits; whole = all_same c.logged.unit c.logged.writes c.states same kept.whole }
 
 -- so do the entries of a log
 pub kept_same : (live : ℕ) (p : Program) (was image : Image) (entries : List LogEntry) → AllByRecursion (λ c. AllByRecursion (IsSameAt live (shape_in p) was image) c.logged.writes) (records_among entries)
-    → AreKept live was p entries → AreKept live image p entries
+    → AreKept Two live was p entries → AreKept Two live image p entries
 kept_same live p was image [] same kept = tt
 kept_same live p was image (Recorded c ∷ entries) same kept = (kept_one live (shape_in p) was image c same.0 kept.0, kept_same live p was image entries same.1 kept.1)
 kept_same live p was image (Upgraded q ∷ entries) same kept = (kept.0, kept_same live q was image entries same kept.1)
@@ -71,7 +71,7 @@ AreVoted voted unit (w ∷ ws) (s ∷ ss) = Member (record { unit = unit; write 
 
 -- a record within the limits, all of whose versions the votes wrote
 pub record IsVoted (shape : Shape) (voted : List Voted) (c : Commit) : Type 0 where
-  pub fits : IsRecordIn One Logged shape c.logged
+  pub fits : IsRecordIn Two Logged shape c.logged
   pub whole : AreVoted voted c.logged.unit c.logged.writes c.states
 
 -- the records of the open batch's units to commit
@@ -80,28 +80,29 @@ pub record IsNextBatch (shape : Shape) (voted : List Voted) (batch : List Commit
   pub each : AllByRecursion (IsVoted shape voted) batch
 
 -- what the votes wrote of a unit stands
-pub voted_stand : (live : ℕ) (shape : Shape) (image : Image) (voted : List Voted) (unit : UnitNo) (ws : List Written) (ss : List (List Value)) → AreVoted voted unit ws ss → AllByRecursion (StandsIn live shape image) voted → WritesStand live shape image unit ws ss
+pub voted_stand : (live : ℕ) (shape : Shape) (image : Image) (voted : List Voted) (unit : UnitNo) (ws : List Written) (ss : List (List Value)) → AreVoted voted unit ws ss → AllByRecursion (StandsIn live shape image) voted → WritesStand Two live shape image unit ws ss
 voted_stand live shape image voted unit [] [] are each = tt
 voted_stand live shape image voted unit [] (s ∷ ss) are each = absurd are
 voted_stand live shape image voted unit (w ∷ ws) [] are each = absurd are
 voted_stand live shape image voted unit (w ∷ ws) (s ∷ ss) are each = (each_of (StandsIn live shape image) voted (record { unit = unit; write = w; state = s }) each are.0, voted_stand live shape image voted unit ws ss are.1 each)
 
-pub batch_stands : (live : ℕ) (shape : Shape) (image : Image) (voted : List Voted) (batch : List Commit) → AllByRecursion (IsVoted shape voted) batch → AllByRecursion (StandsIn live shape image) voted → AllByRecursion (IsKept live shape image) batch
+pub batch_stands : (live : ℕ) (shape : Shape) (image : Image) (voted : List Voted) (batch : List Commit) → AllByRecursion (IsVoted shape voted) batch → AllByRecursion (StandsIn live shape image) voted → AllByRecursion (IsKept Two live shape image) batch
 batch_stands live shape image voted [] are each = tt
 batch_stands live shape image voted (c ∷ batch) are each = (record { fits = are.0.fits; whole = voted_stand live shape image voted c.logged.unit c.logged.writes c.states are.0.whole each }, batch_stands live shape image voted batch are.1 each)
 
 -- a checkpoint stands whole in an image as in another, where the bytes at its places are the same
 saved_same : (live : ℕ) (p : Program) (was image : Image) (ss : List Saved) → AllByRecursion (λ (s : Saved). IsSameAt live (shape_in p) was image s.write) ss
-    → AllByRecursion (IsSaved live p was) ss → AllByRecursion (IsSaved live p image) ss
+    → AllByRecursion (IsSaved Two live p was) ss → AllByRecursion (IsSaved Two live p image) ss
 saved_same live p was image [] same all = tt
 saved_same live p was image (s ∷ ss) same all =
     (record { fits = all.0.fits; unit = all.0.unit; stands = stands_same live (shape_in p) was image s.unit s.write s.state same.0 all.0.stands }, saved_same live p was image ss same.1 all.1)
 
-begins_same : (live : ℕ) (p : Program) (was image : Image) (b : Beginning) → AreNamedBy (IsSameAt live (shape_in p) was image) b → BeginsWhole live p was b → BeginsWhole live p image b
+begins_same : (live : ℕ) (p : Program) (was image : Image) (b : Beginning) → AreNamedBy (IsSameAt live (shape_in p) was image) b → BeginsWhole Two live p was b → BeginsWhole Two live p image b
 begins_same live p was image Fresh same whole = tt
 begins_same live p was image (From ck) same whole = record {
   count = whole.count;
   next = whole.next;
+  session = whole.session;
   sizes = whole.sizes;
   order = whole.order;
   each = saved_same live p was image (saved_by ck) same whole.each;
@@ -118,14 +119,14 @@ named_lead P Q (From ck) lead all = saved_lead P Q (saved_by ck) lead all
 
 -- A log stands in an image as in another, where the blocks stand there, the header and the program's file are the same, and so are
 -- the bytes at its places.
-pub stands_up_same : (live : ℕ) (shape : Shape) (was image : Image) (log : Log) (bodies : List (List ℕ)) (gate : ℕ) → (is : StandsUpTo live was log bodies gate)
+pub stands_up_same : (live : ℕ) (shape : Shape) (was image : Image) (log : Log) (bodies : List (List ℕ)) (gate reached : ℕ) → (is : StandsUpTo Two live was log bodies gate reached)
     → take 15 (image (Manager live)) ≡ take 15 (was (Manager live)) → image (ProgramFile live) ≡ was (ProgramFile live) → HasBlocks bodies gate (image (Manager live))
-    → AllByRecursion (λ c. AllByRecursion (IsSameAt live shape was image) c.logged.writes) (records_of log) → AreNamedBy (IsSameAt live shape was image) is.begins → StandsUpTo live image log bodies gate
-stands_up_same live shape was image log bodies gate is head same blocks places begun =
+    → AllByRecursion (λ c. AllByRecursion (IsSameAt live shape was image) c.logged.writes) (records_of log) → AreNamedBy (IsSameAt live shape was image) is.begins → StandsUpTo Two live image log bodies gate reached
+stands_up_same live shape was image log bodies gate reached is head same blocks places begun =
     let byte : (i : ℕ) → i < 15 → slice_index (image (Manager live)) i ≡ slice_index (was (Manager live)) i =
     λ i low. sym (get_or-take 15 (image (Manager live)) i 0 low) ∙ ap (λ (l : List ℕ). slice_index l i) head ∙ get_or-take 15 (was (Manager live)) i 0 low in
     record {
-      silo = header_silo (image (Manager live)) (was (Manager live)) head (omega (arith, blocks.at, blocks.within)) is.silo;
+      silo = header_silo (IsFormat Two) (image (Manager live)) (was (Manager live)) head (omega (arith, blocks.at, blocks.within)) is.silo;
       program = is.program;
       checked = is.checked;
       text = subst (HasProgram is.program.text) (sym same) is.text;
@@ -136,6 +137,7 @@ stands_up_same live shape was image log bodies gate is head same blocks places b
       whole = begins_same live is.program was image is.begins begun is.whole;
       blocks = is.blocks;
       fit = is.fit;
+      never_fall = is.never_fall;
       spelled = is.spelled;
       stand = blocks;
       entries = is.entries;
@@ -143,17 +145,17 @@ stands_up_same live shape was image log bodies gate is head same blocks places b
     }
 
 -- it begins as there
-pub begins_up_same : (live : ℕ) (shape : Shape) (was image : Image) (log : Log) (bodies : List (List ℕ)) (gate : ℕ) → (is : StandsUpTo live was log bodies gate)
+pub begins_up_same : (live : ℕ) (shape : Shape) (was image : Image) (log : Log) (bodies : List (List ℕ)) (gate reached : ℕ) → (is : StandsUpTo Two live was log bodies gate reached)
     → (head : take 15 (image (Manager live)) ≡ take 15 (was (Manager live))) → (same : image (ProgramFile live) ≡ was (ProgramFile live)) → (blocks : HasBlocks bodies gate (image (Manager live)))
     → (places : AllByRecursion (λ c. AllByRecursion (IsSameAt live shape was image) c.logged.writes) (records_of log)) → (begun : AreNamedBy (IsSameAt live shape was image) is.begins)
-    → (stands_up_same live shape was image log bodies gate is head same blocks places begun).begins ≡ is.begins
+    → (stands_up_same live shape was image log bodies gate reached is head same blocks places begun).begins ≡ is.begins
 unfolding stands_up_same
-begins_up_same live shape was image log bodies gate is head same blocks places begun = refl
+begins_up_same live shape was image log bodies gate reached is head same blocks places begun = refl
 
 -- each image's log between two steps
-pub rests_log : (live : ℕ) (shape : Shape) (head : List ℕ) (log : Log) (bodies : List (List ℕ)) (gate : ℕ) (ends : GrainId → ℕ) (voted : List Voted) (image : Image)
-    → IsAtRest live shape head log bodies gate ends voted image → IsLog live image log
-rests_log live shape head log bodies gate ends voted image rests = record {
+pub rests_log : (live : ℕ) (shape : Shape) (head : List ℕ) (log : Log) (bodies : List (List ℕ)) (gate reached : ℕ) (ends : GrainId → ℕ) (voted : List Voted) (image : Image)
+    → IsAtRest live shape head log bodies gate reached ends voted image → IsLog live image log
+rests_log live shape head log bodies gate reached ends voted image rests = record {
   is_live = rests.is_live;
-  is = record { bodies = bodies; gate = gate; stands = rests.stands; closed = rests.closed };
+  is = record { bodies = bodies; gate = gate; session = reached; stands = rests.stands; closed = rests.closed };
 }

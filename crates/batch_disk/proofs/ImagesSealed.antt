@@ -1,5 +1,5 @@
 -- What each image keeps while the records of a batch are sealed.
-use Rattle.std.proofs.Common.{◌≡◌, ◌≢◌, ◌⊎◌, inl, inr, ℕ, ◌+◌, ◌-◌, ◌<◌, ◌≤◌, List, [], ◌∷◌, ◌++◌, length, slice_index, take, drop, map, true, false, refl, sym, ◌∙◌, ap, subst, arith, append_assoc, length-append}
+use Rattle.std.proofs.Common.{◌≡◌, ◌≢◌, ◌⊎◌, inl, inr, ℕ, ◌+◌, ◌-◌, ◌<◌, ◌≤◌, ◌^◌, List, [], ◌∷◌, ◌++◌, length, slice_index, take, drop, map, true, false, refl, sym, ◌∙◌, ap, subst, arith, append_assoc, length-append}
 use Rattle.std.specs.List.{AllByRecursion}
 use Rattle.std.proofs.lemmas.List.{length-take, take_at, drop_at}
 use Rattle.std.proofs.lemmas.Bool.{cases_lt, cases_eq}
@@ -14,6 +14,7 @@ use Rattle.host_trait.proofs.Crashes.{Tears-overlaid, Tears-at}
 use Rattle.host_trait.proofs.Moments.{met, weaker}
 use Rattle.host_trait.proofs.Names.{cases_file}
 use Rattle.host_trait.proofs.Runs.{image_from, with_bytes-there, with_bytes-other}
+use Rattle.field_codec.specs.declared.formats.Format.TheVariants.{Two}
 use Rattle.gate_block.specs.Blocks.{block_of}
 use Rattle.gate_block.specs.Log.{HasBlocks, LogsUpTo, SomeLogs, EachLogs, EachLogsOrMore}
 use Rattle.gate_block.proofs.Logs.{blocks_same, still_closed, one_log}
@@ -26,8 +27,9 @@ use Rattle.promise_spec.specs.Programs.{shape_in}
 use Rattle.promise_spec.specs.Entries.{Standing, Log, records_of, standing_of, grown}
 use Rattle.promise_spec.specs.Versions.{IsKept}
 use Rattle.promise_spec.specs.Blocks.{Records, body_of}
+use Rattle.silo_spec.specs.Silos.{IsMagic}
 use Rattle.silo_spec.specs.Slots.{IsLive}
-use Rattle.promise_spec.specs.Logs.{magic, StandsUpTo, IsLog}
+use Rattle.promise_spec.specs.Logs.{StandsUpTo, IsLog}
 use Rattle.promise_spec.proofs.Standings.{program_stays, grown_records, grown_stands}
 use Rattle.promise_spec.proofs.Growing.{sealed as grows, sealed_begins as grows_begin}
 use Rattle.promise_spec.proofs.Slots.{live_moves, other_slot}
@@ -59,10 +61,10 @@ with_left disk image file c is left f = elim (cases_file f file) [
   | inr other ↦ subst (λ (l : List ℕ). MayLeave (disk f) l) (sym (with_bytes-other image file c f other)) (is f)
 ]
 
-module _ (live : ℕ) (shape : Shape) (head : List ℕ) (log : Log) (bodies : List (List ℕ)) (gate : ℕ) (ends : GrainId → ℕ) (voted : List Voted) (batch : List Commit) (named : PlacesAreNamed shape log ends) (next : IsNextBatch shape voted batch) where
+module _ (live : ℕ) (shape : Shape) (head : List ℕ) (log : Log) (bodies : List (List ℕ)) (gate reached session : ℕ) (ends : GrainId → ℕ) (voted : List Voted) (batch : List Commit) (named : PlacesAreNamed shape log ends) (later : reached ≤ session) (may : session < 2 ^ 63) (next : IsNextBatch shape voted batch) where
   -- ---- one image
 
-  module _ (was image : Image) (at : IsAtRest live shape head log bodies gate ends voted was) (others : (f : FileId) → f ≢ (Manager live) → image f ≡ was f) (n : ℕ) (torn : Tears gate n (was (Manager live)) (image (Manager live))) where
+  module _ (was image : Image) (at : IsAtRest live shape head log bodies gate reached ends voted was) (others : (f : FileId) → f ≢ (Manager live) → image f ≡ was f) (n : ℕ) (torn : Tears gate n (was (Manager live)) (image (Manager live))) where
     grains : (g : GrainId) → image (Grain live g) ≡ was (Grain live g)
     grains g = others (Grain live g) (λ e. absurd cc)
 
@@ -88,15 +90,15 @@ module _ (live : ℕ) (shape : Shape) (head : List ℕ) (log : Log) (bodies : Li
     same_begun : AreNamedBy (IsSameAt live shape was image) at.stands.begins
     same_begun = named_lead (IsBelow ends) (IsSameAt live shape was image) at.stands.begins (λ w low. any_same w) at.begun
 
-    pub still_stands : StandsUpTo live image log bodies gate
-    still_stands = stands_up_same live shape was image log bodies gate at.stands same_head same_program still_front same_places same_begun
+    pub still_stands : StandsUpTo Two live image log bodies gate reached
+    still_stands = stands_up_same live shape was image log bodies gate reached at.stands same_head same_program still_front same_places same_begun
 
     still_begun : AreNamedBy (IsBelow ends) still_stands.begins
     unfolding still_stands
-    still_begun = subst (AreNamedBy (IsBelow ends)) (sym (begins_up_same live shape was image log bodies gate at.stands same_head same_program still_front same_places same_begun)) at.begun
+    still_begun = subst (AreNamedBy (IsBelow ends)) (sym (begins_up_same live shape was image log bodies gate reached at.stands same_head same_program still_front same_places same_begun)) at.begun
 
     -- the slot is live still
-    still_live : IsLive magic live image
+    still_live : IsLive IsMagic live image
     still_live = live_moves live was image at.is_live same_head still_stands.silo.long (inl (others (Manager (1 - live)) (λ e. other_slot live at.is_live.slot (sym e))))
 
     still_long : (g : GrainId) → ends g ≤ length (image (Grain live g))
@@ -105,38 +107,38 @@ module _ (live : ℕ) (shape : Shape) (head : List ℕ) (log : Log) (bodies : Li
     still_voted : AllByRecursion (StandsIn live shape image) voted
     still_voted = each_leads (StandsIn live shape was) (StandsIn live shape image) (λ v st. stands_same live shape was image v.unit v.write v.state (any_same v.write) st) voted at.stand
 
-    whole_batch : AllByRecursion (IsKept live shape image) batch
+    whole_batch : AllByRecursion (IsKept Two live shape image) batch
     whole_batch = batch_stands live shape image voted batch next.each still_voted
 
-    pub rests_still : LogsUpTo bodies gate (image (Manager live)) → IsAtRest live shape head log bodies gate ends voted image
+    pub rests_still : LogsUpTo bodies gate (image (Manager live)) → IsAtRest live shape head log bodies gate reached ends voted image
     rests_still logs = record { is_live = still_live; header = still_head; stands = still_stands; closed = logs.closed; begun = still_begun; long = still_long; stand = still_voted }
 
     pub log_still : LogsUpTo bodies gate (image (Manager live)) → IsLog live image log
     log_still logs = record {
       is_live = still_live;
-      is = record { bodies = bodies; gate = gate; stands = still_stands; closed = logs.closed };
+      is = record { bodies = bodies; gate = gate; session = reached; stands = still_stands; closed = logs.closed };
     }
 
     -- and with the batch's block behind it, up to the next one
-    more_stands : (to : ℕ) → LogsUpTo (bodies ++ body_of (Records batch) ∷ []) to (image (Manager live)) → StandsUpTo live image (grown log batch) (bodies ++ body_of (Records batch) ∷ []) to
+    more_stands : (to : ℕ) → LogsUpTo (bodies ++ body_of Two (Records session batch) ∷ []) to (image (Manager live)) → StandsUpTo Two live image (grown log batch) (bodies ++ body_of Two (Records session batch) ∷ []) to session
     more_stands to logs =
-        grows live image log bodies gate still_stands batch to next.size (subst (λ (s : Shape). AllByRecursion (IsKept live s image) batch) named.shape_is whole_batch) logs.blocks
+        grows Two live image log bodies gate reached still_stands session later may batch to next.size (subst (λ (s : Shape). AllByRecursion (IsKept Two live s image) batch) named.shape_is whole_batch) logs.blocks
 
-    more_begun : (to : ℕ) → (logs : LogsUpTo (bodies ++ body_of (Records batch) ∷ []) to (image (Manager live))) → AreNamedBy (IsBelow (raised_ends ends (all_writes batch))) (more_stands to logs).begins
+    more_begun : (to : ℕ) → (logs : LogsUpTo (bodies ++ body_of Two (Records session batch) ∷ []) to (image (Manager live))) → AreNamedBy (IsBelow (raised_ends ends (all_writes batch))) (more_stands to logs).begins
     unfolding more_stands
     more_begun to logs =
         subst (AreNamedBy (IsBelow (raised_ends ends (all_writes batch))))
-        (sym (grows_begin live image log bodies gate still_stands batch to next.size (subst (λ (s : Shape). AllByRecursion (IsKept live s image) batch) named.shape_is whole_batch) logs.blocks))
+        (sym (grows_begin Two live image log bodies gate reached still_stands session later may batch to next.size (subst (λ (s : Shape). AllByRecursion (IsKept Two live s image) batch) named.shape_is whole_batch) logs.blocks))
         (named_lead (IsBelow ends) (IsBelow (raised_ends ends (all_writes batch))) still_stands.begins (λ w low. omega (arith, low, raised_up ends (all_writes batch) w.grain)) still_begun)
 
-    pub log_more : (to : ℕ) → LogsUpTo (bodies ++ body_of (Records batch) ∷ []) to (image (Manager live)) → IsLog live image (grown log batch)
+    pub log_more : (to : ℕ) → LogsUpTo (bodies ++ body_of Two (Records session batch) ∷ []) to (image (Manager live)) → IsLog live image (grown log batch)
     log_more to logs = record {
       is_live = still_live;
-      is = record { bodies = bodies ++ body_of (Records batch) ∷ []; gate = to; stands = more_stands to logs; closed = logs.closed };
+      is = record { bodies = bodies ++ body_of Two (Records session batch) ∷ []; gate = to; session = session; stands = more_stands to logs; closed = logs.closed };
     }
 
-    pub rests_more : (to : ℕ) → LogsUpTo (bodies ++ body_of (Records batch) ∷ []) to (image (Manager live))
-        → IsAtRest live shape head (grown log batch) (bodies ++ body_of (Records batch) ∷ []) to (raised_ends ends (all_writes batch)) [] image
+    pub rests_more : (to : ℕ) → LogsUpTo (bodies ++ body_of Two (Records session batch) ∷ []) to (image (Manager live))
+        → IsAtRest live shape head (grown log batch) (bodies ++ body_of Two (Records session batch) ∷ []) to session (raised_ends ends (all_writes batch)) [] image
     rests_more to logs = record {
       is_live = still_live;
       header = still_head;
@@ -163,7 +165,7 @@ module _ (live : ℕ) (shape : Shape) (head : List ℕ) (log : Log) (bodies : Li
 
   -- ---- moments
 
-  module _ (old : World) (is : EachImage (IsAtRest live shape head log bodies gate ends voted) old.disk) (n : ℕ) where
+  module _ (old : World) (is : EachImage (IsAtRest live shape head log bodies gate reached ends voted) old.disk) (n : ℕ) where
     seal_rest : (m : Moment) → ChangesFile (Manager live) (Tears gate n) old m → LeavesRest live head old m
     seal_rest m changes = record {
       output = changes.output;
@@ -174,7 +176,7 @@ module _ (live : ℕ) (shape : Shape) (head : List ℕ) (log : Log) (bodies : Li
     }
 
     -- at each moment each image's log is as it was, or has the batch whole
-    pub seal_seam : (m : Moment) → ChangesFile (Manager live) (Tears gate n) old m → EachLogsOrMore bodies (body_of (Records batch)) gate (Manager live) m.disk → IsSeam live head log batch old m
+    pub seal_seam : (m : Moment) → ChangesFile (Manager live) (Tears gate n) old m → EachLogsOrMore bodies (body_of Two (Records session batch)) gate (Manager live) m.disk → IsSeam live head log batch old m
     seal_seam m changes logs = record {
       rest = seal_rest m changes;
       logs = λ image left.
@@ -182,7 +184,7 @@ module _ (live : ℕ) (shape : Shape) (head : List ℕ) (log : Log) (bodies : Li
           let at = is from.from from.possible in
           elim (logs (image (Manager live)) (left (Manager live))) [
             | inl as_it_was ↦ inl (log_still from.from image at from.others n from.changed as_it_was)
-            | inr more ↦ inr (log_more from.from image at from.others n from.changed (gate + length (block_of (body_of (Records batch)))) more)
+            | inr more ↦ inr (log_more from.from image at from.others n from.changed (gate + length (block_of (body_of Two (Records session batch)))) more)
           ];
     }
 
@@ -195,11 +197,11 @@ module _ (live : ℕ) (shape : Shape) (head : List ℕ) (log : Log) (bodies : Li
           log_still from.from image (is from.from from.possible) from.others n from.changed (logs (image (Manager live)) (left (Manager live)));
     }
 
-    pub seal_moments : (new : World) → Passes (ChangesFile (Manager live) (Tears gate n) old) old.past new.past → Passes (λ m. EachLogsOrMore bodies (body_of (Records batch)) gate (Manager live) m.disk) old.past new.past
+    pub seal_moments : (new : World) → Passes (ChangesFile (Manager live) (Tears gate n) old) old.past new.past → Passes (λ m. EachLogsOrMore bodies (body_of Two (Records session batch)) gate (Manager live) m.disk) old.past new.past
         → Passes (IsSeam live head log batch old) old.past new.past
     seal_moments new run logs =
-        weaker (λ m. ChangesFile (Manager live) (Tears gate n) old m × EachLogsOrMore bodies (body_of (Records batch)) gate (Manager live) m.disk) (IsSeam live head log batch old)
-        (λ m both. seal_seam m both.0 both.1) (met (ChangesFile (Manager live) (Tears gate n) old) (λ m. EachLogsOrMore bodies (body_of (Records batch)) gate (Manager live) m.disk) run logs)
+        weaker (λ m. ChangesFile (Manager live) (Tears gate n) old m × EachLogsOrMore bodies (body_of Two (Records session batch)) gate (Manager live) m.disk) (IsSeam live head log batch old)
+        (λ m both. seal_seam m both.0 both.1) (met (ChangesFile (Manager live) (Tears gate n) old) (λ m. EachLogsOrMore bodies (body_of Two (Records session batch)) gate (Manager live) m.disk) run logs)
 
     pub still_moments : (new : World) → Passes (ChangesFile (Manager live) (Tears gate n) old) old.past new.past → Passes (λ m. EachLogs bodies gate (Manager live) m.disk) old.past new.past
         → Passes (KeepsLog live head log old) old.past new.past
@@ -210,19 +212,19 @@ module _ (live : ℕ) (shape : Shape) (head : List ℕ) (log : Log) (bodies : Li
     -- ---- after it
 
     module _ (new : World) (moments : Passes (ChangesFile (Manager live) (Tears gate n) old) old.past new.past) (changes : ChangesFile (Manager live) (Tears gate n) old (moment_of new)) where
-      pub rests_sealed : (to : ℕ) → EachLogs (bodies ++ body_of (Records batch) ∷ []) to (Manager live) new.disk → EachImage (IsAtRest live shape head (grown log batch) (bodies ++ body_of (Records batch) ∷ []) to (raised_ends ends (all_writes batch)) []) new.disk
+      pub rests_sealed : (to : ℕ) → EachLogs (bodies ++ body_of Two (Records session batch) ∷ []) to (Manager live) new.disk → EachImage (IsAtRest live shape head (grown log batch) (bodies ++ body_of Two (Records session batch) ∷ []) to session (raised_ends ends (all_writes batch)) []) new.disk
       rests_sealed to logs image left =
           let from = image_from (Manager live) (Tears gate n) old (moment_of new) changes image left in
           rests_more from.from image (is from.from from.possible) from.others n from.changed to (logs (image (Manager live)) (left (Manager live)))
 
-      pub rests_unsealed : EachLogs bodies gate (Manager live) new.disk → EachImage (IsAtRest live shape head log bodies gate ends voted) new.disk
+      pub rests_unsealed : EachLogs bodies gate (Manager live) new.disk → EachImage (IsAtRest live shape head log bodies gate reached ends voted) new.disk
       rests_unsealed logs image left =
           let from = image_from (Manager live) (Tears gate n) old (moment_of new) changes image left in
           rests_still from.from image (is from.from from.possible) from.others n from.changed (logs (image (Manager live)) (left (Manager live)))
 
-      module _ (old_seen : (f : FileId) → MayLeave (old.disk f) (old.disk f).seen) (new_seen : (f : FileId) → MayLeave (new.disk f) (new.disk f).seen) (block : List ℕ) (is_block : block ≡ block_of (body_of (Records batch))) where
+      module _ (old_seen : (f : FileId) → MayLeave (old.disk f) (old.disk f).seen) (new_seen : (f : FileId) → MayLeave (new.disk f) (new.disk f).seen) (block : List ℕ) (is_block : block ≡ block_of (body_of Two (Records session batch))) where
         -- the image as it reads, with these bytes in the manager file, has the batch
-        some_has : SomeLogs (bodies ++ body_of (Records batch) ∷ []) (gate + length block) (Manager live) new.disk → SomeImage (λ image. IsLog live image (grown log batch)) new.disk
+        some_has : SomeLogs (bodies ++ body_of Two (Records session batch) ∷ []) (gate + length block) (Manager live) new.disk → SomeImage (λ image. IsLog live image (grown log batch)) new.disk
         some_has some =
             let image : Image = with_bytes (λ f. (new.disk f).seen) (Manager live) some.image in
             let left : IsImage new.disk image = with_left new.disk (λ f. (new.disk f).seen) (Manager live) some.image new_seen some.left in
@@ -231,23 +233,23 @@ module _ (live : ℕ) (shape : Shape) (head : List ℕ) (log : Log) (bodies : Li
               image = image;
               left = left;
               holds = log_more from.from image (is from.from from.possible) from.others n from.changed (gate + length block)
-                  (subst (λ (l : List ℕ). LogsUpTo (bodies ++ body_of (Records batch) ∷ []) (gate + length block) l) (sym (with_bytes-there (λ f. (new.disk f).seen) (Manager live) some.image)) some.logs);
+                  (subst (λ (l : List ℕ). LogsUpTo (bodies ++ body_of Two (Records session batch) ∷ []) (gate + length block) l) (sym (with_bytes-there (λ f. (new.disk f).seen) (Manager live) some.image)) some.logs);
             }
 
         -- the gate of an image that has the batch is open
-        is_open : (c : List ℕ) → HasBlocks bodies gate c → LogsUpTo (bodies ++ body_of (Records batch) ∷ []) (gate + length block) c → slice_index c gate ≡ 1
+        is_open : (c : List ℕ) → HasBlocks bodies gate c → LogsUpTo (bodies ++ body_of Two (Records session batch) ∷ []) (gate + length block) c → slice_index c gate ≡ 1
         is_open c front logs = elim (cases_eq (slice_index c gate) 1) [
           | inl one ↦ one
           | inr closed ↦ absurd (
-              let same : bodies ++ body_of (Records batch) ∷ [] ≡ bodies =
-              (one_log (bodies ++ body_of (Records batch) ∷ []) bodies (gate + length block) gate c logs (record { blocks = front; closed = closed })).0 in
-              omega (arith, ap length same, length-append bodies (body_of (Records batch) ∷ []))
+              let same : bodies ++ body_of Two (Records session batch) ∷ [] ≡ bodies =
+              (one_log (bodies ++ body_of Two (Records session batch) ∷ []) bodies (gate + length block) gate c logs (record { blocks = front; closed = closed })).0 in
+              omega (arith, ap length same, length-append bodies (body_of Two (Records session batch) ∷ []))
               )
         ]
 
         -- which of the two a doubt is
         which_doubt : ((c : List ℕ) → MayLeave (new.disk (Manager live)) c → HasBlocks bodies gate c) → gate < length (staged live gate block old) → slice_index (staged live gate block old) gate ≢ 1
-            → StaysClosed live bodies gate block old new ⊎ SomeLogs (bodies ++ body_of (Records batch) ∷ []) (gate + length block) (Manager live) new.disk
+            → StaysClosed live bodies gate block old new ⊎ SomeLogs (bodies ++ body_of Two (Records session batch) ∷ []) (gate + length block) (Manager live) new.disk
             → ((may_open gate (new.disk (Manager live)) ≡ false) × NoneHas live head log old new)
             ⊎ ((may_open gate (new.disk (Manager live)) ≡ true) × SomeImage (λ image. IsLog live image (grown log batch)) new.disk)
         which_doubt front long shut (inl closed) =
@@ -257,8 +259,8 @@ module _ (live : ℕ) (shape : Shape) (head : List ℕ) (log : Log) (bodies : Li
             )
         which_doubt front long shut (inr some) = inr (opens gate (new.disk (Manager live)) some.image some.left (is_open some.image (front some.image some.left) some.logs), some_has some)
 
-        pub in_doubt : EndsAs live InDoubt gate block old new → EachLogsOrMore bodies (body_of (Records batch)) gate (Manager live) new.disk → DoubtAs live InDoubt bodies (body_of (Records batch)) gate block old new
-            → IsSealInDoubt live head log bodies batch gate old new
+        pub in_doubt : EndsAs live InDoubt gate block old new → EachLogsOrMore bodies (body_of Two (Records session batch)) gate (Manager live) new.disk → DoubtAs live InDoubt bodies (body_of Two (Records session batch)) gate block old new
+            → IsSealInDoubt live head log bodies batch gate session old new
         in_doubt ends_as logs which =
             let file = (old.disk (Manager live)).seen in
             let front = is (λ f. (old.disk f).seen) old_seen in
@@ -280,6 +282,8 @@ module _ (live : ℕ) (shape : Shape) (head : List ℕ) (log : Log) (bodies : Li
             record {
               rest = seal_rest (moment_of new) changes;
               logs = (seal_seam (moment_of new) changes logs).logs;
+              reached = reached;
+              later = later;
               front = λ image left.
                   let from = image_from (Manager live) (Tears gate n) old (moment_of new) changes image left in
                   still_stands from.from image (is from.from from.possible) from.others n from.changed;

@@ -13,7 +13,7 @@ use Rattle.host_trait.specs.World.{World, Image, Passes, with_bytes}
 use Rattle.host_trait.specs.Runs.{RunsOnFile}
 use Rattle.host_trait.proofs.Crashes.{Tears-overlaid}
 use Rattle.host_trait.proofs.Runs.{with_bytes-there}
-use Rattle.field_codec.specs.declared.formats.Format.TheVariants.{One}
+use Rattle.field_codec.specs.declared.formats.Format.TheVariants.{Two}
 use Rattle.gate_block.specs.Blocks.{block_of}
 use Rattle.gate_block.specs.Gates.{IsClosedAt}
 use Rattle.gate_block.specs.Log.{LogsUpTo, EachLogs, EachLogsOrMore}
@@ -23,7 +23,9 @@ use Rattle.commit_log.specs.declared.records.CommitRecord.{CommitRecord}
 use Rattle.commit_log.specs.declared.gate.Sealing.{Sealing}
 use Rattle.commit_log.specs.declared.gate.Sealing.TheVariants.{NotSealed, InDoubt}
 use Rattle.commit_log.specs.SealImages.{staged, EndsAs, IsNextBlock, LogsAs, DoubtAs}
-use Rattle.commit_log.specs.Spelling.{spelling_of_body, spelling_of_block, RecordsFit}
+use Rattle.commit_log.specs.declared.contents.Body.TheVariants as body
+use Rattle.commit_log.specs.Sessions.{spelling_with_session}
+use Rattle.commit_log.specs.Spelling.{RecordsFit}
 use Rattle.core_model.specs.declared.effects.Effect.{Effect}
 use Rattle.promise_spec.specs.Records.{Commit}
 use Rattle.promise_spec.specs.Entries.{Log, grown}
@@ -31,7 +33,7 @@ use Rattle.promise_spec.specs.Blocks.{Records, body_of}
 use Rattle.batch_disk.specs.ImagesAtRest.{write_end, PlacesAreNamed, Voted, IsAtRest, raised_ends, all_writes}
 use Rattle.batch_disk.specs.Moments.{KeepsLog}
 use Rattle.batch_disk.specs.Writers.{file_end, kept_of, voted_of, CanCount, HasSeat, FitsSlot, KeepsDisk, HasSameEnds}
-use Rattle.batch_disk.specs.Records.{commits_by, AreRecordsFor, IsPlaceOfOne, MayBeLogged, IsAsWritten}
+use Rattle.batch_disk.specs.Records.{commits_by, sealed_body, AreRecordsFor, IsPlaceOfOne, MayBeLogged, IsAsWritten}
 use Rattle.batch_disk.specs.Seals.{StandsAfter, SealsAs}
 use Rattle.batch_disk.specs.declared.writer.BatchWriter.{BatchWriter}
 use Rattle.batch_disk.proofs.Lists.{each_of, each_leads, all_lists, flat_of_map}
@@ -79,7 +81,7 @@ module _ (live : ℕ) (a b : BatchWriter) (n most : ℕ) (old new : World) (run 
   lie_still : (vs : List Voted) → AllByRecursion (LiesIn live old.disk) vs → AllByRecursion (LiesIn live new.disk) vs
   lie_still vs all = each_leads (LiesIn live old.disk) (LiesIn live new.disk) (λ v low. subst (λ (s : FileState). write_end v.write ≤ length s.seen) (sym (grain_same v.write.grain)) low) vs all
 
-  pub fits_sealed : (to : ℕ) (rs : List CommitRecord) (block : List ℕ) → a.in_doubt ≡ false → block ≡ spelling_of_block rs → AllByRecursion (λ r. AllByRecursion (IsPlaceOfOne (kept_of a)) r.writes) rs
+  pub fits_sealed : (to : ℕ) (rs : List CommitRecord) (block : List ℕ) → a.in_doubt ≡ false → block ≡ block_of (sealed_body a.session rs) → AllByRecursion (λ r. AllByRecursion (IsPlaceOfOne (kept_of a)) r.writes) rs
       → new.disk (Manager live) ≡ settled (overlaid (staged live a.gate_at block old) a.gate_at (1 ∷ [])) → to ≡ a.gate_at + length block
       → b.gate_at ≡ to → kept_of b ≡ [] → ((g : GrainId) → file_end b g ≡ raised_ends (file_end a) (flat_map (λ r. r.writes) rs) g) → FitsSlot live b new.disk
   fits_sealed to rs block sure is are there next gate none ends =
@@ -90,7 +92,7 @@ module _ (live : ℕ) (a b : BatchWriter) (n most : ℕ) (old new : World) (run 
       all_lists (λ (w : Written). write_end w ≤ length (new.disk (Grain live w.grain)).seen) (λ (r : CommitRecord). r.writes) rs
       (each_leads (λ (r : CommitRecord). AllByRecursion (IsPlaceOfOne (kept_of a)) r.writes) (λ (r : CommitRecord). AllByRecursion (λ (w : Written). write_end w ≤ length (new.disk (Grain live w.grain)).seen) r.writes)
       (λ r one. of_kept (λ (w : Written). write_end w ≤ length (new.disk (Grain live w.grain)).seen) (kept_of a) lie r.writes one) rs are) in
-      let body = spelling_of_body rs in
+      let body = sealed_body a.session rs in
       let file = (old.disk (Manager live)).seen in
       let whole : staged live a.gate_at block old ≡ overlaid file (a.gate_at + 1) (block_of body) = ap (λ (l : List ℕ). overlaid file (a.gate_at + 1) l) is in
       let now : (new.disk (Manager live)).seen ≡ overlaid (overlaid file (a.gate_at + 1) (block_of body)) a.gate_at (1 ∷ []) =
@@ -119,7 +121,7 @@ module _ (live : ℕ) (a b : BatchWriter) (n most : ℕ) (old new : World) (run 
 
 -- ---- in each image
 
-module _ (live : ℕ) (shape : Shape) (head : List ℕ) (log : Log) (bodies : List (List ℕ)) (batch : ℕ) (es : List Effect) (a : BatchWriter) (rs : List CommitRecord) (block : List ℕ) (fits : RecordsFit One rs) (small : length (spelling_of_body rs) < 2 ^ 32) (is : block ≡ spelling_of_block rs)
+module _ (live : ℕ) (shape : Shape) (head : List ℕ) (log : Log) (bodies : List (List ℕ)) (batch : ℕ) (es : List Effect) (a : BatchWriter) (rs : List CommitRecord) (block : List ℕ) (may : a.session < 2 ^ 63) (fits : RecordsFit Two rs) (small : length (sealed_body a.session rs) < 2 ^ 32) (is : block ≡ block_of (sealed_body a.session rs))
     (are : AreRecordsFor (voted_of batch a) es rs) (logged : AllByRecursion (MayBeLogged shape) es) (true_of : AllByRecursion (IsAsWritten (voted_of batch a)) es)
     (old new : World) (keeps : KeepsDisk live shape head log bodies a old.disk) (old_seen : (f : FileId) → MayLeave (old.disk f) (old.disk f).seen) where
   abbrev commits : List Commit
@@ -128,10 +130,10 @@ module _ (live : ℕ) (shape : Shape) (head : List ℕ) (log : Log) (bodies : Li
   next : IsNextBatch shape (kept_of a) commits
   next = next_batch shape (voted_of batch a) (kept_of a) es rs (voted_within a batch) are fits.1 fits.0 logged true_of
 
-  body_is : spelling_of_body rs ≡ body_of (Records commits)
-  body_is = ap spelling_of_body (sym (logged_are (voted_of batch a) es rs are))
+  body_is : sealed_body a.session rs ≡ body_of Two (Records a.session commits)
+  body_is = ap (sealed_body a.session) (sym (logged_are (voted_of batch a) es rs are))
 
-  spelled : block ≡ block_of (body_of (Records commits))
+  spelled : block ≡ block_of (body_of Two (Records a.session commits))
   spelled = is ∙ ap block_of body_is
 
   each_logs : EachLogs bodies a.gate_at (Manager live) old.disk
@@ -141,48 +143,50 @@ module _ (live : ℕ) (shape : Shape) (head : List ℕ) (log : Log) (bodies : Li
       subst (λ (l : List ℕ). LogsUpTo bodies a.gate_at l) (with_bytes-there seen (Manager live) c)
       (record { blocks = rest.stands.stand; closed = rest.closed })
 
-  pub is_next : IsNextBlock live bodies (body_of (Records commits)) a.gate_at block old
+  pub is_next : IsNextBlock live bodies (body_of Two (Records a.session commits)) a.gate_at block old
   is_next = record { block_is = spelled; small = subst (λ (l : List ℕ). length l < 2 ^ 32) body_is small; logs = each_logs }
 
   module _ (run : RunsOnFile (Manager live) (Tears a.gate_at (length block + 1)) 2 old new) where
     -- the seam
-    pub seals_as : (answer : Sealing) (b : BatchWriter) → Passes (λ m. EachLogsOrMore bodies (body_of (Records commits)) a.gate_at (Manager live) m.disk) old.past new.past
+    pub seals_as : (answer : Sealing) (b : BatchWriter) → Passes (λ m. EachLogsOrMore bodies (body_of Two (Records a.session commits)) a.gate_at (Manager live) m.disk) old.past new.past
         → StandsAfter live shape head log bodies commits answer a b old new → SealsAs live shape head log bodies es rs answer a b old new
     seals_as answer b moments stands = record {
       batch = commits;
       made_of = refl;
       records = records_are (voted_of batch a) es rs are;
-      moments = sealed.seal_moments live shape head log bodies a.gate_at (file_end a) (kept_of a) commits keeps.named next old keeps.images (length block + 1) new run.moments moments;
+      moments = sealed.seal_moments live shape head log bodies a.gate_at keeps.reached a.session (file_end a) (kept_of a) commits keeps.named keeps.later may next old keeps.images (length block + 1) new run.moments moments;
       stands = stands;
     }
 
-    pub stands_sealed : (to : ℕ) (b : BatchWriter) → EachLogs (bodies ++ body_of (Records commits) ∷ []) to (Manager live) new.disk → b.gate_at ≡ to → kept_of b ≡ []
-        → ((g : GrainId) → file_end b g ≡ raised_ends (file_end a) (flat_map (λ r. r.writes) rs) g) → KeepsDisk live shape head (grown log commits) (bodies ++ body_of (Records commits) ∷ []) b new.disk
-    stands_sealed to b logs gate none ends =
+    pub stands_sealed : (to : ℕ) (b : BatchWriter) → EachLogs (bodies ++ body_of Two (Records a.session commits) ∷ []) to (Manager live) new.disk → b.gate_at ≡ to → b.session ≡ a.session → kept_of b ≡ []
+        → ((g : GrainId) → file_end b g ≡ raised_ends (file_end a) (flat_map (λ r. r.writes) rs) g) → KeepsDisk live shape head (grown log commits) (bodies ++ body_of Two (Records a.session commits) ∷ []) b new.disk
+    stands_sealed to b logs gate session none ends =
         let writes : flat_map (λ (r : CommitRecord). r.writes) rs ≡ all_writes commits =
         ap (flat_map (λ (r : CommitRecord). r.writes)) (sym (logged_are (voted_of batch a) es rs are)) ∙ flat_of_map (λ (r : CommitRecord). r.writes) (λ (c : Commit). c.logged) commits in
         let says : (g : GrainId) → raised_ends (file_end a) (all_writes commits) g ≡ file_end b g = λ g. ap (λ (ws : List Written). raised_ends (file_end a) ws g) (sym writes) ∙ sym (ends g) in
         let all : raised_ends (file_end a) (all_writes commits) ≡ file_end b = λ i g. says g i in
         record {
           named = subst (λ (e : GrainId → ℕ). PlacesAreNamed shape (grown log commits) e) all
-              (sealed.named_more live shape head log bodies a.gate_at (file_end a) (kept_of a) commits keeps.named next);
+              (sealed.named_more live shape head log bodies a.gate_at keeps.reached a.session (file_end a) (kept_of a) commits keeps.named keeps.later may next);
+          reached = a.session;
+          later = subst (λ (n : ℕ). a.session ≤ n) (sym session) (omega arith);
           images = λ image left.
-              let one = sealed.rests_sealed live shape head log bodies a.gate_at (file_end a) (kept_of a) commits keeps.named next old keeps.images (length block + 1) new run.moments run.now to logs image left in
-              let two = subst (λ (e : GrainId → ℕ). IsAtRest live shape head (grown log commits) (bodies ++ body_of (Records commits) ∷ []) to e [] image) all one in
-              let three = subst (λ (n : ℕ). IsAtRest live shape head (grown log commits) (bodies ++ body_of (Records commits) ∷ []) n (file_end b) [] image) (sym gate) two in
-              subst (λ (vs : List Voted). IsAtRest live shape head (grown log commits) (bodies ++ body_of (Records commits) ∷ []) b.gate_at (file_end b) vs image) (sym none) three;
+              let one = sealed.rests_sealed live shape head log bodies a.gate_at keeps.reached a.session (file_end a) (kept_of a) commits keeps.named keeps.later may next old keeps.images (length block + 1) new run.moments run.now to logs image left in
+              let two = subst (λ (e : GrainId → ℕ). IsAtRest live shape head (grown log commits) (bodies ++ body_of Two (Records a.session commits) ∷ []) to a.session e [] image) all one in
+              let three = subst (λ (n : ℕ). IsAtRest live shape head (grown log commits) (bodies ++ body_of Two (Records a.session commits) ∷ []) n a.session (file_end b) [] image) (sym gate) two in
+              subst (λ (vs : List Voted). IsAtRest live shape head (grown log commits) (bodies ++ body_of Two (Records a.session commits) ∷ []) b.gate_at a.session (file_end b) vs image) (sym none) three;
         }
 
-    pub stands_unsealed : (b : BatchWriter) → LogsAs live NotSealed bodies (body_of (Records commits)) a.gate_at old new → HasSameEnds a b → kept_of b ≡ []
+    pub stands_unsealed : (b : BatchWriter) → LogsAs live NotSealed bodies (body_of Two (Records a.session commits)) a.gate_at old new → HasSameEnds a b → kept_of b ≡ []
         → Passes (KeepsLog live head log old) old.past new.past × KeepsDisk live shape head log bodies b new.disk
     stands_unsealed b logs same none = (
-      sealed.still_moments live shape head log bodies a.gate_at (file_end a) (kept_of a) commits keeps.named next old keeps.images (length block + 1) new run.moments logs.0,
-      keeps_with live shape head log bodies a b [] new.disk same none keeps.named (λ image left.
-          let rests = sealed.rests_unsealed live shape head log bodies a.gate_at (file_end a) (kept_of a) commits keeps.named next old keeps.images (length block + 1) new run.moments run.now logs.1 image left in
+      sealed.still_moments live shape head log bodies a.gate_at keeps.reached a.session (file_end a) (kept_of a) commits keeps.named keeps.later may next old keeps.images (length block + 1) new run.moments logs.0,
+      keeps_with live shape head log bodies a b [] new.disk keeps.reached same none keeps.later keeps.named (λ image left.
+          let rests = sealed.rests_unsealed live shape head log bodies a.gate_at keeps.reached a.session (file_end a) (kept_of a) commits keeps.named keeps.later may next old keeps.images (length block + 1) new run.moments run.now logs.1 image left in
           record { is_live = rests.is_live; header = rests.header; stands = rests.stands; closed = rests.closed; begun = rests.begun; long = rests.long; stand = tt }),
     )
 
-    pub stands_in_doubt : (b : BatchWriter) → ((f : FileId) → MayLeave (new.disk f) (new.disk f).seen) → EndsAs live InDoubt a.gate_at block old new → LogsAs live InDoubt bodies (body_of (Records commits)) a.gate_at old new
-        → DoubtAs live InDoubt bodies (body_of (Records commits)) a.gate_at block old new → StandsAfter live shape head log bodies commits InDoubt a b old new
+    pub stands_in_doubt : (b : BatchWriter) → ((f : FileId) → MayLeave (new.disk f) (new.disk f).seen) → EndsAs live InDoubt a.gate_at block old new → LogsAs live InDoubt bodies (body_of Two (Records a.session commits)) a.gate_at old new
+        → DoubtAs live InDoubt bodies (body_of Two (Records a.session commits)) a.gate_at block old new → StandsAfter live shape head log bodies commits InDoubt a b old new
     stands_in_doubt b new_seen ends logs which =
-        sealed.in_doubt live shape head log bodies a.gate_at (file_end a) (kept_of a) commits keeps.named next old keeps.images (length block + 1) new run.moments run.now old_seen new_seen block spelled ends logs which
+        sealed.in_doubt live shape head log bodies a.gate_at keeps.reached a.session (file_end a) (kept_of a) commits keeps.named keeps.later may next old keeps.images (length block + 1) new run.moments run.now old_seen new_seen block spelled ends logs which

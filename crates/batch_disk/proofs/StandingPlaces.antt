@@ -17,7 +17,7 @@ use Rattle.host_trait.specs.World.{World, Disk}
 use Rattle.host_trait.specs.Runs.{RunsOnFile}
 use Rattle.host_trait.proofs.Names.{cases_file, same_grain-is}
 use Rattle.field_codec.proofs.Readers.{past}
-use Rattle.field_codec.specs.declared.formats.Format.TheVariants.{One}
+use Rattle.field_codec.specs.declared.formats.Format.TheVariants.{Two}
 use Rattle.field_codec.specs.Spelling.{VersionFits}
 use Rattle.grain_log.specs.Places.{spelling_of_versions, IsVersionAt, WroteVersions}
 use Rattle.grain_log.specs.Reads.{fields_of, is_beyond, in_file, version_of as version_read, text_in, version_at_place}
@@ -47,24 +47,24 @@ use Rattle.batch_disk.proofs.MovedPlaces.{version_found}
 
 -- what is read at a place below an offset is read there still, where the bytes up to the offset are the same
 pub read_still : (o : Option ℕ) (place : Place) (at : ℕ) (old new : List ℕ) (v : Version) → place.offset + place.len ≤ at → take at new ≡ take at old → length old ≤ length new
-    → version_at_place One o place old ≡ Ok v → version_at_place One o place new ≡ Ok v
+    → version_at_place Two o place old ≡ Ok v → version_at_place Two o place new ≡ Ok v
 read_still None place at old new v below same long is = absurd cc
 read_still (Some fields) place at old new v below same long is =
-    let one = past (is_beyond One place) place.offset (text_in One fields place old) v is in
-    let two = past (nat_lt (length old - place.offset) place.len) place.offset (in_file place.offset (version_read One fields (take place.len (drop place.offset old)))) v one.1 in
+    let one = past (is_beyond Two place) place.offset (text_in Two fields place old) v is in
+    let two = past (nat_lt (length old - place.offset) place.len) place.offset (in_file place.offset (version_read Two fields (take place.len (drop place.offset old)))) v one.1 in
     let within : place.len ≤ length old - place.offset = ltb-false _ _ two.0 in
     let there : nat_lt (length new - place.offset) place.len ≡ false = le-ltb _ _ (omega (arith, within, long)) in
     let bytes : take place.len (drop place.offset new) ≡ take place.len (drop place.offset old) = below_same old new place.offset place.len at same below in
-    let text : in_file place.offset (version_read One fields (take place.len (drop place.offset new))) ≡ Ok v = ap (λ (l : List ℕ). in_file place.offset (version_read One fields l)) bytes ∙ two.1 in
-    ap (λ (b : Bool). if b then Err place.offset else text_in One fields place new) one.0
-    ∙ ap (λ (b : Bool). if b then Err place.offset else in_file place.offset (version_read One fields (take place.len (drop place.offset new)))) there
+    let text : in_file place.offset (version_read Two fields (take place.len (drop place.offset new))) ≡ Ok v = ap (λ (l : List ℕ). in_file place.offset (version_read Two fields l)) bytes ∙ two.1 in
+    ap (λ (b : Bool). if b then Err place.offset else text_in Two fields place new) one.0
+    ∙ ap (λ (b : Bool). if b then Err place.offset else in_file place.offset (version_read Two fields (take place.len (drop place.offset new)))) there
     ∙ text
 
 -- a version that stands at a place is read there
-read_is : (o : Option ℕ) (place : Place) (file : List ℕ) (count : ℕ) (v : Version) → o ≡ Some count → place.offset < 2 ^ 63 → IsVersionAt One count place file v
-    → (r : Result Version ℕ) → version_at_place One o place file ≡ r → version_at_place One o place file ≡ Ok v
-read_is o place file count v some low at (Ok w) is = is ∙ sym (only_at One o place file (Ok w) is count v some low at)
-read_is o place file count v some low at (Err e) is = absurd cc (only_at One o place file (Err (Damaged e)) is count v some low at)
+read_is : (o : Option ℕ) (place : Place) (file : List ℕ) (count : ℕ) (v : Version) → o ≡ Some count → place.offset < 2 ^ 63 → IsVersionAt Two count place file v
+    → (r : Result Version ℕ) → version_at_place Two o place file ≡ r → version_at_place Two o place file ≡ Ok v
+read_is o place file count v some low at (Ok w) is = is ∙ sym (only_at Two o place file (Ok w) is count v some low at)
+read_is o place file count v some low at (Err e) is = absurd cc (only_at Two o place file (Err (Damaged e)) is count v some low at)
 
 -- ---- one place
 
@@ -97,7 +97,7 @@ module _ (live : ℕ) where
   pub vote_read : (shape : Shape) (disk : Disk) (v : Voted) → StandsIn live shape (λ f. (disk f).seen) v → VoteStands live shape disk v
   vote_read shape disk v st =
       read_is (fields_of (slice_get shape.types v.write.grain.kind)) v.write.place (disk (Grain live v.write.grain)).seen (length v.state) (version_of v) st.fields st.near st.version
-      (version_at_place One (fields_of (slice_get shape.types v.write.grain.kind)) v.write.place (disk (Grain live v.write.grain)).seen) refl
+      (version_at_place Two (fields_of (slice_get shape.types v.write.grain.kind)) v.write.place (disk (Grain live v.write.grain)).seen) refl
 
   -- ---- a vote
 
@@ -105,7 +105,7 @@ module _ (live : ℕ) where
     -- another grain's file is as it was
     stands_apart : (shape : Shape) (g : GrainId) (place : Place) (v : Version) → g ≢ grain → StandsAt live shape old.disk g place v → StandsAt live shape new.disk g place v
     stands_apart shape g place v apart st =
-        subst (λ (s : FileState). version_at_place One (fields_of (slice_get shape.types g.kind)) place s.seen ≡ Ok v) (sym (run.now.others (Grain live g) (λ e. apart (same_in live g grain e)))) st
+        subst (λ (s : FileState). version_at_place Two (fields_of (slice_get shape.types g.kind)) place s.seen ≡ Ok v) (sym (run.now.others (Grain live g) (λ e. apart (same_in live g grain e)))) st
 
     -- what ends below is as it was
     stands_below : (shape : Shape) (g : GrainId) (place : Place) (v : Version) (end : ℕ) → (g ≡ grain → end ≡ at) → place.offset + place.len ≤ end → StandsAt live shape old.disk g place v → StandsAt live shape new.disk g place v
@@ -135,7 +135,7 @@ module _ (live : ℕ) where
     }
 
   -- what a vote of yes wrote
-  pub voted_stands : (shape : Shape) (grain : GrainId) (at : ℕ) (vs : List Version) (old new : World) → WroteVersions (Grain live grain) at vs old new → AreOfType shape grain vs → AllByRecursion (VersionFits One) vs
+  pub voted_stands : (shape : Shape) (grain : GrainId) (at : ℕ) (vs : List Version) (old new : World) → WroteVersions (Grain live grain) at vs old new → AreOfType shape grain vs → AllByRecursion (VersionFits Two) vs
       → at + length (spelling_of_versions vs) < 2 ^ 63 → AllByRecursion (VoteStands live shape new.disk) (voted_from grain at vs)
   voted_stands shape grain at vs old new wrote typed fits low =
       let file : List ℕ = overlaid (old.disk (Grain live grain)).seen at (spelling_of_versions vs) in
@@ -181,7 +181,7 @@ module _ (live : ℕ) where
     -- grain files are as they were
     stands_still : (s : Shape) (g : GrainId) (place : Place) (v : Version) → StandsAt live s old.disk g place v → StandsAt live s new.disk g place v
     stands_still s g place v here =
-        subst (λ (f : FileState). version_at_place One (fields_of (slice_get s.types g.kind)) place f.seen ≡ Ok v) (sym (run.now.others (Grain live g) (λ e. absurd cc))) here
+        subst (λ (f : FileState). version_at_place Two (fields_of (slice_get s.types g.kind)) place f.seen ≡ Ok v) (sym (run.now.others (Grain live g) (λ e. absurd cc))) here
 
     kept_still : AllByRecursion (VoteStands live shape new.disk) (kept_of a)
     kept_still = each_leads (VoteStands live shape old.disk) (VoteStands live shape new.disk) (λ v here. stands_still shape v.write.grain v.write.place (version_of v) here) (kept_of a) st.kept

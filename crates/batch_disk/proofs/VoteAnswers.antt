@@ -11,7 +11,7 @@ use Rattle.host_trait.specs.Disk.{Tears}
 use Rattle.host_trait.specs.Faults.{NoneFailed, FailedOn}
 use Rattle.host_trait.specs.World.{World}
 use Rattle.host_trait.specs.Runs.{RunsOnFile}
-use Rattle.field_codec.specs.declared.formats.Format.TheVariants.{One}
+use Rattle.field_codec.specs.declared.formats.Format.TheVariants.{Two}
 use Rattle.field_codec.specs.Spelling.{VersionFits}
 use Rattle.grain_log.specs.Places.{spelling_of_versions, WroteVersions}
 use Rattle.batch_disk.specs.ImagesAtRest.{voted_from}
@@ -57,7 +57,7 @@ module _ {H : Type 0} (tells : Bool) (world : H → World) (faults : H → Chann
 
   -- a vote of yes
   pub votes_yes : KeepsMore n g (file_end a g) versions a b → NoneFailed (faults old) (faults new) → (IsTrue tells → WroteVersions (Grain a.slot g) (file_end a g) versions (world old) (world new))
-      → AllByRecursion (VersionFits One) versions
+      → AllByRecursion (VersionFits Two) versions
       → file_end a g + length (spelling_of_versions versions) < 2 ^ 63 → VotesOn tells world faults a.slot n g true versions a b old new
   votes_yes more calm there fits low = record {
     cause = calm;

@@ -12,7 +12,7 @@ use Rattle.host_trait.specs.Runs.{ChangesFile}
 use Rattle.host_trait.proofs.Names.{cases_file}
 use Rattle.host_trait.proofs.Moments.{weaker}
 use Rattle.host_trait.proofs.Runs.{each_image}
-use Rattle.field_codec.specs.declared.formats.Format.TheVariants.{One}
+use Rattle.field_codec.specs.declared.formats.Format.TheVariants.{Two}
 use Rattle.field_codec.specs.Spelling.{spelling_of_version, VersionFits}
 use Rattle.gate_block.specs.Log.{HasBlocks}
 use Rattle.grain_log.specs.Places as places
@@ -62,9 +62,9 @@ module _ (live : ℕ) (shape : Shape) (ends : GrainId → ℕ) (grain : GrainId)
   ]
 
   -- an image in which only the versions' bytes are torn keeps all that counts
-  pub torn_rests : (head : List ℕ) (log : Log) (bodies : List (List ℕ)) (gate : ℕ) (voted : List Voted) → AreBelow ends (records_of log) → NotAmong grain voted
-      → IsAtRest live shape head log bodies gate ends voted was → IsAtRest live shape head log bodies gate ends voted image
-  torn_rests head log bodies gate voted below fresh is =
+  pub torn_rests : (head : List ℕ) (log : Log) (bodies : List (List ℕ)) (gate reached : ℕ) (voted : List Voted) → AreBelow ends (records_of log) → NotAmong grain voted
+      → IsAtRest live shape head log bodies gate reached ends voted was → IsAtRest live shape head log bodies gate reached ends voted image
+  torn_rests head log bodies gate reached voted below fresh is =
       let manager : image (Manager live) ≡ was (Manager live) = others (Manager live) (not_manager live grain) in
       let head : take 15 (image (Manager live)) ≡ take 15 (was (Manager live)) = ap (take 15) manager in
       let program : image (ProgramFile live) ≡ was (ProgramFile live) = others (ProgramFile live) (λ e. absurd cc) in
@@ -75,16 +75,16 @@ module _ (live : ℕ) (shape : Shape) (ends : GrainId → ℕ) (grain : GrainId)
       record {
         is_live = live_moves live was image is.is_live head (subst (λ (l : List ℕ). 16 ≤ length l) (sym manager) is.stands.silo.long) (inl (others (Manager (1 - live)) (λ e. absurd cc)));
         header = head ∙ is.header;
-        stands = stands_up_same live shape was image log bodies gate is.stands head program blocks places begun;
+        stands = stands_up_same live shape was image log bodies gate reached is.stands head program blocks places begun;
         closed = subst (λ (l : List ℕ). slice_index l gate ≢ 1) (sym manager) is.closed;
-        begun = subst (AreNamedBy (IsBelow ends)) (sym (begins_up_same live shape was image log bodies gate is.stands head program blocks places begun)) is.begun;
+        begun = subst (AreNamedBy (IsBelow ends)) (sym (begins_up_same live shape was image log bodies gate reached is.stands head program blocks places begun)) is.begun;
         long = long_still is.long;
         stand = each_both (λ (n : Voted). n.write.grain ≢ grain) (StandsIn live shape was) (StandsIn live shape image) same_apart voted fresh is.stand;
       }
 
 -- ---- the versions, once they were written
 
-pub stand_named : (live : ℕ) (shape : Shape) (image : Image) (grain : GrainId) (at : ℕ) (vs : List Version) → places.VersionsStand (image (Grain live grain)) at vs → AreOfType shape grain vs → AllByRecursion (VersionFits One) vs
+pub stand_named : (live : ℕ) (shape : Shape) (image : Image) (grain : GrainId) (at : ℕ) (vs : List Version) → places.VersionsStand (image (Grain live grain)) at vs → AreOfType shape grain vs → AllByRecursion (VersionFits Two) vs
     → at + length (spelling_of_versions vs) < 2 ^ 63 → AllByRecursion (StandsIn live shape image) (voted_from grain at vs)
 stand_named live shape image grain at [] stand typed fits low = tt
 stand_named live shape image grain at (v ∷ vs) stand typed fits low =
@@ -109,12 +109,12 @@ aside_grain live grain (Grain slot g) aside e = aside (ap (slot_in slot) e) wher
   slot_in other (Manager s) = other
   slot_in other (Grain s g) = s
 
-module _ (live : ℕ) (shape : Shape) (head : List ℕ) (log : Log) (bodies : List (List ℕ)) (gate : ℕ) (ends : GrainId → ℕ) (voted : List Voted) (grain : GrainId) (size : ℕ)
-    (named : PlacesAreNamed shape log ends) (fresh : NotAmong grain voted) (old : World) (is : EachImage (IsAtRest live shape head log bodies gate ends voted) old.disk) where
-  pub vote_rests : (m : Moment) → ChangesFile (Grain live grain) (Tears (ends grain) size) old m → EachImage (IsAtRest live shape head log bodies gate ends voted) m.disk
+module _ (live : ℕ) (shape : Shape) (head : List ℕ) (log : Log) (bodies : List (List ℕ)) (gate reached : ℕ) (ends : GrainId → ℕ) (voted : List Voted) (grain : GrainId) (size : ℕ)
+    (named : PlacesAreNamed shape log ends) (fresh : NotAmong grain voted) (old : World) (is : EachImage (IsAtRest live shape head log bodies gate reached ends voted) old.disk) where
+  pub vote_rests : (m : Moment) → ChangesFile (Grain live grain) (Tears (ends grain) size) old m → EachImage (IsAtRest live shape head log bodies gate reached ends voted) m.disk
   vote_rests m changes image left =
-      each_image (Grain live grain) (Tears (ends grain) size) (IsAtRest live shape head log bodies gate ends voted) (IsAtRest live shape head log bodies gate ends voted) old m changes
-      (λ was now at others torn. torn_rests live shape ends grain size was now others torn head log bodies gate voted named.below fresh at) is image left
+      each_image (Grain live grain) (Tears (ends grain) size) (IsAtRest live shape head log bodies gate reached ends voted) (IsAtRest live shape head log bodies gate reached ends voted) old m changes
+      (λ was now at others torn. torn_rests live shape ends grain size was now others torn head log bodies gate reached voted named.below fresh at) is image left
 
   pub vote_still : (m : Moment) → ChangesFile (Grain live grain) (Tears (ends grain) size) old m → KeepsLog live head log old m
   vote_still m changes =
@@ -125,7 +125,7 @@ module _ (live : ℕ) (shape : Shape) (head : List ℕ) (log : Log) (bodies : Li
           aside = λ f aside. changes.others f (aside_grain live grain f aside);
           header = λ image left. (each image left).header;
         };
-        logs = λ image left. rests_log live shape head log bodies gate ends voted image (each image left);
+        logs = λ image left. rests_log live shape head log bodies gate reached ends voted image (each image left);
       }
 
   -- CASE 1: at each moment no image's log changes
@@ -134,8 +134,8 @@ module _ (live : ℕ) (shape : Shape) (head : List ℕ) (log : Log) (bodies : Li
 
   -- and after Ok the versions stand too
   pub vote_yes : (new : World) (versions : List Version) → ChangesFile (Grain live grain) (Tears (ends grain) size) old (moment_of new)
-      → ((image : List ℕ) → MayLeave (new.disk (Grain live grain)) image → places.VersionsStand image (ends grain) versions) → AreOfType shape grain versions → AllByRecursion (VersionFits One) versions
-      → ends grain + length (spelling_of_versions versions) < 2 ^ 63 → EachImage (IsAtRest live shape head log bodies gate ends (voted ++ voted_from grain (ends grain) versions)) new.disk
+      → ((image : List ℕ) → MayLeave (new.disk (Grain live grain)) image → places.VersionsStand image (ends grain) versions) → AreOfType shape grain versions → AllByRecursion (VersionFits Two) versions
+      → ends grain + length (spelling_of_versions versions) < 2 ^ 63 → EachImage (IsAtRest live shape head log bodies gate reached ends (voted ++ voted_from grain (ends grain) versions)) new.disk
   vote_yes new versions changes stand typed fits low image left =
       let rests = vote_rests (moment_of new) changes image left in
       record {

@@ -18,7 +18,7 @@ use Rattle.host_trait.specs.Runs.{RunsOnFile}
 use Rattle.host_trait.proofs.Crashes.{Tears-refl}
 use Rattle.host_trait.proofs.Names.{cases_file}
 use Rattle.host_trait.proofs.Runs.{run_started, run_more_syncs}
-use Rattle.field_codec.specs.declared.formats.Format.TheVariants.{One}
+use Rattle.field_codec.specs.declared.formats.Format.TheVariants.{Two}
 use Rattle.field_codec.specs.Spelling.{VersionFits, spelling_of_version}
 use Rattle.gate_block.specs.Gates.{IsClosedAt}
 use Rattle.grain_log.specs.Places as places
@@ -61,7 +61,7 @@ ends_same a b same = λ i g. sym (same.ends g) i
 
 -- no other end, twice
 pub same_twice : (a b c : BatchWriter) → HasSameEnds a b → HasSameEnds b c → HasSameEnds a c
-same_twice a b c one two = record { slot = two.slot ∙ one.slot; gate = two.gate ∙ one.gate; ends = λ g. two.ends g ∙ one.ends g; places = λ g. two.places g ∙ one.places g; programs = two.programs ∙ one.programs; doubt = two.doubt ∙ one.doubt }
+same_twice a b c one two = record { slot = two.slot ∙ one.slot; gate = two.gate ∙ one.gate; session = two.session ∙ one.session; ends = λ g. two.ends g ∙ one.ends g; places = λ g. two.places g ∙ one.places g; programs = two.programs ∙ one.programs; doubt = two.doubt ∙ one.doubt }
 
 -- ---- in bounds
 
@@ -77,6 +77,7 @@ pub bounds_with : (a b : BatchWriter) (vs : List Voted) → HasSameEnds a b → 
 bounds_with a b vs same kept can seated bounds = record {
   slot = subst (λ (n : ℕ). n ≤ 1) (sym same.slot) bounds.slot;
   gate = subst (λ (n : ℕ). n < 2 ^ 63) (sym same.gate) bounds.gate;
+  session = subst (λ (n : ℕ). n < 2 ^ 63) (sym same.session) bounds.session;
   ends = λ g. subst (λ (n : ℕ). n < 2 ^ 63) (sym (same.ends g)) (bounds.ends g);
   kept = subst (AllByRecursion (CanCount b)) (sym kept) can;
   seats = subst (AllByRecursion (HasSeat b)) (sym kept) seated;
@@ -168,46 +169,48 @@ no_run file at size w = run_more_syncs file (Tears at size) 0 1 w w (omega arith
 
 module _ (live : ℕ) (shape : Shape) (head : List ℕ) (log : Log) (bodies : List (List ℕ)) where
   -- what is kept of one batch stands
-  pub rests_some : (a : BatchWriter) (batch : ℕ) (disk : Disk) → KeepsDisk live shape head log bodies a disk → EachImage (IsAtRest live shape head log bodies a.gate_at (file_end a) (voted_of batch a)) disk
+  pub rests_some : (a : BatchWriter) (batch : ℕ) (disk : Disk) → (keeps : KeepsDisk live shape head log bodies a disk) → EachImage (IsAtRest live shape head log bodies a.gate_at keeps.reached (file_end a) (voted_of batch a)) disk
   rests_some a batch disk keeps image left =
       let rests = keeps.images image left in
       record { is_live = rests.is_live; header = rests.header; stands = rests.stands; closed = rests.closed; begun = rests.begun; long = rests.long; stand = each_voted (StandsIn live shape image) a batch rests.stand }
 
   -- a writer with these ends that keeps these versions
-  pub keeps_with : (a b : BatchWriter) (voted : List Voted) (disk : Disk) → HasSameEnds a b → kept_of b ≡ voted → PlacesAreNamed shape log (file_end a)
-      → EachImage (IsAtRest live shape head log bodies a.gate_at (file_end a) voted) disk → KeepsDisk live shape head log bodies b disk
-  keeps_with a b voted disk same kept named rests = record {
+  pub keeps_with : (a b : BatchWriter) (voted : List Voted) (disk : Disk) (reached : ℕ) → HasSameEnds a b → kept_of b ≡ voted → reached ≤ a.session → PlacesAreNamed shape log (file_end a)
+      → EachImage (IsAtRest live shape head log bodies a.gate_at reached (file_end a) voted) disk → KeepsDisk live shape head log bodies b disk
+  keeps_with a b voted disk reached same kept later named rests = record {
     named = subst (λ (e : GrainId → ℕ). PlacesAreNamed shape log e) (ends_same a b same) named;
+    reached = reached;
+    later = subst (λ (n : ℕ). reached ≤ n) (sym same.session) later;
     images = λ image left.
-        let one = subst (λ (n : ℕ). IsAtRest live shape head log bodies n (file_end a) voted image) (sym same.gate) (rests image left) in
-        let two = subst (λ (vs : List Voted). IsAtRest live shape head log bodies b.gate_at (file_end a) vs image) (sym kept) one in
-        subst (λ (e : GrainId → ℕ). IsAtRest live shape head log bodies b.gate_at e (kept_of b) image) (ends_same a b same) two;
+        let one = subst (λ (n : ℕ). IsAtRest live shape head log bodies n reached (file_end a) voted image) (sym same.gate) (rests image left) in
+        let two = subst (λ (vs : List Voted). IsAtRest live shape head log bodies b.gate_at reached (file_end a) vs image) (sym kept) one in
+        subst (λ (e : GrainId → ℕ). IsAtRest live shape head log bodies b.gate_at reached e (kept_of b) image) (ends_same a b same) two;
   }
 
   -- dropping what is kept of others
   pub keeps_some : (a b : BatchWriter) (batch : ℕ) (disk : Disk) → HasSameEnds a b → kept_of b ≡ voted_of batch a → KeepsDisk live shape head log bodies a disk → KeepsDisk live shape head log bodies b disk
-  keeps_some a b batch disk same kept keeps = keeps_with a b (voted_of batch a) disk same kept keeps.named (rests_some a batch disk keeps)
+  keeps_some a b batch disk same kept keeps = keeps_with a b (voted_of batch a) disk keeps.reached same kept keeps.later keeps.named (rests_some a batch disk keeps)
 
   module _ (a : BatchWriter) (batch : ℕ) (grain : GrainId) (size : ℕ) (old new : World) (fresh : NotAmong grain (voted_of batch a)) (keeps : KeepsDisk live shape head log bodies a old.disk)
       (run : RunsOnFile (Grain live grain) (Tears (file_end a grain) size) 1 old new) where
     -- at each moment of a vote
     pub vote_keeps_log : Passes (KeepsLog live head log old) old.past new.past
-    vote_keeps_log = vote_moments live shape head log bodies a.gate_at (file_end a) (voted_of batch a) grain size keeps.named fresh old (rests_some a batch old.disk keeps) new run.moments
+    vote_keeps_log = vote_moments live shape head log bodies a.gate_at keeps.reached (file_end a) (voted_of batch a) grain size keeps.named fresh old (rests_some a batch old.disk keeps) new run.moments
 
     -- after a vote of no, or without memory
     pub keeps_no : (b : BatchWriter) → HasSameEnds a b → kept_of b ≡ voted_of batch a → KeepsDisk live shape head log bodies b new.disk
     keeps_no b same kept =
-        keeps_with a b (voted_of batch a) new.disk same kept keeps.named
-        (vote_rests live shape head log bodies a.gate_at (file_end a) (voted_of batch a) grain size keeps.named fresh old (rests_some a batch old.disk keeps) (moment_of new) run.now)
+        keeps_with a b (voted_of batch a) new.disk keeps.reached same kept keeps.later keeps.named
+        (vote_rests live shape head log bodies a.gate_at keeps.reached (file_end a) (voted_of batch a) grain size keeps.named fresh old (rests_some a batch old.disk keeps) (moment_of new) run.now)
 
   -- after a vote of yes
   pub keeps_yes : (a : BatchWriter) (batch : ℕ) (grain : GrainId) (vs : List Version) (old new : World) → NotAmong grain (voted_of batch a) → KeepsDisk live shape head log bodies a old.disk
       → RunsOnFile (Grain live grain) (Tears (file_end a grain) (length (spelling_of_versions vs))) 1 old new → (b : BatchWriter) → HasSameEnds a b → kept_of b ≡ voted_of batch a ++ voted_from grain (file_end a grain) vs
-      → ((image : List ℕ) → MayLeave (new.disk (Grain live grain)) image → places.VersionsStand image (file_end a grain) vs) → AreOfType shape grain vs → AllByRecursion (VersionFits One) vs
+      → ((image : List ℕ) → MayLeave (new.disk (Grain live grain)) image → places.VersionsStand image (file_end a grain) vs) → AreOfType shape grain vs → AllByRecursion (VersionFits Two) vs
       → file_end a grain + length (spelling_of_versions vs) < 2 ^ 63 → KeepsDisk live shape head log bodies b new.disk
   keeps_yes a batch grain vs old new fresh keeps run b same kept stand typed fits low =
-      keeps_with a b (voted_of batch a ++ voted_from grain (file_end a grain) vs) new.disk same kept keeps.named
-      (vote_yes live shape head log bodies a.gate_at (file_end a) (voted_of batch a) grain (length (spelling_of_versions vs)) keeps.named fresh old (rests_some a batch old.disk keeps) new vs run.now stand typed fits low)
+      keeps_with a b (voted_of batch a ++ voted_from grain (file_end a grain) vs) new.disk keeps.reached same kept keeps.later keeps.named
+      (vote_yes live shape head log bodies a.gate_at keeps.reached (file_end a) (voted_of batch a) grain (length (spelling_of_versions vs)) keeps.named fresh old (rests_some a batch old.disk keeps) new vs run.now stand typed fits low)
 
   -- ---- what the calls ask of the files holds where the writer keeps the disk
 
@@ -221,7 +224,7 @@ module _ (live : ℕ) (shape : Shape) (head : List ℕ) (log : Log) (bodies : Li
 
   -- each image's log
   pub keeps_log : (w : BatchWriter) (disk : Disk) → KeepsDisk live shape head log bodies w disk → EachImage (λ image. IsLog live image log) disk
-  keeps_log w disk keeps image left = rests_log live shape head log bodies w.gate_at (file_end w) (kept_of w) image (keeps.images image left)
+  keeps_log w disk keeps image left = rests_log live shape head log bodies w.gate_at keeps.reached (file_end w) (kept_of w) image (keeps.images image left)
 
 -- ---- a writer that has gone to a batch, and has room
 
@@ -248,9 +251,9 @@ ready_for batch a m b one kept is ends places two still stays room seats = recor
 }
 
 -- ends and places that are the same value
-pub same_by : (a b : BatchWriter) → b.slot ≡ a.slot → b.gate_at ≡ a.gate_at → b.in_doubt ≡ a.in_doubt → b.ends ≡ a.ends → b.places ≡ a.places → b.programs ≡ a.programs → HasSameEnds a b
-same_by a b slot gate doubt ends places programs =
-    record { slot = slot; gate = gate; ends = λ g. ap (λ e. unwrap_or (end_in e g) 0) ends; places = λ g. ap (λ p. placed_in p g) places; programs = programs; doubt = doubt }
+pub same_by : (a b : BatchWriter) → b.slot ≡ a.slot → b.gate_at ≡ a.gate_at → b.session ≡ a.session → b.in_doubt ≡ a.in_doubt → b.ends ≡ a.ends → b.places ≡ a.places → b.programs ≡ a.programs → HasSameEnds a b
+same_by a b slot gate session doubt ends places programs =
+    record { slot = slot; gate = gate; session = session; ends = λ g. ap (λ e. unwrap_or (end_in e g) 0) ends; places = λ g. ap (λ p. placed_in p g) places; programs = programs; doubt = doubt }
 
 -- it keeps versions more
 pub record KeepsMore (batch : ℕ) (grain : GrainId) (at : ℕ) (vs : List Version) (a b : BatchWriter) : Type 0 where
@@ -261,9 +264,9 @@ pub record KeepsMore (batch : ℕ) (grain : GrainId) (at : ℕ) (vs : List Versi
   pub seats : KeepsSeats a.places b.places
 
 pub keeps_more : (batch : ℕ) (grain : GrainId) (at : ℕ) (vs : List Version) (ps : List Place) (a m b : BatchWriter) → IsReadyFor batch a m → ps ≡ places_from at vs → kept_of b ≡ kept_of m ++ voted_at grain ps vs
-    → b.slot ≡ m.slot → b.gate_at ≡ m.gate_at → b.in_doubt ≡ m.in_doubt → b.batch ≡ m.batch → b.ends ≡ m.ends → b.places ≡ m.places → b.programs ≡ m.programs → KeepsMore batch grain at vs a b
-keeps_more batch grain at vs ps a m b ready places kept slot gate doubt stays ends placed programs = record {
-  same = same_twice a m b ready.same (same_by m b slot gate doubt ends placed programs);
+    → b.slot ≡ m.slot → b.gate_at ≡ m.gate_at → b.session ≡ m.session → b.in_doubt ≡ m.in_doubt → b.batch ≡ m.batch → b.ends ≡ m.ends → b.places ≡ m.places → b.programs ≡ m.programs → KeepsMore batch grain at vs a b
+keeps_more batch grain at vs ps a m b ready places kept slot gate session doubt stays ends placed programs = record {
+  same = same_twice a m b ready.same (same_by m b slot gate session doubt ends placed programs);
   kept = kept ∙ (λ i. ready.kept i ++ voted_at grain (places i) vs);
   goes_to = stays ∙ ready.goes_to;
   room = subst (λ e. KeepsRoom a.ends e) (sym ends) ready.room;

@@ -10,16 +10,18 @@ use Rattle.base_types.specs.declared.stores.Version.{Version}
 use Rattle.host_trait.specs.declared.channels.FileId.TheVariants.{Manager, Grain}
 use Rattle.host_trait.specs.Files.{same_grain}
 use Rattle.host_trait.specs.World.{Disk, Image, IsImage}
+use Rattle.field_codec.specs.declared.formats.Format.TheVariants.{Two}
 use Rattle.grain_log.specs.Places.{places_from}
 use Rattle.grain_log.specs.Reads.{fields_of}
 use Rattle.commit_log.specs.declared.records.Written.{Written}
+use Rattle.silo_spec.specs.Silos.{IsMagic}
 use Rattle.silo_spec.specs.Slots.{IsLive}
 use Rattle.promise_spec.specs.Programs.{shape_in}
 use Rattle.promise_spec.specs.Records.{Commit}
 use Rattle.promise_spec.specs.Entries.{Log, records_of, standing_of}
 use Rattle.promise_spec.specs.Versions.{WriteStands}
 use Rattle.promise_spec.specs.Blocks.{Beginning, Fresh, From, saved_by}
-use Rattle.promise_spec.specs.Logs.{magic, StandsUpTo}
+use Rattle.promise_spec.specs.Logs.{StandsUpTo}
 
 -- this holds of each image that a crash may leave
 abbrev pub EachImage : (Image → Type 0) → Disk → Type 0
@@ -73,7 +75,7 @@ pub record Voted : Type 0 where
 
 -- it stands in the image
 abbrev pub StandsIn : ℕ → Shape → Image → Voted → Type 0
-StandsIn live shape image v = WriteStands live shape image v.unit v.write v.state
+StandsIn live shape image v = WriteStands Two live shape image v.unit v.write v.state
 
 -- none of these versions is in the grain's file
 abbrev pub NotAmong : GrainId → List Voted → Type 0
@@ -100,12 +102,12 @@ pub record PlacesAreNamed (shape : Shape) (log : Log) (ends : GrainId → ℕ) :
   pub shape_is : shape ≡ shape_in (standing_of log).program
   pub below : AreBelow ends (records_of log)
 
--- What each image has: this live slot and header; the log, which stands up to this closed gate; grain files that go on to these ends
+-- What each image has: this live slot and header; the log, which stands up to this closed gate, with this session so far; grain files that go on to these ends
 -- at least, at which all that its beginning names ends at most; and the versions that the votes of the open batch wrote.
-pub record IsAtRest (live : ℕ) (shape : Shape) (head : List ℕ) (log : Log) (bodies : List (List ℕ)) (gate : ℕ) (ends : GrainId → ℕ) (voted : List Voted) (image : Image) : Type 0 where
-  pub is_live : IsLive magic live image
+pub record IsAtRest (live : ℕ) (shape : Shape) (head : List ℕ) (log : Log) (bodies : List (List ℕ)) (gate reached : ℕ) (ends : GrainId → ℕ) (voted : List Voted) (image : Image) : Type 0 where
+  pub is_live : IsLive IsMagic live image
   pub header : take 15 (image (Manager live)) ≡ head
-  pub stands : StandsUpTo live image log bodies gate
+  pub stands : StandsUpTo Two live image log bodies gate reached
   pub closed : slice_index (image (Manager live)) gate ≢ 1
   pub begun : AreNamedBy (IsBelow ends) stands.begins
   pub long : (g : GrainId) → ends g ≤ length (image (Grain live g))

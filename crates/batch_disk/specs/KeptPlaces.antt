@@ -9,7 +9,7 @@ use Rattle.base_types.specs.declared.stores.Place.{Place}
 use Rattle.base_types.specs.declared.stores.Version.{Version}
 use Rattle.host_trait.specs.declared.channels.FileId.TheVariants.{Grain}
 use Rattle.host_trait.specs.World.{Disk}
-use Rattle.field_codec.specs.declared.formats.Format.TheVariants.{One}
+use Rattle.field_codec.specs.declared.formats.Format.TheVariants.{Two}
 use Rattle.grain_log.specs.Reads.{fields_of, version_at_place}
 use Rattle.batch_disk.specs.ImagesAtRest.{Voted}
 use Rattle.script_tree.specs.Programs.{ProgramTree}
@@ -19,7 +19,7 @@ use Rattle.batch_disk.specs.declared.writer.BatchWriter.{BatchWriter}
 
 -- this version of a grain of the program stands at a place of its file, as the file reads
 abbrev pub StandsAt : ℕ → Shape → Disk → GrainId → Place → Version → Type 0
-StandsAt live shape disk g place version = version_at_place One (fields_of (slice_get shape.types g.kind)) place (disk (Grain live g)).seen ≡ Ok version
+StandsAt live shape disk g place version = version_at_place Two (fields_of (slice_get shape.types g.kind)) place (disk (Grain live g)).seen ≡ Ok version
 
 -- the version that a vote wrote
 abbrev pub version_of : Voted → Version

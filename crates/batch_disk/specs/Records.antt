@@ -1,5 +1,5 @@
 -- The records of a batch's units to commit, with the places that its votes keep.
-use Rattle.std.specs.Prelude.{◌≡◌, ◌<◌, ◌^◌, if◌then◌else◌, Bool, true, ◌&&◌, List, [], ◌∷◌, Option, Some, None, length, map, ⊤}
+use Rattle.std.specs.Prelude.{ℕ, ◌≡◌, ◌<◌, ◌^◌, if◌then◌else◌, Bool, true, ◌&&◌, List, [], ◌∷◌, Option, Some, None, length, map, ⊤}
 use Rattle.std.specs.List.{AllByRecursion}
 use Rattle.base_types.specs.declared.calls.GrainId.{GrainId}
 use Rattle.base_types.specs.declared.calls.UnitNo.{UnitNo}
@@ -9,13 +9,16 @@ use Rattle.base_types.specs.declared.stores.Place.{Place}
 use Rattle.host_trait.specs.Files.{same_grain}
 use Rattle.cell_model.specs.Units.{same_unit, Member}
 use Rattle.core_model.specs.declared.effects.Effect.{Effect}
-use Rattle.field_codec.specs.declared.formats.Format.TheVariants.{One}
+use Rattle.field_codec.specs.declared.formats.Format.TheVariants.{Two}
+use Rattle.gate_block.specs.Blocks.{block_of}
 use Rattle.field_codec.specs.Units.{may_be_unit, HasParent}
 use Rattle.field_codec.specs.declared.units.Numbers.TheVariants.{Logged}
 use Rattle.commit_log.specs.declared.records.Written.{Written}
 use Rattle.commit_log.specs.declared.records.CommitRecord.{CommitRecord}
 use Rattle.commit_log.specs.Bodies.{IsCallIn, IsShapeType}
-use Rattle.commit_log.specs.Spelling.{spelling_of_body, spelling_of_block, RecordsFit}
+use Rattle.commit_log.specs.declared.contents.Body.TheVariants as body
+use Rattle.commit_log.specs.Spelling.{RecordsFit}
+use Rattle.commit_log.specs.Sessions.{spelling_with_session}
 use Rattle.promise_spec.specs.Records.{Commit}
 use Rattle.batch_disk.specs.ImagesAtRest.{Voted}
 use Rattle.batch_disk.specs.Writers.{kept_of}
@@ -70,12 +73,16 @@ pub record IsPlaceOfOne (kept : List Voted) (w : Written) : Type 0 where
 abbrev pub IsOwnPlace : List Voted → UnitNo → Written → Type 0
 IsOwnPlace kept unit w = place_among unit w.grain kept ≡ Some w.place
 
--- The block is that of the records, within the format's limits, and all that they name is kept, each record's as its own unit's: it
+-- the body of a block of these records, in this session
+abbrev pub sealed_body : ℕ → List CommitRecord → List ℕ
+sealed_body session records = spelling_with_session Two session (body.Records records)
+
+-- The block is that of the records in the writer's session, within the format's limits, and all that they name is kept, each record's as its own unit's: it
 -- can be sealed, and count, without memory.
 pub record IsSealable (writer : BatchWriter) (work : SealWork) : Type 0 where
-  pub fits : RecordsFit One work.records
-  pub small : length (spelling_of_body work.records) < 2 ^ 32
-  pub block : work.block ≡ spelling_of_block work.records
+  pub fits : RecordsFit Two work.records
+  pub small : length (sealed_body writer.session work.records) < 2 ^ 32
+  pub block : work.block ≡ block_of (sealed_body writer.session work.records)
   pub kept : AllByRecursion (λ r. AllByRecursion (IsPlaceOfOne (kept_of writer)) r.writes) work.records
   pub own : AllByRecursion (λ r. AllByRecursion (IsOwnPlace (kept_of writer) r.unit) r.writes) work.records
 

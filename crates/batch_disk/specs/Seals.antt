@@ -1,5 +1,5 @@
 -- What stands after a batch was to be sealed, by the answer.
-use Rattle.std.specs.Prelude.{◌≡◌, ◌⊎◌, ◌+◌, ◌==◌, nat_lt, ℕ, Bool, IsTrue, true, false, ◌&&◌, ◌||◌, not, List, [], ◌∷◌, ◌++◌, length, slice_index}
+use Rattle.std.specs.Prelude.{◌≡◌, ◌⊎◌, ◌+◌, ◌≤◌, ◌==◌, nat_lt, ℕ, Bool, IsTrue, true, false, ◌&&◌, ◌||◌, not, List, [], ◌∷◌, ◌++◌, length, slice_index}
 use Rattle.base_types.specs.Places.{placed_in}
 use Rattle.base_types.specs.declared.calls.GrainId.{GrainId}
 use Rattle.base_types.specs.declared.shapes.Shape.{Shape}
@@ -7,6 +7,7 @@ use Rattle.host_trait.specs.declared.channels.Channel.{Channel}
 use Rattle.host_trait.specs.Disk.{FileState, Tears}
 use Rattle.host_trait.specs.World.{World, Image, IsImage, Passes, moment_of}
 use Rattle.host_trait.specs.Runs.{RunsOnFile}
+use Rattle.field_codec.specs.declared.formats.Format.TheVariants.{Two}
 use Rattle.commit_log.specs.declared.records.CommitRecord.{CommitRecord}
 use Rattle.commit_log.specs.declared.gate.Sealing.{Sealing}
 use Rattle.commit_log.specs.declared.gate.Sealing.TheVariants.{Sealed, NotSealed, InDoubt}
@@ -43,23 +44,25 @@ pub record NoneHas (live : ℕ) (head : List ℕ) (log : Log) (old new : World) 
   pub moments : Passes (KeepsLog live head log old) old.past new.past
   pub logs : EachImage (λ image. IsLog live image log) new.disk
 
--- In doubt. Each image's log is as it was, or has the batch whole; the batch's whole block stands behind the gate in each, and
--- they differ at most in that gate. The gate was never written, and no crash may leave it open, or some image has the batch.
-pub record IsSealInDoubt (live : ℕ) (head : List ℕ) (log : Log) (bodies : List (List ℕ)) (batch : List Commit) (gate : ℕ) (old new : World) : Type 0 where
+-- In doubt, in this session, above which none is so far. Each image's log is as it was, or has the batch whole; the batch's whole block
+-- stands behind the gate in each, and they differ at most in that gate. The gate was never written, and no crash may leave it open, or some image has the batch.
+pub record IsSealInDoubt (live : ℕ) (head : List ℕ) (log : Log) (bodies : List (List ℕ)) (batch : List Commit) (gate session : ℕ) (old new : World) : Type 0 where
   pub rest : LeavesRest live head old (moment_of new)
   pub logs : EachImage (λ image. IsLog live image log ⊎ IsLog live image (grown log batch)) new.disk
-  pub front : EachImage (λ image. StandsUpTo live image log bodies gate) new.disk
-  pub block : EachImage (HasBlock live gate batch) new.disk
+  pub reached : ℕ
+  pub later : reached ≤ session
+  pub front : EachImage (λ image. StandsUpTo Two live image log bodies gate reached) new.disk
+  pub block : EachImage (HasBlock live gate session batch) new.disk
   pub differ : (one other : Image) → IsImage new.disk one → IsImage new.disk other → DifferAt gate (one (Manager live)) (other (Manager live))
   pub which : ((may_open gate (new.disk (Manager live)) ≡ false) × NoneHas live head log old new)
       ⊎ ((may_open gate (new.disk (Manager live)) ≡ true) × SomeImage (λ image. IsLog live image (grown log batch)) new.disk)
 
 -- Sealed: each image has the batch. Not sealed: none has it, at no moment. In doubt: as above.
 abbrev pub StandsAfter : ℕ → Shape → List ℕ → Log → List (List ℕ) → List Commit → Sealing → BatchWriter → BatchWriter → World → World → Type 0
-StandsAfter live shape head log bodies batch (Sealed next) before after old new = KeepsDisk live shape head (grown log batch) (bodies ++ body_of (Records batch) ∷ []) after new.disk
+StandsAfter live shape head log bodies batch (Sealed next) before after old new = KeepsDisk live shape head (grown log batch) (bodies ++ body_of Two (Records before.session batch) ∷ []) after new.disk
 StandsAfter live shape head log bodies batch NotSealed before after old new =
     Passes (KeepsLog live head log old) old.past new.past × KeepsDisk live shape head log bodies after new.disk
-StandsAfter live shape head log bodies batch InDoubt before after old new = IsSealInDoubt live head log bodies batch before.gate_at old new
+StandsAfter live shape head log bodies batch InDoubt before after old new = IsSealInDoubt live head log bodies batch before.gate_at before.session old new
 
 -- What sealing these units does, of whom these records were made: there are their records, which are those, and at each moment
 -- each image has the log that it had, or it with all of them; and after it, by the answer.
@@ -70,7 +73,7 @@ pub record SealsAs (live : ℕ) (shape : Shape) (head : List ℕ) (log : Log) (b
   pub moments : Passes (IsSeam live head log batch old) old.past new.past
   pub stands : StandsAfter live shape head log bodies batch answer before after old new
 
--- What becomes of the writer, which stays in its slot. Sealed: the next gate is the answer's, the records' places count, and
+-- What becomes of the writer, which stays in its slot and session. Sealed: the next gate is the answer's, the records' places count, and
 -- nothing is kept. Not sealed: nothing is kept. In doubt: all is as it was, but for the doubt.
 abbrev pub WriterAfter : Sealing → List CommitRecord → BatchWriter → BatchWriter → Type 0
 WriterAfter (Sealed next) records old new = (new.gate_at ≡ next)
@@ -94,6 +97,7 @@ pub record SealsWork {H : Type 0} (tells : Bool) (world : H → World) (faults :
   pub places : (batch : ℕ) (effects : List Effect) → AreRecordsFor (voted_of batch before) effects work.records → AllByRecursion (IsAsWritten (voted_of batch before)) effects
       → (g : GrainId) → placed_in after.places g ≡ place_after (newest_number before) answer (commits_by effects work.records) g (placed_in before.places g)
   pub slot : after.slot ≡ before.slot
+  pub session : after.session ≡ before.session
   pub programs : after.programs ≡ before.programs
   pub after_is : WriterAfter answer work.records before after
   pub cause : SealHasCause live answer before.gate_at (length work.block) (faults old) (faults new)

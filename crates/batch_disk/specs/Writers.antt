@@ -49,11 +49,12 @@ CanCount writer v = (has_room writer.ends v.write.grain ≡ true) × (write_end 
 abbrev pub HasSeat : BatchWriter → Voted → Type 0
 HasSeat writer v = has_seat writer.places v.write.grain ≡ true
 
--- The slot is one of two, the next gate and each end are below 2 to the 63, each version that is kept can count, and be its
+-- The slot is one of two, the next gate, the session and each end are below 2 to the 63, each version that is kept can count, and be its
 -- grain's last one, without memory, and each grain's last version was written under one of the programs.
 pub record IsInBounds (writer : BatchWriter) : Type 0 where
   pub slot : writer.slot ≤ 1
   pub gate : writer.gate_at < 2 ^ 63
+  pub session : writer.session < 2 ^ 63
   pub ends : (g : GrainId) → file_end writer g < 2 ^ 63
   pub kept : AllByRecursion (CanCount writer) (kept_of writer)
   pub seats : AllByRecursion (HasSeat writer) (kept_of writer)
@@ -78,15 +79,18 @@ pub record IsSafe (tells : Bool) (writer : BatchWriter) (now : World) : Type 0 w
   pub fits : IsTrue tells → FitsDisk writer now.disk
 
 -- What the writer keeps of the folder, where this slot is live: its gate and its ends are those of this log, whose blocks have these
--- bodies, in each image, where what the votes wrote stands.
+-- bodies, in each image, where what the votes wrote stands; and no session so far is above its own.
 pub record KeepsDisk (live : ℕ) (shape : Shape) (head : List ℕ) (log : Log) (bodies : List (List ℕ)) (writer : BatchWriter) (disk : Disk) : Type 0 where
   pub named : PlacesAreNamed shape log (file_end writer)
-  pub images : EachImage (IsAtRest live shape head log bodies writer.gate_at (file_end writer) (kept_of writer)) disk
+  pub reached : ℕ
+  pub later : reached ≤ writer.session
+  pub images : EachImage (IsAtRest live shape head log bodies writer.gate_at reached (file_end writer) (kept_of writer)) disk
 
--- slot, gate, ends, places, programs and doubt are as they were
+-- slot, gate, session, ends, places, programs and doubt are as they were
 pub record HasSameEnds (old new : BatchWriter) : Type 0 where
   pub slot : new.slot ≡ old.slot
   pub gate : new.gate_at ≡ old.gate_at
+  pub session : new.session ≡ old.session
   pub ends : (g : GrainId) → file_end new g ≡ file_end old g
   pub places : (g : GrainId) → placed_in new.places g ≡ placed_in old.places g
   pub programs : new.programs ≡ old.programs

@@ -1,14 +1,15 @@
 ghost use Rattle.std.specs.Prelude.{◌≡◌, ◌<◌, ◌≤◌, ◌^◌, List, true, false, IsTrue, length, map, None, IfOk, IfSome, IfNone, IsErrOf};
 ghost use Rattle.std.specs.List.{AllByRecursion};
-ghost use Rattle.field_codec.specs.declared.formats.Format.TheVariants.{One};
+ghost use Rattle.field_codec.specs.declared.formats.Format.TheVariants.{Two};
 ghost use Rattle.commit_log.specs.declared.records.CommitRecord.{CommitRecord as ARecord};
 ghost use Rattle.commit_log.specs.declared.records.Written.{Written as AWritten};
 ghost use Rattle.batch_disk.specs.declared.records.WorkFault.{WorkFault};
 ghost use Rattle.commit_log.specs.EncodableRecords.{MaySpell, IsNoAbort};
 ghost use Rattle.commit_log.specs.Orders.{IsAscending};
-ghost use Rattle.commit_log.specs.Spelling.{spelling_of_body, spelling_of_block, RecordsFit};
+ghost use Rattle.commit_log.specs.Spelling.{RecordsFit};
+ghost use Rattle.gate_block.specs.Blocks.{block_of};
 ghost use Rattle.batch_disk.specs.Writers.{voted_by};
-ghost use Rattle.batch_disk.specs.Records.{place_among, HavePlaces, IsRecordFor, AreRecordsFor};
+ghost use Rattle.batch_disk.specs.Records.{place_among, HavePlaces, IsRecordFor, AreRecordsFor, sealed_body};
 
 use crate::kept_version::KeptVersion;
 use crate::moved_places::version_among;
@@ -180,17 +181,18 @@ fn all_may_spell(records: &[CommitRecord]) -> bool
     true
 }
 
-/// The records of these units with the places that are kept, and their block. `Unlawful` only where no such records are within
+/// The records of these units with the places that are kept, and their block in this session. `Unlawful` only where no such records are within
 /// the limits of the format.
 pub(crate) fn work_of(
     alloc: Global,
     kept: &[KeptVersion],
     effects: List<Effect>,
+    session: u64,
 ) -> Result<SealWork, WorkFault>
     ensures records { IfOk result (λ work. AreRecordsFor (map voted_by kept.now) effects work.records) }
-    ensures fits { IfOk result (λ work. RecordsFit One work.records) }
-    ensures small { IfOk result (λ work. length (spelling_of_body work.records) < 2 ^ 32) }
-    ensures block { IfOk result (λ work. work.block ≡ spelling_of_block work.records) }
+    ensures fits { IfOk result (λ work. RecordsFit Two work.records) }
+    ensures small { IfOk result (λ work. length (sealed_body session work.records) < 2 ^ 32) }
+    ensures block { IfOk result (λ work. work.block ≡ block_of (sealed_body session work.records)) }
     ensures unlawful { IsErrOf result WorkFault.Unlawful → (records : List ARecord) → AreRecordsFor (map voted_by kept.now) effects records
         → length records ≤ 64 → AllByRecursion MaySpell records → ⊥ }
 {
@@ -203,6 +205,6 @@ pub(crate) fn work_of(
     if !all_may_spell(records.as_slice()) {
         return Err(WorkFault::Unlawful);
     }
-    let block = encode_block(alloc, &records)?;
+    let block = encode_block(alloc, &records, session)?;
     Ok(SealWork { records, block })
 }

@@ -30,7 +30,7 @@ use program_file::ProgramsInTurn;
 use script_check::Checked;
 use std::alloc::{AllocError, Global};
 
-/// In which slot the log and the grains' files are, where they go on, where each grain's last version stands, the programs of the log in
+/// In which slot the log and the grains' files are, the session of its blocks, where they go on, where each grain's last version stands, the programs of the log in
 /// the order in which they came into force, and where the votes of one batch wrote.
 ///
 /// Between two calls each image has the log up to the next gate, and what the votes wrote (`KeepsDisk`). The next gate, the ends and
@@ -38,6 +38,7 @@ use std::alloc::{AllocError, Global};
 #[derive(Drop)]
 pub struct BatchWriter {
     slot: u8,
+    session: u64,
     gate_at: u64,
     ends: Ends,
     places: Places,
@@ -51,7 +52,7 @@ pub struct BatchWriter {
 impl BatchWriter {
     /// A writer that goes on in this slot, 0 or 1, at this closed gate and at these ends, each below 2 to the 63, where the grains'
     /// last versions stand at these places. These programs came into force one after the other, and the last one is in force: each
-    /// place has the number of one of them.
+    /// place has the number of one of them. All blocks that it seals are of this session, which is below 2 to the 63.
     pub fn new(
         alloc: Global,
         slot: u8,
@@ -59,14 +60,17 @@ impl BatchWriter {
         ends: Ends,
         places: Places,
         programs: List<Checked>,
+        session: u64,
     ) -> Result<BatchWriter, AllocError>
         requires slot { slot ≤ 1 }
         requires gate { gate_at < 2 ^ 63 }
+        requires session { session < 2 ^ 63 }
         requires ends { (g : AGrain) → unwrap_or (end_in ends g) 0 < 2 ^ 63 }
         requires programs { ArePrograms (map program_tree programs) }
         requires numbered { (g : AGrain) (p : APlace) → placed_in places g ≡ Some p → p.program < length programs }
         ensures slot { IfOk result (λ made. made.slot ≡ slot) }
         ensures gate { IfOk result (λ made. made.gate_at ≡ gate_at) }
+        ensures session { IfOk result (λ made. made.session ≡ session) }
         ensures ends { IfOk result (λ made. (g : AGrain) → file_end made g ≡ unwrap_or (end_in ends g) 0) }
         ensures places { IfOk result (λ made. made.places ≡ places) }
         ensures programs { IfOk result (λ made. made.programs.checked ≡ programs) }
@@ -77,6 +81,7 @@ impl BatchWriter {
         let programs = ProgramsInTurn::new(alloc, programs)?;
         Ok(BatchWriter {
             slot,
+            session,
             gate_at,
             ends,
             places,
@@ -148,7 +153,7 @@ impl BatchWriter {
             file,
             placed.place,
             shape,
-            Format::One,
+            Format::Two,
         )?;
         Ok(Some(Version {
             unit: owner_told(placed, unit),
@@ -205,6 +210,7 @@ impl BatchWriter {
         ensures space { vec_capacity self.old.kept + vec_len self.new.kept ≤ vec_capacity self.new.kept + vec_len self.old.kept + 1 }
         ensures slot { self.new.slot ≡ self.old.slot }
         ensures gate { self.new.gate_at ≡ self.old.gate_at }
+        ensures session { self.new.session ≡ self.old.session }
         ensures doubt { self.new.in_doubt ≡ self.old.in_doubt }
         ensures batch { self.new.batch ≡ self.old.batch }
         ensures ends { self.new.ends ≡ self.old.ends }
@@ -222,6 +228,7 @@ impl BatchWriter {
         ensures kept { kept_of self.new ≡ kept_of self.old ++ voted_at grain places.now versions.now }
         ensures slot { self.new.slot ≡ self.old.slot }
         ensures gate { self.new.gate_at ≡ self.old.gate_at }
+        ensures session { self.new.session ≡ self.old.session }
         ensures doubt { self.new.in_doubt ≡ self.old.in_doubt }
         ensures batch { self.new.batch ≡ self.old.batch }
         ensures ends { self.new.ends ≡ self.old.ends }
@@ -279,7 +286,7 @@ impl BatchWriter {
         }
     }
 
-    /// The records of a batch's units to commit, in batch order, and their block. All memory that sealing wants is taken here;
+    /// The records of a batch's units to commit, in batch order, and their block in the writer's session. All memory that sealing wants is taken here;
     /// calls, answers and results are moved.
     ///
     /// It answers want of memory, too, where no place of a version that a unit wrote is kept, which can't be but where others
@@ -289,7 +296,7 @@ impl BatchWriter {
         ensures sealable { IfOk result (λ work. IsSealable self.now work) }
     {
         let votes = self.votes_of(batch);
-        match work_of(*self.kept.allocator(), votes, effects) {
+        match work_of(*self.kept.allocator(), votes, effects, self.session) {
             Ok(work) => Ok(work),
             Err(_) => Err(AllocError),
         }
@@ -302,6 +309,7 @@ impl BatchWriter {
         requires seats { AllByRecursion (λ w. has_seat self.old.places w.grain ≡ true) writes.now }
         ensures slot { self.new.slot ≡ self.old.slot }
         ensures gate { self.new.gate_at ≡ self.old.gate_at }
+        ensures session { self.new.session ≡ self.old.session }
         ensures doubt { self.new.in_doubt ≡ self.old.in_doubt }
         ensures kept { self.new.kept ≡ self.old.kept }
         ensures programs { self.new.programs ≡ self.old.programs }
@@ -333,6 +341,7 @@ impl BatchWriter {
         requires seats { AllByRecursion (λ r. AllByRecursion (λ w. has_seat self.old.places w.grain ≡ true) r.writes) records.now }
         ensures slot { self.new.slot ≡ self.old.slot }
         ensures gate { self.new.gate_at ≡ self.old.gate_at }
+        ensures session { self.new.session ≡ self.old.session }
         ensures doubt { self.new.in_doubt ≡ self.old.in_doubt }
         ensures kept { self.new.kept ≡ self.old.kept }
         ensures programs { self.new.programs ≡ self.old.programs }

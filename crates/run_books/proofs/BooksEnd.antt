@@ -173,6 +173,9 @@ module _ {H : Type 0} (tells : Bool) (world : H → World) (faults : H → Chann
         bodies = f.bodies;
         records = of_chosen;
         log_is = which;
+        reached = d.doubt.reached;
+        session = before.writer.session;
+        follows = d.doubt.later;
         front = d.doubt.front;
         block = d.doubt.block;
         differ = d.doubt.differ;

@@ -17,6 +17,7 @@ use Rattle.core_model.specs.Laws.{extended}
 use Rattle.core_model.specs.LegalRuns.{Run, ends}
 use Rattle.core_model.specs.Settler.{Step, Votes, Decides, Seals as SealStep, Learns, Writes, Loads, Takes, Rests, MakesEvent, settler_step, to_commit, versions_to_write}
 use Rattle.core_laws.proofs.CommitOrder.{no_doubt}
+use Rattle.field_codec.specs.declared.formats.Format.TheVariants.{Two}
 use Rattle.promise_spec.specs.Blocks.{Records, body_of}
 use Rattle.promise_spec.proofs.Standings.{grown_none, grown_twice}
 use Rattle.promise_spec.specs.Entries.{Log, grown}
@@ -376,7 +377,7 @@ module _ {H : Type 0} (tells : Bool) (world : H → World) (faults : H → Chann
       let s = journal-of e c refl refl makes t head f does in
       record {
         stood = grown f.stood batch;
-        bodies = f.bodies ++ body_of (Records batch) ∷ [];
+        bodies = f.bodies ++ body_of Two (Records before.writer.session batch) ∷ [];
         log = ap (grown f.stood) (sym (append-nil batch));
         keeps = s.disk;
         seals = s.seals;

@@ -89,6 +89,9 @@ module _ (o : Outset) (head : List ℕ) (b : Books) (r : Run) (writer : BatchWri
         bodies = h.bodies;
         records = subst (λ (w : CoreState). AreRecordsOf (chosen w) h.batch) end h.records;
         log = ⊎_elim (λ q. inl (sym order-is ∙ q)) (λ q. inr (sym order-is ∙ q)) h.log_is;
+        reached = h.reached;
+        session = h.session;
+        follows = h.follows;
         front = h.front;
         block = h.block;
         differ = h.differ;

@@ -1,9 +1,10 @@
 -- What each image that a crash may leave keeps of a run's books.
-use Rattle.std.specs.Prelude.{◌≡◌, ◌≢◌, ◌⊎◌, ℕ, ◌+◌, false, List, [], ◌++◌, take, drop}
+use Rattle.std.specs.Prelude.{◌≡◌, ◌≢◌, ◌⊎◌, ℕ, ◌+◌, ◌≤◌, false, List, [], ◌++◌, take, drop}
 use Rattle.host_trait.specs.declared.channels.FileId.TheVariants.{Manager}
 use Rattle.host_trait.specs.Disk.{FileState, MayLeave}
 use Rattle.host_trait.specs.declared.channels.FileId.{FileId}
 use Rattle.host_trait.specs.World.{World, Disk, Moment, Image, IsImage, Passes, moment_of}
+use Rattle.field_codec.specs.declared.formats.Format.TheVariants.{Two}
 use Rattle.core_model.specs.CoreState.{CoreState}
 use Rattle.core_model.specs.SerialOrder.{chosen}
 use Rattle.core_model.specs.LegalRuns.{Run, ends}
@@ -29,7 +30,8 @@ pub record LeavesAside (live : ℕ) (head : List ℕ) (old : World) (m : Moment)
   pub header : EachImage (λ image. take 15 (image (Manager live)) ≡ head) m.disk
 
 -- The block of a batch in doubt, whose records are those of its units to commit: the log is the one before it, or has it last. In
--- each image the one before it stands up to the gate, and its whole block stands behind that; images differ at most there.
+-- each image the one before it stands up to the gate, where no session is above the block's, and its whole block stands behind that;
+-- images differ at most there.
 pub record HasOpenBlock (live : ℕ) (log : Log) (w : CoreState) (disk : Disk) : Type 0 where
   pub gate : ℕ
   pub batch : List Commit
@@ -37,8 +39,11 @@ pub record HasOpenBlock (live : ℕ) (log : Log) (w : CoreState) (disk : Disk) :
   pub bodies : List (List ℕ)
   pub records : AreRecordsOf (chosen w) batch
   pub log_is : (log ≡ before) ⊎ (log ≡ grown before batch)
-  pub front : EachImage (λ image. StandsUpTo live image before bodies gate) disk
-  pub block : EachImage (HasBlock live gate batch) disk
+  pub reached : ℕ
+  pub session : ℕ
+  pub follows : reached ≤ session
+  pub front : EachImage (λ image. StandsUpTo Two live image before bodies gate reached) disk
+  pub block : EachImage (HasBlock live gate session batch) disk
   pub differ : (one other : Image) → IsImage disk one → IsImage disk other → DifferAt gate (one (Manager live)) (other (Manager live))
 
 -- what a crash may leave of the manager file is behind this gate as the file read where the run began

@@ -11,6 +11,7 @@ use Rattle.base_types.specs.declared.stores.Version.{Version}
 use Rattle.commit_log.specs.declared.records.CommitRecord.{CommitRecord}
 use Rattle.commit_log.specs.declared.gate.Sealing.{Sealing}
 use Rattle.commit_log.specs.declared.gate.Sealing.TheVariants as sealing
+use Rattle.field_codec.specs.declared.formats.Format.TheVariants.{Two}
 use Rattle.core_model.specs.CoreState.{CoreState}
 use Rattle.core_model.specs.declared.effects.Effect.{Effect}
 use Rattle.core_model.specs.declared.events.CoreEvent.{CoreEvent}
@@ -73,7 +74,7 @@ module _ (live : ℕ) (p : Program) (head : List ℕ) (log : Log) (bodies : List
         let rest : Passes (LeavesRest live head old) old.past new.past = seam_rest s.batch s.moments in
         record {
           records = s.records;
-          seals = seals_on live head log old new output s.batch (as_settled s.batch ∷ []) (append-nil s.batch) s.moments (keeps_log live (shape_in p) head (grown log s.batch) (bodies ++ body_of (Records s.batch) ∷ []) after new.disk s.stands);
+          seals = seals_on live head log old new output s.batch (as_settled s.batch ∷ []) (append-nil s.batch) s.moments (keeps_log live (shape_in p) head (grown log s.batch) (bodies ++ body_of Two (Records before.session s.batch) ∷ []) after new.disk s.stands);
           rest = rest;
           rest_now = holds_now (LeavesRest live head old) old new start rest clock;
           disk = s.stands;

@@ -7,6 +7,7 @@ use Rattle.base_types.specs.declared.shapes.Shape.{Shape}
 use Rattle.host_trait.specs.declared.channels.FileId.TheVariants.{Manager}
 use Rattle.host_trait.specs.World.{World, Passes, IsEmitted, moment_of}
 use Rattle.request_wire.specs.Reply.{reply_line}
+use Rattle.field_codec.specs.declared.formats.Format.TheVariants.{Two}
 use Rattle.core_model.specs.CoreState.{CoreState}
 use Rattle.core_model.specs.declared.effects.Effect.{Effect}
 use Rattle.core_model.specs.declared.events.CoreEvent.{CoreEvent}
@@ -44,13 +45,13 @@ module _ (live : ℕ) (p : Program) (head : List ℕ) (log : Log) (bodies : List
     pub rest_now : LeavesRest live head old (moment_of new)
     pub disk : KeepsDisk live (shape_in p) head log bodies after new.disk
 
-  -- The batch of these units is sealed: each image has it behind the logs of before.
+  -- The batch of these units is sealed in the writer's session: each image has it behind the logs of before.
   pub record SealsBatch (effects : List Effect) (batch : List Commit) : Type 0 where
     pub records : AreRecordsOf effects batch
     pub seals : Seals live log (as_settled batch ∷ []) old new
     pub rest : Passes (LeavesRest live head old) old.past new.past
     pub rest_now : LeavesRest live head old (moment_of new)
-    pub disk : KeepsDisk live (shape_in p) head (grown log batch) (bodies ++ body_of (Records batch) ∷ []) after new.disk
+    pub disk : KeepsDisk live (shape_in p) head (grown log batch) (bodies ++ body_of Two (Records before.session batch) ∷ []) after new.disk
 
   -- It is in doubt. Where no crash may leave its gate open no image has it; else some has it.
   pub record DoubtsBatch (gate : ℕ) (effects : List Effect) (batch : List Commit) : Type 0 where
@@ -59,7 +60,7 @@ module _ (live : ℕ) (p : Program) (head : List ℕ) (log : Log) (bodies : List
         ⊎ ((may_open gate (new.disk (Manager live)) ≡ true)
         × (Doubts live log (as_settled batch) old new × SomeImage (λ image. IsLog live image (grown log batch)) new.disk))
     pub rest : Passes (LeavesRest live head old) old.past new.past
-    pub doubt : IsSealInDoubt live head log bodies batch gate old new
+    pub doubt : IsSealInDoubt live head log bodies batch gate before.session old new
 
   -- by the event that was made, and the batch whose records were made
   abbrev pub JournalsAs : CoreEvent → Bool → CoreState → List Commit → Type 0

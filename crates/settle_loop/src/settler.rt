@@ -66,7 +66,7 @@ pub struct Settler {
 impl Settler {
     /// A settler that goes on in this slot, 0 or 1, at this closed gate and at these ends, each below 2 to the 63, where the grains' last
     /// versions stand at these places. These programs came into force one after the other, the last one is in force, and each place has
-    /// the number of one of them. A quiet one writes no replies.
+    /// the number of one of them. All that it seals is of this session, which is below 2 to the 63. A quiet one writes no replies.
     pub fn new(
         alloc: Global,
         slot: u8,
@@ -75,14 +75,17 @@ impl Settler {
         quiet: bool,
         places: Places,
         programs: List<Checked>,
+        session: u64,
     ) -> Result<Settler, AllocError>
         requires slot { slot ≤ 1 }
         requires gate { gate_at < 2 ^ 63 }
+        requires session { session < 2 ^ 63 }
         requires ends { (g : AGrain) → unwrap_or (end_in ends g) 0 < 2 ^ 63 }
         requires programs { ArePrograms (map program_tree programs) }
         requires numbered { (g : AGrain) (p : APlace) → placed_in places g ≡ Some p → p.program < length programs }
         ensures slot { IfOk result (λ made. made.writer.slot ≡ slot) }
         ensures gate { IfOk result (λ made. made.writer.gate_at ≡ gate_at) }
+        ensures session { IfOk result (λ made. made.writer.session ≡ session) }
         ensures ends { IfOk result (λ made. (g : AGrain) → file_end made.writer g ≡ unwrap_or (end_in ends g) 0) }
         ensures places { IfOk result (λ made. made.writer.places ≡ places) }
         ensures programs { IfOk result (λ made. programs_of made.writer ≡ map program_tree programs) }
@@ -95,7 +98,7 @@ impl Settler {
     {
         Ok(Settler {
             alloc,
-            writer: BatchWriter::new(alloc, slot, gate_at, ends, places, programs)?,
+            writer: BatchWriter::new(alloc, slot, gate_at, ends, places, programs, session)?,
             quiet,
             written: 0,
             doubted: false,

@@ -20,6 +20,9 @@ use host_trait::FileId;
 use settle_loop::{Gate, GatePlace, Settler, Turned};
 use std::alloc::{AllocError, Global};
 
+// The session of all that is sealed.
+const SESSION: u64 = 7;
+
 #[derive(Drop)]
 struct OpenGate;
 
@@ -57,7 +60,16 @@ fn bench_over(
     let shape = new_shape(alloc)?;
     let core = new_core(alloc, limit)?;
     let programs = new_programs(alloc)?;
-    let settler = Settler::new(alloc, slot, 15, Ends::new(alloc), quiet, places, programs)?;
+    let settler = Settler::new(
+        alloc,
+        slot,
+        15,
+        Ends::new(alloc),
+        quiet,
+        places,
+        programs,
+        SESSION,
+    )?;
     Ok(Bench {
         alloc,
         slot,

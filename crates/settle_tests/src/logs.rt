@@ -4,11 +4,14 @@ use std::alloc::{AllocError, Global};
 // Where the first gate stands.
 const FIRST_GATE: usize = 15;
 
+/// How far behind a block's gate its session stands.
+pub const SESSION: usize = 5;
+
 /// How far behind a block's gate its count of records stands.
-pub const COUNT: usize = 5;
+pub const COUNT: usize = 13;
 
 /// How far behind a block's gate the unit of its first record stands.
-pub const UNIT: usize = 9;
+pub const UNIT: usize = 17;
 
 fn byte(bytes: &[u8], at: usize) -> u8 {
     bytes.get(at).copied().unwrap_or(0)

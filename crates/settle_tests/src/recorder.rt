@@ -8,7 +8,7 @@ use host_trait::{Failed, FileId, Host};
 use std::alloc::{AllocError, Global};
 
 // The manager file of a new silo: the open header gate, the name, generation 1, two zeros, and the first gate, closed.
-const NEW_LOG: [u8; 16] = *b"\x01OTXLOG01\0\0\0\0\0\0\0";
+const NEW_LOG: [u8; 16] = *b"\x01OTXLOG02\0\0\0\0\0\0\0";
 
 // It tells nothing, so that a test may begin with any files. Its next emit fails where it has a first part to put out.
 #[derive(Drop)]

@@ -1,6 +1,6 @@
 use crate::bench::{Bench, new_bench};
 use crate::images::{Allowed, PICKS, count_allowed};
-use crate::logs::{COUNT, UNIT, words};
+use crate::logs::{COUNT, SESSION, UNIT, words};
 use crate::recorder::{bytes_in, count};
 use crate::units::{Add, account};
 use crate::verbs::{Look, Verb, verb_of};
@@ -220,6 +220,7 @@ impl Run {
             Look::Noted => self.say_noted(),
             Look::Doubt => self.said.push_str(flag_name(self.bench.doubted())),
             Look::Output => self.say_output(),
+            Look::Sessions => self.say_log(SESSION),
             Look::Counts => self.say_log(COUNT),
             Look::Units => self.say_log(UNIT),
             Look::File => self.say_file(file_of(self.bench.slot, numbers.first)),

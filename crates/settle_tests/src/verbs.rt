@@ -46,7 +46,8 @@ pub enum Look {
     /// Whether a batch is in doubt.
     Doubt,
     Output,
-    /// Of each block of the log, how many records it has; whose the first one is.
+    /// Of each block of the log, which session it is of; how many records it has; whose the first one is.
+    Sessions,
     Counts,
     Units,
     /// How many writes and syncs an account's file had, or the manager's where the number is -1; and how many bytes it has.
@@ -106,6 +107,7 @@ fn look_of(word: &str) -> Option<Verb> {
 // A look at files or images.
 fn look_behind(word: &str) -> Option<Verb> {
     match word {
+        "sessions" => Some(Verb::Look(Look::Sessions)),
         "units" => Some(Verb::Look(Look::Units)),
         "file" => Some(Verb::Look(Look::File)),
         "bytes" => Some(Verb::Look(Look::Bytes)),

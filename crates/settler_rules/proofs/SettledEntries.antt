@@ -23,7 +23,7 @@ use Rattle.core_laws.proofs.LineEntries.{once-ends}
 use Rattle.core_laws.proofs.Proper.{has-unit-ends, words-ends}
 use Rattle.promise_laws.specs.Legality.{is_play, applied_run}
 use Rattle.promise_laws.proofs.LegalRuns.{ends_alike, rule-plays}
-use Rattle.field_codec.specs.declared.formats.Format.TheVariants.{One}
+use Rattle.field_codec.specs.declared.formats.Format.TheVariants.{Two}
 use Rattle.field_codec.specs.Spelling.{ResultFits}
 use Rattle.promise_spec.specs.Outputs.{HasUnit, MaySay, IsProper}
 use Rattle.promise_spec.specs.UnitRule.{Basis, KeepsUnitRule}
@@ -44,7 +44,7 @@ has-unit base w u (settled.Dependency on) above low h = (let first = h.0 in omeg
 has-unit base w u settled.Disk above low h = (let first = h.0 in omega (arith, above, first), low)
 has-unit base w u settled.InDoubt above low h = (let first = h.0 in omega (arith, above, first), low)
 
-result-fits : (o : Outcome) → IsOutcomeInRange o → (o ≡ outcome.Aborted → ⊥) → ResultFits One o
+result-fits : (o : Outcome) → IsOutcomeInRange o → (o ≡ outcome.Aborted → ⊥) → ResultFits Two o
 result-fits outcome.Aborted range never = never refl
 result-fits (outcome.Value v) range never = range
 result-fits (outcome.Fault t) range never = range

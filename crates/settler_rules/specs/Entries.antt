@@ -5,14 +5,14 @@ use Rattle.base_types.specs.declared.calls.Outcome.TheVariants as outcome
 use Rattle.base_types.specs.declared.entries.Entry.{Entry}
 use Rattle.base_types.specs.declared.entries.Settled.{Settled}
 use Rattle.base_types.specs.declared.entries.Settled.TheVariants.{Done, Lock, Vote, Dependency, Disk, InDoubt, Bad}
-use Rattle.field_codec.specs.declared.formats.Format.TheVariants.{One}
+use Rattle.field_codec.specs.declared.formats.Format.TheVariants.{Two}
 use Rattle.field_codec.specs.Spelling.{TextFits, ValueFits}
 
 -- a number, or a text, that its type can hold
 abbrev pub IsOutcomeInRange : Outcome → Type 0
 IsOutcomeInRange outcome.Aborted = ⊤
-IsOutcomeInRange (outcome.Value value) = ValueFits One value
-IsOutcomeInRange (outcome.Fault text) = TextFits One text
+IsOutcomeInRange (outcome.Value value) = ValueFits Two value
+IsOutcomeInRange (outcome.Fault text) = TextFits Two text
 
 -- what is said has values that its types can hold
 abbrev pub IsSaidInRange : Settled → Type 0

@@ -70,6 +70,7 @@ fn blank_settler(alloc: Global) -> Result<Settler, AllocError>
         true,
         Places::new(alloc),
         programs,
+        0,
     )
 }
 

@@ -54,8 +54,8 @@ spawn_with-requires-send-T g t c κs = search (sendable, crosses, seat.the_send,
 
 pub spawn_with-requires-send-F : goal.spawn_with-requires-send-F
 spawn_with-requires-send-F g t c κs = λ out.
-    let each : AllSend (lts.of-54 g.row.E g.row.R g.row.H g.row.G g.row.L g.E.laws g.R.laws g.H.laws g.G.laws g.L.laws g.L.copy g.R.Threads g.R.Threads-dict g.R.Wait g.R.Wait-dict g.H.Host g.H.Host-dict g.G.Gate g.G.Gate-dict g.L.Lines g.L.Lines-dict g.L.Clone g.L.Clone-dict (record { mir = named 6; lft = κs.1.1.1.1.1.1.0 }) (record { mir = named 7; lft = κs.1.1.1.1.1.1.1.0 }) (record { mir = named 8; lft = κs.1.1.1.1.1.1.1.1.0 }) (record { mir = named 9; lft = κs.1.1.1.1.1.1.1.1.1.0 }) (record { mir = named 10; lft = κs.1.1.1.1.1.1.1.1.1.1.0 }) (record { mir = named 11; lft = κs.1.1.1.1.1.1.1.1.1.1.1.0 }) (record { mir = named 12; lft = κs.1.1.1.1.1.1.1.1.1.1.1.1.0 })) = (search (sendable, crosses) depth 60 fits 90000, (search (sendable, c.requires.shared) depth 60, (search (sendable, crosses) depth 60 fits 90000, (search (sendable, checked_sync) depth 60 fits 90000, (search (sendable, c.requires.shared) depth 60, (search (sendable, crosses) depth 60 fits 90000, (search (sendable, crosses) depth 60 fits 90000, (search (sendable, crosses, shared.the_sync, lease.the_sync, core_send) depth 60 fits 90000, (search (sendable, crosses, seat.the_send, core_send) depth 60 fits 90000, (search (sendable, c.requires.shared) depth 60, (search (sendable, crosses) depth 60 fits 90000, tt))))))))))) in
-    let whole : IsSend (lts.of-56 g.row.E g.row.R g.row.H g.row.G g.row.L g.E.laws g.R.laws g.H.laws g.G.laws g.L.laws g.L.copy g.R.Threads g.R.Threads-dict g.R.Wait g.R.Wait-dict g.H.Host g.H.Host-dict g.G.Gate g.G.Gate-dict g.L.Lines g.L.Lines-dict g.L.Clone g.L.Clone-dict (record { mir = named 6; lft = κs.1.1.1.1.1.1.0 }) (record { mir = named 7; lft = κs.1.1.1.1.1.1.1.0 }) (record { mir = named 8; lft = κs.1.1.1.1.1.1.1.1.0 }) (record { mir = named 9; lft = κs.1.1.1.1.1.1.1.1.1.0 }) (record { mir = named 10; lft = κs.1.1.1.1.1.1.1.1.1.1.0 }) (record { mir = named 11; lft = κs.1.1.1.1.1.1.1.1.1.1.1.0 }) (record { mir = named 12; lft = κs.1.1.1.1.1.1.1.1.1.1.1.1.0 })) = captures_send _ (lts.of-54 g.row.E g.row.R g.row.H g.row.G g.row.L g.E.laws g.R.laws g.H.laws g.G.laws g.L.laws g.L.copy g.R.Threads g.R.Threads-dict g.R.Wait g.R.Wait-dict g.H.Host g.H.Host-dict g.G.Gate g.G.Gate-dict g.L.Lines g.L.Lines-dict g.L.Clone g.L.Clone-dict (record { mir = named 6; lft = κs.1.1.1.1.1.1.0 }) (record { mir = named 7; lft = κs.1.1.1.1.1.1.1.0 }) (record { mir = named 8; lft = κs.1.1.1.1.1.1.1.1.0 }) (record { mir = named 9; lft = κs.1.1.1.1.1.1.1.1.1.0 }) (record { mir = named 10; lft = κs.1.1.1.1.1.1.1.1.1.1.0 }) (record { mir = named 11; lft = κs.1.1.1.1.1.1.1.1.1.1.1.0 }) (record { mir = named 12; lft = κs.1.1.1.1.1.1.1.1.1.1.1.1.0 })) each in
+    let each : AllSend (lts.of-58 g.row.E g.row.R g.row.H g.row.G g.row.L g.E.laws g.R.laws g.H.laws g.G.laws g.L.laws g.L.copy g.R.Threads g.R.Threads-dict g.R.Wait g.R.Wait-dict g.H.Host g.H.Host-dict g.G.Gate g.G.Gate-dict g.L.Lines g.L.Lines-dict g.L.Clone g.L.Clone-dict (record { mir = named 6; lft = κs.1.1.1.1.1.1.0 }) (record { mir = named 7; lft = κs.1.1.1.1.1.1.1.0 }) (record { mir = named 8; lft = κs.1.1.1.1.1.1.1.1.0 }) (record { mir = named 9; lft = κs.1.1.1.1.1.1.1.1.1.0 }) (record { mir = named 10; lft = κs.1.1.1.1.1.1.1.1.1.1.0 }) (record { mir = named 11; lft = κs.1.1.1.1.1.1.1.1.1.1.1.0 }) (record { mir = named 12; lft = κs.1.1.1.1.1.1.1.1.1.1.1.1.0 })) = (search (sendable, crosses) depth 60 fits 90000, (search (sendable, c.requires.shared) depth 60, (search (sendable, crosses) depth 60 fits 90000, (search (sendable, checked_sync) depth 60 fits 90000, (search (sendable, c.requires.shared) depth 60, (search (sendable, crosses) depth 60 fits 90000, (search (sendable, crosses) depth 60 fits 90000, (search (sendable, crosses, shared.the_sync, lease.the_sync, core_send) depth 60 fits 90000, (search (sendable, crosses, seat.the_send, core_send) depth 60 fits 90000, (search (sendable, c.requires.shared) depth 60, (search (sendable, crosses) depth 60 fits 90000, tt))))))))))) in
+    let whole : IsSend (lts.of-60 g.row.E g.row.R g.row.H g.row.G g.row.L g.E.laws g.R.laws g.H.laws g.G.laws g.L.laws g.L.copy g.R.Threads g.R.Threads-dict g.R.Wait g.R.Wait-dict g.H.Host g.H.Host-dict g.G.Gate g.G.Gate-dict g.L.Lines g.L.Lines-dict g.L.Clone g.L.Clone-dict (record { mir = named 6; lft = κs.1.1.1.1.1.1.0 }) (record { mir = named 7; lft = κs.1.1.1.1.1.1.1.0 }) (record { mir = named 8; lft = κs.1.1.1.1.1.1.1.1.0 }) (record { mir = named 9; lft = κs.1.1.1.1.1.1.1.1.1.0 }) (record { mir = named 10; lft = κs.1.1.1.1.1.1.1.1.1.1.0 }) (record { mir = named 11; lft = κs.1.1.1.1.1.1.1.1.1.1.1.0 }) (record { mir = named 12; lft = κs.1.1.1.1.1.1.1.1.1.1.1.1.0 })) = captures_send _ (lts.of-58 g.row.E g.row.R g.row.H g.row.G g.row.L g.E.laws g.R.laws g.H.laws g.G.laws g.L.laws g.L.copy g.R.Threads g.R.Threads-dict g.R.Wait g.R.Wait-dict g.H.Host g.H.Host-dict g.G.Gate g.G.Gate-dict g.L.Lines g.L.Lines-dict g.L.Clone g.L.Clone-dict (record { mir = named 6; lft = κs.1.1.1.1.1.1.0 }) (record { mir = named 7; lft = κs.1.1.1.1.1.1.1.0 }) (record { mir = named 8; lft = κs.1.1.1.1.1.1.1.1.0 }) (record { mir = named 9; lft = κs.1.1.1.1.1.1.1.1.1.0 }) (record { mir = named 10; lft = κs.1.1.1.1.1.1.1.1.1.1.0 }) (record { mir = named 11; lft = κs.1.1.1.1.1.1.1.1.1.1.1.0 }) (record { mir = named 12; lft = κs.1.1.1.1.1.1.1.1.1.1.1.1.0 })) each in
     param_send 2 (lts.arg-5-2 g.row.E g.row.R g.row.H g.row.G g.row.L g.E.laws g.R.laws g.H.laws g.G.laws g.L.laws g.L.copy g.R.Threads g.R.Threads-dict g.R.Wait g.R.Wait-dict g.H.Host g.H.Host-dict g.G.Gate g.G.Gate-dict g.L.Lines g.L.Lines-dict g.L.Clone g.L.Clone-dict κs) record { owned = whole.owned; leaving = λ k. whole.leaving exits.no }
 
 pub spawn_with-requires-clause-keeps : goal.spawn_with-requires-clause-keeps

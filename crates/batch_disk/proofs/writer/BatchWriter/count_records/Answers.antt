@@ -34,6 +34,7 @@ loop-record-preserved c =
     record {
       slot = c.count_writes.ensures.slot ∙ so_far.slot;
       gate = c.count_writes.ensures.gate ∙ so_far.gate;
+      session = c.count_writes.ensures.session ∙ so_far.session;
       doubt = c.count_writes.ensures.doubt ∙ so_far.doubt;
       kept = c.count_writes.ensures.kept ∙ so_far.kept;
       programs = c.count_writes.ensures.programs ∙ so_far.programs;

@@ -31,7 +31,7 @@ loop-write-preserved c =
     let d : Written = record { grain = record { kind = 0; key = 0 }; place = record { offset = 0; len = 0 } } in
     let w : Written = get_or ws i d in
     let a = c.loop-write.self in
-    let b : BatchWriter = record { slot = a.slot; gate_at = a.gate_at; ends = c.raise.new.self; places = c.move_place.new.places; programs = a.programs; batch = a.batch; kept = a.kept; in_doubt = a.in_doubt } in
+    let b : BatchWriter = record { slot = a.slot; session = a.session; gate_at = a.gate_at; ends = c.raise.new.self; places = c.move_place.new.places; programs = a.programs; batch = a.batch; kept = a.kept; in_doubt = a.in_doubt } in
     let can : WriteCanCount c.args.self.now w = each_at (WriteCanCount c.args.self.now) ws i d c.requires.can c.loop-write-test.true in
     let before = c.args.self.now in
     let kept : List Voted = kept_of before in
@@ -42,11 +42,12 @@ loop-write-preserved c =
     record {
       slot = c.loop-write.invariant.slot;
       gate = c.loop-write.invariant.gate;
+      session = c.loop-write.invariant.session;
       doubt = c.loop-write.invariant.doubt;
       kept = c.loop-write.invariant.kept;
       programs = c.loop-write.invariant.programs;
       room = λ g there. c.raise.ensures.room g (c.loop-write.invariant.room g there);
-      bounds = raised_bounds a b c.args.unit w refl refl refl
+      bounds = raised_bounds a b c.args.unit w refl refl refl refl
           (λ g. moved g ∙ (λ i. moved_by_write (newest_in (sym c.loop-write.invariant.programs i)) (map voted_by (sym c.loop-write.invariant.kept i).items) c.args.unit w.grain g (placed_in a.places g)))
           refl c.raise.ensures.room c.move_place.ensures.seats ends can.1 c.loop-write.invariant.bounds;
       ends = λ g. next_raised (file_end a) (file_end b) (λ (h : GrainId). raised_ends (file_end c.args.self.now) ws h) ws i d g c.loop-write-test.true ends (c.loop-write.invariant.ends g);

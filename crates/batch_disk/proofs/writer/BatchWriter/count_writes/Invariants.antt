@@ -11,6 +11,7 @@ abbrev pub invariant-loop-write : goal.invariant-loop-write
 invariant-loop-write l = record {
   slot : l.self.slot ≡ l.fn.self.slot;
   gate : l.self.gate_at ≡ l.fn.self.gate_at;
+  session : l.self.session ≡ l.fn.self.session;
   doubt : l.self.in_doubt ≡ l.fn.self.in_doubt;
   kept : l.self.kept ≡ l.fn.self.kept;
   programs : l.self.programs ≡ l.fn.self.programs;

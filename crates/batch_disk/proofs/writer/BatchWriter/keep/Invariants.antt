@@ -8,6 +8,7 @@ abbrev pub invariant-loop-at : goal.invariant-loop-at
 invariant-loop-at l = record {
   slot : l.self.slot ≡ l.fn.self.slot;
   gate : l.self.gate_at ≡ l.fn.self.gate_at;
+  session : l.self.session ≡ l.fn.self.session;
   doubt : l.self.in_doubt ≡ l.fn.self.in_doubt;
   batch : l.self.batch ≡ l.fn.self.batch;
   ends : l.self.ends ≡ l.fn.self.ends;

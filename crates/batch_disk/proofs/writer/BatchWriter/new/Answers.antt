@@ -9,12 +9,13 @@ use Rattle.batch_disk.proofs.writer.BatchWriter.new.Goals as goal
 
 pub returns-clause-bounds : goal.returns-clause-bounds
 returns-clause-bounds c =
-    let b : BatchWriter = record { slot = c.args.slot; gate_at = c.args.gate_at; ends = c.args.ends; places = c.args.places; programs = c.in_ok-programs.programs; batch = 0; kept = c.new-2.result; in_doubt = false } in
+    let b : BatchWriter = record { slot = c.args.slot; session = c.args.session; gate_at = c.args.gate_at; ends = c.args.ends; places = c.args.places; programs = c.in_ok-programs.programs; batch = 0; kept = c.new-2.result; in_doubt = false } in
     let none : kept_of b ≡ [] = ap (map voted_by) c.new-2.ensures.items in
     let same = c.in_ok-programs.ensures.programs in
     record {
       slot = c.requires.slot;
       gate = c.requires.gate;
+      session = c.requires.session;
       ends = c.requires.ends;
       kept = subst (AllByRecursion (CanCount b)) (sym none) tt;
       seats = subst (AllByRecursion (HasSeat b)) (sym none) tt;

@@ -78,7 +78,7 @@ returns-in-Ok-clause-voted g c =
     let run : IsTrue g.H.Host.tells → RunsOnFile (Grain a.slot grain) (Tears (file_end a grain) size) 1 w0 w2 = λ told. run_at a.slot grain c.file_end-at.result (file_end a grain) size w0 w2 c.file_end-at.ensures (c.write_versions.ensures.run told) in
     let d = c.keep.new.self in
     let k : KeepsMore batch grain (file_end a grain) vs a d = keeps_more batch grain (file_end a grain) vs c.in-Ok.places a b d r
-    (c.in-Ok.ensures.places ∙ ap (λ (n : ℕ). places_from n vs) c.file_end-at.ensures) (c.keep.ensures.kept ∙ (λ i. kept_of b ++ voted_at grain (c.as_slice-placed.ensures i) (c.as_slice-written.ensures i))) c.keep.ensures.slot c.keep.ensures.gate c.keep.ensures.doubt c.keep.ensures.batch c.keep.ensures.ends c.keep.ensures.places c.keep.ensures.programs in
+    (c.in-Ok.ensures.places ∙ ap (λ (n : ℕ). places_from n vs) c.file_end-at.ensures) (c.keep.ensures.kept ∙ (λ i. kept_of b ++ voted_at grain (c.as_slice-placed.ensures i) (c.as_slice-written.ensures i))) c.keep.ensures.slot c.keep.ensures.gate c.keep.ensures.session c.keep.ensures.doubt c.keep.ensures.batch c.keep.ensures.ends c.keep.ensures.places c.keep.ensures.programs in
     votes_yes g.H.Host.tells g.H.Host.world g.H.Host.faults batch grain vs a d c.args.host.now c.write_versions.new.host run k c.in-Ok.ensures.calm
     (λ told. subst (λ (n : ℕ). WroteVersions (Grain a.slot grain) n vs w0 w2) c.file_end-at.ensures (c.in-Ok.ensures.wrote told)) c.in-Ok.ensures.fits (subst (λ (n : ℕ). n + size < 2 ^ 63) c.file_end-at.ensures c.in-Ok.ensures.bound)
 
@@ -146,7 +146,7 @@ returns-in-Ok-clause-safe g c =
     let w2 = g.H.Host.world c.write_versions.new.host in
     let d = c.keep.new.self in
     let k : KeepsMore batch grain (file_end a grain) vs a d = keeps_more batch grain (file_end a grain) vs c.in-Ok.places a b d r
-    (c.in-Ok.ensures.places ∙ ap (λ (n : ℕ). places_from n vs) c.file_end-at.ensures) (c.keep.ensures.kept ∙ (λ i. kept_of b ++ voted_at grain (c.as_slice-placed.ensures i) (c.as_slice-written.ensures i))) c.keep.ensures.slot c.keep.ensures.gate c.keep.ensures.doubt c.keep.ensures.batch c.keep.ensures.ends c.keep.ensures.places c.keep.ensures.programs in
+    (c.in-Ok.ensures.places ∙ ap (λ (n : ℕ). places_from n vs) c.file_end-at.ensures) (c.keep.ensures.kept ∙ (λ i. kept_of b ++ voted_at grain (c.as_slice-placed.ensures i) (c.as_slice-written.ensures i))) c.keep.ensures.slot c.keep.ensures.gate c.keep.ensures.session c.keep.ensures.doubt c.keep.ensures.batch c.keep.ensures.ends c.keep.ensures.places c.keep.ensures.programs in
     record {
       bounds = bounds_more a d batch grain (file_end a grain) vs k.same k.kept k.room k.seats (subst (λ e. has_room e grain ≡ true) (sym c.keep.ensures.ends) c.in_ok-make_room.ensures.made)
           (subst (λ p. has_seat p grain ≡ true) (sym c.keep.ensures.places) c.in_ok-make_room.ensures.seated) (subst (λ (n : ℕ). n + size < 2 ^ 63) c.file_end-at.ensures c.in-Ok.ensures.bound) c.requires.safe.bounds;
