@@ -18,7 +18,7 @@ use Rattle.base_types.specs.Stores.{grain_cmp, state_in, PutsState}
 use Rattle.base_types.proofs.GrainOrder.{one_of, from_before, lt_is, grain_total, same_is}
 use Rattle.host_trait.specs.World.{Image}
 use Rattle.field_codec.specs.declared.formats.Format.{Format}
-use Rattle.field_codec.specs.declared.formats.Format.TheVariants.{One}
+use Rattle.field_codec.specs.declared.formats.Format.TheVariants.{Two}
 use Rattle.grain_log.specs.Places.{IsVersionIn}
 use Rattle.grain_log.specs.Reads.{fields_of}
 use Rattle.script_tree.specs.Programs.{ProgramTree, program_tree}
@@ -30,9 +30,9 @@ use Rattle.script_check.proofs.ComparedNames.{types}
 use Rattle.script_check.proofs.CarriedFields.{count}
 use Rattle.program_file.specs.ProgramsInTurn.{HasItsFields}
 use Rattle.program_file.proofs.ProgramNumbers.{has_fields}
-use Rattle.log_entries.specs.Entries.{IsEntryIn, entry_said}
-use Rattle.log_entries.specs.declared.entries.Said.{Said}
-use Rattle.log_entries.specs.declared.entries.Said.TheVariants as says
+use Rattle.log_reading.specs.Entries.{IsEntryIn, entry_said}
+use Rattle.log_reading.specs.declared.bodies.Said.{Said}
+use Rattle.log_reading.specs.declared.bodies.Said.TheVariants as says
 use Rattle.log_reading.specs.Blocks.{entries_said}
 use Rattle.log_reading.specs.Steps.{IsSaidIn}
 use Rattle.promise_spec.specs.Programs.{Program}
@@ -169,10 +169,10 @@ stands_carried store made before q has carried = record {
 
 -- so an upgrade replays, whatever it says
 pub replays_upgrade : (live : ℕ) (image : Image) (before : Standing) (store made : Store) (said : Said) (text : List ℕ) (checked : Checked) → said ≡ says.Upgrade text checked → IsStoreOf store before
-    → ((g : GrainId) → state_in made g ≡ carried_in before.program.types (program_tree checked) store g) → AllReplayTo before (entries_logged live before.program image (entries_said (entry_said said))) made None
+    → ((g : GrainId) → state_in made g ≡ carried_in before.program.types (program_tree checked) store g) → AllReplayTo before (entries_logged Two live before.program image (entries_said (entry_said said))) made None
 replays_upgrade live image before store made said text checked is has carried =
-    subst (λ (s : Said). AllReplayTo before (entries_logged live before.program image (entries_said (entry_said s))) made None) (sym is) (tt, stands_carried store made before (record { text = text; types = program_tree checked }) has carried)
+    subst (λ (s : Said). AllReplayTo before (entries_logged Two live before.program image (entries_said (entry_said s))) made None) (sym is) (tt, stands_carried store made before (record { text = text; types = program_tree checked }) has carried)
 
 -- and it goes on from the program in force, where it is one that may come behind it
-pub follows_on_from : (types : ProgramTree) (said : Said) (text : List ℕ) (checked : Checked) → said ≡ says.Upgrade text checked → IsSaidIn One types said → GoesOnFrom types (program_tree checked)
-follows_on_from types said text checked is may = (subst (λ (s : Said). IsEntryIn One (record { text = []; types = types }) (entry_said s)) is (may (record { text = []; types = types }) refl)).1
+pub follows_on_from : (types : ProgramTree) (said : Said) (text : List ℕ) (checked : Checked) → said ≡ says.Upgrade text checked → IsSaidIn Two types said → GoesOnFrom types (program_tree checked)
+follows_on_from types said text checked is may = (subst (λ (s : Said). IsEntryIn Two (record { text = []; types = types }) (entry_said s)) is (may (record { text = []; types = types }) refl)).1

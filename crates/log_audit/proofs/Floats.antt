@@ -68,16 +68,16 @@ grain_no_float shape types grain state = neither (members_have_float (fields_dat
 pub count_no_float : (count : ℕ) → has_float (count_data count) ≡ false
 count_no_float count = refl
 
-ended_none : (origin : Origin) (unit : ℕ) (how : Outcome) → members_have_float (ended_as origin unit how) ≡ false
-ended_none (Line n) unit (outcome.Value v) = neither (has_float (value_data v)) false (value_none v) refl
-ended_none (Child parent index depth) unit (outcome.Value v) = neither (has_float (value_data v)) false (value_none v) refl
-ended_none (Line n) unit (outcome.Fault text) = refl
-ended_none (Child parent index depth) unit (outcome.Fault text) = refl
-ended_none (Line n) unit outcome.Aborted = refl
-ended_none (Child parent index depth) unit outcome.Aborted = refl
+ended_none : (origin : Origin) (session unit : ℕ) (how : Outcome) → members_have_float (ended_as origin session unit how) ≡ false
+ended_none (Line n) session unit (outcome.Value v) = neither (has_float (value_data v)) false (value_none v) refl
+ended_none (Child parent index depth) session unit (outcome.Value v) = neither (has_float (value_data v)) false (value_none v) refl
+ended_none (Line n) session unit (outcome.Fault text) = refl
+ended_none (Child parent index depth) session unit (outcome.Fault text) = refl
+ended_none (Line n) session unit outcome.Aborted = refl
+ended_none (Child parent index depth) session unit outcome.Aborted = refl
 
-pub record_no_float : (shape : Shape) (types : ProgramTree) (r : CommitRecord) → has_float (record_data shape types r) ≡ false
-record_no_float shape types r = neither (items_have_float (items_of r.call.args)) (members_have_float (ended_as r.origin r.unit.0 r.result)) (items_none r.call.args) (ended_none r.origin r.unit.0 r.result)
+pub record_no_float : (shape : Shape) (types : ProgramTree) (session : ℕ) (r : CommitRecord) → has_float (record_data shape types session r) ≡ false
+record_no_float shape types session r = neither (items_have_float (items_of r.call.args)) (members_have_float (ended_as r.origin session r.unit.0 r.result)) (items_none r.call.args) (ended_none r.origin session r.unit.0 r.result)
 
 pub audit_no_float : (count : ℕ) (unit : Option ℕ) → has_float (audit_data count unit) ≡ false
 audit_no_float count None = refl

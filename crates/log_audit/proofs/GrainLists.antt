@@ -2,14 +2,14 @@
 use Rattle.std.proofs.Common.{◌≡◌, ℕ, List, [], ◌++◌, map, Some, None, Ok, Err, refl, sym, ◌∙◌, ap, subst, append_assoc, append-nil}
 use Rattle.std.proofs.lemmas.Grind.{flat_map-append}
 use Rattle.base_types.specs.declared.calls.GrainId.{GrainId}
-use Rattle.field_codec.specs.declared.formats.Format.TheVariants.{One}
+use Rattle.field_codec.specs.declared.formats.Format.TheVariants.{Two}
 use Rattle.commit_log.specs.declared.records.CommitRecord.{CommitRecord}
 use Rattle.commit_log.specs.declared.records.Written.{Written}
 use Rattle.host_trait.specs.declared.channels.FileId.{FileId}
 use Rattle.host_trait.specs.declared.channels.FileId.TheVariants.{Manager}
 use Rattle.script_tree.specs.Programs.{ProgramTree}
-use Rattle.log_entries.specs.Entries as says
-use Rattle.log_entries.specs.Entries.{BodyEntry}
+use Rattle.log_reading.specs.Entries as says
+use Rattle.log_reading.specs.Entries.{BodyEntry}
 use Rattle.log_reading.specs.Blocks.{LogBase, ReadEntry, LogRead, entries_said, program_after, records_read, log_in_file}
 use Rattle.log_reading.specs.Steps.{next_in, IsFollowedBy}
 use Rattle.log_reading.specs.declared.faults.FolderFault.{FolderFault}
@@ -31,27 +31,29 @@ said_are (says.Recorded records) = ap grains_recorded (records_seen records)
 said_are (says.Upgraded p) = refl
 
 -- the grains of the log's beginning and of the entries that were read, behind which these types are in force
-pub record HasGrains (p : Program) (file : List ℕ) (gate : ℕ) (types : ProgramTree) (kept : List GrainId) : Type 0 where
+pub record HasGrains (p : Program) (file : List ℕ) (last gate : ℕ) (types : ProgramTree) (kept : List GrainId) : Type 0 where
   pub base : LogBase
   pub entries : List ReadEntry
-  pub follows : IsFollowedBy One p file base entries gate
+  pub sessions : List ℕ
+  pub follows : IsFollowedBy Two p file base entries sessions last gate
   pub in_force : (program_after p entries).types ≡ types
   pub are : kept ≡ grains_added [] (grains_of_log (record { base = base; entries = entries }))
 
 module _ (p : Program) (file : List ℕ) where
-  pub grains_begun : (base : LogBase) (gate : ℕ) (types : ProgramTree) (kept : List GrainId) → p.types ≡ types → IsFollowedBy One p file base [] gate → kept ≡ grains_added [] (map (λ w. w.grain) base.writes)
-      → HasGrains p file gate types kept
-  grains_begun base gate types kept first begins are = record {
+  pub grains_begun : (base : LogBase) (last gate : ℕ) (types : ProgramTree) (kept : List GrainId) → p.types ≡ types → IsFollowedBy Two p file base [] [] last gate → kept ≡ grains_added [] (map (λ w. w.grain) base.writes)
+      → HasGrains p file last gate types kept
+  grains_begun base last gate types kept first begins are = record {
     base = base;
     entries = [];
+    sessions = [];
     follows = begins;
     in_force = first;
     are = are ∙ ap (grains_added []) (sym (append-nil (map (λ (w : Written). w.grain) base.writes)));
   }
 
-  module _ (gate : ℕ) (types : ProgramTree) (kept : List GrainId) (h : HasGrains p file gate types kept) where
-    pub grains_more : (entry : BodyEntry) (behind : ℕ) (new : List GrainId) → new ≡ grains_added kept (grains_said entry) → next_in One types gate file ≡ Ok (Some (entry, behind)) → HasGrains p file behind (types_behind types entry) new
-    grains_more entry behind new put step =
+  module _ (last gate : ℕ) (types : ProgramTree) (kept : List GrainId) (h : HasGrains p file last gate types kept) where
+    pub grains_more : (session : ℕ) (entry : BodyEntry) (behind : ℕ) (new : List GrainId) → new ≡ grains_added kept (grains_said entry) → next_in Two types last gate file ≡ Ok (Some (session, entry, behind)) → HasGrains p file session behind (types_behind types entry) new
+    grains_more session entry behind new put step =
         let saved : List GrainId = map (λ (w : Written). w.grain) h.base.writes in
         let all : grains_recorded (records_read (h.entries ++ entries_said entry)) ≡ grains_recorded (records_read h.entries) ++ grains_said entry =
         ap grains_recorded (records_both h.entries (entries_said entry)) ∙ recorded_both (records_read h.entries) (records_read (entries_said entry))
@@ -59,23 +61,24 @@ module _ (p : Program) (file : List ℕ) where
         record {
           base = h.base;
           entries = h.entries ++ entries_said entry;
-          follows = follows_on One p file h.base h.entries gate h.follows entry behind (subst (λ (t : ProgramTree). next_in One t gate file ≡ Ok (Some (entry, behind))) (sym h.in_force) step);
+          sessions = h.sessions ++ map (λ e. session) (entries_said entry);
+          follows = follows_on Two p file h.base h.entries h.sessions last gate h.follows session entry behind (subst (λ (t : ProgramTree). next_in Two t last gate file ≡ Ok (Some (session, entry, behind))) (sym h.in_force) step);
           in_force = ap (λ (q : Program). q.types) (after_more p h.entries entry) ∙ behind_is (program_after p h.entries) types entry h.in_force;
           are =
               put ∙ ap (λ (l : List GrainId). grains_added l (grains_said entry)) h.are ∙ sym (grains_added-append [] (saved ++ grains_recorded (records_read h.entries)) (grains_said entry))
               ∙ ap (grains_added []) (append_assoc saved (grains_recorded (records_read h.entries)) (grains_said entry) ∙ ap (λ (l : List GrainId). saved ++ l) (sym all));
         }
 
-    pub grains_ended : next_in One types gate file ≡ Ok None → (log : LogRead) → log_in_file One p file ≡ Ok log → kept ≡ grains_added [] (grains_of_log log)
+    pub grains_ended : next_in Two types last gate file ≡ Ok None → (log : LogRead) → log_in_file Two p file ≡ Ok log → kept ≡ grains_added [] (grains_of_log log)
     grains_ended end log is =
-        let same = all_read p file h.base h.entries gate h.follows (subst (λ (t : ProgramTree). next_in One t gate file ≡ Ok None) (sym h.in_force) end) log is in
+        let same = all_read p file h.base h.entries h.sessions last gate h.follows (subst (λ (t : ProgramTree). next_in Two t last gate file ≡ Ok None) (sym h.in_force) end) log is in
         h.are ∙ (λ i. grains_added [] (map (λ (w : Written). w.grain) (same.0 i).writes ++ grains_recorded (records_read (same.1 i))))
 
-    pub grains_broken : (place : ℕ) → next_in One types gate file ≡ Err place → log_in_file One p file ≡ Err place
-    grains_broken place step = follows_breaks One p file h.base h.entries gate h.follows place (subst (λ (t : ProgramTree). next_in One t gate file ≡ Err place) (sym h.in_force) step)
+    pub grains_broken : (place : ℕ) → next_in Two types last gate file ≡ Err place → log_in_file Two p file ≡ Err place
+    grains_broken place step = follows_breaks Two p file h.base h.entries h.sessions last gate h.follows place (subst (λ (t : ProgramTree). next_in Two t last gate file ≡ Err place) (sym h.in_force) step)
 
   -- a fault of reading the log
-  pub log_fault : {A : Type 0} (slot : ℕ) (e : FolderFault) → ((at : FileId) (place : ℕ) → failed {A = A} e ≡ failed (FolderFault.Damaged at place) → log_in_file One p file ≡ Err place)
+  pub log_fault : {A : Type 0} (slot : ℕ) (e : FolderFault) → ((at : FileId) (place : ℕ) → failed {A = A} e ≡ failed (FolderFault.Damaged at place) → log_in_file Two p file ≡ Err place)
       → ((at : FileId) → failed {A = A} e ≡ failed (FolderFault.Failed at) → at ≡ Manager slot) → IsLogFault slot p file e
   log_fault slot (FolderFault.Damaged at place) damaged fails = damaged at place refl
   log_fault slot (FolderFault.Failed at) damaged fails = fails at refl

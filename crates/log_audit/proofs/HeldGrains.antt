@@ -11,7 +11,7 @@ use Rattle.commit_log.specs.declared.records.Written.{Written}
 use Rattle.promise_spec.specs.Programs.{Program, shape_in}
 use Rattle.promise_spec.specs.Records.{Commit}
 use Rattle.promise_spec.specs.Entries.{Recorded, Upgraded, Standing, is_among, after_entry, after_entries, standing_of}
-use Rattle.field_codec.specs.declared.formats.Format.TheVariants.{One}
+use Rattle.field_codec.specs.declared.formats.Format.TheVariants.{Two}
 use Rattle.promise_spec.specs.Openings.{ReadEntry, ReadRecord, ReadUpgrade, LogRead, records_read, commit_of, version_named, state_of, entries_logged, log_of}
 use Rattle.log_audit.specs.WrittenGrains.{grains_recorded, grains_of_log}
 
@@ -27,10 +27,10 @@ or_between false false c = refl
 
 -- the states at the places of a record and of a log's beginning
 abbrev state_of_write : ℕ → Program → Image → CommitRecord → Written → List Value
-state_of_write live p image r w = state_of (version_named live One (shape_in p) image (record { unit = Some r.unit; program = 0; written = w }))
+state_of_write live p image r w = state_of (version_named live Two (shape_in p) image (record { unit = Some r.unit; program = 0; written = w }))
 
 abbrev state_saved : ℕ → Program → Image → Written → List Value
-state_saved live p image w = state_of (version_named live One (shape_in p) image (record { unit = None; program = 0; written = w }))
+state_saved live p image w = state_of (version_named live Two (shape_in p) image (record { unit = None; program = 0; written = w }))
 
 module _ (grain : GrainId) where
   abbrev one_of : List GrainId → Bool
@@ -54,18 +54,18 @@ module _ (grain : GrainId) where
     or_none true = refl
     or_none false = refl
 
-    held_on : (p : Program) (before : Standing) (entries : List ReadEntry) → (after_entries before (entries_logged live p image entries)).held grain ≡ (before.held grain || one_of (grains_recorded (records_read entries)))
+    held_on : (p : Program) (before : Standing) (entries : List ReadEntry) → (after_entries before (entries_logged Two live p image entries)).held grain ≡ (before.held grain || one_of (grains_recorded (records_read entries)))
     held_on p before [] = or_none (before.held grain)
     held_on p before (ReadRecord r ∷ entries) =
-        let c : Commit = commit_of live (shape_in p) image r in
+        let c : Commit = commit_of Two live (shape_in p) image r in
         held_on p (after_entry before (Recorded c)) entries
         ∙ ap (λ (b : Bool). (b || before.held grain) || one_of (grains_recorded (records_read entries))) (among_pairs (λ w. state_of_write live p image r w) r.writes)
         ∙ or_between (one_of (map (λ w. w.grain) r.writes)) (before.held grain) (one_of (grains_recorded (records_read entries)))
         ∙ ap (λ (b : Bool). before.held grain || b) (sym (any_both (map (λ w. w.grain) r.writes) (grains_recorded (records_read entries))))
     held_on p before (ReadUpgrade q ∷ entries) = held_on q (after_entry before (Upgraded q)) entries
 
-    pub held_of_log : (p : Program) (l : LogRead) → one_of (grains_of_log l) ≡ (standing_of (log_of live p image l)).held grain
+    pub held_of_log : (p : Program) (l : LogRead) → one_of (grains_of_log l) ≡ (standing_of (log_of Two live p image l)).held grain
     held_of_log p l =
         any_both (map (λ w. w.grain) l.base.writes) (grains_recorded (records_read l.entries))
         ∙ ap (λ (b : Bool). b || one_of (grains_recorded (records_read l.entries))) (sym (among_read (λ w. state_saved live p image w) l.base.writes))
-        ∙ sym (held_on p (log_of live p image l).base l.entries)
+        ∙ sym (held_on p (log_of Two live p image l).base l.entries)

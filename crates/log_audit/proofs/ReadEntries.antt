@@ -4,13 +4,13 @@ use Rattle.std.specs.Prelude.{slice_get}
 use Rattle.std.proofs.lemmas.List.{length-map}
 use Rattle.base_types.specs.declared.shapes.Shape.{Shape}
 use Rattle.host_trait.specs.World.{Image}
-use Rattle.field_codec.specs.declared.formats.Format.TheVariants.{One}
+use Rattle.field_codec.specs.declared.formats.Format.TheVariants.{Two}
 use Rattle.commit_log.specs.declared.records.CommitRecord.{CommitRecord}
 use Rattle.script_tree.specs.Programs.{ProgramTree, program_tree}
 use Rattle.script_check.specs.Shapes.{type_shapes}
 use Rattle.program_file.specs.Succession.{AreInTurn, ArePrograms}
-use Rattle.log_entries.specs.Entries as says
-use Rattle.log_entries.specs.Entries.{BodyEntry}
+use Rattle.log_reading.specs.Entries as says
+use Rattle.log_reading.specs.Entries.{BodyEntry}
 use Rattle.log_reading.specs.Blocks.{LogBase, ReadEntry, ReadRecord, ReadUpgrade, LogRead, program_behind, program_after, before_others, behind_base, records_read, types_read, log_in_file}
 use Rattle.log_reading.specs.Steps.{next_in, entries_from, IsFollowedBy}
 use Rattle.log_reading.proofs.LogBlocks.{follows_ends}
@@ -51,16 +51,16 @@ shape_types now shape = ap (λ (s : Shape). s.types) shape
 -- ---- what was read of a log
 
 -- where the log ends, its beginning and all of its entries were read
-pub all_read : (p : Program) (file : List ℕ) (base : LogBase) (done : List ReadEntry) (gate : ℕ) → IsFollowedBy One p file base done gate → next_in One (program_after p done).types gate file ≡ Ok None
-    → (log : LogRead) → log_in_file One p file ≡ Ok log → (base ≡ log.base) × (done ≡ log.entries)
-all_read p file base done gate f end log is =
-    let same : record { base = base; entries = done } ≡ log = (let both : Ok (record { base = base; entries = done }) ≡ Ok log = sym (follows_ends One p file base done gate f end).0 ∙ is in cc both) in
+pub all_read : (p : Program) (file : List ℕ) (base : LogBase) (done : List ReadEntry) (sessions : List ℕ) (last gate : ℕ) → IsFollowedBy Two p file base done sessions last gate → next_in Two (program_after p done).types last gate file ≡ Ok None
+    → (log : LogRead) → log_in_file Two p file ≡ Ok log → (base ≡ log.base) × (done ≡ log.entries)
+all_read p file base done sessions last gate f end log is =
+    let same : record { base = base; entries = done } ≡ log = (let both : Ok (record { base = base; entries = done }) ≡ Ok log = sym (follows_ends Two p file base done sessions last gate f end).0 ∙ is in cc both) in
     (ap (λ (l : LogRead). l.base) same, ap (λ (l : LogRead). l.entries) same)
 
 -- what the log begins with was read, and what is left behind the entries that were
-pub rest_of : (p : Program) (file : List ℕ) (base : LogBase) (done : List ReadEntry) (gate : ℕ) → IsFollowedBy One p file base done gate → (log : LogRead) → log_in_file One p file ≡ Ok log
+pub rest_of : (p : Program) (file : List ℕ) (base : LogBase) (done : List ReadEntry) (sessions : List ℕ) (last gate : ℕ) → IsFollowedBy Two p file base done sessions last gate → (log : LogRead) → log_in_file Two p file ≡ Ok log
     → (base ≡ log.base) × ((rest : List ReadEntry) × (log.entries ≡ done ++ rest))
-rest_of p file base done gate f log is = by (entries_from One (program_after p done) f.fuel gate file) (f.rest ∙ is)
+rest_of p file base done sessions last gate f log is = by (entries_from Two (program_after p done) last f.fuel gate file) (f.rest ∙ is)
   where
     by : (r : Result (List ReadEntry) ℕ) → behind_base base (before_others done r) ≡ Ok log → (base ≡ log.base) × ((rest : List ReadEntry) × (log.entries ≡ done ++ rest))
     by (Ok rest) e =
@@ -71,20 +71,20 @@ rest_of p file base done gate f log is = by (entries_from One (program_after p d
 -- ---- as entries of a log
 
 module _ (live : ℕ) (image : Image) where
-  pub logged_both : (p : Program) (a b : List ReadEntry) → entries_logged live p image (a ++ b) ≡ entries_logged live p image a ++ entries_logged live (program_after p a) image b
+  pub logged_both : (p : Program) (a b : List ReadEntry) → entries_logged Two live p image (a ++ b) ≡ entries_logged Two live p image a ++ entries_logged Two live (program_after p a) image b
   logged_both p [] b = refl
-  logged_both p (ReadRecord r ∷ a) b = ap (λ (l : List LogEntry). Recorded (commit_of live (shape_in p) image r) ∷ l) (logged_both p a b)
+  logged_both p (ReadRecord r ∷ a) b = ap (λ (l : List LogEntry). Recorded (commit_of Two live (shape_in p) image r) ∷ l) (logged_both p a b)
   logged_both p (ReadUpgrade q ∷ a) b = ap (λ (l : List LogEntry). Upgraded q ∷ l) (logged_both q a b)
 
   -- those of a block of records
-  pub logged_records : (p : Program) (records : List CommitRecord) → entries_logged live p image (map ReadRecord records) ≡ entries_of_records live (shape_in p) image records
+  pub logged_records : (p : Program) (records : List CommitRecord) → entries_logged Two live p image (map ReadRecord records) ≡ entries_of_records live (shape_in p) image records
   logged_records p [] = refl
-  logged_records p (r ∷ records) = ap (λ (l : List LogEntry). Recorded (commit_of live (shape_in p) image r) ∷ l) (logged_records p records)
+  logged_records p (r ∷ records) = ap (λ (l : List LogEntry). Recorded (commit_of Two live (shape_in p) image r) ∷ l) (logged_records p records)
 
   -- and the program in force behind them
-  pub program_logged : (p : Program) (before : Standing) → before.program ≡ p → (entries : List ReadEntry) → (after_entries before (entries_logged live p image entries)).program ≡ program_after p entries
+  pub program_logged : (p : Program) (before : Standing) → before.program ≡ p → (entries : List ReadEntry) → (after_entries before (entries_logged Two live p image entries)).program ≡ program_after p entries
   program_logged p before is [] = is
-  program_logged p before is (ReadRecord r ∷ entries) = program_logged p (after_entry before (Recorded (commit_of live (shape_in p) image r))) is entries
+  program_logged p before is (ReadRecord r ∷ entries) = program_logged p (after_entry before (Recorded (commit_of Two live (shape_in p) image r))) is entries
   program_logged p before is (ReadUpgrade q ∷ entries) = program_logged q (after_entry before (Upgraded q)) refl entries
 
 -- ---- their records

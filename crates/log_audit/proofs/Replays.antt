@@ -15,11 +15,11 @@ use Rattle.base_types.specs.Stores.{state_in, PutsState}
 use Rattle.base_types.specs.Grains.{same_grain}
 use Rattle.host_trait.specs.World.{Image}
 use Rattle.host_trait.proofs.Names.{same_grain-is, same_grain-refl}
-use Rattle.field_codec.specs.declared.formats.Format.TheVariants.{One}
+use Rattle.field_codec.specs.declared.formats.Format.TheVariants.{Two}
 use Rattle.commit_log.specs.declared.records.CommitRecord.{CommitRecord}
 use Rattle.core_model.specs.Equality.{same_list, same_text, same_value, same_state, same_outcome}
 use Rattle.core_laws.proofs.Basics.{same_list-true, same_state-true, same_outcome-true}
-use Rattle.log_entries.specs.Entries.{BodyEntry}
+use Rattle.log_reading.specs.Entries.{BodyEntry}
 use Rattle.log_reading.specs.Blocks.{LogBase, ReadEntry, LogRead, entries_said, program_after, log_in_file}
 use Rattle.log_reading.specs.Steps.{next_in, IsFollowedBy}
 use Rattle.log_reading.proofs.LogBlocks.{follows_on, follows_breaks, after_more}
@@ -187,7 +187,7 @@ module _ (live : ℕ) (shape : Shape) (image : Image) where
   entered records = entries_of_records live shape image records
 
   abbrev commit : CommitRecord → Commit
-  commit r = commit_of live shape image r
+  commit r = commit_of Two live shape image r
 
   entered_both : (a b : List CommitRecord) → entered (a ++ b) ≡ entered a ++ entered b
   entered_both a b = ap (λ (cs : List Commit). map Recorded cs) (map-append commit a b) ∙ map-append Recorded (map commit a) (map commit b)
@@ -252,36 +252,37 @@ module _ (live : ℕ) (shape : Shape) (image : Image) where
 module _ (p : Program) (live : ℕ) (image : Image) (file : List ℕ) where
   -- what a log of this program stands for that begins so
   abbrev start_of : LogBase → Standing
-  start_of base = (log_of live p image (record { base = base; entries = [] })).base
+  start_of base = (log_of Two live p image (record { base = base; entries = [] })).base
 
   -- the entries that are read
   abbrev made : List ReadEntry → List LogEntry
-  made entries = entries_logged live p image entries
+  made entries = entries_logged Two live p image entries
 
   -- what stands after these
   abbrev pub stands : LogBase → List ReadEntry → Standing
   stands base entries = after_entries (start_of base) (made entries)
 
   -- those of a block more
-  more_made : (done : List ReadEntry) (q : Program) (more : List ReadEntry) → program_after p done ≡ q → made (done ++ more) ≡ made done ++ entries_logged live q image more
-  more_made done q more is = logged_both live image p done more ∙ ap (λ (r : Program). made done ++ entries_logged live r image more) is
+  more_made : (done : List ReadEntry) (q : Program) (more : List ReadEntry) → program_after p done ≡ q → made (done ++ more) ≡ made done ++ entries_logged Two live q image more
+  more_made done q more is = logged_both live image p done more ∙ ap (λ (r : Program). made done ++ entries_logged Two live r image more) is
 
   stands_program : (base : LogBase) (done : List ReadEntry) → (stands base done).program ≡ program_after p done
   stands_program base done = program_logged live image p (start_of base) refl done
 
   -- the entries that were read replay, and the store has what stands after them, under a program of these types
-  pub record HasAudited (gate : ℕ) (types : ProgramTree) (now : Store) : Type 0 where
+  pub record HasAudited (last gate : ℕ) (types : ProgramTree) (now : Store) : Type 0 where
     pub base : LogBase
     pub entries : List ReadEntry
-    pub follows : IsFollowedBy One p file base entries gate
+    pub sessions : List ℕ
+    pub follows : IsFollowedBy Two p file base entries sessions last gate
     pub in_force : (program_after p entries).types ≡ types
     pub serial : IsSerialFrom (start_of base) (made entries)
     pub has : IsStoreOf now (stands base entries)
 
-  pub audit_begun : (base : LogBase) (gate : ℕ) (types : ProgramTree) (now : Store) → p.types ≡ types → IsFollowedBy One p file base [] gate → IsStoreOf now (start_of base) → HasAudited gate types now
-  audit_begun base gate types now first begins has = record { base = base; entries = []; follows = begins; in_force = first; serial = tt; has = has }
+  pub audit_begun : (base : LogBase) (last gate : ℕ) (types : ProgramTree) (now : Store) → p.types ≡ types → IsFollowedBy Two p file base [] [] last gate → IsStoreOf now (start_of base) → HasAudited last gate types now
+  audit_begun base last gate types now first begins has = record { base = base; entries = []; sessions = []; follows = begins; in_force = first; serial = tt; has = has }
 
-  module _ (gate : ℕ) (types : ProgramTree) (now : Store) (h : HasAudited gate types now) where
+  module _ (last gate : ℕ) (types : ProgramTree) (now : Store) (h : HasAudited last gate types now) where
     -- what stands before the next block
     abbrev pub before : Standing
     before = stands h.base h.entries
@@ -289,52 +290,57 @@ module _ (p : Program) (live : ℕ) (image : Image) (file : List ℕ) where
     pub before_types : before.program.types ≡ types
     before_types = ap (λ (q : Program). q.types) (stands_program h.base h.entries) ∙ h.in_force
 
-    step_here : (r : Result (Option (BodyEntry × ℕ)) ℕ) → next_in One types gate file ≡ r → next_in One (program_after p h.entries).types gate file ≡ r
-    step_here r step = ap (λ (t : ProgramTree). next_in One t gate file) h.in_force ∙ step
+    step_here : (r : Result (Option (ℕ × BodyEntry × ℕ)) ℕ) → next_in Two types last gate file ≡ r → next_in Two (program_after p h.entries).types last gate file ≡ r
+    step_here r step = ap (λ (t : ProgramTree). next_in Two t last gate file) h.in_force ∙ step
 
     -- a damage behind them is one of the log
-    pub audit_broken : (place : ℕ) → next_in One types gate file ≡ Err place → log_in_file One p file ≡ Err place
-    audit_broken place step = follows_breaks One p file h.base h.entries gate h.follows place (step_here (Err place) step)
+    pub audit_broken : (place : ℕ) → next_in Two types last gate file ≡ Err place → log_in_file Two p file ≡ Err place
+    audit_broken place step = follows_breaks Two p file h.base h.entries h.sessions last gate h.follows place (step_here (Err place) step)
 
-    pub audit_done : next_in One types gate file ≡ Ok None → (log : LogRead) → log_in_file One p file ≡ Ok log → IsFirstFailure (log_of live p image log).base (log_of live p image log).entries None
+    pub audit_done : next_in Two types last gate file ≡ Ok None → (log : LogRead) → log_in_file Two p file ≡ Ok log → IsFirstFailure (log_of Two live p image log).base (log_of Two live p image log).entries None
     audit_done end log is =
-        let same = all_read p file h.base h.entries gate h.follows (step_here (Ok None) end) log is in
+        let same = all_read p file h.base h.entries h.sessions last gate h.follows (step_here (Ok None) end) log is in
         subst (λ (l : List ReadEntry). IsSerialFrom (start_of log.base) (made l)) same.1 (subst (λ (b : LogBase). IsSerialFrom (start_of b) (made h.entries)) same.0 h.serial)
 
-    module _ (entry : BodyEntry) (behind : ℕ) (step : next_in One types gate file ≡ Ok (Some (entry, behind))) where
+    module _ (session : ℕ) (entry : BodyEntry) (behind : ℕ) (step : next_in Two types last gate file ≡ Ok (Some (session, entry, behind))) where
       abbrev said : List ReadEntry
       said = entries_said entry
 
       -- its entries, under the program in force
       abbrev pub said_made : List LogEntry
-      said_made = entries_logged live before.program image said
+      said_made = entries_logged Two live before.program image said
 
-      on : IsFollowedBy One p file h.base (h.entries ++ said) behind
-      on = follows_on One p file h.base h.entries gate h.follows entry behind (step_here (Ok (Some (entry, behind))) step)
+      -- the sessions of the entries, with these
+      abbrev told : List ℕ
+      told = h.sessions ++ map (λ e. session) said
+
+      on : IsFollowedBy Two p file h.base (h.entries ++ said) told session behind
+      on = follows_on Two p file h.base h.entries h.sessions last gate h.follows session entry behind (step_here (Ok (Some (session, entry, behind))) step)
 
       seam : made (h.entries ++ said) ≡ made h.entries ++ said_made
       seam = more_made h.entries before.program said (sym (stands_program h.base h.entries))
 
-      pub rest_said : (log : LogRead) → log_in_file One p file ≡ Ok log → (rest : List ReadEntry) × (log.entries ≡ (h.entries ++ said) ++ rest)
-      rest_said log is = (rest_of p file h.base (h.entries ++ said) behind on log is).1
+      pub rest_said : (log : LogRead) → log_in_file Two p file ≡ Ok log → (rest : List ReadEntry) × (log.entries ≡ (h.entries ++ said) ++ rest)
+      rest_said log is = (rest_of p file h.base (h.entries ++ said) told session behind on log is).1
 
-      pub audit_more : (new : Store) → AllReplayTo before said_made new None → HasAudited behind (types_behind types entry) new
+      pub audit_more : (new : Store) → AllReplayTo before said_made new None → HasAudited session behind (types_behind types entry) new
       audit_more new to = record {
         base = h.base;
         entries = h.entries ++ said;
+        sessions = told;
         follows = on;
         in_force = ap (λ (q : Program). q.types) (after_more p h.entries entry) ∙ behind_is (program_after p h.entries) types entry h.in_force;
         serial = subst (λ (l : List LogEntry). IsSerialFrom (start_of h.base) l) (sym seam) (serial_both (start_of h.base) (made h.entries) said_made h.serial to.0);
         has = subst (λ (s : Standing). IsStoreOf new s) (sym (ap (λ (es : List LogEntry). after_entries (start_of h.base) es) seam ∙ in_parts (start_of h.base) (made h.entries) said_made)) to.1;
       }
 
-      audit_bad : (bad : Bad) → FailsFirst before said_made bad → (log : LogRead) → log_in_file One p file ≡ Ok log → FailsFirst (start_of log.base) (made log.entries) bad
+      audit_bad : (bad : Bad) → FailsFirst before said_made bad → (log : LogRead) → log_in_file Two p file ≡ Ok log → FailsFirst (start_of log.base) (made log.entries) bad
       audit_bad bad f log is =
           let start = start_of h.base in
-          let left = rest_of p file h.base (h.entries ++ said) behind on log is in
+          let left = rest_of p file h.base (h.entries ++ said) told session behind on log is in
           let rest = left.1 in
           let done : List LogEntry = made h.entries in
-          let later : List LogEntry = entries_logged live (program_after p (h.entries ++ said)) image rest.0 in
+          let later : List LogEntry = entries_logged Two live (program_after p (h.entries ++ said)) image rest.0 in
           let all : made log.entries ≡ done ++ (f.front ++ (Recorded f.here ∷ (f.back ++ later))) =
           ap made rest.1 ∙ logged_both live image p (h.entries ++ said) rest.0 ∙ ap (λ (l : List LogEntry). l ++ later) (seam ∙ ap (λ (l : List LogEntry). done ++ l) f.are)
           ∙ append_assoc done (f.front ++ (Recorded f.here ∷ f.back)) later ∙ ap (λ (l : List LogEntry). done ++ l) (append_assoc f.front (Recorded f.here ∷ f.back) later) in
@@ -347,11 +353,11 @@ module _ (p : Program) (live : ℕ) (image : Image) (file : List ℕ) where
             fails = subst (λ (s : Standing). FailsToReplay s.program.types s.states f.here bad) (sym (in_parts start done f.front)) f.fails;
           })
 
-      pub audit_found : (new : Store) (found : Option Bad) → is_some found ≡ true → AllReplayTo before said_made new found → (log : LogRead) → log_in_file One p file ≡ Ok log
-          → IsFirstFailure (log_of live p image log).base (log_of live p image log).entries found
+      pub audit_found : (new : Store) (found : Option Bad) → is_some found ≡ true → AllReplayTo before said_made new found → (log : LogRead) → log_in_file Two p file ≡ Ok log
+          → IsFirstFailure (log_of Two live p image log).base (log_of Two live p image log).entries found
       audit_found new None some to log is = absurd cc
       audit_found new (Some bad) some to log is = audit_bad bad to log is
 
-      pub audit_next : (new : Store) (found : Option Bad) → is_some found ≡ false → AllReplayTo before said_made new found → HasAudited behind (types_behind types entry) new
+      pub audit_next : (new : Store) (found : Option Bad) → is_some found ≡ false → AllReplayTo before said_made new found → HasAudited session behind (types_behind types entry) new
       audit_next new None none to = audit_more new to
       audit_next new (Some bad) none to = absurd cc

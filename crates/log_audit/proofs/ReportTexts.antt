@@ -1,10 +1,12 @@
 -- The texts of the reports, from what was opened and read again.
 use Rattle.std.proofs.Common.{◌≡◌, ℕ, List, [], ◌∷◌, ◌++◌, refl, sym, ◌∙◌, ap}
+use Rattle.std.specs.Prelude.{zip}
 use Rattle.std.specs.List.{flat_map, list_any}
 use Rattle.base_types.specs.declared.calls.GrainId.{GrainId}
 use Rattle.base_types.specs.declared.stores.Store.{Store}
 use Rattle.base_types.specs.Grains.{same_grain}
 use Rattle.host_trait.specs.World.{Image}
+use Rattle.field_codec.specs.declared.formats.Format.TheVariants.{Two}
 use Rattle.log_reading.specs.Versions.{ascending}
 use Rattle.script_meaning.specs.Play.{found_in}
 use Rattle.silo_opening.specs.OpenedSilo.{program_in, AreStates, IsOpenedFrom}
@@ -20,21 +22,24 @@ use Rattle.log_audit.proofs.GrainOrder.{are_ascending, ascending_twice, any_asce
 use Rattle.log_audit.proofs.HeldGrains.{held_of_log}
 
 -- the text of entries that are read is that of the log's
-pub history_same : (live : ℕ) (p : Program) (image : Image) (before : Standing) → before.program ≡ p → (entries : List ReadEntry) → entries_text before (entries_logged live p image entries) ≡ entry_lines p entries
-history_same live p image before is [] = refl
-history_same live p image before is (ReadRecord r ∷ entries) =
-    let one : Commit = commit_of live (shape_in p) image r in
-    let later = history_same live p image (after_entry before (Recorded one)) is entries in
-    λ i. record_line (is i) one ++ later i
-history_same live p image before is (ReadUpgrade q ∷ entries) = ap (λ (l : List ℕ). upgrade_line q ++ l) (history_same live q image (after_entry before (Upgraded q)) refl entries)
+pub history_same : (live : ℕ) (p : Program) (image : Image) (before : Standing) → before.program ≡ p → (sessions : List ℕ) (entries : List ReadEntry)
+    → entries_text before (zip sessions (entries_logged Two live p image entries)) ≡ entry_lines p (zip sessions entries)
+history_same live p image before is [] entries = refl
+history_same live p image before is (session ∷ sessions) [] = refl
+history_same live p image before is (session ∷ sessions) (ReadRecord r ∷ entries) =
+    let one : Commit = commit_of Two live (shape_in p) image r in
+    let later = history_same live p image (after_entry before (Recorded one)) is sessions entries in
+    λ i. record_line (is i) session one ++ later i
+history_same live p image before is (session ∷ sessions) (ReadUpgrade q ∷ entries) =
+    ap (λ (l : List ℕ). upgrade_line session q ++ l) (history_same live q image (after_entry before (Upgraded q)) refl sessions entries)
 
 module _ (image : Image) (o : Opened) (is : IsOpenedFrom image o) where
   -- the program in force
   abbrev p : Program
   p = program_in o
 
-  pub history_opened : history_text is.log ≡ entry_lines is.first is.read.entries
-  history_opened = ap history_text is.log_is ∙ history_same o.slot is.first image (log_of o.slot is.first image is.read).base refl is.read.entries
+  pub history_opened : (sessions : List ℕ) → history_text sessions is.log ≡ entry_lines is.first (zip sessions is.read.entries)
+  history_opened sessions = ap (history_text sessions) is.log_is ∙ history_same o.slot is.first image (log_of Two o.slot is.first image is.read).base refl sessions is.read.entries
 
   -- each grain has the state that it has in a store of the log's states
   module _ (store : Store) (are : AreStates p store is.log) where

@@ -5,7 +5,7 @@ use Rattle.host_trait.specs.declared.channels.Channel.{Channel}
 use Rattle.host_trait.specs.declared.channels.FileId.{FileId}
 use Rattle.host_trait.specs.declared.channels.FileId.TheVariants.{Grain}
 use Rattle.host_trait.specs.Faults.{NoneFailed}
-use Rattle.field_codec.specs.declared.formats.Format.TheVariants.{One}
+use Rattle.field_codec.specs.declared.formats.Format.TheVariants.{Two}
 use Rattle.log_reading.specs.Blocks.{LogRead, log_in_file}
 use Rattle.log_reading.specs.Counts.{ReadFaulted}
 use Rattle.log_reading.specs.Steps.{next_in}
@@ -49,13 +49,13 @@ never_last e (FolderFault.Damaged at place) is last = absurd cc
 never_last e (FolderFault.Failed at) is last = absurd cc
 never_last e FolderFault.Memory is last = absurd cc
 
-pub folder_ends : (p : Program) (file : List ℕ) (slot : ℕ) (log : LogRead) → log_in_file One p file ≡ Ok log → (e : FolderFault) → IsLogFault slot p file e → MayEnd (fault_ending (from_folder e))
+pub folder_ends : (p : Program) (file : List ℕ) (slot : ℕ) (log : LogRead) → log_in_file Two p file ≡ Ok log → (e : FolderFault) → IsLogFault slot p file e → MayEnd (fault_ending (from_folder e))
 folder_ends p file slot log is (FolderFault.Damaged at place) here = absurd (let no : Err place ≡ Ok log = sym here ∙ is in cc)
 folder_ends p file slot log is (FolderFault.Failed at) here = inr tt
 folder_ends p file slot log is FolderFault.Memory here = inr tt
 
-pub block_fault : {A : Type 0} (types : ProgramTree) (file : List ℕ) (gate : ℕ) (e : FolderFault) → ((at : FileId) (place : ℕ) → failed {A = A} e ≡ failed (FolderFault.Damaged at place) → next_in One types gate file ≡ Err place)
-    → IsBlockFault types gate file (from_folder e)
-block_fault types file gate (FolderFault.Damaged at place) damaged = damaged at place refl
-block_fault types file gate (FolderFault.Failed at) damaged = tt
-block_fault types file gate FolderFault.Memory damaged = tt
+pub block_fault : {A : Type 0} (types : ProgramTree) (file : List ℕ) (last gate : ℕ) (e : FolderFault) → ((at : FileId) (place : ℕ) → failed {A = A} e ≡ failed (FolderFault.Damaged at place) → next_in Two types last gate file ≡ Err place)
+    → IsBlockFault types last gate file (from_folder e)
+block_fault types file last gate (FolderFault.Damaged at place) damaged = damaged at place refl
+block_fault types file last gate (FolderFault.Failed at) damaged = tt
+block_fault types file last gate FolderFault.Memory damaged = tt

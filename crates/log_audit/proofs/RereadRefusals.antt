@@ -20,6 +20,7 @@ use Rattle.promise_spec.specs.Programs.{Program, shape_in}
 use Rattle.promise_spec.specs.Openings.{Reading, Reads, ReadEntry, ReadRecord, ReadUpgrade, named_by, named_of_base, named_in, named_by_grain, types_read, opened_as}
 use Rattle.silo_spec.specs.Silos.{IsEitherManager}
 use Rattle.std.proofs.lemmas.Bool.{cases_eq}
+use Rattle.field_codec.specs.declared.formats.Format.TheVariants.{Two}
 use Rattle.promise_spec.specs.Refusals.{IsRefusedBy}
 use Rattle.promise_spec.proofs.Lists.{parts_of, each_of, in_append}
 use Rattle.promise_spec.proofs.Openings.{reads_is_live}
@@ -76,18 +77,18 @@ module _ (live : ℕ) (image : Image) where
 
   module _ (shapes : List Shape) where
     -- no write of these has a version that isn't there
-    none_damaged : (unit : Option UnitNo) (number : ℕ) (shape : Shape) (ws : List Written) → slice_get shapes number ≡ Some shape → AllByRecursion (IsThere live shapes image) (map (named_at unit number) ws)
+    none_damaged : (unit : Option UnitNo) (number : ℕ) (shape : Shape) (ws : List Written) → slice_get shapes number ≡ Some shape → AllByRecursion (IsThere Two live shapes image) (map (named_at unit number) ws)
         → (at : FileId) (place : ℕ) → IsWriteFault live shape image unit ws (FolderFault.Damaged at place) → ⊥
     none_damaged unit number shape ws here there at place f =
-        let one = each_of (IsThere live shapes image) (map (named_at unit number) ws) (named_at unit number f.0) there (in_map (named_at unit number) f.0 ws f.1) in
-        (let no : Err place ≡ Ok one.0 = sym f.2 ∙ sym (by_number live shapes image number shape here unit f.0) ∙ one.1 in cc no)
+        let one = each_of (IsThere Two live shapes image) (map (named_at unit number) ws) (named_at unit number f.0) there (in_map (named_at unit number) f.0 ws f.1) in
+        (let no : Err place ≡ Ok one.0 = sym f.2 ∙ sym (by_number Two live shapes image number shape here unit f.0) ∙ one.1 in cc no)
 
-    none_broken : (number : ℕ) (p : Program) (entries : List ReadEntry) → drop number shapes ≡ shapes_in_turn (types_read p entries) → AllByRecursion (IsThere live shapes image) (named_by number entries)
+    none_broken : (number : ℕ) (p : Program) (entries : List ReadEntry) → drop number shapes ≡ shapes_in_turn (types_read p entries) → AllByRecursion (IsThere Two live shapes image) (named_by number entries)
         → (at : FileId) (place : ℕ) → IsEntryFault live p image entries (FolderFault.Damaged at place) → ⊥
     none_broken number p [] goes there at place none = absurd (cc none)
     none_broken number p (ReadRecord r ∷ entries) goes there at place f =
         let here = item_at number shapes (shape_in p) (later_shapes entries) goes in
-        let t = parts_of (IsThere live shapes image) (map (named_at (Some r.unit) number) r.writes) (named_by number entries) there in
+        let t = parts_of (IsThere Two live shapes image) (map (named_at (Some r.unit) number) r.writes) (named_by number entries) there in
         elim f [
           | inl now ↦ none_damaged (Some r.unit) number (shape_in p) r.writes here.0 t.0 at place now
           | inr later ↦ none_broken number p entries goes t.1 at place later
@@ -99,8 +100,8 @@ module _ (live : ℕ) (image : Image) where
 -- ---- of an opened folder
 
 module _ (image : Image) (opened : Opened) (o : IsOpenedFrom image opened) where
-  all_there : AllByRecursion (IsThere opened.slot (shapes_of opened) image) (named_in o.read)
-  all_there = all_of_order (IsThere opened.slot (shapes_of opened) image) (named_in o.read) (none_missing opened.slot (shapes_of opened) image (named_by_grain (named_in o.read)) o.whole)
+  all_there : AllByRecursion (IsThere Two opened.slot (shapes_of opened) image) (named_in o.read)
+  all_there = all_of_order (IsThere Two opened.slot (shapes_of opened) image) (named_in o.read) (none_missing Two opened.slot (shapes_of opened) image (named_by_grain (named_in o.read)) o.whole)
 
   shapes_are : drop 0 (shapes_of opened) ≡ shapes_in_turn (types_read o.first o.read.entries)
   shapes_are = ap shapes_in_turn o.programs
@@ -117,15 +118,15 @@ module _ (image : Image) (opened : Opened) (o : IsOpenedFrom image opened) where
     | inr other ↦ inr (ap (λ (slot : ℕ). Manager slot) other)
   ]
 
-  there_parts : AllByRecursion (IsThere opened.slot (shapes_of opened) image) (named_of_base o.read.base) × AllByRecursion (IsThere opened.slot (shapes_of opened) image) (named_by 0 o.read.entries)
-  there_parts = parts_of (IsThere opened.slot (shapes_of opened) image) (named_of_base o.read.base) (named_by 0 o.read.entries) all_there
+  there_parts : AllByRecursion (IsThere Two opened.slot (shapes_of opened) image) (named_of_base o.read.base) × AllByRecursion (IsThere Two opened.slot (shapes_of opened) image) (named_by 0 o.read.entries)
+  there_parts = parts_of (IsThere Two opened.slot (shapes_of opened) image) (named_of_base o.read.base) (named_by 0 o.read.entries) all_there
 
   -- a grain whose file has the fault is one that the log names
-  refused_grain : (at : FileId) (n : Named) → at ≡ Grain opened.slot n.written.grain → Member n (named_in o.read) → IsRefusedBy image (Reads opened.slot o.log) (ending_of (in_folder (FolderFault.Failed at)))
+  refused_grain : (at : FileId) (n : Named) → at ≡ Grain opened.slot n.written.grain → Member n (named_in o.read) → IsRefusedBy Two image (Reads opened.slot o.log) (ending_of (in_folder (FolderFault.Failed at)))
   refused_grain at n is there =
       inr (n.written.grain, is, record { program = o.first; log = o.read; first = o.first_is; then_log = o.read_as; named = in_map opened.slot image (λ (m : Named). m.written.grain) n (named_in o.read) there })
 
-  refused_by : opened.slot ≤ 1 → (e : FolderFault) → IsRereadFault opened.slot o.first image o.read e → IsRefusedBy image (Reads opened.slot o.log) (ending_of (in_folder e))
+  refused_by : opened.slot ≤ 1 → (e : FolderFault) → IsRereadFault opened.slot o.first image o.read e → IsRefusedBy Two image (Reads opened.slot o.log) (ending_of (in_folder e))
   refused_by low (FolderFault.Damaged at place) (inl here) = absurd (let no : Err place ≡ Ok o.read = sym here ∙ o.read_as in cc no)
   refused_by low (FolderFault.Damaged at place) (inr (inl f)) =
       absurd (none_damaged opened.slot image (shapes_of opened) None 0 (shape_in o.first) o.read.base.writes (item_at 0 (shapes_of opened) (shape_in o.first) (later_shapes o.read.entries) shapes_are).0 there_parts.0 at place f)
@@ -139,5 +140,5 @@ module _ (image : Image) (opened : Opened) (o : IsOpenedFrom image opened) where
       refused_grain at t.0 t.2 (in_append t.0 (named_of_base o.read.base) (named_by 0 o.read.entries) (inr t.1))
   refused_by low FolderFault.Memory f = tt
 
-  pub refused_again : (e : FolderFault) → IsRereadFault opened.slot o.first image o.read e → IsRefusedBy image (opened_as image) (ending_of (in_folder e))
-  refused_again e f = subst (λ (r : Reading). IsRefusedBy image r (ending_of (in_folder e))) (sym o.reads) (refused_by (reads_is_live image opened.slot o.log o.reads).slot e f)
+  pub refused_again : (e : FolderFault) → IsRereadFault opened.slot o.first image o.read e → IsRefusedBy Two image (opened_as image) (ending_of (in_folder e))
+  refused_again e f = subst (λ (r : Reading). IsRefusedBy Two image r (ending_of (in_folder e))) (sym o.reads) (refused_by (reads_is_live Two image opened.slot o.log o.reads).slot e f)

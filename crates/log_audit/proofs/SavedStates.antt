@@ -9,7 +9,7 @@ use Rattle.base_types.specs.declared.stores.Version.{Version}
 use Rattle.base_types.specs.Grains.{same_grain}
 use Rattle.base_types.specs.Stores.{state_in, PutsState}
 use Rattle.host_trait.specs.World.{Image}
-use Rattle.field_codec.specs.declared.formats.Format.TheVariants.{One}
+use Rattle.field_codec.specs.declared.formats.Format.TheVariants.{Two}
 use Rattle.commit_log.specs.declared.records.Written.{Written}
 use Rattle.log_reading.specs.Blocks.{LogRead}
 use Rattle.log_reading.specs.Versions.{version_named, state_of}
@@ -24,7 +24,7 @@ use Rattle.log_audit.proofs.Versions.{saved_as, state_put}
 use Rattle.log_audit.proofs.Replays.{one_kept, or_swapped, some_put}
 use Rattle.log_audit.proofs.HeldGrains.{or_behind}
 
-module _ (live : ℕ) (shape : Shape) (image : Image) (w : Written) (more left : List Written) (v : Version) (old new : Store) (next : left ≡ w ∷ more) (is : version_named live One shape image (saved_as w) ≡ Ok v)
+module _ (live : ℕ) (shape : Shape) (image : Image) (w : Written) (more left : List Written) (v : Version) (old new : Store) (next : left ≡ w ∷ more) (is : version_named live Two shape image (saved_as w) ≡ Ok v)
     (puts : PutsState old new w.grain v.state) where
   one_saved : states_saved_at live shape image left ≡ (w.grain, v.state) ∷ states_saved_at live shape image more
   one_saved = ap (states_saved_at live shape image) next ∙ ap (λ (s : List Value). (w.grain, s) ∷ states_saved_at live shape image more) (ap state_of is)
@@ -55,5 +55,5 @@ states_none types store none = λ i g. unwrap_or (none g i) (first_states types 
 
 -- the states of a beginning's versions are those of what it stands for
 pub stands_saved : (live : ℕ) (p : Program) (image : Image) (read : LogRead) (store : Store) → ((g : GrainId) → is_some (state_in store g) ≡ is_among (states_saved_at live (shape_in p) image read.base.writes) g)
-    → found_in p.types store ≡ fold put_state (first_states p.types) (states_saved_at live (shape_in p) image read.base.writes) → IsStoreOf store (log_of live p image read).base
+    → found_in p.types store ≡ fold put_state (first_states p.types) (states_saved_at live (shape_in p) image read.base.writes) → IsStoreOf store (log_of Two live p image read).base
 stands_saved live p image read store held states = record { held = held; states = states }

@@ -3,12 +3,14 @@ use Rattle.std.proofs.Common.{◌≡◌, inr, ℕ, true, List, ◌++◌, Option,
 use Rattle.std.specs.Prelude.{is_ok}
 use Rattle.base_types.specs.declared.calls.GrainId.{GrainId}
 use Rattle.host_trait.specs.declared.channels.Channel.{Channel}
-use Rattle.host_trait.specs.declared.channels.FileId.TheVariants.{Manager}
+use Rattle.host_trait.specs.declared.channels.FileId.TheVariants.{Manager, Program as ProgramFile}
 use Rattle.host_trait.specs.Disk.{settled}
 use Rattle.host_trait.specs.Faults.{NoneFailed}
 use Rattle.host_trait.specs.World.{World, Moment, Disk, IsImage, moment_of}
 use Rattle.host_trait.proofs.Moments.{both, weaker}
 use Rattle.host_trait.proofs.Runs.{settled_image}
+use Rattle.field_codec.specs.declared.formats.Format.TheVariants.{Two}
+use Rattle.log_reading.specs.Sessions.{sessions_read}
 use Rattle.log_reading.specs.Steps.{seen_in}
 use Rattle.silo_spec.specs.Moments.{IsAsAtEntry}
 use Rattle.silo_spec.specs.OpenedDisks.{OnlyOpens}
@@ -17,12 +19,13 @@ use Rattle.silo_opening.specs.OpenedSilo.{ending_of}
 use Rattle.silo_opening.specs.declared.faults.OpenFault.{OpenFault}
 use Rattle.silo_opening.proofs.OpeningCalls.{opens_untouched}
 use Rattle.promise_spec.specs.Entries.{Log, standing_of}
-use Rattle.promise_spec.specs.Openings.{Reads, opened_as}
+use Rattle.promise_spec.specs.Programs.{Program}
+use Rattle.promise_spec.specs.Openings.{Reads, program_in_file, opened_as}
 use Rattle.promise_spec.specs.Words.{Manner}
 use Rattle.promise_spec.specs.Refusals.{IsRefusedBy, IsUnopened}
-use Rattle.promise_spec.specs.Reports.{AreHeld, show_text, audit_text}
-use Rattle.promise_spec.specs.Commands.{LeavesAsBefore, IsReported, IsShown, IsFirstBad, IsAudited}
-use Rattle.promise_spec.specs.Endings.{Ending, Done, BadUse, Memory, ReadFault, WriteFault, DiskFault, NotASilo, AlreadyASilo, Damaged, BadProgram, InputTooLong, LastGeneration, UpgradeRefused, HasRisen, HasFailedAs}
+use Rattle.promise_spec.specs.Reports.{AreHeld, show_text, history_text, audit_text}
+use Rattle.promise_spec.specs.Commands.{LeavesAsBefore, IsReported, IsHistoryTold, IsShown, IsFirstBad, IsAudited}
+use Rattle.promise_spec.specs.Endings.{Ending, Done, BadUse, Memory, ReadFault, WriteFault, DiskFault, NotASilo, AlreadyASilo, Damaged, BadProgram, InputTooLong, LastGeneration, UpgradeRefused, OldFormat, NotOld, HasRisen, HasFailedAs}
 use Rattle.log_audit.specs.declared.faults.ReportFault.{ReportFault}
 use Rattle.log_audit.specs.Endings.{report_ending, reported_as, MayEnd}
 use Rattle.log_audit.specs.ReportOutput.{PutsPart}
@@ -38,6 +41,7 @@ failed_then e a b c none failed = subst (λ (x : Counts). HasFailedAs e x c) (λ
 
 pub open_failed : (old new : Counts) (e : OpenFault) → OpenFaulted e old new → HasFailedAs (ending_of e) old new
 open_failed old new OpenFault.NotASilo f = f
+open_failed old new OpenFault.OldFormat f = f
 open_failed old new (OpenFault.Damaged file place) f = f
 open_failed old new (OpenFault.DiskFault file) f = f
 open_failed old new OpenFault.LastGeneration f = f
@@ -58,11 +62,14 @@ failed_risen old new (BadProgram fault) f = tt
 failed_risen old new (InputTooLong line) f = tt
 failed_risen old new LastGeneration f = tt
 failed_risen old new (UpgradeRefused at) f = tt
+failed_risen old new OldFormat f = tt
+failed_risen old new NotOld f = tt
 
 -- no report ends with bad use
 pub never_bad_use : {A : Type 0} (r : Result A ReportFault) → report_ending r ≡ BadUse → ⊥
 never_bad_use (Ok x) e = absurd cc
 never_bad_use (Err ReportFault.NotASilo) e = absurd cc
+never_bad_use (Err ReportFault.OldFormat) e = absurd cc
 never_bad_use (Err (ReportFault.Damaged file place)) e = absurd cc
 never_bad_use (Err (ReportFault.DiskFault file)) e = absurd cc
 never_bad_use (Err ReportFault.WriteFault) e = absurd cc
@@ -72,6 +79,7 @@ never_bad_use (Err ReportFault.Memory) e = absurd cc
 pub done_ok : {A : Type 0} (r : Result A ReportFault) → report_ending r ≡ Done → is_ok r ≡ true
 done_ok (Ok x) e = refl
 done_ok (Err ReportFault.NotASilo) e = absurd cc
+done_ok (Err ReportFault.OldFormat) e = absurd cc
 done_ok (Err (ReportFault.Damaged file place)) e = absurd cc
 done_ok (Err (ReportFault.DiskFault file)) e = absurd cc
 done_ok (Err ReportFault.WriteFault) e = absurd cc
@@ -81,12 +89,12 @@ done_ok (Err ReportFault.Memory) e = absurd cc
 
 -- a folder that wasn't opened
 pub not_opened : {A : Type 0} (manner : Manner) (asked : List (List ℕ)) (old new : World) (before after : Counts) (result : Result A ReportFault) (e : OpenFault) → report_ending result ≡ ending_of e → OnlyOpens old new
-    → IsRefusedBy (seen_in old.disk) (opened_as (seen_in old.disk)) (ending_of e) → OpenFaulted e before after → IsUnopened (reported_as manner asked old new before after result)
+    → IsRefusedBy Two (seen_in old.disk) (opened_as (seen_in old.disk)) (ending_of e) → OpenFaulted e before after → IsUnopened (reported_as manner asked old new before after result)
 not_opened manner asked old new before after result e is run refused faulted = record {
   untouched = opens_untouched _ old new run;
   unread = run.input;
   syncs = run.syncs;
-  refused = subst (λ (x : Ending). IsRefusedBy (seen_in old.disk) (opened_as (seen_in old.disk)) x) (sym is) refused;
+  refused = subst (λ (x : Ending). IsRefusedBy Two (seen_in old.disk) (opened_as (seen_in old.disk)) x) (sym is) refused;
   failed = subst (λ (x : Ending). HasFailedAs x before after) (sym is) (open_failed before after e faulted);
 }
 
@@ -120,6 +128,20 @@ module _ (live : ℕ) (old mid : World) (settles : mid.disk (Manager live) ≡ s
     seen = λ file. ap (λ (d : Disk). (d file).seen) part.puts.disk ∙ (opens_untouched _ old mid run).seen file;
     ending = end;
     risen = failed_risen before after (report_ending result) failed;
+  }
+
+  -- the entries of one that was
+  pub is_history : {A : Type 0} (sessions : List ℕ) (log : Log) (manner : Manner) (asked : List (List ℕ)) (new : World) (before after : Counts) (result : Result A ReportFault)
+      → opened_as (seen_in old.disk) ≡ Reads live log → PutsPart (history_text sessions log) (is_ok result) mid new → MayEnd (report_ending result) → HasFailedAs (report_ending result) before after
+      → (first : Program) → program_in_file (seen_in old.disk (ProgramFile live)) ≡ Ok first → sessions ≡ sessions_read Two first (seen_in old.disk (Manager live))
+      → IsHistoryTold (reported_as manner asked old new before after result)
+  unfolding is_reported
+  is_history sessions log manner asked new before after result reads part end failed first first_is are = record {
+    sessions = sessions;
+    report = is_reported (history_text sessions) log manner asked new before after result reads part end failed;
+    program = first;
+    first = first_is;
+    are = are;
   }
 
   -- the states of one that was

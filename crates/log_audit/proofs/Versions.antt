@@ -13,7 +13,7 @@ use Rattle.host_trait.proofs.Names.{same_grain-is, same_grain-refl}
 use Rattle.host_trait.specs.declared.channels.FileId.{FileId}
 use Rattle.host_trait.specs.declared.channels.FileId.TheVariants.{Grain}
 use Rattle.host_trait.specs.World.{Image}
-use Rattle.field_codec.specs.declared.formats.Format.TheVariants.{One}
+use Rattle.field_codec.specs.declared.formats.Format.TheVariants.{Two}
 use Rattle.commit_log.specs.declared.records.Named.{Named}
 use Rattle.commit_log.specs.declared.records.Written.{Written}
 use Rattle.core_model.specs.CoreState.{Member}
@@ -27,12 +27,12 @@ named_as unit w = record { unit = Some unit; program = 0; written = w }
 
 -- these grains with the states that stand at their places
 abbrev pub states_at : ℕ → Shape → Image → UnitNo → List Written → List (GrainId × List Value)
-states_at live shape image unit ws = zip (map (λ w. w.grain) ws) (map (λ w. state_of (version_named live One shape image (record { unit = Some unit; program = 0; written = w }))) ws)
+states_at live shape image unit ws = zip (map (λ w. w.grain) ws) (map (λ w. state_of (version_named live Two shape image (record { unit = Some unit; program = 0; written = w }))) ws)
 
 module _ (live : ℕ) (shape : Shape) (image : Image) (unit : UnitNo) where
   -- one more
   pub version_more : (w : Written) (more left : List Written) (v : Version) (old new all : List (GrainId × List Value)) → left ≡ w ∷ more → new ≡ old ++ ((w.grain, v.state) ∷ [])
-      → version_named live One shape image (named_as unit w) ≡ Ok v → old ++ states_at live shape image unit left ≡ all → new ++ states_at live shape image unit more ≡ all
+      → version_named live Two shape image (named_as unit w) ≡ Ok v → old ++ states_at live shape image unit left ≡ all → new ++ states_at live shape image unit more ≡ all
   version_more w more left v old new all next pushed is so_far =
       ap (λ (l : List (GrainId × List Value)). l ++ states_at live shape image unit more) pushed ∙ append_assoc old ((w.grain, v.state) ∷ []) (states_at live shape image unit more)
       ∙ ap (λ (r : Result Version ℕ). old ++ ((w.grain, state_of r) ∷ states_at live shape image unit more)) (sym is)
@@ -52,7 +52,7 @@ in_seam xs i d ws low same = subst (λ (l : List Written). Member (get_or xs i d
 
 -- a fault of reading the version of a write
 pub version_fault : {A : Type 0} (live : ℕ) (shape : Shape) (image : Image) (unit : Option UnitNo) (ws : List Written) (w : Written) → Member w ws → (e : FolderFault)
-    → ((at : FileId) (place : ℕ) → failed {A = A} e ≡ failed (FolderFault.Damaged at place) → version_named live One shape image (record { unit = unit; program = 0; written = w }) ≡ Err place)
+    → ((at : FileId) (place : ℕ) → failed {A = A} e ≡ failed (FolderFault.Damaged at place) → version_named live Two shape image (record { unit = unit; program = 0; written = w }) ≡ Err place)
     → ((at : FileId) → failed {A = A} e ≡ failed (FolderFault.Failed at) → at ≡ Grain live w.grain) → IsWriteFault live shape image unit ws e
 version_fault live shape image unit ws w in_it (FolderFault.Damaged at place) damaged fails = (w, in_it, damaged at place refl)
 version_fault live shape image unit ws w in_it (FolderFault.Failed at) damaged fails = (w, in_it, fails at refl)

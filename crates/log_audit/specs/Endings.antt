@@ -12,6 +12,7 @@ use Rattle.log_audit.specs.declared.faults.ReportFault.{ReportFault}
 -- the ending that a fault is
 abbrev pub fault_ending : ReportFault → ending.Ending
 fault_ending ReportFault.NotASilo = ending.NotASilo
+fault_ending ReportFault.OldFormat = ending.OldFormat
 fault_ending (ReportFault.Damaged file place) = ending.Damaged file place
 fault_ending (ReportFault.DiskFault file) = ending.DiskFault file
 fault_ending ReportFault.WriteFault = ending.WriteFault

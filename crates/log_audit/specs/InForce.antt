@@ -1,7 +1,7 @@
 -- The program in force at a place of a log, as a report has it.
 use Rattle.std.specs.Prelude.{◌≡◌, List}
-use Rattle.log_entries.specs.Entries.{BodyEntry, Recorded, Upgraded, entry_said}
-use Rattle.log_entries.specs.declared.entries.Said.{Said}
+use Rattle.log_reading.specs.Entries.{BodyEntry, Recorded, Upgraded, entry_said}
+use Rattle.log_reading.specs.declared.bodies.Said.{Said}
 use Rattle.log_reading.specs.Blocks.{ReadEntry, entries_said}
 use Rattle.script_tree.specs.Programs.{ProgramTree, program_tree}
 use Rattle.script_check.specs.Shapes.{type_shapes}

@@ -8,7 +8,7 @@ use Rattle.base_types.specs.declared.shapes.Shape.{Shape}
 use Rattle.base_types.specs.declared.stores.Store.{Store}
 use Rattle.commit_log.specs.declared.records.CommitRecord.{CommitRecord}
 use Rattle.request_wire.specs.Reply.{grain_text, counted}
-use Rattle.log_entries.specs.Entries.{BodyEntry, Recorded, Upgraded}
+use Rattle.log_reading.specs.Entries.{BodyEntry, Recorded, Upgraded}
 use Rattle.log_reading.specs.Blocks.{ReadEntry, ReadRecord, ReadUpgrade}
 use Rattle.program_file.specs.Programs.{Program, shape_in}
 use Rattle.script_check.specs.Shapes.{type_shapes}
@@ -42,31 +42,31 @@ abbrev pub call_named : Shape → ProgramTree → Call → List ℕ
 call_named shape types call =
     grain_text shape call.grain ++ (46 ∷ method_name (numbered (slice_get types call.grain.kind) call.method))
 
--- a record
-abbrev pub record_data : Shape → ProgramTree → CommitRecord → Data
-record_data shape types r =
-    let how = ended_as r.origin r.unit.0 r.result in
+-- a record, in a block of this session
+abbrev pub record_data : Shape → ProgramTree → ℕ → CommitRecord → Data
+record_data shape types session r =
+    let how = ended_as r.origin session r.unit.0 r.result in
     let args = array (items_of r.call.args) in
     object (member (codes "args") args (member (codes "call") (string (call_named shape types r.call)) how))
 
--- the lines of these records
-abbrev pub record_lines : Shape → ProgramTree → List CommitRecord → List ℕ
-record_lines shape types records = flat_map (λ r. line_of (record_data shape types r)) records
+-- the lines of these records, in a block of this session
+abbrev pub record_lines : Shape → ProgramTree → ℕ → List CommitRecord → List ℕ
+record_lines shape types session records = flat_map (λ r. line_of (record_data shape types session r)) records
 
--- an upgrade, by its text's length in bytes
-abbrev pub upgrade_data : ℕ → Data
-upgrade_data size = object (counted (codes "upgrade") size no_members)
+-- an upgrade, by the session of its block and its text's length in bytes
+abbrev pub upgrade_data : ℕ → ℕ → Data
+upgrade_data session size = object (counted (codes "session") session (counted (codes "upgrade") size no_members))
 
--- the lines of what a block says under the program of these types
-abbrev pub said_lines : ProgramTree → BodyEntry → List ℕ
-said_lines types (Recorded records) = record_lines (record { types = type_shapes types }) types records
-said_lines types (Upgraded q) = line_of (upgrade_data (length q.text))
+-- the lines of what a block of this session says under the program of these types
+abbrev pub said_lines : ProgramTree → ℕ → BodyEntry → List ℕ
+said_lines types session (Recorded records) = record_lines (record { types = type_shapes types }) types session records
+said_lines types session (Upgraded q) = line_of (upgrade_data session (length q.text))
 
--- the lines of entries that are read under this program, each under the program of its time
-abbrev pub entry_lines : Program → List ReadEntry → List ℕ
+-- the lines of entries that are read under this program, each with the session of its block and under the program of its time
+abbrev pub entry_lines : Program → List (ℕ × ReadEntry) → List ℕ
 entry_lines p [] = []
-entry_lines p (ReadRecord r ∷ later) = line_of (record_data (shape_in p) p.types r) ++ entry_lines p later
-entry_lines p (ReadUpgrade q ∷ later) = line_of (upgrade_data (length q.text)) ++ entry_lines q later
+entry_lines p ((session, ReadRecord r) ∷ later) = line_of (record_data (shape_in p) p.types session r) ++ entry_lines p later
+entry_lines p ((session, ReadUpgrade q) ∷ later) = line_of (upgrade_data session (length q.text)) ++ entry_lines q later
 
 -- what an audit found
 abbrev pub audit_data : ℕ → Option ℕ → Data

@@ -8,7 +8,7 @@ use Rattle.base_types.specs.declared.stores.Store.{Store}
 use Rattle.base_types.specs.Stores.{state_in}
 use Rattle.base_types.specs.Grains.{same_grain}
 use Rattle.host_trait.specs.World.{Image}
-use Rattle.field_codec.specs.declared.formats.Format.TheVariants.{One}
+use Rattle.field_codec.specs.declared.formats.Format.TheVariants.{Two}
 use Rattle.commit_log.specs.declared.records.CommitRecord.{CommitRecord}
 use Rattle.commit_log.specs.declared.records.Written.{Written}
 use Rattle.core_model.specs.Equality.{same_state, same_outcome}
@@ -36,11 +36,11 @@ first_states types grain = initial_of (slice_get types grain.kind)
 
 -- the states that stand at the places of these writes, whichever units' they are
 abbrev pub states_saved_at : ℕ → Shape → Image → List Written → List (GrainId × List Value)
-states_saved_at live shape image ws = map (λ w. (w.grain, state_of (version_named live One shape image (record { unit = None; program = 0; written = w })))) ws
+states_saved_at live shape image ws = map (λ w. (w.grain, state_of (version_named live Two shape image (record { unit = None; program = 0; written = w })))) ws
 
 -- the entries of records, with the states that stand at their places
 abbrev pub entries_of_records : ℕ → Shape → Image → List CommitRecord → List LogEntry
-entries_of_records live shape image records = map Recorded (map (commit_of live shape image) records)
+entries_of_records live shape image records = map Recorded (map (commit_of Two live shape image) records)
 
 -- The store has what stands: a state of exactly the grains that have one, and each grain's state, under the program in force.
 pub record IsStoreOf (store : Store) (now : Standing) : Type 0 where

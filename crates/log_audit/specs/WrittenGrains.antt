@@ -3,7 +3,7 @@ use Rattle.std.specs.Prelude.{List, [], ◌∷◌, ◌++◌, map}
 use Rattle.std.specs.List.{flat_map}
 use Rattle.base_types.specs.declared.calls.GrainId.{GrainId}
 use Rattle.commit_log.specs.declared.records.CommitRecord.{CommitRecord}
-use Rattle.log_entries.specs.Entries.{BodyEntry, Recorded, Upgraded}
+use Rattle.log_reading.specs.Entries.{BodyEntry, Recorded, Upgraded}
 use Rattle.log_reading.specs.Blocks.{LogRead, records_read}
 use Rattle.log_reading.specs.Versions.{ascending_with}
 

@@ -3,13 +3,14 @@ ghost use Rattle.host_trait.specs.Disk.{settled};
 ghost use Rattle.host_trait.specs.Files.{StaysReady};
 ghost use Rattle.host_trait.specs.Faults.{NoneFailed};
 ghost use Rattle.host_trait.specs.declared.channels.FileId.TheVariants.{Manager};
+ghost use Rattle.field_codec.specs.declared.formats.Format.TheVariants.{Two};
 ghost use Rattle.log_reading.specs.Steps.{seen_in};
 ghost use Rattle.silo_spec.specs.Slots.{IsLive};
 ghost use Rattle.silo_spec.specs.OpenedDisks.{OnlyOpens};
 ghost use Rattle.silo_opening.specs.declared.faults.OpenFault.{OpenFault};
 ghost use Rattle.silo_opening.specs.Counts.{OpenFaulted};
 ghost use Rattle.silo_opening.specs.OpenedSilo.{ending_of, in_folder};
-ghost use Rattle.promise_spec.specs.Logs.{magic};
+ghost use Rattle.promise_spec.specs.Logs.{IsMagic};
 ghost use Rattle.promise_spec.specs.Openings.{opened_as};
 ghost use Rattle.promise_spec.specs.Refusals.{IsRefusedBy};
 ghost use Rattle.promise_spec.specs.Words.{Manner};
@@ -61,12 +62,12 @@ fn not_read(fault: FolderFault) -> OpenFault
 pub fn audit<H: Host>(alloc: Global, host: &mut H) -> Result<AuditReport, OpenFault>
     // The folder reads as a silo with a program and a log, and this is what they give.
     ensures audited { IfOk result (λ report. IsTrue H.tells → IsAuditOf (seen_in (H.world host.old).disk) report) }
-    ensures settled { OnOk result (IsTrue H.tells → (live : ℕ) → IsLive magic live (seen_in (H.world host.old).disk)
+    ensures settled { OnOk result (IsTrue H.tells → (live : ℕ) → IsLive IsMagic live (seen_in (H.world host.old).disk)
         → (H.world host.new).disk (Manager live) ≡ settled ((H.world host.old).disk (Manager live)).seen) }
 
     // A refusal is what the folder reads as, a fault of a file that has to be read, or want of memory.
     ensures refused { IfErr result (λ e. IsTrue H.tells
-        → IsRefusedBy (seen_in (H.world host.old).disk) (opened_as (seen_in (H.world host.old).disk)) (ending_of e)) }
+        → IsRefusedBy Two (seen_in (H.world host.old).disk) (opened_as (seen_in (H.world host.old).disk)) (ending_of e)) }
 
     // The counts of faults, over any host.
     ensures calm { OnOk result (NoneFailed (H.faults host.old) (H.faults host.new)) }

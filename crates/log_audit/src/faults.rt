@@ -12,9 +12,12 @@ use thiserror::Error;
 /// Why a report wasn't written whole.
 #[derive(Debug, Clone, Copy, PartialEq, Eq, Error)]
 pub enum ReportFault {
-    /// No slot's manager file has 16 bytes or more, a first byte of 1 and the magic behind it.
+    /// No slot's manager file has 16 bytes or more, a first byte of 1 and a magic behind it.
     #[error("the folder is no silo")]
     NotASilo,
+    /// The live slot has format 1, which `migrate` alone reads.
+    #[error("the silo has the old format")]
+    OldFormat,
     /// The file is damaged at this offset.
     #[error("{file:?} is damaged at {place}")]
     Damaged { file: FileId, place: u64 },
@@ -47,6 +50,7 @@ pub(crate) fn unopened(fault: OpenFault) -> ReportFault
 {
     match fault {
         OpenFault::NotASilo => ReportFault::NotASilo,
+        OpenFault::OldFormat => ReportFault::OldFormat,
         OpenFault::Damaged { file, place } => ReportFault::Damaged { file, place },
         OpenFault::DiskFault { file } => ReportFault::DiskFault { file },
         OpenFault::Memory => ReportFault::Memory,

@@ -5,11 +5,11 @@ ghost use Rattle.host_trait.specs.Files.{StaysReady};
 ghost use Rattle.host_trait.specs.Faults.{NoneFailed};
 ghost use Rattle.host_trait.specs.Runs.{OnlyAsked};
 ghost use Rattle.host_trait.specs.declared.channels.FileId.TheVariants.{Manager};
-ghost use Rattle.field_codec.specs.declared.formats.Format.TheVariants.{One};
+ghost use Rattle.field_codec.specs.declared.formats.Format.TheVariants.{Two};
 ghost use Rattle.log_reading.specs.Blocks.{LogRead as ALog, log_in_file};
 ghost use Rattle.log_reading.specs.Counts.{ReadFaulted};
 ghost use Rattle.log_audit.specs.RereadFaults.{IsLogFault};
-ghost use Rattle.log_entries.specs.Entries.{entry_said};
+ghost use Rattle.log_reading.specs.Entries.{entry_said};
 ghost use Rattle.promise_spec.specs.Programs.{Program};
 ghost use Rattle.log_audit.specs.InForce.{types_in_force, HasShape, types_said};
 ghost use Rattle.log_audit.specs.WrittenGrains.{grains_recorded, grains_said, grains_of_log, grains_added};
@@ -19,8 +19,7 @@ use base_types::GrainId;
 use commit_log::{CommitRecord, Written};
 use field_codec::Format;
 use host_trait::Host;
-use log_entries::Said;
-use log_reading::{FolderFault, next_entry, read_base};
+use log_reading::{FolderFault, Said, next_entry, read_base};
 use std::alloc::{AllocError, Global};
 use std::collections::BTreeSet;
 
@@ -77,31 +76,34 @@ pub(crate) fn read_grains<H: Host>(
     requires slot { slot ≤ 1 }
     requires shape { HasShape first }
     ensures found { IfOk result (λ grains. IsTrue H.tells → (p : Program) → p.types ≡ types_in_force first
-        → (log : ALog) → log_in_file One p ((H.world host.old).disk (Manager slot)).seen ≡ Ok log
+        → (log : ALog) → log_in_file Two p ((H.world host.old).disk (Manager slot)).seen ≡ Ok log
         → grains.keys ≡ grains_added [] (grains_of_log log)) }
     ensures unread { IfErr result (λ e. IsTrue H.tells → (p : Program) → p.types ≡ types_in_force first
-        → (log : ALog) → log_in_file One p ((H.world host.old).disk (Manager slot)).seen ≡ Ok log
+        → (log : ALog) → log_in_file Two p ((H.world host.old).disk (Manager slot)).seen ≡ Ok log
         → IsLogFault slot p ((H.world host.old).disk (Manager slot)).seen e) }
     ensures asked { IsTrue H.tells → OnlyAsked (H.world host.old) (H.world host.new) }
     ensures calm { OnOk result (NoneFailed (H.faults host.old) (H.faults host.new)) }
     ensures fault { IfErr result (λ e. ReadFaulted e (H.faults host.old) (H.faults host.new)) }
     ensures ready { StaysReady (H.is_ready host.old) (H.is_ready host.new) }
 {
-    let base = read_base(alloc, host, slot, &first.shape)?;
+    let base = read_base(alloc, host, slot, &first.shape, Format::Two)?;
     let mut grains = BTreeSet::new(alloc);
     add_written(&mut grains, base.saved.as_slice())?;
     let mut now = first;
+    let mut last = base.session;
     let mut gate_at = base.gate_at;
-    while let Some((said, behind)) = next_entry(
+    while let Some((session, said, behind)) = next_entry(
         alloc,
         host,
         slot,
         &now.checked,
         &now.shape,
-        Format::One,
+        last,
+        Format::Two,
         gate_at,
     )? {
         add_said(&mut grains, &mut now, said)?;
+        last = session;
         gate_at = behind;
     }
     Ok(grains)

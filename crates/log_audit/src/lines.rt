@@ -7,7 +7,7 @@ ghost use Rattle.request_wire.specs.Reply.{counted};
 ghost use Rattle.serde_json.specs.Data.{string, object, member, no_members};
 ghost use Rattle.serde_json.specs.View.{view};
 ghost use Rattle.serde_json.specs.Written.{has_float};
-ghost use Rattle.promise_spec.specs.Reports.{line_of, origin_count, ended_as};
+ghost use Rattle.promise_spec.specs.Reports.{line_of, origin_count, unit_counts, ended_as};
 ghost use Rattle.log_audit.specs.Lines.{grain_data, count_data, record_data, audit_data, upgrade_data};
 
 use crate::parts::{args_json, call_text, fields_json, fields_of_kind, value_json};
@@ -70,14 +70,15 @@ fn reply_json(
     call: &str,
     origin: Origin,
     reply: Json,
+    session: u64,
     unit: u64,
 ) -> Result<Json, AllocError>
     ensures { IfOk result (λ v. view v ≡ object (member (codes "args") (view args) (member (codes "call") (string call.now)
-        (origin_count origin (member (codes "reply") (view reply) (counted (codes "unit") unit no_members)))))) }
+        (origin_count origin (member (codes "reply") (view reply) (unit_counts session unit)))))) }
 {
     match origin {
         Origin::Line(n) => {
-            json!(in alloc; {"args": args, "call": call, "n": n, "reply": reply, "unit": unit})
+            json!(in alloc; {"args": args, "call": call, "n": n, "reply": reply, "session": session, "unit": unit})
         }
         Origin::Child {
             parent,
@@ -85,7 +86,7 @@ fn reply_json(
             depth: _depth,
         } => {
             let parent = parent.0;
-            json!(in alloc; {"args": args, "call": call, "parent": parent, "reply": reply, "unit": unit})
+            json!(in alloc; {"args": args, "call": call, "parent": parent, "reply": reply, "session": session, "unit": unit})
         }
     }
 }
@@ -97,14 +98,15 @@ fn fault_json(
     call: &str,
     fault: &str,
     origin: Origin,
+    session: u64,
     unit: u64,
 ) -> Result<Json, AllocError>
     ensures { IfOk result (λ v. view v ≡ object (member (codes "args") (view args) (member (codes "call") (string call.now)
-        (member (codes "fault") (string fault.now) (origin_count origin (counted (codes "unit") unit no_members)))))) }
+        (member (codes "fault") (string fault.now) (origin_count origin (unit_counts session unit)))))) }
 {
     match origin {
         Origin::Line(n) => {
-            json!(in alloc; {"args": args, "call": call, "fault": fault, "n": n, "unit": unit})
+            json!(in alloc; {"args": args, "call": call, "fault": fault, "n": n, "session": session, "unit": unit})
         }
         Origin::Child {
             parent,
@@ -112,58 +114,63 @@ fn fault_json(
             depth: _depth,
         } => {
             let parent = parent.0;
-            json!(in alloc; {"args": args, "call": call, "fault": fault, "parent": parent, "unit": unit})
+            json!(in alloc; {"args": args, "call": call, "fault": fault, "parent": parent, "session": session, "unit": unit})
         }
     }
 }
 
 fn record_json(
     alloc: Global,
+    session: u64,
     entry: &CommitRecord,
     args: Json,
     call: &str,
 ) -> Result<Json, AllocError>
     ensures { IfOk result (λ v. view v ≡ object (member (codes "args") (view args) (member (codes "call") (string call.now)
-        (ended_as entry.now.origin entry.now.unit.0 entry.now.result)))) }
+        (ended_as entry.now.origin session entry.now.unit.0 entry.now.result)))) }
 {
     let unit = entry.unit.0;
     match &entry.result {
         Outcome::Value(value) => {
             let reply = value_json(alloc, value)?;
-            reply_json(alloc, args, call, entry.origin, reply, unit)
+            reply_json(alloc, args, call, entry.origin, reply, session, unit)
         }
-        Outcome::Fault(text) => fault_json(alloc, args, call, text.as_str(), entry.origin, unit),
+        Outcome::Fault(text) => {
+            let fault = text.as_str();
+            fault_json(alloc, args, call, fault, entry.origin, session, unit)
+        }
         Outcome::Aborted => json!(in alloc; {"args": args, "call": call}),
     }
 }
 
-/// A record of the log.
+/// A record of the log, in a block of this session.
 pub(crate) fn record_line(
     alloc: Global,
     types: &[TypeDecl],
     shape: &Shape,
+    session: u64,
     entry: &CommitRecord,
 ) -> Result<String, AllocError>
     requires { IsAcceptedProgram (map type_tree types.now) }
-    ensures { IfOk result (λ line. string_bytes line ≡ line_of (record_data shape.now (map type_tree types.now) entry.now)) }
+    ensures { IfOk result (λ line. string_bytes line ≡ line_of (record_data shape.now (map type_tree types.now) session entry.now)) }
 {
     let args = args_json(alloc, entry.call.args.as_slice())?;
     let call = call_text(alloc, types, shape, &entry.call)?;
-    let value = record_json(alloc, entry, args, call.as_str())?;
+    let value = record_json(alloc, session, entry, args, call.as_str())?;
     line_text(alloc, &value)
 }
 
-fn upgrade_json(alloc: Global, length: u64) -> Result<Json, AllocError>
-    ensures { IfOk result (λ v. view v ≡ upgrade_data length) }
+fn upgrade_json(alloc: Global, session: u64, length: u64) -> Result<Json, AllocError>
+    ensures { IfOk result (λ v. view v ≡ upgrade_data session length) }
 {
-    json!(in alloc; {"upgrade": length})
+    json!(in alloc; {"session": session, "upgrade": length})
 }
 
-/// An upgrade, by the length of its program's text in bytes.
-pub(crate) fn upgrade_line(alloc: Global, length: u64) -> Result<String, AllocError>
-    ensures { IfOk result (λ line. string_bytes line ≡ line_of (upgrade_data length)) }
+/// An upgrade, by the session of its block and the length of its program's text in bytes.
+pub(crate) fn upgrade_line(alloc: Global, session: u64, length: u64) -> Result<String, AllocError>
+    ensures { IfOk result (λ line. string_bytes line ≡ line_of (upgrade_data session length)) }
 {
-    let value = upgrade_json(alloc, length)?;
+    let value = upgrade_json(alloc, session, length)?;
     line_text(alloc, &value)
 }
 

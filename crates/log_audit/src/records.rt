@@ -1,10 +1,11 @@
-ghost use Rattle.std.specs.Prelude.{◌≡◌, ◌+◌, ◌^◌, ◌<◌, ◌≤◌, ℕ, List, IsTrue, Ok, IfOk, IfErr, IfSome, OnOk, is_ok, length};
+ghost use Rattle.std.specs.Prelude.{◌≡◌, ◌+◌, ◌^◌, ◌<◌, ◌≤◌, ℕ, List, IsTrue, Ok, IfOk, IfErr, IfSome, OnOk, is_ok, length, zip};
 ghost use Rattle.host_trait.specs.Files.{StaysReady};
 ghost use Rattle.host_trait.specs.Runs.{OnlyAsked};
 ghost use Rattle.host_trait.specs.declared.channels.FileId.TheVariants.{Manager};
-ghost use Rattle.field_codec.specs.declared.formats.Format.TheVariants.{One};
+ghost use Rattle.field_codec.specs.declared.formats.Format.TheVariants.{Two};
 ghost use Rattle.log_reading.specs.Blocks.{LogRead as ALog, entries_said, log_in_file};
-ghost use Rattle.log_entries.specs.Entries.{entry_said};
+ghost use Rattle.log_reading.specs.Entries.{entry_said};
+ghost use Rattle.log_reading.specs.Sessions.{sessions_read};
 ghost use Rattle.log_reading.specs.Steps.{next_in, found_as, seen_in};
 ghost use Rattle.script_tree.specs.Programs.{program_tree};
 ghost use Rattle.program_file.specs.Succession.{ArePrograms};
@@ -28,29 +29,29 @@ use base_types::Shape;
 use commit_log::CommitRecord;
 use field_codec::Format;
 use host_trait::Host;
-use log_entries::Said;
-use log_reading::{next_entry, read_base};
+use log_reading::{Said, next_entry, read_base};
 use script_check::Checked;
 use silo_opening::{Opened, open_silo};
 use std::alloc::Global;
 
-// What the block behind a gate of a slot's manager file says under the program in force, and the next gate, none where the gate isn't
-// open.
+// What the block behind a gate of a slot's manager file says under the program in force, behind its session, and the next gate, none
+// where the gate isn't open. No block before it has a greater session than this one.
 fn next_said<H: Host>(
     alloc: Global,
     host: &mut H,
     slot: u8,
     now: &InForce,
+    session: u64,
     gate_at: u64,
-) -> Result<Option<(Said, u64)>, ReportFault>
+) -> Result<Option<(u64, Said, u64)>, ReportFault>
     requires slot { slot ≤ 1 }
     requires shape { HasShape now.now }
     requires place { gate_at < 2 ^ 63 }
     ensures found { IfOk result (λ found. IsTrue H.tells
-        → next_in One (types_in_force now.now) gate_at ((H.world host.old).disk (Manager slot)).seen ≡ Ok (found_as found)) }
-    ensures further { IfOk result (λ found. IfSome found (λ x. (gate_at + 5 + length (entries_said (entry_said x.0)) ≤ x.1) × (x.1 < 2 ^ 63))) }
+        → next_in Two (types_in_force now.now) session gate_at ((H.world host.old).disk (Manager slot)).seen ≡ Ok (found_as found)) }
+    ensures further { IfOk result (λ found. IfSome found (λ x. (gate_at + 5 + length (entries_said (entry_said x.1)) ≤ x.2) × (x.2 < 2 ^ 63))) }
     ensures unread { IfErr result (λ e. IsTrue H.tells
-        → IsBlockFault (types_in_force now.now) gate_at ((H.world host.old).disk (Manager slot)).seen e) }
+        → IsBlockFault (types_in_force now.now) session gate_at ((H.world host.old).disk (Manager slot)).seen e) }
     ensures asked { IsTrue H.tells → OnlyAsked (H.world host.old) (H.world host.new) }
     ensures exact { HasFailedAs (report_ending result) (H.faults host.old) (H.faults host.new) }
     ensures ready { StaysReady (H.is_ready host.old) (H.is_ready host.new) }
@@ -61,7 +62,8 @@ fn next_said<H: Host>(
         slot,
         &now.checked,
         &now.shape,
-        Format::One,
+        session,
+        Format::Two,
         gate_at,
     ) {
         Ok(found) => Ok(found),
@@ -69,15 +71,16 @@ fn next_said<H: Host>(
     }
 }
 
-// Writes a line for each of these records.
+// Writes a line for each of these records, in a block of this session.
 fn write_records<H: Host>(
     alloc: Global,
     host: &mut H,
     checked: &Checked,
     shape: &Shape,
+    session: u64,
     records: &[CommitRecord],
 ) -> Result<(), ReportFault>
-    ensures puts { IsTrue H.tells → PutsPart (record_lines shape.now (program_tree checked.now) records.now)
+    ensures puts { IsTrue H.tells → PutsPart (record_lines shape.now (program_tree checked.now) session records.now)
         (is_ok result) (H.world host.old) (H.world host.new) }
     ensures ended { MayEnd (report_ending result) }
     ensures exact { HasFailedAs (report_ending result) (H.faults host.old) (H.faults host.new) }
@@ -85,32 +88,39 @@ fn write_records<H: Host>(
 {
     let types = checked.program().types.as_slice();
     for entry in records {
-        let line = record_line(alloc, types, shape, entry)?;
+        let line = record_line(alloc, types, shape, session, entry)?;
         write_line(host, line.as_bytes())?;
     }
     Ok(())
 }
 
-// Writes a line for an upgrade to a program whose text has this length in bytes.
-fn write_upgrade<H: Host>(alloc: Global, host: &mut H, length: u64) -> Result<(), ReportFault>
-    ensures puts { IsTrue H.tells → PutsPart (line_of (upgrade_data length)) (is_ok result) (H.world host.old) (H.world host.new) }
+// Writes a line for an upgrade, in a block of this session, to a program whose text has this length in bytes.
+fn write_upgrade<H: Host>(
+    alloc: Global,
+    host: &mut H,
+    session: u64,
+    length: u64,
+) -> Result<(), ReportFault>
+    ensures puts { IsTrue H.tells → PutsPart (line_of (upgrade_data session length)) (is_ok result) (H.world host.old) (H.world host.new) }
     ensures ended { MayEnd (report_ending result) }
     ensures exact { HasFailedAs (report_ending result) (H.faults host.old) (H.faults host.new) }
     ensures ready { StaysReady (H.is_ready host.old) (H.is_ready host.new) }
 {
-    let line = upgrade_line(alloc, length)?;
+    let line = upgrade_line(alloc, session, length)?;
     write_line(host, line.as_bytes())
 }
 
-// Writes the lines of what a block says under the program in force, and has the program that is in force behind it.
+// Writes the lines of what a block of this session says under the program in force, and has the program that is in force behind it.
 fn write_said<H: Host>(
     alloc: Global,
     host: &mut H,
     now: &mut InForce,
+    session: u64,
     said: Said,
 ) -> Result<(), ReportFault>
     requires shape { HasShape now.old }
-    ensures puts { IsTrue H.tells → PutsPart (said_lines (types_in_force now.old) (entry_said said)) (is_ok result) (H.world host.old) (H.world host.new) }
+    ensures puts { IsTrue H.tells
+        → PutsPart (said_lines (types_in_force now.old) session (entry_said said)) (is_ok result) (H.world host.old) (H.world host.new) }
     ensures behind { OnOk result (types_in_force now.new ≡ types_said now.old said) }
     ensures shaped { OnOk result (HasShape now.new) }
     ensures ended { MayEnd (report_ending result) }
@@ -119,12 +129,19 @@ fn write_said<H: Host>(
 {
     match said {
         Said::Records(records) => {
-            write_records(alloc, host, &now.checked, &now.shape, records.as_slice())?;
+            write_records(
+                alloc,
+                host,
+                &now.checked,
+                &now.shape,
+                session,
+                records.as_slice(),
+            )?;
             Ok(())
         }
         Said::Upgrade { text, checked } => {
             let next = InForce::new(checked)?;
-            write_upgrade(alloc, host, text.len() as u64)?;
+            write_upgrade(alloc, host, session, text.len() as u64)?;
             *now = next;
             Ok(())
         }
@@ -142,22 +159,25 @@ fn write_log<H: Host>(
     requires slot { slot ≤ 1 }
     requires shape { HasShape first }
     ensures puts { IsTrue H.tells → (p : Program) → p.types ≡ types_in_force first
-        → (log : ALog) → log_in_file One p ((H.world host.old).disk (Manager slot)).seen ≡ Ok log
-        → PutsPart (entry_lines p log.entries) (is_ok result) (H.world host.old) (H.world host.new) }
+        → (log : ALog) → log_in_file Two p ((H.world host.old).disk (Manager slot)).seen ≡ Ok log
+        → PutsPart (entry_lines p (zip (sessions_read Two p ((H.world host.old).disk (Manager slot)).seen) log.entries)) (is_ok result)
+        (H.world host.old) (H.world host.new) }
     ensures ended { IsTrue H.tells → (p : Program) → p.types ≡ types_in_force first
-        → (log : ALog) → log_in_file One p ((H.world host.old).disk (Manager slot)).seen ≡ Ok log
+        → (log : ALog) → log_in_file Two p ((H.world host.old).disk (Manager slot)).seen ≡ Ok log
         → MayEnd (report_ending result) }
     ensures exact { HasFailedAs (report_ending result) (H.faults host.old) (H.faults host.new) }
     ensures ready { StaysReady (H.is_ready host.old) (H.is_ready host.new) }
 {
-    let base = match read_base(alloc, host, slot, &first.shape) {
+    let base = match read_base(alloc, host, slot, &first.shape, Format::Two) {
         Ok(base) => base,
         Err(fault) => return Err(unread(fault)),
     };
     let mut now = first;
+    let mut last = base.session;
     let mut gate_at = base.gate_at;
-    while let Some((said, behind)) = next_said(alloc, host, slot, &now, gate_at)? {
-        write_said(alloc, host, &mut now, said)?;
+    while let Some((session, said, behind)) = next_said(alloc, host, slot, &now, last, gate_at)? {
+        write_said(alloc, host, &mut now, session, said)?;
+        last = session;
         gate_at = behind;
     }
     Ok(())
@@ -168,7 +188,8 @@ fn write_history<H: Host>(alloc: Global, host: &mut H, opened: Opened) -> Result
     requires slot { opened.slot ≤ 1 }
     requires programs { ArePrograms (programs_of opened) }
     ensures puts { IsTrue H.tells → (o : IsOpenedFrom (seen_in (H.world host.old).disk) opened)
-        → PutsPart (history_text o.log) (is_ok result) (H.world host.old) (H.world host.new) }
+        → PutsPart (history_text (sessions_read Two o.first ((H.world host.old).disk (Manager opened.slot)).seen) o.log) (is_ok result)
+        (H.world host.old) (H.world host.new) }
     ensures ended { IsTrue H.tells → IsOpenedFrom (seen_in (H.world host.old).disk) opened → MayEnd (report_ending result) }
     ensures exact { HasFailedAs (report_ending result) (H.faults host.old) (H.faults host.new) }
     ensures ready { StaysReady (H.is_ready host.old) (H.is_ready host.new) }
@@ -178,17 +199,17 @@ fn write_history<H: Host>(alloc: Global, host: &mut H, opened: Opened) -> Result
     write_log(alloc, host, slot, first)
 }
 
-/// Writes a line for each entry of the log, in its order: of a record the call, its origin, and how it ended, by the program of its time;
-/// of an upgrade its text's length in bytes.
+/// Writes a line for each entry of the log, in its order, with the session of its block: of a record the call, its origin, and how it
+/// ended, by the program of its time; of an upgrade its text's length in bytes.
 ///
 /// It opens the folder and reads the log again, and writes each line as it is read. Nothing of the folder changes.
 ///
 /// # Errors
 ///
-/// `NotASilo` and `Damaged` as the folder reads; then nothing is written. `DiskFault`, `WriteFault` and `Memory` at any place.
+/// `NotASilo`, `OldFormat` and `Damaged` as the folder reads; then nothing is written. `DiskFault`, `WriteFault` and `Memory` at any place.
 pub fn history<H: Host>(alloc: Global, host: &mut H) -> Result<(), ReportFault>
     // What the command promises of any folder.
-    ensures reports { IsTrue H.tells → (manner : Manner) (asked : List (List ℕ)) → Reports history_text
+    ensures reports { IsTrue H.tells → (manner : Manner) (asked : List (List ℕ)) → Reports
         (reported_as manner asked (H.world host.old) (H.world host.new) (H.faults host.old) (H.faults host.new) result) }
     // Exactly the call that the answer names has failed, over any host.
     ensures exact { HasFailedAs (report_ending result) (H.faults host.old) (H.faults host.new) }

@@ -4,7 +4,7 @@ ghost use Rattle.host_trait.specs.Files.{StaysReady};
 ghost use Rattle.host_trait.specs.Faults.{NoneFailed};
 ghost use Rattle.host_trait.specs.Runs.{OnlyAsked};
 ghost use Rattle.host_trait.specs.declared.channels.FileId.TheVariants.{Manager};
-ghost use Rattle.field_codec.specs.declared.formats.Format.TheVariants.{One};
+ghost use Rattle.field_codec.specs.declared.formats.Format.TheVariants.{Two};
 ghost use Rattle.core_model.specs.Equality.{same_list};
 ghost use Rattle.log_reading.specs.Blocks.{LogRead as ALog, log_in_file};
 ghost use Rattle.log_reading.specs.Counts.{ReadFaulted};
@@ -30,8 +30,7 @@ use commit_log::{CommitRecord, Named, Written};
 use core_parts::Same;
 use field_codec::Format;
 use host_trait::Host;
-use log_entries::Said;
-use log_reading::{FolderFault, named_version, next_entry, read_base};
+use log_reading::{FolderFault, Said, named_version, next_entry, read_base};
 use script_player::{Played, play};
 use std::alloc::{AllocError, Global};
 
@@ -76,7 +75,7 @@ fn read_writes<H: Host>(
     entry: &CommitRecord,
 ) -> Result<Vec<(GrainId, State)>, FolderFault>
     requires slot { slot ≤ 1 }
-    ensures writes { IfOk result (λ kept. IsTrue H.tells → kept.items ≡ written (commit_of slot shape.now (seen_in (H.world host.old).disk) entry.now)) }
+    ensures writes { IfOk result (λ kept. IsTrue H.tells → kept.items ≡ written (commit_of Two slot shape.now (seen_in (H.world host.old).disk) entry.now)) }
     ensures fits { IfOk result (λ kept. (types : ProgramTree) → shape.now ≡ record { types = type_shapes types } → AreOfProgram types kept.items) }
     ensures unread { IfErr result (λ e. IsTrue H.tells
         → IsWriteFault slot shape.now (seen_in (H.world host.old).disk) (Some entry.now.unit) entry.now.writes e) }
@@ -93,7 +92,7 @@ fn read_writes<H: Host>(
             program: 0,
             written: *one,
         };
-        let version = named_version(alloc, host, slot, shape, Format::One, named)?;
+        let version = named_version(alloc, host, slot, shape, Format::Two, named)?;
         kept.push((one.grain, version.state))?;
     }
     Ok(kept)
@@ -130,7 +129,7 @@ fn replay<H: Host>(
     requires slot { slot ≤ 1 }
     requires shape { HasShape now.now }
     ensures replays { IfOk result (λ found. IsTrue H.tells → (before : Standing) → before.program.types ≡ types_in_force now.now → IsStoreOf store.old before
-        → ReplaysTo before (commit_of slot now.now.shape (seen_in (H.world host.old).disk) entry.now) store.new found) }
+        → ReplaysTo before (commit_of Two slot now.now.shape (seen_in (H.world host.old).disk) entry.now) store.new found) }
     ensures fits { OnOk result (StoreFits (types_in_force now.now) store.old → StoreFits (types_in_force now.now) store.new) }
     ensures unread { IfErr result (λ e. IsTrue H.tells
         → IsWriteFault slot now.now.shape (seen_in (H.world host.old).disk) (Some entry.now.unit) entry.now.writes e) }
@@ -199,9 +198,9 @@ fn replay_said<H: Host>(
     requires slot { slot ≤ 1 }
     requires shape { HasShape now.old }
     requires fits { StoreFits (types_in_force now.old) store.old }
-    requires may { IsSaidIn One (types_in_force now.old) said }
+    requires may { IsSaidIn Two (types_in_force now.old) said }
     ensures replays { IfOk result (λ found. IsTrue H.tells → (before : Standing) → before.program.types ≡ types_in_force now.old → IsStoreOf store.old before
-        → AllReplayTo before (entries_logged slot before.program (seen_in (H.world host.old).disk) (said_entries said)) store.new found) }
+        → AllReplayTo before (entries_logged Two slot before.program (seen_in (H.world host.old).disk) (said_entries said)) store.new found) }
     ensures behind { OnOk result (types_in_force now.new ≡ types_said now.old said) }
     ensures shaped { OnOk result (HasShape now.new) }
     ensures fits { OnOk result (StoreFits (types_in_force now.new) store.new) }
@@ -257,7 +256,7 @@ fn saved_store<H: Host>(
             program: 0,
             written: *written,
         };
-        let version = named_version(alloc, host, slot, shape, Format::One, named)?;
+        let version = named_version(alloc, host, slot, shape, Format::Two, named)?;
         store.put(written.grain, version.state)?;
     }
     Ok(store)
@@ -275,33 +274,36 @@ pub(crate) fn replay_log<H: Host>(
     requires slot { slot ≤ 1 }
     requires shape { HasShape first }
     ensures replays { IfOk result (λ found. IsTrue H.tells → (p : Program) → p.types ≡ types_in_force first
-        → (log : ALog) → log_in_file One p ((H.world host.old).disk (Manager slot)).seen ≡ Ok log
-        → let all = log_of slot p (seen_in (H.world host.old).disk) log in IsFirstFailure all.base all.entries found) }
+        → (log : ALog) → log_in_file Two p ((H.world host.old).disk (Manager slot)).seen ≡ Ok log
+        → let all = log_of Two slot p (seen_in (H.world host.old).disk) log in IsFirstFailure all.base all.entries found) }
     ensures unread { IfErr result (λ e. IsTrue H.tells → (p : Program) → p.types ≡ types_in_force first
-        → (log : ALog) → log_in_file One p ((H.world host.old).disk (Manager slot)).seen ≡ Ok log
+        → (log : ALog) → log_in_file Two p ((H.world host.old).disk (Manager slot)).seen ≡ Ok log
         → IsRereadFault slot p (seen_in (H.world host.old).disk) log e) }
     ensures asked { IsTrue H.tells → OnlyAsked (H.world host.old) (H.world host.new) }
     ensures calm { OnOk result (NoneFailed (H.faults host.old) (H.faults host.new)) }
     ensures fault { IfErr result (λ e. ReadFaulted e (H.faults host.old) (H.faults host.new)) }
     ensures ready { StaysReady (H.is_ready host.old) (H.is_ready host.new) }
 {
-    let base = read_base(alloc, host, slot, &first.shape)?;
+    let base = read_base(alloc, host, slot, &first.shape, Format::Two)?;
     let mut store = saved_store(alloc, host, slot, &first.shape, base.saved.as_slice())?;
     let mut now = first;
+    let mut last = base.session;
     let mut gate_at = base.gate_at;
-    while let Some((said, behind)) = next_entry(
+    while let Some((session, said, behind)) = next_entry(
         alloc,
         host,
         slot,
         &now.checked,
         &now.shape,
-        Format::One,
+        last,
+        Format::Two,
         gate_at,
     )? {
         let found = replay_said(alloc, host, slot, &mut now, &mut store, said)?;
         if found.is_some() {
             return Ok(found);
         }
+        last = session;
         gate_at = behind;
     }
     Ok(None)

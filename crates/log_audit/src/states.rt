@@ -105,7 +105,7 @@ fn write_show<H: Host>(alloc: Global, host: &mut H, opened: Opened) -> Result<()
 ///
 /// # Errors
 ///
-/// `NotASilo` and `Damaged` as the folder reads; then nothing is written. `DiskFault`, `WriteFault` and `Memory` at any place.
+/// `NotASilo`, `OldFormat` and `Damaged` as the folder reads; then nothing is written. `DiskFault`, `WriteFault` and `Memory` at any place.
 pub fn show<H: Host>(alloc: Global, host: &mut H) -> Result<(), ReportFault>
     // What the command promises of any folder.
     ensures reports { IsTrue H.tells → (manner : Manner) (asked : List (List ℕ)) → ShowsStates

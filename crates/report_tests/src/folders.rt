@@ -21,11 +21,12 @@ pub const GRAIN: FileId = FileId::Grain {
 const TEXT: &str =
     "type account { field balance = 0; method deposit(n) createorjoin update { set balance = balance + n; return balance; } }";
 
-// The manager file, as `docs/FORMATS.md` shows it: the header, the gate, and the block.
-const MANAGER_BYTES: [u8; 89] = [
-    1, 79, 84, 88, 76, 79, 71, 48, 49, 0, 0, 0, 0, 0, 0, 1, 68, 0, 0, 0, 1, 0, 0, 0, 1, 0, 0, 0, 0,
-    0, 0, 0, 0, 1, 0, 0, 0, 0, 0, 1, 0, 0, 0, 0, 0, 1, 0, 0, 5, 0, 0, 0, 0, 0, 0, 0, 0, 0, 1, 0, 5,
-    0, 0, 0, 0, 0, 0, 0, 1, 0, 0, 0, 1, 0, 0, 0, 0, 0, 0, 0, 0, 0, 0, 0, 19, 0, 0, 0, 0,
+// The manager file, as `docs/FORMATS.md` shows it: the header, the gate, and the block, whose session is 1.
+const MANAGER_BYTES: [u8; 97] = [
+    1, 79, 84, 88, 76, 79, 71, 48, 50, 0, 0, 0, 0, 0, 0, 1, 76, 0, 0, 0, 1, 0, 0, 0, 0, 0, 0, 0, 1,
+    0, 0, 0, 1, 0, 0, 0, 0, 0, 0, 0, 0, 1, 0, 0, 0, 0, 0, 1, 0, 0, 0, 0, 0, 1, 0, 0, 5, 0, 0, 0, 0,
+    0, 0, 0, 0, 0, 1, 0, 5, 0, 0, 0, 0, 0, 0, 0, 1, 0, 0, 0, 1, 0, 0, 0, 0, 0, 0, 0, 0, 0, 0, 0,
+    19, 0, 0, 0, 0,
 ];
 
 // The grain's file: unit 1, one value, Int 5.

@@ -30,7 +30,12 @@ const GRAIN_LINE: &str = "{\"fields\":{\"balance\":5},\"grain\":\"account/1\"}\n
 
 const SHOWN: &str = "{\"fields\":{\"balance\":5},\"grain\":\"account/1\"}\n{\"count\":1}\n";
 
-const TOLD: &str = "{\"args\":[5],\"call\":\"account/1.deposit\",\"n\":1,\"reply\":5,\"unit\":1}\n";
+const TOLD: &str =
+    "{\"args\":[5],\"call\":\"account/1.deposit\",\"n\":1,\"reply\":5,\"session\":1,\"unit\":1}\n";
+
+// The same, of a block of session 7.
+const TOLD_OF_SEVEN: &str =
+    "{\"args\":[5],\"call\":\"account/1.deposit\",\"n\":1,\"reply\":5,\"session\":7,\"unit\":1}\n";
 
 const WELL: &str = "{\"count\":1,\"first_bad\":null}\n";
 
@@ -41,11 +46,11 @@ const NONE: (usize, u8) = (0, 1);
 
 const GRAIN_FAULT: Result<(), ReportFault> = Err(ReportFault::DiskFault { file: GRAIN });
 
-const ROWS: [Row; 11] = [
+const ROWS: [Row; 16] = [
     Row {
         name: "the states",
         report: Report::Show,
-        length: 89,
+        length: 97,
         set: NONE,
         fails: None,
         answer: Ok(()),
@@ -54,8 +59,8 @@ const ROWS: [Row; 11] = [
     Row {
         name: "a byte behind the log",
         report: Report::Show,
-        length: 89,
-        set: (88, 7),
+        length: 97,
+        set: (96, 7),
         fails: None,
         answer: Ok(()),
         output: SHOWN,
@@ -63,7 +68,7 @@ const ROWS: [Row; 11] = [
     Row {
         name: "a log that is cut",
         report: Report::Show,
-        length: 50,
+        length: 58,
         set: NONE,
         fails: None,
         answer: Err(ReportFault::Damaged {
@@ -75,19 +80,19 @@ const ROWS: [Row; 11] = [
     Row {
         name: "an argument of no kind",
         report: Report::History,
-        length: 89,
-        set: (47, 3),
+        length: 97,
+        set: (55, 3),
         fails: None,
         answer: Err(ReportFault::Damaged {
             file: MANAGER,
-            place: 47,
+            place: 55,
         }),
         output: "",
     },
     Row {
         name: "the version of a grain can't be read for its state",
         report: Report::Show,
-        length: 89,
+        length: 97,
         set: NONE,
         fails: Some((CallKind::Read, Channel::File(GRAIN), 2)),
         answer: GRAIN_FAULT,
@@ -96,7 +101,7 @@ const ROWS: [Row; 11] = [
     Row {
         name: "the second line isn't written",
         report: Report::Show,
-        length: 89,
+        length: 97,
         set: NONE,
         fails: Some((CallKind::Emit, Channel::Output, 2)),
         answer: Err(ReportFault::WriteFault),
@@ -105,7 +110,7 @@ const ROWS: [Row; 11] = [
     Row {
         name: "the records",
         report: Report::History,
-        length: 89,
+        length: 97,
         set: NONE,
         fails: None,
         answer: Ok(()),
@@ -114,16 +119,64 @@ const ROWS: [Row; 11] = [
     Row {
         name: "a grain's file can't be read",
         report: Report::History,
-        length: 89,
+        length: 97,
         set: NONE,
         fails: Some((CallKind::Read, Channel::File(GRAIN), 1)),
         answer: GRAIN_FAULT,
         output: "",
     },
     Row {
+        name: "another session",
+        report: Report::History,
+        length: 97,
+        set: (20, 7),
+        fails: None,
+        answer: Ok(()),
+        output: TOLD_OF_SEVEN,
+    },
+    Row {
+        name: "a session that no log has",
+        report: Report::History,
+        length: 97,
+        set: (27, 128),
+        fails: None,
+        answer: Err(ReportFault::Damaged {
+            file: MANAGER,
+            place: 20,
+        }),
+        output: "",
+    },
+    Row {
+        name: "the states of a silo of the old format",
+        report: Report::Show,
+        length: 97,
+        set: (8, 49),
+        fails: None,
+        answer: Err(ReportFault::OldFormat),
+        output: "",
+    },
+    Row {
+        name: "its records",
+        report: Report::History,
+        length: 97,
+        set: (8, 49),
+        fails: None,
+        answer: Err(ReportFault::OldFormat),
+        output: "",
+    },
+    Row {
+        name: "its audit",
+        report: Report::Audit,
+        length: 97,
+        set: (8, 49),
+        fails: None,
+        answer: Err(ReportFault::OldFormat),
+        output: "",
+    },
+    Row {
         name: "a log that replays",
         report: Report::Audit,
-        length: 89,
+        length: 97,
         set: NONE,
         fails: None,
         answer: Ok(()),
@@ -132,8 +185,8 @@ const ROWS: [Row; 11] = [
     Row {
         name: "another result",
         report: Report::Audit,
-        length: 89,
-        set: (60, 6),
+        length: 97,
+        set: (68, 6),
         fails: None,
         answer: Ok(()),
         output: ILL,
@@ -141,7 +194,7 @@ const ROWS: [Row; 11] = [
     Row {
         name: "a grain's file can't be read again",
         report: Report::Audit,
-        length: 89,
+        length: 97,
         set: NONE,
         fails: Some((CallKind::Read, Channel::File(GRAIN), 2)),
         answer: GRAIN_FAULT,
@@ -191,10 +244,10 @@ fn a_report_that_is_stopped_wrote_a_first_part(rt: HostRuntime) -> Result<(), Fa
         (Report::History, TOLD),
         (Report::Audit, WELL),
     ] {
-        let mut whole = folder_of(alloc, 89, 0, 1)?;
+        let mut whole = folder_of(alloc, 97, 0, 1)?;
         assert_eq!(rt; write_report(alloc, &mut whole, report), Ok(()));
         for calls in 0..whole.calls() {
-            let mut host = folder_of(alloc, 89, 0, 1)?;
+            let mut host = folder_of(alloc, 97, 0, 1)?;
             host.stop_after(calls);
             assert!(rt; write_report(alloc, &mut host, report).is_err(), "{calls}");
             assert!(rt; text.as_bytes().starts_with(host.output()), "{calls}");

@@ -3,7 +3,7 @@ use Rattle.host_trait.specs.declared.channels.Channel.{Channel}
 use Rattle.host_trait.specs.Disk.{settled}
 use Rattle.host_trait.specs.World.{Disk, Image}
 use Rattle.host_trait.proofs.Counts.{none_then}
-use Rattle.field_codec.specs.declared.formats.Format.TheVariants.{One}
+use Rattle.field_codec.specs.declared.formats.Format.TheVariants.{Two}
 use Rattle.log_reading.specs.Blocks.{log_in_file}
 use Rattle.host_trait.specs.declared.channels.FileId.TheVariants.{Manager}
 use Rattle.log_reading.specs.Steps.{seen_in}
@@ -13,7 +13,7 @@ use Rattle.silo_opening.specs.OpenedSilo.{ending_of, programs_of}
 use Rattle.silo_opening.specs.declared.faults.OpenFault.{OpenFault}
 use Rattle.silo_opening.proofs.OpeningCalls.{opens_same, opens_and_asked}
 use Rattle.promise_spec.specs.Entries.{Log}
-use Rattle.promise_spec.specs.Logs.{magic}
+use Rattle.promise_spec.specs.Logs.{IsMagic}
 use Rattle.promise_spec.specs.Openings.{log_of, opened_as}
 use Rattle.promise_spec.specs.Refusals.{IsRefusedBy}
 use Rattle.promise_spec.proofs.Openings.{reads_is_live}
@@ -41,10 +41,10 @@ returns-in-Ok-replay_log-clause-audited g c told =
     let o = (c.in-Ok.ensures.opened told).opened in
     let same : seen_in mid.disk ≡ image = opens_same _ old mid (c.in-Ok.ensures.only told) in
     let typed = first_types o.first o.read.entries (programs_of opened) (types_in_force c.in-Ok-first.first) o.programs c.in-Ok-first.ensures.same in
-    let read : log_in_file One o.first ((mid.disk (Manager opened.slot)).seen) ≡ Ok o.read = (λ i. log_in_file One o.first (same i (Manager opened.slot))) ∙ o.read_as in
+    let read : log_in_file Two o.first ((mid.disk (Manager opened.slot)).seen) ≡ Ok o.read = (λ i. log_in_file Two o.first (same i (Manager opened.slot))) ∙ o.read_as in
     let bad = c.in-Ok-replay_log.first_bad in
-    let first : IsFirstFailure (log_of opened.slot o.first image o.read).base (log_of opened.slot o.first image o.read).entries bad =
-    subst (λ (im : Image). IsFirstFailure (log_of opened.slot o.first im o.read).base (log_of opened.slot o.first im o.read).entries bad) same (c.in-Ok-replay_log.ensures.replays told o.first typed o.read read) in
+    let first : IsFirstFailure (log_of Two opened.slot o.first image o.read).base (log_of Two opened.slot o.first image o.read).entries bad =
+    subst (λ (im : Image). IsFirstFailure (log_of Two opened.slot o.first im o.read).base (log_of Two opened.slot o.first im o.read).entries bad) same (c.in-Ok-replay_log.ensures.replays told o.first typed o.read read) in
     record {
       live = opened.slot;
       log = o.log;
@@ -59,7 +59,7 @@ returns-in-Ok-replay_log-clause-settled g c told live is =
     let new = g.H.Host.world c.replay_log.new.host in
     let opened = c.in-Ok.opened in
     let o = (c.in-Ok.ensures.opened told).opened in
-    let read : IsLive magic opened.slot (seen_in old.disk) = reads_is_live (seen_in old.disk) opened.slot o.log o.reads in
+    let read : IsLive IsMagic opened.slot (seen_in old.disk) = reads_is_live Two (seen_in old.disk) opened.slot o.log o.reads in
     let here : new.disk (Manager opened.slot) ≡ settled (old.disk (Manager opened.slot)).seen = ap (λ (d : Disk). d (Manager opened.slot)) (c.replay_log.ensures.asked told).disk ∙ (c.in-Ok.ensures.opened told).settled in
     subst (λ (slot : ℕ). new.disk (Manager slot) ≡ settled (old.disk (Manager slot)).seen) (one_slot opened.slot live (seen_in old.disk) read is) here
 
@@ -81,10 +81,10 @@ returns-clause-refused g c told =
     let o = (c.in-Ok.ensures.opened told).opened in
     let same : seen_in mid.disk ≡ image = opens_same _ old mid (c.in-Ok.ensures.only told) in
     let typed = first_types o.first o.read.entries (programs_of opened) (types_in_force c.in-Ok-first.first) o.programs c.in-Ok-first.ensures.same in
-    let read : log_in_file One o.first ((mid.disk (Manager opened.slot)).seen) ≡ Ok o.read = (λ i. log_in_file One o.first (same i (Manager opened.slot))) ∙ o.read_as in
+    let read : log_in_file Two o.first ((mid.disk (Manager opened.slot)).seen) ≡ Ok o.read = (λ i. log_in_file Two o.first (same i (Manager opened.slot))) ∙ o.read_as in
     let fault = c.in-Err-replay_log.fault in
     let again : IsRereadFault opened.slot o.first image o.read fault = subst (λ (im : Image). IsRereadFault opened.slot o.first im o.read fault) same (c.in-Err-replay_log.ensures.unread told o.first typed o.read read) in
-    subst (λ (e : OpenFault). IsRefusedBy image (opened_as image) (ending_of e)) (sym c.not_read.ensures) (refused_again image opened o fault again)
+    subst (λ (e : OpenFault). IsRefusedBy Two image (opened_as image) (ending_of e)) (sym c.not_read.ensures) (refused_again image opened o fault again)
 
 pub returns-clause-fault : goal.returns-clause-fault
 returns-clause-fault g c =

@@ -1,5 +1,6 @@
 use Rattle.std.proofs.Common.{inl, inr, ℕ, Err, sym, subst}
 use Rattle.std.specs.Prelude.{is_ok}
+use Rattle.field_codec.specs.declared.formats.Format.TheVariants.{Two}
 use Rattle.log_reading.specs.Steps.{seen_in}
 use Rattle.promise_spec.specs.Endings.{Ending, HasFailedAs}
 use Rattle.promise_spec.specs.Reports.{line_of, audit_text}
@@ -21,7 +22,7 @@ returns-in-Ok-clause-audits g c told manner asked =
     let unit = bad_unit report.first_bad in
     let part : PutsPart (audit_text a.log unit) (is_ok c.write_audit.result) mid new =
     subst (λ (n : ℕ). PutsPart (line_of (audit_data n unit)) (is_ok c.write_audit.result) mid new) a.count (c.write_audit.ensures.puts told) in
-    let live = reads_is_live (seen_in old.disk) a.live a.log a.reads in
+    let live = reads_is_live Two (seen_in old.disk) a.live a.log a.reads in
     inr (is_audited a.live old mid (c.in-Ok.ensures.settled told a.live live) (c.in-Ok.ensures.only told) unit a.log manner asked new (g.H.Host.faults c.args.host.now) (g.H.Host.faults c.write_audit.new.host) c.write_audit.result
     a.reads part c.write_audit.ensures.ended (failed_then _ _ _ _ c.in-Ok.ensures.calm c.write_audit.ensures.exact) (first_is a.log report.first_bad a.first))
 

@@ -3,9 +3,9 @@ use Rattle.std.proofs.lemmas.Result.{err_from_is_err_and}
 use Rattle.host_trait.specs.World.{Disk}
 use Rattle.host_trait.proofs.Runs.{asked_then}
 use Rattle.host_trait.proofs.Counts.{none_then}
-use Rattle.field_codec.specs.declared.formats.Format.TheVariants.{One}
+use Rattle.field_codec.specs.declared.formats.Format.TheVariants.{Two}
 use Rattle.host_trait.specs.declared.channels.FileId.TheVariants.{Manager}
-use Rattle.log_entries.specs.Entries.{entry_said}
+use Rattle.log_reading.specs.Entries.{entry_said}
 use Rattle.log_reading.specs.Blocks.{entries_said}
 use Rattle.log_reading.specs.Steps.{log_base_of, next_in}
 use Rattle.script_tree.specs.Programs.{ProgramTree}
@@ -19,8 +19,8 @@ pub loop-now-init : goal.loop-now-init
 loop-now-init g c = record {
   bound = c.in_ok-base.ensures.bound.gate;
   shaped = c.requires.shape;
-  has = λ told p typed. grains_begun p ((g.H.Host.world c.args.host.now).disk (Manager c.args.slot)).seen (log_base_of c.in_ok-base.base) c.in_ok-base.base.gate_at (types_in_force c.args.first) _ typed
-      (c.in_ok-base.ensures.begins told One p (shape_same p c.args.first c.requires.shape typed))
+  has = λ told p typed. grains_begun p ((g.H.Host.world c.args.host.now).disk (Manager c.args.slot)).seen (log_base_of c.in_ok-base.base) c.in_ok-base.base.session c.in_ok-base.base.gate_at (types_in_force c.args.first) _ typed
+      (c.in_ok-base.ensures.begins told p (shape_same p c.args.first c.requires.shape typed))
       (c.in_ok-add_written.ensures ∙ (λ i. grains_added (c.new-grains.ensures.empty i) (map (λ w. w.grain) (c.as_slice.ensures i))));
   asked = c.read_base.ensures.asked;
   calm = c.in_ok-base.ensures.calm;
@@ -35,25 +35,26 @@ returns-in_err-base-clause-unread g c =
     let r = err_from_is_err_and c.from_residual.result c.from_residual.ensures.1 in
     rw (r.1, r.2) λ told p typed log read.
     log_fault p ((g.H.Host.world c.args.host.now).disk (Manager c.args.slot)).seen c.args.slot c.in_err-base.field-0.0
-    (λ at place is. c.in_err-base.ensures.damaged at place is told One p (shape_same p c.args.first c.requires.shape typed)) (λ at is. c.in_err-base.ensures.failed at is)
+    (λ at place is. c.in_err-base.ensures.damaged at place is told p (shape_same p c.args.first c.requires.shape typed)) (λ at is. c.in_err-base.ensures.failed at is)
 
-pub returns-in_err-said-clause-unread : goal.returns-in_err-said-clause-unread
-returns-in_err-said-clause-unread g c =
-    let r = err_from_is_err_and c.from_residual-in_err-said.result c.from_residual-in_err-said.ensures.1 in
+pub returns-in_err-session-clause-unread : goal.returns-in_err-session-clause-unread
+returns-in_err-session-clause-unread g c =
+    let r = err_from_is_err_and c.from_residual-in_err-session.result c.from_residual-in_err-session.ensures.1 in
     let inv = c.loop-now.invariant in
     let types = types_in_force c.loop-now.now in
+    let last = c.loop-now.last in
     let gate = c.loop-now.gate_at in
     let file = ((g.H.Host.world c.args.host.now).disk (Manager c.args.slot)).seen in
     rw (r.1, r.2) λ told p typed log read.
-    log_fault p file c.args.slot c.in_err-said.field-0.0
+    log_fault p file c.args.slot c.in_err-session.field-0.0
     (λ at place is.
-    let here = c.in_err-said.ensures.damaged at place is told in
-    let there : next_in One types gate file ≡ Err place = subst (λ (d : Disk). next_in One types gate (d (Manager c.args.slot)).seen ≡ Err place) (inv.asked told).disk here in
-    grains_broken p file gate types _ (inv.has told p typed) place there)
-    (λ at is. c.in_err-said.ensures.failed at is)
+    let here = c.in_err-session.ensures.damaged at place is told in
+    let there : next_in Two types last gate file ≡ Err place = subst (λ (d : Disk). next_in Two types last gate (d (Manager c.args.slot)).seen ≡ Err place) (inv.asked told).disk here in
+    grains_broken p file last gate types _ (inv.has told p typed) place there)
+    (λ at is. c.in_err-session.ensures.failed at is)
 
-pub returns-in_err-said-clause-asked : goal.returns-in_err-said-clause-asked
-returns-in_err-said-clause-asked g c told = asked_then _ _ _ (c.loop-now.invariant.asked told) (c.next_entry.ensures.asked told)
+pub returns-in_err-session-clause-asked : goal.returns-in_err-session-clause-asked
+returns-in_err-session-clause-asked g c told = asked_then _ _ _ (c.loop-now.invariant.asked told) (c.next_entry.ensures.asked told)
 
 pub returns-in_err-add_said-clause-asked : goal.returns-in_err-add_said-clause-asked
 returns-in_err-add_said-clause-asked g c told = asked_then _ _ _ (c.loop-now.invariant.asked told) (c.next_entry.ensures.asked told)
@@ -62,7 +63,9 @@ pub loop-now-preserved : goal.loop-now-preserved
 loop-now-preserved g c =
     let inv = c.loop-now.invariant in
     let types = types_in_force c.loop-now.now in
+    let last = c.loop-now.last in
     let gate = c.loop-now.gate_at in
+    let session = c.in-Some.session in
     let entry = entry_said c.in-Some.said in
     let behind = c.in-Some.behind in
     let file = ((g.H.Host.world c.args.host.now).disk (Manager c.args.slot)).seen in
@@ -71,11 +74,11 @@ loop-now-preserved g c =
       bound = far.1;
       shaped = c.in_ok-add_said.ensures.shaped;
       has = λ told p typed.
-          let here : next_in One types gate ((g.H.Host.world c.loop-now.host).disk (Manager c.args.slot)).seen ≡ Ok (Some (entry, behind)) = search rules in
-          let there : next_in One types gate file ≡ Ok (Some (entry, behind)) = subst (λ (d : Disk). next_in One types gate (d (Manager c.args.slot)).seen ≡ Ok (Some (entry, behind))) (inv.asked told).disk here in
-          subst (λ (t : ProgramTree). HasGrains p file behind t c.add_said.new.grains.keys) (sym c.in_ok-add_said.ensures.behind) (grains_more p file gate types c.loop-now.grains.keys (inv.has told p typed) entry behind c.add_said.new.grains.keys c.in_ok-add_said.ensures.grains there);
+          let here : next_in Two types last gate ((g.H.Host.world c.loop-now.host).disk (Manager c.args.slot)).seen ≡ Ok (Some (session, entry, behind)) = search rules in
+          let there : next_in Two types last gate file ≡ Ok (Some (session, entry, behind)) = subst (λ (d : Disk). next_in Two types last gate (d (Manager c.args.slot)).seen ≡ Ok (Some (session, entry, behind))) (inv.asked told).disk here in
+          subst (λ (t : ProgramTree). HasGrains p file session behind t c.add_said.new.grains.keys) (sym c.in_ok-add_said.ensures.behind) (grains_more p file last gate types c.loop-now.grains.keys (inv.has told p typed) session entry behind c.add_said.new.grains.keys c.in_ok-add_said.ensures.grains there);
       asked = λ told. asked_then _ _ _ (inv.asked told) (c.next_entry.ensures.asked told);
-      calm = none_then _ _ _ inv.calm c.in_ok-said.ensures.calm;
+      calm = none_then _ _ _ inv.calm c.in_ok-session.ensures.calm;
       ready = λ at was. c.next_entry.ensures.ready at (inv.ready at was);
     }
 
@@ -83,11 +86,12 @@ pub returns-clause-found : goal.returns-clause-found
 returns-clause-found g c told p typed log is =
     let inv = c.loop-now.invariant in
     let types = types_in_force c.loop-now.now in
+    let last = c.loop-now.last in
     let gate = c.loop-now.gate_at in
     let file = ((g.H.Host.world c.args.host.now).disk (Manager c.args.slot)).seen in
-    let here : next_in One types gate ((g.H.Host.world c.loop-now.host).disk (Manager c.args.slot)).seen ≡ Ok None = search rules in
-    let there : next_in One types gate file ≡ Ok None = subst (λ (d : Disk). next_in One types gate (d (Manager c.args.slot)).seen ≡ Ok None) (inv.asked told).disk here in
-    grains_ended p file gate types c.loop-now.grains.keys (inv.has told p typed) there log is
+    let here : next_in Two types last gate ((g.H.Host.world c.loop-now.host).disk (Manager c.args.slot)).seen ≡ Ok None = search rules in
+    let there : next_in Two types last gate file ≡ Ok None = subst (λ (d : Disk). next_in Two types last gate (d (Manager c.args.slot)).seen ≡ Ok None) (inv.asked told).disk here in
+    grains_ended p file last gate types c.loop-now.grains.keys (inv.has told p typed) there log is
 
 pub returns-clause-asked : goal.returns-clause-asked
 returns-clause-asked g c told = asked_then _ _ _ (c.loop-now.invariant.asked told) (c.next_entry.ensures.asked told)

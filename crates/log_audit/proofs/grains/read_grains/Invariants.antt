@@ -12,7 +12,7 @@ abbrev pub invariant-loop-now : goal.invariant-loop-now
 invariant-loop-now g l = record {
   bound : l.gate_at < 2 ^ 63;
   shaped : HasShape l.now;
-  has : IsTrue g.H.Host.tells → (p : Program) → p.types ≡ types_in_force l.fn.first → HasGrains p ((g.H.Host.world l.fn.host).disk (Manager l.slot)).seen l.gate_at (types_in_force l.now) l.grains.keys;
+  has : IsTrue g.H.Host.tells → (p : Program) → p.types ≡ types_in_force l.fn.first → HasGrains p ((g.H.Host.world l.fn.host).disk (Manager l.slot)).seen l.last l.gate_at (types_in_force l.now) l.grains.keys;
   asked : IsTrue g.H.Host.tells → OnlyAsked (g.H.Host.world l.fn.host) (g.H.Host.world l.host);
   calm : NoneFailed (g.H.Host.faults l.fn.host) (g.H.Host.faults l.host);
   ready : StaysReady (g.H.Host.is_ready l.fn.host) (g.H.Host.is_ready l.host);

@@ -13,7 +13,8 @@ returns c =
     let shape = c.args.shape.now in
     let types = map type_tree c.args.types.now in
     let r = c.args.entry.now in
+    let session = c.args.session in
     let args : view c.in_ok-args.args ≡ array (items_of r.call.args) = c.in_ok-args.ensures ∙ ap (λ (vs : List Value). array (items_of vs)) c.as_slice.ensures in
     let call : c.as_str.result.now ≡ call_named shape types r.call = c.as_str.ensures.value ∙ c.in_ok-call.ensures in
-    lined (view c.in_ok-value.value) (record_data shape types r) c.line_text.result
-    (c.in_ok-value.ensures ∙ (λ i. object (member (codes "args") (args i) (member (codes "call") (string (call i)) (ended_as r.origin r.unit.0 r.result))))) (record_no_float shape types r) c.line_text.ensures
+    lined (view c.in_ok-value.value) (record_data shape types session r) c.line_text.result
+    (c.in_ok-value.ensures ∙ (λ i. object (member (codes "args") (args i) (member (codes "call") (string (call i)) (ended_as r.origin session r.unit.0 r.result))))) (record_no_float shape types session r) c.line_text.ensures

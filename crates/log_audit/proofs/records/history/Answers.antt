@@ -1,12 +1,14 @@
-use Rattle.std.proofs.Common.{◌≡◌, inl, inr, Err, sym, ◌∙◌, ap, subst}
+use Rattle.std.proofs.Common.{◌≡◌, ℕ, List, Ok, inl, inr, Err, sym, ◌∙◌, ap, subst}
 use Rattle.host_trait.specs.World.{Image}
+use Rattle.host_trait.specs.declared.channels.FileId.TheVariants.{Manager, Program as ProgramFile}
+use Rattle.field_codec.specs.declared.formats.Format.TheVariants.{Two}
+use Rattle.log_reading.specs.Sessions.{sessions_read}
 use Rattle.log_reading.specs.Steps.{seen_in}
 use Rattle.silo_opening.specs.OpenedSilo.{IsOpenedFrom}
 use Rattle.silo_opening.proofs.OpeningCalls.{opens_same}
-use Rattle.promise_spec.specs.Openings.{opened_as}
+use Rattle.promise_spec.specs.Openings.{program_in_file, opened_as}
 use Rattle.promise_spec.specs.Endings.{Ending, HasFailedAs}
-use Rattle.promise_spec.specs.Reports.{history_text}
-use Rattle.log_audit.proofs.ShownReports.{failed_then, open_failed, never_bad_use, not_opened, is_reported}
+use Rattle.log_audit.proofs.ShownReports.{failed_then, open_failed, never_bad_use, not_opened, is_history}
 use Rattle.log_audit.proofs.records.history.Goals as goal
 
 pub write_history-requires-clause-programs : goal.write_history-requires-clause-programs
@@ -20,9 +22,11 @@ returns-in-Ok-clause-reports g c told manner asked =
     let run = c.in-Ok.ensures.only told in
     let same : seen_in mid.disk ≡ seen_in old.disk = opens_same _ old mid run in
     let o : IsOpenedFrom (seen_in mid.disk) opened = subst (λ (image : Image). IsOpenedFrom image opened) (sym same) (c.in-Ok.ensures.opened told).opened in
-    inr (is_reported opened.slot old mid (c.in-Ok.ensures.opened told).settled run history_text o.log manner asked (g.H.Host.world c.write_history.new.host) (g.H.Host.faults c.args.host.now) (g.H.Host.faults c.write_history.new.host) c.write_history.result
+    let sessions : Image → List ℕ = λ image. sessions_read Two o.first (image (Manager opened.slot)) in
+    let first : program_in_file (seen_in old.disk (ProgramFile opened.slot)) ≡ Ok o.first = ap (λ (image : Image). program_in_file (image (ProgramFile opened.slot))) (sym same) ∙ o.first_is in
+    inr (is_history opened.slot old mid (c.in-Ok.ensures.opened told).settled run (sessions (seen_in mid.disk)) o.log manner asked (g.H.Host.world c.write_history.new.host) (g.H.Host.faults c.args.host.now) (g.H.Host.faults c.write_history.new.host) c.write_history.result
     (ap (λ (image : Image). opened_as image) (sym same) ∙ o.reads) (c.write_history.ensures.puts told o) (c.write_history.ensures.ended told o)
-    (failed_then _ _ _ _ c.in-Ok.ensures.calm c.write_history.ensures.exact))
+    (failed_then _ _ _ _ c.in-Ok.ensures.calm c.write_history.ensures.exact) o.first first (ap sessions same))
 
 pub returns-in-Ok-clause-exact : goal.returns-in-Ok-clause-exact
 returns-in-Ok-clause-exact g c = failed_then _ _ _ _ c.in-Ok.ensures.calm c.write_history.ensures.exact

@@ -11,7 +11,7 @@ abbrev pub invariant-loop-now : goal.invariant-loop-now
 invariant-loop-now g l = record {
   bound : l.gate_at < 2 ^ 63;
   shaped : HasShape l.now;
-  puts : IsTrue g.H.Host.tells → (p : Program) → p.types ≡ types_in_force l.fn.first → HasCopied p ((g.H.Host.world l.fn.host).disk (Manager l.slot)).seen l.gate_at (types_in_force l.now) (g.H.Host.world l.fn.host) (g.H.Host.world l.host);
+  puts : IsTrue g.H.Host.tells → (p : Program) → p.types ≡ types_in_force l.fn.first → HasCopied p ((g.H.Host.world l.fn.host).disk (Manager l.slot)).seen l.last l.gate_at (types_in_force l.now) (g.H.Host.world l.fn.host) (g.H.Host.world l.host);
   calm : NoneFailed (g.H.Host.faults l.fn.host) (g.H.Host.faults l.host);
   ready : StaysReady (g.H.Host.is_ready l.fn.host) (g.H.Host.is_ready l.host);
 }

@@ -29,10 +29,10 @@ returns-in_err-write_line-clause-puts g c =
     let i = c.loop-entry.entry-index in
     let xs = c.args.records.now in
     let x = c.entry-item.result in
-    let text : c.as_bytes.result.now ≡ line_of (record_data shape types x) = c.as_bytes.ensures.value ∙ c.in_ok-line.ensures ∙ ap (λ (ts : List TypeDecl). line_of (record_data shape (map type_tree ts) x)) (c.as_slice-types.ensures ∙ ap (λ (p : Program). p.types.list.items) c.program.ensures.same) in
+    let text : c.as_bytes.result.now ≡ line_of (record_data shape types c.args.session x) = c.as_bytes.ensures.value ∙ c.in_ok-line.ensures ∙ ap (λ (ts : List TypeDecl). line_of (record_data shape (map type_tree ts) c.args.session x)) (c.as_slice-types.ensures ∙ ap (λ (p : Program). p.types.list.items) c.program.ensures.same) in
     rw p.1 λ told.
-    gone_cut _ _ _ (line_of (record_data shape types x)) (record_lines shape types (drop (i + 1) xs)) false _ _ (c.loop-entry.invariant.puts told)
-    (ap (λ (l : List CommitRecord). record_lines shape types l) (next_item i xs x c.loop-entry-test.true c.entry-item.is))
+    gone_cut _ _ _ (line_of (record_data shape types c.args.session x)) (record_lines shape types c.args.session (drop (i + 1) xs)) false _ _ (c.loop-entry.invariant.puts told)
+    (ap (λ (l : List CommitRecord). record_lines shape types c.args.session l) (next_item i xs x c.loop-entry-test.true c.entry-item.is))
     (subst (λ (l : List ℕ). PutsPart l false (g.H.Host.world c.loop-entry.host) (g.H.Host.world c.write_line.new.host)) text (c.in_err-write_line.ensures.puts told))
 
 pub returns-in_err-write_line-clause-exact : goal.returns-in_err-write_line-clause-exact
@@ -48,11 +48,11 @@ loop-entry-preserved g c =
     let i = c.loop-entry.entry-index in
     let xs = c.args.records.now in
     let x = c.entry-item.result in
-    let text : c.as_bytes.result.now ≡ line_of (record_data shape types x) = c.as_bytes.ensures.value ∙ c.in_ok-line.ensures ∙ ap (λ (ts : List TypeDecl). line_of (record_data shape (map type_tree ts) x)) (c.as_slice-types.ensures ∙ ap (λ (p : Program). p.types.list.items) c.program.ensures.same) in
+    let text : c.as_bytes.result.now ≡ line_of (record_data shape types c.args.session x) = c.as_bytes.ensures.value ∙ c.in_ok-line.ensures ∙ ap (λ (ts : List TypeDecl). line_of (record_data shape (map type_tree ts) c.args.session x)) (c.as_slice-types.ensures ∙ ap (λ (p : Program). p.types.list.items) c.program.ensures.same) in
     record {
       puts = λ told.
-          gone_more _ _ _ (line_of (record_data shape types x)) (record_lines shape types (drop (i + 1) xs)) _ _ (inv.puts told)
-          (ap (λ (l : List CommitRecord). record_lines shape types l) (next_item i xs x c.loop-entry-test.true c.entry-item.is))
+          gone_more _ _ _ (line_of (record_data shape types c.args.session x)) (record_lines shape types c.args.session (drop (i + 1) xs)) _ _ (inv.puts told)
+          (ap (λ (l : List CommitRecord). record_lines shape types c.args.session l) (next_item i xs x c.loop-entry-test.true c.entry-item.is))
           (subst (λ (l : List ℕ). PutsPart l true (g.H.Host.world c.loop-entry.host) (g.H.Host.world c.write_line.new.host)) text (c.in_ok-write_line.ensures.puts told));
       calm = none_then _ _ _ inv.calm c.in_ok-write_line.ensures.exact;
       ready = λ file was. c.write_line.ensures.ready file (inv.ready file was);
@@ -61,4 +61,4 @@ loop-entry-preserved g c =
 pub returns-clause-puts : goal.returns-clause-puts
 returns-clause-puts g c told =
     gone_all _ _ _ _ (c.loop-entry.invariant.puts told)
-    (ap (λ (l : List CommitRecord). record_lines c.args.shape.now (program_tree c.args.checked.now) l) (no_item c.loop-entry.entry-index c.args.records.now c.loop-entry-test.false))
+    (ap (λ (l : List CommitRecord). record_lines c.args.shape.now (program_tree c.args.checked.now) c.args.session l) (no_item c.loop-entry.entry-index c.args.records.now c.loop-entry-test.false))

@@ -14,5 +14,5 @@ returns-in_err-line-clause-puts g c =
 
 pub returns-clause-puts : goal.returns-clause-puts
 returns-clause-puts g c told =
-    let line : c.as_bytes.result.now ≡ line_of (upgrade_data c.args.length) = c.as_bytes.ensures.value ∙ c.in_ok-line.ensures in
+    let line : c.as_bytes.result.now ≡ line_of (upgrade_data c.args.session c.args.length) = c.as_bytes.ensures.value ∙ c.in_ok-line.ensures in
     subst (λ (l : List ℕ). PutsPart l (is_ok c.write_line.result) (g.H.Host.world c.args.host.now) (g.H.Host.world c.write_line.new.host)) line (c.write_line.ensures.puts told)

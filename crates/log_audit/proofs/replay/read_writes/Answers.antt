@@ -5,7 +5,7 @@ use Rattle.base_types.specs.declared.calls.Value.{Value}
 use Rattle.host_trait.specs.World.{Disk}
 use Rattle.host_trait.proofs.Runs.{asked_then}
 use Rattle.host_trait.proofs.Counts.{none_then}
-use Rattle.field_codec.specs.declared.formats.Format.TheVariants.{One}
+use Rattle.field_codec.specs.declared.formats.Format.TheVariants.{Two}
 use Rattle.commit_log.specs.declared.records.Written.{Written}
 use Rattle.log_reading.specs.Steps.{seen_in}
 use Rattle.log_reading.specs.Versions.{version_named}
@@ -40,7 +40,7 @@ returns-in_err-version-clause-unread g c =
     let x : Written = get_or xs i no_write in
     rw (p.1, p.2) λ told.
     version_fault c.args.slot shape image (Some r.unit) r.writes x (in_seam xs i no_write r.writes c.loop-one-test.true c.as_slice-writes.ensures) c.in_err-version.field-0.0
-    (λ at place is. subst (λ (d : Disk). version_named c.args.slot One shape (seen_in d) (named_as r.unit x) ≡ Err place) (inv.asked told).disk (c.in_err-version.ensures.damaged at place is told))
+    (λ at place is. subst (λ (d : Disk). version_named c.args.slot Two shape (seen_in d) (named_as r.unit x) ≡ Err place) (inv.asked told).disk (c.in_err-version.ensures.damaged at place is told))
     (λ at is. c.in_err-version.ensures.failed at is)
 
 pub returns-in_err-version-clause-fault : goal.returns-in_err-version-clause-fault
@@ -67,9 +67,9 @@ loop-one-preserved g c =
     let pushed : c.push.new.self.items ≡ c.loop-one.kept.items ++ ((x.grain, v.state) ∷ []) = search rules in
     record {
       writes = λ told.
-          let found = subst (λ (d : Disk). version_named c.args.slot One shape (seen_in d) (named_as r.unit x) ≡ Ok v) (inv.asked told).disk (c.in_ok-version.ensures.found told) in
+          let found = subst (λ (d : Disk). version_named c.args.slot Two shape (seen_in d) (named_as r.unit x) ≡ Ok v) (inv.asked told).disk (c.in_ok-version.ensures.found told) in
           version_more c.args.slot shape image r.unit x (drop (i + 1) xs) (drop i xs) v _ _ _ (next_default i xs no_write c.loop-one-test.true) pushed found (inv.writes told);
-      fits = λ types is. fits_more types c.loop-one.kept.items _ x.grain v.state pushed (version_fits types shape x.grain One x.place.len v is c.in_ok-version.ensures.shaped) (inv.fits types is);
+      fits = λ types is. fits_more types c.loop-one.kept.items _ x.grain v.state pushed (version_fits types shape x.grain Two x.place.len v is c.in_ok-version.ensures.shaped) (inv.fits types is);
       asked = λ told. asked_then _ _ _ (inv.asked told) (c.named_version.ensures.asked told);
       calm = none_then _ _ _ inv.calm c.in_ok-version.ensures.calm;
       ready = λ file was. c.named_version.ensures.ready file (inv.ready file was);

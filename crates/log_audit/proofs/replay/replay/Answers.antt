@@ -4,6 +4,7 @@ use Rattle.std.specs.List.{fold}
 use Rattle.base_types.specs.declared.calls.GrainId.{GrainId}
 use Rattle.base_types.specs.declared.calls.Value.{Value}
 use Rattle.base_types.specs.Stores.{state_in}
+use Rattle.field_codec.specs.declared.formats.Format.TheVariants.{Two}
 use Rattle.core_model.specs.Equality.{same_list}
 use Rattle.log_reading.specs.Steps.{seen_in}
 use Rattle.script_tree.specs.Programs.{ProgramTree}
@@ -24,7 +25,7 @@ returns-then-agrees-clause-replays g c told before program has =
     let types = types_in_force c.args.now.now in
     let r = c.args.entry.now in
     let image = seen_in (g.H.Host.world c.args.host.now).disk in
-    let one : Commit = commit_of c.args.slot c.args.now.now.shape image r in
+    let one : Commit = commit_of Two c.args.slot c.args.now.now.shape image r in
     let states : States = found_in types c.args.store.now in
     let given : Played = played_of c.in_ok-played.played in
     let is : given ≡ played types states r = played_is types c.args.store.now r given _ _ c.in_ok-played.ensures c.depth-depth.ensures c.as_slice-answers.ensures in
@@ -44,7 +45,7 @@ returns-clause-replays g c told before program has =
     let types = types_in_force c.args.now.now in
     let r = c.args.entry.now in
     let image = seen_in (g.H.Host.world c.args.host.now).disk in
-    let one : Commit = commit_of c.args.slot c.args.now.now.shape image r in
+    let one : Commit = commit_of Two c.args.slot c.args.now.now.shape image r in
     let states : States = found_in types c.args.store.now in
     let given : Played = played_of c.in_ok-played.played in
     let is : given ≡ played types states r = played_is types c.args.store.now r given _ _ c.in_ok-played.ensures c.depth-depth.ensures c.as_slice-answers.ensures in

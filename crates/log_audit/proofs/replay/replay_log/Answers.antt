@@ -8,10 +8,10 @@ use Rattle.base_types.specs.declared.shapes.Shape.{Shape}
 use Rattle.host_trait.specs.World.{Disk, Image}
 use Rattle.host_trait.proofs.Runs.{asked_then}
 use Rattle.host_trait.proofs.Counts.{none_then}
-use Rattle.field_codec.specs.declared.formats.Format.TheVariants.{One}
+use Rattle.field_codec.specs.declared.formats.Format.TheVariants.{Two}
 use Rattle.commit_log.specs.declared.records.Written.{Written}
 use Rattle.host_trait.specs.declared.channels.FileId.TheVariants.{Manager}
-use Rattle.log_entries.specs.Entries.{entry_said}
+use Rattle.log_reading.specs.Entries.{entry_said}
 use Rattle.log_reading.specs.Blocks.{LogBase, ReadEntry, entries_said, program_after}
 use Rattle.log_reading.specs.Steps.{log_base_of, next_in, seen_in}
 use Rattle.script_tree.specs.Programs.{ProgramTree}
@@ -44,7 +44,7 @@ loop-now-init g c =
           let same : seen_in (g.H.Host.world c.read_base.new.host).disk ≡ image = ap seen_in (c.read_base.ensures.asked told).disk in
           let shapes : shape_in p ≡ shape = shape_same p c.args.first c.requires.shape typed in
           let saved : states_saved_at c.args.slot shape (seen_in (g.H.Host.world c.read_base.new.host).disk) c.as_slice.result.now ≡ states_saved_at c.args.slot (shape_in p) image base.writes = (λ i. states_saved_at c.args.slot (sym shapes i) (same i) (c.as_slice.ensures i)) in
-          audit_begun p c.args.slot image file base c.in_ok-base.base.gate_at (types_in_force c.args.first) store typed (c.in_ok-base.ensures.begins told One p shapes)
+          audit_begun p c.args.slot image file base c.in_ok-base.base.session c.in_ok-base.base.gate_at (types_in_force c.args.first) store typed (c.in_ok-base.ensures.begins told p shapes)
           (stands_saved c.args.slot p image (record { base = base; entries = [] }) store (λ grain. c.in_ok-store.ensures.held told grain ∙ ap (λ (ws : List (GrainId × List Value)). is_among ws grain) saved)
           (c.in_ok-store.ensures.states told p.types ∙ ap (λ (ws : List (GrainId × List Value)). fold put_state (first_states p.types) ws) saved));
       asked = λ told. asked_then _ _ _ (c.read_base.ensures.asked told) (c.saved_store.ensures.asked told);
@@ -60,7 +60,7 @@ returns-in_err-base-clause-unread g c =
     let r = err_from_is_err_and c.from_residual.result c.from_residual.ensures.1 in
     rw (r.1, r.2) λ told p typed log is.
     inl (log_fault p ((g.H.Host.world c.args.host.now).disk (Manager c.args.slot)).seen c.args.slot c.in_err-base.field-0.0
-    (λ at place fault. c.in_err-base.ensures.damaged at place fault told One p (shape_same p c.args.first c.requires.shape typed)) (λ at fault. c.in_err-base.ensures.failed at fault))
+    (λ at place fault. c.in_err-base.ensures.damaged at place fault told p (shape_same p c.args.first c.requires.shape typed)) (λ at fault. c.in_err-base.ensures.failed at fault))
 
 pub returns-in_err-store-clause-unread : goal.returns-in_err-store-clause-unread
 returns-in_err-store-clause-unread g c =
@@ -72,7 +72,7 @@ returns-in_err-store-clause-unread g c =
     rw (r.1, r.2) λ told p typed log is.
     let same : seen_in (g.H.Host.world c.read_base.new.host).disk ≡ image = ap seen_in (c.read_base.ensures.asked told).disk in
     let shapes : shape_in p ≡ shape = shape_same p c.args.first c.requires.shape typed in
-    let base = (rest_of p ((g.H.Host.world c.args.host.now).disk (Manager c.args.slot)).seen (log_base_of b) [] b.gate_at (c.in_ok-base.ensures.begins told One p shapes) log is).0 in
+    let base = (rest_of p ((g.H.Host.world c.args.host.now).disk (Manager c.args.slot)).seen (log_base_of b) [] [] b.session b.gate_at (c.in_ok-base.ensures.begins told p shapes) log is).0 in
     let there : IsWriteFault c.args.slot (shape_in p) image None b.saved e =
     subst (λ (im : Image). IsWriteFault c.args.slot (shape_in p) im None b.saved e) same
     (subst (λ (s : Shape). IsWriteFault c.args.slot s (seen_in (g.H.Host.world c.read_base.new.host).disk) None b.saved e) (sym shapes)
@@ -82,31 +82,34 @@ returns-in_err-store-clause-unread g c =
 pub returns-in_err-store-clause-asked : goal.returns-in_err-store-clause-asked
 returns-in_err-store-clause-asked g c told = asked_then _ _ _ (c.read_base.ensures.asked told) (c.saved_store.ensures.asked told)
 
-pub returns-in_err-said-clause-unread : goal.returns-in_err-said-clause-unread
-returns-in_err-said-clause-unread g c =
-    let r = err_from_is_err_and c.from_residual-in_err-said.result c.from_residual-in_err-said.ensures.1 in
+pub returns-in_err-session-clause-unread : goal.returns-in_err-session-clause-unread
+returns-in_err-session-clause-unread g c =
+    let r = err_from_is_err_and c.from_residual-in_err-session.result c.from_residual-in_err-session.ensures.1 in
     let inv = c.loop-now.invariant in
     let types = types_in_force c.loop-now.now in
+    let last = c.loop-now.last in
     let gate = c.loop-now.gate_at in
     let image = seen_in (g.H.Host.world c.args.host.now).disk in
     let file = ((g.H.Host.world c.args.host.now).disk (Manager c.args.slot)).seen in
     rw (r.1, r.2) λ told p typed log is.
-    inl (log_fault p file c.args.slot c.in_err-said.field-0.0
+    inl (log_fault p file c.args.slot c.in_err-session.field-0.0
     (λ at place fault.
-    let here = c.in_err-said.ensures.damaged at place fault told in
-    let there : next_in One types gate file ≡ Err place = subst (λ (d : Disk). next_in One types gate (d (Manager c.args.slot)).seen ≡ Err place) (inv.asked told).disk here in
-    audit_broken p c.args.slot image file gate types _ (inv.audited told p typed) place there)
-    (λ at fault. c.in_err-said.ensures.failed at fault))
+    let here = c.in_err-session.ensures.damaged at place fault told in
+    let there : next_in Two types last gate file ≡ Err place = subst (λ (d : Disk). next_in Two types last gate (d (Manager c.args.slot)).seen ≡ Err place) (inv.asked told).disk here in
+    audit_broken p c.args.slot image file last gate types _ (inv.audited told p typed) place there)
+    (λ at fault. c.in_err-session.ensures.failed at fault))
 
-pub returns-in_err-said-clause-asked : goal.returns-in_err-said-clause-asked
-returns-in_err-said-clause-asked g c told = asked_then _ _ _ (c.loop-now.invariant.asked told) (c.next_entry.ensures.asked told)
+pub returns-in_err-session-clause-asked : goal.returns-in_err-session-clause-asked
+returns-in_err-session-clause-asked g c told = asked_then _ _ _ (c.loop-now.invariant.asked told) (c.next_entry.ensures.asked told)
 
 pub returns-in_err-found-clause-unread : goal.returns-in_err-found-clause-unread
 returns-in_err-found-clause-unread g c =
     let r = err_from_is_err_and c.from_residual-in_err-found.result c.from_residual-in_err-found.ensures.1 in
     let inv = c.loop-now.invariant in
     let types = types_in_force c.loop-now.now in
+    let last = c.loop-now.last in
     let gate = c.loop-now.gate_at in
+    let session = c.in-Some.session in
     let entry = entry_said c.in-Some.said in
     let behind = c.in-Some.behind in
     let image = seen_in (g.H.Host.world c.args.host.now).disk in
@@ -114,9 +117,9 @@ returns-in_err-found-clause-unread g c =
     let e = c.in_err-found.field-0.0 in
     rw (r.1, r.2) λ told p typed log is.
     let h = inv.audited told p typed in
-    let step : next_in One types gate ((g.H.Host.world c.loop-now.host).disk (Manager c.args.slot)).seen ≡ Ok (Some (entry, behind)) = search rules in
-    let there = subst (λ (d : Disk). next_in One types gate (d (Manager c.args.slot)).seen ≡ Ok (Some (entry, behind))) (inv.asked told).disk step in
-    let rest = rest_said p c.args.slot image file gate types _ h entry behind there log is in
+    let step : next_in Two types last gate ((g.H.Host.world c.loop-now.host).disk (Manager c.args.slot)).seen ≡ Ok (Some (session, entry, behind)) = search rules in
+    let there = subst (λ (d : Disk). next_in Two types last gate (d (Manager c.args.slot)).seen ≡ Ok (Some (session, entry, behind))) (inv.asked told).disk step in
+    let rest = rest_said p c.args.slot image file last gate types _ h session entry behind there log is in
     let mid = asked_then _ _ _ (inv.asked told) (c.next_entry.ensures.asked told) in
     let here = subst (λ (d : Disk). IsEntryFault c.args.slot (program_after p h.entries) (seen_in d) (entries_said entry) e) mid.disk (c.in_err-found.ensures.unread told (program_after p h.entries) h.in_force) in
     let all = fault_before c.args.slot image p (h.entries ++ entries_said entry) rest.0 e (fault_behind c.args.slot image p h.entries (entries_said entry) e here) in
@@ -129,21 +132,23 @@ pub returns-then-is_some-clause-replays : goal.returns-then-is_some-clause-repla
 returns-then-is_some-clause-replays g c told p typed log is =
     let inv = c.loop-now.invariant in
     let types = types_in_force c.loop-now.now in
+    let last = c.loop-now.last in
     let gate = c.loop-now.gate_at in
+    let session = c.in-Some.session in
     let entry = entry_said c.in-Some.said in
     let behind = c.in-Some.behind in
     let image = seen_in (g.H.Host.world c.args.host.now).disk in
     let file = ((g.H.Host.world c.args.host.now).disk (Manager c.args.slot)).seen in
     let found = c.in_ok-found.found in
     let some : is_some found ≡ true = sym c.is_some.ensures ∙ c.if-is_some.true in
-    let step : next_in One types gate ((g.H.Host.world c.loop-now.host).disk (Manager c.args.slot)).seen ≡ Ok (Some (entry, behind)) = search rules in
-    let there = subst (λ (d : Disk). next_in One types gate (d (Manager c.args.slot)).seen ≡ Ok (Some (entry, behind))) (inv.asked told).disk step in
+    let step : next_in Two types last gate ((g.H.Host.world c.loop-now.host).disk (Manager c.args.slot)).seen ≡ Ok (Some (session, entry, behind)) = search rules in
+    let there = subst (λ (d : Disk). next_in Two types last gate (d (Manager c.args.slot)).seen ≡ Ok (Some (session, entry, behind))) (inv.asked told).disk step in
     let mid = asked_then _ _ _ (inv.asked told) (c.next_entry.ensures.asked told) in
     let h = inv.audited told p typed in
-    let now : Standing = before p c.args.slot image file gate types c.loop-now.store h in
-    let to = subst (λ (d : Disk). AllReplayTo now (entries_logged c.args.slot now.program (seen_in d) (entries_said entry)) c.replay_said.new.store found) mid.disk
-    (c.in_ok-found.ensures.replays told now (before_types p c.args.slot image file gate types c.loop-now.store h) h.has) in
-    audit_found p c.args.slot image file gate types c.loop-now.store h entry behind there c.replay_said.new.store found some to log is
+    let now : Standing = before p c.args.slot image file last gate types c.loop-now.store h in
+    let to = subst (λ (d : Disk). AllReplayTo now (entries_logged Two c.args.slot now.program (seen_in d) (entries_said entry)) c.replay_said.new.store found) mid.disk
+    (c.in_ok-found.ensures.replays told now (before_types p c.args.slot image file last gate types c.loop-now.store h) h.has) in
+    audit_found p c.args.slot image file last gate types c.loop-now.store h session entry behind there c.replay_said.new.store found some to log is
 
 pub returns-then-is_some-clause-asked : goal.returns-then-is_some-clause-asked
 returns-then-is_some-clause-asked g c told = asked_then _ _ _ (asked_then _ _ _ (c.loop-now.invariant.asked told) (c.next_entry.ensures.asked told)) (c.replay_said.ensures.asked told)
@@ -152,7 +157,9 @@ pub loop-now-preserved : goal.loop-now-preserved
 loop-now-preserved g c =
     let inv = c.loop-now.invariant in
     let types = types_in_force c.loop-now.now in
+    let last = c.loop-now.last in
     let gate = c.loop-now.gate_at in
+    let session = c.in-Some.session in
     let entry = entry_said c.in-Some.said in
     let behind = c.in-Some.behind in
     let image = seen_in (g.H.Host.world c.args.host.now).disk in
@@ -165,17 +172,17 @@ loop-now-preserved g c =
       shaped = c.in_ok-found.ensures.shaped;
       fits = c.in_ok-found.ensures.fits;
       audited = λ told p typed.
-          let step : next_in One types gate ((g.H.Host.world c.loop-now.host).disk (Manager c.args.slot)).seen ≡ Ok (Some (entry, behind)) = search rules in
-          let there = subst (λ (d : Disk). next_in One types gate (d (Manager c.args.slot)).seen ≡ Ok (Some (entry, behind))) (inv.asked told).disk step in
+          let step : next_in Two types last gate ((g.H.Host.world c.loop-now.host).disk (Manager c.args.slot)).seen ≡ Ok (Some (session, entry, behind)) = search rules in
+          let there = subst (λ (d : Disk). next_in Two types last gate (d (Manager c.args.slot)).seen ≡ Ok (Some (session, entry, behind))) (inv.asked told).disk step in
           let mid = asked_then _ _ _ (inv.asked told) (c.next_entry.ensures.asked told) in
           let h = inv.audited told p typed in
-          let now : Standing = before p c.args.slot image file gate types c.loop-now.store h in
-          let to = subst (λ (d : Disk). AllReplayTo now (entries_logged c.args.slot now.program (seen_in d) (entries_said entry)) c.replay_said.new.store found) mid.disk
-          (c.in_ok-found.ensures.replays told now (before_types p c.args.slot image file gate types c.loop-now.store h) h.has) in
-          subst (λ (t : ProgramTree). HasAudited p c.args.slot image file behind t c.replay_said.new.store) (sym c.in_ok-found.ensures.behind)
-          (audit_next p c.args.slot image file gate types c.loop-now.store h entry behind there c.replay_said.new.store found none to);
+          let now : Standing = before p c.args.slot image file last gate types c.loop-now.store h in
+          let to = subst (λ (d : Disk). AllReplayTo now (entries_logged Two c.args.slot now.program (seen_in d) (entries_said entry)) c.replay_said.new.store found) mid.disk
+          (c.in_ok-found.ensures.replays told now (before_types p c.args.slot image file last gate types c.loop-now.store h) h.has) in
+          subst (λ (t : ProgramTree). HasAudited p c.args.slot image file session behind t c.replay_said.new.store) (sym c.in_ok-found.ensures.behind)
+          (audit_next p c.args.slot image file last gate types c.loop-now.store h session entry behind there c.replay_said.new.store found none to);
       asked = λ told. asked_then _ _ _ (asked_then _ _ _ (inv.asked told) (c.next_entry.ensures.asked told)) (c.replay_said.ensures.asked told);
-      calm = none_then _ _ _ (none_then _ _ _ inv.calm c.in_ok-said.ensures.calm) c.in_ok-found.ensures.calm;
+      calm = none_then _ _ _ (none_then _ _ _ inv.calm c.in_ok-session.ensures.calm) c.in_ok-found.ensures.calm;
       ready = λ at was. c.replay_said.ensures.ready at (c.next_entry.ensures.ready at (inv.ready at was));
     }
 
@@ -183,12 +190,13 @@ pub returns-clause-replays : goal.returns-clause-replays
 returns-clause-replays g c told p typed log is =
     let inv = c.loop-now.invariant in
     let types = types_in_force c.loop-now.now in
+    let last = c.loop-now.last in
     let gate = c.loop-now.gate_at in
     let image = seen_in (g.H.Host.world c.args.host.now).disk in
     let file = ((g.H.Host.world c.args.host.now).disk (Manager c.args.slot)).seen in
-    let step : next_in One types gate ((g.H.Host.world c.loop-now.host).disk (Manager c.args.slot)).seen ≡ Ok None = search rules in
-    let there = subst (λ (d : Disk). next_in One types gate (d (Manager c.args.slot)).seen ≡ Ok None) (inv.asked told).disk step in
-    audit_done p c.args.slot image file gate types _ (inv.audited told p typed) there log is
+    let step : next_in Two types last gate ((g.H.Host.world c.loop-now.host).disk (Manager c.args.slot)).seen ≡ Ok None = search rules in
+    let there = subst (λ (d : Disk). next_in Two types last gate (d (Manager c.args.slot)).seen ≡ Ok None) (inv.asked told).disk step in
+    audit_done p c.args.slot image file last gate types _ (inv.audited told p typed) there log is
 
 pub returns-clause-asked : goal.returns-clause-asked
 returns-clause-asked g c told = asked_then _ _ _ (c.loop-now.invariant.asked told) (c.next_entry.ensures.asked told)

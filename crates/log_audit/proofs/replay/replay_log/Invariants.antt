@@ -15,7 +15,7 @@ invariant-loop-now g l = record {
   bound : l.gate_at < 2 ^ 63;
   shaped : HasShape l.now;
   fits : StoreFits (types_in_force l.now) l.store;
-  audited : IsTrue g.H.Host.tells → (p : Program) → p.types ≡ types_in_force l.fn.first → HasAudited p l.slot (seen_in (g.H.Host.world l.fn.host).disk) ((g.H.Host.world l.fn.host).disk (Manager l.slot)).seen l.gate_at (types_in_force l.now) l.store;
+  audited : IsTrue g.H.Host.tells → (p : Program) → p.types ≡ types_in_force l.fn.first → HasAudited p l.slot (seen_in (g.H.Host.world l.fn.host).disk) ((g.H.Host.world l.fn.host).disk (Manager l.slot)).seen l.last l.gate_at (types_in_force l.now) l.store;
   asked : IsTrue g.H.Host.tells → OnlyAsked (g.H.Host.world l.fn.host) (g.H.Host.world l.host);
   calm : NoneFailed (g.H.Host.faults l.fn.host) (g.H.Host.faults l.host);
   ready : StaysReady (g.H.Host.is_ready l.fn.host) (g.H.Host.is_ready l.host);

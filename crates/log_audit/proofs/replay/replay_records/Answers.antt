@@ -4,6 +4,7 @@ use Rattle.std.proofs.lemmas.Result.{err_from_is_err_and}
 use Rattle.host_trait.specs.World.{Disk}
 use Rattle.host_trait.proofs.Runs.{asked_then}
 use Rattle.host_trait.proofs.Counts.{none_then}
+use Rattle.field_codec.specs.declared.formats.Format.TheVariants.{Two}
 use Rattle.commit_log.specs.declared.records.CommitRecord.{CommitRecord}
 use Rattle.log_reading.specs.Steps.{seen_in}
 use Rattle.log_reading.proofs.RecordSums.{next_item, no_item}
@@ -57,7 +58,7 @@ returns-then-is_some-clause-replays g c told before program has =
     let h = inv.replays told before program has in
     let now : Standing = after c.args.slot shape image before h.front in
     let here = stays_typed c.args.slot shape image before h.front (types_in_force c.args.now.now) program in
-    let to = subst (λ (d : Disk). ReplaysTo now (commit_of c.args.slot shape (seen_in d) x) c.replay.new.store found) (inv.asked told).disk (c.in_ok-found.ensures.replays told now here h.has) in
+    let to = subst (λ (d : Disk). ReplaysTo now (commit_of Two c.args.slot shape (seen_in d) x) c.replay.new.store found) (inv.asked told).disk (c.in_ok-found.ensures.replays told now here h.has) in
     replayed_found _ _ _ before xs _ (drop (i + 1) xs) x _ _ found h (next_item i xs x c.loop-entry-test.true c.entry-item.is) some to
 
 pub returns-then-is_some-clause-fits : goal.returns-then-is_some-clause-fits
@@ -81,7 +82,7 @@ loop-entry-preserved g c =
           let h = inv.replays told before program has in
           let now : Standing = after c.args.slot shape image before h.front in
           let here = stays_typed c.args.slot shape image before h.front (types_in_force c.args.now.now) program in
-          let to = subst (λ (d : Disk). ReplaysTo now (commit_of c.args.slot shape (seen_in d) x) c.replay.new.store found) (inv.asked told).disk (c.in_ok-found.ensures.replays told now here h.has) in
+          let to = subst (λ (d : Disk). ReplaysTo now (commit_of Two c.args.slot shape (seen_in d) x) c.replay.new.store found) (inv.asked told).disk (c.in_ok-found.ensures.replays told now here h.has) in
           replayed_next _ _ _ before xs _ (drop (i + 1) xs) x _ _ found h (next_item i xs x c.loop-entry-test.true c.entry-item.is) none to;
       fits = λ was. c.in_ok-found.ensures.fits (inv.fits was);
       asked = λ told. asked_then _ _ _ (inv.asked told) (c.replay.ensures.asked told);

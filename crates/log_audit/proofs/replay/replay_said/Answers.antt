@@ -1,9 +1,10 @@
 use Rattle.std.proofs.Common.{◌≡◌, List, map, sym, ◌∙◌, ap, subst}
 use Rattle.std.proofs.lemmas.Result.{err_from_is_err_and}
 use Rattle.base_types.specs.declared.shapes.Shape.{Shape}
+use Rattle.field_codec.specs.declared.formats.Format.TheVariants.{Two}
 use Rattle.commit_log.specs.declared.records.CommitRecord.{CommitRecord}
-use Rattle.log_entries.specs.Entries.{entry_said}
-use Rattle.log_entries.specs.declared.entries.Said.{Said}
+use Rattle.log_reading.specs.Entries.{entry_said}
+use Rattle.log_reading.specs.declared.bodies.Said.{Said}
 use Rattle.log_reading.specs.Blocks.{ReadRecord, entries_said}
 use Rattle.log_reading.specs.Steps.{seen_in}
 use Rattle.script_tree.specs.Programs.{ProgramTree, program_tree}
@@ -42,10 +43,10 @@ returns-in_ok-found-in-Records-clause-replays g c told before program has =
     let records = c.in-Records.records in
     let found = c.in_ok-found-in-Records.found in
     let new = c.replay_records.new.store in
-    let logged : entries_logged c.args.slot before.program image (map ReadRecord records) ≡ entries_of_records c.args.slot now.shape image records =
+    let logged : entries_logged Two c.args.slot before.program image (map ReadRecord records) ≡ entries_of_records c.args.slot now.shape image records =
     logged_records c.args.slot image before.program records ∙ ap (λ (s : Shape). entries_of_records c.args.slot s image records) (shape_same before.program now c.requires.shape program) in
     let here = subst (λ (l : List CommitRecord). AllReplayTo before (entries_of_records c.args.slot now.shape image l) new found) c.as_slice.ensures (c.in_ok-found-in-Records.ensures.replays told before program has) in
-    subst (λ (s : Said). AllReplayTo before (entries_logged c.args.slot before.program image (entries_said (entry_said s))) new found) (sym c.in-Records.is) (subst (λ (es : List LogEntry). AllReplayTo before es new found) (sym logged) here)
+    subst (λ (s : Said). AllReplayTo before (entries_logged Two c.args.slot before.program image (entries_said (entry_said s))) new found) (sym c.in-Records.is) (subst (λ (es : List LogEntry). AllReplayTo before es new found) (sym logged) here)
 
 pub returns-in_ok-found-in-Records-clause-fits : goal.returns-in_ok-found-in-Records-clause-fits
 returns-in_ok-found-in-Records-clause-fits g c = c.in_ok-found-in-Records.ensures.fits c.requires.fits

@@ -4,7 +4,7 @@ use Rattle.base_types.specs.Stores.{state_in}
 use Rattle.host_trait.specs.World.{Disk}
 use Rattle.host_trait.proofs.Runs.{asked_then}
 use Rattle.host_trait.proofs.Counts.{none_then}
-use Rattle.field_codec.specs.declared.formats.Format.TheVariants.{One}
+use Rattle.field_codec.specs.declared.formats.Format.TheVariants.{Two}
 use Rattle.commit_log.specs.declared.records.Written.{Written}
 use Rattle.log_reading.specs.Steps.{seen_in}
 use Rattle.log_reading.specs.Versions.{version_named}
@@ -42,7 +42,7 @@ returns-in_err-version-clause-unread g c =
     let x : Written = get_or xs i no_write in
     rw (p.1, p.2) λ told.
     version_fault c.args.slot shape (seen_in (g.H.Host.world c.args.host.now).disk) None xs x (in_seam xs i no_write xs c.loop-written-test.true refl) c.in_err-version.field-0.0
-    (λ at place is. subst (λ (d : Disk). version_named c.args.slot One shape (seen_in d) (saved_as x) ≡ Err place) (inv.asked told).disk (c.in_err-version.ensures.damaged at place is told))
+    (λ at place is. subst (λ (d : Disk). version_named c.args.slot Two shape (seen_in d) (saved_as x) ≡ Err place) (inv.asked told).disk (c.in_err-version.ensures.damaged at place is told))
     (λ at is. c.in_err-version.ensures.failed at is)
 
 pub returns-in_err-version-clause-fault : goal.returns-in_err-version-clause-fault
@@ -65,11 +65,11 @@ loop-written-preserved g c =
     let xs = c.args.saved.now in
     let x : Written = get_or xs i no_write in
     let v = c.in_ok-version.version in
-    let found = λ (told : IsTrue g.H.Host.tells). subst (λ (d : Disk). version_named c.args.slot One shape (seen_in d) (saved_as x) ≡ Ok v) (inv.asked told).disk (c.in_ok-version.ensures.found told) in
+    let found = λ (told : IsTrue g.H.Host.tells). subst (λ (d : Disk). version_named c.args.slot Two shape (seen_in d) (saved_as x) ≡ Ok v) (inv.asked told).disk (c.in_ok-version.ensures.found told) in
     record {
       held = λ told grain. held_more c.args.slot shape image x (drop (i + 1) xs) (drop i xs) v c.loop-written.store c.put.new.self (next_default i xs no_write c.loop-written-test.true) (found told) c.in_ok-put.ensures.ok grain _ (inv.held told grain);
       states = λ told types. states_more c.args.slot shape image x (drop (i + 1) xs) (drop i xs) v c.loop-written.store c.put.new.self (next_default i xs no_write c.loop-written-test.true) (found told) c.in_ok-put.ensures.ok types _ (inv.states told types);
-      fits = λ types is. put_fits types c.loop-written.store c.put.new.self x.grain v.state c.in_ok-put.ensures.ok (version_fits types shape x.grain One x.place.len v is c.in_ok-version.ensures.shaped) (inv.fits types is);
+      fits = λ types is. put_fits types c.loop-written.store c.put.new.self x.grain v.state c.in_ok-put.ensures.ok (version_fits types shape x.grain Two x.place.len v is c.in_ok-version.ensures.shaped) (inv.fits types is);
       asked = λ told. asked_then _ _ _ (inv.asked told) (c.named_version.ensures.asked told);
       calm = none_then _ _ _ inv.calm c.in_ok-version.ensures.calm;
       ready = λ file was. c.named_version.ensures.ready file (inv.ready file was);

@@ -5,7 +5,7 @@ use Rattle.base_types.specs.declared.shapes.Shape.{Shape}
 use Rattle.host_trait.specs.World.{Disk}
 use Rattle.host_trait.proofs.Counts.{none_then}
 use Rattle.host_trait.proofs.Runs.{asked_then}
-use Rattle.field_codec.specs.declared.formats.Format.TheVariants.{One}
+use Rattle.field_codec.specs.declared.formats.Format.TheVariants.{Two}
 use Rattle.log_reading.specs.Blocks.{log_in_file}
 use Rattle.host_trait.specs.declared.channels.FileId.TheVariants.{Manager}
 use Rattle.log_reading.specs.Steps.{seen_in}
@@ -73,7 +73,7 @@ returns-in-Err-read_grains-clause-ended g c told o =
     let opened = c.args.opened in
     let typed = first_types o.first o.read.entries (programs_of opened) (types_in_force c.in_ok-first.first) o.programs c.in_ok-first.ensures.same in
     let file = ((g.H.Host.world c.states.new.host).disk (Manager opened.slot)).seen in
-    let again : log_in_file One o.first file ≡ Ok o.read = subst (λ (d : Disk). log_in_file One o.first (d (Manager opened.slot)).seen ≡ Ok o.read) (sym (c.states.ensures.asked told).disk) o.read_as in
+    let again : log_in_file Two o.first file ≡ Ok o.read = subst (λ (d : Disk). log_in_file Two o.first (d (Manager opened.slot)).seen ≡ Ok o.read) (sym (c.states.ensures.asked told).disk) o.read_as in
     subst (λ (e : ReportFault). MayEnd (fault_ending e)) (sym c.unread.ensures)
     (folder_ends o.first file opened.slot o.read again c.in-Err-read_grains.fault (c.in-Err-read_grains.ensures.unread told o.first typed o.read again))
 
@@ -92,8 +92,8 @@ returns-in_err-write_grains-clause-puts g c =
     let program = program_in opened in
     let shape : c.in_ok-shape.shape ≡ shape_in program = (λ i. record { types = c.in_ok-shape.ensures i }) in
     let typed = first_types o.first o.read.entries (programs_of opened) (types_in_force c.in_ok-first.first) o.programs c.in_ok-first.ensures.same in
-    let again : log_in_file One o.first ((g.H.Host.world c.states.new.host).disk (Manager opened.slot)).seen ≡ Ok o.read =
-    subst (λ (d : Disk). log_in_file One o.first (d (Manager opened.slot)).seen ≡ Ok o.read) (sym (c.states.ensures.asked told).disk) o.read_as in
+    let again : log_in_file Two o.first ((g.H.Host.world c.states.new.host).disk (Manager opened.slot)).seen ≡ Ok o.read =
+    subst (λ (d : Disk). log_in_file Two o.first (d (Manager opened.slot)).seen ≡ Ok o.read) (sym (c.states.ensures.asked told).disk) o.read_as in
     let keys = c.in-Ok-read_grains.grains.keys in
     let store = c.in-Ok.store in
     let are : AreStates program store o.log = c.in-Ok.ensures.stand told o in
@@ -119,8 +119,8 @@ returns-in_err-line-clause-puts g c =
     let program = program_in opened in
     let shape : c.in_ok-shape.shape ≡ shape_in program = (λ i. record { types = c.in_ok-shape.ensures i }) in
     let typed = first_types o.first o.read.entries (programs_of opened) (types_in_force c.in_ok-first.first) o.programs c.in_ok-first.ensures.same in
-    let again : log_in_file One o.first ((g.H.Host.world c.states.new.host).disk (Manager opened.slot)).seen ≡ Ok o.read =
-    subst (λ (d : Disk). log_in_file One o.first (d (Manager opened.slot)).seen ≡ Ok o.read) (sym (c.states.ensures.asked told).disk) o.read_as in
+    let again : log_in_file Two o.first ((g.H.Host.world c.states.new.host).disk (Manager opened.slot)).seen ≡ Ok o.read =
+    subst (λ (d : Disk). log_in_file Two o.first (d (Manager opened.slot)).seen ≡ Ok o.read) (sym (c.states.ensures.asked told).disk) o.read_as in
     let keys = c.in-Ok-read_grains.grains.keys in
     let store = c.in-Ok.store in
     let are : AreStates program store o.log = c.in-Ok.ensures.stand told o in
@@ -140,8 +140,8 @@ returns-clause-puts g c told o =
     let program = program_in opened in
     let shape : c.in_ok-shape.shape ≡ shape_in program = (λ i. record { types = c.in_ok-shape.ensures i }) in
     let typed = first_types o.first o.read.entries (programs_of opened) (types_in_force c.in_ok-first.first) o.programs c.in_ok-first.ensures.same in
-    let again : log_in_file One o.first ((g.H.Host.world c.states.new.host).disk (Manager opened.slot)).seen ≡ Ok o.read =
-    subst (λ (d : Disk). log_in_file One o.first (d (Manager opened.slot)).seen ≡ Ok o.read) (sym (c.states.ensures.asked told).disk) o.read_as in
+    let again : log_in_file Two o.first ((g.H.Host.world c.states.new.host).disk (Manager opened.slot)).seen ≡ Ok o.read =
+    subst (λ (d : Disk). log_in_file Two o.first (d (Manager opened.slot)).seen ≡ Ok o.read) (sym (c.states.ensures.asked told).disk) o.read_as in
     let keys = c.in-Ok-read_grains.grains.keys in
     let store = c.in-Ok.store in
     let are : AreStates program store o.log = c.in-Ok.ensures.stand told o in
