@@ -13,19 +13,19 @@ use Rattle.host_trait.specs.declared.channels.FileId.TheVariants.{Grain}
 use Rattle.host_trait.specs.Disk.{MayLeave, overlaid}
 use Rattle.host_trait.specs.World.{Disk, Image}
 use Rattle.host_trait.proofs.Runs.{settled_image}
+use Rattle.field_codec.specs.declared.formats.Format.TheVariants.{Two}
+use Rattle.field_codec.specs.Formats.{magic_of}
 use Rattle.field_codec.specs.Spelling.{spelling_of_version}
 use Rattle.gate_block.specs.Log.{open_blocks, AreSmall}
 use Rattle.commit_log.specs.declared.records.CheckpointHead.{CheckpointHead}
 use Rattle.commit_log.specs.declared.records.Named.{Named}
 use Rattle.commit_log.specs.declared.records.Written.{Written}
-use Rattle.commit_log.specs.Checkpoints.{spelling_of_piece}
 use Rattle.commit_log.specs.Orders.{IsAscending}
 use Rattle.commit_log.specs.Spelling.{WriteFits}
 use Rattle.commit_log.proofs.CheckpointPieces.{piece_length}
 use Rattle.promise_spec.specs.Programs.{Program}
 use Rattle.promise_spec.specs.Entries.{Log, is_among, standing_of}
-use Rattle.promise_spec.specs.Blocks.{Saved, Checkpoint, pieces_of, IsSaved, From}
-use Rattle.promise_spec.specs.Logs.{magic, written_file}
+use Rattle.promise_spec.specs.Blocks.{Saved, pieces_of, IsSaved}
 use Rattle.script_tree.specs.Programs.{ProgramTree}
 use Rattle.script_check.specs.Shapes.{value_of, type_shapes}
 use Rattle.script_check.specs.Carrying.{fields_of_kind}
@@ -33,23 +33,24 @@ use Rattle.program_file.specs.Succession.{newest_program, carried_from}
 use Rattle.program_file.specs.ProgramsInTurn.{HasItsFields}
 use Rattle.grain_log.specs.Reads.{fields_of}
 use Rattle.checkpoint.specs.Copies.{name_of_copy, writes_named, IsCopied}
-use Rattle.checkpoint.specs.Pieces.{behind_gate, front_bodies, piece_bodies}
+use Rattle.checkpoint.specs.ManagerBytes.{behind_gate}
+use Rattle.checkpoint.specs.Pieces.{spelled_with, front_bodies, piece_bodies}
 use Rattle.checkpoint.specs.NextGeneration.{IsLastVersionOf}
 
 -- ---- the manager file's bytes
 
 -- with the header gate open they are those of a written log
-pub opened_bytes : (g : ℕ) (ck : Checkpoint) (bodies : List (List ℕ)) (f : List ℕ) → 0 < length f
-    → (rest : List ℕ) × (1 ∷ drop 1 (overlaid f 1 (behind_gate g ++ (open_blocks bodies ++ 0 ∷ []))) ≡ written_file g (From ck) bodies rest)
-opened_bytes g ck bodies [] some = absurd (omega (arith, some))
-opened_bytes g ck bodies (x ∷ f) some =
+pub opened_bytes : (g begins : ℕ) (bodies : List (List ℕ)) (f : List ℕ) → 0 < length f
+    → (rest : List ℕ) × (1 ∷ drop 1 (overlaid f 1 (behind_gate g begins ++ (open_blocks bodies ++ 0 ∷ []))) ≡ 1 ∷ (magic_of Two ++ (to_le_bytes w32 g ++ (begins ∷ 0 ∷ (open_blocks bodies ++ 0 ∷ rest)))))
+opened_bytes g begins bodies [] some = absurd (omega (arith, some))
+opened_bytes g begins bodies (x ∷ f) some =
     let blocks : List ℕ = open_blocks bodies in
-    let header : List ℕ = behind_gate g in
+    let header : List ℕ = behind_gate g begins in
     let rest : List ℕ = drop (1 + length (header ++ (blocks ++ 0 ∷ []))) (x ∷ f) in
     let parts : (header ++ (blocks ++ 0 ∷ [])) ++ rest ≡ header ++ (blocks ++ (0 ∷ rest)) =
     append_assoc header (blocks ++ 0 ∷ []) rest ∙ ap (λ (l : List ℕ). header ++ l) (append_assoc blocks (0 ∷ []) rest) in
-    let spread : header ++ (blocks ++ (0 ∷ rest)) ≡ magic ++ (to_le_bytes w32 g ++ (1 ∷ 0 ∷ (blocks ++ (0 ∷ rest)))) =
-    append_assoc magic (to_le_bytes w32 g ++ (1 ∷ 0 ∷ [])) (blocks ++ (0 ∷ rest)) ∙ ap (λ (l : List ℕ). magic ++ l) (append_assoc (to_le_bytes w32 g) (1 ∷ 0 ∷ []) (blocks ++ (0 ∷ rest))) in
+    let spread : header ++ (blocks ++ (0 ∷ rest)) ≡ magic_of Two ++ (to_le_bytes w32 g ++ (begins ∷ 0 ∷ (blocks ++ (0 ∷ rest)))) =
+    append_assoc (magic_of Two) (to_le_bytes w32 g ++ (begins ∷ 0 ∷ [])) (blocks ++ (0 ∷ rest)) ∙ ap (λ (l : List ℕ). magic_of Two ++ l) (append_assoc (to_le_bytes w32 g) (begins ∷ 0 ∷ []) (blocks ++ (0 ∷ rest))) in
     (rest, ap (λ (l : List ℕ). 1 ∷ l) (parts ∙ spread))
 
 -- ---- what was cut
@@ -90,12 +91,12 @@ cut_saved (piece ∷ front) last saved e =
 
 -- the bodies of the pieces are those that were written
 pub same_bodies : (head : CheckpointHead) (saved : List Saved) (front : List (List Written)) (last : List Written) (are : AreSavedIn saved front last)
-    → pieces_of (record { count = head.count; next = head.next_unit.0; front = are.before; last = are.behind }) ≡ piece_bodies head front last
+    → pieces_of Two (record { count = head.count; next = head.next_unit.0; session = head.session; front = are.before; last = are.behind }) ≡ piece_bodies head front last
 same_bodies head saved front last are =
-    let spelled : List (List Written) → List (List ℕ) = λ pieces. map (spelling_of_piece 1 head.count head.next_unit.0) pieces in
-    let fronts : map (λ (piece : List Saved). spelling_of_piece 1 head.count head.next_unit.0 (map (λ s. s.write) piece)) are.before ≡ spelled front =
-    map_twice (spelling_of_piece 1 head.count head.next_unit.0) are.before ∙ ap spelled are.fronts in
-    λ i. fronts i ++ spelling_of_piece 0 head.count head.next_unit.0 (are.lasts i) ∷ []
+    let spelled : List (List Written) → List (List ℕ) = λ pieces. map (spelled_with head 1) pieces in
+    let fronts : map (λ (piece : List Saved). spelled_with head 1 (map (λ s. s.write) piece)) are.before ≡ spelled front =
+    map_twice (spelled_with head 1) are.before ∙ ap spelled are.fronts in
+    λ i. fronts i ++ spelled_with head 0 (are.lasts i) ∷ []
   where
     map_twice : (f : List Written → List ℕ) (pieces : List (List Saved)) → map (λ (piece : List Saved). f (map (λ s. s.write) piece)) pieces ≡ map f (map (λ (piece : List Saved). map (λ s. s.write) piece) pieces)
     map_twice f [] = refl
@@ -126,7 +127,7 @@ module _ (live : ℕ) (programs : List ProgramTree) (p : Program) (newest : newe
   pub record AreSavedOf (latest copies : List Named) : Type 0 where
     pub saved : List Saved
     pub writes : map (λ s. s.write) saved ≡ writes_named copies
-    pub each : AllByRecursion (IsSaved (1 - live) p image) saved
+    pub each : AllByRecursion (IsSaved Two (1 - live) p image) saved
     pub states : AllByRecursion (λ (w : GrainId × List Value). w.1 ≡ (standing_of log).states w.0) (map (λ s. (s.write.grain, s.state)) saved)
     pub held : (grain : GrainId) → is_among (map (λ s. (s.write.grain, s.state)) saved) grain ≡ list_any (λ (n : Named). same_grain n.written.grain grain) latest
 
@@ -144,7 +145,7 @@ module _ (live : ℕ) (programs : List ProgramTree) (p : Program) (newest : newe
   unit_of_copy : (n copy : Named) → (l : IsLastVersionOf live programs seen log n) → (c : IsCopied live programs seen disk n copy) → c.copied.unit ≡ l.version.unit
   unit_of_copy n copy l c = ap (λ (v : Version). v.unit) c.carried.meant ∙ ap (λ (v : Version). v.unit) (one_version n copy l c)
 
-  one_saved : (n copy : Named) → (l : IsLastVersionOf live programs seen log n) → (c : IsCopied live programs seen disk n copy) → WriteFits copy.written → IsSaved (1 - live) p image (saved_at n copy c)
+  one_saved : (n copy : Named) → (l : IsLastVersionOf live programs seen log n) → (c : IsCopied live programs seen disk n copy) → WriteFits copy.written → IsSaved Two (1 - live) p image (saved_at n copy c)
   one_saved n copy l c fits =
       let file : image (Grain (1 - live) n.written.grain) ≡ (disk (Grain (1 - live) n.written.grain)).seen =
       settled_image disk (Grain (1 - live) n.written.grain) (disk (Grain (1 - live) n.written.grain)).seen (image (Grain (1 - live) n.written.grain)) c.stands.lasts (is n.written.grain) in
@@ -181,9 +182,9 @@ module _ (live : ℕ) (programs : List ProgramTree) (p : Program) (newest : newe
 
 -- ---- sizes
 
-small_pieces : (head : CheckpointHead) (flag : ℕ) (pieces : List (List Written)) → AllByRecursion (λ (piece : List Written). length piece ≤ 65536) pieces → AreSmall (map (spelling_of_piece flag head.count head.next_unit.0) pieces)
+small_pieces : (head : CheckpointHead) (flag : ℕ) (pieces : List (List Written)) → AllByRecursion (λ (piece : List Written). length piece ≤ 65536) pieces → AreSmall (map (spelled_with head flag) pieces)
 small_pieces head flag [] sizes = tt
-small_pieces head flag (piece ∷ pieces) sizes = (omega (arith, piece_length flag head.count head.next_unit.0 piece, sizes.0), small_pieces head flag pieces sizes.1)
+small_pieces head flag (piece ∷ pieces) sizes = (omega (arith, piece_length Two flag head.count head.next_unit.0 head.session piece, sizes.0), small_pieces head flag pieces sizes.1)
 
 small_both : (a b : List (List ℕ)) → AreSmall a → AreSmall b → AreSmall (a ++ b)
 small_both [] b first second = second
@@ -191,8 +192,8 @@ small_both (x ∷ a) b first second = (first.0, small_both a b first.1 second)
 
 pub are_small : (head : CheckpointHead) (front : List (List Written)) (last : List Written) → AllByRecursion (λ (piece : List Written). length piece ≤ 65536) front → length last ≤ 65536 → AreSmall (piece_bodies head front last)
 are_small head front last sizes size =
-    small_both (front_bodies head front) (spelling_of_piece 0 head.count head.next_unit.0 last ∷ []) (small_pieces head 1 front sizes)
-    (omega (arith, piece_length 0 head.count head.next_unit.0 last, size), tt)
+    small_both (front_bodies head front) (spelled_with head 0 last ∷ []) (small_pieces head 1 front sizes)
+    (omega (arith, piece_length Two 0 head.count head.next_unit.0 head.session last, size), tt)
 
 -- saved pieces are as long as their writes
 pub sizes_saved : (before : List (List Saved)) (behind : List Saved) → AllByRecursion (λ (piece : List Written). length piece ≤ 65536) (map (λ (piece : List Saved). map (λ s. s.write) piece) before)

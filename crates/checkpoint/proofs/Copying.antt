@@ -10,12 +10,8 @@ use Rattle.base_types.specs.declared.stores.Version.{Version}
 use Rattle.host_trait.specs.declared.channels.FileId.{FileId}
 use Rattle.host_trait.specs.declared.channels.FileId.TheVariants.{Grain}
 use Rattle.host_trait.specs.Disk.{FileState, overlaid, settled}
-use Rattle.host_trait.specs.Files.{slot_of}
-use Rattle.host_trait.specs.World.{World, Moment, Disk, Image, moment_of}
-use Rattle.host_trait.specs.Runs.{ChangesFile, RunsOnFile}
-use Rattle.host_trait.proofs.Moments.{started, both, weaker, arrived, arrives_then}
-use Rattle.host_trait.proofs.Runs.{Change}
-use Rattle.field_codec.specs.declared.formats.Format.TheVariants.{One}
+use Rattle.host_trait.specs.World.{World, Disk, Image}
+use Rattle.field_codec.specs.declared.formats.Format.TheVariants.{Two}
 use Rattle.field_codec.specs.Spelling.{spelling_of_version}
 use Rattle.grain_log.specs.Places.{spelling_of_versions}
 use Rattle.grain_log.specs.Reads.{fields_of, version_by_owner}
@@ -26,40 +22,9 @@ use Rattle.log_reading.specs.Versions.{version_by_shape, version_numbered}
 use Rattle.script_tree.specs.Programs.{ProgramTree}
 use Rattle.program_file.specs.Succession.{shapes_in_turn}
 use Rattle.base_types.proofs.GrainOrder.{Before, to_before, irref, chain}
-use Rattle.checkpoint.specs.Steps.{IsInCopying, OnlyCopies}
+use Rattle.checkpoint.specs.Steps.{OnlyCopies}
 use Rattle.checkpoint.specs.Copies.{StandsFirst, IsMeantVersion, IsCopied}
-
--- ---- what changes
-
-pub none_copied : (slot : ℕ) (w : World) → OnlyCopies slot w w
-none_copied slot w = record {
-  input = refl;
-  now = record { output = refl; others = λ file none. refl };
-  moments = started _ w.past;
-  clock = arrived w;
-}
-
--- one grain's file more
-pub copied_on : (slot : ℕ) (grain : GrainId) (R : Change) (most : ℕ) (old mid new : World) → OnlyCopies slot old mid → RunsOnFile (Grain slot grain) R most mid new → OnlyCopies slot old new
-copied_on slot grain R most old mid new so_far run = record {
-  input = run.input ∙ so_far.input;
-  now = go (moment_of new) run.now;
-  moments = both _ so_far.moments (weaker _ _ go run.moments);
-  clock = arrives_then old mid new so_far.clock run.clock;
-}
-  where
-    go : (m : Moment) → ChangesFile (Grain slot grain) R mid m → IsInCopying slot old m
-    go m changes = record {
-      output = changes.output ∙ so_far.now.output;
-      others = λ file none. changes.others file (none grain) ∙ so_far.now.others file none;
-    }
-
--- files of the live slot are none of these
-pub apart_slots : (live : ℕ) → live ≤ 1 → (grain other : GrainId) → Grain live grain ≢ Grain (1 - live) other
-apart_slots live low grain other same = (let slots : live ≡ 1 - live = ap slot_of same in omega (arith, low, slots))
-
-pub live_stays : (live : ℕ) (old new : World) → live ≤ 1 → OnlyCopies (1 - live) old new → (grain : GrainId) → new.disk (Grain live grain) ≡ old.disk (Grain live grain)
-live_stays live old new low only grain = only.now.others (Grain live grain) (apart_slots live low grain)
+use Rattle.checkpoint.proofs.GrainFiles.{live_stays}
 
 -- ---- grains in ascending order
 
@@ -153,21 +118,21 @@ first_stands version old new done =
 
 -- what is named in files that are as they were
 pub numbered_same : (live : ℕ) (shapes : List Shape) (old new : Image) (n : Named) → new (Grain live n.written.grain) ≡ old (Grain live n.written.grain)
-    → version_numbered live One shapes new n ≡ version_numbered live One shapes old n
+    → version_numbered live Two shapes new n ≡ version_numbered live Two shapes old n
 numbered_same live shapes old new n same = by (slice_get shapes n.program)
   where
-    by : (o : Option Shape) → version_by_shape live One o new n ≡ version_by_shape live One o old n
+    by : (o : Option Shape) → version_by_shape live Two o new n ≡ version_by_shape live Two o old n
     by None = refl
-    by (Some shape) = ap (λ (f : List ℕ). version_by_owner One (fields_of (slice_get shape.types n.written.grain.kind)) n.unit n.written.place f) same
+    by (Some shape) = ap (λ (f : List ℕ). version_by_owner Two (fields_of (slice_get shape.types n.written.grain.kind)) n.unit n.written.place f) same
 
 -- the live slot's files are as they were, and so is what is named in them
 pub named_stays : (live : ℕ) (shapes : List Shape) (old new : World) (n : Named) → live ≤ 1 → OnlyCopies (1 - live) old new
-    → version_numbered live One shapes (seen_in new.disk) n ≡ version_numbered live One shapes (seen_in old.disk) n
+    → version_numbered live Two shapes (seen_in new.disk) n ≡ version_numbered live Two shapes (seen_in old.disk) n
 named_stays live shapes old new n low only =
     numbered_same live shapes (seen_in old.disk) (seen_in new.disk) n (ap (λ (s : FileState). s.seen) (live_stays live old new low only n.written.grain))
 
 -- a version that is carried from files that are as they were
-pub carried_same : (live : ℕ) (programs : List ProgramTree) (old new : Image) (n : Named) (v : Version) → version_numbered live One (shapes_in_turn programs) new n ≡ version_numbered live One (shapes_in_turn programs) old n
+pub carried_same : (live : ℕ) (programs : List ProgramTree) (old new : Image) (n : Named) (v : Version) → version_numbered live Two (shapes_in_turn programs) new n ≡ version_numbered live Two (shapes_in_turn programs) old n
     → IsMeantVersion live programs new n v → IsMeantVersion live programs old n v
 carried_same live programs old new n v same is = record { version = is.version; found = sym same ∙ is.found; meant = is.meant }
 

@@ -1,4 +1,4 @@
--- How `compact` ends, and what is shown then.
+-- How `compact` and `migrate` end, and what is shown then.
 use Rattle.std.proofs.Common.{◌≡◌, ◌≢◌, ◌⊎◌, inl, inr, ℕ, zero, suc, ◌<◌, ◌≤◌, ◌^◌, false, List, refl, sym, ◌∙◌, subst, arith}
 use Rattle.std.proofs.lemmas.Bool.{cases_lt}
 use Rattle.host_trait.specs.declared.channels.Channel.{Channel}
@@ -7,23 +7,26 @@ use Rattle.host_trait.specs.declared.channels.FileId.TheVariants.{Manager}
 use Rattle.host_trait.specs.Faults.{NoneFailed}
 use Rattle.host_trait.specs.Runs.{OnlyAsked}
 use Rattle.host_trait.specs.World.{World}
+use Rattle.field_codec.specs.declared.formats.Format.{Format}
+use Rattle.field_codec.specs.declared.formats.Format.TheVariants.{One, Two}
 use Rattle.log_reading.specs.declared.faults.FolderFault.{FolderFault}
 use Rattle.log_reading.specs.Counts.{ReadFaulted}
 use Rattle.log_reading.specs.Steps.{seen_in}
 use Rattle.log_reading.proofs.Errors.{failed}
 use Rattle.silo_spec.specs.OpenedDisks.{opened_disk, opening_syncs, OnlyOpens}
 use Rattle.promise_spec.specs.Entries.{checkpointed}
-use Rattle.promise_spec.specs.Openings.{Reading, opened_as}
+use Rattle.promise_spec.specs.Openings.{Reading, reading_in}
 use Rattle.promise_spec.specs.Words.{Manner}
 use Rattle.promise_spec.specs.Endings.{Ending, Done, LastGeneration, HasFailedAs}
 use Rattle.promise_spec.specs.Courses.{Observed}
 use Rattle.promise_spec.specs.Images.{IsWholeFolder}
-use Rattle.promise_spec.specs.Refusals.{IsEitherManager, MustBeRead, IsRefusedBy, IsUnopened}
+use Rattle.promise_spec.specs.Refusals.{IsEitherManager, MustBeRead, IsRefusedBy, IsUnopenedIn}
 use Rattle.promise_spec.specs.Compaction.{Rewrites, IsRewritten, IsCompacted, IsLastGeneration}
+use Rattle.promise_spec.specs.Migration.{IsMigrated}
 use Rattle.silo_opening.specs.declared.faults.OpenFault.{OpenFault}
 use Rattle.silo_opening.specs.declared.opened_silo.Opened.{Opened}
 use Rattle.silo_opening.specs.Counts.{OpenFaulted}
-use Rattle.silo_opening.specs.OpenedSilo.{in_folder, ending_of, IsOpenedFrom}
+use Rattle.silo_opening.specs.OpenedSilo.{in_folder, ending_of, IsOpenedIn, IsOpenedFrom}
 use Rattle.silo_opening.proofs.OpeningCalls.{opens_untouched}
 use Rattle.checkpoint.proofs.Compacted.{read_so, generation_so, opens_too, untouched}
 
@@ -31,6 +34,7 @@ use Rattle.checkpoint.proofs.Compacted.{read_so, generation_so, opens_too, untou
 
 pub open_failed : (before after : Channel → ℕ) (e : OpenFault) → OpenFaulted e before after → HasFailedAs (ending_of e) before after
 open_failed before after OpenFault.NotASilo f = f
+open_failed before after OpenFault.OldFormat f = f
 open_failed before after (OpenFault.Damaged file place) f = f
 open_failed before after (OpenFault.DiskFault file) f = f
 open_failed before after OpenFault.LastGeneration f = f
@@ -62,12 +66,12 @@ not_damaged FolderFault.Memory none = inr (inl refl)
 -- ---- what is shown
 
 module _ (manner : Manner) (lines : List (List ℕ)) (before after : Channel → ℕ) where
-  abbrev shown_as : World → World → Ending → Observed
+  abbrev pub shown_as : World → World → Ending → Observed
   shown_as old new ending = record { manner = manner; asked = lines; windowed = false; old = old; new = new; faults_before = before; faults_after = after; ending = ending }
 
   -- the folder wasn't opened
-  pub unopened : (ending : Ending) (old new : World) → OnlyOpens old new → IsRefusedBy (seen_in old.disk) (opened_as (seen_in old.disk)) ending → HasFailedAs ending before after → IsUnopened (shown_as old new ending)
-  unopened ending old new opens refused fails = record {
+  pub unopened : (f : Format) (ending : Ending) (old new : World) → OnlyOpens old new → IsRefusedBy f (seen_in old.disk) (reading_in f (seen_in old.disk)) ending → HasFailedAs ending before after → IsUnopenedIn f (shown_as old new ending)
+  unopened f ending old new opens refused fails = record {
     untouched = opens_untouched (opening_syncs (seen_in old.disk)) old new opens;
     unread = opens.input;
     syncs = opens.syncs;
@@ -75,50 +79,73 @@ module _ (manner : Manner) (lines : List (List ℕ)) (before after : Channel →
     failed = fails;
   }
 
-  module _ (o : Opened) (w0 w1 w2 : World) (from : IsOpenedFrom (seen_in w1.disk) o) (slot : o.slot ≤ 1) (opens : OnlyOpens w0 w1) (left : w1.disk ≡ opened_disk w0.disk) (asked : OnlyAsked w1 w2) where
+  module _ (f : Format) (o : Opened) (w0 w1 w2 : World) (from : IsOpenedIn f (seen_in w1.disk) o) (slot : o.slot ≤ 1) (opens : OnlyOpens w0 w1) (left : w1.disk ≡ opened_disk w0.disk) (asked : OnlyAsked w1 w2) where
     -- no generation follows
-    pub is_last : o.generation ≡ 4294967295 → NoneFailed before after → IsLastGeneration (shown_as w0 w2 LastGeneration)
+    pub is_last : o.generation ≡ 4294967295 → NoneFailed before after → IsLastGeneration f (shown_as w0 w2 LastGeneration)
     is_last last none = record {
       live = o.slot;
       log = from.log;
-      reads = read_so o w0 w1 w2 from slot opens left asked;
-      last = omega (arith, last, generation_so o w0 w1 w2 from slot opens left asked);
-      untouched = untouched o w0 w1 w2 from slot opens left asked;
-      unread = (opens_too o w0 w1 w2 from slot opens left asked).input;
-      syncs = (opens_too o w0 w1 w2 from slot opens left asked).syncs;
+      reads = read_so f o w0 w1 w2 from slot opens left asked;
+      last = omega (arith, last, generation_so f o w0 w1 w2 from slot opens left asked);
+      untouched = untouched f o w0 w1 w2 from slot opens left asked;
+      unread = (opens_too f o w0 w1 w2 from slot opens left asked).input;
+      syncs = (opens_too f o w0 w1 w2 from slot opens left asked).syncs;
       ending = refl;
       calm = none;
     }
 
-    -- it was written anew
-    pub is_compacted : (ending : Ending) (w3 : World) → o.generation ≢ 4294967295 → o.generation < 2 ^ 32 → w3.input ≡ w2.input → w3.output ≡ w2.output → IsRewritten ending → HasFailedAs ending before after
-        → (IsWholeFolder w0 → Rewrites o.slot from.log (checkpointed from.log) (shown_as w0 w3 ending)) → IsCompacted (shown_as w0 w3 ending)
-    is_compacted ending w3 other low unread quiet rewritten fails over = record {
-      live = o.slot;
-      log = from.log;
-      reads = read_so o w0 w1 w2 from slot opens left asked;
-      follows = omega (arith, low, generation_so o w0 w1 w2 from slot opens left asked, below o.generation low other);
-      unread = unread ∙ (opens_too o w0 w1 w2 from slot opens left asked).input;
-      quiet = quiet ∙ (opens_too o w0 w1 w2 from slot opens left asked).now.output;
-      ending = rewritten;
-      failed = fails;
-      over_whole = over;
-    }
-      where
-        below : (n : ℕ) → n < 2 ^ 32 → n ≢ 4294967295 → n < 4294967295
-        below n low other = elim (cases_lt n 4294967295) [
-          | inl less ↦ less
-          | inr more ↦ absurd (other (omega (arith, more, low)))
-        ]
-
     -- the versions weren't found for want of memory, or for a fault of the manager file
-    pub latest_refused : (e : OpenFault) → (e ≡ OpenFault.Memory) ⊎ (e ≡ OpenFault.DiskFault (Manager o.slot)) → IsRefusedBy (seen_in w0.disk) (opened_as (seen_in w0.disk)) (ending_of e)
-    latest_refused e (inl same) = subst (λ (x : OpenFault). IsRefusedBy (seen_in w0.disk) (opened_as (seen_in w0.disk)) (ending_of x)) (sym same) tt
+    pub latest_refused : (e : OpenFault) → (e ≡ OpenFault.Memory) ⊎ (e ≡ OpenFault.DiskFault (Manager o.slot)) → IsRefusedBy f (seen_in w0.disk) (reading_in f (seen_in w0.disk)) (ending_of e)
+    latest_refused e (inl same) = subst (λ (x : OpenFault). IsRefusedBy f (seen_in w0.disk) (reading_in f (seen_in w0.disk)) (ending_of x)) (sym same) tt
     latest_refused e (inr same) =
-        subst (λ (x : OpenFault). IsRefusedBy (seen_in w0.disk) (opened_as (seen_in w0.disk)) (ending_of x)) (sym same)
-        (subst (λ (reading : Reading). MustBeRead (seen_in w0.disk) reading (Manager o.slot)) (sym (read_so o w0 w1 w2 from slot opens left asked)) (inl (inl (either o.slot slot))))
+        subst (λ (x : OpenFault). IsRefusedBy f (seen_in w0.disk) (reading_in f (seen_in w0.disk)) (ending_of x)) (sym same)
+        (subst (λ (reading : Reading). MustBeRead f (seen_in w0.disk) reading (Manager o.slot)) (sym (read_so f o w0 w1 w2 from slot opens left asked)) (inl (inl (either o.slot slot))))
       where
         either : (n : ℕ) → n ≤ 1 → IsEitherManager (Manager n)
         either zero low = inl refl
         either (suc zero) low = inr refl
         either (suc (suc n)) low = absurd (omega (arith, low))
+
+    follows_it : o.generation ≢ 4294967295 → o.generation < 2 ^ 32 → o.generation < 4294967295
+    follows_it other low = elim (cases_lt o.generation 4294967295) [
+      | inl less ↦ less
+      | inr more ↦ absurd (other (omega (arith, more, low)))
+    ]
+
+    unread_too : (w3 : World) → w3.input ≡ w2.input → w3.input ≡ w0.input
+    unread_too w3 unread = unread ∙ (opens_too f o w0 w1 w2 from slot opens left asked).input
+
+    quiet_too : (w3 : World) → w3.output ≡ w2.output → w3.output ≡ w0.output
+    quiet_too w3 quiet = quiet ∙ (opens_too f o w0 w1 w2 from slot opens left asked).now.output
+
+  -- it was written anew
+  module _ (o : Opened) (w0 w1 w2 : World) (from : IsOpenedFrom (seen_in w1.disk) o) (slot : o.slot ≤ 1) (opens : OnlyOpens w0 w1) (left : w1.disk ≡ opened_disk w0.disk) (asked : OnlyAsked w1 w2) where
+    pub is_compacted : (ending : Ending) (w3 : World) → o.generation ≢ 4294967295 → o.generation < 2 ^ 32 → w3.input ≡ w2.input → w3.output ≡ w2.output → IsRewritten ending → HasFailedAs ending before after
+        → (IsWholeFolder w0 → Rewrites Two Two o.slot from.log (checkpointed from.log) (shown_as w0 w3 ending)) → IsCompacted (shown_as w0 w3 ending)
+    is_compacted ending w3 other low unread quiet rewritten fails over = record {
+      live = o.slot;
+      log = from.log;
+      reads = read_so Two o w0 w1 w2 from slot opens left asked;
+      follows = omega (arith, low, generation_so Two o w0 w1 w2 from slot opens left asked, follows_it Two o w0 w1 w2 from slot opens left asked other low);
+      unread = unread_too Two o w0 w1 w2 from slot opens left asked w3 unread;
+      quiet = quiet_too Two o w0 w1 w2 from slot opens left asked w3 quiet;
+      ending = rewritten;
+      failed = fails;
+      over_whole = over;
+    }
+
+  -- or copied in format 2
+  module _ (o : Opened) (w0 w1 w2 : World) (from : IsOpenedIn One (seen_in w1.disk) o) (slot : o.slot ≤ 1) (opens : OnlyOpens w0 w1) (left : w1.disk ≡ opened_disk w0.disk) (asked : OnlyAsked w1 w2) where
+    pub is_migrated : (ending : Ending) (w3 : World) → o.generation ≢ 4294967295 → o.generation < 2 ^ 32 → w3.input ≡ w2.input → w3.output ≡ w2.output → IsRewritten ending → HasFailedAs ending before after
+        → (IsWholeFolder w0 → Rewrites One Two o.slot from.log from.log (shown_as w0 w3 ending)) → IsMigrated (shown_as w0 w3 ending)
+    is_migrated ending w3 other low unread quiet rewritten fails over = record {
+      live = o.slot;
+      log = from.log;
+      reads = read_so One o w0 w1 w2 from slot opens left asked;
+      follows = omega (arith, low, generation_so One o w0 w1 w2 from slot opens left asked, follows_it One o w0 w1 w2 from slot opens left asked other low);
+      unread = unread_too One o w0 w1 w2 from slot opens left asked w3 unread;
+      quiet = quiet_too One o w0 w1 w2 from slot opens left asked w3 quiet;
+      ending = rewritten;
+      failed = fails;
+      over_whole = over;
+    }

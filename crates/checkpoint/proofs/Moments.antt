@@ -8,19 +8,22 @@ use Rattle.host_trait.specs.Runs.{ChangesFile, RunsOnFile}
 use Rattle.host_trait.proofs.Moments.{both, weaker, same_moment, arrives_then}
 use Rattle.host_trait.proofs.Names.{cases_file}
 use Rattle.host_trait.proofs.Runs.{Change, asked_keeps, arrives_asked, image_from, settled_image}
+use Rattle.field_codec.specs.declared.formats.Format.{Format}
+use Rattle.field_codec.specs.declared.formats.Format.TheVariants.{Two}
 use Rattle.gate_block.specs.Log.{open_blocks}
 use Rattle.silo_spec.specs.Silos.{IsSilo}
 use Rattle.silo_spec.specs.Slots.{generation, ShowsSilos}
 use Rattle.commit_log.specs.declared.records.CheckpointHead.{CheckpointHead}
 use Rattle.commit_log.specs.declared.records.Written.{Written}
-use Rattle.promise_spec.specs.Entries.{Log, checkpointed}
-use Rattle.promise_spec.specs.Logs.{magic, IsLog}
+use Rattle.promise_spec.specs.Entries.{Log}
+use Rattle.promise_spec.specs.Logs.{IsMagic, IsLogOf}
 use Rattle.promise_spec.specs.EitherSlot.{StaysBelow, IsShutFile, IsFilling, IsCompactable, IsReadyToOpen}
 use Rattle.promise_spec.proofs.Slots.{shows_file}
 use Rattle.promise_laws.proofs.GateBytes.{short_below, empty_below, generation_stays}
 use Rattle.promise_laws.proofs.OtherSlots as slots
 use Rattle.checkpoint.specs.Steps.{Stays, KeepsGate, HasToClose, ClosesGate, IsInCopying, OnlyCopies}
-use Rattle.checkpoint.specs.Pieces.{behind_gate, piece_bodies, HasPieces}
+use Rattle.checkpoint.specs.ManagerBytes.{behind_gate}
+use Rattle.checkpoint.specs.Pieces.{piece_bodies, HasPieces}
 use Rattle.checkpoint.specs.NextGeneration.{IsOnTheWay, HasGone}
 use Rattle.checkpoint.proofs.Rewriting.{looking, closing_gate, filling_slot, opening_gate, shut_fills, file_fills, copies_fill, behind_fills}
 
@@ -49,18 +52,21 @@ closes_clock slot old new closes = elim closes.closed [
 ]
 
 -- the file's length once its header and a closed gate are written
-pub long_pieces : (g : ℕ) (head : CheckpointHead) (writes : List Written) (old new : FileState) → 0 < length old.seen → HasPieces g head writes old new → 16 ≤ length new.seen
-long_pieces g head writes old new some pieces =
-    let bodies : List (List ℕ) = piece_bodies head pieces.front pieces.last in
-    subst (λ (s : FileState). 16 ≤ length s.seen) (sym pieces.file) (long old.seen (behind_gate g ++ (open_blocks bodies ++ 0 ∷ [])) some (omega (arith, length-append (open_blocks bodies) (0 ∷ []), length-append (behind_gate g) (open_blocks bodies ++ 0 ∷ []))))
+pub long_written : (g begins : ℕ) (blocks f : List ℕ) → 0 < length f → 16 ≤ length (overlaid f 1 (behind_gate g begins ++ (blocks ++ 0 ∷ [])))
+long_written g begins blocks f some =
+    long f (behind_gate g begins ++ (blocks ++ 0 ∷ [])) some (omega (arith, length-append blocks (0 ∷ []), length-append (behind_gate g begins) (blocks ++ 0 ∷ [])))
   where
     long : (f b : List ℕ) → 0 < length f → 15 ≤ length b → 16 ≤ length (overlaid f 1 b)
     long [] b none size = absurd (omega (arith, none))
     long (x ∷ f) b some size = omega (arith, size, length-append (x ∷ b) (drop (1 + length b) (x ∷ f)))
 
-module _ (live : ℕ) (log : Log) (w : World) (can : IsCompactable live log w) (shown : ShowsSilos magic w.disk) where
+pub long_pieces : (g : ℕ) (head : CheckpointHead) (writes : List Written) (old new : FileState) → 0 < length old.seen → HasPieces g head writes old new → 16 ≤ length new.seen
+long_pieces g head writes old new some pieces =
+    subst (λ (s : FileState). 16 ≤ length s.seen) (sym pieces.file) (long_written g 1 (open_blocks (piece_bodies head pieces.front pieces.last)) old.seen some)
+
+module _ (format : Format) (live : ℕ) (log next : Log) (w : World) (can : IsCompactable format live log w) (shown : ShowsSilos IsMagic w.disk) where
   -- the live slot's manager file is as it was
-  live_shown : (m : World) → m.disk (Manager live) ≡ w.disk (Manager live) → (image : Image) → IsImage m.disk image → length (m.disk (Manager live)).seen < 16 → IsSilo magic (image (Manager live)) → ⊥
+  live_shown : (m : World) → m.disk (Manager live) ≡ w.disk (Manager live) → (image : Image) → IsImage m.disk image → length (m.disk (Manager live)).seen < 16 → IsSilo IsMagic (image (Manager live)) → ⊥
   live_shown m same image is short silo =
       shows_file w.disk shown can.seen live can.slot (subst (λ (s : FileState). length s.seen < 16) same short) (image (Manager live)) (subst (λ (s : FileState). MayLeave s (image (Manager live))) same (is (Manager live))) silo
 
@@ -73,11 +79,11 @@ module _ (live : ℕ) (log : Log) (w : World) (can : IsCompactable live log w) (
       | inr other ↦ subst (λ (s : FileState). MayLeave s s.seen) (sym (closes.looked.now.others file other)) (can.seen file)
     ]
 
-    first : IsOnTheWay live log (checkpointed log) w (moment_of closes.mid)
-    first = looking live log (checkpointed log) w can (moment_of closes.mid) closes.looked.now
+    first : IsOnTheWay format live log next w (moment_of closes.mid)
+    first = looking format live log next w can (moment_of closes.mid) closes.looked.now
 
-    before : Passes (IsOnTheWay live log (checkpointed log) w) w.past closes.mid.past
-    before = weaker (ChangesFile (Manager (1 - live)) Stays w) (IsOnTheWay live log (checkpointed log) w) (looking live log (checkpointed log) w can) closes.looked.moments
+    before : Passes (IsOnTheWay format live log next w) w.past closes.mid.past
+    before = weaker (ChangesFile (Manager (1 - live)) Stays w) (IsOnTheWay format live log next w) (looking format live log next w can) closes.looked.moments
 
     -- what a crash could leave of the file that was looked at, it could before
     mid_left : (bytes : List ℕ) → MayLeave (closes.mid.disk (Manager (1 - live))) bytes → MayLeave (w.disk (Manager (1 - live))) bytes
@@ -85,7 +91,7 @@ module _ (live : ℕ) (log : Log) (w : World) (can : IsCompactable live log w) (
         let from = closes.looked.now.crash bytes left in
         subst (MayLeave (w.disk (Manager (1 - live)))) (sym from.2) from.1
 
-    mid_short : length (closes.mid.disk (Manager (1 - live))).seen < 16 → (bytes : List ℕ) → MayLeave (closes.mid.disk (Manager (1 - live))) bytes → IsSilo magic bytes → ⊥
+    mid_short : length (closes.mid.disk (Manager (1 - live))).seen < 16 → (bytes : List ℕ) → MayLeave (closes.mid.disk (Manager (1 - live))) bytes → IsSilo IsMagic bytes → ⊥
     mid_short short bytes left silo =
         shows_file w.disk shown can.seen (1 - live) (omega arith) (omega (arith, short, ap length closes.looked.seen)) bytes (mid_left bytes left) silo
 
@@ -93,7 +99,7 @@ module _ (live : ℕ) (log : Log) (w : World) (can : IsCompactable live log w) (
     stays_low (inl empty) short = empty_below 0 (closes.mid.disk (Manager (1 - live))) empty closes.here (mid_short short)
     stays_low (inr p) short = subst (StaysBelow 0) (sym p.0) (short_below 0 (closes.mid.disk (Manager (1 - live))).seen short)
 
-    other_shown : (image : Image) → IsImage new.disk image → length (new.disk (Manager (1 - live))).seen < 16 → IsSilo magic (image (Manager (1 - live))) → ⊥
+    other_shown : (image : Image) → IsImage new.disk image → length (new.disk (Manager (1 - live))).seen < 16 → IsSilo IsMagic (image (Manager (1 - live))) → ⊥
     other_shown image is short silo = elim closes.closed [
       | inl asked ↦
           let same : new.disk (Manager (1 - live)) ≡ closes.mid.disk (Manager (1 - live)) = ap (λ (d : FileId → FileState). d (Manager (1 - live))) asked.disk in
@@ -105,49 +111,49 @@ module _ (live : ℕ) (log : Log) (w : World) (can : IsCompactable live log w) (
           absurd (omega (arith, low))
     ]
 
-    closed_now : IsOnTheWay live log (checkpointed log) w (moment_of new)
+    closed_now : IsOnTheWay format live log next w (moment_of new)
     closed_now = elim closes.closed [
-      | inl asked ↦ subst (IsOnTheWay live log (checkpointed log) w) (sym (same_moment closes.mid new asked.output asked.disk)) first
-      | inr p ↦ closing_gate live log (checkpointed log) w can closes.mid closes.looked.now closes.looked.seen mid_seen shown p.0 (moment_of new) p.1.now
+      | inl asked ↦ subst (IsOnTheWay format live log next w) (sym (same_moment closes.mid new asked.output asked.disk)) first
+      | inr p ↦ closing_gate format live log next w can closes.mid closes.looked.now closes.looked.seen mid_seen shown p.0 (moment_of new) p.1.now
     ]
 
-    pub gone_closed : HasGone live log w new
+    pub gone_closed : HasGone format live log next w new
     gone_closed = record {
-      moments = both (IsOnTheWay live log (checkpointed log) w) before (elim closes.closed [
-        | inl asked ↦ asked_keeps (IsOnTheWay live log (checkpointed log) w) closes.mid new asked first
-        | inr p ↦ weaker (ChangesFile (Manager (1 - live)) (Tears 0 1) closes.mid) (IsOnTheWay live log (checkpointed log) w)
-            (closing_gate live log (checkpointed log) w can closes.mid closes.looked.now closes.looked.seen mid_seen shown p.0) p.1.moments
+      moments = both (IsOnTheWay format live log next w) before (elim closes.closed [
+        | inl asked ↦ asked_keeps (IsOnTheWay format live log next w) closes.mid new asked first
+        | inr p ↦ weaker (ChangesFile (Manager (1 - live)) (Tears 0 1) closes.mid) (IsOnTheWay format live log next w)
+            (closing_gate format live log next w can closes.mid closes.looked.now closes.looked.seen mid_seen shown p.0) p.1.moments
       ]);
       now = closed_now;
       shows = λ image is slot low short silo. elim (other_of live slot can.slot low) [
-        | inl this ↦ live_shown new (closed_now.kept (Manager live) refl) image is (subst (λ (n : ℕ). length (new.disk (Manager n)).seen < 16) this short) (subst (λ (n : ℕ). IsSilo magic (image (Manager n))) this silo)
-        | inr other ↦ other_shown image is (subst (λ (n : ℕ). length (new.disk (Manager n)).seen < 16) other short) (subst (λ (n : ℕ). IsSilo magic (image (Manager n))) other silo)
+        | inl this ↦ live_shown new (closed_now.kept (Manager live) refl) image is (subst (λ (n : ℕ). length (new.disk (Manager n)).seen < 16) this short) (subst (λ (n : ℕ). IsSilo IsMagic (image (Manager n))) this silo)
+        | inr other ↦ other_shown image is (subst (λ (n : ℕ). length (new.disk (Manager n)).seen < 16) other short) (subst (λ (n : ℕ). IsSilo IsMagic (image (Manager n))) other silo)
       ];
     }
 
   -- ---- the files are filled
 
   pub record IsFilled (m : World) : Type 0 where
-    pub gone : HasGone live log w m
+    pub gone : HasGone format live log next w m
     pub fills : IsFilling live w.disk (moment_of m)
 
-  fills_shown : (m : World) → IsFilling live w.disk (moment_of m) → ShowsSilos magic m.disk
+  fills_shown : (m : World) → IsFilling live w.disk (moment_of m) → ShowsSilos IsMagic m.disk
   fills_shown m fills image is slot low short silo = elim (other_of live slot can.slot low) [
-    | inl this ↦ live_shown m (fills.kept (Manager live) refl) image is (subst (λ (n : ℕ). length (m.disk (Manager n)).seen < 16) this short) (subst (λ (n : ℕ). IsSilo magic (image (Manager n))) this silo)
-    | inr other ↦ (let there : IsSilo magic (image (Manager (1 - live))) = subst (λ (n : ℕ). IsSilo magic (image (Manager n))) other silo in fills.shut (image (Manager (1 - live))) (is (Manager (1 - live))) there.gate)
+    | inl this ↦ live_shown m (fills.kept (Manager live) refl) image is (subst (λ (n : ℕ). length (m.disk (Manager n)).seen < 16) this short) (subst (λ (n : ℕ). IsSilo IsMagic (image (Manager n))) this silo)
+    | inr other ↦ (let there : IsSilo IsMagic (image (Manager (1 - live))) = subst (λ (n : ℕ). IsSilo IsMagic (image (Manager n))) other silo in fills.shut (image (Manager (1 - live))) (is (Manager (1 - live))) there.gate)
   ]
 
-  pub begin_filling : (new : World) → HasGone live log w new → IsShutFile (new.disk (Manager (1 - live))) → IsFilled new
+  pub begin_filling : (new : World) → HasGone format live log next w new → IsShutFile (new.disk (Manager (1 - live))) → IsFilled new
   begin_filling new gone shut = record { gone = gone; fills = shut_fills live w (moment_of new) gone.now.kept shut }
 
   -- calls that go on filling
   more_filling : (Q : Moment → Type 0) (mid new : World) → IsFilled mid → ((m : Moment) → Q m → m.output ≡ mid.output) → ((m : Moment) → Q m → IsFilling live w.disk m)
       → Passes Q mid.past new.past → Q (moment_of new) → IsFilled new
   more_filling Q mid new so_far quiet fills moments now =
-      let go : (m : Moment) → Q m → IsOnTheWay live log (checkpointed log) w m = λ m q. filling_slot live log (checkpointed log) w can m (quiet m q ∙ so_far.gone.now.quiet) (fills m q) in
+      let go : (m : Moment) → Q m → IsOnTheWay format live log next w m = λ m q. filling_slot format live log next w can m (quiet m q ∙ so_far.gone.now.quiet) (fills m q) in
       record {
         gone = record {
-          moments = both (IsOnTheWay live log (checkpointed log) w) so_far.gone.moments (weaker Q (IsOnTheWay live log (checkpointed log) w) go moments);
+          moments = both (IsOnTheWay format live log next w) so_far.gone.moments (weaker Q (IsOnTheWay format live log next w) go moments);
           now = go (moment_of new) now;
           shows = fills_shown new (fills (moment_of new) now);
         };
@@ -169,16 +175,16 @@ module _ (live : ℕ) (log : Log) (w : World) (can : IsCompactable live log w) (
 
   -- ---- the gate is opened
 
-  module _ (mid new : World) (so_far : IsFilled mid) (ready : IsReadyToOpen live (checkpointed log) w mid) (run : RunsOnFile (Manager (1 - live)) (Tears 0 1) 1 mid new) where
-    opening : (m : Moment) → ChangesFile (Manager (1 - live)) (Tears 0 1) mid m → IsOnTheWay live log (checkpointed log) w m
-    opening m changes = opening_gate live log (checkpointed log) w can mid ready so_far.gone.now.quiet m changes
+  module _ (mid new : World) (so_far : IsFilled mid) (ready : IsReadyToOpen Two live next w mid) (run : RunsOnFile (Manager (1 - live)) (Tears 0 1) 1 mid new) where
+    opening : (m : Moment) → ChangesFile (Manager (1 - live)) (Tears 0 1) mid m → IsOnTheWay format live log next w m
+    opening m changes = opening_gate format live log next w can mid ready so_far.gone.now.quiet m changes
 
-    pub gone_opened : 16 ≤ length (mid.disk (Manager (1 - live))).seen → HasGone live log w new
+    pub gone_opened : 16 ≤ length (mid.disk (Manager (1 - live))).seen → HasGone format live log next w new
     gone_opened long = record {
-      moments = both (IsOnTheWay live log (checkpointed log) w) so_far.gone.moments (weaker (ChangesFile (Manager (1 - live)) (Tears 0 1) mid) (IsOnTheWay live log (checkpointed log) w) opening run.moments);
+      moments = both (IsOnTheWay format live log next w) so_far.gone.moments (weaker (ChangesFile (Manager (1 - live)) (Tears 0 1) mid) (IsOnTheWay format live log next w) opening run.moments);
       now = opening (moment_of new) run.now;
       shows = λ image is slot low short silo. elim (other_of live slot can.slot low) [
-        | inl this ↦ live_shown new ((opening (moment_of new) run.now).kept (Manager live) refl) image is (subst (λ (n : ℕ). length (new.disk (Manager n)).seen < 16) this short) (subst (λ (n : ℕ). IsSilo magic (image (Manager n))) this silo)
+        | inl this ↦ live_shown new ((opening (moment_of new) run.now).kept (Manager live) refl) image is (subst (λ (n : ℕ). length (new.disk (Manager n)).seen < 16) this short) (subst (λ (n : ℕ). IsSilo IsMagic (image (Manager n))) this silo)
         | inr other ↦
             let tears : Tears 0 1 (mid.disk (Manager (1 - live))).seen (new.disk (Manager (1 - live))).seen = run.seen in
             let short_there : length (new.disk (Manager (1 - live))).seen < 16 = subst (λ (n : ℕ). length (new.disk (Manager n)).seen < 16) other short in
@@ -187,12 +193,12 @@ module _ (live : ℕ) (log : Log) (w : World) (can : IsCompactable live log w) (
     }
 
     pub opened_done : new.disk (Manager (1 - live)) ≡ settled (overlaid (mid.disk (Manager (1 - live))).seen 0 (1 ∷ [])) → (image : Image) → IsImage new.disk image
-        → IsLog (1 - live) image (checkpointed log) × (generation (image (Manager (1 - live))) ≡ generation (w.disk (Manager live)).seen + 1)
+        → IsLogOf Two (1 - live) image next × (generation (image (Manager (1 - live))) ≡ generation (w.disk (Manager live)).seen + 1)
     opened_done done image is =
         let bytes : image (Manager (1 - live)) ≡ overlaid (mid.disk (Manager (1 - live))).seen 0 (1 ∷ []) =
         settled_image new.disk (Manager (1 - live)) (overlaid (mid.disk (Manager (1 - live))).seen 0 (1 ∷ [])) (image (Manager (1 - live))) done (is (Manager (1 - live))) in
         let gate : slice_index (image (Manager (1 - live))) 0 ≡ 1 = ap (λ (l : List ℕ). slice_index l 0) bytes in
         let comes = image_from (Manager (1 - live)) (Tears 0 1) mid (moment_of new) run.now image is in (
-          slots.opened live log w can (checkpointed log) mid ready (moment_of new) run.now image is gate,
+          slots.opened format live log w can Two next mid ready (moment_of new) run.now image is gate,
           generation_stays (comes.from (Manager (1 - live))) (image (Manager (1 - live))) comes.changed ∙ ready.risen comes.from comes.possible,
         )

@@ -9,10 +9,12 @@ use Rattle.host_trait.specs.Runs.{ChangesFile}
 use Rattle.host_trait.proofs.Crashes.{settled_only}
 use Rattle.host_trait.proofs.Names.{cases_file}
 use Rattle.host_trait.proofs.Runs.{Change}
+use Rattle.field_codec.specs.declared.formats.Format.{Format}
+use Rattle.field_codec.specs.declared.formats.Format.TheVariants.{Two}
 use Rattle.silo_spec.specs.Slots.{generation, ShowsSilos}
 use Rattle.promise_spec.specs.Entries.{Log}
-use Rattle.promise_spec.specs.Logs.{magic, IsLog}
-use Rattle.promise_spec.specs.Journals.{AllLog}
+use Rattle.promise_spec.specs.Logs.{IsMagic, IsLogOf}
+use Rattle.promise_spec.specs.Journals.{AllLogOf}
 use Rattle.promise_spec.specs.EitherSlot.{StaysBelow, IsShutFile, KeepsSlot, IsFilling, IsCompactable, MayClose, IsReadyToOpen}
 use Rattle.promise_spec.proofs.Slots.{shows_file}
 use Rattle.promise_laws.proofs.GateBytes.{open_below, short_below, empty_below}
@@ -38,18 +40,18 @@ looked_image live w m changes image is file = elim (cases_file file (Manager (1 
   | inr other ↦ subst (λ (s : FileState). MayLeave s (image file)) (changes.others file other) (is file)
 ]
 
-module _ (live : ℕ) (log new : Log) (w : World) (can : IsCompactable live log w) where
-  pub with_log : (m : Moment) → m.output ≡ w.output → KeepsSlot live w.disk m.disk → AllLog live log m.disk → IsOnTheWay live log new w m
+module _ (format : Format) (live : ℕ) (log new : Log) (w : World) (can : IsCompactable format live log w) where
+  pub with_log : (m : Moment) → m.output ≡ w.output → KeepsSlot live w.disk m.disk → AllLogOf format live log m.disk → IsOnTheWay format live log new w m
   with_log m quiet kept all = record { quiet = quiet; kept = kept; either = λ image is. inl (all image is) }
 
-  pub looking : (m : Moment) → ChangesFile (Manager (1 - live)) Stays w m → IsOnTheWay live log new w m
+  pub looking : (m : Moment) → ChangesFile (Manager (1 - live)) Stays w m → IsOnTheWay format live log new w m
   looking m changes = with_log m changes.output (keeps_slot live (Manager (1 - live)) Stays w m can.slot refl changes) (λ image is. can.logged image (looked_image live w m changes image is))
 
   module _ (mid : World) (now : ChangesFile (Manager (1 - live)) Stays w (moment_of mid)) (same : (mid.disk (Manager (1 - live))).seen ≡ (w.disk (Manager (1 - live))).seen) (seen : (file : FileId) → MayLeave (mid.disk file) (mid.disk file).seen) where
     live_stays : mid.disk (Manager live) ≡ w.disk (Manager live)
     live_stays = now.others (Manager live) (other_file live (Manager live) (Manager (1 - live)) can.slot refl refl)
 
-    still_can : IsCompactable live log mid
+    still_can : IsCompactable format live log mid
     still_can = record {
       slot = can.slot;
       seen = seen;
@@ -58,7 +60,7 @@ module _ (live : ℕ) (log new : Log) (w : World) (can : IsCompactable live log 
     }
 
     -- the other manager file is no silo's of as high a generation, or can't become one by its gate alone
-    may_close : ShowsSilos magic w.disk → HasToClose (mid.disk (Manager (1 - live))) → MayClose live mid
+    may_close : ShowsSilos IsMagic w.disk → HasToClose (mid.disk (Manager (1 - live))) → MayClose live mid
     may_close shows (inl empty) =
         empty_below (generation (mid.disk (Manager live)).seen + (1 - live)) (mid.disk (Manager (1 - live))) empty (seen (Manager (1 - live)))
         (λ bytes left silo.
@@ -68,26 +70,26 @@ module _ (live : ℕ) (log new : Log) (w : World) (can : IsCompactable live log 
     may_close shows (inr p) = elim p.1 [
       | inl short ↦ subst (StaysBelow (generation (mid.disk (Manager live)).seen + (1 - live))) (sym p.0) (short_below (generation (mid.disk (Manager live)).seen + (1 - live)) (mid.disk (Manager (1 - live))).seen short)
       | inr opened ↦
-          let is : IsLog live (λ file. (mid.disk file).seen) log = still_can.logged (λ file. (mid.disk file).seen) seen in
+          let is : IsLogOf format live (λ file. (mid.disk file).seen) log = still_can.logged (λ file. (mid.disk file).seen) seen in
           subst (StaysBelow (generation (mid.disk (Manager live)).seen + (1 - live))) (sym p.0) (open_below (generation (mid.disk (Manager live)).seen + (1 - live)) (mid.disk (Manager (1 - live))).seen opened is.is_live.over)
     ]
 
-    pub closing_gate : ShowsSilos magic w.disk → HasToClose (mid.disk (Manager (1 - live))) → (m : Moment) → ChangesFile (Manager (1 - live)) (Tears 0 1) mid m → IsOnTheWay live log new w m
+    pub closing_gate : ShowsSilos IsMagic w.disk → HasToClose (mid.disk (Manager (1 - live))) → (m : Moment) → ChangesFile (Manager (1 - live)) (Tears 0 1) mid m → IsOnTheWay format live log new w m
     closing_gate shows close m changes =
         with_log m (changes.output ∙ now.output)
         (λ file here. keeps_slot live (Manager (1 - live)) (Tears 0 1) mid m can.slot refl changes file here ∙ keeps_slot live (Manager (1 - live)) Stays w (moment_of mid) can.slot refl now file here)
-        (closing live log mid still_can (may_close shows close) m changes)
+        (closing format live log mid still_can (may_close shows close) m changes)
 
   -- ---- the other slot's files are filled, and its gate opened
 
-  pub filling_slot : (m : Moment) → m.output ≡ w.output → IsFilling live w.disk m → IsOnTheWay live log new w m
-  filling_slot m quiet fills = with_log m quiet fills.kept (filling live log w can m fills)
+  pub filling_slot : (m : Moment) → m.output ≡ w.output → IsFilling live w.disk m → IsOnTheWay format live log new w m
+  filling_slot m quiet fills = with_log m quiet fills.kept (filling format live log w can m fills)
 
-  pub opening_gate : (mid : World) → IsReadyToOpen live new w mid → mid.output ≡ w.output → (m : Moment) → ChangesFile (Manager (1 - live)) (Tears 0 1) mid m → IsOnTheWay live log new w m
+  pub opening_gate : (mid : World) → IsReadyToOpen Two live new w mid → mid.output ≡ w.output → (m : Moment) → ChangesFile (Manager (1 - live)) (Tears 0 1) mid m → IsOnTheWay format live log new w m
   opening_gate mid ready quiet m changes = record {
     quiet = changes.output ∙ quiet;
     kept = λ file here. keeps_slot live (Manager (1 - live)) (Tears 0 1) mid m can.slot refl changes file here ∙ ready.filling.kept file here;
-    either = λ image is. either live log w can new mid ready m changes image is;
+    either = λ image is. either format live log w can Two new mid ready m changes image is;
   }
 
 -- ---- steps that keep the gate closed

@@ -7,7 +7,7 @@ use Rattle.base_types.specs.declared.stores.Version.{Version}
 use Rattle.host_trait.specs.declared.channels.FileId.TheVariants.{Grain}
 use Rattle.host_trait.specs.Disk.{FileState, settled}
 use Rattle.host_trait.specs.World.{Disk, Image}
-use Rattle.field_codec.specs.declared.formats.Format.TheVariants.{One}
+use Rattle.field_codec.specs.declared.formats.Format.TheVariants.{Two}
 use Rattle.field_codec.specs.Spelling.{spelling_of_version, VersionFits}
 use Rattle.commit_log.specs.declared.records.Named.{Named}
 use Rattle.commit_log.specs.declared.records.Written.{Written}
@@ -26,7 +26,7 @@ writes_named named = map (λ n. n.written) named
 
 -- each of these versions is there, as it is named in the live slot's files
 abbrev pub AreThere : ℕ → List Shape → Image → List Named → Type 0
-AreThere live shapes seen named = AllByRecursion (λ n. (version : Version) × (version_numbered live One shapes seen n ≡ Ok version)) named
+AreThere live shapes seen named = AllByRecursion (λ n. (version : Version) × (version_numbered live Two shapes seen n ≡ Ok version)) named
 
 -- this version stands at the start of a file, in which nothing is pending
 pub record StandsFirst (version : Version) (file : FileState) : Type 0 where
@@ -37,7 +37,7 @@ pub record StandsFirst (version : Version) (file : FileState) : Type 0 where
 -- to each program that came into force after that of its time.
 pub record IsMeantVersion (live : ℕ) (programs : List ProgramTree) (seen : Image) (n : Named) (carried : Version) : Type 0 where
   pub version : Version
-  pub found : version_numbered live One (shapes_in_turn programs) seen n ≡ Ok version
+  pub found : version_numbered live Two (shapes_in_turn programs) seen n ≡ Ok version
   pub meant : carried ≡ version_meant programs n.program n.written.grain version
 
 -- The version that is named in the live slot's files is copied: as the last of these programs has it, with its type's fields there, it
@@ -47,6 +47,6 @@ pub record IsCopied (live : ℕ) (programs : List ProgramTree) (seen : Image) (d
   pub copied : Version
   pub carried : IsMeantVersion live programs seen n copied
   pub typed : HasItsFields (newest_program programs) n.written.grain copied.state
-  pub fits : VersionFits One copied
+  pub fits : VersionFits Two copied
   pub named : copy ≡ name_of_copy n.written.grain (length (spelling_of_version copied))
   pub stands : StandsFirst copied (disk (Grain (1 - live) n.written.grain))

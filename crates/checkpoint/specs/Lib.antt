@@ -1,5 +1,11 @@
 pub mod Steps
+pub mod ManagerBytes
 pub mod Copies
 pub mod Pieces
+pub mod CopiedProgram
+pub mod CopiedFiles
+pub mod MigratedBlocks
 pub mod Endings
 pub mod NextGeneration
+pub mod KeptSessions
+pub mod Migration

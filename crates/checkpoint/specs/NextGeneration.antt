@@ -1,4 +1,4 @@
--- What a silo that is written anew shows on the way, and what its next generation is made of.
+-- What a silo that is written anew shows on the way, and what its next generation is made of, as `compact` makes it.
 use Rattle.std.specs.Prelude.{◌≡◌, ℕ, ◌+◌, ◌-◌, ◌<◌, ◌≤◌, ◌^◌, List, length, Ok}
 use Rattle.std.specs.List.{list_any, AllByRecursion}
 use Rattle.base_types.specs.declared.calls.GrainId.{GrainId}
@@ -6,7 +6,8 @@ use Rattle.base_types.specs.declared.stores.Version.{Version}
 use Rattle.base_types.specs.Grains.{same_grain}
 use Rattle.host_trait.specs.declared.channels.FileId.TheVariants.{Manager}
 use Rattle.host_trait.specs.World.{World, Moment, Disk, Image, IsImage, Passes, Arrives, moment_of}
-use Rattle.field_codec.specs.declared.formats.Format.TheVariants.{One}
+use Rattle.field_codec.specs.declared.formats.Format.{Format}
+use Rattle.field_codec.specs.declared.formats.Format.TheVariants.{Two}
 use Rattle.commit_log.specs.declared.records.Named.{Named}
 use Rattle.script_tree.specs.Programs.{ProgramTree}
 use Rattle.program_file.specs.Succession.{newest_program, shapes_in_turn, carried_from}
@@ -15,20 +16,21 @@ use Rattle.log_reading.specs.Versions.{version_numbered}
 use Rattle.silo_spec.specs.Slots.{generation, ShowsSilos}
 use Rattle.promise_spec.specs.Programs.{Program, IsChecked}
 use Rattle.promise_spec.specs.Entries.{Log, standing_of, checkpointed}
-use Rattle.promise_spec.specs.Logs.{magic, IsLog}
+use Rattle.promise_spec.specs.Logs.{IsMagic, IsLogOf}
 use Rattle.promise_spec.specs.EitherSlot.{AllEither, KeepsSlot, IsCompactable}
 use Rattle.checkpoint.specs.declared.compaction.Next.{Next}
 
--- A moment on the way: nothing was emitted, the live slot's files are as they were, and each image has one of the two logs.
-pub record IsOnTheWay (live : ℕ) (log new : Log) (w : World) (m : Moment) : Type 0 where
+-- A moment on the way: nothing was emitted, the live slot's files are as they were, and each image has one of the two logs, that of the
+-- live slot in its format.
+pub record IsOnTheWay (format : Format) (live : ℕ) (log new : Log) (w : World) (m : Moment) : Type 0 where
   pub quiet : m.output ≡ w.output
   pub kept : KeepsSlot live w.disk m.disk
-  pub either : AllEither live log new m
+  pub either : AllEither format Two live log new m
 
 -- A named version is there, of a unit that may be logged, and its state, carried to the last of these programs, is its grain's.
 pub record IsLastVersionOf (live : ℕ) (programs : List ProgramTree) (image : Image) (log : Log) (n : Named) : Type 0 where
   pub version : Version
-  pub there : version_numbered live One (shapes_in_turn programs) image n ≡ Ok version
+  pub there : version_numbered live Two (shapes_in_turn programs) image n ≡ Ok version
   pub unit : (0 < version.unit.0) × (version.unit.0 < 2 ^ 63)
   pub state : carried_from programs n.program n.written.grain.kind version.state ≡ (standing_of log).states n.written.grain
 
@@ -48,22 +50,24 @@ pub record IsMadeOf (next : Next) (programs : List ProgramTree) (p : Program) (i
 -- Where the other slot's files may be filled: the next generation is made of this log, which the live slot has in each image.
 pub record MayFill (next : Next) (programs : List ProgramTree) (p : Program) (log : Log) (w : World) : Type 0 where
   pub made : IsMadeOf next programs p (seen_in w.disk) log
-  pub can : IsCompactable next.live log w
-  pub shown : ShowsSilos magic w.disk
+  pub can : IsCompactable Two next.live log w
+  pub shown : ShowsSilos IsMagic w.disk
 
--- Each moment up to this one was on the way, and no image is a silo by a slot whose manager file reads too short.
-pub record HasGone (live : ℕ) (log : Log) (old new : World) : Type 0 where
-  pub moments : Passes (IsOnTheWay live log (checkpointed log) old) old.past new.past
-  pub now : IsOnTheWay live log (checkpointed log) old (moment_of new)
-  pub shows : ShowsSilos magic new.disk
+-- Each moment up to this one was on the way from the one log to the other, and no image is a silo by a slot whose manager file reads too
+-- short.
+pub record HasGone (format : Format) (live : ℕ) (log next : Log) (old new : World) : Type 0 where
+  pub moments : Passes (IsOnTheWay format live log next old) old.past new.past
+  pub now : IsOnTheWay format live log next old (moment_of new)
+  pub shows : ShowsSilos IsMagic new.disk
 
 -- of whichever log it may be filled with, the other slot is filled so far
 abbrev pub FillsOtherSlot : Next → List ProgramTree → World → World → Type 0
-FillsOtherSlot next programs old new = (p : Program) (log : Log) → MayFill next programs p log old → HasGone next.live log old new
+FillsOtherSlot next programs old new = (p : Program) (log : Log) → MayFill next programs p log old → HasGone Two next.live log (checkpointed log) old new
 
--- Each image has the log as a checkpoint in the other slot, of the next generation.
-abbrev pub HasNextSilo : Next → Log → Disk → Type 0
-HasNextSilo next log disk = (image : Image) → IsImage disk image → IsLog (1 - next.live) image (checkpointed log) × (generation (image (Manager (1 - next.live))) ≡ next.generation)
+-- each image has this log in the other slot, in format 2 and of this generation
+abbrev pub HasNextSilo : ℕ → ℕ → Log → Disk → Type 0
+HasNextSilo live generation_is log disk =
+    (image : Image) → IsImage disk image → IsLogOf Two (1 - live) image log × (generation (image (Manager (1 - live))) ≡ generation_is)
 
 -- nothing is emitted, no input is taken, and the clock goes on
 pub record IsQuietly (old new : World) : Type 0 where
@@ -77,4 +81,5 @@ pub record MayBeWritten (next : Next) : Type 0 where
   pub text : length next.text ≤ 262144
   pub count : next.head.count < 2 ^ 63
   pub next_unit : (1 ≤ next.head.next_unit.0) × (next.head.next_unit.0 ≤ 2 ^ 63)
+  pub session : next.head.session < 2 ^ 63
   pub generation : next.generation < 2 ^ 32

@@ -7,12 +7,11 @@ ghost use Rattle.log_reading.specs.declared.faults.FolderFault.{FolderFault as A
 ghost use Rattle.commit_log.specs.Orders.{IsAscending};
 ghost use Rattle.program_file.specs.Succession.{ArePrograms, shapes_in_turn};
 ghost use Rattle.program_file.specs.ProgramsInTurn.{programs_in, HasShapes};
-ghost use Rattle.promise_spec.specs.Programs.{Program};
-ghost use Rattle.promise_spec.specs.Entries.{Log};
 ghost use Rattle.log_reading.specs.Steps.{seen_in};
 ghost use Rattle.checkpoint.specs.Copies.{AreThere};
 ghost use Rattle.checkpoint.specs.Steps.{LastsIfLong};
-ghost use Rattle.checkpoint.specs.NextGeneration.{MayFill, FillsOtherSlot, HasNextSilo, IsQuietly, MayBeWritten};
+ghost use Rattle.checkpoint.specs.KeptSessions.{HasFilled, KeepsSession};
+ghost use Rattle.checkpoint.specs.NextGeneration.{FillsOtherSlot, IsQuietly, MayBeWritten};
 ghost use Rattle.promise_spec.specs.Words.{Manner};
 ghost use Rattle.promise_spec.specs.Endings.{HasFailedAs, BadUse};
 ghost use Rattle.promise_spec.specs.Compaction.{Compacts};
@@ -21,6 +20,7 @@ ghost use Rattle.silo_opening.specs.OpenedSilo.{in_folder};
 ghost use Rattle.checkpoint.specs.Endings.{compact_ending, compacted_as};
 
 use crate::copies::copy_versions;
+use crate::faults::{folder_fault, manager_fault};
 use crate::other_slot::{close_gate, open_gate};
 use crate::pieces::write_pieces;
 use base_types::List;
@@ -45,26 +45,6 @@ struct Next {
     latest: List<Named>,
 }
 
-// The fault of a call on a slot's manager file.
-fn manager_fault(slot: u8) -> FolderFault
-    ensures { result ≡ AFault.Failed (Manager slot) }
-{
-    FolderFault::Failed {
-        file: FileId::Manager { slot },
-    }
-}
-
-// The fault of a log, or of a version that it names.
-fn folder_fault(fault: FolderFault) -> OpenFault
-    ensures { result ≡ in_folder fault }
-{
-    match fault {
-        FolderFault::Damaged { file, place } => OpenFault::Damaged { file, place },
-        FolderFault::Failed { file } => OpenFault::DiskFault { file },
-        FolderFault::Memory => OpenFault::Memory,
-    }
-}
-
 // Writes the files of the slot that isn't live, behind a closed header gate that is opened at the end.
 fn fill<H: Host>(
     alloc: Global,
@@ -81,9 +61,8 @@ fn fill<H: Host>(
     // At each moment each image has the log, in the slot that was live or as a checkpoint in the other one.
     ensures gone { IsTrue H.tells → FillsOtherSlot next (programs_in programs.now) (H.world host.old) (H.world host.new) }
 
-    // Once it is done the other slot is live in each image, with the next generation.
-    ensures done { OnOk result (IsTrue H.tells → (p : Program) (log : Log) → MayFill next (programs_in programs.now) p log (H.world host.old)
-        → HasNextSilo next log (H.world host.new).disk) }
+    // Once it is done the other slot is live in each image, with the next generation, and its checkpoint says the session that was given.
+    ensures done { OnOk result (IsTrue H.tells → HasFilled next (programs_in programs.now) (H.world host.old) (H.world host.new)) }
 
     // Nothing is emitted, no input is taken, and the clock goes on.
     ensures quietly { IsTrue H.tells → IsQuietly (H.world host.old) (H.world host.new) }
@@ -141,6 +120,9 @@ pub fn compact<H: Host>(alloc: Global, host: &mut H) -> Result<(), OpenFault>
     ensures compacts { IsTrue H.tells → (manner : Manner) (asked : AList (AList ℕ))
         → Compacts (compacted_as manner asked (H.world host.old) (H.world host.new) (H.faults host.old) (H.faults host.new) result) }
 
+    // The checkpoint says the greatest session of the log that it stands for, so that none comes twice.
+    ensures session { OnOk result (IsTrue H.tells → KeepsSession (H.world host.old) (H.world host.new)) }
+
     // A fault of a file is answered exactly where a call on it failed: its count rose, and no other changed. With another answer no
     // count has changed.
     ensures exact { HasFailedAs (compact_ending result) (H.faults host.old) (H.faults host.new) }
@@ -166,6 +148,7 @@ pub fn compact<H: Host>(alloc: Global, host: &mut H) -> Result<(), OpenFault>
         head: CheckpointHead {
             count: opened.count,
             next_unit: opened.next_unit,
+            session: opened.session,
         },
         latest,
     };

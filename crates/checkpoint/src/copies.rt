@@ -7,7 +7,7 @@ ghost use Rattle.host_trait.specs.Faults.{NoneFailed};
 ghost use Rattle.host_trait.specs.Runs.{OnlyAsked, RunsOnFile};
 ghost use Rattle.host_trait.specs.declared.channels.FileId.{FileId as AFile};
 ghost use Rattle.host_trait.specs.declared.channels.FileId.TheVariants.{Grain};
-ghost use Rattle.field_codec.specs.declared.formats.Format.TheVariants.{One};
+ghost use Rattle.field_codec.specs.declared.formats.Format.TheVariants.{Two};
 ghost use Rattle.field_codec.specs.Spelling.{spelling_of_version, VersionFits};
 ghost use Rattle.commit_log.specs.Orders.{IsAscending};
 ghost use Rattle.log_reading.specs.declared.faults.FolderFault.{FolderFault as AFault};
@@ -48,7 +48,7 @@ fn put_version<H: Host>(
     ensures run { IsTrue H.tells → RunsOnFile file MayBeAny 1 (H.world host.old) (H.world host.new) }
     ensures stands { OnOk result (IsTrue H.tells → StandsFirst version ((H.world host.new).disk file)) }
     ensures place { IfOk result (λ place. place ≡ record { offset = 0; len = length (spelling_of_version version) }) }
-    ensures fits { OnOk result (VersionFits One version) }
+    ensures fits { OnOk result (VersionFits Two version) }
     ensures whole { (other : AFile) (place : ℕ) → IsErrOf result (AFault.Damaged other place) → ⊥ }
     ensures calm { OnOk result (NoneFailed (H.faults host.old) (H.faults host.new)) }
     ensures fault { IfErr result (λ e. ReadFaulted e (H.faults host.old) (H.faults host.new)) }
@@ -90,7 +90,7 @@ fn carried_version<H: Host>(
         → IsMeantVersion live (programs_in programs.now) (seen_in (H.world host.old).disk) named version) }
     ensures typed { IfOk result (λ version. HasItsFields (newest_program (programs_in programs.now)) named.written.grain version.state) }
     ensures damaged { (file : AFile) (place : ℕ) → IsErrOf result (AFault.Damaged file place) → IsTrue H.tells → (version : AVersion)
-        → version_numbered live One (shapes_in_turn (programs_in programs.now)) (seen_in (H.world host.old).disk) named ≡ Ok version → ⊥ }
+        → version_numbered live Two (shapes_in_turn (programs_in programs.now)) (seen_in (H.world host.old).disk) named ≡ Ok version → ⊥ }
     ensures asked { IsTrue H.tells → OnlyAsked (H.world host.old) (H.world host.new) }
     ensures calm { OnOk result (NoneFailed (H.faults host.old) (H.faults host.new)) }
     ensures fault { IfErr result (λ e. ReadFaulted e (H.faults host.old) (H.faults host.new)) }
@@ -100,7 +100,7 @@ fn carried_version<H: Host>(
         return Err(missing(live, named));
     }
     let shape = programs.shape(named.program);
-    let version = match named_version(alloc, host, live, shape, Format::One, named) {
+    let version = match named_version(alloc, host, live, shape, Format::Two, named) {
         Ok(version) => version,
         Err(fault) => return Err(fault),
     };
@@ -125,7 +125,7 @@ fn copy_version<H: Host>(
     ensures copied { IfOk result (λ copy. IsTrue H.tells
         → IsCopied live (programs_in programs.now) (seen_in (H.world host.old).disk) (H.world host.new).disk named copy) }
     ensures damaged { (file : AFile) (place : ℕ) → IsErrOf result (AFault.Damaged file place) → IsTrue H.tells → (version : AVersion)
-        → version_numbered live One (shapes_in_turn (programs_in programs.now)) (seen_in (H.world host.old).disk) named ≡ Ok version → ⊥ }
+        → version_numbered live Two (shapes_in_turn (programs_in programs.now)) (seen_in (H.world host.old).disk) named ≡ Ok version → ⊥ }
     ensures calm { OnOk result (NoneFailed (H.faults host.old) (H.faults host.new)) }
     ensures fault { IfErr result (λ e. ReadFaulted e (H.faults host.old) (H.faults host.new)) }
     ensures ready { StaysReady (H.is_ready host.old) (H.is_ready host.new) }

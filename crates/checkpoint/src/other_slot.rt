@@ -9,22 +9,8 @@ ghost use Rattle.host_trait.specs.declared.channels.FileId.TheVariants.{Manager}
 ghost use Rattle.silo_spec.specs.OtherSlot.{IsShutFile};
 ghost use Rattle.checkpoint.specs.Steps.{Stays, HasToClose, ClosesGate};
 
-use host_trait::{Failed, FileId, Host, read_full, write_synced};
-
-// The first byte of a slot's manager file, 0 where it has none.
-fn gate_byte<H: Host>(host: &mut H, slot: u8) -> Result<u8, Failed>
-    requires slot { slot ≤ 1 }
-    ensures told { IfOk result (λ byte. IsTrue H.tells → byte ≡ slice_index ((H.world host.old).disk (Manager slot)).seen 0) }
-    ensures asked { IsTrue H.tells → OnlyAsked (H.world host.old) (H.world host.new) }
-    ensures faults { Counted (File (Manager slot)) result (H.faults host.old) (H.faults host.new) }
-    ensures ready { StaysReady (H.is_ready host.old) (H.is_ready host.new) }
-{
-    let mut byte = [0];
-    if !read_full(host, FileId::Manager { slot }, 0, &mut byte)? {
-        return Ok(0);
-    }
-    Ok(byte[0])
-}
+use crate::manager_file::byte_at;
+use host_trait::{Failed, FileId, Host, write_synced};
 
 // Whether a slot's header gate is closed, behind which a header has its place. A file with fewer bytes, where it has some, is synced.
 fn is_shut<H: Host>(host: &mut H, slot: u8) -> Result<bool, Failed>
@@ -46,7 +32,7 @@ fn is_shut<H: Host>(host: &mut H, slot: u8) -> Result<bool, Failed>
         host.sync(file)?;
         return Ok(false);
     }
-    let gate = gate_byte(host, slot)?;
+    let gate = byte_at(host, slot, 0)?;
     Ok(gate != 1)
 }
 

@@ -16,8 +16,10 @@ ghost use Rattle.commit_log.specs.Spelling.{WriteFits};
 ghost use Rattle.log_reading.specs.Counts.{ReadFaulted};
 ghost use Rattle.checkpoint.specs.Steps.{KeepsGate};
 ghost use Rattle.checkpoint.specs.Copies.{writes_named};
-ghost use Rattle.checkpoint.specs.Pieces.{behind_gate, block_of_piece, HasWritten, HasFront, HasPieces};
+ghost use Rattle.checkpoint.specs.ManagerBytes.{HasWritten};
+ghost use Rattle.checkpoint.specs.Pieces.{block_of_piece, HasFront, HasPieces};
 
+use crate::manager_file::{put, put_header};
 use base_types::List;
 use commit_log::{CheckpointHead, Named, Written, encode_piece};
 use host_trait::{Failed, FileId, Host};
@@ -48,47 +50,6 @@ fn piece_block(
     let writes = writes_of(alloc, copies)?;
     let block = encode_piece(alloc, more, head, writes.as_slice())?;
     Ok(block)
-}
-
-// Writes bytes into a slot's manager file from an offset on, which isn't byte 0, without a sync, and answers where they end.
-fn put<H: Host>(host: &mut H, slot: u8, at: u64, bytes: &[u8]) -> Result<u64, FolderFault>
-    requires slot { slot ≤ 1 }
-    requires behind { 1 ≤ at }
-    requires place { IsTrue H.tells → at ≤ length ((H.world host.old).disk (Manager slot)).seen }
-    ensures run { IsTrue H.tells → RunsOnFile (Manager slot) KeepsGate 0 (H.world host.old) (H.world host.new) }
-    ensures written { OnOk result (IsTrue H.tells → HasWritten slot at bytes.now (H.world host.old) (H.world host.new)) }
-    ensures end { IfOk result (λ end. (end ≡ at + length bytes.now) × (end < 2 ^ 63)) }
-    ensures within { IfOk result (λ end. IsTrue H.tells → end ≤ length ((H.world host.new).disk (Manager slot)).seen) }
-    ensures whole { (other : AFile) (place : ℕ) → IsErrOf result (AFault.Damaged other place) → ⊥ }
-    ensures calm { OnOk result (NoneFailed (H.faults host.old) (H.faults host.new)) }
-    ensures fault { IfErr result (λ e. ReadFaulted e (H.faults host.old) (H.faults host.new)) }
-    ensures ready { StaysReady (H.is_ready host.old) (H.is_ready host.new) }
-{
-    let file = FileId::Manager { slot };
-    match host.write_at(file, at, bytes) {
-        Ok(()) => Ok(at + bytes.len() as u64),
-        Err(Failed) => Err(FolderFault::Failed { file }),
-    }
-}
-
-// Writes what stands behind the header gate up to the first block's, of a log that begins with a checkpoint.
-fn put_header<H: Host>(host: &mut H, slot: u8, generation: u32) -> Result<u64, FolderFault>
-    requires slot { slot ≤ 1 }
-    requires place { IsTrue H.tells → 1 ≤ length ((H.world host.old).disk (Manager slot)).seen }
-    ensures run { IsTrue H.tells → RunsOnFile (Manager slot) KeepsGate 0 (H.world host.old) (H.world host.new) }
-    ensures written { OnOk result (IsTrue H.tells → HasWritten slot 1 (behind_gate generation) (H.world host.old) (H.world host.new)) }
-    ensures end { IfOk result (λ end. end ≡ 15) }
-    ensures within { OnOk result (IsTrue H.tells → 15 ≤ length ((H.world host.new).disk (Manager slot)).seen) }
-    ensures whole { (other : AFile) (place : ℕ) → IsErrOf result (AFault.Damaged other place) → ⊥ }
-    ensures calm { OnOk result (NoneFailed (H.faults host.old) (H.faults host.new)) }
-    ensures fault { IfErr result (λ e. ReadFaulted e (H.faults host.old) (H.faults host.new)) }
-    ensures ready { StaysReady (H.is_ready host.old) (H.is_ready host.new) }
-{
-    let mut header = *b"OTXLOG01\0\0\0\0\x01\0";
-    let (_, number) = header.split_at_mut(8);
-    let (number, _) = number.split_at_mut(4);
-    number.copy_from_slice(&generation.to_le_bytes());
-    put(host, slot, 1, &header)
 }
 
 // Writes the block of a piece at an offset, and answers where it ends.
@@ -180,7 +141,7 @@ pub fn write_pieces<H: Host>(
     ensures fault { IfErr result (λ e. ReadFaulted e (H.faults host.old) (H.faults host.new)) }
     ensures ready { StaysReady (H.is_ready host.old) (H.is_ready host.new) }
 {
-    let at = put_header(host, slot, generation)?;
+    let at = put_header(host, slot, generation, 1)?;
     let front = put_front(alloc, host, slot, at, head, copies)?;
     let end = put_piece(alloc, host, slot, front.end, false, head, front.rest)?;
     put(host, slot, end, &[0])?;

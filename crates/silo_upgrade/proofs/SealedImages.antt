@@ -1,5 +1,5 @@
 -- What each image has while an upgrade is sealed behind its log.
-use Rattle.std.proofs.Common.{◌≡◌, ◌≢◌, ◌⊎◌, inl, inr, ℕ, ◌+◌, ◌-◌, ◌<◌, ◌≤◌, List, [], ◌∷◌, ◌++◌, length, take, sym, ◌∙◌, ap, subst, arith}
+use Rattle.std.proofs.Common.{◌≡◌, ◌≢◌, ◌⊎◌, inl, inr, ℕ, ◌+◌, ◌-◌, ◌<◌, ◌≤◌, ◌^◌, List, [], ◌∷◌, ◌++◌, length, take, sym, ◌∙◌, ap, subst, arith}
 use Rattle.std.proofs.lemmas.List.{take-take}
 use Rattle.host_trait.specs.declared.channels.FileId.{FileId}
 use Rattle.host_trait.specs.declared.channels.FileId.TheVariants.{Manager, Program as ProgramFile, Grain}
@@ -9,6 +9,7 @@ use Rattle.host_trait.specs.Runs.{ChangesFile, RunsOnFile}
 use Rattle.host_trait.proofs.Crashes.{settled_only}
 use Rattle.host_trait.proofs.Names.{cases_file}
 use Rattle.host_trait.proofs.Runs.{image_from}
+use Rattle.field_codec.specs.declared.formats.Format.TheVariants.{Two}
 use Rattle.gate_block.specs.Blocks.{block_of}
 use Rattle.gate_block.specs.Log.{HasBlocks, LogsUpTo, EachLogs, gate_of}
 use Rattle.gate_block.proofs.Logs.{blocks_same, logged, one_log}
@@ -18,9 +19,12 @@ use Rattle.silo_spec.specs.Slots.{IsLive, ShowsSilos}
 use Rattle.promise_spec.specs.Programs.{Program}
 use Rattle.promise_spec.specs.Entries.{Log, standing_of, upgraded}
 use Rattle.promise_spec.specs.Blocks.{Upgrade, body_of, MayFollow}
-use Rattle.promise_spec.specs.Logs.{magic, StandsUpTo, IsLog}
+use Rattle.promise_spec.specs.Logs.{IsMagic, StandsUpTo, IsLog}
 use Rattle.promise_spec.specs.Journals.{AllLog}
+use Rattle.promise_spec.specs.Openings.{session_in_file}
+use Rattle.promise_spec.proofs.Batched.{base_program}
 use Rattle.promise_spec.proofs.Growing.{sealed_upgrade}
+use Rattle.promise_spec.proofs.ReadSessions.{greatest_read}
 use Rattle.promise_spec.proofs.Slots.{live_moves, other_slot}
 use Rattle.promise_laws.proofs.MovedLogs.{stands_behind}
 
@@ -30,7 +34,7 @@ shorter_front n m c d low same = sym (take-take n m c low) ∙ ap (λ (l : List 
 
 -- Each image has the log, and nothing is pending in the slot's manager file, whose log ends at this gate.
 module _ (slot gate : ℕ) (log : Log) (w : World) (stay : (file : FileId) → MayLeave (w.disk file) (w.disk file).seen) (lasts : w.disk (Manager slot) ≡ settled (w.disk (Manager slot)).seen)
-    (all : AllLog slot log w.disk) (ends : gate_of (w.disk (Manager slot)).seen ≡ gate) where
+    (all : AllLog slot log w.disk) (ends : gate_of (w.disk (Manager slot)).seen ≡ gate) (session : ℕ) (may : session < 2 ^ 63) (after : session_in_file Two log.base.program (w.disk (Manager slot)).seen ≤ session) where
   own : IsLog slot (seen_in w.disk) log
   own = all (seen_in w.disk) stay
 
@@ -58,14 +62,25 @@ module _ (slot gate : ℕ) (log : Log) (w : World) (stay : (file : FileId) → M
   unfolding logged_bodies
   each_logs c left = subst (LogsUpTo bodies gate) (sym (settled_there c left)) logs_there
 
-  -- the log stands in each up to the gate
-  stands_at : (image : Image) → IsImage w.disk image → StandsUpTo slot image log bodies gate
+  -- the log stands in each up to the gate, with no session above this one
+  record Stands (image : Image) : Type 0 where
+    pub reached : ℕ
+    pub later : reached ≤ session
+    pub is : StandsUpTo Two slot image log bodies gate reached
+
+  stands_at : (image : Image) → IsImage w.disk image → Stands image
   stands_at image left =
       let has : IsLog slot image log = all image left in
       let there : image (Manager slot) ≡ (w.disk (Manager slot)).seen = settled_there (image (Manager slot)) (left (Manager slot)) in
       let logs : LogsUpTo has.is.bodies has.is.gate (image (Manager slot)) = record { blocks = has.is.stands.stand; closed = has.is.closed } in
       let one = one_log has.is.bodies bodies has.is.gate gate (w.disk (Manager slot)).seen (subst (LogsUpTo has.is.bodies has.is.gate) there logs) logs_there in
-      subst (λ (g : ℕ). StandsUpTo slot image log bodies g) one.1 (subst (λ (bs : List (List ℕ)). StandsUpTo slot image log bs has.is.gate) one.0 has.is.stands)
+      let program : has.is.stands.program ≡ log.base.program = sym (base_program Two slot image log has.is.bodies has.is.gate has.is.session has.is.stands) in
+      let greatest : has.is.session ≡ session_in_file Two log.base.program (w.disk (Manager slot)).seen = greatest_read Two slot image log has.is ∙ (λ i. session_in_file Two (program i) (there i)) in
+      record {
+        reached = has.is.session;
+        later = omega (arith, greatest, after);
+        is = subst (λ (g : ℕ). StandsUpTo Two slot image log bodies g has.is.session) one.1 (subst (λ (bs : List (List ℕ)). StandsUpTo Two slot image log bs has.is.gate has.is.session) one.0 has.is.stands);
+      }
 
   -- ---- a moment at which the manager file has other bytes from the gate on
 
@@ -83,7 +98,7 @@ module _ (slot gate : ℕ) (log : Log) (w : World) (stay : (file : FileId) → M
     torn = (image_from (Manager slot) (Tears gate n) w m changes image left).changed
 
     front : HasBlocks bodies gate (from (Manager slot))
-    front = (stands_at from possible).stand
+    front = (stands_at from possible).is.stand
 
     header_from : take 15 (image (Manager slot)) ≡ take 15 (from (Manager slot))
     header_from = shorter_front 15 gate (image (Manager slot)) (from (Manager slot)) (omega (arith, front.at)) torn.before
@@ -96,37 +111,37 @@ module _ (slot gate : ℕ) (log : Log) (w : World) (stay : (file : FileId) → M
     still_blocks = blocks_same bodies gate (from (Manager slot)) (image (Manager slot)) front (omega (arith, front.within, torn.no_shorter)) torn.before
 
     -- the log stands still
-    still_stands : StandsUpTo slot image log bodies gate
-    still_stands = stands_behind slot from image log bodies gate (stands_at from possible) (λ grain. others (Grain slot grain) (λ e. absurd cc)) (others (ProgramFile slot) (λ e. absurd cc)) header_from still_blocks
+    still_stands : StandsUpTo Two slot image log bodies gate (stands_at from possible).reached
+    still_stands = stands_behind Two slot from image log bodies gate (stands_at from possible).reached (stands_at from possible).is (λ grain. others (Grain slot grain) (λ e. absurd cc)) (others (ProgramFile slot) (λ e. absurd cc)) header_from still_blocks
 
-    still_live : IsLive magic slot image
+    still_live : IsLive IsMagic slot image
     still_live =
         let was : IsLog slot from log = all from possible in
         live_moves slot from image was.is_live header_from still_stands.silo.long (inl (others (Manager (1 - slot)) (λ e. other_slot slot was.is_live.slot (sym e))))
 
     -- it is the image's, where that has these bodies
     log_still : LogsUpTo bodies gate (image (Manager slot)) → IsLog slot image log
-    log_still logs = record { is_live = still_live; is = record { bodies = bodies; gate = gate; stands = still_stands; closed = logs.closed } }
+    log_still logs = record { is_live = still_live; is = record { bodies = bodies; gate = gate; session = (stands_at from possible).reached; stands = still_stands; closed = logs.closed } }
 
     module _ (p : Program) (follows : MayFollow (standing_of log).program p) where
       -- and with the upgrade, where that stands behind them
-      pub log_upgraded : (next : ℕ) → LogsUpTo (logged_bodies ++ body_of (Upgrade p) ∷ []) next (image (Manager slot)) → IsLog slot image (upgraded log p)
+      pub log_upgraded : (next : ℕ) → LogsUpTo (logged_bodies ++ body_of Two (Upgrade session p) ∷ []) next (image (Manager slot)) → IsLog slot image (upgraded log p)
       unfolding logged_bodies
       log_upgraded next logs = record {
         is_live = still_live;
-        is = record { bodies = bodies ++ body_of (Upgrade p) ∷ []; gate = next; stands = sealed_upgrade slot image log bodies gate still_stands p next follows logs.blocks; closed = logs.closed };
+        is = record { bodies = bodies ++ body_of Two (Upgrade session p) ∷ []; gate = next; session = session; stands = sealed_upgrade Two slot image log bodies gate (stands_at from possible).reached still_stands session (stands_at from possible).later may p next follows logs.blocks; closed = logs.closed };
       }
 
-      pub log_either : LogsUpTo logged_bodies gate (image (Manager slot)) ⊎ LogsUpTo (logged_bodies ++ body_of (Upgrade p) ∷ []) (gate + length (block_of (body_of (Upgrade p)))) (image (Manager slot))
+      pub log_either : LogsUpTo logged_bodies gate (image (Manager slot)) ⊎ LogsUpTo (logged_bodies ++ body_of Two (Upgrade session p) ∷ []) (gate + length (block_of (body_of Two (Upgrade session p)))) (image (Manager slot))
           → IsLog slot image log ⊎ IsLog slot image (upgraded log p)
       unfolding logged_bodies
       log_either (inl logs) = inl (log_still logs)
-      log_either (inr logs) = inr (log_upgraded (gate + length (block_of (body_of (Upgrade p)))) logs)
+      log_either (inr logs) = inr (log_upgraded (gate + length (block_of (body_of Two (Upgrade session p)))) logs)
 
   -- ---- at the end
 
   -- no image is a silo by a slot whose manager file reads too short
-  pub shows_still : (n most : ℕ) (new : World) → RunsOnFile (Manager slot) (Tears gate n) most w new → ShowsSilos magic w.disk → ShowsSilos magic new.disk
+  pub shows_still : (n most : ℕ) (new : World) → RunsOnFile (Manager slot) (Tears gate n) most w new → ShowsSilos IsMagic w.disk → ShowsSilos IsMagic new.disk
   shows_still n most new run shows image left k low short silo = elim (cases_file (Manager k) (Manager slot)) [
     | inl same ↦
         let long : 16 ≤ length (w.disk (Manager slot)).seen = own.is_live.silo.long in
@@ -134,5 +149,5 @@ module _ (slot gate : ℕ) (log : Log) (w : World) (stay : (file : FileId) → M
         absurd (omega (arith, long, here, run.seen.no_shorter))
     | inr other ↦
         let comes = image_from (Manager slot) (Tears gate n) w (moment_of new) run.now image left in
-        shows comes.from comes.possible k low (subst (λ (s : FileState). length s.seen < 16) (run.now.others (Manager k) other) short) (subst (IsSilo magic) (comes.others (Manager k) other) silo)
+        shows comes.from comes.possible k low (subst (λ (s : FileState). length s.seen < 16) (run.now.others (Manager k) other) short) (subst (IsSilo IsMagic) (comes.others (Manager k) other) silo)
   ]

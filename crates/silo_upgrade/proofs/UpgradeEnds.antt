@@ -22,6 +22,7 @@ use Rattle.silo_upgrade.specs.Endings.{input_end, program_end, ending_for, ended
 
 pub open_failed : (before after : Channel → ℕ) (e : OpenFault) → OpenFaulted e before after → HasFailedAs (opening.ending_of e) before after
 open_failed before after OpenFault.NotASilo f = f
+open_failed before after OpenFault.OldFormat f = f
 open_failed before after (OpenFault.Damaged file place) f = f
 open_failed before after (OpenFault.DiskFault file) f = f
 open_failed before after OpenFault.LastGeneration f = f
@@ -49,6 +50,7 @@ never_bad_use UpgradeEnd.ReadFault same = cc
 never_bad_use UpgradeEnd.InputTooLong same = cc
 never_bad_use (UpgradeEnd.BadProgram fault) same = cc
 never_bad_use (UpgradeEnd.Unopened OpenFault.NotASilo) same = cc
+never_bad_use (UpgradeEnd.Unopened OpenFault.OldFormat) same = cc
 never_bad_use (UpgradeEnd.Unopened (OpenFault.Damaged file place)) same = cc
 never_bad_use (UpgradeEnd.Unopened (OpenFault.DiskFault file)) same = cc
 never_bad_use (UpgradeEnd.Unopened OpenFault.LastGeneration) same = cc
@@ -63,6 +65,7 @@ never_done UpgradeEnd.ReadFault same = cc
 never_done UpgradeEnd.InputTooLong same = cc
 never_done (UpgradeEnd.BadProgram fault) same = cc
 never_done (UpgradeEnd.Unopened OpenFault.NotASilo) same = cc
+never_done (UpgradeEnd.Unopened OpenFault.OldFormat) same = cc
 never_done (UpgradeEnd.Unopened (OpenFault.Damaged file place)) same = cc
 never_done (UpgradeEnd.Unopened (OpenFault.DiskFault file)) same = cc
 never_done (UpgradeEnd.Unopened OpenFault.LastGeneration) same = cc

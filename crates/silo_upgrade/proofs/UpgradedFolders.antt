@@ -1,5 +1,5 @@
 -- What `upgrade` shows of the folder, behind an input that was read as a program.
-use Rattle.std.proofs.Common.{◌≡◌, inl, ℕ, ◌+◌, ◌<◌, ◌≤◌, List, [], length, take, Some, Ok, refl, sym, ◌∙◌, ap, subst, arith}
+use Rattle.std.proofs.Common.{◌≡◌, inl, ℕ, ◌+◌, ◌<◌, ◌≤◌, ◌^◌, List, [], length, take, Some, Ok, refl, sym, ◌∙◌, ap, subst, arith}
 use Rattle.host_trait.specs.declared.channels.Channel.{Channel}
 use Rattle.host_trait.specs.declared.channels.FileId.{FileId}
 use Rattle.host_trait.specs.declared.channels.FileId.TheVariants.{Manager}
@@ -10,6 +10,7 @@ use Rattle.host_trait.specs.World.{World, Moment, Disk, Image, Passes, Arrives, 
 use Rattle.host_trait.proofs.Crashes.{settled_only}
 use Rattle.host_trait.proofs.Moments.{met, weaker, same_moment, arrives_still, arrives_then}
 use Rattle.std.proofs.lemmas.List.{append_cancel_left}
+use Rattle.field_codec.specs.declared.formats.Format.TheVariants.{Two}
 use Rattle.gate_block.specs.Log.{EachLogsOrMore, gate_of}
 use Rattle.script_tree.specs.Programs.{ProgramTree, program_tree}
 use Rattle.script_check.specs.Comparison.{GoesOnFrom, compared}
@@ -21,10 +22,10 @@ use Rattle.silo_spec.specs.Slots.{ShowsSilos}
 use Rattle.promise_spec.specs.Programs.{Program}
 use Rattle.promise_spec.specs.Entries.{Log, standing_of}
 use Rattle.promise_spec.specs.Blocks.{MayFollow}
-use Rattle.promise_spec.specs.Logs.{magic}
+use Rattle.promise_spec.specs.Logs.{IsMagic}
 use Rattle.promise_spec.specs.Images.{IsWholeFolder}
 use Rattle.promise_spec.specs.Journals.{AllLog}
-use Rattle.promise_spec.specs.Openings.{Reads, opened_as}
+use Rattle.promise_spec.specs.Openings.{Reads, opened_as, session_in_file}
 use Rattle.promise_spec.specs.Words.{Manner}
 use Rattle.promise_spec.specs.Endings.{Ending, Done, UpgradeRefused, HasFailedAs}
 use Rattle.promise_spec.specs.Courses.{Observed, Course}
@@ -72,12 +73,12 @@ module _ (manner : Manner) (asked : List (List ℕ)) (f0 : Channel → ℕ) (w0 
         omega (arith, opens.syncs, read.syncs, same)
 
     -- the folder wasn't opened
-    pub is_unopened : (f2 : Channel → ℕ) (e : Ending) → IsRefusedBy (seen_in w1.disk) (opened_as (seen_in w1.disk)) e → HasFailedAs e f0 f2 → IsUpgradeUnopened (ended_so manner asked w0 w2 f0 f2 e)
+    pub is_unopened : (f2 : Channel → ℕ) (e : Ending) → IsRefusedBy Two (seen_in w1.disk) (opened_as (seen_in w1.disk)) e → HasFailedAs e f0 f2 → IsUpgradeUnopened (ended_so manner asked w0 w2 f0 f2 e)
     is_unopened f2 e refused failed = record {
       text = program_text w2 f2 e end_there;
       untouched = untouched;
       syncs = few_syncs;
-      refused = subst (λ (i : Image). IsRefusedBy i (opened_as i) e) seen_same refused;
+      refused = subst (λ (i : Image). IsRefusedBy Two i (opened_as i) e) seen_same refused;
       failed = failed;
     }
 
@@ -113,7 +114,7 @@ module _ (manner : Manner) (asked : List (List ℕ)) (f0 : Channel → ℕ) (w0 
 
       -- ---- the upgrade is sealed
 
-      module _ (follows : GoesOnFrom (program_tree o.checked) types) (w3 : World) (f3 : Channel → ℕ) (e : Ending) (run : RunsOnFile (Manager o.slot) (Tears o.gate_at (length (upgrade_block text) + 1)) 2 w2 w3) where
+      module _ (follows : GoesOnFrom (program_tree o.checked) types) (w3 : World) (f3 : Channel → ℕ) (e : Ending) (low : o.session + 1 < 2 ^ 63) (run : RunsOnFile (Manager o.slot) (Tears o.gate_at (length (upgrade_block (o.session + 1) text) + 1)) 2 w2 w3) where
         abbrev r : Observed
         r = ended_so manner asked w0 w3 f0 f3 e
 
@@ -157,7 +158,15 @@ module _ (manner : Manner) (asked : List (List ℕ)) (f0 : Channel → ℕ) (w0 
         ends : gate_of (w2.disk (Manager o.slot)).seen ≡ o.gate_at
         ends = ap (λ (i : Image). gate_of (i (Manager o.slot))) (opens_same (opening_syncs (seen_in w1.disk)) w1 w2 opens) ∙ left.opened.gate
 
-        module _ (seals : SealsText o.slot o.gate_at text w2 w3) (done : e ≡ Done → HasSealedText o.slot o.gate_at text w2 w3) (stay : (file : FileId) → MayLeave (w0.disk file) (w0.disk file).seen)
+        -- no session of the log is above the upgrade's
+        after : session_in_file Two log.base.program (w2.disk (Manager o.slot)).seen ≤ o.session + 1
+        after =
+            let first : log.base.program ≡ left.opened.first = ap (λ (l : Log). l.base.program) left.opened.log_is in
+            let file : (w2.disk (Manager o.slot)).seen ≡ seen_in w1.disk (Manager o.slot) = ap (λ (i : Image). i (Manager o.slot)) (opens_same (opening_syncs (seen_in w1.disk)) w1 w2 opens) in
+            let same : session_in_file Two log.base.program (w2.disk (Manager o.slot)).seen ≡ o.session = (λ i. session_in_file Two (first i) (file i)) ∙ sym left.opened.session in
+            omega (arith, same)
+
+        module _ (seals : SealsText o.slot o.gate_at (o.session + 1) text w2 w3) (done : e ≡ Done → HasSealedText o.slot o.gate_at (o.session + 1) text w2 w3) (stay : (file : FileId) → MayLeave (w0.disk file) (w0.disk file).seen)
             (stay_too : (file : FileId) → MayLeave (w2.disk file) (w2.disk file).seen) (whole : IsWholeFolder w0) where
           opened : Opens r c
           opened = opens_whole p r c w2 behind whole stay stay_too
@@ -165,25 +174,25 @@ module _ (manner : Manner) (asked : List (List ℕ)) (f0 : Channel → ℕ) (w0 
           all : AllLog o.slot log w2.disk
           all = subst (λ (m : Moment). AllLog o.slot log m.disk) behind.last opened.opened
 
-          shown : ShowsSilos magic w2.disk
+          shown : ShowsSilos IsMagic w2.disk
           shown image is n low short silo = whole.shows image (untouched.now.images image is) n low (subst (λ (l : List ℕ). length l < 16) (untouched.seen (Manager n)) short) silo
 
           abbrev bodies : List (List ℕ)
-          bodies = logged_bodies o.slot o.gate_at log w2 stay_too lasts all ends
+          bodies = logged_bodies o.slot o.gate_at log w2 stay_too lasts all ends (o.session + 1) low after
 
-          sealed : LogsOrUpgrades o.slot o.gate_at text bodies w2 w3
-          sealed = seals bodies (each_logs o.slot o.gate_at log w2 stay_too lasts all ends)
+          sealed : LogsOrUpgrades o.slot o.gate_at (o.session + 1) text bodies w2 w3
+          sealed = seals bodies (each_logs o.slot o.gate_at log w2 stay_too lasts all ends (o.session + 1) low after)
 
           -- a moment of it
           abbrev IsAMoment : Moment → Type 0
-          IsAMoment m = ChangesFile (Manager o.slot) (Tears o.gate_at (length (upgrade_block text) + 1)) w2 m × EachLogsOrMore bodies (upgrade_body text) o.gate_at (Manager o.slot) m.disk
+          IsAMoment m = ChangesFile (Manager o.slot) (Tears o.gate_at (length (upgrade_block (o.session + 1) text) + 1)) w2 m × EachLogsOrMore bodies (upgrade_body (o.session + 1) text) o.gate_at (Manager o.slot) m.disk
 
           upgrading : (m : Moment) → IsAMoment m → IsUpgrading o.slot log p r m
           upgrading m at = record {
             quiet = at.0.output ∙ untouched.now.quiet;
             others = λ file other. at.0.others file other ∙ ap (λ (d : Disk). d file) disk_is;
-            header = λ image is. header_still o.slot o.gate_at log w2 stay_too lasts all ends (length (upgrade_block text) + 1) m at.0 image is ∙ ap (take 15) (untouched.seen (Manager o.slot));
-            either = λ image is. log_either o.slot o.gate_at log w2 stay_too lasts all ends (length (upgrade_block text) + 1) m at.0 image is p may_follow (at.1 (image (Manager o.slot)) (is (Manager o.slot)));
+            header = λ image is. header_still o.slot o.gate_at log w2 stay_too lasts all ends (o.session + 1) low after (length (upgrade_block (o.session + 1) text) + 1) m at.0 image is ∙ ap (take 15) (untouched.seen (Manager o.slot));
+            either = λ image is. log_either o.slot o.gate_at log w2 stay_too lasts all ends (o.session + 1) low after (length (upgrade_block (o.session + 1) text) + 1) m at.0 image is p may_follow (at.1 (image (Manager o.slot)) (is (Manager o.slot)));
           }
 
           first : IsUpgrading o.slot log p r (moment_of w2)
@@ -196,7 +205,7 @@ module _ (manner : Manner) (asked : List (List ℕ)) (f0 : Channel → ℕ) (w0 
 
           passes : Passes (IsUpgrading o.slot log p r) w2.past w3.past
           passes = weaker IsAMoment (IsUpgrading o.slot log p r) upgrading
-              (met (ChangesFile (Manager o.slot) (Tears o.gate_at (length (upgrade_block text) + 1)) w2) (λ m. EachLogsOrMore bodies (upgrade_body text) o.gate_at (Manager o.slot) m.disk) run.moments sealed.moments)
+              (met (ChangesFile (Manager o.slot) (Tears o.gate_at (length (upgrade_block (o.session + 1) text) + 1)) w2) (λ m. EachLogsOrMore bodies (upgrade_body (o.session + 1) text) o.gate_at (Manager o.slot) m.disk) run.moments sealed.moments)
 
           pub upgrades : Upgrades o.slot log p r
           upgrades = record {
@@ -206,11 +215,11 @@ module _ (manner : Manner) (asked : List (List ℕ)) (f0 : Channel → ℕ) (w0 
             past = opened.past;
             before = λ m there. each_of (IsAsAtEntry w0) untouched.moments.more m untouched.moments.each there;
             moments = gather p r c w2 behind (IsUpgrading o.slot log p r) first passes (upgrading (moment_of w3) (run.now, sealed.now));
-            shows = shows_still o.slot o.gate_at log w2 stay_too lasts all ends (length (upgrade_block text) + 1) 2 w3 run shown;
+            shows = shows_still o.slot o.gate_at log w2 stay_too lasts all ends (o.session + 1) low after (length (upgrade_block (o.session + 1) text) + 1) 2 w3 run shown;
             done = λ end image is.
                 let has = done end in
-                log_upgraded o.slot o.gate_at log w2 stay_too lasts all ends (length (upgrade_block text) + 1) (moment_of w3) run.now image is p may_follow (o.gate_at + length (upgrade_block text))
-                (has.logs bodies (each_logs o.slot o.gate_at log w2 stay_too lasts all ends) (image (Manager o.slot)) (is (Manager o.slot)));
+                log_upgraded o.slot o.gate_at log w2 stay_too lasts all ends (o.session + 1) low after (length (upgrade_block (o.session + 1) text) + 1) (moment_of w3) run.now image is p may_follow (o.gate_at + length (upgrade_block (o.session + 1) text))
+                (has.logs bodies (each_logs o.slot o.gate_at log w2 stay_too lasts all ends (o.session + 1) low after) (image (Manager o.slot)) (is (Manager o.slot)));
           }
 
         -- the log was upgraded, as far as the call came
@@ -229,7 +238,7 @@ module _ (manner : Manner) (asked : List (List ℕ)) (f0 : Channel → ℕ) (w0 
         }
 
         -- done, with two syncs
-        pub done_so : HasSealedText o.slot o.gate_at text w2 w3 → w3.syncs ≡ w0.syncs + opening_syncs (seen_in w0.disk) + 2
+        pub done_so : HasSealedText o.slot o.gate_at (o.session + 1) text w2 w3 → w3.syncs ≡ w0.syncs + opening_syncs (seen_in w0.disk) + 2
         done_so has = omega (arith, has.count, syncs_there)
 
         -- and with nothing written

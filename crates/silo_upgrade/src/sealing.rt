@@ -15,14 +15,15 @@ use commit_log::{Sealing, encode_upgrade, seal};
 use host_trait::{FileId, Host};
 use std::alloc::{AllocError, Global};
 
-/// Puts the block of an upgrade to this text behind the closed gate at `gate_at` of the slot's manager file, and opens that gate. The
-/// text has at most 262,144 bytes.
+/// Puts the block of an upgrade to this text, in this session, behind the closed gate at `gate_at` of the slot's manager file, and opens
+/// that gate. The text has at most 262,144 bytes.
 pub(crate) fn seal_upgrade<H: Host>(
     alloc: Global,
     host: &mut H,
     slot: u8,
     gate_at: u64,
     text: &[u8],
+    session: u64,
 ) -> Result<(), UpgradeEnd>
     requires slot { slot ≤ 1 }
     requires place { gate_at < 2 ^ 63 }
@@ -31,13 +32,13 @@ pub(crate) fn seal_upgrade<H: Host>(
 
     // No other file and no output changes, and each image of the manager file is one of before but for the gate and the block.
     ensures run { IsTrue H.tells
-        → RunsOnFile (Manager slot) (Tears gate_at (length (upgrade_block text.now) + 1)) 2 (H.world host.old) (H.world host.new) }
+        → RunsOnFile (Manager slot) (Tears gate_at (length (upgrade_block session text.now) + 1)) 2 (H.world host.old) (H.world host.new) }
 
     // At each moment each image has the log that it had, or it with the upgrade's body.
-    ensures logs { IsTrue H.tells → SealsText slot gate_at text.now (H.world host.old) (H.world host.new) }
+    ensures logs { IsTrue H.tells → SealsText slot gate_at session text.now (H.world host.old) (H.world host.new) }
 
     // Once it is done each has it, and two syncs were asked for.
-    ensures done { OnOk result (IsTrue H.tells → HasSealedText slot gate_at text.now (H.world host.old) (H.world host.new)) }
+    ensures done { OnOk result (IsTrue H.tells → HasSealedText slot gate_at session text.now (H.world host.old) (H.world host.new)) }
 
     // It ends for a fault of that file, or for want of memory, and then nothing was done.
     ensures stopped { IfErr result (λ e. (e ≡ AnEnd.DiskFault (Manager slot)) ⊎ ((e ≡ AnEnd.Memory) × (host.new ≡ host.old))) }
@@ -45,7 +46,7 @@ pub(crate) fn seal_upgrade<H: Host>(
     ensures fault { IfErr result (λ e. HasFailedAs (ending_for e) (H.faults host.old) (H.faults host.new)) }
     ensures ready { StaysReady (H.is_ready host.old) (H.is_ready host.new) }
 {
-    let block = match encode_upgrade(alloc, text) {
+    let block = match encode_upgrade(alloc, text, session) {
         Ok(block) => block,
         Err(AllocError) => return Err(UpgradeEnd::Memory),
     };

@@ -13,17 +13,21 @@ use script_check::compare;
 use silo_opening::open_silo;
 use std::alloc::Global;
 
+// The greatest session of a log, which none can follow.
+const LAST_SESSION: u64 = (1 << 63) - 1;
+
 /// Reads a program's text from the input, and brings it into force in the host's silo, as the last entry of its log. States are carried
 /// where they are read.
 ///
 /// The input is read to its end and must be a program; then the silo is opened; then the program's types must begin with the names of
-/// those in force, in their order. Only then is anything written: one block in the live slot's manager file, by two syncs. A crash before
-/// the second of these leaves the silo with the upgrade or without it.
+/// those in force, in their order. Only then is anything written: one block in the live slot's manager file, in the session after the
+/// log's greatest, by two syncs. A crash before the second of these leaves the silo with the upgrade or without it.
 ///
 /// # Errors
 ///
 /// Those of the input come first, then those of the program in it, then those of an opening, then `Refused`; `DiskFault` names the live
-/// slot's manager file, where a call on it failed while the block was sealed. `Memory` may come in place of each of them but the last.
+/// slot's manager file, where a call on it failed while the block was sealed. `Memory` may come in place of each of them but the last;
+/// and it comes where the log's greatest session is 2 to the 63 less 1.
 pub fn upgrade<H: Host>(alloc: Global, host: &mut H) -> Result<(), UpgradeEnd>
     // What the command `upgrade` promises, however it ends.
     ensures upgrades { IsTrue H.tells → (manner : Manner) (asked : AList (AList ℕ))
@@ -43,11 +47,15 @@ pub fn upgrade<H: Host>(alloc: Global, host: &mut H) -> Result<(), UpgradeEnd>
         Ok(opened) => opened,
         Err(fault) => return Err(UpgradeEnd::Unopened(fault)),
     };
+    if opened.session == LAST_SESSION {
+        return Err(UpgradeEnd::Memory);
+    }
     let end = text.len() as u32;
     if let Err(fault) = compare(&opened.checked, &checked, end) {
         return Err(UpgradeEnd::Refused { at: fault.at });
     }
-    match seal_upgrade(alloc, host, opened.slot, opened.gate_at, &text) {
+    let session = opened.session + 1;
+    match seal_upgrade(alloc, host, opened.slot, opened.gate_at, &text, session) {
         Ok(()) => Ok(()),
         Err(end) => Err(end),
     }

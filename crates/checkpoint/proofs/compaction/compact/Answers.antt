@@ -7,6 +7,8 @@ use Rattle.log_reading.specs.declared.faults.FolderFault.{FolderFault}
 use Rattle.log_reading.specs.Steps.{seen_in}
 use Rattle.log_reading.proofs.Errors.{other_value}
 use Rattle.silo_spec.specs.OpenedDisks.{opening_syncs}
+use Rattle.field_codec.specs.declared.formats.Format.TheVariants.{Two}
+use Rattle.promise_spec.specs.Entries.{checkpointed}
 use Rattle.promise_spec.specs.Endings.{Done, Memory}
 use Rattle.promise_spec.specs.Compaction.{Compacts}
 use Rattle.silo_opening.specs.declared.faults.OpenFault.{OpenFault}
@@ -21,6 +23,7 @@ use Rattle.checkpoint.specs.NextGeneration.{MayFill}
 use Rattle.checkpoint.specs.Endings.{compacted_as}
 use Rattle.checkpoint.proofs.Compacted.{next_of, can, shown, made, latest_there, rewrites}
 use Rattle.checkpoint.proofs.Endings.{open_failed, read_failed, calm_before, calm_then, never_done, not_damaged, unopened, is_last, is_compacted, latest_refused}
+use Rattle.checkpoint.proofs.KeptSessions.{session_kept}
 use Rattle.checkpoint.proofs.compaction.compact.Goals as goal
 
 pub returns-in_err-opened-clause-compacts : goal.returns-in_err-opened-clause-compacts
@@ -31,7 +34,7 @@ returns-in_err-opened-clause-compacts g c =
     let w1 = g.H.Host.world c.open_silo.new.host in
     let f0 = g.H.Host.faults c.args.host.now in
     let f1 = g.H.Host.faults c.open_silo.new.host in
-    rw (p.1, p.2) λ told manner lines. inl (unopened manner lines f0 f1 (ending_of e) w0 w1 (c.open_silo.ensures.only told) (c.in_err-opened.ensures.refused told) (open_failed f0 f1 e c.in_err-opened.ensures.fault))
+    rw (p.1, p.2) λ told manner lines. inl (unopened manner lines f0 f1 Two (ending_of e) w0 w1 (c.open_silo.ensures.only told) (c.in_err-opened.ensures.refused told) (open_failed f0 f1 e c.in_err-opened.ensures.fault))
 
 pub returns-then-opened-clause-compacts : goal.returns-then-opened-clause-compacts
 returns-then-opened-clause-compacts g c told manner lines =
@@ -44,7 +47,7 @@ returns-then-opened-clause-compacts g c told manner lines =
     let left = (c.in_ok-opened.ensures.opened told).left in
     let slot = c.in_ok-opened.ensures.bounds.slot in
     let from = subst (λ (i : Image). IsOpenedFrom i o) (sym (opens_same (opening_syncs (seen_in w0.disk)) w0 w1 opens)) ((c.in_ok-opened.ensures.opened told).opened) in
-    inr (inl (is_last manner lines f0 f1 o w0 w1 w1 from slot opens left (none_asked w1) c.if-opened.true c.in_ok-opened.ensures.calm))
+    inr (inl (is_last manner lines f0 f1 Two o w0 w1 w1 from slot opens left (none_asked w1) c.if-opened.true c.in_ok-opened.ensures.calm))
 
 pub returns-then-opened-ge-COUNT_LIMIT-clause-compacts : goal.returns-then-opened-ge-COUNT_LIMIT-clause-compacts
 returns-then-opened-ge-COUNT_LIMIT-clause-compacts g c told manner lines =
@@ -52,7 +55,7 @@ returns-then-opened-ge-COUNT_LIMIT-clause-compacts g c told manner lines =
     let w1 = g.H.Host.world c.open_silo.new.host in
     let f0 = g.H.Host.faults c.args.host.now in
     let f1 = g.H.Host.faults c.open_silo.new.host in
-    inl (unopened manner lines f0 f1 Memory w0 w1 (c.open_silo.ensures.only told) tt c.in_ok-opened.ensures.calm)
+    inl (unopened manner lines f0 f1 Two Memory w0 w1 (c.open_silo.ensures.only told) tt c.in_ok-opened.ensures.calm)
 
 pub returns-in-Err-clause-compacts : goal.returns-in-Err-clause-compacts
 returns-in-Err-clause-compacts g c told manner lines =
@@ -64,7 +67,7 @@ returns-in-Err-clause-compacts g c told manner lines =
     let f2 = g.H.Host.faults c.latest_versions.new.host in
     let opens = c.open_silo.ensures.only told in
     let asked = c.latest_versions.ensures.asked told in
-    inl (unopened manner lines f0 f2 Memory w0 w2 (opens_and_asked (opening_syncs (seen_in w0.disk)) w0 w1 w2 opens asked) tt (calm_then f0 f1 f2 c.in_ok-opened.ensures.calm c.in_ok-latest.ensures.calm))
+    inl (unopened manner lines f0 f2 Two Memory w0 w2 (opens_and_asked (opening_syncs (seen_in w0.disk)) w0 w1 w2 opens asked) tt (calm_then f0 f1 f2 c.in_ok-opened.ensures.calm c.in_ok-latest.ensures.calm))
 
 pub returns-in_err-latest-clause-compacts : goal.returns-in_err-latest-clause-compacts
 returns-in_err-latest-clause-compacts g c =
@@ -83,8 +86,8 @@ returns-in_err-latest-clause-compacts g c =
     let slot = c.in_ok-opened.ensures.bounds.slot in
     let from = subst (λ (i : Image). IsOpenedFrom i o) (sym (opens_same (opening_syncs (seen_in w0.disk)) w0 w1 opens)) ((c.in_ok-opened.ensures.opened told).opened) in
     let asked = c.latest_versions.ensures.asked told in
-    inl (unopened manner lines f0 f2 (ending_of e) w0 w2 (opens_and_asked (opening_syncs (seen_in w0.disk)) w0 w1 w2 opens asked)
-    (latest_refused manner lines f0 f2 o w0 w1 w2 from slot opens left asked e (c.in_err-latest.ensures.refused told from))
+    inl (unopened manner lines f0 f2 Two (ending_of e) w0 w2 (opens_and_asked (opening_syncs (seen_in w0.disk)) w0 w1 w2 opens asked)
+    (latest_refused manner lines f0 f2 Two o w0 w1 w2 from slot opens left asked e (c.in_err-latest.ensures.refused told from))
     (calm_before (ending_of e) f0 f1 f2 c.in_ok-opened.ensures.calm (open_failed f1 f2 e c.in_err-latest.ensures.fault)))
 
 pub fill-requires-clause-programs : goal.fill-requires-clause-programs
@@ -128,14 +131,14 @@ returns-in-Ok-fill-clause-compacts g c told manner lines =
     (λ whole.
     let stay = λ (file : FileId). g.met.H.Host.seen_may_stay c.args.host.now file told in
     let stay_too = λ (file : FileId). g.met.H.Host.seen_may_stay c.latest_versions.new.host file told in
-    let may = can o w0 w1 w2 from slot opens left asked stay stay_too whole in
-    let shows = shown o w0 w1 w2 from slot opens left asked stay stay_too whole in
+    let may = can Two o w0 w1 w2 from slot opens left asked stay stay_too whole in
+    let shows = shown Two o w0 w1 w2 from slot opens left asked stay stay_too whole in
     let is = made o w0 w1 w2 from slot opens left asked stay stay_too whole c.in_ok-opened.ensures.bounds.newest latest are in
     let fills : MayFill (next_of o latest) (programs_in c.in-Ok.programs) (program_in o) from.log w2 = subst (λ (ts : List ProgramTree). MayFill (next_of o latest) ts (program_in o) from.log w2) (sym trees) (record { made = is; can = may; shown = shows }) in
     let gone = c.fill.ensures.gone told (program_in o) from.log fills in
-    rewrites o w0 w1 w2 from slot opens left asked stay stay_too whole manner lines f0 f3 Done w3
+    rewrites Two o w0 w1 w2 from slot opens left asked stay stay_too whole manner lines f0 f3 Done w3 (checkpointed from.log)
     gone.moments gone.now gone.shows
-    (λ ends image left_so. c.in-Ok-fill.ensures.done told (program_in o) from.log fills image left_so))))
+    (λ ends image left_so. (c.in-Ok-fill.ensures.done told).done (program_in o) from.log fills image left_so))))
 
 pub returns-clause-compacts : goal.returns-clause-compacts
 returns-clause-compacts g c told manner lines =
@@ -167,11 +170,15 @@ returns-clause-compacts g c told manner lines =
     (λ whole.
     let stay = λ (file : FileId). g.met.H.Host.seen_may_stay c.args.host.now file told in
     let stay_too = λ (file : FileId). g.met.H.Host.seen_may_stay c.latest_versions.new.host file told in
-    let may = can o w0 w1 w2 from slot opens left asked stay stay_too whole in
-    let shows = shown o w0 w1 w2 from slot opens left asked stay stay_too whole in
+    let may = can Two o w0 w1 w2 from slot opens left asked stay stay_too whole in
+    let shows = shown Two o w0 w1 w2 from slot opens left asked stay stay_too whole in
     let is = made o w0 w1 w2 from slot opens left asked stay stay_too whole c.in_ok-opened.ensures.bounds.newest latest are in
     let fills : MayFill (next_of o latest) (programs_in c.in-Ok.programs) (program_in o) from.log w2 = subst (λ (ts : List ProgramTree). MayFill (next_of o latest) ts (program_in o) from.log w2) (sym trees) (record { made = is; can = may; shown = shows }) in
     let gone = c.fill.ensures.gone told (program_in o) from.log fills in
-    rewrites o w0 w1 w2 from slot opens left asked stay stay_too whole manner lines f0 f3 (ending_of (in_folder fault)) w3
+    rewrites Two o w0 w1 w2 from slot opens left asked stay stay_too whole manner lines f0 f3 (ending_of (in_folder fault)) w3 (checkpointed from.log)
     gone.moments gone.now gone.shows
     (λ ends image left_so. absurd (never_done fault ends))))))
+
+pub returns-in-Ok-fill-clause-session : goal.returns-in-Ok-fill-clause-session
+returns-in-Ok-fill-clause-session g c told =
+    session_kept c.in_ok-opened.opened (g.H.Host.world c.args.host.now) (g.H.Host.world c.fill.new.host) (c.in_ok-opened.ensures.opened told).opened (c.in-Ok-fill.ensures.done told).session

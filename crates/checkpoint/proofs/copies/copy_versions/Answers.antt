@@ -1,7 +1,7 @@
 use Rattle.std.proofs.Common.{◌≡◌, ◌+◌, ◌-◌, ◌<◌, ◌∷◌, ◌++◌, List, length, drop, get_or, None, Ok, refl, ◌∙◌, ap, arith}
 use Rattle.std.proofs.lemmas.Result.{err_from_is_err_and}
 use Rattle.base_types.specs.declared.stores.Version.{Version}
-use Rattle.field_codec.specs.declared.formats.Format.TheVariants.{One}
+use Rattle.field_codec.specs.declared.formats.Format.TheVariants.{Two}
 use Rattle.commit_log.specs.declared.records.Named.{Named}
 use Rattle.log_reading.specs.declared.faults.FolderFault.{FolderFault}
 use Rattle.log_reading.specs.Steps.{seen_in}
@@ -13,7 +13,8 @@ use Rattle.program_file.specs.ProgramsInTurn.{programs_in}
 use Rattle.log_reading.proofs.Errors.{other_value}
 use Rattle.log_reading.proofs.RecordSums.{next_default}
 use Rattle.checkpoint.specs.Steps.{MayBeAny}
-use Rattle.checkpoint.proofs.Copying.{none_copied, first_copies, copied_on, more_copies, copied_before, named_stays, next_there}
+use Rattle.checkpoint.proofs.GrainFiles.{none_copied, copied_on}
+use Rattle.checkpoint.proofs.Copying.{first_copies, more_copies, copied_before, named_stays, next_there}
 use Rattle.checkpoint.proofs.copies.copy_versions.Goals as goal
 
 abbrev no_name : Named
@@ -37,7 +38,7 @@ returns-in_err-named-clause-damaged g c =
     rw (p.1, p.2) λ file place is told each.
     let so_far = inv.copied told in
     let split : c.args.latest.now ≡ so_far.front ++ x ∷ drop (i + 1) now = so_far.split ∙ ap (λ (l : List Named). so_far.front ++ l) (next_default i now no_name (let within : i < length now = omega arith in within)) in
-    let one = next_there (λ n. (version : Version) × (version_numbered c.args.live One shapes (seen_in w0.disk) n ≡ Ok version)) c.args.latest.now so_far.front x (drop (i + 1) now) split each in
+    let one = next_there (λ n. (version : Version) × (version_numbered c.args.live Two shapes (seen_in w0.disk) n ≡ Ok version)) c.args.latest.now so_far.front x (drop (i + 1) now) split each in
     c.in_err-named.ensures.damaged file place (other_value _ (FolderFault.Damaged file place) is) told one.0 (named_stays c.args.live shapes w0 w1 x c.requires.slot (inv.only told) ∙ one.1)
 
 pub loop-named-preserved : goal.loop-named-preserved

@@ -7,7 +7,8 @@ use Rattle.commit_log.specs.declared.records.Named.{Named}
 use Rattle.log_reading.specs.declared.faults.FolderFault.{FolderFault}
 use Rattle.log_reading.proofs.Errors.{other_value}
 use Rattle.checkpoint.specs.Steps.{KeepsGate}
-use Rattle.checkpoint.proofs.Writing.{first_front, more_front, calm_read}
+use Rattle.checkpoint.proofs.ManagerBytes.{calm_read}
+use Rattle.checkpoint.proofs.Writing.{first_front, more_front}
 use Rattle.checkpoint.proofs.pieces.put_front.Goals as goal
 
 pub loop-rest-init : goal.loop-rest-init

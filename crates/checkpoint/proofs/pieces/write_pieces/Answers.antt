@@ -6,12 +6,12 @@ use Rattle.host_trait.specs.Disk.{after_sync}
 use Rattle.host_trait.proofs.Runs.{run_then, run_more_syncs, run_synced}
 use Rattle.gate_block.specs.Blocks.{block_at}
 use Rattle.gate_block.specs.Log.{open_blocks}
-use Rattle.commit_log.specs.Checkpoints.{spelling_of_piece}
 use Rattle.log_reading.specs.declared.faults.FolderFault.{FolderFault}
 use Rattle.log_reading.proofs.Errors.{other_value}
 use Rattle.checkpoint.specs.Steps.{KeepsGate}
 use Rattle.checkpoint.specs.Copies.{writes_named}
-use Rattle.checkpoint.specs.Pieces.{front_bodies, HasWritten}
+use Rattle.checkpoint.specs.ManagerBytes.{HasWritten}
+use Rattle.checkpoint.specs.Pieces.{spelled_with, front_bodies}
 use Rattle.checkpoint.proofs.Writing.{whole_pieces}
 use Rattle.checkpoint.proofs.pieces.write_pieces.Goals as goal
 
@@ -60,7 +60,7 @@ returns-in-Ok-clause-written g c told =
     let w5 = g.H.Host.world c.sync.new.self in
     let made = c.in_ok-front.ensures.written in
     let blocks : List ℕ = open_blocks (front_bodies head made.front) in
-    let block : List ℕ = block_at (spelling_of_piece 0 head.count head.next_unit.0 (writes_named c.in_ok-front.front.rest.now)) in
+    let block : List ℕ = block_at (spelled_with head 0 (writes_named c.in_ok-front.front.rest.now)) in
     let begins : c.in_ok-at.at ≡ 15 = c.in_ok-at.ensures.end in
     let first_end : c.in_ok-front.front.end ≡ 15 + length blocks = made.ends ∙ ap (λ (k : ℕ). k + length blocks) begins in
     let last_end : c.in_ok-end.end ≡ 15 + length blocks + length block = c.in_ok-end.ensures.end.0 ∙ ap (λ (k : ℕ). k + length block) first_end in

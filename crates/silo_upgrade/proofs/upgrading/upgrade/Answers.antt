@@ -1,8 +1,8 @@
-use Rattle.std.proofs.Common.{rules, ◌≡◌, ◌≤◌, inl, inr, ℕ, List, length, Some, Ok, refl, sym, ap, subst, ◌∙◌}
+use Rattle.std.proofs.Common.{rules, ◌≡◌, ◌≤◌, ◌<◌, ◌+◌, ◌^◌, arith, inl, inr, ℕ, List, length, Some, Ok, refl, sym, ap, subst, ◌∙◌}
 use Rattle.script_tree.specs.Programs.{ProgramTree, program_tree}
 use Rattle.script_check.specs.Comparison.{GoesOnFrom, compared}
 use Rattle.program_file.specs.Programs.{program_in}
-use Rattle.promise_spec.specs.Endings.{Done}
+use Rattle.promise_spec.specs.Endings.{Done, Memory}
 use Rattle.promise_spec.specs.Upgrading.{UpgradesAs}
 use Rattle.silo_opening.specs.OpenedSilo.{ending_of as open_ending}
 use Rattle.silo_upgrade.specs.declared.faults.UpgradeEnd.{UpgradeEnd}
@@ -26,6 +26,19 @@ returns-in-Err-open_silo-clause-upgrades g c told manner asked =
     let small : length text ≤ 262144 = search rules in
     inr (inl (is_unopened manner asked f0 w0 w1 text types (c.in-Ok.ensures.read told) small c.in-Ok.ensures.program w2 (c.open_silo.ensures.only told) f2 (open_ending fault)
     (c.in-Err-open_silo.ensures.refused told) (calm_before (open_ending fault) f0 f1 f2 c.in-Ok.ensures.calm (open_failed f1 f2 fault c.in-Err-open_silo.ensures.fault))))
+
+pub returns-then-opened-eq-LAST_SESSION-clause-upgrades : goal.returns-then-opened-eq-LAST_SESSION-clause-upgrades
+returns-then-opened-eq-LAST_SESSION-clause-upgrades g c told manner asked =
+    let w0 = g.H.Host.world c.args.host.now in
+    let w1 = g.H.Host.world c.read_program.new.host in
+    let w2 = g.H.Host.world c.open_silo.new.host in
+    let f0 = g.H.Host.faults c.args.host.now in
+    let f2 = g.H.Host.faults c.open_silo.new.host in
+    let text : List ℕ = (c.in-Ok.read.0).items in
+    let types : ProgramTree = program_tree c.in-Ok.read.1 in
+    let small : length text ≤ 262144 = search rules in
+    inr (inl (is_unopened manner asked f0 w0 w1 text types (c.in-Ok.ensures.read told) small c.in-Ok.ensures.program w2 (c.open_silo.ensures.only told) f2 Memory tt
+    (λ channel. c.in-Ok-open_silo.ensures.calm channel ∙ c.in-Ok.ensures.calm channel)))
 
 pub returns-in-Err-compare-clause-upgrades : goal.returns-in-Err-compare-clause-upgrades
 returns-in-Err-compare-clause-upgrades g c told manner asked =
@@ -60,11 +73,12 @@ returns-in-Ok-seal_upgrade-clause-upgrades g c told manner asked =
     let opens = c.open_silo.ensures.only told in
     let left = c.in-Ok-open_silo.ensures.opened told in
     let run = c.seal_upgrade.ensures.run told in
+    let low : o.session + 1 < 2 ^ 63 = search (rules, arith) in
     let has = c.in-Ok-seal_upgrade.ensures.done told in
-    inr (inr (inr (is_upgraded manner asked f0 w0 w1 text types read small is w2 opens o left follows w3 f3 Done run
-    (done_so manner asked f0 w0 w1 text types read small is w2 opens o left follows w3 f3 Done run has)
+    inr (inr (inr (is_upgraded manner asked f0 w0 w1 text types read small is w2 opens o left follows w3 f3 Done low run
+    (done_so manner asked f0 w0 w1 text types read small is w2 opens o left follows w3 f3 Done low run has)
     (λ channel. c.in-Ok-seal_upgrade.ensures.calm channel ∙ (c.in-Ok-open_silo.ensures.calm channel ∙ c.in-Ok.ensures.calm channel))
-    (upgrades manner asked f0 w0 w1 text types read small is w2 opens o left follows w3 f3 Done run (c.seal_upgrade.ensures.logs told) (λ done. has)
+    (upgrades manner asked f0 w0 w1 text types read small is w2 opens o left follows w3 f3 Done low run (c.seal_upgrade.ensures.logs told) (λ done. has)
     (λ file. g.met.H.Host.seen_may_stay c.args.host.now file told) (λ file. g.met.H.Host.seen_may_stay c.open_silo.new.host file told)))))
 
 pub returns-clause-upgrades : goal.returns-clause-upgrades
@@ -88,12 +102,13 @@ returns-clause-upgrades g c told manner asked =
     let opens = c.open_silo.ensures.only told in
     let left = c.in-Ok-open_silo.ensures.opened told in
     let run = c.seal_upgrade.ensures.run told in
+    let low : o.session + 1 < 2 ^ 63 = search (rules, arith) in
     let ends_as : UpgradesAs (ending_for e) o.slot (ended_so manner asked w0 w3 f0 f3 (ending_for e)) = elim c.in-Err-seal_upgrade.ensures.stopped [
       | inl same ↦ subst (λ (x : UpgradeEnd). UpgradesAs (ending_for x) o.slot (ended_so manner asked w0 w3 f0 f3 (ending_for x))) (sym same) refl
       | inr want ↦ subst (λ (x : UpgradeEnd). UpgradesAs (ending_for x) o.slot (ended_so manner asked w0 w3 f0 f3 (ending_for x))) (sym want.0)
-          (nothing_so manner asked f0 w0 w1 text types read small is w2 opens o left follows w3 f3 (ending_for e) run (ap g.H.Host.world want.1))
+          (nothing_so manner asked f0 w0 w1 text types read small is w2 opens o left follows w3 f3 (ending_for e) low run (ap g.H.Host.world want.1))
     ] in
-    inr (inr (inr (is_upgraded manner asked f0 w0 w1 text types read small is w2 opens o left follows w3 f3 (ending_for e) run ends_as
+    inr (inr (inr (is_upgraded manner asked f0 w0 w1 text types read small is w2 opens o left follows w3 f3 (ending_for e) low run ends_as
     (calm_before (ending_for e) f0 f2 f3 (λ channel. c.in-Ok-open_silo.ensures.calm channel ∙ c.in-Ok.ensures.calm channel) c.in-Err-seal_upgrade.ensures.fault)
-    (upgrades manner asked f0 w0 w1 text types read small is w2 opens o left follows w3 f3 (ending_for e) run (c.seal_upgrade.ensures.logs told) (λ done. absurd (never_done e done))
+    (upgrades manner asked f0 w0 w1 text types read small is w2 opens o left follows w3 f3 (ending_for e) low run (c.seal_upgrade.ensures.logs told) (λ done. absurd (never_done e done))
     (λ file. g.met.H.Host.seen_may_stay c.args.host.now file told) (λ file. g.met.H.Host.seen_may_stay c.open_silo.new.host file told)))))
