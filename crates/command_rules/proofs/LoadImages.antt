@@ -7,6 +7,7 @@ use Rattle.promise_spec.specs.Programs.{Program}
 use Rattle.promise_spec.specs.Records.{Commit}
 use Rattle.promise_spec.specs.Entries.{Log, grown, records_of, standing_of}
 use Rattle.promise_spec.specs.SerialExecution.{IsSerialFrom}
+use Rattle.field_codec.specs.declared.formats.Format.TheVariants.{Two}
 use Rattle.promise_spec.specs.Logs.{IsLog}
 use Rattle.promise_spec.specs.Images.{AreNumbered, IsSoundFolder}
 use Rattle.promise_spec.specs.Moments.{IsImageOf, IsLongest}
@@ -222,7 +223,7 @@ module _ (p : Program) (n seed : ℕ) (r : Observed) (c : Course) (mid : World) 
       let y = logs other left_too in
       elim x.2 [
         | inl whole ↦ elim y.2 [
-          | inl whole_too ↦ absurd (differ (one_log c.live c.live one a x.0 is_a x.1 ∙ whole ∙ sym whole_too ∙ one_log c.live c.live other y.0 b y.1 is_b))
+          | inl whole_too ↦ absurd (differ (one_log Two Two c.live c.live one a x.0 is_a x.1 ∙ whole ∙ sym whole_too ∙ one_log Two Two c.live c.live other y.0 b y.1 is_b))
           | inr lacks ↦ lacks
         ]
         | inr lacks ↦ lacks
@@ -249,6 +250,9 @@ module _ (p : Program) (n seed : ℕ) (r : Observed) (c : Course) (mid : World) 
           batch = b.batch;
           before = b.before;
           bodies = b.bodies;
+          reached = b.reached;
+          session = b.session;
+          follows = b.follows;
           records = b.records;
           log = b.log;
           front = λ image left. b.front image (at_exit image left);

@@ -43,6 +43,8 @@ calm_by old new e none begun risen = go e begun risen
     go (ending.BadProgram fault) b q = absurd b
     go ending.LastGeneration b q = absurd b
     go (ending.UpgradeRefused at) b q = absurd b
+    go ending.OldFormat b q = absurd b
+    go ending.NotOld b q = absurd b
     go (ending.InputTooLong line) b q = absurd b
 
 module _ (p : Program) (n seed : ℕ) (r : Observed) (c : Course) (mid : World) (counts : Channel → ℕ) (turns_end : Ending) (turns told : List Moment) (s : ShowsLoad p n seed r c mid counts turns_end turns told) where

@@ -6,9 +6,10 @@ use Rattle.host_trait.specs.Disk.{settled}
 use Rattle.host_trait.specs.World as host
 use Rattle.host_trait.specs.World.{Disk, moment_of, last_of}
 use Rattle.log_reading.specs.Steps.{seen_in}
+use Rattle.field_codec.specs.declared.formats.Format.TheVariants.{Two}
+use Rattle.silo_spec.specs.Silos.{IsMagic}
 use Rattle.silo_spec.specs.Slots.{IsLive}
 use Rattle.promise_spec.specs.Entries.{Log, standing_of}
-use Rattle.promise_spec.specs.Logs.{magic}
 use Rattle.promise_spec.specs.Openings.{Reads}
 use Rattle.promise_spec.proofs.Openings.{reads_is_live}
 use Rattle.promise_spec.specs.Courses.{Observed, Course, program_in_force}
@@ -38,8 +39,8 @@ behind o r c mid is follows = record {
     log : is.log ≡ c.opening
     log = sym follows.opening
 
-    live : IsLive magic o.slot (seen_in r.old.disk)
-    live = reads_is_live (seen_in r.old.disk) o.slot is.log is.reads
+    live : IsLive IsMagic o.slot (seen_in r.old.disk)
+    live = reads_is_live Two (seen_in r.old.disk) o.slot is.log is.reads
 
     -- the live manager file is a silo's, and so it was synced
     here : mid.disk (Manager o.slot) ≡ settled (r.old.disk (Manager o.slot)).seen

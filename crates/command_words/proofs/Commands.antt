@@ -5,7 +5,7 @@ use Rattle.std.specs.List.{AllByRecursion}
 use Rattle.std.specs.declared.alloc.Global.{Global}
 use Rattle.std.proofs.lemmas.Fmt.{decimal_injective}
 use Rattle.std.proofs.lemmas.Slice.Eq.{bytes_eq-Decides}
-use Rattle.promise_spec.specs.Words.{Choice, Width, Turns, Workers, GivenOption, manner_of, IsNoTurns, AreOptions, Command, Init, Run, Show, History, Audit, Load, Check, Say, SpellsRun, SpellsLoad, SpellsCheck, Compact, Upgrade}
+use Rattle.promise_spec.specs.Words.{Choice, Width, Turns, Workers, GivenOption, manner_of, IsNoTurns, AreOptions, Command, Init, Run, Show, History, Audit, Load, Check, Say, SpellsRun, SpellsLoad, SpellsCheck, Compact, Upgrade, Migrate}
 use Rattle.command_words.specs.Parts.{WidthName, TurnsName, WorkersName, WordPart, OptionPart, NumberPart, option_values, number_words}
 use Rattle.command_words.specs.CutParts.{texts_of, HaveParts}
 use Rattle.command_words.specs.Options.{Chosen, Ask, AreLoadNumbers, AreCheckNumbers, is_first, chosen_manner, run_chosen, load_chosen, has_option}
@@ -115,6 +115,7 @@ run_unsaid texts first none takes (Load n seed m) k = other_first (codes "run") 
 run_unsaid texts first none takes (Check n seed) k = other_first (codes "run") texts _ first k.words_are refl
 run_unsaid texts first none takes Compact k = other_first (codes "run") texts (codes "compact" ∷ []) first k refl
 run_unsaid texts first none takes Upgrade k = other_first (codes "run") texts (codes "upgrade" ∷ []) first k refl
+run_unsaid texts first none takes Migrate k = other_first (codes "run") texts (codes "migrate" ∷ []) first k refl
 
 none_chosen : (options : List GivenOption) → AllByRecursion (λ (g : GivenOption). IsNoTurns g.what) options → (chosen_in options).turns ≡ None
 none_chosen [] none = refl
@@ -139,6 +140,7 @@ load_unsaid texts first none takes (Load n seed m) k =
 load_unsaid texts first none takes (Check n seed) k = other_first (codes "load") texts _ first k.words_are refl
 load_unsaid texts first none takes Compact k = other_first (codes "load") texts (codes "compact" ∷ []) first k refl
 load_unsaid texts first none takes Upgrade k = other_first (codes "load") texts (codes "upgrade" ∷ []) first k refl
+load_unsaid texts first none takes Migrate k = other_first (codes "load") texts (codes "migrate" ∷ []) first k refl
 
 pub check_unsaid : (texts : Texts) → is_first (codes "check") texts ≡ true
     → ((starts seed : ℕ) → AreCheckNumbers starts seed → drop 1 texts ≡ decimal starts ∷ decimal seed ∷ [] → ⊥)
@@ -152,3 +154,4 @@ check_unsaid texts first none takes (Load n seed m) k = other_first (codes "chec
 check_unsaid texts first none takes (Check n seed) k = none n seed (k.few, k.small) (ap (λ (l : Texts). drop 1 l) k.words_are)
 check_unsaid texts first none takes Compact k = other_first (codes "check") texts (codes "compact" ∷ []) first k refl
 check_unsaid texts first none takes Upgrade k = other_first (codes "check") texts (codes "upgrade" ∷ []) first k refl
+check_unsaid texts first none takes Migrate k = other_first (codes "check") texts (codes "migrate" ∷ []) first k refl

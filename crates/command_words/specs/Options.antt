@@ -4,7 +4,7 @@ use Rattle.std.specs.Option.{option_map_or}
 use Rattle.std.specs.Str.{bytes_eq}
 use Rattle.std.specs.Fmt.{decimal}
 use Rattle.std.specs.declared.alloc.Global.{Global}
-use Rattle.promise_spec.specs.Words.{Choice, Width, Turns, Workers, GivenOption, Manner, IsWithin, list_text, Command, Init, Run, Show, History, Audit, Load, Check, Compact, Upgrade}
+use Rattle.promise_spec.specs.Words.{Choice, Width, Turns, Workers, GivenOption, Manner, IsWithin, list_text, Command, Init, Run, Show, History, Audit, Load, Check, Compact, Upgrade, Migrate}
 use Rattle.command_words.specs.declared.word_parts.CutWords.{CutWords}
 use Rattle.command_words.specs.declared.words.RunOptions.{RunOptions}
 use Rattle.command_words.specs.declared.words.LoadOptions.{LoadOptions}
@@ -100,6 +100,7 @@ command_of (words.Load options) = Load options.transfers options.seed (chosen_ma
 command_of (words.Check numbers) = Check numbers.starts numbers.seed
 command_of words.Compact = Compact
 command_of words.Upgrade = Upgrade
+command_of words.Migrate = Migrate
 
 -- an option that the answer may stem from: workers are as many as it has
 abbrev pub workers_of : Words → Option ℕ

@@ -141,5 +141,8 @@ pub fn read_words(alloc: Global, words: &[String]) -> Result<Words, WordsFault>
     if first_is(words, "upgrade") {
         return Ok(Words::Upgrade);
     }
+    if first_is(words, "migrate") {
+        return Ok(Words::Migrate);
+    }
     Err(WordsFault::BadUse)
 }

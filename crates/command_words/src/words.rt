@@ -54,4 +54,6 @@ pub enum Words {
     Compact,
     /// Brings a program into force in a silo.
     Upgrade,
+    /// Writes a silo of format 1 into its other slot as one of format 2.
+    Migrate,
 }

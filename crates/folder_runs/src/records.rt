@@ -47,13 +47,27 @@ fn count_of(text: &str, number: u64) -> u64 {
     count
 }
 
+// Whether a record says this of this unit, behind what was asked: its session stands between both.
+fn says_of(record: &str, said: &str, unit: &str) -> bool {
+    let Some((front, behind)) = record.split_once("\"session\":") else {
+        return false;
+    };
+    let Some((_, owner)) = behind.split_once("\"unit\":") else {
+        return false;
+    };
+    front.ends_with(said) && owner == unit
+}
+
 // Whether a record says what a reply says.
 fn has_record(records: &str, reply: &str) -> bool {
     let Some(said) = reply.strip_prefix("{") else {
         return false;
     };
+    let Some((said, unit)) = said.split_once("\"unit\":") else {
+        return false;
+    };
     for record in records.lines() {
-        if record.ends_with(said) {
+        if says_of(record, said, unit) {
             return true;
         }
     }

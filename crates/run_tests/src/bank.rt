@@ -1,6 +1,6 @@
 // The program of the runs, and silos of it.
 use crate::commands::{carry, copied, output_of};
-use crate::names::{MANAGER, PROGRAM};
+use crate::names::{FIRST_ACCOUNT, MANAGER, PROGRAM};
 use host_memory::MemoryHost;
 use silo_top::Status;
 use std::alloc::{AllocError, Global};
@@ -28,10 +28,17 @@ const DEPOSITS: &str = r#"{"args":[100],"call":"account/1.deposit"}
 "#;
 
 /// The manager file of a new silo.
-pub const NEW_LOG: &[u8] = b"\x01OTXLOG01\0\0\0\0\0\0\0";
+pub const NEW_LOG: &[u8] = b"\x01OTXLOG02\0\0\0\0\0\0\0";
 
 /// The manager file of a silo of the last generation with an empty log, whose header gate is closed.
-pub const LAST_LOG: &[u8] = b"\0OTXLOG01\xff\xff\xff\xff\0\0\0";
+pub const LAST_LOG: &[u8] = b"\0OTXLOG02\xff\xff\xff\xff\0\0\0";
+
+// The manager file of a silo of format 1, which has one record: a deposit of 5 on account 1, as the first line's unit.
+const OLD_LOG: &[u8] =
+    b"\x01OTXLOG01\0\0\0\0\0\0\x01\x44\0\0\0\x01\0\0\0\x01\0\0\0\0\0\0\0\0\x01\0\0\0\0\0\x01\0\0\0\0\0\x01\0\0\x05\0\0\0\0\0\0\0\0\0\x01\0\x05\0\0\0\0\0\0\0\x01\0\0\0\x01\0\0\0\0\0\0\0\0\0\0\0\x13\0\0\0\0";
+
+// The version that it names.
+const OLD_VERSION: &[u8] = b"\x01\0\0\0\0\0\0\0\x01\0\0\x05\0\0\0\0\0\0\0";
 
 /// The text of the bank program, with a type `books`.
 pub fn program_text(alloc: Global) -> Result<String, AllocError> {
@@ -44,6 +51,14 @@ pub fn new_silo<R: Threads + Wait + Sync>(rt: &R, alloc: Global) -> Result<Memor
     let mut host = MemoryHost::new(alloc, &[])?;
     carry(rt, alloc, &mut host, "init", text.as_str())?;
     Ok(host)
+}
+
+/// A silo of format 1 of the bank program, with one deposit.
+pub fn old_silo<R: Threads + Wait + Sync>(rt: &R, alloc: Global) -> Result<MemoryHost, AllocError> {
+    let mut host = new_silo(rt, alloc)?;
+    host.set_file(MANAGER, OLD_LOG)?;
+    host.set_file(FIRST_ACCOUNT, OLD_VERSION)?;
+    copied(&host)
 }
 
 /// A silo of the bank program with three accounts, whose host has put out nothing.

@@ -2,7 +2,7 @@ use crate::answers::{
     add_any_end, add_end, add_images, add_left, add_money, add_output, add_said, add_size,
     add_whether_has, add_whether_new,
 };
-use crate::bank::{LAST_LOG, NEW_LOG, new_books, new_silo, program_text};
+use crate::bank::{LAST_LOG, NEW_LOG, new_books, new_silo, old_silo, program_text};
 use crate::commands::{carry, carry_alone, copied};
 use crate::each_call::add_each_call;
 use crate::faults::add_fault;
@@ -97,6 +97,7 @@ impl Bench {
         let taken = match word {
             "empty" => MemoryHost::new(self.alloc, &[]),
             "new" => new_silo(rt, self.alloc),
+            "old" => old_silo(rt, self.alloc),
             "books" => new_books(rt, self.alloc),
             "crash" => copied(&self.host),
             _ => return Ok(false),

@@ -113,13 +113,30 @@ fn count_in(output: &str) -> Option<u64> {
     count.parse::<u64>().ok()
 }
 
+// Audits what a host holds, which is migrated before that where it is of format 1.
+fn audit<R: Threads + Wait + Sync>(
+    rt: &R,
+    alloc: Global,
+    image: &mut MemoryHost,
+) -> Result<Status, AllocError> {
+    let status = carry(rt, alloc, image, "audit", "")?;
+    if status != Status::OldFormat {
+        return Ok(status);
+    }
+    let migrated = carry(rt, alloc, image, "migrate", "")?;
+    if migrated != Status::Done {
+        return Ok(migrated);
+    }
+    carry(rt, alloc, image, "audit", "")
+}
+
 // The records of what a host holds, none where they don't replay.
 fn records_in<R: Threads + Wait + Sync>(
     rt: &R,
     alloc: Global,
     mut image: MemoryHost,
 ) -> Result<Option<u64>, AllocError> {
-    let status = carry(rt, alloc, &mut image, "audit", "")?;
+    let status = audit(rt, alloc, &mut image)?;
     if status != Status::Done {
         return Ok(None);
     }

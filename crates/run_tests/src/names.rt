@@ -9,6 +9,12 @@ pub const MANAGER: FileId = FileId::Manager { slot: 0 };
 /// The program file of slot 0.
 pub const PROGRAM: FileId = FileId::Program { slot: 0 };
 
+/// The file of account 1 in slot 0.
+pub const FIRST_ACCOUNT: FileId = FileId::Grain {
+    slot: 0,
+    grain: GrainId { kind: 0, key: 1 },
+};
+
 /// A call that is to fail: the nth of its kind on its channel, counted from 1.
 #[derive(Clone, Copy)]
 pub struct Fault {

@@ -2,7 +2,7 @@
 use Rattle.std.proofs.Common.{◌≡◌, ℕ, ◌<◌, ◌≤◌, Bool, true, false, List, [], ◌∷◌, ◌++◌, length, refl, sym, ◌∙◌, ap, subst, arith, true≢false, eqb-true, unwrap_or}
 use Rattle.std.specs.Prelude.{is_some, ◌||◌, ◌&&◌, Option, None, Some}
 use Rattle.std.specs.List.{list_all, list_any, AllByRecursion}
-use Rattle.promise_spec.specs.Words.{Choice, Width, Turns, Workers, GivenOption, Manner, manner_of, plain_manner, with_choice, is_workers, IsWithin, AreOptions, Command, Init, Run, Show, History, Audit, Load, Check, Compact, Upgrade, Say, SpellsRun, SpellsLoad}
+use Rattle.promise_spec.specs.Words.{Choice, Width, Turns, Workers, GivenOption, Manner, manner_of, plain_manner, with_choice, is_workers, IsWithin, AreOptions, Command, Init, Run, Show, History, Audit, Load, Check, Compact, Upgrade, Migrate, Say, SpellsRun, SpellsLoad}
 use Rattle.promise_spec.specs.Calls.{any_option, Understands}
 use Rattle.promise_spec.proofs.Words.{one_command}
 use Rattle.command_words.specs.Options.{Chosen, chosen_manner, is_choice_asked, run_chosen, load_chosen, command_of, has_option}
@@ -45,6 +45,7 @@ says_any takes texts (Load n seed m) k = record {
 says_any takes texts (Check n seed) k = k
 says_any takes texts Compact k = k
 says_any takes texts Upgrade k = k
+says_any takes texts Migrate k = k
 
 -- the words say one command, whatever is taken
 pub one_said : (takes others : GivenOption → Bool) (texts : Texts) (c d : Command) → Say takes texts c → Say others texts d → c ≡ d

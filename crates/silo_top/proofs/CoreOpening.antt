@@ -18,7 +18,7 @@ use Rattle.cell_table.specs.Table.{initial_fields, known_in, state_or}
 use Rattle.script_tree.specs.Programs.{TypeTree, ProgramTree, program_tree}
 use Rattle.script_check.specs.Shapes.{type_shape, type_shapes}
 use Rattle.script_meaning.specs.Play.{initial_of}
-use Rattle.field_codec.specs.declared.formats.Format.TheVariants.{One}
+use Rattle.field_codec.specs.declared.formats.Format.TheVariants.{Two}
 use Rattle.promise_spec.specs.Entries.{initial_states, standing_of}
 use Rattle.promise_spec.specs.Programs.{shape_in}
 use Rattle.promise_spec.specs.Cores.{core_from, memory_limit}
@@ -45,7 +45,7 @@ kept_or None initial = refl
 kept_or (Some state) initial = refl
 
 -- what is known of a place is its version's state
-known_same : (image : Image) (o : Opened) (p : Option Placed) → known_in p ≡ known_state o.slot One (programs_of o) image p
+known_same : (image : Image) (o : Opened) (p : Option Placed) → known_in p ≡ known_state o.slot Two (programs_of o) image p
 known_same image o None = refl
 known_same image o (Some p) = refl
 

@@ -4,7 +4,7 @@ use Rattle.host_trait.specs.declared.channels.Channel.{Channel}
 use Rattle.host_trait.specs.declared.channels.Channel.TheVariants.{Input, Output, File}
 use Rattle.host_trait.specs.declared.channels.FileId.{FileId}
 use Rattle.host_trait.specs.Faults.{NoneFailed}
-use Rattle.promise_spec.specs.Endings.{Ending, Done, BadUse, Memory, ReadFault, WriteFault, DiskFault, NotASilo, AlreadyASilo, Damaged, BadProgram, InputTooLong, LastGeneration, UpgradeRefused, HasRisen, HasFailedAs}
+use Rattle.promise_spec.specs.Endings.{Ending, Done, BadUse, Memory, ReadFault, WriteFault, DiskFault, NotASilo, AlreadyASilo, Damaged, BadProgram, InputTooLong, LastGeneration, UpgradeRefused, OldFormat, NotOld, HasRisen, HasFailedAs}
 use Rattle.silo_opening.specs.Counts.{OpenFaulted}
 use Rattle.silo_opening.specs.OpenedSilo.{ending_of}
 use Rattle.silo_opening.specs.declared.faults.OpenFault.{OpenFault}
@@ -38,6 +38,8 @@ module _ (old new : Counts) where
   failed_risen (BadProgram fault) f = tt
   failed_risen LastGeneration f = tt
   failed_risen (UpgradeRefused at) f = tt
+  failed_risen OldFormat f = tt
+  failed_risen NotOld f = tt
   failed_risen (InputTooLong line) f = tt
 
   -- a failed call on the input is named
@@ -54,6 +56,8 @@ module _ (old new : Counts) where
   failed_input (BadProgram fault) f other = absurd (other (f Input))
   failed_input LastGeneration f other = absurd (other (f Input))
   failed_input (UpgradeRefused at) f other = absurd (other (f Input))
+  failed_input OldFormat f other = absurd (other (f Input))
+  failed_input NotOld f other = absurd (other (f Input))
   failed_input (InputTooLong line) f other = absurd (other (f Input))
 
   -- and so is one on the output
@@ -70,6 +74,8 @@ module _ (old new : Counts) where
   failed_output (BadProgram fault) f other = absurd (other (f Output))
   failed_output LastGeneration f other = absurd (other (f Output))
   failed_output (UpgradeRefused at) f other = absurd (other (f Output))
+  failed_output OldFormat f other = absurd (other (f Output))
+  failed_output NotOld f other = absurd (other (f Output))
   failed_output (InputTooLong line) f other = absurd (other (f Output))
 
   -- so a run that names exactly the call that failed answers as a run does
@@ -85,6 +91,7 @@ module _ (old new : Counts) where
   -- a folder that wasn't opened
   pub open_failed : (e : OpenFault) → OpenFaulted e old new → HasFailedAs (ending_of e) old new
   open_failed OpenFault.NotASilo f = f
+  open_failed OpenFault.OldFormat f = f
   open_failed (OpenFault.Damaged file place) f = f
   open_failed (OpenFault.DiskFault file) f = f
   open_failed OpenFault.LastGeneration f = f
@@ -92,6 +99,7 @@ module _ (old new : Counts) where
 
   pub open_good : (e : OpenFault) → ending_of e ≢ BadUse
   open_good OpenFault.NotASilo q = cc q
+  open_good OpenFault.OldFormat q = cc q
   open_good (OpenFault.Damaged file place) q = cc q
   open_good (OpenFault.DiskFault file) q = cc q
   open_good OpenFault.LastGeneration q = cc q

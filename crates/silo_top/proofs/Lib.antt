@@ -3,6 +3,7 @@ pub mod InputPieces
 pub mod InitCalls
 pub mod ReportCalls
 pub mod CompactCalls
+pub mod MigrateCalls
 pub mod UpgradeCalls
 pub mod ReadLines
 pub mod TurnStart

@@ -11,12 +11,13 @@ use Rattle.log_reading.specs.Steps.{seen_in}
 use Rattle.script_tree.specs.Programs.{program_tree}
 use Rattle.script_tree.specs.declared.programs.Program.{Program as Tree}
 use Rattle.program_file.specs.Programs.{program_in}
-use Rattle.silo_spec.specs.Silos.{manager, IsSilo, IsNewSilo, IsEitherManager}
+use Rattle.field_codec.specs.declared.formats.Format.TheVariants.{Two}
+use Rattle.silo_spec.specs.Silos.{IsMagic, manager, IsSilo, IsNewSilo, IsEitherManager}
+use Rattle.silo_spec.proofs.Magics.{silo_of_format}
 use Rattle.silo_spec.specs.Slots.{IsLive, IsSiloImage, ShowsSilos}
 use Rattle.silo_spec.specs.Moments.{IsUntouched}
 use Rattle.silo_spec.specs.Creation.{StaysBeside, CameThisFar, FromFirstSync, IsNewAt}
 use Rattle.silo_spec.specs.OpenedDisks.{OnlyOpens}
-use Rattle.promise_spec.specs.Logs.{magic}
 use Rattle.promise_spec.specs.Openings.{opened_as}
 use Rattle.promise_spec.specs.Refusals.{IsRefusedBy}
 use Rattle.promise_spec.specs.Words.{Manner}
@@ -53,12 +54,12 @@ done_of A done = Ok done
 
 -- ---- a folder that reads as a silo, by its manager files and by its live slot
 
-reads_silo : (disk : Disk) → IsSiloImage magic (seen_in disk) → ReadsSilo magic disk
+reads_silo : (disk : Disk) → IsSiloImage IsMagic (seen_in disk) → ReadsSilo IsMagic disk
 reads_silo disk (zero, live) = inl live.silo
 reads_silo disk (suc zero, live) = inr live.silo
 reads_silo disk (suc (suc n), live) = absurd (omega (arith, live.slot))
 
-was_silo : (disk : Disk) → ReadsSilo magic disk → IsSiloImage magic (seen_in disk)
+was_silo : (disk : Disk) → ReadsSilo IsMagic disk → IsSiloImage IsMagic (seen_in disk)
 was_silo disk (inl silo) = some_live (seen_in disk) 0 (omega arith) silo
 was_silo disk (inr silo) = some_live (seen_in disk) 1 (omega arith) silo
 
@@ -76,14 +77,14 @@ module _ (m : Manner) (asked : List (List ℕ)) (old new : World) (before after 
   abbrev ended_so : Ending → Observed
   ended_so e = record { manner = m; asked = asked; windowed = false; old = old; new = new; faults_before = before; faults_after = after; ending = e }
 
-  pub uncreated : (A : Type 0) (e : CreateFault) (status : Status) → status_ending status ≡ creation_ending e → StaysBeside old new → (ShowsSilos magic old.disk → CameThisFar magic bank_text old new)
-      → (ShowsSilos magic old.disk → ShowsSilos magic new.disk) → CreateFaulted e before after → (fault_of A e ≡ fault_of A CreateFault.AlreadyASilo → ReadsSilo magic old.disk)
-      → (fault_of A e ≡ fault_of A CreateFault.AlreadyASilo → ManagersStay old new) → (ReadsSilo magic old.disk → IsRefusedOn A e) → (ReadsSilo magic old.disk → IsUntouched old new)
+  pub uncreated : (A : Type 0) (e : CreateFault) (status : Status) → status_ending status ≡ creation_ending e → StaysBeside old new → (ShowsSilos IsMagic old.disk → CameThisFar IsMagic bank_text old new)
+      → (ShowsSilos IsMagic old.disk → ShowsSilos IsMagic new.disk) → CreateFaulted e before after → (fault_of A e ≡ fault_of A CreateFault.AlreadyASilo → ReadsSilo IsMagic old.disk)
+      → (fault_of A e ≡ fault_of A CreateFault.AlreadyASilo → ManagersStay old new) → (ReadsSilo IsMagic old.disk → IsRefusedOn A e) → (ReadsSilo IsMagic old.disk → IsUntouched old new)
       → IsUnmade (observed_call m asked old new before after status)
   uncreated A e status is beside makes shows faulted already lasts silo kept = subst (λ (y : Ending). IsUnmade (ended_so y)) (sym is) (by e faulted already lasts silo)
     where
-      by : (x : CreateFault) → CreateFaulted x before after → (fault_of A x ≡ fault_of A CreateFault.AlreadyASilo → ReadsSilo magic old.disk)
-          → (fault_of A x ≡ fault_of A CreateFault.AlreadyASilo → ManagersStay old new) → (ReadsSilo magic old.disk → IsRefusedOn A x) → IsUnmade (ended_so (creation_ending x))
+      by : (x : CreateFault) → CreateFaulted x before after → (fault_of A x ≡ fault_of A CreateFault.AlreadyASilo → ReadsSilo IsMagic old.disk)
+          → (fault_of A x ≡ fault_of A CreateFault.AlreadyASilo → ManagersStay old new) → (ReadsSilo IsMagic old.disk → IsRefusedOn A x) → IsUnmade (ended_so (creation_ending x))
       by CreateFault.AlreadyASilo f a l s = record {
         beside = beside;
         makes = makes;
@@ -98,7 +99,7 @@ module _ (m : Manner) (asked : List (List ℕ)) (old new : World) (before after 
         ends_as = (
           f.0,
           λ was.
-              let reads : ReadsSilo magic old.disk = reads_silo old.disk was in
+              let reads : ReadsSilo IsMagic old.disk = reads_silo old.disk was in
               (elim (s reads) [ inl other ↦ absurd cc | inr at ↦ subst IsEitherManager (same_file A file at.0 at.2) at.1 ], kept reads),
         );
         failed = f.1;
@@ -114,9 +115,9 @@ uncreated_answers e status before after is faulted = subst (λ (y : Ending). Ans
 -- ---- it was made
 
 pub made_from : (A : Type 0) (old new : World) (done : A)
-    → (ReadsSilo magic old.disk → (done_of A done ≡ fault_of A CreateFault.AlreadyASilo) ⊎ ((file : FileId) × IsEitherManager file × (done_of A done ≡ fault_of A (CreateFault.DiskFault file))))
-    → StaysBeside old new → (ShowsSilos magic old.disk → CameThisFar magic bank_text old new) → (ShowsSilos magic old.disk → ShowsSilos magic new.disk)
-    → ((image : Image) → IsImage new.disk image → IsNewSilo magic bank_text image) → (ShowsSilos magic old.disk → (image : Image) → IsImage new.disk image → IsLive magic 0 image)
+    → (ReadsSilo IsMagic old.disk → (done_of A done ≡ fault_of A CreateFault.AlreadyASilo) ⊎ ((file : FileId) × IsEitherManager file × (done_of A done ≡ fault_of A (CreateFault.DiskFault file))))
+    → StaysBeside old new → (ShowsSilos IsMagic old.disk → CameThisFar IsMagic bank_text old new) → (ShowsSilos IsMagic old.disk → ShowsSilos IsMagic new.disk)
+    → ((image : Image) → IsImage new.disk image → IsNewSilo bank_text image) → (ShowsSilos IsMagic old.disk → (image : Image) → IsImage new.disk image → IsLive IsMagic 0 image)
     → ReadsMayStay new → old.syncs + 4 ≤ new.syncs → new.syncs ≤ old.syncs + 6 → IsMadeFrom old new
 made_from A old new done silo beside makes shows images live stay least most = record {
   absent = absent;
@@ -128,19 +129,19 @@ made_from A old new done silo beside makes shows images live stay least most = r
   syncs = (least, most);
 }
   where
-    absent : IsSiloImage magic (seen_in old.disk) → ⊥
+    absent : IsSiloImage IsMagic (seen_in old.disk) → ⊥
     absent was = elim (silo (reads_silo old.disk was)) [ inl q ↦ (let t : ⊥ = cc in t) | inr q ↦ (let e = q.2 in let t : ⊥ = cc in t) ]
 
-    by : CameThisFar magic bank_text old new → FromFirstSync (IsNewAt magic bank_text) old new
-    by (inl untouched) = absurd (absent (was_silo old.disk (inl (subst (IsSilo magic) (untouched.seen manager) (images (seen_in new.disk) stay).silo))))
+    by : CameThisFar IsMagic bank_text old new → FromFirstSync (IsNewAt IsMagic bank_text) old new
+    by (inl untouched) = absurd (absent (was_silo old.disk (inl (subst (IsSilo IsMagic) (untouched.seen manager) (silo_of_format Two (seen_in new.disk manager) (images (seen_in new.disk) stay).silo)))))
     by (inr first) = first
 
 -- where a silo was made, and the folder read as none, slot 0 is the one that reads as live
-pub live_seen : (old new : World) → IsMadeFrom old new → IsLive magic 0 (seen_in new.disk)
+pub live_seen : (old new : World) → IsMadeFrom old new → IsLive IsMagic 0 (seen_in new.disk)
 live_seen old new made = record {
   slot = omega arith;
-  silo = (made.each (seen_in new.disk) made.stays).silo;
-  over = λ other. absurd (made.absent (was_silo old.disk (inr (subst (IsSilo magic) (looked made.beside.now.other) other))));
+  silo = silo_of_format Two (seen_in new.disk (Manager 0)) (made.each (seen_in new.disk) made.stays).silo;
+  over = λ other. absurd (made.absent (was_silo old.disk (inr (subst (IsSilo IsMagic) (looked made.beside.now.other) other))));
 }
   where
     looked : (new.disk (Manager 1) ≡ old.disk (Manager 1)) ⊎ (new.disk (Manager 1) ≡ settled (old.disk (Manager 1)).seen) → (new.disk (Manager 1)).seen ≡ (old.disk (Manager 1)).seen
@@ -148,7 +149,7 @@ live_seen old new made = record {
     looked (inr looked_at) = ap (λ (f : FileState). f.seen) looked_at
 
 pub made_loads : (n seed : ℕ) (m : Manner) (asked : List (List ℕ)) (old made new : World) (before between after : Channel → ℕ) (status : Status) → IsMadeFrom old made → NoneFailed before between
-    → AnswersRun MayEndLoad (status_ending status) before after → (ShowsSilos magic old.disk → CarriesLoad n seed (observed_call m asked made new between after status)) → Loads n seed m (observed_call m asked old new before after status)
+    → AnswersRun MayEndLoad (status_ending status) before after → (ShowsSilos IsMagic old.disk → CarriesLoad n seed (observed_call m asked made new between after status)) → Loads n seed m (observed_call m asked old new before after status)
 made_loads n seed m asked old made new before between after status is none answers carries = record {
   manner = refl;
   windowed = refl;
@@ -169,13 +170,13 @@ made_loads n seed m asked old made new before between after status is none answe
   });
 }
   where
-    so : ShowsSilos magic old.disk → CarriesLoad n seed (observed_call m asked made new before after status)
+    so : ShowsSilos IsMagic old.disk → CarriesLoad n seed (observed_call m asked made new before after status)
     so short = subst (λ (f : Channel → ℕ). CarriesLoad n seed (observed_call m asked made new f after status)) (λ i c. none c i) (carries short)
 
 -- ---- it wasn't opened
 
 pub unopened_carries : (n seed : ℕ) (m : Manner) (asked : List (List ℕ)) (bank : Tree) (old new : World) (before after : Channel → ℕ) (e : OpenFault) (status : Status) → program_in bank_text ≡ Ok (program_tree bank) → status_ending status ≡ ending_of e
-    → OnlyOpens old new → IsRefusedBy (seen_in old.disk) (opened_as (seen_in old.disk)) (ending_of e) → OpenFaulted e before after → CarriesLoad n seed (observed_call m asked old new before after status)
+    → OnlyOpens old new → IsRefusedBy Two (seen_in old.disk) (opened_as (seen_in old.disk)) (ending_of e) → OpenFaulted e before after → CarriesLoad n seed (observed_call m asked old new before after status)
 unopened_carries n seed m asked bank old new before after e status reads is run refused faulted = record {
   carried = inl (refused_unopened m asked old new before after e status is run refused faulted);
 }

@@ -5,16 +5,15 @@ use Rattle.base_types.specs.Places.{placed_in}
 use Rattle.base_types.specs.declared.calls.GrainId.{GrainId}
 use Rattle.host_trait.specs.declared.channels.FileId.TheVariants.{Manager}
 use Rattle.host_trait.specs.World.{World, Image}
-use Rattle.field_codec.specs.declared.formats.Format.TheVariants.{One}
+use Rattle.field_codec.specs.declared.formats.Format.TheVariants.{Two}
 use Rattle.log_reading.specs.Steps.{seen_in}
 use Rattle.log_reading.specs.Sums.{placed_after}
 use Rattle.program_file.specs.Programs.{program_in}
 use Rattle.script_tree.specs.Programs.{ProgramTree, program_tree}
-use Rattle.silo_spec.specs.Silos.{IsNewSilo}
+use Rattle.silo_spec.specs.Silos.{IsMagic, IsNewSilo}
 use Rattle.silo_spec.specs.Slots.{IsLive}
 use Rattle.promise_spec.specs.Programs.{Program, IsChecked, shape_in}
 use Rattle.promise_spec.specs.Entries.{Log, initial_states, standing_of, new_log}
-use Rattle.promise_spec.specs.Logs.{magic}
 use Rattle.promise_spec.specs.Openings.{Reads, opened_as, log_in_file, log_of, first_missing, named_in, named_by_grain}
 use Rattle.promise_spec.specs.Images.{IsWholeFolder}
 use Rattle.promise_spec.specs.Loads.{bank_text}
@@ -39,14 +38,14 @@ module _ (types : ProgramTree) (reads : program_in bank_text ≡ Ok types) where
   bank_checked = program_checked bank_text types (lit≤ tt) reads
 
   -- a new silo of it reads as it, with no record
-  pub reads_new : (seen : Image) → IsNewSilo magic bank_text seen → IsLive magic 0 seen → opened_as seen ≡ Reads 0 (new_log (bank_of types))
-  reads_new seen new live = log_is_read seen 0 (new_log (bank_of types)) (fresh (bank_of types) seen bank_checked new live)
+  pub reads_new : (seen : Image) → IsNewSilo bank_text seen → IsLive IsMagic 0 seen → opened_as seen ≡ Reads 0 (new_log (bank_of types))
+  reads_new seen new live = log_is_read Two seen 0 (new_log (bank_of types)) (fresh (bank_of types) seen bank_checked new live)
 
   pub bank_whole : (w : World) → IsNewBank w → IsWholeFolder w
   bank_whole w new = whole_folder w (new_folder (bank_of types) w bank_checked (λ image left slot live. (one_slot slot 0 image live (new.live image left), new.each image left)) new.shows)
 
   -- where the folder reads as it, what was opened is it
-  pub seen_same : (x : Opened) (w : World) → IsNewSilo magic bank_text (seen_in w.disk) → IsLive magic 0 (seen_in w.disk) → (is : IsOpenedFrom (seen_in w.disk) x) → (program_of is ≡ bank_of types) × (is.log ≡ new_log (bank_of types))
+  pub seen_same : (x : Opened) (w : World) → IsNewSilo bank_text (seen_in w.disk) → IsLive IsMagic 0 (seen_in w.disk) → (is : IsOpenedFrom (seen_in w.disk) x) → (program_of is ≡ bank_of types) × (is.log ≡ new_log (bank_of types))
   seen_same x w new live is =
       let same = reads_is x.slot 0 is.log (new_log (bank_of types)) (sym is.reads ∙ reads_new (seen_in w.disk) new live) in
       (sym is.program ∙ ap (λ (l : Log). (standing_of l).program) same.1, same.1)
@@ -58,7 +57,7 @@ module _ (types : ProgramTree) (reads : program_in bank_text ≡ Ok types) where
 
 -- an opened silo, with another copy of its program
 abbrev pub with_checked : Opened → Tree → Opened
-with_checked x bank = record { slot = x.slot; generation = x.generation; text = x.text; checked = bank; programs = x.programs; count = x.count; places = x.places; ends = x.ends; next_unit = x.next_unit; gate_at = x.gate_at }
+with_checked x bank = record { slot = x.slot; generation = x.generation; text = x.text; checked = bank; programs = x.programs; count = x.count; places = x.places; ends = x.ends; next_unit = x.next_unit; session = x.session; gate_at = x.gate_at }
 
 pub same_opened : (x : Opened) (bank : Tree) (seen : Image) → program_tree x.checked ≡ program_tree bank → IsOpenedFrom seen x → IsOpenedFrom seen (with_checked x bank)
 same_opened x bank seen same is = record {
@@ -72,6 +71,7 @@ same_opened x bank seen same is = record {
   first_is = is.first_is;
   read = is.read;
   read_as = is.read_as;
+  session = is.session;
   programs = is.programs;
   log_is = is.log_is;
   whole = is.whole;
@@ -86,7 +86,7 @@ same_opened x bank seen same is = record {
     there = ap (λ (t : ProgramTree). record { text = x.text; types = t }) same
 
 -- where the folder reads as it, it is the silo of that program
-pub same_seen : (x : Opened) (bank : Tree) (w : World) → program_in bank_text ≡ Ok (program_tree bank) → IsNewSilo magic bank_text (seen_in w.disk) → IsLive magic 0 (seen_in w.disk) → IsOpenedFrom (seen_in w.disk) x
+pub same_seen : (x : Opened) (bank : Tree) (w : World) → program_in bank_text ≡ Ok (program_tree bank) → IsNewSilo bank_text (seen_in w.disk) → IsLive IsMagic 0 (seen_in w.disk) → IsOpenedFrom (seen_in w.disk) x
     → IsOpenedFrom (seen_in w.disk) (with_checked x bank)
 same_seen x bank w reads new live is = same_opened x bank (seen_in w.disk) (ap (λ (p : Program). p.types) (seen_same (program_tree bank) reads x w new live is).0) is
 

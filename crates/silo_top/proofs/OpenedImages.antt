@@ -11,9 +11,10 @@ use Rattle.host_trait.specs.World.{Disk, Image, IsImage}
 use Rattle.host_trait.proofs.Crashes.{settled_only}
 use Rattle.gate_block.specs.Log.{LogsUpTo, gate_of}
 use Rattle.gate_block.proofs.Logs.{logged, one_log}
-use Rattle.field_codec.specs.declared.formats.Format.TheVariants.{One}
+use Rattle.field_codec.specs.declared.formats.Format.TheVariants.{Two}
 use Rattle.commit_log.specs.declared.records.Named.{Named}
 use Rattle.commit_log.specs.declared.records.Written.{Written}
+use Rattle.log_reading.specs.Sessions.{session_in_file}
 use Rattle.log_reading.specs.Blocks.{LogBase, ReadEntry, LogRead, log_in_file}
 use Rattle.log_reading.specs.Versions.{named_by, named_of_base, named_in, named_by_grain}
 use Rattle.log_reading.specs.Sums.{end_after, greater_end}
@@ -26,6 +27,7 @@ use Rattle.promise_spec.specs.Blocks.{AreKept, Saved, saved_by, IsSaved, Beginni
 use Rattle.promise_spec.specs.Logs.{StandsUpTo, IsLog, IsLogIn}
 use Rattle.promise_spec.proofs.Batched.{base_program}
 use Rattle.promise_spec.proofs.ReadLogs.{IsReadIn, read_base, read_in, read_is}
+use Rattle.promise_spec.proofs.ReadSessions.{greatest_read}
 use Rattle.promise_spec.proofs.Standings.{grown_none}
 use Rattle.promise_spec.specs.Journals.{AllLog}
 use Rattle.promise_spec.proofs.ReadVersions.{all_in_order, all_of_order, entry_seen}
@@ -108,7 +110,7 @@ module _ (P : Written → Type 0) where
       map_all P place_named (named_by_grain (named_in l)) (all_in_order IsNamed (named_in l) (both_parts IsNamed (named_of_base l.base) (named_by 0 l.entries) saved later))
 
 -- what entries that are kept name lies in the grains' files
-entries_within : (live : ℕ) (p : Program) (image : Image) (entries : List LogEntry) → AreKept live image p entries → AllByRecursion (λ w. write_end w ≤ length (image (Grain live w.grain))) (all_writes (records_among entries))
+entries_within : (live : ℕ) (p : Program) (image : Image) (entries : List LogEntry) → AreKept Two live image p entries → AllByRecursion (λ w. write_end w ≤ length (image (Grain live w.grain))) (all_writes (records_among entries))
 entries_within live p image [] kept = tt
 entries_within live p image (Recorded c ∷ entries) kept =
     let P : Written → Type 0 = λ w. write_end w ≤ length (image (Grain live w.grain)) in
@@ -116,17 +118,17 @@ entries_within live p image (Recorded c ∷ entries) kept =
 entries_within live p image (Upgraded q ∷ entries) kept = entries_within live q image entries kept.1
 
 -- what a log begins with lies in the grains' files
-saved_within : (live : ℕ) (p : Program) (image : Image) (ss : List Saved) → AllByRecursion (IsSaved live p image) ss → AllByRecursion (λ w. write_end w ≤ length (image (Grain live w.grain))) (map (λ (s : Saved). s.write) ss)
+saved_within : (live : ℕ) (p : Program) (image : Image) (ss : List Saved) → AllByRecursion (IsSaved Two live p image) ss → AllByRecursion (λ w. write_end w ≤ length (image (Grain live w.grain))) (map (λ (s : Saved). s.write) ss)
 saved_within live p image [] all = tt
 saved_within live p image (s ∷ ss) all = (stands_within live (shape_in p) image s.unit s.write s.state all.0.stands, saved_within live p image ss all.1)
 
-base_within : (live : ℕ) (p : Program) (image : Image) (b : Beginning) → BeginsWhole live p image b → AllByRecursion (λ w. write_end w ≤ length (image (Grain live w.grain))) (read_base b).writes
+base_within : (live : ℕ) (p : Program) (image : Image) (b : Beginning) → BeginsWhole Two live p image b → AllByRecursion (λ w. write_end w ≤ length (image (Grain live w.grain))) (read_base b).writes
 base_within live p image Fresh whole = tt
 base_within live p image (From ck) whole = saved_within live p image (saved_by ck) whole.each
 
 -- what is read of a log begins with what it begins with
-base_read : (live : ℕ) (image : Image) (log : Log) (is : IsLogIn live image log) → (read_in live image log is).l.base ≡ read_base is.stands.begins
-base_read live image log is = ap (λ (l : LogRead). l.base) (read_is live image log is)
+base_read : (live : ℕ) (image : Image) (log : Log) (is : IsLogIn Two live image log) → (read_in Two live image log is).l.base ≡ read_base is.stands.begins
+base_read live image log is = ap (λ (l : LogRead). l.base) (read_is Two live image log is)
 
 -- ---- the ends
 
@@ -164,12 +166,12 @@ module _ (o : Outset) (x : Opened) (st : Started) (seen : Image) (is : IsOpenedF
 
   -- an image with the log and the manager file that was read
   module _ (image : Image) (has : IsLog o.live image o.opening) (same : image (Manager o.live) ≡ seen (Manager o.live)) where
-    abbrev r : IsReadIn o.live has.is.stands.program image o.opening
-    r = read_in o.live image o.opening has.is
+    abbrev r : IsReadIn Two o.live has.is.stands.program image o.opening
+    r = read_in Two o.live image o.opening has.is
 
     -- the program of the folder is the one with which it was opened: that of the log's base
     program_is : has.is.stands.program ≡ is.first
-    program_is = sym (base_program o.live image o.opening has.is.bodies has.is.gate has.is.stands)
+    program_is = sym (base_program Two o.live image o.opening has.is.bodies has.is.gate has.is.session has.is.stands)
         ∙ ap (λ (l : Log). l.base.program) (opening ∙ is.log_is)
 
     file_is : image (Manager o.live) ≡ seen (Manager x.slot)
@@ -177,7 +179,11 @@ module _ (o : Outset) (x : Opened) (st : Started) (seen : Image) (is : IsOpenedF
 
     -- reads as the log that was read
     log_is : r.l ≡ is.read
-    log_is = let read : Ok r.l ≡ Ok is.read = sym r.read ∙ (λ i. log_in_file One (program_is i) (file_is i)) ∙ is.read_as in cc
+    log_is = let read : Ok r.l ≡ Ok is.read = sym r.read ∙ (λ i. log_in_file Two (program_is i) (file_is i)) ∙ is.read_as in cc
+
+    -- and so it has the session that was read
+    session_is : has.is.session ≡ x.session
+    session_is = greatest_read Two o.live image o.opening has.is ∙ (λ i. session_in_file Two (program_is i) (file_is i)) ∙ sym is.session
 
     named_below : AllByRecursion (λ n. IsBelow (file_end writer) n.written) (named_in r.l)
     named_below = subst (λ (l : LogRead). AllByRecursion (λ n. IsBelow (file_end writer) n.written) (named_in l)) (sym log_is) all_below
@@ -197,10 +203,10 @@ module _ (o : Outset) (x : Opened) (st : Started) (seen : Image) (is : IsOpenedF
     long : (grain : GrainId) → file_end writer grain ≤ length (image (Grain o.live grain))
     long grain = subst (λ (e : GrainId → ℕ). e grain ≤ length (image (Grain o.live grain))) (sym ends_are) (raised_long o.live image from_zero places (λ g. omega arith) within grain)
 
-  -- the log stands in an image up to this closed gate, and all that it begins with ends at most where the writer's ends are
-  abbrev RestsUpTo : Image → List (List ℕ) → ℕ → Type 0
-  RestsUpTo image bodies gate =
-      (s : StandsUpTo o.live image o.opening bodies gate) × (slice_index (image (Manager o.live)) gate ≢ 1) × AreNamedBy (IsBelow (file_end writer)) s.begins
+  -- the log stands in an image up to this closed gate, with this session at last, and all that it begins with ends at most where the writer's ends are
+  abbrev RestsUpTo : Image → List (List ℕ) → ℕ → ℕ → Type 0
+  RestsUpTo image bodies gate reached =
+      (s : StandsUpTo Two o.live image o.opening bodies gate reached) × (slice_index (image (Manager o.live)) gate ≢ 1) × AreNamedBy (IsBelow (file_end writer)) s.begins
 
   -- Where nothing is pending in the manager file and each image has the log, the writer keeps the folder so.
   pub starts_resting : (r : Run) (disk : Disk) → disk (Manager o.live) ≡ settled (seen (Manager o.live)) → (o.world.disk (Manager o.live)).seen ≡ seen (Manager o.live) → IsImage disk seen → AllLog o.live o.opening disk → KeepsFolder o (take 15 (seen (Manager o.live))) no_books r writer disk
@@ -213,6 +219,8 @@ module _ (o : Outset) (x : Opened) (st : Started) (seen : Image) (is : IsOpenedF
         shape_is = ap shape_in (sym in_force);
         below = below seen own refl;
       };
+      reached = x.session;
+      later = (let mine = start.session in omega (arith, mine));
       images = each;
     };
     behind = λ none bytes may. ap (drop (writer.gate_at + 1)) (settled_only (seen (Manager o.live)) bytes (subst (λ (f : FileState). MayLeave f bytes) still may) ∙ sym begun);
@@ -230,14 +238,15 @@ module _ (o : Outset) (x : Opened) (st : Started) (seen : Image) (is : IsOpenedF
       gate : own.is.gate ≡ writer.gate_at
       gate = sym (logged own.is.bodies own.is.gate (seen (Manager o.live)) own_logs).1 ∙ ap (λ (n : ℕ). gate_of (seen (Manager n))) slot ∙ is.gate ∙ sym start.gate
 
-      each : (image : Image) → IsImage disk image → IsAtRest o.live (shape_in o.program) (take 15 (seen (Manager o.live))) o.opening own.is.bodies writer.gate_at (file_end writer) (kept_of writer) image
+      each : (image : Image) → IsImage disk image → IsAtRest o.live (shape_in o.program) (take 15 (seen (Manager o.live))) o.opening own.is.bodies writer.gate_at x.session (file_end writer) (kept_of writer) image
       each image image_is =
           let has : IsLog o.live image o.opening = all image image_is in
           let logs : LogsUpTo has.is.bodies has.is.gate (image (Manager o.live)) = record { blocks = has.is.stands.stand; closed = has.is.closed } in
           let one = one_log has.is.bodies own.is.bodies has.is.gate own.is.gate (seen (Manager o.live)) (subst (LogsUpTo has.is.bodies has.is.gate) (same image image_is) logs) own_logs in
-          let at : RestsUpTo image own.is.bodies writer.gate_at =
-          subst (λ (n : ℕ). RestsUpTo image own.is.bodies n) (one.1 ∙ gate)
-          (subst (λ (bodies : List (List ℕ)). RestsUpTo image bodies has.is.gate) one.0 (has.is.stands, has.is.closed, base_below image has (same image image_is))) in
+          let at : RestsUpTo image own.is.bodies writer.gate_at x.session =
+          subst (λ (n : ℕ). RestsUpTo image own.is.bodies n x.session) (one.1 ∙ gate)
+          (subst (λ (bodies : List (List ℕ)). RestsUpTo image bodies has.is.gate x.session) one.0
+          (subst (λ (n : ℕ). RestsUpTo image has.is.bodies has.is.gate n) (session_is image has (same image image_is)) (has.is.stands, has.is.closed, base_below image has (same image image_is)))) in
           record {
             is_live = has.is_live;
             header = ap (take 15) (same image image_is);

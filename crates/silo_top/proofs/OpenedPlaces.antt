@@ -15,7 +15,7 @@ use Rattle.host_trait.specs.Files.{same_grain}
 use Rattle.host_trait.specs.World.{World, Disk, Image}
 use Rattle.host_trait.specs.declared.channels.FileId.TheVariants.{Grain}
 use Rattle.field_codec.specs.declared.formats.Format.{Format}
-use Rattle.field_codec.specs.declared.formats.Format.TheVariants.{One}
+use Rattle.field_codec.specs.declared.formats.Format.TheVariants.{Two}
 use Rattle.core_model.specs.CoreState.{Member}
 use Rattle.commit_log.specs.declared.records.Named.{Named}
 use Rattle.log_reading.specs.Versions.{named_in, named_by_grain, version_found, version_numbered}
@@ -90,9 +90,9 @@ module _ (live : ℕ) (format : Format) (programs : List ProgramTree) (image : I
 
 -- it is the last of those that the entries brought into force
 last_of : (live : ℕ) (image : Image) (before : Standing) (p : Program) (entries : List ReadEntry) → before.program ≡ p
-    → (after_entries before (entries_logged live p image entries)).program.types ≡ last_program p.types (map (λ (q : Program). q.types) (programs_read entries))
+    → (after_entries before (entries_logged Two live p image entries)).program.types ≡ last_program p.types (map (λ (q : Program). q.types) (programs_read entries))
 last_of live image before p [] is = ap (λ (q : Program). q.types) is
-last_of live image before p (ReadRecord r ∷ entries) is = last_of live image (after_entry before (Recorded (commit_of live (shape_in p) image r))) p entries is
+last_of live image before p (ReadRecord r ∷ entries) is = last_of live image (after_entry before (Recorded (commit_of Two live (shape_in p) image r))) p entries is
 last_of live image before p (ReadUpgrade q ∷ entries) is = last_of live image (after_entry before (Upgraded q)) q entries refl
 
 -- ---- an opened silo
@@ -103,27 +103,27 @@ module _ (image : Image) (x : Opened) (is : IsOpenedFrom image x) (writer : Batc
   places_are g = ap (λ (ps : Places). placed_in ps g) places
 
   old_one : (g : GrainId) → IsPlacedAs None (placed_in x.places g)
-  old_one g = subst (IsPlacedAs None) (sym (is.places g)) (old_places x.slot One (programs_of x) image (named_by_grain (named_in is.read)) g None tt)
+  old_one g = subst (IsPlacedAs None) (sym (is.places g)) (old_places x.slot Two (programs_of x) image (named_by_grain (named_in is.read)) g None tt)
 
-  near_one : (g : GrainId) → EndsBy x.slot One (programs_of x) image (placed_in x.places g) (unwrap_or (end_in x.ends g) 0)
+  near_one : (g : GrainId) → EndsBy x.slot Two (programs_of x) image (placed_in x.places g) (unwrap_or (end_in x.ends g) 0)
   near_one g =
-      subst (λ (p : Option Placed). EndsBy x.slot One (programs_of x) image p (unwrap_or (end_in x.ends g) 0)) (sym (is.places g))
-      (subst (λ (e : Option ℕ). EndsBy x.slot One (programs_of x) image (placed_after x.slot One (programs_of x) image None (named_by_grain (named_in is.read)) g) (unwrap_or e 0)) (sym (is.ends g))
-      (near_places x.slot One (programs_of x) image (named_by_grain (named_in is.read)) g None None tt))
+      subst (λ (p : Option Placed). EndsBy x.slot Two (programs_of x) image p (unwrap_or (end_in x.ends g) 0)) (sym (is.places g))
+      (subst (λ (e : Option ℕ). EndsBy x.slot Two (programs_of x) image (placed_after x.slot Two (programs_of x) image None (named_by_grain (named_in is.read)) g) (unwrap_or e 0)) (sym (is.ends g))
+      (near_places x.slot Two (programs_of x) image (named_by_grain (named_in is.read)) g None None tt))
 
   -- what a place stands for
   of_opening : (g : GrainId) (p : Option Placed) → placed_in x.places g ≡ p → IsOfOpening (initial_states (program_in x) g) ((standing_of is.log).states g) p
-  of_opening g None q = sym (sym (ap (λ (p : Option Placed). unwrap_or (known_state x.slot One (programs_of x) image p) (initial_states (program_in x) g)) q) ∙ known_stand image x is g)
-  of_opening g (Some p) q = λ old. sym (ap (λ (r : Option Placed). unwrap_or (known_state x.slot One (programs_of x) image r) (initial_states (program_in x) g)) q) ∙ known_stand image x is g
+  of_opening g None q = sym (sym (ap (λ (p : Option Placed). unwrap_or (known_state x.slot Two (programs_of x) image p) (initial_states (program_in x) g)) q) ∙ known_stand image x is g)
+  of_opening g (Some p) q = λ old. sym (ap (λ (r : Option Placed). unwrap_or (known_state x.slot Two (programs_of x) image r) (initial_states (program_in x) g)) q) ∙ known_stand image x is g
 
   -- the program in force is the last of them
-  log_now : (standing_of (log_of x.slot is.first image is.read)).program ≡ program_in x
+  log_now : (standing_of (log_of Two x.slot is.first image is.read)).program ≡ program_in x
   log_now = ap (λ (l : Log). (standing_of l).program) (sym is.log_is) ∙ is.program
 
   newest_now : newest_program (writers_programs writer) ≡ program_tree x.checked
   newest_now =
       ap newest_program (trees ∙ is.programs)
-      ∙ sym (last_of x.slot image (log_of x.slot is.first image is.read).base is.first is.read.entries refl)
+      ∙ sym (last_of x.slot image (log_of Two x.slot is.first image is.read).base is.first is.read.entries refl)
       ∙ ap (λ (p : Program). p.types) log_now
 
   shape_now : slice_get (shapes_in_turn (writers_programs writer)) (newest_number writer) ≡ Some (shape_in (program_in x))
@@ -131,18 +131,18 @@ module _ (image : Image) (x : Opened) (is : IsOpenedFrom image x) (writer : Batc
 
   module _ (o : Outset) (live : o.live ≡ x.slot) (types : o.program.types ≡ (program_in x).types) (disk : Disk) (seen : (g : GrainId) → (disk (Grain x.slot g)).seen ≡ image (Grain x.slot g)) where
     -- a version that the image has stands in the file
-    stands_by : (s : Option Shape) (g : GrainId) (place : Place) (v : Version) → placed_by_shape x.slot One s image g place ≡ Ok v → StandsBy x.slot s disk g place v
+    stands_by : (s : Option Shape) (g : GrainId) (place : Place) (v : Version) → placed_by_shape x.slot Two s image g place ≡ Ok v → StandsBy x.slot s disk g place v
     stands_by None g place v is = absurd cc
-    stands_by (Some shape) g place v is = ap (λ (bytes : List ℕ). version_placed x.slot One shape (λ file. bytes) g place) (seen g) ∙ is
+    stands_by (Some shape) g place v is = ap (λ (bytes : List ℕ). version_placed x.slot Two shape (λ file. bytes) g place) (seen g) ∙ is
 
     told : (g : GrainId) (p : Placed) → placed_in x.places g ≡ Some p → IsTold x.slot (programs_of x) disk (file_end writer) g p
     told g p q =
-        let st : IsStanding x.slot One (programs_of x) image g (Some p) = subst (IsStanding x.slot One (programs_of x) image g) q (opened_stand image x is g) in
+        let st : IsStanding x.slot Two (programs_of x) image g (Some p) = subst (IsStanding x.slot Two (programs_of x) image g) q (opened_stand image x is g) in
         record {
           version = st.0;
           stands = stands_by (slice_get (shapes_of x) p.program) g p.place st.0 st.1;
           known = st.2;
-          below = subst (λ (n : ℕ). p.place.offset + p.place.len ≤ n) (sym (ends g)) (subst (λ (r : Option Placed). EndsBy x.slot One (programs_of x) image r (unwrap_or (end_in x.ends g) 0)) q (near_one g));
+          below = subst (λ (n : ℕ). p.place.offset + p.place.len ≤ n) (sym (ends g)) (subst (λ (r : Option Placed). EndsBy x.slot Two (programs_of x) image r (unwrap_or (end_in x.ends g) 0)) q (near_one g));
         }
 
     stands : (g : GrainId) (p : Option Placed) → placed_in x.places g ≡ p → PlaceStands x.slot (programs_of x) disk (file_end writer) g p

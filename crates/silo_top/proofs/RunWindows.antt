@@ -99,6 +99,8 @@ module _ (tells : Bool) (pulled : List ℕ) (asked : List (List ℕ)) (now : Wor
   carried_by (ending.BadProgram fault) a = absurd a
   carried_by ending.LastGeneration a = absurd a
   carried_by (ending.UpgradeRefused at) a = absurd a
+  carried_by ending.OldFormat a = absurd a
+  carried_by ending.NotOld a = absurd a
   carried_by (ending.InputTooLong line) a = tt
 
   no_file : (e : Ending) → InputEndsAs e tells pulled asked now → IsDiskFault e → ⊥
@@ -114,6 +116,8 @@ module _ (tells : Bool) (pulled : List ℕ) (asked : List (List ℕ)) (now : Wor
   no_file (ending.BadProgram fault) a d = absurd a
   no_file ending.LastGeneration a d = absurd a
   no_file (ending.UpgradeRefused at) a d = absurd a
+  no_file ending.OldFormat a d = absurd a
+  no_file ending.NotOld a d = absurd a
   no_file (ending.InputTooLong line) a d = absurd d
 
   good_by : (e : Ending) → InputEndsAs e tells pulled asked now → e ≢ ending.BadUse
@@ -129,6 +133,8 @@ module _ (tells : Bool) (pulled : List ℕ) (asked : List (List ℕ)) (now : Wor
   good_by (ending.BadProgram fault) a q = absurd a
   good_by ending.LastGeneration a q = absurd a
   good_by (ending.UpgradeRefused at) a q = absurd a
+  good_by ending.OldFormat a q = absurd a
+  good_by ending.NotOld a q = absurd a
   good_by (ending.InputTooLong line) a q = cc q
 
   -- no other channel's count has changed, and the input's hasn't fallen
@@ -151,6 +157,8 @@ module _ (tells : Bool) (pulled : List ℕ) (asked : List (List ℕ)) (now : Wor
       by (ending.BadProgram fault) a n = absurd a
       by ending.LastGeneration a n = absurd a
       by (ending.UpgradeRefused at) a n = absurd a
+      by ending.OldFormat a n = absurd a
+      by ending.NotOld a n = absurd a
       by (ending.InputTooLong line) a n = calm n
 
   -- a failed pull is shown by its count, and no other fault of the input is passed over
@@ -167,6 +175,8 @@ module _ (tells : Bool) (pulled : List ℕ) (asked : List (List ℕ)) (now : Wor
   risen_by old f f' same (ending.BadProgram fault) a n = absurd a
   risen_by old f f' same ending.LastGeneration a n = absurd a
   risen_by old f f' same (ending.UpgradeRefused at) a n = absurd a
+  risen_by old f f' same ending.OldFormat a n = absurd a
+  risen_by old f f' same ending.NotOld a n = absurd a
   risen_by old f f' same (ending.InputTooLong line) a n = tt
 
   named_by : (old f f' : Counts) → f Input ≡ old Input → (e : Ending) → InputEndsAs e tells pulled asked now → HasFailedAs e f f' → f' Input ≢ old Input → e ≡ ending.ReadFault
@@ -182,6 +192,8 @@ module _ (tells : Bool) (pulled : List ℕ) (asked : List (List ℕ)) (now : Wor
   named_by old f f' same (ending.BadProgram fault) a n other = absurd a
   named_by old f f' same ending.LastGeneration a n other = absurd a
   named_by old f f' same (ending.UpgradeRefused at) a n other = absurd a
+  named_by old f f' same ending.OldFormat a n other = absurd a
+  named_by old f f' same ending.NotOld a n other = absurd a
   named_by old f f' same (ending.InputTooLong line) a n other = absurd (other (n Input ∙ same))
 
   -- the lines of the windows that stand whole are some windows'
@@ -216,6 +228,8 @@ module _ (m : Manner) (old now : World) (before after : Counts) (status : Status
   allowed_by (ending.BadProgram fault) a = absurd a
   allowed_by ending.LastGeneration a = absurd a
   allowed_by (ending.UpgradeRefused at) a = absurd a
+  allowed_by ending.OldFormat a = absurd a
+  allowed_by ending.NotOld a = absurd a
   allowed_by (ending.InputTooLong line) a = record {
     number = a.number;
     first = ap (λ (l : List ℕ). first_bad 0 (lines_of l)) (i.whole is_told) ∙ a.bad now.input;

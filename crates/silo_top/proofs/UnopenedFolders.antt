@@ -3,6 +3,7 @@ use Rattle.std.proofs.Common.{◌≡◌, inl, true, ℕ, List, refl, sym, subst,
 use Rattle.host_trait.specs.declared.channels.Channel.{Channel}
 use Rattle.host_trait.specs.World.{World}
 use Rattle.host_trait.proofs.Moments.{started}
+use Rattle.field_codec.specs.declared.formats.Format.TheVariants.{Two}
 use Rattle.silo_spec.specs.OpenedDisks.{OnlyOpens}
 use Rattle.silo_spec.specs.Moments.{IsAsAtEntry, IsUntouched}
 use Rattle.silo_spec.specs.Creation.{IsBeside}
@@ -14,6 +15,7 @@ use Rattle.promise_spec.specs.Courses.{Observed}
 use Rattle.promise_spec.specs.Commands.{MakesSilo}
 use Rattle.promise_spec.specs.Loads.{IsUnmade}
 use Rattle.promise_spec.specs.Refusals.{IsRefusedBy, IsUnopened}
+use Rattle.promise_spec.specs.Migration.{IsMigrateUnopened}
 use Rattle.promise_spec.specs.Upgrading.{IsInputRefused}
 use Rattle.promise_spec.specs.Promise.{Promises}
 use Rattle.silo_opening.specs.OpenedSilo.{ending_of}
@@ -33,12 +35,12 @@ unopened_promised m r is cut u = record { manner = is; windowed = cut; answers =
 
 -- so does one whose opening answered a fault
 pub refused_promised : (m : Manner) (old new : World) (before after : Channel → ℕ) (e : OpenFault) (status : Status) → status_ending status ≡ ending_of e → OnlyOpens old new
-    → IsRefusedBy (seen_in old.disk) (opened_as (seen_in old.disk)) (ending_of e) → OpenFaulted e before after → Promises m (observed_run m old new before after status)
+    → IsRefusedBy Two (seen_in old.disk) (opened_as (seen_in old.disk)) (ending_of e) → OpenFaulted e before after → Promises m (observed_run m old new before after status)
 refused_promised m old new before after e status is run refused faulted = unopened_promised m (observed_run m old new before after status) refl refl (record {
   untouched = opens_untouched _ old new run;
   unread = run.input;
   syncs = run.syncs;
-  refused = subst (λ (x : Ending). IsRefusedBy (seen_in old.disk) (opened_as (seen_in old.disk)) x) (sym is) refused;
+  refused = subst (λ (x : Ending). IsRefusedBy Two (seen_in old.disk) (opened_as (seen_in old.disk)) x) (sym is) refused;
   failed = subst (λ (x : Ending). HasFailedAs x before after) (sym is) (open_failed before after e faulted);
 })
 
@@ -54,6 +56,15 @@ nothing_touched w = record {
 -- where memory is wanting before anything was done
 pub starved_unopened : (m : Manner) (asked : List (List ℕ)) (w : World) (counts : Channel → ℕ) → IsUnopened (observed_call m asked w w counts counts Status.Memory)
 starved_unopened m asked w counts = record {
+  untouched = nothing_touched w;
+  unread = refl;
+  syncs = omega arith;
+  refused = tt;
+  failed = λ channel. refl;
+}
+
+pub starved_migrate : (m : Manner) (asked : List (List ℕ)) (w : World) (counts : Channel → ℕ) → IsMigrateUnopened (observed_call m asked w w counts counts Status.Memory)
+starved_migrate m asked w counts = record {
   untouched = nothing_touched w;
   unread = refl;
   syncs = omega arith;
@@ -96,11 +107,11 @@ starved_unmade m asked w counts = record {
 
 -- a folder that wasn't opened, whatever the call was to do
 pub refused_unopened : (m : Manner) (asked : List (List ℕ)) (old new : World) (before after : Channel → ℕ) (e : OpenFault) (status : Status) → status_ending status ≡ ending_of e → OnlyOpens old new
-    → IsRefusedBy (seen_in old.disk) (opened_as (seen_in old.disk)) (ending_of e) → OpenFaulted e before after → IsUnopened (observed_call m asked old new before after status)
+    → IsRefusedBy Two (seen_in old.disk) (opened_as (seen_in old.disk)) (ending_of e) → OpenFaulted e before after → IsUnopened (observed_call m asked old new before after status)
 refused_unopened m asked old new before after e status is run refused faulted = record {
   untouched = opens_untouched _ old new run;
   unread = run.input;
   syncs = run.syncs;
-  refused = subst (λ (x : Ending). IsRefusedBy (seen_in old.disk) (opened_as (seen_in old.disk)) x) (sym is) refused;
+  refused = subst (λ (x : Ending). IsRefusedBy Two (seen_in old.disk) (opened_as (seen_in old.disk)) x) (sym is) refused;
   failed = subst (λ (x : Ending). HasFailedAs x before after) (sym is) (open_failed before after e faulted);
 }

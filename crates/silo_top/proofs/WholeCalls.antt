@@ -2,7 +2,7 @@
 use Rattle.std.proofs.Common.{◌≡◌, inl, inr, ℕ, List, [], refl, subst}
 use Rattle.host_trait.specs.declared.channels.Channel.{Channel}
 use Rattle.host_trait.specs.World.{World}
-use Rattle.promise_spec.specs.Words.{plain_manner, Command, Init, Run, Show, History, Audit, Load, Check, Compact, Upgrade}
+use Rattle.promise_spec.specs.Words.{plain_manner, Command, Init, Run, Show, History, Audit, Load, Check, Compact, Upgrade, Migrate}
 use Rattle.promise_spec.specs.Endings.{Ending, BadUse, Memory, HasFailedAs}
 use Rattle.promise_spec.specs.Courses.{Observed}
 use Rattle.promise_spec.specs.Calls.{any_option, Understands, Obeys, Serves, AnswersAs, MayGoOn}
@@ -12,7 +12,7 @@ use Rattle.silo_top.specs.CallAnswers.{shown, AnswersRun}
 use Rattle.silo_top.proofs.AskedWords.{one_said}
 use Rattle.silo_top.proofs.FaultCounts.{failed_risen, failed_input, failed_output}
 use Rattle.silo_top.proofs.CheckCalls.{starved_checks}
-use Rattle.silo_top.proofs.UnopenedFolders.{starved_promised, starved_made, starved_unopened, starved_upgrade, starved_unmade}
+use Rattle.silo_top.proofs.UnopenedFolders.{starved_promised, starved_made, starved_unopened, starved_migrate, starved_upgrade, starved_unmade}
 
 module _ (texts : List (List ℕ)) where
   -- one command is understood
@@ -86,6 +86,7 @@ module _ (texts : List (List ℕ)) where
       obeys (Check n seed) = starved_checks n seed plain_manner [] w counts
       obeys Compact = inl (starved_unopened plain_manner [] w counts)
       obeys Upgrade = inl (starved_upgrade plain_manner [] w counts)
+      obeys Migrate = inl (starved_migrate plain_manner [] w counts)
 
   pub starved_answers : (counts : Channel → ℕ) → AnswersAs texts Memory counts counts
   starved_answers counts = record {

@@ -1,13 +1,13 @@
 -- What the words ask for.
 use Rattle.std.specs.Prelude.{◌≡◌, false, ◌<◌, ◌≤◌, ℕ, List, [], Option, None, Some, unwrap_or, ⊤}
 use Rattle.promise_spec.specs.Calls.{Understands}
-use Rattle.promise_spec.specs.Words.{Manner, Command, Init as MakesOne, Run as CarriesLines, Show as TellsStates, History as TellsRecords, Audit as PlaysAgain, Load as CarriesLoad, Check as ChecksCommits, Compact as WritesAnew, Upgrade as Reprograms}
+use Rattle.promise_spec.specs.Words.{Manner, Command, Init as MakesOne, Run as CarriesLines, Show as TellsStates, History as TellsRecords, Audit as PlaysAgain, Load as CarriesLoad, Check as ChecksCommits, Compact as WritesAnew, Upgrade as Reprograms, Migrate as WritesInNewFormat}
 use Rattle.command_words.specs.Options.{Chosen}
 use Rattle.silo_top.specs.CallAnswers.{turns_manner, workers_manner, manner_for}
 use Rattle.silo_top.specs.declared.asked_command.Carriage.{Carriage}
 use Rattle.silo_top.specs.declared.asked_command.Carriage.TheVariants.{Turns, Workers}
 use Rattle.silo_top.specs.declared.asked_command.Asked.{Asked}
-use Rattle.silo_top.specs.declared.asked_command.Asked.TheVariants.{Init, Run, Show, History, Audit, Load, Check, Compact, Upgrade}
+use Rattle.silo_top.specs.declared.asked_command.Asked.TheVariants.{Init, Run, Show, History, Audit, Load, Check, Compact, Upgrade, Migrate}
 use Rattle.silo_top.specs.declared.commands.ByWorkers.{ByWorkers}
 
 -- ---- how lines are carried
@@ -44,6 +44,7 @@ asked_command (Load transfers seed how) = CarriesLoad transfers seed (carriage_m
 asked_command (Check starts seed) = ChecksCommits starts seed
 asked_command Compact = WritesAnew
 asked_command Upgrade = Reprograms
+asked_command Migrate = WritesInNewFormat
 
 -- lines can be carried so, and a load has so many transfers at most
 abbrev pub MayBeCarried : Asked → Type 0
@@ -56,6 +57,7 @@ MayBeCarried (Load transfers seed how) = IsCarriage how × (transfers ≤ 100000
 MayBeCarried (Check starts seed) = ⊤
 MayBeCarried Compact = ⊤
 MayBeCarried Upgrade = ⊤
+MayBeCarried Migrate = ⊤
 
 -- ---- what is left to workers
 

@@ -11,10 +11,10 @@ use Rattle.log_reading.specs.Steps.{seen_in}
 use Rattle.silo_opening.specs.declared.faults.CreateFault.{CreateFault}
 use Rattle.silo_opening.specs.declared.opened_silo.Opened.{Opened}
 use Rattle.host_trait.specs.World.{World, Moment, Image, IsImage}
-use Rattle.silo_spec.specs.Silos.{IsNewSilo}
+use Rattle.silo_spec.specs.Silos.{IsMagic, IsNewSilo}
 use Rattle.silo_spec.specs.Slots.{IsLive, IsSiloImage, ShowsSilos}
 use Rattle.silo_spec.specs.Creation.{StaysBeside, IsNewAt, FromFirstSync}
-use Rattle.promise_spec.specs.Logs.{magic, IsPrefix}
+use Rattle.promise_spec.specs.Logs.{IsPrefix}
 use Rattle.promise_spec.specs.Endings as ending
 use Rattle.promise_spec.specs.Courses.{Observed, Course, program_in_force}
 use Rattle.run_books.specs.declared.faults.RunFault.{RunFault}
@@ -24,18 +24,18 @@ use Rattle.promise_spec.specs.Loads.{bank_text, KeepsLoad}
 
 -- Each image is a silo of the bank program with an empty log, in slot 0, and no manager file that reads too short is a silo's.
 pub record IsNewBank (w : World) : Type 0 where
-  pub each : (image : Image) → IsImage w.disk image → IsNewSilo magic bank_text image
-  pub live : (image : Image) → IsImage w.disk image → IsLive magic 0 image
-  pub shows : ShowsSilos magic w.disk
+  pub each : (image : Image) → IsImage w.disk image → IsNewSilo bank_text image
+  pub live : (image : Image) → IsImage w.disk image → IsLive IsMagic 0 image
+  pub shows : ShowsSilos IsMagic w.disk
 
 -- A silo of the bank program was made, where the folder read as none. It is the live one, where no manager file that read too short
 -- was a silo's.
 pub record IsMadeFrom (old made : World) : Type 0 where
-  pub absent : IsSiloImage magic (seen_in old.disk) → ⊥
+  pub absent : IsSiloImage IsMagic (seen_in old.disk) → ⊥
   pub beside : StaysBeside old made
-  pub makes : ShowsSilos magic old.disk → FromFirstSync (IsNewAt magic bank_text) old made
-  pub each : (image : Image) → IsImage made.disk image → IsNewSilo magic bank_text image
-  pub bank : ShowsSilos magic old.disk → IsNewBank made
+  pub makes : ShowsSilos IsMagic old.disk → FromFirstSync (IsNewAt IsMagic bank_text) old made
+  pub each : (image : Image) → IsImage made.disk image → IsNewSilo bank_text image
+  pub bank : ShowsSilos IsMagic old.disk → IsNewBank made
   pub stays : (file : FileId) → MayLeave (made.disk file) (made.disk file).seen
   pub syncs : (old.syncs + 4 ≤ made.syncs) × (made.syncs ≤ old.syncs + 6)
 

@@ -1,5 +1,5 @@
 -- What a run starts with.
-use Rattle.std.specs.Prelude.{◌≡◌, List, [], false, length, slice_get, unwrap_or}
+use Rattle.std.specs.Prelude.{◌≡◌, ◌+◌, List, [], false, length, slice_get, unwrap_or}
 use Rattle.base_types.specs.Stores.{end_in}
 use Rattle.base_types.specs.declared.calls.GrainId.{GrainId}
 use Rattle.base_types.specs.declared.calls.Value.{Value}
@@ -24,7 +24,7 @@ placed_state shape places g = state_or (known_in (placed_in places g)) (initial_
 -- The program and the slot are the opened silo's. The core has no events; its units are numbered from the next one on, its grains open
 -- with the states of the versions at their places, and it keeps so many of those used last in memory. The settler goes on at the log's
 -- gate, at the ends that the log names and at the places of the grains' last versions, knows the log's programs, and has written no
--- replies.
+-- replies. Its blocks have the session that follows the greatest of the log.
 pub record IsStartOf (o : Opened) (s : Started) : Type 0 where
   pub checked : s.checked ≡ o.checked
   pub slot : s.slot ≡ o.slot
@@ -36,6 +36,7 @@ pub record IsStartOf (o : Opened) (s : Started) : Type 0 where
     events = [];
   }
   pub settles : s.settler.writer.slot ≡ o.slot
+  pub session : s.settler.writer.session ≡ o.session + 1
   pub gate : s.settler.writer.gate_at ≡ o.gate_at
   pub ends : (g : GrainId) → file_end s.settler.writer g ≡ unwrap_or (end_in o.ends g) 0
   pub places : s.settler.writer.places ≡ o.places

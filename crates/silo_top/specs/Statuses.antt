@@ -4,7 +4,7 @@ use Rattle.host_trait.specs.Files.{name_of}
 use Rattle.program_file.specs.Answers.{program_fault_place}
 use Rattle.promise_spec.specs.Endings as ending
 use Rattle.silo_top.specs.declared.status.Status.{Status}
-use Rattle.silo_top.specs.declared.status.Status.TheVariants.{Done, BadUse, Memory, ReadFault, WriteFault, DiskFault, NotASilo, AlreadyASilo, Damaged, BadProgram, InputTooLong, LastGeneration, UpgradeRefused}
+use Rattle.silo_top.specs.declared.status.Status.TheVariants.{Done, BadUse, Memory, ReadFault, WriteFault, DiskFault, NotASilo, AlreadyASilo, Damaged, BadProgram, InputTooLong, LastGeneration, UpgradeRefused, OldFormat, NotOld}
 
 -- the number that the program ends with
 abbrev pub status_number : Status → ℕ
@@ -21,6 +21,8 @@ status_number (BadProgram fault) = 10
 status_number (InputTooLong line) = 11
 status_number LastGeneration = 12
 status_number (UpgradeRefused at) = 13
+status_number OldFormat = 14
+status_number NotOld = 15
 
 -- the words that it says
 abbrev pub status_text : Status → List ℕ
@@ -37,6 +39,8 @@ status_text (BadProgram fault) = codes "bad program at " ++ decimal (unwrap_or (
 status_text (InputTooLong line) = codes "input too long"
 status_text LastGeneration = codes "last generation"
 status_text (UpgradeRefused at) = codes "upgrade refused at " ++ decimal at
+status_text OldFormat = codes "old format"
+status_text NotOld = codes "not an old format"
 
 -- the ending that a status is
 abbrev pub status_ending : Status → ending.Ending
@@ -53,3 +57,5 @@ status_ending (BadProgram fault) = ending.BadProgram fault
 status_ending (InputTooLong line) = ending.InputTooLong line
 status_ending LastGeneration = ending.LastGeneration
 status_ending (UpgradeRefused at) = ending.UpgradeRefused at
+status_ending OldFormat = ending.OldFormat
+status_ending NotOld = ending.NotOld

@@ -46,6 +46,8 @@ pub(crate) enum Asked {
     Compact,
     /// To bring a program into force in the silo.
     Upgrade,
+    /// To write the silo, which has format 1, into its other slot as one of format 2.
+    Migrate,
 }
 
 /// The picks of an option, none where it isn't given.
@@ -124,5 +126,6 @@ pub(crate) fn read_asked(alloc: Global, words: &[String]) -> Result<Asked, Words
         }),
         Words::Compact => Ok(Asked::Compact),
         Words::Upgrade => Ok(Asked::Upgrade),
+        Words::Migrate => Ok(Asked::Migrate),
     }
 }

@@ -13,6 +13,7 @@ use crate::asked_command::{Asked, Carriage, read_asked};
 use crate::check_command::check;
 use crate::compact_command::compact;
 use crate::load_command::{load_by_workers, load_in_turns};
+use crate::migrate_command::migrate;
 use crate::report_commands::{audit, history, show};
 use crate::run_command::{run_by_workers, run_in_turns};
 use crate::status::Status;
@@ -117,6 +118,7 @@ pub fn run_alone<H: Host, G: Gate>(
         Ok(Asked::Check { starts, seed }) => Ok(check(alloc, host, starts, seed)),
         Ok(Asked::Compact) => Ok(compact(alloc, host)),
         Ok(Asked::Upgrade) => Ok(upgrade(alloc, host)),
+        Ok(Asked::Migrate) => Ok(migrate(alloc, host)),
         Err(WordsFault::BadUse) => Ok(Status::BadUse),
         Err(WordsFault::Memory) => Ok(Status::Memory),
     }
@@ -125,8 +127,8 @@ pub fn run_alone<H: Host, G: Gate>(
 /// Does all that the program does, and answers how it ended.
 ///
 /// `words` are those of the command line after the folder: `init`, `run` with a width and picks or with workers, `show`,
-/// `history`, `audit`, `load` with two numbers and a width or workers, `check` with two numbers, `compact`, or `upgrade`. All else is `BadUse`,
-/// and nothing is done then.
+/// `history`, `audit`, `load` with two numbers and a width or workers, `check` with two numbers, `compact`, `upgrade`, or
+/// `migrate`. All else is `BadUse`, and nothing is done then.
 ///
 /// `init` reads a program's text from the input, and makes the folder a silo of it with an empty log.
 ///
@@ -142,7 +144,8 @@ pub fn run_alone<H: Host, G: Gate>(
 /// seed, and prints one summary line. It doesn't use the folder.
 ///
 /// `compact` writes the silo's next generation into its other slot. `upgrade` reads a program's text from the input, and brings it into
-/// force in the silo as the last entry of its log.
+/// force in the silo as the last entry of its log. `migrate` writes a silo of format 1 into its other slot as one of format 2, with the
+/// same log; every other command that opens a silo opens one of format 2.
 ///
 /// What each of them promises, at each moment and at its end, is `Serves`, over a host that tells what it holds. Over any host
 /// a fault is answered only where a call on its channel failed, and no failed call on the input or the output is passed over

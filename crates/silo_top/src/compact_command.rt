@@ -7,6 +7,7 @@ ghost use Rattle.checkpoint.specs.Endings.{compact_ending};
 ghost use Rattle.silo_top.specs.CallAnswers.{shown};
 ghost use Rattle.silo_top.specs.Statuses.{status_ending};
 
+use crate::run_command::open_status;
 use crate::status::Status;
 use host_trait::Host;
 use silo_opening::OpenFault;
@@ -18,11 +19,7 @@ fn compact_status(ended: Result<(), OpenFault>) -> Status
 {
     match ended {
         Ok(()) => Status::Done,
-        Err(OpenFault::NotASilo) => Status::NotASilo,
-        Err(OpenFault::Damaged { file, place }) => Status::Damaged { file, place },
-        Err(OpenFault::DiskFault { file }) => Status::DiskFault { file },
-        Err(OpenFault::Memory) => Status::Memory,
-        Err(OpenFault::LastGeneration) => Status::LastGeneration,
+        Err(fault) => open_status(fault),
     }
 }
 

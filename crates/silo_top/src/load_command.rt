@@ -144,6 +144,7 @@ fn begin_load<H: Host>(
             places: opened.places,
             ends: opened.ends,
             next_unit: opened.next_unit,
+            session: opened.session,
             gate_at: opened.gate_at,
         },
         Err(fault) => return Err(open_status(fault)),

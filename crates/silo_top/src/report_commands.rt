@@ -1,7 +1,6 @@
 ghost use Rattle.std.specs.Prelude.{◌≡◌, IsTrue};
 ghost use Rattle.host_trait.specs.Files.{StaysReady};
 ghost use Rattle.promise_spec.specs.Words as command;
-ghost use Rattle.promise_spec.specs.Reports.{history_text};
 ghost use Rattle.promise_spec.specs.Commands.{Reports, ShowsStates, Audits};
 ghost use Rattle.promise_spec.specs.Endings.{HasFailedAs, BadUse};
 ghost use Rattle.log_audit.specs.Endings.{report_ending};
@@ -20,6 +19,7 @@ fn report_status(ended: Result<(), ReportFault>) -> Status
     match ended {
         Ok(()) => Status::Done,
         Err(ReportFault::NotASilo) => Status::NotASilo,
+        Err(ReportFault::OldFormat) => Status::OldFormat,
         Err(ReportFault::Damaged { file, place }) => Status::Damaged { file, place },
         Err(ReportFault::DiskFault { file }) => Status::DiskFault { file },
         Err(ReportFault::WriteFault) => Status::WriteFault,
@@ -40,7 +40,7 @@ pub(crate) fn show<H: Host>(alloc: Global, host: &mut H) -> Status
 
 /// Writes each record of the log.
 pub(crate) fn history<H: Host>(alloc: Global, host: &mut H) -> Status
-    ensures reports { IsTrue H.tells → Reports history_text
+    ensures reports { IsTrue H.tells → Reports
         (shown (H.world host.old) (H.world host.new) (H.faults host.old) (H.faults host.new) result command.History) }
     ensures exact { HasFailedAs (status_ending result) (H.faults host.old) (H.faults host.new) }
     ensures good { status_ending result ≡ BadUse → ⊥ }

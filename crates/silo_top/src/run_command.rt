@@ -28,6 +28,7 @@ pub(crate) fn open_status(fault: OpenFault) -> Status
 {
     match fault {
         OpenFault::NotASilo => Status::NotASilo,
+        OpenFault::OldFormat => Status::OldFormat,
         OpenFault::Damaged { file, place } => Status::Damaged { file, place },
         OpenFault::DiskFault { file } => Status::DiskFault { file },
         OpenFault::Memory => Status::Memory,

@@ -36,6 +36,10 @@ pub enum Status {
     /// The types of the program that is the input don't begin with the names of those in force: `at` is the place in its text of the
     /// first name that differs, or the text's length where types are missing.
     UpgradeRefused { at: u32 },
+    /// The silo has format 1, which `migrate` alone reads.
+    OldFormat,
+    /// The silo has format 2 already, so that `migrate` has nothing to do.
+    NotOld,
 }
 
 impl Status {
@@ -57,6 +61,8 @@ impl Status {
             Status::InputTooLong { .. } => 11,
             Status::LastGeneration => 12,
             Status::UpgradeRefused { .. } => 13,
+            Status::OldFormat => 14,
+            Status::NotOld => 15,
         }
     }
 
@@ -85,6 +91,8 @@ impl Status {
             Status::InputTooLong { .. } => String::from_str(alloc, "input too long"),
             Status::LastGeneration => String::from_str(alloc, "last generation"),
             Status::UpgradeRefused { at } => upgrade_refused_text(alloc, *at),
+            Status::OldFormat => String::from_str(alloc, "old format"),
+            Status::NotOld => String::from_str(alloc, "not an old format"),
         }
     }
 }

@@ -42,3 +42,6 @@ returns-then-first_is-8-clause-said c = only_word (codes "compact") c.args.words
 
 pub returns-then-first_is-9-clause-said : goal.returns-then-first_is-9-clause-said
 returns-then-first_is-9-clause-said c = only_word (codes "upgrade") c.args.words.now c.if-words-ne1.false (sym c.first_is-9.ensures ∙ c.if-first_is-9.true)
+
+pub returns-then-first_is-10-clause-said : goal.returns-then-first_is-10-clause-said
+returns-then-first_is-10-clause-said c = only_word (codes "migrate") c.args.words.now c.if-words-ne1.false (sym c.first_is-10.ensures ∙ c.if-first_is-10.true)

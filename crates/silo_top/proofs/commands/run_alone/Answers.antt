@@ -1,5 +1,5 @@
 use Rattle.std.proofs.Common.{◌≡◌, ◌∙◌, inr, ℕ, List, Result, Err, false, refl, ap, subst}
-use Rattle.promise_spec.specs.Words.{Command, Init, Run, Show, History, Audit, Load, Check, Compact, Upgrade}
+use Rattle.promise_spec.specs.Words.{Command, Init, Run, Show, History, Audit, Load, Check, Compact, Upgrade, Migrate}
 use Rattle.promise_spec.specs.Calls.{any_option, Understands}
 use Rattle.promise_spec.specs.Endings.{MayEndRun, MayEndLoad}
 use Rattle.promise_spec.proofs.Words.{one_command}
@@ -157,3 +157,13 @@ returns-in-Ok-Upgrade-clause-answers g c = exact_answers (texts_of c.args.words.
 
 pub returns-in-Ok-Upgrade-clause-alone : goal.returns-in-Ok-Upgrade-clause-alone
 returns-in-Ok-Upgrade-clause-alone g c = inr (without (texts_of c.args.words.now) Upgrade (understood (texts_of c.args.words.now) c.in-Ok-Upgrade.field-0 Asked.Upgrade c.in-Ok-Upgrade.field-0-is c.in-Ok-Upgrade.ensures.asked) refl)
+
+pub returns-in-Ok-Migrate-clause-serves : goal.returns-in-Ok-Migrate-clause-serves
+returns-in-Ok-Migrate-clause-serves g c = λ told. obeyed_serves (texts_of c.args.words.now) Migrate (understood (texts_of c.args.words.now) c.in-Ok-Migrate.field-0 Asked.Migrate c.in-Ok-Migrate.field-0-is c.in-Ok-Migrate.ensures.asked)
+    (shown (g.H.Host.world c.args.host.now) (g.H.Host.world c.migrate.new.host) (g.H.Host.faults c.args.host.now) (g.H.Host.faults c.migrate.new.host) c.migrate.result) (c.migrate.ensures.migrates told)
+
+pub returns-in-Ok-Migrate-clause-answers : goal.returns-in-Ok-Migrate-clause-answers
+returns-in-Ok-Migrate-clause-answers g c = exact_answers (texts_of c.args.words.now) Migrate (understood (texts_of c.args.words.now) c.in-Ok-Migrate.field-0 Asked.Migrate c.in-Ok-Migrate.field-0-is c.in-Ok-Migrate.ensures.asked) (g.H.Host.faults c.args.host.now) (g.H.Host.faults c.migrate.new.host) (status_ending c.migrate.result) (λ q. c.migrate.ensures.good q) c.migrate.ensures.exact
+
+pub returns-in-Ok-Migrate-clause-alone : goal.returns-in-Ok-Migrate-clause-alone
+returns-in-Ok-Migrate-clause-alone g c = inr (without (texts_of c.args.words.now) Migrate (understood (texts_of c.args.words.now) c.in-Ok-Migrate.field-0 Asked.Migrate c.in-Ok-Migrate.field-0-is c.in-Ok-Migrate.ensures.asked) refl)

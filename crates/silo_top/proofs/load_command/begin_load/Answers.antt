@@ -2,11 +2,10 @@ use Rattle.std.proofs.Common.{◌≡◌, ℕ, IsTrue, List, length, Ok, inl, ref
 use Rattle.program_file.specs.Programs.{program_in}
 use Rattle.script_tree.specs.Programs.{ProgramTree, program_tree}
 use Rattle.history_core.specs.Cores.{run_of}
-use Rattle.silo_spec.specs.Silos.{IsNewSilo}
+use Rattle.silo_spec.specs.Silos.{IsMagic, IsNewSilo}
 use Rattle.silo_spec.specs.Slots.{ShowsSilos}
 use Rattle.silo_spec.specs.Creation.{CameThisFar}
 use Rattle.promise_spec.specs.Endings.{Memory, MayEndLoad}
-use Rattle.promise_spec.specs.Logs.{magic}
 use Rattle.promise_spec.specs.Loads.{bank_text, load_calls}
 use Rattle.bank_load.specs.Requests.{load_texts}
 use Rattle.bank_load.proofs.LoadTexts.{load_read}
@@ -33,7 +32,7 @@ returns-in-Err-clause-loads g c = λ told m. record {
   manner = refl;
   windowed = refl;
   answers = inl (uncreated m (load_texts c.args.transfers c.args.seed) (g.H.Host.world c.args.host.now) (g.H.Host.world c.create.new.host) (g.H.Host.faults c.args.host.now) (g.H.Host.faults c.create.new.host) (Unit {0})
-      c.in-Err.fault c.creation_status.result c.creation_status.ensures (c.create.ensures.beside told) (λ short. subst (λ (t : List ℕ). CameThisFar magic t (g.H.Host.world c.args.host.now) (g.H.Host.world c.create.new.host)) c.bank_text-2.ensures (c.create.ensures.moments told short).moments) (λ short. (c.create.ensures.moments told short).shows) c.in-Err.ensures.fault
+      c.in-Err.fault c.creation_status.result c.creation_status.ensures (c.create.ensures.beside told) (λ short. subst (λ (t : List ℕ). CameThisFar IsMagic t (g.H.Host.world c.args.host.now) (g.H.Host.world c.create.new.host)) c.bank_text-2.ensures (c.create.ensures.moments told short).moments) (λ short. (c.create.ensures.moments told short).shows) c.in-Err.ensures.fault
       (λ is. (c.in-Err.ensures.already is told).reads) (λ is. (c.in-Err.ensures.already is told).lasts) (λ reads. (c.in-Err.ensures.silo told reads).answer) (λ reads. (c.create.ensures.silo told reads).untouched));
 }
 
@@ -48,8 +47,8 @@ pub returns-in-Err-open_silo-clause-loads : goal.returns-in-Err-open_silo-clause
 returns-in-Err-open_silo-clause-loads g c = λ told m.
     let bank_is : program_in bank_text ≡ Ok (program_tree c.in-Ok.bank) = subst (λ (t : List ℕ). program_in t ≡ Ok (program_tree c.in-Ok.bank)) c.bank_text.ensures c.in-Ok.ensures in
     let made : IsMadeFrom (g.H.Host.world c.args.host.now) (g.H.Host.world c.create.new.host) = made_from (Unit {0}) (g.H.Host.world c.args.host.now) (g.H.Host.world c.create.new.host) tt (λ reads. (c.in-Ok-create.ensures.silo told reads).answer) (c.create.ensures.beside told)
-    (λ short. subst (λ (t : List ℕ). CameThisFar magic t (g.H.Host.world c.args.host.now) (g.H.Host.world c.create.new.host)) c.bank_text-2.ensures (c.create.ensures.moments told short).moments) (λ short. (c.create.ensures.moments told short).shows)
-    (λ image left. subst (λ (t : List ℕ). IsNewSilo magic t image) c.bank_text-2.ensures ((c.in-Ok-create.ensures.made told).made image left)) (c.in-Ok-create.ensures.made told).live (λ file. g.met.H.Host.seen_may_stay c.create.new.host file told)
+    (λ short. subst (λ (t : List ℕ). CameThisFar IsMagic t (g.H.Host.world c.args.host.now) (g.H.Host.world c.create.new.host)) c.bank_text-2.ensures (c.create.ensures.moments told short).moments) (λ short. (c.create.ensures.moments told short).shows)
+    (λ image left. subst (λ (t : List ℕ). IsNewSilo t image) c.bank_text-2.ensures ((c.in-Ok-create.ensures.made told).made image left)) (c.in-Ok-create.ensures.made told).live (λ file. g.met.H.Host.seen_may_stay c.create.new.host file told)
     (c.in-Ok-create.ensures.made told).least (c.in-Ok-create.ensures.made told).most in
     made_loads c.args.transfers c.args.seed m (load_texts c.args.transfers c.args.seed) (g.H.Host.world c.args.host.now) (g.H.Host.world c.create.new.host) (g.H.Host.world c.open_silo.new.host) (g.H.Host.faults c.args.host.now) (g.H.Host.faults c.create.new.host) (g.H.Host.faults c.open_silo.new.host) c.open_status.result made c.in-Ok-create.ensures.calm
     (returns-in-Err-open_silo-clause-answers g c)
@@ -62,8 +61,8 @@ pub returns-in-Err-start-clause-loads : goal.returns-in-Err-start-clause-loads
 returns-in-Err-start-clause-loads g c = λ told m.
     let bank_is : program_in bank_text ≡ Ok (program_tree c.in-Ok.bank) = subst (λ (t : List ℕ). program_in t ≡ Ok (program_tree c.in-Ok.bank)) c.bank_text.ensures c.in-Ok.ensures in
     let made : IsMadeFrom (g.H.Host.world c.args.host.now) (g.H.Host.world c.create.new.host) = made_from (Unit {0}) (g.H.Host.world c.args.host.now) (g.H.Host.world c.create.new.host) tt (λ reads. (c.in-Ok-create.ensures.silo told reads).answer) (c.create.ensures.beside told)
-    (λ short. subst (λ (t : List ℕ). CameThisFar magic t (g.H.Host.world c.args.host.now) (g.H.Host.world c.create.new.host)) c.bank_text-2.ensures (c.create.ensures.moments told short).moments) (λ short. (c.create.ensures.moments told short).shows)
-    (λ image left. subst (λ (t : List ℕ). IsNewSilo magic t image) c.bank_text-2.ensures ((c.in-Ok-create.ensures.made told).made image left)) (c.in-Ok-create.ensures.made told).live (λ file. g.met.H.Host.seen_may_stay c.create.new.host file told)
+    (λ short. subst (λ (t : List ℕ). CameThisFar IsMagic t (g.H.Host.world c.args.host.now) (g.H.Host.world c.create.new.host)) c.bank_text-2.ensures (c.create.ensures.moments told short).moments) (λ short. (c.create.ensures.moments told short).shows)
+    (λ image left. subst (λ (t : List ℕ). IsNewSilo t image) c.bank_text-2.ensures ((c.in-Ok-create.ensures.made told).made image left)) (c.in-Ok-create.ensures.made told).live (λ file. g.met.H.Host.seen_may_stay c.create.new.host file told)
     (c.in-Ok-create.ensures.made told).least (c.in-Ok-create.ensures.made told).most in
     let behind : IsBehindOpening (g.H.Host.world c.create.new.host) (g.H.Host.world c.open_silo.new.host) c.in-Ok-open_silo.opened = record {
       opened = (c.in-Ok-open_silo.ensures.opened told).opened;
@@ -73,7 +72,7 @@ returns-in-Err-start-clause-loads g c = λ told m.
       run = c.in-Ok-open_silo.ensures.only told;
       stays = λ file. g.met.H.Host.seen_may_stay c.create.new.host file told;
     } in
-    let behind_bank : ShowsSilos magic (g.H.Host.world c.args.host.now).disk → IsBehindOpening (g.H.Host.world c.create.new.host) (g.H.Host.world c.open_silo.new.host) (with_checked c.in-Ok-open_silo.opened c.in-Ok.bank) = λ short. same_behind c.in-Ok-open_silo.opened c.in-Ok.bank (g.H.Host.world c.create.new.host) (g.H.Host.world c.open_silo.new.host) bank_is (made.bank short) (λ file. g.met.H.Host.seen_may_stay c.create.new.host file told) behind in
+    let behind_bank : ShowsSilos IsMagic (g.H.Host.world c.args.host.now).disk → IsBehindOpening (g.H.Host.world c.create.new.host) (g.H.Host.world c.open_silo.new.host) (with_checked c.in-Ok-open_silo.opened c.in-Ok.bank) = λ short. same_behind c.in-Ok-open_silo.opened c.in-Ok.bank (g.H.Host.world c.create.new.host) (g.H.Host.world c.open_silo.new.host) bank_is (made.bank short) (λ file. g.met.H.Host.seen_may_stay c.create.new.host file told) behind in
     made_loads c.args.transfers c.args.seed m (load_texts c.args.transfers c.args.seed) (g.H.Host.world c.args.host.now) (g.H.Host.world c.create.new.host) (g.H.Host.world c.open_silo.new.host) (g.H.Host.faults c.args.host.now) (g.H.Host.faults c.create.new.host) (g.H.Host.faults c.open_silo.new.host) Status.Memory made c.in-Ok-create.ensures.calm
     (returns-in-Err-start-clause-answers g c)
     (λ short. starved_carries c.args.transfers c.args.seed m (load_texts c.args.transfers c.args.seed) (with_checked c.in-Ok-open_silo.opened c.in-Ok.bank) (g.H.Host.world c.create.new.host) (g.H.Host.world c.open_silo.new.host) (g.H.Host.faults c.create.new.host) (g.H.Host.faults c.open_silo.new.host) bank_is (behind_bank short) c.in-Ok-open_silo.ensures.calm)
@@ -85,8 +84,8 @@ pub returns-in-Err-load_lines-clause-loads : goal.returns-in-Err-load_lines-clau
 returns-in-Err-load_lines-clause-loads g c = λ told m.
     let bank_is : program_in bank_text ≡ Ok (program_tree c.in-Ok.bank) = subst (λ (t : List ℕ). program_in t ≡ Ok (program_tree c.in-Ok.bank)) c.bank_text.ensures c.in-Ok.ensures in
     let made : IsMadeFrom (g.H.Host.world c.args.host.now) (g.H.Host.world c.create.new.host) = made_from (Unit {0}) (g.H.Host.world c.args.host.now) (g.H.Host.world c.create.new.host) tt (λ reads. (c.in-Ok-create.ensures.silo told reads).answer) (c.create.ensures.beside told)
-    (λ short. subst (λ (t : List ℕ). CameThisFar magic t (g.H.Host.world c.args.host.now) (g.H.Host.world c.create.new.host)) c.bank_text-2.ensures (c.create.ensures.moments told short).moments) (λ short. (c.create.ensures.moments told short).shows)
-    (λ image left. subst (λ (t : List ℕ). IsNewSilo magic t image) c.bank_text-2.ensures ((c.in-Ok-create.ensures.made told).made image left)) (c.in-Ok-create.ensures.made told).live (λ file. g.met.H.Host.seen_may_stay c.create.new.host file told)
+    (λ short. subst (λ (t : List ℕ). CameThisFar IsMagic t (g.H.Host.world c.args.host.now) (g.H.Host.world c.create.new.host)) c.bank_text-2.ensures (c.create.ensures.moments told short).moments) (λ short. (c.create.ensures.moments told short).shows)
+    (λ image left. subst (λ (t : List ℕ). IsNewSilo t image) c.bank_text-2.ensures ((c.in-Ok-create.ensures.made told).made image left)) (c.in-Ok-create.ensures.made told).live (λ file. g.met.H.Host.seen_may_stay c.create.new.host file told)
     (c.in-Ok-create.ensures.made told).least (c.in-Ok-create.ensures.made told).most in
     let behind : IsBehindOpening (g.H.Host.world c.create.new.host) (g.H.Host.world c.open_silo.new.host) c.in-Ok-open_silo.opened = record {
       opened = (c.in-Ok-open_silo.ensures.opened told).opened;
@@ -96,7 +95,7 @@ returns-in-Err-load_lines-clause-loads g c = λ told m.
       run = c.in-Ok-open_silo.ensures.only told;
       stays = λ file. g.met.H.Host.seen_may_stay c.create.new.host file told;
     } in
-    let behind_bank : ShowsSilos magic (g.H.Host.world c.args.host.now).disk → IsBehindOpening (g.H.Host.world c.create.new.host) (g.H.Host.world c.open_silo.new.host) (with_checked c.in-Ok-open_silo.opened c.in-Ok.bank) = λ short. same_behind c.in-Ok-open_silo.opened c.in-Ok.bank (g.H.Host.world c.create.new.host) (g.H.Host.world c.open_silo.new.host) bank_is (made.bank short) (λ file. g.met.H.Host.seen_may_stay c.create.new.host file told) behind in
+    let behind_bank : ShowsSilos IsMagic (g.H.Host.world c.args.host.now).disk → IsBehindOpening (g.H.Host.world c.create.new.host) (g.H.Host.world c.open_silo.new.host) (with_checked c.in-Ok-open_silo.opened c.in-Ok.bank) = λ short. same_behind c.in-Ok-open_silo.opened c.in-Ok.bank (g.H.Host.world c.create.new.host) (g.H.Host.world c.open_silo.new.host) bank_is (made.bank short) (λ file. g.met.H.Host.seen_may_stay c.create.new.host file told) behind in
     made_loads c.args.transfers c.args.seed m (load_texts c.args.transfers c.args.seed) (g.H.Host.world c.args.host.now) (g.H.Host.world c.create.new.host) (g.H.Host.world c.open_silo.new.host) (g.H.Host.faults c.args.host.now) (g.H.Host.faults c.create.new.host) (g.H.Host.faults c.open_silo.new.host) Status.Memory made c.in-Ok-create.ensures.calm
     (returns-in-Err-load_lines-clause-answers g c)
     (λ short. starved_carries c.args.transfers c.args.seed m (load_texts c.args.transfers c.args.seed) (with_checked c.in-Ok-open_silo.opened c.in-Ok.bank) (g.H.Host.world c.create.new.host) (g.H.Host.world c.open_silo.new.host) (g.H.Host.faults c.create.new.host) (g.H.Host.faults c.open_silo.new.host) bank_is (behind_bank short) c.in-Ok-open_silo.ensures.calm)
@@ -123,8 +122,8 @@ returns-in-Ok-load_lines-clause-answers_on g c = λ m settler' after new result 
     let carried = of_opened g.H.Host.tells (with_checked c.in-Ok-open_silo.opened c.in-Ok.bank) c.in-Ok-start.started (λ (k : ProgramTree). c.in-Ok-load_lines.lines) (g.H.Host.faults c.open_silo.new.host) (g.H.Host.world c.open_silo.new.host) m settler' after new result c.in-Ok-start.ensures.start went in
     let opens : IsTrue g.H.Host.tells → (old : World) × OpensSo old (g.H.Host.world c.open_silo.new.host) (with_checked c.in-Ok-open_silo.opened c.in-Ok.bank) = (λ told. (
     let made : IsMadeFrom (g.H.Host.world c.args.host.now) (g.H.Host.world c.create.new.host) = made_from (Unit {0}) (g.H.Host.world c.args.host.now) (g.H.Host.world c.create.new.host) tt (λ reads. (c.in-Ok-create.ensures.silo told reads).answer) (c.create.ensures.beside told)
-    (λ short. subst (λ (t : List ℕ). CameThisFar magic t (g.H.Host.world c.args.host.now) (g.H.Host.world c.create.new.host)) c.bank_text-2.ensures (c.create.ensures.moments told short).moments) (λ short. (c.create.ensures.moments told short).shows)
-    (λ image left. subst (λ (t : List ℕ). IsNewSilo magic t image) c.bank_text-2.ensures ((c.in-Ok-create.ensures.made told).made image left)) (c.in-Ok-create.ensures.made told).live (λ file. g.met.H.Host.seen_may_stay c.create.new.host file told)
+    (λ short. subst (λ (t : List ℕ). CameThisFar IsMagic t (g.H.Host.world c.args.host.now) (g.H.Host.world c.create.new.host)) c.bank_text-2.ensures (c.create.ensures.moments told short).moments) (λ short. (c.create.ensures.moments told short).shows)
+    (λ image left. subst (λ (t : List ℕ). IsNewSilo t image) c.bank_text-2.ensures ((c.in-Ok-create.ensures.made told).made image left)) (c.in-Ok-create.ensures.made told).live (λ file. g.met.H.Host.seen_may_stay c.create.new.host file told)
     (c.in-Ok-create.ensures.made told).least (c.in-Ok-create.ensures.made told).most in (
       g.H.Host.world c.create.new.host,
       record {
@@ -141,8 +140,8 @@ pub returns-in-Ok-load_lines-clause-keeps : goal.returns-in-Ok-load_lines-clause
 returns-in-Ok-load_lines-clause-keeps g c = λ told m settler' after new result requests status final last went stay counts says many.
     let bank_is : program_in bank_text ≡ Ok (program_tree c.in-Ok.bank) = subst (λ (t : List ℕ). program_in t ≡ Ok (program_tree c.in-Ok.bank)) c.bank_text.ensures c.in-Ok.ensures in
     let made : IsMadeFrom (g.H.Host.world c.args.host.now) (g.H.Host.world c.create.new.host) = made_from (Unit {0}) (g.H.Host.world c.args.host.now) (g.H.Host.world c.create.new.host) tt (λ reads. (c.in-Ok-create.ensures.silo told reads).answer) (c.create.ensures.beside told)
-    (λ short. subst (λ (t : List ℕ). CameThisFar magic t (g.H.Host.world c.args.host.now) (g.H.Host.world c.create.new.host)) c.bank_text-2.ensures (c.create.ensures.moments told short).moments) (λ short. (c.create.ensures.moments told short).shows)
-    (λ image left. subst (λ (t : List ℕ). IsNewSilo magic t image) c.bank_text-2.ensures ((c.in-Ok-create.ensures.made told).made image left)) (c.in-Ok-create.ensures.made told).live (λ file. g.met.H.Host.seen_may_stay c.create.new.host file told)
+    (λ short. subst (λ (t : List ℕ). CameThisFar IsMagic t (g.H.Host.world c.args.host.now) (g.H.Host.world c.create.new.host)) c.bank_text-2.ensures (c.create.ensures.moments told short).moments) (λ short. (c.create.ensures.moments told short).shows)
+    (λ image left. subst (λ (t : List ℕ). IsNewSilo t image) c.bank_text-2.ensures ((c.in-Ok-create.ensures.made told).made image left)) (c.in-Ok-create.ensures.made told).live (λ file. g.met.H.Host.seen_may_stay c.create.new.host file told)
     (c.in-Ok-create.ensures.made told).least (c.in-Ok-create.ensures.made told).most in
     let behind : IsBehindOpening (g.H.Host.world c.create.new.host) (g.H.Host.world c.open_silo.new.host) c.in-Ok-open_silo.opened = record {
       opened = (c.in-Ok-open_silo.ensures.opened told).opened;
@@ -152,7 +151,7 @@ returns-in-Ok-load_lines-clause-keeps g c = λ told m settler' after new result 
       run = c.in-Ok-open_silo.ensures.only told;
       stays = λ file. g.met.H.Host.seen_may_stay c.create.new.host file told;
     } in
-    let behind_bank : ShowsSilos magic (g.H.Host.world c.args.host.now).disk → IsBehindOpening (g.H.Host.world c.create.new.host) (g.H.Host.world c.open_silo.new.host) (with_checked c.in-Ok-open_silo.opened c.in-Ok.bank) = λ short. same_behind c.in-Ok-open_silo.opened c.in-Ok.bank (g.H.Host.world c.create.new.host) (g.H.Host.world c.open_silo.new.host) bank_is (made.bank short) (λ file. g.met.H.Host.seen_may_stay c.create.new.host file told) behind in
+    let behind_bank : ShowsSilos IsMagic (g.H.Host.world c.args.host.now).disk → IsBehindOpening (g.H.Host.world c.create.new.host) (g.H.Host.world c.open_silo.new.host) (with_checked c.in-Ok-open_silo.opened c.in-Ok.bank) = λ short. same_behind c.in-Ok-open_silo.opened c.in-Ok.bank (g.H.Host.world c.create.new.host) (g.H.Host.world c.open_silo.new.host) bank_is (made.bank short) (λ file. g.met.H.Host.seen_may_stay c.create.new.host file told) behind in
     let types : ProgramTree = program_tree c.in-Ok.bank in
     let read : AreReadBy types (load_calls c.args.transfers c.args.seed) = load_read (bank_of types) c.args.transfers c.args.seed (bank_checked types bank_is) refl in
     let are : AreReadFrom types 0 (load_texts c.args.transfers c.args.seed) c.in-Ok-load_lines.lines = subst (AreReadFrom types 0 (load_texts c.args.transfers c.args.seed)) (sym c.in-Ok-load_lines.ensures) (lines_read types 0 (load_calls c.args.transfers c.args.seed) read) in

@@ -1,13 +1,12 @@
 use Rattle.std.proofs.Common.{[], sym, subst}
 use Rattle.promise_spec.specs.Words.{plain_manner}
 use Rattle.promise_spec.specs.Commands.{Reports}
-use Rattle.promise_spec.specs.Reports.{history_text}
 use Rattle.promise_spec.specs.Endings.{Ending, HasFailedAs}
 use Rattle.silo_top.proofs.ReportCalls.{reported}
 use Rattle.silo_top.proofs.report_commands.history.Goals as goal
 
 pub returns-clause-reports : goal.returns-clause-reports
-returns-clause-reports g c = λ told. reported (Reports history_text) plain_manner [] (g.H.Host.world c.args.host.now) (g.H.Host.world c.history.new.host) (g.H.Host.faults c.args.host.now) (g.H.Host.faults c.history.new.host) c.history.result c.report_status.result c.report_status.ensures (c.history.ensures.reports told plain_manner [])
+returns-clause-reports g c = λ told. reported Reports plain_manner [] (g.H.Host.world c.args.host.now) (g.H.Host.world c.history.new.host) (g.H.Host.faults c.args.host.now) (g.H.Host.faults c.history.new.host) c.history.result c.report_status.result c.report_status.ensures (c.history.ensures.reports told plain_manner [])
 
 pub returns-clause-exact : goal.returns-clause-exact
 returns-clause-exact g c = subst (λ (e : Ending). HasFailedAs e (g.H.Host.faults c.args.host.now) (g.H.Host.faults c.history.new.host)) (sym c.report_status.ensures) c.history.ensures.exact

@@ -18,6 +18,7 @@ returns-clause-start c =
       slot = refl;
       run = c.new-core.ensures.run ∙ (λ i. started (shape i) (c.of.ensures i) (c.in_ok-recent.ensures.limit i));
       settles = made.slot;
+      session = made.session ∙ c.in_ok-session.ensures.0;
       gate = made.gate;
       ends = made.ends;
       places = made.places;
