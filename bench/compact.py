@@ -30,7 +30,7 @@ def make(folder, grains, records):
         file.write(struct.pack("<I", len(text)) + text)
     versions = [[] for _ in range(grains)]
     with open(os.path.join(folder, "manager-0.otx"), "wb") as file:
-        file.write(b"\1OTXLOG01" + bytes(6))
+        file.write(b"\1OTXLOG02" + bytes(6))
         for unit in range(1, records + 1):
             key = unit % grains
             here = versions[key]
@@ -38,7 +38,7 @@ def make(folder, grains, records):
             write = struct.pack("<HIQI", 0, key, 19 * len(here), 19)
             call = struct.pack("<HIHH", 0, key, 0, 1) + integer(5)
             record = struct.pack("<QBI", unit, 0, unit % 2**32) + call + struct.pack("<H", 0) + b"\1" + balance + struct.pack("<H", 1) + write
-            body = struct.pack("<I", 1) + record
+            body = struct.pack("<QI", 1, 1) + record
             file.write(b"\1" + struct.pack("<I", len(body)) + body)
             here.append(struct.pack("<QH", unit, 1) + balance)
         file.write(b"\0")

@@ -48,10 +48,10 @@ def make(folder):
     with open(os.path.join(folder, "program-0.otx"), "wb") as file:
         file.write(struct.pack("<I", len(text)) + text)
     with open(os.path.join(folder, "manager-0.otx"), "wb") as manager:
-        manager.write(b"\1OTXLOG01" + bytes(6))
+        manager.write(b"\1OTXLOG02" + bytes(6))
         for first in range(0, grains, 64):
             keys = range(first, min(first + 64, grains))
-            body = [struct.pack("<I", len(keys))]
+            body = [struct.pack("<QI", 1, len(keys))]
             for key in keys:
                 unit, balance = key + 1, integer(key + 1)
                 version = struct.pack("<QH", unit, 1) + balance

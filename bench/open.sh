@@ -27,7 +27,7 @@ def integer(number):
     return b"\0" + struct.pack("<q", number)
 
 for size in map(int, sys.argv[2:]):
-    manager = [b"\1OTXLOG01" + bytes(6)]
+    manager = [b"\1OTXLOG02" + bytes(6)]
     grains = [[] for _ in range(64)]
     for unit in range(1, size + 1):
         versions = grains[unit % 64]
@@ -35,7 +35,7 @@ for size in map(int, sys.argv[2:]):
         call = struct.pack("<HIHH", 0, unit % 64, 0, 1) + integer(5)
         write = struct.pack("<HIQI", 0, unit % 64, 19 * len(versions), 19)
         record = struct.pack("<QBI", unit, 0, unit) + call + struct.pack("<H", 0) + b"\1" + balance + struct.pack("<H", 1) + write
-        body = struct.pack("<I", 1) + record
+        body = struct.pack("<QI", 1, 1) + record
         manager.append(b"\1" + struct.pack("<I", len(body)) + body)
         versions.append(struct.pack("<QH", unit, 1) + balance)
     place = f"{sys.argv[1]}/{size}"

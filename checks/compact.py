@@ -53,8 +53,8 @@ with tempfile.TemporaryDirectory() as room:
     rows.row("compact", run(one, "compact"), silent())
     number = lambda value, size: value.to_bytes(size, "little")
     named = number(0, 2) + number(1, 4) + number(0, 8) + number(19, 4)
-    piece = b"\0" + number(1, 8) + number(2, 8) + number(1, 4) + named
-    rows.row("its manager file", held(one, "manager-1.otx"), b"\1OTXLOG01" + number(1, 4) + b"\1\0" + b"\1" + number(39, 4) + piece + b"\0")
+    piece = b"\0" + number(1, 8) + number(2, 8) + number(1, 8) + number(1, 4) + named
+    rows.row("its manager file", held(one, "manager-1.otx"), b"\1OTXLOG02" + number(1, 4) + b"\1\0" + b"\1" + number(47, 4) + piece + b"\0")
     rows.row("its program", held(one, "program-1.otx"), held(one, "program-0.otx"))
     rows.row("its version", held(one, "grain-1-0-1.otx"), held(one, "grain-0-0-1.otx"))
     rows.row("what it stands for", states(one), before)
@@ -78,7 +78,7 @@ with tempfile.TemporaryDirectory() as room:
     os.mkdir(none)
     run(none, "init", given=BANK)
     rows.row("compact of a new silo", run(none, "compact"), silent())
-    rows.row("its length", len(held(none, "manager-1.otx")), 15 + 5 + 21 + 1)
+    rows.row("its length", len(held(none, "manager-1.otx")), 15 + 5 + 29 + 1)
     rows.row("a new silo's states", run(none, "show"), silent(b'{"count":0}\n'))
     run(none, "run", given=deposit(5) + b'{"args":[5],"call":"account/1.withdraw"}\n')
     run(none, "compact")

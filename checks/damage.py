@@ -11,7 +11,7 @@ import signal
 import sys
 import tempfile
 
-from harness import FIRST_PROGRAM, PROGRAM, TOP, Ended, Rows, deposit, run
+from harness import FIRST_PROGRAM, PROGRAM, TOP, Ended, Rows, as_before, deposit, run
 
 sys.path.insert(0, os.path.join(TOP, "examples", "reader"))
 sys.dont_write_bytecode = True
@@ -50,7 +50,8 @@ SEEDED = 2000
 MOST_MEMORY = 65536
 MOST_SECONDS = 20
 
-COMMANDS = ("run", "show", "history", "audit", "compact")
+# The last two write the folder anew.
+COMMANDS = ("run", "show", "history", "audit", "migrate", "compact")
 Process = collections.namedtuple("Process", "number output errors memory")
 Refusal = collections.namedtuple("Refusal", "number errors")
 
@@ -107,9 +108,13 @@ class Place:
 
 def live_slot(files):
     """The slot whose files count, none where the folder is no silo."""
-    slots = [(int.from_bytes(held[9:13], "little"), -slot) for slot in (0, 1)
-             if len(held := files.get(f"manager-{slot}.otx", b"")) >= 16 and held[:9] == b"\1OTXLOG01"]
-    return -max(slots)[1] if slots else None
+    found = read.live_of([files.get(f"manager-{slot}.otx", b"") for slot in (0, 1)])
+    return found and found[0]
+
+
+def is_old(files):
+    """Whether the silo has format 1, which `migrate` alone opens."""
+    return files[f"manager-{live_slot(files)}.otx"][8:9] == b"1"
 
 
 def program_fault(place, files):
@@ -143,7 +148,7 @@ def history_line(record):
     begun = {"n": record["line"]} if "line" in record else {"parent": record["parent"]}
     result = record["result"]
     ended = {"fault": result["fault"]} if isinstance(result, dict) else {"reply": result}
-    return compact_json({"args": record["args"], "call": record["call"], "unit": record["unit"], **begun, **ended})
+    return compact_json({"args": record["args"], "call": record["call"], "session": record["session"], "unit": record["unit"], **begun, **ended})
 
 
 def wanted_output(command, found, count):
@@ -168,10 +173,20 @@ def looked_at(place, files):
     """What isn't as it should be in a folder with these files, in words."""
     place.lay(files)
     wanted, wrong = judged(place, files), []
+    no_silo = live_slot(files) is None
+    old = not no_silo and is_old(files)
     for command in COMMANDS:
         found = place.carry(place.folder, command)
         if found.memory > MOST_MEMORY:
             wrong.append(f"{command}: {found.memory} KiB")
+        if not no_silo and old != (command == "migrate"):
+            # Of whichever format it is, that is told before any damage.
+            told = (15, b"", b"silo: not an old format\n") if command == "migrate" else (14, b"", b"silo: old format\n")
+            if found[:3] != told:
+                wrong.append(f"{command}: {found}, not {told}")
+            continue
+        if command == "migrate" and not isinstance(wanted, Refusal) and found.number == 0:
+            old = False
         if isinstance(wanted, Refusal):
             if found[:3] != (wanted.number, b"", wanted.errors):
                 wrong.append(f"{command}: {found}, not {wanted}")
@@ -180,15 +195,15 @@ def looked_at(place, files):
         if command == "audit":
             if found.number != 0 or not re.fullmatch(rb'{"count":%d,"first_bad":(null|\d+)}\n' % count, found.output):
                 wrong.append(f"audit: {found}")
-        elif command == "compact" and files[f"manager-{live_slot(files)}.otx"][9:13] == b"\xff" * 4:
+        elif command in ("compact", "migrate") and files[f"manager-{live_slot(files)}.otx"][9:13] == b"\xff" * 4:
             if found[:3] != (12, b"", b"silo: last generation\n"):
-                wrong.append(f"compact: {found}")
+                wrong.append(f"{command}: {found}")
         elif found[:3] != (0, wanted_output(command, wanted, count), b""):
             wrong.append(f"{command}: {found}, not {wanted_output(command, wanted, count)}")
     if isinstance(wanted, Refusal):
         if place.held() != files:
             wrong.append("a file was changed")
-    elif not wrong:
+    elif not wrong and not old:
         again = place.carry(place.folder, "show")
         if again[:3] != (0, wanted_output("show", wanted, count), b"") or read.found_in(place.folder, place.fault_of)[1:] != wanted[1:]:
             wrong.append(f"behind compact: {again}, not {wanted}")
@@ -276,11 +291,11 @@ def table(rows):
         errors = {0: b"", 7: b"silo: not a silo\n"}.get(number, f"silo: damaged {file} at {at}\n".encode())
         rows.row(what, one.carry(one.folder, command)[:3], (number, output, errors))
 
-    for cut in range(89):
+    for cut in range(97):
         row(f"cut to {cut}", manager[:cut], 7 if cut < 16 else 9, "manager-0.otx", 16)
-    for at, file, named in [(13, None, 13), (20, None, 20), (45, None, 45), (56, None, 56), (68, None, 68), (24, "grain-0-0-1.otx", 0),
-                            (31, None, 24), (32, None, 32), (47, None, 47), (58, None, 58), (59, None, 59), (37, None, 37),
-                            (43, None, 43), (70, None, 70), (72, "grain-0-0-255.otx", 0)]:
+    for at, file, named in [(13, None, 13), (27, None, 20), (28, None, 28), (53, None, 53), (64, None, 64), (76, None, 76),
+                            (32, "grain-0-0-1.otx", 0), (39, None, 32), (40, None, 40), (55, None, 55), (66, None, 66), (67, None, 67),
+                            (45, None, 45), (51, None, 51), (78, None, 78), (80, "grain-0-0-255.otx", 0)]:
         row(f"255 at {at}", changed(manager, at, 255), 9, file or "manager-0.otx", named)
     row("255 at 15", changed(manager, 15, 255), 0)
     row("255 at 15, shown", changed(manager, 15, 255), 0, command="show", output=b'{"count":0}\n')
@@ -316,6 +331,15 @@ def cases(folder):
         run(folder, "run", given=batches[0])
     yield "upgraded", files_in(folder)
     yield from mutations(3, "upgraded", files_in(folder), SEEDED // 2)
+    # The same silo in format 1.
+    old = dict(files, **{"manager-0.otx": as_before(files["manager-0.otx"])})
+    yield from each_change(old, ["manager-0.otx", "program-0.otx"])
+    files = files_in(folder)
+    live = f"manager-{live_slot(files)}.otx"
+    old = {name: held for name, held in files.items() if name.startswith("manager") == (name == live)}
+    old[live] = as_before(files[live])
+    yield "an old silo", old
+    yield from mutations(4, "an old silo", old, SEEDED // 2)
     small = silo_of(SMALL, [deposit(5)])
     assert run(small, "upgrade", given=SMALL.replace("0;", '0; field note = "new";').encode()).number == 0
     yield from each_change(files_in(small), ["manager-0.otx"])

@@ -27,7 +27,7 @@ with tempfile.TemporaryDirectory() as room:
     for words, wanted in (
         (["./silo", "ba"], ["bank", "barn"]),
         (["silo", "--"], ["--help"]),
-        (["silo", "bank", ""], ["audit", "compact", "history", "run", "show", "upgrade"]),
+        (["silo", "bank", ""], ["audit", "compact", "history", "migrate", "run", "show", "upgrade"]),
         (["silo", "bank", "h"], ["history"]),
         (["silo", "empty", ""], ["init", "load"]),
         (["silo", "bank", "run", ""], ["--turns", "--width", "--workers"]),

@@ -54,7 +54,7 @@ MISTAKES = [
     ("attempt without name", within("attempt call a/1.m(1) { } else { }"), 66, "4:13", "`attempt x = call ..` names its result"),
     ("reserved word as a name", "type key { }\n", 5, "1:6", "`key` is a reserved word"),
     ("key as a parameter", "type a {\n  method m(key) create plain { }\n}\n", 20, "2:12", "`key` is a reserved word"),
-    ("string of 257 bytes", within('fail "' + 'x' * 257 + '";'), 63, "4:10", "this text has 257 bytes: 256 are the most"),
+    ("string of 4,097 bytes", within('fail "' + 'x' * 4097 + '";'), 63, "4:10", "this text has 4097 bytes: 4096 are the most"),
     ("BOM", b"\xef\xbb\xbftype a { }\n", 0, "1:1", "the text begins with a byte order mark: save it without"),
     ("Latin 1 byte", b'type a { method m() create plain { fail "caf\xe9"; } }\n', 40, "1:41", "byte 44 isn't UTF-8: save the text as UTF-8"),
     ("the requests in place of the program", REQUESTS, 0, "1:1", "these are request lines, for `run`: a program begins with `type`"),

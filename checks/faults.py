@@ -15,7 +15,7 @@ import tempfile
 
 import kept
 import shim
-from harness import Rows, run
+from harness import Rows, make_old, run
 
 MEMORY = "/dev/shm" if os.path.isdir("/dev/shm") else None
 # Of so many calls one is tried, in a check that isn't told to try all of them, beside the first of each kind on each kind of file.
@@ -146,6 +146,23 @@ class Compact(Case):
         return wrong
 
 
+class Migrate(Compact):
+    """`migrate`, which leaves the old silo or the new one, with the same log, and goes on where it is called once more."""
+
+    def wrong(self, folder, ended, failed):
+        wrong, again = kept.wrong_number(ended, failed), run(folder, "migrate")
+        # Behind a failed call of the last sync it may be a new silo all the same.
+        if again.number not in ((15,) if ended.number == 0 else (0, 15)) or ended.output:
+            wrong.append(f"a second one ended so: {again}, behind {ended}")
+        told = {command: run(folder, command).output for command in MIGRATED}
+        if told != MIGRATED:
+            wrong.append(f"behind it reports say so: {told}")
+        used = run(folder, "run", given=kept.line("account/0.deposit", 5))
+        if used.number != 0 or b'"reply"' not in used.output:
+            wrong.append(f"a run behind it ended so: {used}")
+        return wrong
+
+
 class Upgrade(Case):
     """`upgrade`, which leaves the log as it was or with the upgrade, and goes on."""
 
@@ -159,7 +176,7 @@ class Upgrade(Case):
             wrong.append(f"it printed {ended.output}")
         told, shown, audit = kept.history(folder)[0], run(folder, "show"), run(folder, "audit")
         more = told[len(BEFORE):]
-        if told[:len(BEFORE)] != BEFORE or more not in ([], [b'{"upgrade":%d}' % len(self.given)]) or (ended.number == 0 and not more):
+        if told[:len(BEFORE)] != BEFORE or more not in ([], [b'{"session":%d,"upgrade":%d}' % (SESSION + 1, len(self.given))]) or (ended.number == 0 and not more):
             wrong.append(f"with {ended.number} it left {told}")
         if b'"first_bad":null' not in audit.output or (b'"limit"' in shown.output) != bool(more):
             wrong.append(f"behind it an audit and a show ended so: {audit}, {shown}")
@@ -268,6 +285,14 @@ with tempfile.TemporaryDirectory(dir=MEMORY) as room:
     shutil.copytree(template, twice)
     run(twice, "compact")
     run(twice, "compact")
+    SESSION = json.loads(BEFORE[-1])["session"]
+    # The same silo in format 1, and what the reports say once it is migrated.
+    old, migrated = os.path.join(room, "old"), os.path.join(room, "migrated")
+    shutil.copytree(template, old)
+    make_old(old)
+    shutil.copytree(old, migrated)
+    run(migrated, "migrate")
+    MIGRATED = {command: run(migrated, command).output for command in REPORTS}
     loaded = os.path.join(room, "loaded")
     os.mkdir(loaded)
     SUMMARY_LINE = run(loaded, "load", "4", "7", "--width", "8").output
@@ -282,6 +307,7 @@ with tempfile.TemporaryDirectory(dir=MEMORY) as room:
         Load(room, library, "load", empty, ["load", "4", "7", "--width", "8"]),
         Compact(room, library, "compact", template, ["compact"]),
         Compact(room, library, "compact once more", twice, ["compact"]),
+        Migrate(room, library, "migrate", old, ["migrate"]),
         Upgrade(room, library, "upgrade", template, ["upgrade"], kept.PROGRAM_TEXT.replace(b"field balance = 0;", b"field balance = 0; field limit = 7;")),
         *(Report(room, library, command, template, [command]) for command in REPORTS),
     ]

@@ -40,6 +40,30 @@ def reply(n, balance, unit):
     return b'{"n":%d,"reply":%d,"unit":%d}\n' % (n, balance, unit)
 
 
+def as_before(held):
+    """A manager file of format 2, as it is in format 1: no block says its session."""
+    made, gate, is_checkpoint = [b"\1OTXLOG01", held[9:15]], 15, held[13] == 1
+    while held[gate] == 1:
+        size = int.from_bytes(held[gate + 1:gate + 5], "little")
+        body, at = held[gate + 5:gate + 5 + size], 17 if is_checkpoint else 0
+        is_checkpoint = is_checkpoint and body[0] == 1
+        made += [b"\1", (size - 8).to_bytes(4, "little"), body[:at], body[at + 8:]]
+        gate += 5 + size
+    return b"".join(made) + b"\0"
+
+
+def make_old(folder):
+    """Gives a silo's folder format 1, in which every block counts as one of session 1."""
+    for slot in (0, 1):
+        path = os.path.join(folder, f"manager-{slot}.otx")
+        if os.path.exists(path):
+            with open(path, "rb") as file:
+                held = file.read()
+            if held[:9] == b"\1OTXLOG02":
+                with open(path, "wb") as file:
+                    file.write(as_before(held))
+
+
 def run(*words, given=b"", closed=(), streams=None, memory=None, threads=None, files=None, bound=False, on=None, shim=None, seconds=100, program=PROGRAM):
     """Runs the program over this input, with these descriptors closed, and at most so many bytes of memory, threads and open files;
     `bound` by what the folder's files permit, which the superuser isn't; `on` these processors alone; with the words `shim` in the

@@ -24,7 +24,7 @@ rows.row("parts", re.findall(r"(?m)^\.SH (.*)$", page), heads)
 parts = dict(zip(heads, re.split(r"(?m)^\.SH .*\n", page)[1:]))
 tags = {head: [re.sub(r"\\f.|\\&", "", tag) for tag in re.findall(r"(?m)^\.TP\n(.*)$", part)] for head, part in parts.items()}
 commands = " ".join(tags["COMMANDS"])
-rows.row("commands", [word for word in ("init", "run", "show", "history", "audit", "compact", "upgrade", "load") if not re.search(rf"\b{word}\b", commands)], [])
+rows.row("commands", [word for word in ("init", "run", "show", "history", "audit", "compact", "upgrade", "migrate", "load") if not re.search(rf"\b{word}\b", commands)], [])
 with open(os.path.join(TOP, "docs", "OPERATIONS.md")) as file:
     operations = file.read()
 numbers = re.findall(r"(?m)^\| (\d+)\b", operations)

@@ -37,7 +37,7 @@ def records(folder):
 def told(n, call, args, result, unit):
     """A line of the history: that of a line's record, or with a text in place of a number one of a parent's."""
     head = {"args": args, "call": call, **({"fault": result} if isinstance(result, str) else {}), **(n if isinstance(n, dict) else {"n": n}),
-            **({} if isinstance(result, str) else {"reply": result}), "unit": unit}
+            **({} if isinstance(result, str) else {"reply": result}), "session": 1, "unit": unit}
     return json.dumps(head, separators=(",", ":")).encode() + b"\n"
 
 

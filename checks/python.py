@@ -81,7 +81,7 @@ with tempfile.TemporaryDirectory() as room:
             rows.row(f"bad: {call} {args}", it.batch([(call, args)])[0].word, word)
         rows.row("reports", (it.show(), it.audit(), it.history(5), it.records()), (
             {"account/1": {"balance": 1}, "account/2": {"balance": 9}}, (6, None),
-            [{"args": ["Żółw"], "call": "account/1.deposit", "fault": "kind", "n": 1, "unit": 6}], 6))
+            [{"args": ["Żółw"], "call": "account/1.deposit", "fault": "kind", "n": 1, "session": 4, "unit": 6}], 6))
         rows.row("an empty batch", it.batch([]), [])
     made = silo.Silo(os.path.join(room, "made"), PROGRAM)
     made.init(BANK.decode())
@@ -129,7 +129,7 @@ with tempfile.TemporaryDirectory() as room:
         rows.row("a call that is logged and not answered", [shown(result) for result in it.batch([("account/2.deposit", [1])] * 2)], [10, ("Unanswered", "silo ended with 5: silo: write fault", True, [])])
     with silo.Silo(folder("seven", NESTED), mute, width=1) as it:
         rows.row("a plain run that isn't answered", [shown(result) for result in it.batch([("helper/0.pay", [5])])], [("Unanswered", "silo ended with 5: silo: write fault", False, [2])])
-        record = {"args": [5], "call": "account/1.deposit", "parent": 3, "reply": 10, "unit": 4}
+        record = {"args": [5], "call": "account/1.deposit", "parent": 3, "reply": 10, "session": 2, "unit": 4}
         rows.row("the same by send", it.send([("helper/0.pay", [5])]), (5, "silo: write fault\n", [None], [record], 1))
     doubt = stand_in(room, "doubt", f'echo "$2" >>"{room}/doubt.asked"', """[ "$2" != run ] || { echo '{"in_doubt":true,"n":1,"unit":4}'; echo "silo: disk fault in manager-0.otx" >&2; exit 6; }""")
     with silo.Silo(bank, doubt) as it:
@@ -177,13 +177,16 @@ with tempfile.TemporaryDirectory() as room:
     sparse = os.path.join(room, "sparse")
     os.mkdir(sparse)
     with open(os.path.join(sparse, "manager-0.otx"), "wb") as file:
-        file.write(b"\1OTXLOG01" + bytes(6))
+        file.write(b"\1OTXLOG02" + bytes(6))
         for at in range(3):
-            file.write(b"\1" + struct.pack("<II", (1 << 32) - 1, at + 5))
-            file.seek((1 << 32) - 1 - 4, os.SEEK_CUR)
+            file.write(b"\1" + struct.pack("<IQI", (1 << 32) - 1, 1, at + 5))
+            file.seek((1 << 32) - 1 - 12, os.SEEK_CUR)
         file.write(b"\0")
     started = time.monotonic()
     rows.row("records of a log of 12 GiB", (silo.batches(sparse), time.monotonic() - started < 5), ([5, 6, 7], True))
+    with open(os.path.join(sparse, "manager-0.otx"), "wb") as file:
+        file.write(b"\1OTXLOG01" + bytes(6) + b"\1" + struct.pack("<II", 4, 7) + b"\1" + struct.pack("<II", 4, 2) + b"\0")
+    rows.row("records of format 1", silo.batches(sparse), [7, 2])
     os.remove(os.path.join(sparse, "manager-0.otx"))
     rows.row("records of no silo", (silo.records(sparse), silo.records(os.path.join(room, "none")), silo.records(__file__)), (None, None, None))
 

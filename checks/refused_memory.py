@@ -11,7 +11,7 @@ import tempfile
 
 import shim
 from damage import TEXTS
-from harness import FIRST_PROGRAM, Ended, Rows, ask, deposit, run
+from harness import FIRST_PROGRAM, Ended, Rows, ask, deposit, make_old, run
 
 MEMORY = "/dev/shm" if os.path.isdir("/dev/shm") else None
 READING = FIRST_PROGRAM[:-1] + "method read() createorjoin read { return balance; } }"
@@ -27,6 +27,8 @@ CASES = [
     ("compact", TEXTS, [deposit(5) + OUTER, deposit(6)], ["compact"], b""),
     ("compact once more", TEXTS, [deposit(5) + OUTER, None, deposit(6)], ["compact"], b""),
     ("upgrade", TEXTS, [deposit(5) + OUTER], ["upgrade"], UPGRADED),
+    ("migrate", TEXTS, [deposit(5) + OUTER], ["migrate"], b""),
+    ("migrate behind a checkpoint", TEXTS, [deposit(5) + OUTER, None, deposit(6)], ["migrate"], b""),
 ]
 WAYS = {"once": {}, "from there on": {"on": 1}}
 
@@ -43,6 +45,8 @@ class Case:
         for lines in before:
             run(self.template, *(["compact"] if lines is None else ["run"]), given=lines or b"")
         self.records, self.shown, self.free = self.count(self.template), run(self.template, "show"), "--workers" in words
+        if words == ["migrate"]:
+            make_old(self.template)
         folder, self.whole, self.asked = self.run("whole", notes=os.path.join(room, name))
         shutil.rmtree(folder)
 
@@ -89,6 +93,9 @@ class Case:
             wrong.append(f"it ended so: {ended}")
         if not self.is_front(ended):
             wrong.append(f"it put out {ended.output}, not the front of {self.whole.output}")
+        if self.words == ["migrate"] and ended.number != 0:
+            # It is an old silo still, and another one goes on.
+            wrong += [f"a second one ended so: {again}" for again in [run(folder, "migrate")] if again.number != 0]
         count = self.count(folder)
         if count is None or count < self.records + sum(b'"reply"' in line for line in told):
             wrong.append(f"{count} records behind {ended}")

@@ -46,7 +46,7 @@ with tempfile.TemporaryDirectory(dir=MEMORY) as room:
     for silo in (one, cut):
         name = os.path.basename(silo)
         rows.row(f"show of {name}", run(silo, "show"), silent(b'{"fields":{"balance":5},"grain":"account/1"}\n{"count":1}\n'))
-        rows.row(f"history of {name}", run(silo, "history"), silent(b'{"args":[5],"call":"account/1.deposit","n":1,"reply":5,"unit":1}\n'))
+        rows.row(f"history of {name}", run(silo, "history"), silent(b'{"args":[5],"call":"account/1.deposit","n":1,"reply":5,"session":1,"unit":1}\n'))
         rows.row(f"audit of {name}", run(silo, "audit"), silent(b'{"count":1,"first_bad":null}\n'))
     rows.row("a report that can't be written", run(one, "show", closed=(1,)), says(5, b"write fault"))
 
@@ -55,10 +55,10 @@ with tempfile.TemporaryDirectory(dir=MEMORY) as room:
     with open(log, "rb") as file:
         whole = file.read()
     for what, content, command, wanted in [
-        ("another result", whole[:60] + b"\6" + whole[61:], "audit", silent(b'{"count":1,"first_bad":1}\n')),
+        ("another result", whole[:68] + b"\6" + whole[69:], "audit", silent(b'{"count":1,"first_bad":1}\n')),
         ("a cut log", whole[:50], "show", says(9, b"damaged manager-0.otx at 16")),
-        ("another tag", whole[:47] + b"\3" + whole[48:], "show", says(9, b"damaged manager-0.otx at 47")),
-        ("a closed gate of another byte", whole[:88] + b"\7", "show", silent(b'{"fields":{"balance":5},"grain":"account/1"}\n{"count":1}\n')),
+        ("another tag", whole[:55] + b"\3" + whole[56:], "show", says(9, b"damaged manager-0.otx at 55")),
+        ("a closed gate of another byte", whole[:96] + b"\7", "show", silent(b'{"fields":{"balance":5},"grain":"account/1"}\n{"count":1}\n')),
         ("a header byte", whole[:13] + b"\xff" + whole[14:], "show", says(9, b"damaged manager-0.otx at 13")),
     ]:
         with open(log, "wb") as file:
@@ -73,7 +73,7 @@ with tempfile.TemporaryDirectory(dir=MEMORY) as room:
     with open(os.path.join(cut, versions), "rb") as file:
         version = file.read()
     for what, file_name, at, byte, balance in [
-        ("another result", "manager-0.otx", 60, 6, 5),
+        ("another result", "manager-0.otx", 68, 6, 5),
         ("another balance", versions, version.index(b"\5"), 9, 9),
     ]:
         other = folder(what.replace(" ", "-"))
@@ -89,10 +89,10 @@ with tempfile.TemporaryDirectory(dir=MEMORY) as room:
         rows.row(f"a run over {what}", run(other, "run", given=deposit(7) + ask() + deposit(1, account=2)),
                  silent(reply(1, balance + 7, 2) + reply(2, balance + 7, 3) + reply(3, 1, 4)))
         rows.row(f"history behind {what}", run(other, "history").output.splitlines(), [
-            b'{"args":[5],"call":"account/1.deposit","n":1,"reply":%d,"unit":1}' % result,
-            b'{"args":[7],"call":"account/1.deposit","n":1,"reply":%d,"unit":2}' % (balance + 7),
-            b'{"args":[],"call":"account/1.read","n":2,"reply":%d,"unit":3}' % (balance + 7),
-            b'{"args":[1],"call":"account/2.deposit","n":3,"reply":1,"unit":4}'])
+            b'{"args":[5],"call":"account/1.deposit","n":1,"reply":%d,"session":1,"unit":1}' % result,
+            b'{"args":[7],"call":"account/1.deposit","n":1,"reply":%d,"session":2,"unit":2}' % (balance + 7),
+            b'{"args":[],"call":"account/1.read","n":2,"reply":%d,"session":2,"unit":3}' % (balance + 7),
+            b'{"args":[1],"call":"account/2.deposit","n":3,"reply":1,"session":2,"unit":4}'])
         rows.row(f"audit behind {what}", run(other, "audit"), silent(b'{"count":4,"first_bad":1}\n'))
         gate = len(found) - 1
         with open(os.path.join(other, "manager-0.otx"), "rb") as file:
@@ -119,8 +119,8 @@ with tempfile.TemporaryDirectory(dir=MEMORY) as room:
         program = file.read()[4:]
     probes = folder("probes", program)
     run(probes, "run", given=line("probe/0.needs") + line("probe/0.calls_lone") + line("probe/0.lone"))
-    rows.row("history of options", run(probes, "history"), silent(b'{"args":[],"call":"probe/0.calls_lone","fault":"not allowed","n":2,"unit":2}\n'))
+    rows.row("history of options", run(probes, "history"), silent(b'{"args":[],"call":"probe/0.calls_lone","fault":"not allowed","n":2,"session":1,"unit":2}\n'))
     run(probes, "run", given=line("probe/3.outer"))
-    rows.row("history of a child that was refused", run(probes, "history").output.split(b"\n")[1:], [b'{"args":[],"call":"probe/3.outer","n":1,"reply":11,"unit":3}', b""])
+    rows.row("history of a child that was refused", run(probes, "history").output.split(b"\n")[1:], [b'{"args":[],"call":"probe/3.outer","n":1,"reply":11,"session":2,"unit":3}', b""])
 
 rows.end()

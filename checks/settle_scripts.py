@@ -13,6 +13,7 @@ MANAGER = -1
 RESTS, WRITE_FAULT, IN_DOUBT = "rests", "stops by a write fault", "stops in doubt"
 READ_FAULT, DAMAGED = "stops by a read fault", "stops by a damaged file"
 VERSION = 19  # The bytes of a version whose state is one number.
+SESSION = 7  # That of the settler.
 
 
 # Reply lines.
@@ -122,6 +123,8 @@ def behind_a_logged_one():
     """The input is never asked, so nothing fails, and the next batch goes behind this one."""
     rows = opened() + planned("fail_pull 1") + carried("transfer 1 1 2") + settles(RESTS)
     rows += output(reply(1, -1)) + blocks("units", 1) + carried("transfer 2 1 2") + settles(RESTS) + blocks("units", 1, 2)
+    # Both blocks have the session of the settler.
+    rows += blocks("sessions", SESSION, SESSION)
     rows += [("bytes 1", f"bytes {2 * VERSION}"), ("bytes 2", f"bytes {2 * VERSION}")] + doubt(False)
     return rows + output(reply(1, -1), reply(2, -2))
 

@@ -2,7 +2,7 @@
 import os
 import tempfile
 
-from harness import BANK, Ended, Rows, ask, deposit, reply, run, silo_folder
+from harness import BANK, Ended, Rows, ask, deposit, make_old, reply, run, silo_folder
 
 LINE_LIMIT = 65_536
 PROGRAM_LIMIT = 262_144
@@ -126,5 +126,14 @@ with tempfile.TemporaryDirectory() as room:
     rows.row("upgrade to no types", run(shop, "upgrade"), says(13, b"upgrade refused at 0"))
     rows.row("upgrade refused: its files", sorted(os.listdir(shop)), before)
     rows.row("upgrade refused: afterwards", after(shop), silent(0, reply(1, 7, 5)))
+
+    # 14 and 15: the silo has an earlier format, or hasn't one. Nothing was changed.
+    rows.row("migrate of a silo that isn't old", run(shop, "migrate"), says(15, b"not an old format"))
+    rows.row("not an old format: its files", sorted(os.listdir(shop)), before)
+    make_old(shop)
+    rows.row("a run of an old silo", run(shop, "run", given=ask()), says(14, b"old format"))
+    rows.row("old format: its files", sorted(os.listdir(shop)), before)
+    rows.row("migrate of an old silo", run(shop, "migrate"), silent(0))
+    rows.row("migrate: afterwards", after(shop), silent(0, reply(1, 7, 6)))
 
 rows.end()

@@ -23,8 +23,10 @@ ONE_TYPE = b"type account { field balance = 0; } "
 OTHER_WAY = b"type teller { } type account { field balance = 0; }"
 MORE_TYPES = BARE + b" type more { field one = 1; }"
 
-# The first byte of a block's body, and that of an upgrade's text, where the log has the first deposit alone and where it has nothing.
-BODY, TEXT = 93, 101
+# Where the log ends that has the first deposit alone, and the first byte of the body of a block there, and of an upgrade's text. Where
+# such a text begins where the log has nothing.
+GATE, BODY, TEXT = 96, 101, 117
+FIRST_TEXT = 36
 
 rows = Rows("upgrade")
 
@@ -50,9 +52,9 @@ def files(folder):
     return {name: held(folder, name) for name in sorted(os.listdir(folder))}
 
 
-def upgrade_block(text, size=None, mark=0xFFFFFFFF, more=b""):
+def upgrade_block(text, size=None, mark=0xFFFFFFFF, session=2, more=b""):
     """An open gate, the block of an upgrade to this text, and the closed gate behind it."""
-    body = number(mark, 4) + number(len(text) if size is None else size, 4) + text + more
+    body = number(session, 8) + number(mark, 4) + number(len(text) if size is None else size, 4) + text + more
     return b"\1" + number(len(body), 4) + body + b"\0"
 
 
@@ -85,10 +87,10 @@ def look(room):
     one = silo_folder(room, "one", BANK, deposit(5))
     before, told = files(one), run(one, "history").output
     rows.row("upgrade", run(one, "upgrade", given=LIMIT), silent())
-    rows.row("its bytes", files(one), {**before, "manager-0.otx": before["manager-0.otx"][:88] + upgrade_block(LIMIT)})
-    rows.row("where its text stands", (before["manager-0.otx"][88:], held(one, "manager-0.otx").index(LIMIT)), (b"\0", TEXT))
+    rows.row("its bytes", files(one), {**before, "manager-0.otx": before["manager-0.otx"][:GATE] + upgrade_block(LIMIT)})
+    rows.row("where its text stands", (before["manager-0.otx"][GATE:], held(one, "manager-0.otx").index(LIMIT)), (b"\0", TEXT))
     rows.row("states", run(one, "show"), silent(fields(5, 7) + count(2)))
-    rows.row("history", run(one, "history"), silent(told + b'{"upgrade":%d}\n' % len(LIMIT)))
+    rows.row("history", run(one, "history"), silent(told + b'{"session":2,"upgrade":%d}\n' % len(LIMIT)))
     rows.row("audit", run(one, "audit"), audited(2))
     rows.row("the reader", read(one), (0, [b'{"grain": "account/1", "state": {"balance": 5, "limit": 7}}', b'{"next_unit": 2}']))
     again = os.path.join(room, "again")
@@ -102,8 +104,8 @@ def look(room):
         rows.row(f"compact behind {entries}", run(folder, "compact"), silent())
         rows.row(f"its program, {entries}", held(folder, "program-1.otx"), number(len(LIMIT), 4) + LIMIT)
         rows.row(f"its version, {entries}", held(folder, "grain-1-0-1.otx"), last)
-        piece = b"\0" + number(entries, 8) + number(units, 8) + number(1, 4) + number(0, 2) + number(1, 4) + number(0, 8) + number(28, 4)
-        rows.row(f"its manager file, {entries}", held(folder, "manager-1.otx"), b"\1OTXLOG01" + number(1, 4) + b"\1\0\1" + number(len(piece), 4) + piece + b"\0")
+        piece = b"\0" + number(entries, 8) + number(units, 8) + number(entries, 8) + number(1, 4) + number(0, 2) + number(1, 4) + number(0, 8) + number(28, 4)
+        rows.row(f"its manager file, {entries}", held(folder, "manager-1.otx"), b"\1OTXLOG02" + number(1, 4) + b"\1\0\1" + number(len(piece), 4) + piece + b"\0")
         rows.row(f"what it stands for, {entries}", (run(folder, "show"), read(folder)), (shown, known))
         rows.row(f"its history, {entries}", run(folder, "history"), silent())
     return before
@@ -157,8 +159,8 @@ def carry(room):
         rows.row(f"upgrade {at}", run(turns, "upgrade", given=text), silent())
         rows.row(f"its deposit, {at}", run(turns, "run", given=deposit(1)), silent(reply(1, 6 + at, 2 + at)))
         rows.row(f"its states, {at}", run(turns, "show"), silent(fields(6 + at, limit) + count(3 + 2 * at)))
-        told += b'{"upgrade":%d}\n' % len(text)
-        told += b'{"args":[1],"call":"account/1.deposit","n":1,"reply":%d,"unit":%d}\n' % (6 + at, 2 + at)
+        told += b'{"session":%d,"upgrade":%d}\n' % (2 + 2 * at, len(text))
+        told += b'{"args":[1],"call":"account/1.deposit","n":1,"reply":%d,"session":%d,"unit":%d}\n' % (6 + at, 3 + 2 * at, 2 + at)
     rows.row("history of three", run(turns, "history"), silent(told))
     rows.row("audit of three", run(turns, "audit"), audited(7))
     shown = run(turns, "show"), read(turns)
@@ -182,20 +184,23 @@ def carry(room):
 def damage(room, before):
     """The first damage of an upgrade's block, as each command names it."""
     bare = silo_folder(room, "bare", BARE)
-    empty, made = files(bare), before["manager-0.otx"][:88]
+    empty, made = files(bare), before["manager-0.otx"][:GATE]
     for what, template, front, block, at in (
-        ("a count over its limit", before, made, upgrade_block(LIMIT, mark=0xFFFFFFFE), BODY),
-        ("a text over its limit", before, made, upgrade_block(LIMIT, size=PROGRAM_LIMIT + 1), BODY + 4),
+        ("a session that falls", before, made, upgrade_block(LIMIT, session=0), BODY),
+        ("a session over its limit", before, made, upgrade_block(LIMIT, session=1 << 63), BODY),
+        ("that, and a count over its limit", before, made, upgrade_block(LIMIT, session=1 << 63, mark=0xFFFFFFFE), BODY),
+        ("a count over its limit", before, made, upgrade_block(LIMIT, mark=0xFFFFFFFE), BODY + 8),
+        ("a text over its limit", before, made, upgrade_block(LIMIT, size=PROGRAM_LIMIT + 1), BODY + 12),
         ("a text that is longer than the body", before, made, upgrade_block(LIMIT, size=len(LIMIT) + 1), TEXT),
         ("a text that is a program, and a line feed more", before, made, upgrade_block(LIMIT, size=len(LIMIT) - 1), TEXT + len(LIMIT) - 1),
         ("a byte more", before, made, upgrade_block(LIMIT, more=b"\0"), TEXT + len(LIMIT)),
         ("a text that ends with no character", before, made, upgrade_block(LIMIT[:-1] + b"\xff"), TEXT + len(LIMIT) - 1),
         ("that, and a byte more", before, made, upgrade_block(LIMIT[:-1] + b"\xff", more=b"\0"), TEXT + len(LIMIT) - 1),
-        ("another name", empty, empty["manager-0.otx"][:15], upgrade_block(BARE.replace(b"account", b"accounx")), 28 + 5),
-        ("another name, and a byte more", empty, empty["manager-0.otx"][:15], upgrade_block(BARE.replace(b"teller", b"tellex"), more=b"\0"), 28 + BARE.index(b"teller")),
-        ("a type less", empty, empty["manager-0.otx"][:15], upgrade_block(ONE_TYPE), 28 + len(ONE_TYPE)),
-        ("another name before a type less", empty, empty["manager-0.otx"][:15], upgrade_block(b"type accounx { }"), 28 + 5),
-        ("no types", empty, empty["manager-0.otx"][:15], upgrade_block(b""), 28),
+        ("another name", empty, empty["manager-0.otx"][:15], upgrade_block(BARE.replace(b"account", b"accounx")), FIRST_TEXT + 5),
+        ("another name, and a byte more", empty, empty["manager-0.otx"][:15], upgrade_block(BARE.replace(b"teller", b"tellex"), more=b"\0"), FIRST_TEXT + BARE.index(b"teller")),
+        ("a type less", empty, empty["manager-0.otx"][:15], upgrade_block(ONE_TYPE), FIRST_TEXT + len(ONE_TYPE)),
+        ("another name before a type less", empty, empty["manager-0.otx"][:15], upgrade_block(b"type accounx { }"), FIRST_TEXT + 5),
+        ("no types", empty, empty["manager-0.otx"][:15], upgrade_block(b""), FIRST_TEXT),
     ):
         folder = os.path.join(room, "damaged")
         os.mkdir(folder)

@@ -11,8 +11,8 @@ import sys
 from crate_lists import LIST, read_list
 
 # What silo_top and all crates together may have at most: twice as many would cost each command minutes again.
-MOST_OF_THE_TOP = 90_000
-MOST_TOGETHER = 500_000
+MOST_OF_THE_TOP = 70_000
+MOST_TOGETHER = 400_000
 
 
 def main():

@@ -13,6 +13,7 @@ from harness import BANK, OTHER_USER, PROGRAM, TOP, Ended, Rows, deposit, run, s
 rows = Rows("why")
 WHY = os.path.join(TOP, "tools", "why")
 FAULT, NOT_A_SILO = Ended(6, b"", b"silo: disk fault in manager-0.otx\n"), Ended(7, b"", b"silo: not a silo\n")
+OLD_FORMAT = Ended(14, b"", b"silo: old format\n")
 NOTHING = "nothing is seen to be in the way of {}: if a call failed, look for errors of the disk in the system's log (dmesg)"
 
 
@@ -122,13 +123,17 @@ with tempfile.TemporaryDirectory() as room:
     for name, bytes_, said in (
         ("begun", b"\0" * 16, "an init of {} didn't end: init again"),
         ("short", b"\0", "an init of {} didn't end: init again"),
-        ("newer", b"\1OTXLOG02" + bytes(7), "{} has the format OTXLOG02: another version of silo made it"),
+        ("newer", b"\1OTXLOG03" + bytes(7), "{} has the format OTXLOG03: another version of silo made it"),
         ("other", b"#!/bin/sh\nexit 0\n", "manager-0.otx in {} isn't that of a silo: another program wrote it, or it was damaged; restore the last backup"),
     ):
         path = folder(name)
         with open(os.path.join(path, "manager-0.otx"), "wb") as file:
             file.write(bytes_)
         tells(name, path, NOT_A_SILO, said.format(path), "run")
+    older = folder("older")
+    with open(os.path.join(older, "manager-0.otx"), "wb") as file:
+        file.write(b"\1OTXLOG01" + bytes(7))
+    tells("older", older, OLD_FORMAT, f"{older} has the format of an earlier version: silo {older} migrate", "run")
     rows.row("the empty text", why(""), ("the empty text stands for the current folder: name it as .", 1))
     before = os.stat(os.path.join(bank, "manager-0.otx"))
     rows.row("the current folder", why(".", cwd=bank), (NOTHING.format("."), 0))

@@ -2,19 +2,24 @@
 """Reads a silo's folder, by docs/FORMATS.md alone:  examples/reader/read.py FOLDER
 
 Prints each record and each upgrade of the log, then the state of each grain that a record or the checkpoint names, then the next unit's
-number. Or it says that the folder is no silo, or which file is damaged and where. Of a program it takes the types, fields and methods, and
-checks no more.
+number, of a folder of either format. Or it says that the folder is no silo, or which file is damaged and where. Of a program it takes the
+types, fields and methods, and checks no more.
 """
 import collections, json, re, struct, sys
 
 class Damaged(Exception):
     pass
 
+# What the formats differ in: the most bytes of a text, the most fields of a state, the most bytes of a version, and whether a body says its
+# session. A body that doesn't counts as one of session 1.
+Format = collections.namedtuple("Format", "text fields version says_session")
+FORMATS = {b"OTXLOG01": Format(256, 16, 4154, False), b"OTXLOG02": Format(4096, 64, 262346, True)}
+
 class Bytes:
     """A part of a file, read from its front, with places that count in the file."""
 
-    def __init__(self, name, held, at, end):
-        self.name, self.held, self.at, self.end = name, held, at, end
+    def __init__(self, name, held, at, end, form=FORMATS[b"OTXLOG02"]):
+        self.name, self.held, self.at, self.end, self.form = name, held, at, end, form
 
     def need(self, holds, at):
         if not holds:
@@ -32,7 +37,7 @@ class Bytes:
         return number
 
     def text(self):
-        count, at = self.number("H", lambda count: count <= 256), self.at
+        count, at = self.number("H", lambda count: count <= self.form.text), self.at
         try:
             return self.take(count).decode()
         except UnicodeDecodeError:
@@ -44,6 +49,9 @@ class Bytes:
     def answer(self, least=0):
         tag = self.number("B", lambda tag: least <= tag <= 2)
         return "aborted" if tag == 0 else self.value() if tag == 1 else {"fault": self.text()}
+
+    def session(self, allows=lambda session: True):
+        return self.number("Q", lambda session: session < 2**63 and allows(session)) if self.form.says_session else 1
 
     def ended(self):
         self.need(self.at == self.end, self.at)
@@ -104,27 +112,28 @@ def record_of(body, types):
     told = {"unit": unit, **origin, "call": f"{name}/{key}.{method}", "args": arguments, "answers": answers, "result": result}
     return unit, told, writes
 
-def bodies_of(name, held):
+def bodies_of(name, held, form):
     """Each open block's body, and then one of no bytes where the log ends; beside each whether it is a block's."""
     gate = 15
     while held[gate] == 1:
-        block = Bytes(name, held, gate + 1, len(held))
+        block = Bytes(name, held, gate + 1, len(held), form)
         block.need(gate + 5 <= len(held), gate + 1)
         size = block.number("I")
         block.need(gate + 6 + size <= len(held), gate + 1)
-        yield True, Bytes(name, held, gate + 5, gate + 5 + size)
+        yield True, Bytes(name, held, gate + 5, gate + 5 + size, form)
         gate += 5 + size
-    yield False, Bytes(name, held, gate, gate)
+    yield False, Bytes(name, held, gate, gate, form)
 
 def checkpoint_of(bodies, types):
-    """The count, the next unit's number, and the versions that it names."""
+    """The count, the next unit's number, the session, and the versions that it names."""
     head, writes, more = None, [], 1
     while more:
         _is_block, body = next(bodies)
         more = body.number("B", lambda flag: flag < 2)
         count = body.number("Q", lambda count: count < 2**63 and (head is None or count == head[0]))
         following = body.number("Q", lambda unit: 0 < unit <= 2**63 and (head is None or unit == head[1]))
-        head = count, following
+        session = body.session(lambda session: head is None or session == head[2])
+        head = count, following, session
         for _ in range(body.number("I", lambda count: count <= 65536)):
             at, grain = body.at, (body.number("H", lambda kind: kind < len(types)), body.number("I"))
             body.need(not writes or writes[-1][0] < grain, at)
@@ -146,17 +155,20 @@ def upgrade_of(body, types, fault_of):
     body.need(other is None, at + (other or 0))
     return text, new
 
-def entries_of(bodies, programs, fault_of):
-    """Each record, and each upgrade: its program comes to the others then."""
+def entries_of(bodies, programs, session, fault_of):
+    """Each record, and each upgrade: its program comes to the others then. Sessions never fall."""
     for is_block, body in bodies:
         if is_block:
+            last = session
+            session = body.session(lambda here: last <= here)
             count = body.number("I", lambda count: count <= 64 or count == UPGRADE)
             if count == UPGRADE:
                 text, new = upgrade_of(body, programs[-1], fault_of)
-                yield None, {"upgrade": len(text)}, []
+                yield None, {"session": session, "upgrade": len(text)}, []
                 programs.append(new)
             else:
-                yield from [record_of(body, programs[-1]) for _ in range(count)]
+                for unit, told, writes in [record_of(body, programs[-1]) for _ in range(count)]:
+                    yield unit, {"session": session, **told}, writes
             body.ended()
 
 def carried(state, kind, programs):
@@ -165,14 +177,20 @@ def carried(state, kind, programs):
         state = {field: state.get(field, first) for field, first in types[kind].fields.items()}
     return state
 
-def state_of(name, held, offset, length, unit, fields):
-    version = Bytes(name, held, offset, offset + length)
-    version.need(length <= 4154 and offset + length <= len(held), offset)
+def state_of(name, held, form, offset, length, unit, fields):
+    version = Bytes(name, held, offset, offset + length, form)
+    version.need(length <= form.version and offset + length <= len(held), offset)
     version.number("Q", lambda found: 0 < found < 2**63 if unit is None else found == unit)
-    version.number("H", lambda count: count == len(fields))
+    version.number("H", lambda count: count == len(fields) <= form.fields)
     state = {field: version.value() for field in fields}
     version.ended()
     return state
+
+def live_of(managers):
+    """The slot whose files count and its format's name, by what both manager files hold; nothing where neither is a silo's."""
+    slots = [(struct.unpack("<I", held[9:13])[0], -slot, held[1:9]) for slot, held in enumerate(managers)
+             if len(held) >= 16 and held[0] == 1 and held[1:9] in FORMATS]
+    return (-max(slots)[1], max(slots)[2]) if slots else None
 
 def found_in(folder, fault_of=no_fault):
     """The records and upgrades, the state of each grain, and the next unit's number. None where the folder is no silo; the first damage is
@@ -185,10 +203,11 @@ def found_in(folder, fault_of=no_fault):
         except FileNotFoundError:
             return b""
 
-    slots = [(slot, held) for slot in (0, 1) if len(held := file(f"manager-{slot}.otx")) >= 16 and held[:9] == b"\1OTXLOG01"]
-    if not slots:
+    found = live_of([file("manager-0.otx"), file("manager-1.otx")])
+    if found is None:
         return None
-    live, manager = max(slots, key=lambda one: (struct.unpack("<I", one[1][9:13])[0], -one[0]))
+    live, form = found[0], FORMATS[found[1]]
+    manager = file(f"manager-{live}.otx")
     program = Bytes(f"program-{live}.otx", held := file(f"program-{live}.otx"), 0, len(held))
     program.need(len(held) >= 4, len(held))
     size = program.number("I", lambda size: size <= 262144)
@@ -197,10 +216,10 @@ def found_in(folder, fault_of=no_fault):
     header = Bytes(f"manager-{live}.otx", manager, 13, 15)
     begins = header.number("B", lambda byte: byte < 2)
     header.number("B", lambda byte: byte == 0)
-    bodies = bodies_of(f"manager-{live}.otx", manager)
-    _count, following, writes = checkpoint_of(bodies, programs[0]) if begins else (0, 1, [])
+    bodies = bodies_of(f"manager-{live}.otx", manager, form)
+    _count, following, session, writes = checkpoint_of(bodies, programs[0]) if begins else (0, 1, 0, [])
     entries, named = [], [(grain, offset, length, None, 0) for grain, offset, length in writes]
-    for unit, told, writes in entries_of(bodies, programs, fault_of):
+    for unit, told, writes in entries_of(bodies, programs, session, fault_of):
         entries.append(told)
         named += [(grain, offset, length, unit, len(programs) - 1) for grain, offset, length in writes]
         following = max(following, unit + 1) if unit else following
@@ -209,7 +228,7 @@ def found_in(folder, fault_of=no_fault):
         name = f"grain-{live}-{kind}-{key}.otx"
         if name not in files:
             files = {name: file(name)}
-        state = state_of(name, files[name], offset, length, unit, programs[number][kind].fields)
+        state = state_of(name, files[name], form, offset, length, unit, programs[number][kind].fields)
         states[f"{programs[-1][kind].name}/{key}"] = carried(state, kind, programs[number + 1 :])
     return entries, states, following
 

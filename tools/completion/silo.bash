@@ -20,7 +20,7 @@ _silo() {
   fi
   if [ "$COMP_CWORD" -eq 2 ]; then
     found="init load"
-    [ ! -e "$folder/manager-0.otx" ] || found="run show history audit compact upgrade"
+    [ ! -e "$folder/manager-0.otx" ] || found="run show history audit compact upgrade migrate"
     mapfile -t COMPREPLY < <(compgen -W "$found" -- "$word")
     return
   fi

@@ -135,7 +135,7 @@ def live_log(folder):
         except OSError:
             continue
         head = os.pread(file, 16, 0)
-        if len(head) == 16 and head[:9] == b"\1OTXLOG01":
+        if len(head) == 16 and head[:9] in (b"\1OTXLOG01", b"\1OTXLOG02"):
             slots.append((struct.unpack("<I", head[9:13])[0], -slot, file, head))
         else:
             os.close(file)
@@ -147,18 +147,20 @@ def live_log(folder):
 
 def batches(folder):
     """The number of records of each batch in a folder's log behind its checkpoint, 1 for an upgrade, or None where it is no silo or can't be
-    read. Of each block it reads nine bytes: the gate before it, its length, and its count."""
+    read. Of each block it reads at most 17 bytes: the gate before it, its length, its session where the format has sessions, and its count."""
     live = live_log(folder)
     if live is None:
         return None
     file, head = live
+    form = "<xI8xI" if head[8:9] == b"2" else "<xII"
+    size = struct.calcsize(form)
     try:
         found, gate, is_checkpoint = [], 15, head[13] == 1
         while True:
-            head = os.pread(file, 9, gate)
-            if len(head) < 9 or head[0] != 1:
+            head = os.pread(file, size, gate)
+            if len(head) < size or head[0] != 1:
                 return found
-            length, count = struct.unpack("<II", head[1:])
+            length, count = struct.unpack(form, head)
             if is_checkpoint:
                 is_checkpoint = head[5] == 1
             else:
